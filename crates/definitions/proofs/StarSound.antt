@@ -1,0 +1,246 @@
+-- In each star representation the assumptions make all generators zero.
+use Rattle.std.proofs.Common.{◌≡◌, ℕ, ◌-◌, ◌<◌, ◌≤◌, ℤ, pos, negsuc, Bool, true, false, cond, ◌||◌, List, [], ◌∷◌, ◌++◌, ◌⊎◌, inl, inr, sym, refl, ap, ap₂, subst, ◌∙◌, arith, eqb, eqb-true, eq-eqb, lt-ltb, leb, true≢false}
+use Rattle.std.proofs.lemmas.Bool.{cases_lt, false_from_ne_true, and_from}
+use Rattle.std.specs.List.{AllByRecursion, flat_map, range_with_len}
+use Rattle.definitions.specs.Category.{Structure, IsArrow, PreadditiveLaws, InvolutionLaws}
+use Rattle.definitions.specs.Poly.{poly_eq, poly_multiple}
+use Rattle.definitions.specs.Quiver.{Quiver, IsQuiver, letters, source, target, star, leads, is_path}
+use Rattle.definitions.specs.Representation.{Representation, Represents, StarRepresents, path_value, word_value, value_at}
+use Rattle.definitions.specs.Generators.{adjoint_word, adjoint_poly, new_adjoint, left_unit, right_unit, letter_units, units, generators_of}
+use Rattle.definitions.specs.Soundness.{HasValueZero, IsStarSound}
+use Rattle.definitions.proofs.Group.{IsGroup}
+use Rattle.definitions.proofs.Multiples.{additive-none}
+use Rattle.definitions.proofs.Linear.{linear, additive-linear}
+use Rattle.definitions.proofs.Paths.{step, leads-append}
+use Rattle.definitions.proofs.Values.{word_at, word_at_is_arrow, group_at, value_at-linear, path_value_is_arrow, letter_is_arrow}
+use Rattle.definitions.proofs.Rows.{path_value-append}
+use Rattle.definitions.proofs.Adjoints.{leads-star, is_path-adjoint_word, is_path-from_adjoint_word, typed-from_adjoint_poly, linear-adjoint_poly}
+
+-- ---- a fact of each element
+pub all-append : {X : Type 0} (P : X → Type 0) (xs ys : List X) → AllByRecursion P xs → AllByRecursion P ys → AllByRecursion P (xs ++ ys)
+all-append P [] ys h k = k
+all-append P (x ∷ xs) ys h k = (h.0, all-append P xs ys h.1 k)
+
+pub all-flat_map : {X Y : Type 0} (P : Y → Type 0) (g : X → List Y) → ((x : X) → AllByRecursion P (g x)) → (xs : List X) → AllByRecursion P (flat_map g xs)
+all-flat_map P g h [] = tt
+all-flat_map P g h (x ∷ xs) = all-append P (g x) (flat_map g xs) (h x) (all-flat_map P g h xs)
+
+module _ {Object Arrow : Type 0} {s : Structure Object Arrow} (laws : PreadditiveLaws s) {adjoint : Arrow → Arrow} (involution : InvolutionLaws s adjoint) (q : Quiver) (quiver : IsQuiver q) (f : Representation Object Arrow) (rep : StarRepresents s adjoint q f) where
+  abbrev plain : Represents s q f
+  plain = rep.represents
+
+  -- the adjoint of a letter goes to the adjoint of its arrow
+  star_arrow : (a : ℕ) → a < letters q → f.arrow (star q a) ≡ adjoint (f.arrow a)
+  star_arrow a h = go (cases_lt a q.objects) (cases_lt (star q a) a)
+    where
+      go : (a < q.objects) ⊎ (q.objects ≤ a) → (star q a < a) ⊎ (a ≤ star q a) → f.arrow (star q a) ≡ adjoint (f.arrow a)
+      go (inl identity) k =
+          ap f.arrow (quiver.identity_star a identity)
+          ∙ plain.identities a identity
+          ∙ sym (involution.star_identity (f.object a) (plain.objects a identity))
+          ∙ ap adjoint (sym (plain.identities a identity))
+      go (inr map) (inr declared) = rep.adjoints a h map declared
+      go (inr map) (inl below) = back (cases_lt (star q a) q.objects)
+        where
+          b : ℕ
+          b = star q a
+
+          is : star q (star q a) ≡ a
+          is = quiver.star_star a h
+
+          arrow_b : s.is_arrow (f.arrow (star q a))
+          arrow_b = (plain.arrows (star q a) (quiver.star_is_letter a h)).arrow
+
+          back : (star q a < q.objects) ⊎ (q.objects ≤ star q a) → f.arrow (star q a) ≡ adjoint (f.arrow a)
+          back (inl small) = absurd (omega (arith, quiver.identity_star (star q a) small, is))
+          back (inr large) =
+              let declared : star q a ≤ star q (star q a) = omega (arith, is) in
+              let other : f.arrow a ≡ adjoint (f.arrow (star q a)) = ap f.arrow (sym is) ∙ rep.adjoints (star q a) (quiver.star_is_letter a h) large declared in
+              sym (ap adjoint other ∙ involution.star_star (f.arrow (star q a)) arrow_b)
+
+  word_value-push : (u k m b : ℕ) (w : List ℕ) (none none' : Arrow) → is_path q k m w ≡ true → leads q u k (b ∷ []) ≡ true → word_value s f none (w ++ (b ∷ [])) ≡ s.compose (word_value s f none' w) (f.arrow b)
+  word_value-push u k m b [] none none' e h = absurd (cc)
+  word_value-push u k m b (a ∷ w) none none' e h = path_value-append laws q f plain u k m a b w [] e h
+
+  word_value-adjoint_word : (u v : ℕ) (w : List ℕ) (none none' : Arrow) → is_path q u v w ≡ true → word_value s f none (adjoint_word q w) ≡ adjoint (word_value s f none' w)
+  word_value-adjoint_word u v [] none none' e = absurd (cc)
+  word_value-adjoint_word u v (a ∷ []) none none' e = star_arrow a (step q u v a [] e).letter
+  word_value-adjoint_word u v (a ∷ b ∷ w) none none' e =
+      let first = step q u v a (b ∷ w) e in
+      let k = source q a in
+      word_value-push v k u (star q a) (adjoint_word q (b ∷ w)) none none (is_path-adjoint_word q quiver u k (b ∷ w) first.rest)
+      (leads-star q quiver v a first.letter first.target)
+      ∙ ap₂ s.compose (word_value-adjoint_word u k (b ∷ w) none none' first.rest) (star_arrow a first.letter)
+      ∙ sym (involution.star_compose (f.object u) (f.object k) (f.object v) (f.arrow a) (path_value s f b w)
+      (letter_is_arrow laws q f plain v a first.letter first.target) (path_value_is_arrow laws q f plain u k b w first.rest))
+
+  -- an adjoint word counts for the adjoint of what the word counts for
+  module _ (u v : ℕ) (in_u : u < q.objects) (in_v : v < q.objects) where
+    adjoint_in : (a : Arrow) → IsArrow s (f.object u) (f.object v) a → IsArrow s (f.object v) (f.object u) (adjoint a)
+    adjoint_in = involution.star_is_arrow (f.object u) (f.object v)
+
+    adjoint_zero : adjoint (s.zero (f.object u) (f.object v)) ≡ s.zero (f.object v) (f.object u)
+    adjoint_zero =
+        additive-none (group_at laws q f plain u v in_u in_v) (group_at laws q f plain v u in_v in_u) adjoint adjoint_in (involution.star_add (f.object u) (f.object v))
+
+    word_at-adjoint_word : (w : List ℕ) → word_at laws q f plain v u (adjoint_word q w) ≡ adjoint (word_at laws q f plain u v w)
+    word_at-adjoint_word w = go (is_path q u v w) refl
+      where
+        go : (b : Bool) → is_path q u v w ≡ b → word_at laws q f plain v u (adjoint_word q w) ≡ adjoint (word_at laws q f plain u v w)
+        go true e =
+            let none = s.zero (f.object u) (f.object v) in
+            let none' = s.zero (f.object v) (f.object u) in
+            ap (λ c. cond c (word_value s f none' (adjoint_word q w)) none') (is_path-adjoint_word q quiver u v w e)
+            ∙ word_value-adjoint_word u v w none' none e
+            ∙ ap (λ c. adjoint (cond c (word_value s f none w) none)) (sym e)
+        go false e =
+            let none = s.zero (f.object u) (f.object v) in
+            let none' = s.zero (f.object v) (f.object u) in
+            let other : is_path q v u (adjoint_word q w) ≡ false = false_from_ne_true _ (λ h. true≢false (sym (is_path-from_adjoint_word q quiver u v w h) ∙ e)) in
+            ap (λ c. cond c (word_value s f none' (adjoint_word q w)) none') other
+            ∙ sym adjoint_zero
+            ∙ ap (λ c. adjoint (cond c (word_value s f none w) none)) (sym e)
+
+    value_at-adjoint_poly : (p : List (ℤ × List ℕ)) → value_at s q f v u (adjoint_poly q p) ≡ adjoint (value_at s q f u v p)
+    value_at-adjoint_poly p =
+        let φ = word_at laws q f plain u v in
+        value_at-linear laws q f plain v u in_v in_u (adjoint_poly q p)
+        ∙ linear-adjoint_poly (s.zero (f.object v) (f.object u)) s.add s.negate (word_at laws q f plain v u) q p
+        ∙ ap (λ g. linear (s.zero (f.object v) (f.object u)) s.add s.negate g p) (λ i w. word_at-adjoint_word w i)
+        ∙ sym (additive-linear (group_at laws q f plain u v in_u in_v) (group_at laws q f plain v u in_v in_u) adjoint adjoint_in (involution.star_add (f.object u) (f.object v))
+        φ (word_at_is_arrow laws q f plain u v in_u in_v) p)
+        ∙ ap adjoint (sym (value_at-linear laws q f plain u v in_u in_v p))
+
+  adjoint_poly_is_zero : (p : List (ℤ × List ℕ)) → HasValueZero s q f p → HasValueZero s q f (adjoint_poly q p)
+  adjoint_poly_is_zero p vanish = record {
+    at = λ x y in_x in_y typed.
+        value_at-adjoint_poly y x in_y in_x p
+        ∙ ap adjoint (vanish.at y x in_y in_x (typed-from_adjoint_poly q quiver y x p typed))
+        ∙ adjoint_zero y x in_y in_x;
+  }
+
+  -- ---- the relations of the identities
+  module _ (u v : ℕ) (in_u : u < q.objects) (in_v : v < q.objects) where
+    abbrev group : IsGroup (IsArrow s (f.object u) (f.object v)) (s.zero (f.object u) (f.object v)) s.add s.negate
+    group = group_at laws q f plain u v in_u in_v
+
+    -- w - w' is zero where both count for the same
+    difference_is_zero : (w w' : List ℕ) → word_at laws q f plain u v w ≡ word_at laws q f plain u v w' → value_at s q f u v ((pos 1, w) ∷ (negsuc 0, w') ∷ []) ≡ s.zero (f.object u) (f.object v)
+    difference_is_zero w w' e =
+        let none = s.zero (f.object u) (f.object v) in
+        let x = word_at laws q f plain u v w in
+        let y = word_at laws q f plain u v w' in
+        let p : IsArrow s (f.object u) (f.object v) y = word_at_is_arrow laws q f plain u v in_u in_v w' in
+        value_at-linear laws q f plain u v in_u in_v ((pos 1, w) ∷ (negsuc 0, w') ∷ [])
+        ∙ ap (λ z. s.add (s.add z none) (s.add (s.negate (s.add y none)) none)) e
+        ∙ ap₂ (λ z z'. s.add z z') (group.add_zero y p) (group.add_zero (s.negate (s.add y none)) (group.negate_in (s.add y none) (group.add_in y none p group.zero_in)))
+        ∙ ap (λ z. s.add y (s.negate z)) (group.add_zero y p)
+        ∙ group.add_negate y p
+
+    -- the identity of x is a path from x to x
+    identity_leads : (x : ℕ) → x < q.objects → leads q x x (x ∷ []) ≡ true
+    identity_leads x in_x =
+        and_from _ _ (lt-ltb x (letters q) (quiver.identity_is_letter x in_x))
+        (and_from _ _ (eq-eqb (target q x) x (quiver.identity_target x in_x)) (eq-eqb x (source q x) (sym (quiver.identity_source x in_x))))
+
+    -- both are paths or neither is, and the values agree
+    agree : (w : List ℕ) (a : ℕ) → (is_path q u v (a ∷ []) ≡ true → is_path q u v w ≡ true) → (is_path q u v w ≡ true → is_path q u v (a ∷ []) ≡ true)
+        → (is_path q u v (a ∷ []) ≡ true → word_value s f (s.zero (f.object u) (f.object v)) w ≡ f.arrow a) → word_at laws q f plain u v w ≡ word_at laws q f plain u v (a ∷ [])
+    agree w a there back same = go (is_path q u v (a ∷ [])) refl
+      where
+        go : (b : Bool) → is_path q u v (a ∷ []) ≡ b → word_at laws q f plain u v w ≡ word_at laws q f plain u v (a ∷ [])
+        go true h =
+            let none = s.zero (f.object u) (f.object v) in
+            ap (λ c. cond c (word_value s f none w) none) (there h) ∙ same h ∙ ap (λ c. cond c (f.arrow a) none) (sym h)
+        go false h =
+            let none = s.zero (f.object u) (f.object v) in
+            let neither : is_path q u v w ≡ false = false_from_ne_true _ (λ k. true≢false (sym (back k) ∙ h)) in
+            ap (λ c. cond c (word_value s f none w) none) neither ∙ ap (λ c. cond c (f.arrow a) none) (sym h)
+
+    left_unit_at : (x a : ℕ) → x < q.objects → target q a ≡ x → word_at laws q f plain u v (x ∷ a ∷ []) ≡ word_at laws q f plain u v (a ∷ [])
+    left_unit_at x a in_x e =
+        agree (x ∷ a ∷ []) a
+        (λ h.
+        let meet : x ≡ v = sym e ∙ (step q u v a [] h).target in
+        leads-append q u x v (x ∷ []) (a ∷ []) (subst (λ y. leads q x y (x ∷ []) ≡ true) meet (identity_leads x in_x)) (subst (λ y. leads q u y (a ∷ []) ≡ true) (sym meet) h))
+        (λ h.
+        let first = step q u v x (a ∷ []) h in
+        let middle : source q x ≡ v = quiver.identity_source x in_x ∙ sym (quiver.identity_target x in_x) ∙ first.target in
+        subst (λ y. leads q u y (a ∷ []) ≡ true) middle first.rest)
+        (λ h.
+        ap (λ y. s.compose y (f.arrow a)) (plain.identities x in_x)
+        ∙ laws.identity_left (f.object (source q a)) (f.object x) (f.arrow a) (letter_is_arrow laws q f plain x a (step q u v a [] h).letter e))
+
+    right_unit_at : (x a : ℕ) → x < q.objects → source q a ≡ x → word_at laws q f plain u v (a ∷ x ∷ []) ≡ word_at laws q f plain u v (a ∷ [])
+    right_unit_at x a in_x e =
+        agree (a ∷ x ∷ []) a
+        (λ h.
+        let first = step q u v a [] h in
+        let start : u ≡ x = eqb-true u (source q a) first.rest ∙ e in
+        leads-append q u x v (a ∷ []) (x ∷ []) (subst (λ y. leads q y v (a ∷ []) ≡ true) start h) (subst (λ y. leads q y x (x ∷ []) ≡ true) (sym start) (identity_leads x in_x)))
+        (λ h.
+        let first = step q u v a (x ∷ []) h in
+        let second = step q u (source q a) x [] first.rest in
+        let start : u ≡ source q a = eqb-true u (source q x) second.rest ∙ quiver.identity_source x in_x ∙ sym e in
+        and_from _ _ (lt-ltb a (letters q) first.letter) (and_from _ _ (eq-eqb (target q a) v first.target) (eq-eqb u (source q a) start)))
+        (λ h.
+        let first = step q u v a [] h in
+        ap (s.compose (f.arrow a)) (plain.identities x in_x)
+        ∙ laws.identity_right (f.object x) (f.object v) (f.arrow a) (subst (λ y. IsArrow s (f.object y) (f.object v) (f.arrow a)) e (letter_is_arrow laws q f plain v a first.letter first.target)))
+
+  left_unit_is_zero : (x a : ℕ) → x < q.objects → target q a ≡ x → HasValueZero s q f (left_unit x a)
+  left_unit_is_zero x a in_x e = record { at = λ u v in_u in_v typed. difference_is_zero u v in_u in_v (x ∷ a ∷ []) (a ∷ []) (left_unit_at u v in_u in_v x a in_x e) }
+
+  right_unit_is_zero : (x a : ℕ) → x < q.objects → source q a ≡ x → HasValueZero s q f (right_unit x a)
+  right_unit_is_zero x a in_x e = record { at = λ u v in_u in_v typed. difference_is_zero u v in_u in_v (a ∷ x ∷ []) (a ∷ []) (right_unit_at u v in_u in_v x a in_x e) }
+
+  letter_units_are_zero : (starred : Bool) (x a : ℕ) → x < q.objects → AllByRecursion (HasValueZero s q f) (letter_units q starred x a)
+  letter_units_are_zero starred x a in_x = outer (starred || leb a (star q a))
+    where
+      left : (b : Bool) → eqb (target q a) x ≡ b → AllByRecursion (HasValueZero s q f) (cond b (left_unit x a ∷ []) [])
+      left true e = (left_unit_is_zero x a in_x (eqb-true (target q a) x e), tt)
+      left false e = tt
+
+      right : (b : Bool) → eqb (source q a) x ≡ b → AllByRecursion (HasValueZero s q f) (cond b (right_unit x a ∷ []) [])
+      right true e = (right_unit_is_zero x a in_x (eqb-true (source q a) x e), tt)
+      right false e = tt
+
+      outer : (b : Bool) → AllByRecursion (HasValueZero s q f) (cond b ((cond (eqb (target q a) x) (left_unit x a ∷ []) []) ++ (cond (eqb (source q a) x) (right_unit x a ∷ []) [])) [])
+      outer true = all-append (HasValueZero s q f) _ _ (left (eqb (target q a) x) refl) (right (eqb (source q a) x) refl)
+      outer false = tt
+
+  units_are_zero : (starred : Bool) (x : ℕ) → x < q.objects → AllByRecursion (HasValueZero s q f) (units q starred x)
+  units_are_zero starred x in_x = (
+    left_unit_is_zero x x in_x (quiver.identity_target x in_x),
+    all-flat_map (HasValueZero s q f) (letter_units q starred x) (λ a. letter_units_are_zero starred x a in_x) (range_with_len q.objects (letters q - q.objects)),
+  )
+
+  new_adjoint_is_zero : (p : List (ℤ × List ℕ)) → HasValueZero s q f p → AllByRecursion (HasValueZero s q f) (new_adjoint q p)
+  new_adjoint_is_zero p vanish = go (poly_eq (adjoint_poly q p) p || poly_eq (adjoint_poly q p) (poly_multiple (negsuc 0) p))
+    where
+      go : (b : Bool) → AllByRecursion (HasValueZero s q f) (cond b [] (adjoint_poly q p ∷ []))
+      go true = tt
+      go false = (adjoint_poly_is_zero p vanish, tt)
+
+  new_adjoints_are_zero : (ps : List (List (ℤ × List ℕ))) → AllByRecursion (HasValueZero s q f) ps → AllByRecursion (HasValueZero s q f) (flat_map (new_adjoint q) ps)
+  new_adjoints_are_zero [] h = tt
+  new_adjoints_are_zero (p ∷ ps) h = all-append (HasValueZero s q f) (new_adjoint q p) (flat_map (new_adjoint q) ps) (new_adjoint_is_zero p h.0) (new_adjoints_are_zero ps h.1)
+
+  marked_units_are_zero : (starred : Bool) (marked : List ℕ) → AllByRecursion (λ v. v < q.objects) marked → AllByRecursion (HasValueZero s q f) (flat_map (units q starred) marked)
+  marked_units_are_zero starred [] h = tt
+  marked_units_are_zero starred (x ∷ marked) h =
+      all-append (HasValueZero s q f) (units q starred x) (flat_map (units q starred) marked) (units_are_zero starred x h.0) (marked_units_are_zero starred marked h.1)
+
+  pub generators_are_zero : (starred : Bool) (marked : List ℕ) (assumptions : List (List (ℤ × List ℕ))) → AllByRecursion (λ v. v < q.objects) marked
+      → AllByRecursion (HasValueZero s q f) assumptions → AllByRecursion (HasValueZero s q f) (generators_of q starred marked assumptions)
+  generators_are_zero starred marked assumptions in_range h =
+      all-append (HasValueZero s q f) assumptions _ h (all-append (HasValueZero s q f) _ (flat_map (units q starred) marked) (adjoints starred) (marked_units_are_zero starred marked in_range))
+    where
+      adjoints : (b : Bool) → AllByRecursion (HasValueZero s q f) (cond b (flat_map (new_adjoint q) assumptions) [])
+      adjoints true = new_adjoints_are_zero assumptions h
+      adjoints false = tt
+
+pub star_sound : {Object Arrow : Type 0} {s : Structure Object Arrow} {adjoint : Arrow → Arrow} → PreadditiveLaws s → InvolutionLaws s adjoint → IsStarSound s adjoint
+star_sound laws involution = record {
+  generators = λ q starred marked assumptions quiver in_range f rep h. generators_are_zero laws involution q quiver f rep starred marked assumptions in_range h;
+}
