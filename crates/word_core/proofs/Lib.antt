@@ -1,0 +1,2 @@
+pub mod Order
+mod Places

@@ -1,0 +1,32 @@
+-- A word stands at a place exactly where the rest of the other begins with it.
+use Rattle.std.proofs.Common.{◌≡◌, ◌↔◌, ℕ, ◌-◌, ◌≤◌, List, ◌++◌, length, take, drop, Bool, nat_eq, IsTrue, sym, ap, ◌∙◌}
+use Rattle.std.specs.List.{starts_with}
+use Rattle.std.proofs.Math.Seq.{drop-append_seam}
+use Rattle.std.proofs.lemmas.List.{take-append-drop, length-take-le, take_rest}
+use Rattle.std.proofs.lemmas.Slice.Eq.{starts_is}
+use Rattle.std.proofs.lemmas.Bool.Decides.{Decides-eqb}
+use Rattle.word_core.specs.Occurrence.{OccursAt}
+
+module _ (word sub : List ℕ) (place : ℕ) where
+  -- cut at the place, and again behind the letters of the other
+  occurs_at_cut : place ≤ length word → drop place word ≡ sub ++ drop (length sub) (drop place word) → OccursAt word sub place
+  occurs_at_cut in_range rest_is = record {
+    before = take place word;
+    after = drop (length sub) (drop place word);
+    splits = sym (take-append-drop place word) ∙ ap (λ rest. take place word ++ rest) rest_is;
+    at_place = length-take-le place word in_range;
+  }
+
+  -- the rest of the word, from the place on
+  drop-OccursAt : (at : OccursAt word sub place) → drop place word ≡ sub ++ at.after
+  drop-OccursAt at =
+      ap (λ w. drop place w) at.splits ∙
+      ap (λ n. drop n (at.before ++ (sub ++ at.after))) (sym at.at_place) ∙
+      drop-append_seam at.before (sub ++ at.after)
+
+  -- the test of the slice from the place on tells whether the other stands there
+  pub starts_with_tells : place ≤ length word → (r : Bool) → r ≡ starts_with nat_eq (take (length word - place) (drop place word)) sub → IsTrue r ↔ OccursAt word sub place
+  starts_with_tells in_range r is_test =
+      let tested = is_test ∙ ap (λ rest. starts_with nat_eq rest sub) (take_rest word place) in
+      let both = starts_is Decides-eqb (drop place word) sub r tested in
+      (λ yes. occurs_at_cut in_range (both.0 yes), λ at. both.1 at.after (drop-OccursAt at))
