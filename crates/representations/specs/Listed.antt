@@ -1,0 +1,20 @@
+-- A representation that is given by lists.
+use Rattle.std.specs.Prelude.{◌≡◌, List, length, get_or}
+use Rattle.definitions.specs.Category.{Structure}
+use Rattle.definitions.specs.Quiver.{Quiver, letters}
+use Rattle.definitions.specs.Representation.{Representation, Represents, StarRepresents}
+
+-- past the ends of the lists the given object and arrow stand, which count for nothing
+abbrev pub listed : {Object Arrow : Type 0} → List Object → List Arrow → Object → Arrow → Representation Object Arrow
+listed objects arrows o a = record { object = λ v. get_or objects v o; arrow = λ n. get_or arrows n a }
+
+-- one object for each of the quiver, and one arrow for each letter, with the right ends
+pub record IsRepresentation {Object Arrow : Type 0} (s : Structure Object Arrow) (q : Quiver) (objects : List Object) (arrows : List Arrow) : Type 0 where
+  pub objects_length : length objects ≡ q.objects
+  pub arrows_length : length arrows ≡ letters q
+  pub represents : (o : Object) (a : Arrow) → Represents s q (listed objects arrows o a)
+
+-- one in which the adjoint of a map goes to the adjoint of its arrow
+pub record IsStarRepresentation {Object Arrow : Type 0} (s : Structure Object Arrow) (adjoint : Arrow → Arrow) (q : Quiver) (objects : List Object) (arrows : List Arrow) : Type 0 where
+  pub representation : IsRepresentation s q objects arrows
+  pub represents : (o : Object) (a : Arrow) → StarRepresents s adjoint q (listed objects arrows o a)
