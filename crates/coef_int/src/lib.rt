@@ -9,7 +9,9 @@ ghost use Rattle.coef_int.specs.Range.{IsCoefficient};
 /// A product or sum that is no coefficient, with both its operands.
 #[derive(Clone, Copy, Debug, PartialEq, Eq)]
 pub struct Overflow {
+    /// The operand on the left of the sign.
     pub left: i128,
+    /// The operand on its right.
     pub right: i128,
     /// Whether it is a product, and not a sum.
     pub product: bool,

@@ -1,3 +1,4 @@
 pub mod Canonical
+pub mod Letters
 pub mod Occurrence
 pub mod Overlap

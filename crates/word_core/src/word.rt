@@ -1,9 +1,10 @@
-ghost use Rattle.std.specs.Prelude.{◌≡◌, ◌↔◌, ℕ, ◌-◌, ◌<◌, ◌≤◌, List, [], ◌∷◌, ◌++◌, length, take, drop, IfOk, IfSome, IfNone, IsTrue, OnErr, OnOk, slice_index};
+ghost use Rattle.std.specs.Prelude.{◌≡◌, ◌↔◌, ℕ, ◌-◌, ◌<◌, ◌≤◌, ◌^◌, List, [], ◌∷◌, ◌++◌, length, take, drop, IfOk, IfSome, IfNone, IsTrue, OnErr, OnOk, slice_index};
 ghost use Rattle.std.specs.Ordering.{eq_by_cmp, as_partial_cmp};
 ghost use Rattle.std.proofs.lemmas.Cmp.{eq_by_cmp_equiv};
 ghost use Rattle.std.specs.Cmp.{partial_equiv_from_equiv, partial_order_from_agreeing_total};
 ghost use Rattle.std.specs.Prelude.{refl};
 ghost use Rattle.word_core.specs.Canonical.{word_cmp, word_cmp_total};
+ghost use Rattle.word_core.specs.Letters.{IsOver};
 ghost use Rattle.word_core.specs.Occurrence.{OccursAt, IsFirstPlace, OccursNowhere};
 ghost use Rattle.word_core.specs.Overlap.{overlap_places};
 
@@ -47,11 +48,13 @@ impl Word {
         Ok(())
     }
 
-    /// The number of letters.
+    /// The number of letters. Each of them is a `u16`, which the list of numbers alone doesn't say.
     pub fn len(&self) -> usize
-        ensures { result ≡ length self.now }
+        ensures exact { result ≡ length self.now }
+        ensures letters { IsOver (2 ^ 16) self.now }
     {
-        self.letters.len()
+        let letters = self.letters.as_slice();
+        letters.len()
     }
 
     /// The letter at this place, counted from 0.
