@@ -1,0 +1,47 @@
+-- A sink in memory, by what it keeps.
+use Rattle.std.specs.Prelude.{ℕ, ◌≡◌, ◌+◌, ◌<◌, ◌⊎◌, min, List, ◌++◌, length, take, Bool, true, false, Contains, Result, MatchResult}
+use Rattle.flow_io.specs.declared.sink.SinkFault.{SinkFault}
+use Rattle.flow_io.specs.Causes.{raised}
+
+pub record SinkState : Type 0 where
+  pub bytes : List ℕ
+  pub most_per_put : ℕ
+  pub room : ℕ
+  pub failing : List ℕ
+  pub calls : ℕ
+  pub faults : ℕ
+  pub finished : Bool
+
+-- the sink with one call more, of which the number is the new count of calls
+abbrev pub with_call : SinkState → SinkState
+with_call s = record s { calls = raised s.calls }
+
+-- the sink with one fault more
+abbrev pub with_fault : SinkState → SinkState
+with_fault s = record s { faults = raised s.faults }
+
+-- the number of the next call is listed
+abbrev pub IsToFail : SinkState → Type 0
+IsToFail s = Contains s.failing (raised s.calls)
+
+-- how many bytes of a piece it takes at once
+abbrev pub at_once : SinkState → List ℕ → ℕ
+at_once s piece = min (length piece) s.most_per_put
+
+-- the next put fails: its number is listed, or it goes past the room
+abbrev pub PutFails : SinkState → List ℕ → Type 0
+PutFails s piece = IsToFail s ⊎ (s.room < length s.bytes + at_once s piece)
+
+-- what a put answers, and the sink after it
+abbrev pub PutGives : SinkState → List ℕ → Result ℕ SinkFault → SinkState → Type 0
+PutGives old piece result new =
+    MatchResult result
+    (λ count. ¬ PutFails old piece × (count ≡ at_once old piece) × (new ≡ record (with_call old) { bytes = old.bytes ++ take count piece; finished = false }))
+    (λ _. PutFails old piece × (new ≡ with_fault (with_call old)))
+
+-- what a finish answers, and the sink after it
+abbrev pub FinishGives : SinkState → Result (Unit {0}) SinkFault → SinkState → Type 0
+FinishGives old result new =
+    MatchResult result
+    (λ _. ¬ IsToFail old × (new ≡ record (with_call old) { finished = true }))
+    (λ _. IsToFail old × (new ≡ with_fault (with_call old)))

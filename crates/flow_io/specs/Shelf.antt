@@ -1,0 +1,18 @@
+-- What one load answers.
+use Rattle.std.specs.Prelude.{ℕ, ◌≡◌, ◌+◌, ◌≤◌, length, Result, MatchResult, Vec}
+use Rattle.std.specs.declared.alloc.Global.{Global}
+use Rattle.flow_io.specs.declared.shelf.ShelfFault.{ShelfFault}
+use Rattle.flow_io.specs.declared.shelf.ShelfFault.TheVariants.{Failed, TooLong, Memory}
+use Rattle.flow_io.specs.Causes.{Rose}
+use Rattle.flow_io.specs.Told.{Told, AreWhole, MayExceed}
+
+-- why a load gave no file: from what is told of the file, its limit, and the count of its name before and now
+abbrev pub HasShelfCause : Told → ℕ → ℕ → ℕ → ShelfFault → Type 0
+HasShelfCause told most before now Failed = Rose before now
+HasShelfCause told most before now (TooLong got) = MayExceed told most × (got ≡ most + 1)
+HasShelfCause told most before now (Memory _) = Unit {0}
+
+-- a load answers the whole file, within its limit, or why there is none
+abbrev pub LoadAnswers : Told → ℕ → ℕ → ℕ → Result (Vec ℕ Global) ShelfFault → Type 0
+LoadAnswers told most before now result =
+    MatchResult result (λ bytes. AreWhole told bytes.items × (length bytes.items ≤ most)) (HasShelfCause told most before now)
