@@ -6,6 +6,9 @@ ghost use Rattle.std.specs.Int.RustNames.{unsigned_abs};
 ghost use Rattle.std.specs.Int.{IsGcd, IsNonNegative};
 ghost use Rattle.coef_int.specs.Range.{IsCoefficient};
 
+#[cfg(test)]
+mod tests;
+
 /// A product or sum that is no coefficient, with both its operands.
 #[derive(Clone, Copy, Debug, PartialEq, Eq)]
 pub struct Overflow {

@@ -1,2 +1,3 @@
 pub mod Order
-mod Places
+pub mod Overlaps
+pub mod Places

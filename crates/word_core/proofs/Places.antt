@@ -1,13 +1,41 @@
--- A word stands at a place exactly where the rest of the other begins with it.
-use Rattle.std.proofs.Common.{◌≡◌, ◌↔◌, ℕ, ◌-◌, ◌≤◌, List, ◌++◌, length, take, drop, Bool, nat_eq, IsTrue, sym, ap, ◌∙◌}
+-- Where a word occurs in another: what its places say of the letters.
+use Rattle.std.proofs.Common.{◌≡◌, ◌↔◌, ℕ, ◌+◌, ◌-◌, ◌≤◌, List, [], ◌++◌, length, take, drop, Bool, nat_eq, IsTrue, sym, refl, ap, ◌∙◌, arith}
 use Rattle.std.specs.List.{starts_with}
-use Rattle.std.proofs.Math.Seq.{drop-append_seam}
-use Rattle.std.proofs.lemmas.List.{take-append-drop, length-take-le, take_rest}
+use Rattle.std.proofs.Math.Seq.{drop-append_seam, take-append_seam}
+use Rattle.std.proofs.lemmas.List.{length-append, take-append-drop, length-take-le, take_rest}
 use Rattle.std.proofs.lemmas.Slice.Eq.{starts_is}
 use Rattle.std.proofs.lemmas.Bool.Decides.{Decides-eqb}
 use Rattle.word_core.specs.Occurrence.{OccursAt}
 
+-- the empty word occurs at the beginning
+pub OccursAt-empty : (word : List ℕ) → OccursAt word [] 0
+OccursAt-empty word = record { before = []; after = word; splits = refl; at_place = refl }
+
+-- a word occurs between two others
+pub OccursAt-between : (l u r : List ℕ) → OccursAt (l ++ (u ++ r)) u (length l)
+OccursAt-between l u r = record { before = l; after = r; splits = refl; at_place = refl }
+
 module _ (word sub : List ℕ) (place : ℕ) where
+  -- it ends inside the word
+  pub OccursAt-length : OccursAt word sub place → place + length sub ≤ length word
+  OccursAt-length at =
+      let split = ap length at.splits ∙ length-append at.before (sub ++ at.after) ∙ ap (λ n. length at.before + n) (length-append sub at.after) in
+      omega (arith, split, at.at_place)
+
+  -- the rest of the word, from the place on
+  pub drop-OccursAt : (at : OccursAt word sub place) → drop place word ≡ sub ++ at.after
+  drop-OccursAt at =
+      ap (λ w. drop place w) at.splits ∙
+      ap (λ n. drop n (at.before ++ (sub ++ at.after))) (sym at.at_place) ∙
+      drop-append_seam at.before (sub ++ at.after)
+
+  -- the letters before the place
+  pub take-OccursAt : (at : OccursAt word sub place) → take place word ≡ at.before
+  take-OccursAt at =
+      ap (λ w. take place w) at.splits ∙
+      ap (λ n. take n (at.before ++ (sub ++ at.after))) (sym at.at_place) ∙
+      take-append_seam at.before (sub ++ at.after)
+
   -- cut at the place, and again behind the letters of the other
   occurs_at_cut : place ≤ length word → drop place word ≡ sub ++ drop (length sub) (drop place word) → OccursAt word sub place
   occurs_at_cut in_range rest_is = record {
@@ -16,13 +44,6 @@ module _ (word sub : List ℕ) (place : ℕ) where
     splits = sym (take-append-drop place word) ∙ ap (λ rest. take place word ++ rest) rest_is;
     at_place = length-take-le place word in_range;
   }
-
-  -- the rest of the word, from the place on
-  drop-OccursAt : (at : OccursAt word sub place) → drop place word ≡ sub ++ at.after
-  drop-OccursAt at =
-      ap (λ w. drop place w) at.splits ∙
-      ap (λ n. drop n (at.before ++ (sub ++ at.after))) (sym at.at_place) ∙
-      drop-append_seam at.before (sub ++ at.after)
 
   -- the test of the slice from the place on tells whether the other stands there
   pub starts_with_tells : place ≤ length word → (r : Bool) → r ≡ starts_with nat_eq (take (length word - place) (drop place word)) sub → IsTrue r ↔ OccursAt word sub place

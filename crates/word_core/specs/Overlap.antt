@@ -1,5 +1,5 @@
 -- Where the end of one word is the beginning of another.
-use Rattle.std.specs.Prelude.{◌&&◌, ◌-◌, ℕ, Bool, List, length, take, drop, filter, nat_lt, nat_eq}
+use Rattle.std.specs.Prelude.{◌≡◌, ◌&&◌, ◌-◌, ◌<◌, ℕ, Bool, List, ◌++◌, length, take, drop, filter, nat_lt, nat_eq}
 use Rattle.std.specs.List.{range_with_len}
 use lib.Pointwise.{pointwise}
 
@@ -12,3 +12,15 @@ overlaps_at left right place =
 -- all such places inside the left word, ascending
 abbrev pub overlap_places : List ℕ → List ℕ → List ℕ
 overlap_places left right = filter (overlaps_at left right) (range_with_len 1 (length left - 1))
+
+-- the left word is s o and the right word o t, none of s, o and t is empty, and s has as many letters as the place says
+pub record OverlapsAt (left right : List ℕ) (place : ℕ) : Type 0 where
+  pub before : List ℕ
+  pub shared : List ℕ
+  pub after : List ℕ
+  pub left_splits : left ≡ before ++ shared
+  pub right_splits : right ≡ shared ++ after
+  pub at_place : length before ≡ place
+  pub before_letters : 0 < length before
+  pub shared_letters : 0 < length shared
+  pub after_letters : 0 < length after

@@ -3,6 +3,8 @@
 
 mod letter;
 mod overlap;
+#[cfg(test)]
+mod tests;
 mod word;
 
 pub use letter::{Letter, Object};

@@ -1,4 +1,4 @@
-ghost use Rattle.std.specs.Prelude.{◌≡◌, ◌↔◌, ℕ, ◌-◌, ◌<◌, ◌≤◌, ◌^◌, List, [], ◌∷◌, ◌++◌, length, take, drop, IfOk, IfSome, IfNone, IsTrue, OnErr, OnOk, slice_index};
+ghost use Rattle.std.specs.Prelude.{◌≡◌, ◌↔◌, ℕ, ◌-◌, ◌<◌, ◌≤◌, ◌^◌, List, [], ◌∷◌, ◌++◌, length, take, drop, Contains, IfOk, IfSome, IfNone, IsTrue, OnErr, OnOk, slice_index};
 ghost use Rattle.std.specs.Ordering.{eq_by_cmp, as_partial_cmp};
 ghost use Rattle.std.proofs.lemmas.Cmp.{eq_by_cmp_equiv};
 ghost use Rattle.std.specs.Cmp.{partial_equiv_from_equiv, partial_order_from_agreeing_total};
@@ -6,7 +6,7 @@ ghost use Rattle.std.specs.Prelude.{refl};
 ghost use Rattle.word_core.specs.Canonical.{word_cmp, word_cmp_total};
 ghost use Rattle.word_core.specs.Letters.{IsOver};
 ghost use Rattle.word_core.specs.Occurrence.{OccursAt, IsFirstPlace, OccursNowhere};
-ghost use Rattle.word_core.specs.Overlap.{overlap_places};
+ghost use Rattle.word_core.specs.Overlap.{overlap_places, OverlapsAt};
 
 use crate::Letter;
 use crate::overlap::overlaps;
@@ -118,7 +118,9 @@ impl Word {
 
     /// The places, ascending, from which on the word is a proper prefix of `right`; place 0 is none of them.
     pub fn overlaps(&self, right: &Word) -> Result<Listing<usize>, AllocError>
-        ensures { IfOk result (λ places. places ≡ overlap_places self.now right.now) }
+        ensures exact { IfOk result (λ places. places ≡ overlap_places self.now right.now) }
+        ensures each { IfOk result (λ places. (place : ℕ)
+            → Contains places place ↔ OverlapsAt self.now right.now place) }
     {
         overlaps(
             *self.letters.allocator(),
@@ -131,10 +133,8 @@ impl Word {
     pub fn cmp_degree(&self, other: &Word) -> Ordering
         ensures { result ≡ word_cmp self.now other.now }
     {
-        self.letters
-            .len()
-            .cmp(&other.letters.len())
-            .then_with(|| self.letters.as_slice().cmp(&other.letters.as_slice()))
+        let by_length = self.letters.len().cmp(&other.letters.len());
+        by_length.then_with(|| self.letters.as_slice().cmp(&other.letters.as_slice()))
     }
 }
 
