@@ -1,0 +1,50 @@
+-- Terms with different words.
+use Rattle.std.proofs.Common.{◌≡◌, ℕ, pos, ◌+ℤ◌, Bool, true, false, List, [], ◌∷◌, sym, refl, ap, subst, ◌∙◌, arith}
+use Rattle.std.proofs.Math.IntN.{+ℤ_idr}
+use Rattle.std.specs.List.{AllByRecursion}
+use Rattle.std.specs.Ordering.{is_eq}
+use Rattle.std.specs.declared.cmp.Ordering.TheVariants.{Greater}
+use Rattle.word_core.specs.Canonical.{word_cmp}
+use Rattle.nc_polynomial.proofs.Shapes.{Descends}
+use Rattle.nc_polynomial.proofs.Words.{word_eq-cmp, word_eq-turned}
+use Rattle.coef_int.specs.Range.{IsCoefficient}
+use Rattle.definitions.specs.Poly.{Term, word_eq, coefficient_of}
+use Rattle.definitions.proofs.Linear.{word_eq-same, word_eq-true, coefficient_at, coefficient_other}
+
+-- no word stands twice
+abbrev pub AreDistinct : List Term → Type 0
+AreDistinct [] = Unit {0}
+AreDistinct (t ∷ p) = AllByRecursion (λ u. word_eq u.1 t.1 ≡ false) p × AreDistinct p
+
+-- a word that stands nowhere has the coefficient zero
+pub none_listed : (w : List ℕ) (p : List Term) → AllByRecursion (λ u. word_eq u.1 w ≡ false) p → coefficient_of p w ≡ pos 0
+none_listed w [] h = refl
+none_listed w (t ∷ p) h = coefficient_other w t p h.0 ∙ none_listed w p h.1
+
+pub first_coefficient : (t : Term) (p : List Term) → AllByRecursion (λ u. word_eq u.1 t.1 ≡ false) p → coefficient_of (t ∷ p) t.1 ≡ t.0
+first_coefficient t p h = coefficient_at t.1 t p (word_eq-same t.1) ∙ ap (λ k. t.0 +ℤ k) (none_listed t.1 p h) ∙ +ℤ_idr t.0
+
+-- where the coefficient of each word is in range, so is the integer beside each word
+pub ranged-distinct : (p : List Term) → AreDistinct p → ((w : List ℕ) → IsCoefficient (coefficient_of p w)) → AllByRecursion (λ t. IsCoefficient t.0) p
+ranged-distinct [] d h = tt
+ranged-distinct (t ∷ p) d h = (subst IsCoefficient (first_coefficient t p d.0) (h t.1), ranged-distinct p d.1 (λ w. rest w (word_eq t.1 w) refl))
+  where
+    rest : (w : List ℕ) (b : Bool) → word_eq t.1 w ≡ b → IsCoefficient (coefficient_of p w)
+    rest w true e =
+        let none : coefficient_of p w ≡ pos 0 = ap (coefficient_of p) (sym (word_eq-true t.1 w e)) ∙ none_listed t.1 p d.0 in
+        subst IsCoefficient (sym none) in_range-zero
+      where
+        in_range-zero : IsCoefficient (pos 0)
+        in_range-zero = omega arith
+    rest w false e = subst IsCoefficient (coefficient_other w t p e) (h w)
+
+distinct-descending : (p : List Term) → Descends p → AreDistinct p
+distinct-descending [] d = tt
+distinct-descending (t ∷ p) d = (apart p d.0, distinct-descending p d.1)
+  where
+    apart : (q : List Term) → AllByRecursion (λ u. word_cmp t.1 u.1 ≡ Greater) q → AllByRecursion (λ u. word_eq u.1 t.1 ≡ false) q
+    apart [] h = tt
+    apart (u ∷ q) h = (word_eq-turned u.1 t.1 ∙ word_eq-cmp t.1 u.1 ∙ ap is_eq h.0, apart q h.1)
+
+pub ranged-descending : (p : List Term) → Descends p → ((w : List ℕ) → IsCoefficient (coefficient_of p w)) → AllByRecursion (λ t. IsCoefficient t.0) p
+ranged-descending p d = ranged-distinct p (distinct-descending p d)

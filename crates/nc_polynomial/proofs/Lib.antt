@@ -1,0 +1,12 @@
+pub mod Checked
+pub mod CoefficientLaws
+pub mod Shapes
+pub mod Chains
+pub mod Results
+pub mod Values
+pub mod Unique
+pub mod Words
+pub mod Distinct
+pub mod Tables
+pub mod CollectedTerms
+pub mod Rests

@@ -1,0 +1,122 @@
+-- The terms of a table of words.
+use Rattle.std.proofs.Common.{◌≡◌, ◌≢◌, ℕ, ℤ, pos, ◌+ℤ◌, Bool, true, false, cond, List, [], ◌∷◌, ◌++◌, map, Some, unwrap_or, sym, refl, ap, subst, ◌∙◌, arith, append_assoc}
+use Rattle.std.proofs.lemmas.Int.{ints}
+use Rattle.std.proofs.Math.IntN.{+ℤ_idr}
+use Rattle.std.specs.List.{AllByRecursion}
+use Rattle.std.specs.BTreeMap.{BTreeMap, IsOrdered}
+use Rattle.std.proofs.lemmas.List.Elements.{All-from_recursion}
+use Rattle.std.specs.List.Sorted.{IsStrictlySortedBy}
+use Rattle.std.specs.Map.{keys_of, lookup}
+use Rattle.std.specs.Ordering.{is_eq}
+use Rattle.std.specs.declared.cmp.Ordering.TheVariants.{Less, Greater}
+use Rattle.coef_int.specs.Range.{IsCoefficient}
+use Rattle.definitions.specs.Poly.{Term, word_eq, coefficient_of}
+use Rattle.definitions.proofs.Linear.{word_eq-true, coefficient_other}
+use Rattle.word_core.specs.Canonical.{word_cmp}
+use Rattle.word_core.proofs.Order.{word_cmp-turned}
+use Rattle.nc_polynomial.specs.Terms.{keep}
+use Rattle.nc_polynomial.specs.Ascending.{reversed}
+use Rattle.nc_polynomial.specs.Collected.{coefficient_in}
+use Rattle.nc_polynomial.specs.Shape.{IsShaped}
+use Rattle.nc_polynomial.proofs.Checked.{keep-append}
+use Rattle.nc_polynomial.proofs.CoefficientLaws.{coefficient_of-keep}
+use Rattle.nc_polynomial.proofs.Shapes.{Descends, IsDescending-from_recursion, nonzero-keep, descending-keep, all-keep}
+use Rattle.nc_polynomial.proofs.Words.{word_eq-cmp, word_eq-turned}
+use Rattle.nc_polynomial.proofs.Distinct.{first_coefficient, ranged-descending}
+
+abbrev pub Entry : Type 0
+Entry = List ℕ × ℤ
+
+-- an entry with its coefficient first
+abbrev pub term_of : Entry → Term
+term_of e = (e.1, e.0)
+
+pub reversed-append : (entries : List Entry) (e : Entry) (later : List Term) → reversed (entries ++ e ∷ []) later ≡ keep e.1 e.0 (reversed entries later)
+reversed-append [] e later = refl
+reversed-append (x ∷ entries) e later = reversed-append entries e (keep x.1 x.0 later)
+
+-- the last entry is moved to the end of the terms
+pub reversed-step : (old new : List Entry) (w : List ℕ) (c : ℤ) (out : List Term) → old ≡ new ++ (w, c) ∷ [] → (out ++ keep c w []) ++ reversed new [] ≡ out ++ reversed old []
+reversed-step old new w c out e =
+    append_assoc out (keep c w []) (reversed new [])
+    ∙ ap (λ rest. out ++ rest) (sym (keep-append c w (reversed new [])) ∙ sym (reversed-append new (w, c) []) ∙ ap (λ es. reversed es []) (sym e))
+
+-- each word is below all later words
+abbrev pub Ascends : List Entry → Type 0
+Ascends [] = Unit {0}
+Ascends (e ∷ entries) = AllByRecursion (λ x. word_cmp e.0 x.0 ≡ Less) entries × Ascends entries
+
+pub ascends : (entries : List Entry) → IsStrictlySortedBy word_cmp (keys_of entries) → Ascends entries
+unfolding IsStrictlySortedBy
+ascends [] sorted = tt
+ascends (e ∷ entries) sorted = (below entries sorted.0, ascends entries sorted.1)
+  where
+    below : (later : List Entry) → AllByRecursion (λ w. word_cmp e.0 w ≡ Less) (keys_of later) → AllByRecursion (λ x. word_cmp e.0 x.0 ≡ Less) later
+    below [] h = tt
+    below (x ∷ later) h = (h.0, below later h.1)
+
+-- all words of the entries are above all words of the terms
+abbrev pub AreAbove : List Entry → List Term → Type 0
+AreAbove entries later = AllByRecursion (λ e. AllByRecursion (λ t. word_cmp e.0 t.1 ≡ Greater) later) entries
+
+pub descending-reversed : (entries : List Entry) (later : List Term) → Ascends entries → AreAbove entries later → Descends later → Descends (reversed entries later)
+descending-reversed [] later up above down = down
+descending-reversed (e ∷ entries) later up above down =
+    descending-reversed entries (keep e.1 e.0 later) up.1 (both entries up.0 above.1) (descending-keep e.1 e.0 later above.0 down)
+  where
+    both : (es : List Entry) → AllByRecursion (λ x. word_cmp e.0 x.0 ≡ Less) es → AreAbove es later → AreAbove es (keep e.1 e.0 later)
+    both [] h k = tt
+    both (x ∷ es) h k = (all-keep (λ w. word_cmp x.0 w ≡ Greater) e.1 e.0 later (word_cmp-turned e.0 x.0 h.0) k.0, both es h.1 k.1)
+
+pub nonzero-reversed : (entries : List Entry) (later : List Term) → AllByRecursion (λ t. t.0 ≢ pos 0) later → AllByRecursion (λ t. t.0 ≢ pos 0) (reversed entries later)
+nonzero-reversed [] later h = h
+nonzero-reversed (e ∷ entries) later h = nonzero-reversed entries (keep e.1 e.0 later) (nonzero-keep e.1 e.0 later h)
+
+pub coefficient_of-reversed : (entries : List Entry) (later : List Term) (w : List ℕ) → coefficient_of (reversed entries later) w ≡ coefficient_of (map term_of entries) w +ℤ coefficient_of later w
+coefficient_of-reversed [] later w = omega (arith, ints)
+coefficient_of-reversed (e ∷ entries) later w =
+    let first = cond (word_eq e.0 w) e.1 (pos 0) in
+    let all : coefficient_of (reversed entries (keep e.1 e.0 later)) w ≡ coefficient_of (map term_of entries) w +ℤ coefficient_of (keep e.1 e.0 later) w = coefficient_of-reversed entries (keep e.1 e.0 later) w in
+    let kept : coefficient_of (keep e.1 e.0 later) w ≡ first +ℤ coefficient_of later w = coefficient_of-keep e.1 e.0 later w in
+    omega (arith, ints)
+
+-- an ascending list names each word once
+apart : (v : List ℕ) (entries : List Entry) → AllByRecursion (λ x. word_cmp v x.0 ≡ Less) entries → AllByRecursion (λ u. word_eq u.1 v ≡ false) (map term_of entries)
+apart v [] h = tt
+apart v (e ∷ entries) h = (word_eq-cmp e.0 v ∙ ap is_eq (word_cmp-turned v e.0 h.0), apart v entries h.1)
+
+-- what is listed at a word is its coefficient
+pub lookup-coefficient : (w : List ℕ) (entries : List Entry) → Ascends entries → unwrap_or (lookup (λ k. is_eq (word_cmp w k)) entries) (pos 0) ≡ coefficient_of (map term_of entries) w
+lookup-coefficient w [] up = refl
+lookup-coefficient w (e ∷ entries) up = go (is_eq (word_cmp w e.0)) (word_eq-cmp w e.0) (lookup-coefficient w entries up.1)
+  where
+    go : (b : Bool) → word_eq w e.0 ≡ b → unwrap_or (lookup (λ k. is_eq (word_cmp w k)) entries) (pos 0) ≡ coefficient_of (map term_of entries) w
+        → unwrap_or (cond b (Some e.1) (lookup (λ k. is_eq (word_cmp w k)) entries)) (pos 0) ≡ coefficient_of (map term_of (e ∷ entries)) w
+    go true same rest = sym (ap (coefficient_of (map term_of (e ∷ entries))) (word_eq-true w e.0 same) ∙ first_coefficient (term_of e) (map term_of entries) (apart e.0 entries up.0))
+    go false other rest = rest ∙ sym (coefficient_other w (term_of e) (map term_of entries) (word_eq-turned e.0 w ∙ other))
+
+-- ---- the whole table
+module _ (table : BTreeMap (List ℕ) ℤ) (sorted : IsOrdered word_cmp table) where
+  up_table : Ascends table.entries
+  up_table = ascends table.entries sorted
+
+  above_none : (entries : List Entry) → AreAbove entries []
+  above_none [] = tt
+  above_none (e ∷ entries) = (tt, above_none entries)
+
+  pub descending-table : Descends (reversed table.entries [])
+  descending-table = descending-reversed table.entries [] up_table (above_none table.entries) tt
+
+  pub nonzero-table : AllByRecursion (λ t. t.0 ≢ pos 0) (reversed table.entries [])
+  nonzero-table = nonzero-reversed table.entries [] tt
+
+  pub coefficient_of-table : (w : List ℕ) → coefficient_of (reversed table.entries []) w ≡ coefficient_in table w
+  coefficient_of-table w =
+      coefficient_of-reversed table.entries [] w ∙ +ℤ_idr (coefficient_of (map term_of table.entries) w) ∙ sym (lookup-coefficient w table.entries up_table)
+
+  pub shaped-table : ((w : List ℕ) → IsCoefficient (coefficient_in table w)) → IsShaped (reversed table.entries [])
+  shaped-table in_range = record {
+    descending = IsDescending-from_recursion (reversed table.entries []) descending-table;
+    nonzero = All-from_recursion (λ t. t.0 ≢ pos 0) (reversed table.entries []) nonzero-table;
+    in_range = All-from_recursion (λ t. IsCoefficient t.0) (reversed table.entries []) (ranged-descending (reversed table.entries []) descending-table (λ w. subst IsCoefficient (sym (coefficient_of-table w)) (in_range w)));
+  }

@@ -1,0 +1,66 @@
+-- Two polynomials with the same coefficients have the same terms.
+use Rattle.std.proofs.Common.{◌≡◌, ◌≢◌, ℕ, pos, Bool, true, false, List, [], ◌∷◌, ◌⊎◌, inl, inr, refl, ap, ◌∙◌}
+use Rattle.std.specs.List.{AllByRecursion}
+use Rattle.std.proofs.lemmas.List.Elements.{recursion_from_All}
+use Rattle.std.specs.Ordering.{is_lt, ordering_reverse}
+use Rattle.std.specs.declared.cmp.Ordering.{Ordering}
+use Rattle.std.specs.declared.cmp.Ordering.TheVariants.{Less, Equal, Greater}
+use Rattle.definitions.specs.Poly.{Term, SamePolynomial}
+use Rattle.definitions.proofs.Canonical.{IsStrictOrder}
+use Rattle.definitions.proofs.Canonical.{IsCanonical as IsCanonicalBy, canonical_unique as unique_by}
+use Rattle.word_core.specs.Canonical.{word_cmp, word_cmp_total}
+use Rattle.word_core.proofs.Order.{word_cmp-same}
+use Rattle.nc_polynomial.specs.Shape.{IsShaped, IsCanonical}
+use Rattle.nc_polynomial.proofs.Shapes.{Descends, recursion_from_IsDescending}
+
+-- whether the first word is below the second
+abbrev pub is_below : List ℕ → List ℕ → Bool
+is_below v w = is_lt (word_cmp v w)
+
+less_from_test : (o : Ordering) → is_lt o ≡ true → o ≡ Less
+less_from_test Less e = refl
+less_from_test Equal e = cc
+less_from_test Greater e = cc
+
+itself : (w : List ℕ) → is_lt (word_cmp w w) ≡ false
+itself w = go (word_cmp w w) (word_cmp_total.antisymm w w)
+  where
+    go : (o : Ordering) → o ≡ ordering_reverse o → is_lt o ≡ false
+    go Less e = cc
+    go Equal e = refl
+    go Greater e = refl
+
+three_ways : (v w : List ℕ) → (v ≡ w) ⊎ ((is_below v w ≡ true) ⊎ (is_below w v ≡ true))
+three_ways v w = go (word_cmp v w) refl
+  where
+    go : (o : Ordering) → word_cmp v w ≡ o → (v ≡ w) ⊎ ((is_below v w ≡ true) ⊎ (is_below w v ≡ true))
+    go Less e = inr (inl (ap is_lt e))
+    go Equal e = inl (word_cmp-same v w e)
+    go Greater e = inr (inr (ap is_lt (word_cmp_total.antisymm w v ∙ ap ordering_reverse e)))
+
+pub below_is_strict : IsStrictOrder is_below
+below_is_strict = record {
+  irreflexive = itself;
+  transitive = λ u v w h k. ap is_lt (word_cmp_total.trans u v w (less_from_test (word_cmp u v) h) (less_from_test (word_cmp v w) k));
+  total = three_ways;
+}
+
+turned_below : (v : List ℕ) (p : List Term) → AllByRecursion (λ u. word_cmp v u.1 ≡ Greater) p → AllByRecursion (λ u. is_below u.1 v ≡ true) p
+turned_below v [] h = tt
+turned_below v (u ∷ p) h = (ap is_lt (word_cmp_total.antisymm u.1 v ∙ ap ordering_reverse h.0), turned_below v p h.1)
+
+canonical : (p : List Term) → Descends p → AllByRecursion (λ t. t.0 ≢ pos 0) p → IsCanonicalBy is_below p
+canonical [] d h = tt
+canonical (t ∷ p) d h = (record { nonzero = h.0; above = turned_below t.1 p d.0 }, canonical p d.1 h.1)
+
+-- two descending lists with no zero coefficient and the same coefficients are equal
+pub descending_unique : (p q : List Term) → Descends p → Descends q → AllByRecursion (λ t. t.0 ≢ pos 0) p → AllByRecursion (λ t. t.0 ≢ pos 0) q → SamePolynomial p q → p ≡ q
+descending_unique p q d e h k same = unique_by below_is_strict p q (canonical p d h) (canonical q e k) same
+
+pub shaped_unique : (p q : List Term) → IsShaped p → IsShaped q → SamePolynomial p q → p ≡ q
+shaped_unique p q h k same =
+    descending_unique p q (recursion_from_IsDescending p h.descending) (recursion_from_IsDescending q k.descending)
+    (recursion_from_All (λ t. t.0 ≢ pos 0) p h.nonzero) (recursion_from_All (λ t. t.0 ≢ pos 0) q k.nonzero) same
+
+pub canonical_unique : (p q : List Term) → IsCanonical p → IsCanonical q → SamePolynomial p q → p ≡ q
+canonical_unique p q h k same = shaped_unique p q h.shaped k.shaped same

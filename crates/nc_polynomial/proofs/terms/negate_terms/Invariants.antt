@@ -1,0 +1,14 @@
+use Rattle.std.proofs.Common.{◌≡◌, ◌++◌, length}
+use Rattle.std.specs.List.{All}
+use Rattle.coef_int.specs.Range.{IsCoefficient}
+use Rattle.nc_polynomial.specs.Terms.{negated}
+use Rattle.nc_polynomial.proofs.terms.negate_terms.Given as goal
+
+abbrev pub invariant-loop-coefficient : goal.invariant-loop-coefficient
+invariant-loop-coefficient l = record {
+  terms_in : All (λ t. IsCoefficient t.0) l.rest.items;
+  same : l.turned ++ negated l.rest.items ≡ negated l.fn.terms;
+}
+
+abbrev pub decreases-loop-coefficient : goal.decreases-loop-coefficient
+decreases-loop-coefficient l = length l.rest.items

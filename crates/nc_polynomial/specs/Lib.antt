@@ -1,0 +1,7 @@
+pub mod Terms
+pub mod Sides
+pub mod Shape
+pub mod Faults
+pub mod Arithmetic
+pub mod Ascending
+pub mod Collected

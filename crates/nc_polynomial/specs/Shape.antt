@@ -1,0 +1,22 @@
+-- What the list of a polynomial keeps.
+use Rattle.std.specs.Prelude.{◌≡◌, ◌≢◌, ◌≤◌, ℤ, pos, ℕ, List, length}
+use Rattle.std.specs.List.{All}
+use Rattle.coef_int.specs.Range.{IsCoefficient}
+use Rattle.definitions.specs.Poly.{SamePolynomial}
+use Rattle.nc_polynomial.specs.Terms.{IsDescending}
+
+-- a polynomial with any number of terms and letters
+pub record IsShaped (p : List (ℤ × List ℕ)) : Type 0 where
+  pub descending : IsDescending p
+  pub nonzero : All (λ t. t.0 ≢ pos 0) p
+  pub in_range : All (λ t. IsCoefficient t.0) p
+
+-- one within the limits
+pub record IsCanonical (p : List (ℤ × List ℕ)) : Type 0 where
+  pub shaped : IsShaped p
+  pub short : All (λ t. length t.1 ≤ 500) p
+  pub few : length p ≤ 20000
+
+-- Two canonical lists with the same coefficients are equal.
+abbrev pub CanonicalIsUnique : Type 0
+CanonicalIsUnique = (p q : List (ℤ × List ℕ)) → IsCanonical p → IsCanonical q → SamePolynomial p q → p ≡ q

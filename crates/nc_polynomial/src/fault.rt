@@ -1,0 +1,38 @@
+ghost use Rattle.nc_polynomial.specs.Faults.{IsMemory};
+
+use coef_int::Overflow;
+use std::alloc::{AllocError, AllocFailed};
+
+/// A limit on the size of a polynomial that is passed.
+#[derive(Clone, Copy, Debug, PartialEq, Eq)]
+pub struct SizeFault {
+    /// Whether a word has more than 500 letters, and not the polynomial more than 20,000 terms.
+    pub letters: bool,
+}
+
+/// What can go wrong in the arithmetic of polynomials. An overflow comes before a size.
+#[derive(Debug, Drop)]
+pub enum PolyFault {
+    /// The first product or sum that is no coefficient.
+    Overflow(Overflow),
+    /// A word of the result is too long, or the result has too many terms.
+    Size(SizeFault),
+    /// Memory is short.
+    Memory(AllocError),
+}
+
+impl<T: Drop> From<AllocFailed<T>> for PolyFault {
+    ghost from_gives = { λ _ e. IsMemory e };
+
+    fn from(_failed: AllocFailed<T>) -> PolyFault {
+        PolyFault::Memory(AllocError)
+    }
+}
+
+impl From<AllocError> for PolyFault {
+    ghost from_gives = { λ _ e. IsMemory e };
+
+    fn from(failed: AllocError) -> PolyFault {
+        PolyFault::Memory(failed)
+    }
+}

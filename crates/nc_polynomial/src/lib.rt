@@ -1,0 +1,16 @@
+//! Polynomials in letters that do not commute, with exact arithmetic or the first fault.
+#![tactic(auto)]
+
+mod collect;
+mod combine;
+mod fault;
+mod laws;
+mod poly;
+mod size;
+mod terms;
+
+pub use fault::{PolyFault, SizeFault};
+pub use laws::canonical_is_unique;
+pub use poly::Poly;
+pub use size::check_size;
+pub use terms::{merge_terms, multiply_terms, negate_terms, scale_terms, shift_terms};
