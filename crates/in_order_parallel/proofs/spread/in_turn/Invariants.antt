@@ -1,0 +1,7 @@
+use Rattle.std.proofs.Common.{take}
+use Rattle.std.specs.List.{AllZip}
+use Rattle.in_order_parallel.proofs.spread.in_turn.Given as goal
+
+-- the items so far have their answers
+abbrev pub invariant-loop-place : goal.invariant-loop-place
+invariant-loop-place g l = AllZip (g.J.Job.gives l.job) (take l.place l.items) l.answers.items

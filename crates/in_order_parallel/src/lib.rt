@@ -1,0 +1,13 @@
+//! A job at each item of a slice, on several threads, with the answers in the order of the items.
+#![tactic(auto)]
+
+mod gate;
+mod job;
+mod spread;
+
+pub use gate::{Gate, OpenGate};
+pub use job::Job;
+pub use spread::map_in_order;
+
+#[cfg(test)]
+mod tests;
