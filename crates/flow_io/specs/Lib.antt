@@ -2,6 +2,6 @@ pub mod Causes
 pub mod Told
 pub mod Shelf
 pub mod Sink
-pub mod Held
+pub mod Files
 pub mod MemoryShelf
 pub mod MemorySink

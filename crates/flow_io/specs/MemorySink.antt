@@ -1,8 +1,10 @@
 -- A sink in memory, by what it keeps.
 use Rattle.std.specs.Prelude.{ℕ, ◌≡◌, ◌+◌, ◌<◌, ◌⊎◌, min, List, ◌++◌, length, take, Bool, true, false, Contains, Result, MatchResult}
 use Rattle.flow_io.specs.declared.sink.SinkFault.{SinkFault}
-use Rattle.flow_io.specs.Causes.{raised}
+use Rattle.flow_io.specs.Causes.{next_count}
 
+-- the bytes it took, how many it takes a put and in all, the numbers of the calls that fail, how many calls and faults
+-- there were, and whether it is finished
 pub record SinkState : Type 0 where
   pub bytes : List ℕ
   pub most_per_put : ℕ
@@ -12,17 +14,17 @@ pub record SinkState : Type 0 where
   pub faults : ℕ
   pub finished : Bool
 
--- the sink with one call more, of which the number is the new count of calls
+-- the sink with one call more; the new count is the number of that call
 abbrev pub with_call : SinkState → SinkState
-with_call s = record s { calls = raised s.calls }
+with_call s = record s { calls = next_count s.calls }
 
 -- the sink with one fault more
 abbrev pub with_fault : SinkState → SinkState
-with_fault s = record s { faults = raised s.faults }
+with_fault s = record s { faults = next_count s.faults }
 
 -- the number of the next call is listed
 abbrev pub IsToFail : SinkState → Type 0
-IsToFail s = Contains s.failing (raised s.calls)
+IsToFail s = Contains s.failing (next_count s.calls)
 
 -- how many bytes of a piece it takes at once
 abbrev pub at_once : SinkState → List ℕ → ℕ

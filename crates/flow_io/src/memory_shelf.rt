@@ -1,8 +1,8 @@
 ghost use Rattle.std.specs.Prelude.{◌≡◌, ◌≢◌, ◌+◌, ◌<◌, ◌≤◌, ◌↔◌, ℕ, List, Some, IfOk, AllPairs, length, replicate, set, slice_get, slice_index};
-ghost use Rattle.flow_io.specs.Causes.{Rose, raised};
+ghost use Rattle.flow_io.specs.Causes.{Rose, next_count};
 ghost use Rattle.flow_io.specs.Shelf.{LoadAnswers};
 ghost use Rattle.flow_io.specs.Told.{Absent, Holds};
-ghost use Rattle.flow_io.specs.Held.{place_of, held_by};
+ghost use Rattle.flow_io.specs.Files.{place_of, file_under};
 ghost use Rattle.flow_io.specs.MemoryShelf.{LoadGives, count_of};
 
 use crate::{Shelf, ShelfFault};
@@ -55,8 +55,8 @@ impl MemoryShelf {
 fn place_in(files: &[(Text, Listing<u8>)], name: &str) -> usize
     ensures place { result ≡ place_of files.now name.now }
     ensures within { result ≤ length files.now }
-    ensures absent { (result ≡ length files.now) ↔ (held_by files.now name.now ≡ Absent) }
-    ensures found { (file : _) → slice_get files.now result ≡ Some file → held_by files.now name.now ≡ Holds file.1 }
+    ensures absent { (result ≡ length files.now) ↔ (file_under files.now name.now ≡ Absent) }
+    ensures found { (file : _) → slice_get files.now result ≡ Some file → file_under files.now name.now ≡ Holds file.1 }
 {
     for (place, file) in files.iter().enumerate() {
         if file.0.as_str() == name {
@@ -80,7 +80,7 @@ fn within(alloc: Global, bytes: &[u8], most: usize) -> Result<Vec<u8>, ShelfFaul
 // The count at this place goes up by one; at the greatest u64 it stays.
 fn raise(counts: &mut [u64], place: usize)
     requires { place < length counts.old }
-    ensures exact { counts.new ≡ set counts.old place (raised (slice_index counts.old place)) }
+    ensures exact { counts.new ≡ set counts.old place (next_count (slice_index counts.old place)) }
     ensures rose { Rose (slice_index counts.old place) (slice_index counts.new place) }
     ensures none_fell { (other : ℕ) → slice_index counts.old other ≤ slice_index counts.new other }
 {
@@ -88,7 +88,7 @@ fn raise(counts: &mut [u64], place: usize)
 }
 
 impl Shelf for MemoryShelf {
-    ghost file = { λ shelf name. held_by shelf.files name };
+    ghost file = { λ shelf name. file_under shelf.files name };
 
     ghost faults = { λ shelf name. count_of shelf name };
 
@@ -97,7 +97,7 @@ impl Shelf for MemoryShelf {
         requires { most < usize.MAX }
         ensures exact { LoadGives self.old name.now most result self.new }
         // as of the trait
-        ensures answer { LoadAnswers (held_by self.old.files name.now) most (count_of self.old name.now) (count_of self.new name.now) result }
+        ensures answer { LoadAnswers (file_under self.old.files name.now) most (count_of self.old name.now) (count_of self.new name.now) result }
         ensures counts { (other : List ℕ) → count_of self.old other ≤ count_of self.new other }
     {
         self.loads = self.loads.saturating_add(1);

@@ -1,9 +1,10 @@
 use Rattle.std.proofs.Common.{◌≡◌, ◌+◌, drop}
-use Rattle.flow_io.specs.Held.{place_of, held_by}
+use Rattle.flow_io.specs.Files.{place_of, file_under}
 use Rattle.flow_io.proofs.memory_shelf.place_in.Given as goal
 
+-- the files that are left tell the same of the name
 abbrev pub invariant-loop-place : goal.invariant-loop-place
 invariant-loop-place l = record {
   place : l.place + place_of (drop l.place l.files) l.name ≡ place_of l.files l.name;
-  held : held_by (drop l.place l.files) l.name ≡ held_by l.files l.name;
+  told : file_under (drop l.place l.files) l.name ≡ file_under l.files l.name;
 }

@@ -2,6 +2,7 @@ use Rattle.std.proofs.Common.{◌+◌, ◌-◌, ◌≤◌, vec_len}
 use Rattle.std.specs.Io.KnownBytes.{Consumes}
 use Rattle.flow_io.proofs.real_shelf.read_whole.Given as goal
 
+-- the bytes so far are the first of the file, at most one past the limit
 abbrev pub invariant-loop-block : goal.invariant-loop-block
 invariant-loop-block g l = record { within : vec_len l.bytes ≤ l.most + 1; read : Consumes (g.F.Read.remaining l.initial.file) (g.F.Read.remaining l.file) l.bytes.items }
 

@@ -1,11 +1,12 @@
 use Rattle.std.proofs.Common.{rules, ◌≡◌, inl, inr, ◌∙◌}
 use Rattle.std.proofs.lemmas.List.{with_items_is}
-use Rattle.flow_io.specs.Held.{place_of}
+use Rattle.flow_io.specs.Files.{place_of}
 use Rattle.flow_io.specs.MemoryShelf.{LoadFails}
-use Rattle.flow_io.proofs.HeldLemmas.{is_with_fault}
+use Rattle.flow_io.proofs.FileLemmas.{is_with_fault}
 use Rattle.flow_io.proofs.memory_shelf.MemoryShelfShelf.load.Goals as goal
 use Rattle.flow_io.proofs.memory_shelf.MemoryShelfShelf.load.Goals.{then-place-len-via-then-place-len, then-place-len-via-else-place-len+then-contains}
 
+-- the load fails, as it is listed or no file has the name, and it is counted under the name
 pub returns-then-place-len-clause-exact : goal.returns-then-place-len-clause-exact
 returns-then-place-len-clause-exact c =
     let fails : LoadFails c.args.self.now c.args.name.now = elim c.then-place-len.branch [ then-place-len-via-then-place-len w ↦ inr (search rules) | then-place-len-via-else-place-len+then-contains w ↦ inl (search rules) ] in
