@@ -1,0 +1,4 @@
+pub mod Words
+pub mod Updates
+pub mod First
+pub mod Adding
