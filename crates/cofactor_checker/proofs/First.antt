@@ -1,11 +1,16 @@
 -- the first overflow of some operations, one operation on
-use Rattle.std.proofs.Common.{◌≡◌, List, [], ◌∷◌, Bool, true, false, cond, Option, Some, None, refl, arith}
+use Rattle.std.proofs.Common.{◌≡◌, ◌^◌, ℕ, ℤ, ◌*ℤ◌, All, List, [], ◌∷◌, Bool, true, false, cond, Option, Some, None, refl, arith}
+use Rattle.std.specs.Int.RustNames.{unsigned_abs}
+use Rattle.std.specs.List.{AllByRecursion}
 use Rattle.std.proofs.lemmas.Bool.Decides.{nat_tests}
+use Rattle.std.proofs.lemmas.List.Elements.{All-from_recursion}
+use borrow.Author.Tests.{ltb-true}
 use Rattle.coef_int.specs.declared.Overflow.{Overflow}
 use Rattle.coef_int.specs.Range.{IsCoefficient, is_coefficient}
-use Rattle.coef_int.specs.Operations.{exact_value, first_overflow}
+use Rattle.coef_int.specs.Operations.{product_of, exact_value, first_overflow}
 use Rattle.cofactor_checker.specs.declared.sum.SumFault.{SumFault}
 use Rattle.cofactor_checker.specs.declared.sum.SumFault.TheVariants as fault
+use Rattle.cofactor_checker.specs.Operations.{multiple_operations}
 use Rattle.cofactor_checker.specs.Running.{IsStoppedBy}
 
 -- an operation that fits is passed over
@@ -24,3 +29,17 @@ stopped_before o os (fault.Overflow e) stopped = go (is_coefficient (exact_value
     go true none = absurd (cc)
     go false same = same
 stopped_before o os (fault.Memory e) stopped = tt
+
+-- where no product of a multiple overflows, all are coefficients
+pub products_fit : (d : ℤ) (p : List (ℤ × List ℕ)) → first_overflow (multiple_operations d p) ≡ None → All (λ t. IsCoefficient (d *ℤ t.0)) p
+products_fit d p none = All-from_recursion (λ t. IsCoefficient (d *ℤ t.0)) p (go p none)
+  where
+    one : (b : Bool) (o : Overflow) (later : Option Overflow) → cond b later (Some o) ≡ None → (b ≡ true) × (later ≡ None)
+    one true o later none = (refl, none)
+    one false o later none = (cc)
+
+    go : (p : List (ℤ × List ℕ)) → first_overflow (multiple_operations d p) ≡ None → AllByRecursion (λ t. IsCoefficient (d *ℤ t.0)) p
+    go [] none = tt
+    go (t ∷ p) none =
+        let parts = one (is_coefficient (d *ℤ t.0)) (product_of d t.0) (first_overflow (multiple_operations d p)) none in
+        (ltb-true (unsigned_abs (d *ℤ t.0)) (2 ^ 127) parts.0, go p parts.1)

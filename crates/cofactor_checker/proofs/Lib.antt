@@ -2,3 +2,5 @@ pub mod Words
 pub mod Updates
 pub mod First
 pub mod Adding
+pub mod Descending
+pub mod Comparing
