@@ -4,3 +4,5 @@ pub mod First
 pub mod Adding
 pub mod Descending
 pub mod Comparing
+pub mod Counts
+pub mod RowSums

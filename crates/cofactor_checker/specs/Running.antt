@@ -21,6 +21,10 @@ pub record IsRunning (m : BTreeMap (List ℕ) ℤ) : Type 0 where
 pub record Adds (old new : BTreeMap (List ℕ) ℤ) (p : List (ℤ × List ℕ)) : Type 0 where
   pub at : (w : List ℕ) → coefficient_in new w ≡ coefficient_in old w +ℤ coefficient_of p w
 
+-- the map has the coefficients of p
+pub record IsSumOf (m : BTreeMap (List ℕ) ℤ) (p : List (ℤ × List ℕ)) : Type 0 where
+  pub at : (w : List ℕ) → coefficient_in m w ≡ coefficient_of p w
+
 -- the fault is this first overflow, or want of memory
 abbrev pub IsStoppedBy : Option Overflow → SumFault → Type 0
 IsStoppedBy first (fault.Overflow o) = first ≡ Some o
