@@ -1,9 +1,7 @@
 -- a row added to the sum, one term of the generator after another
-use Rattle.std.proofs.Common.{◌≡◌, ◌≢◌, ℕ, ◌+◌, ◌<◌, ◌≤◌, ℤ, pos, ◌+ℤ◌, ◌*ℤ◌, List, [], ◌∷◌, ◌++◌, length, drop, get_or, Bool, true, false, cond, Option, Some, None, sym, refl, ap, ap₂, ◌∙◌, subst, arith}
+use Rattle.std.proofs.Common.{◌≡◌, ℕ, ◌+◌, ◌<◌, ◌≤◌, ℤ, pos, ◌+ℤ◌, ◌*ℤ◌, List, [], ◌∷◌, ◌++◌, length, drop, get_or, false, cond, Some, None, sym, refl, ap, ◌∙◌, subst, arith}
 use Rattle.std.specs.BTreeMap.{BTreeMap}
-use Rattle.std.specs.List.{AllPairs}
 use Rattle.std.specs.declared.cmp.Ordering.TheVariants.{Greater}
-use Rattle.std.proofs.lemmas.Int.{ints}
 use Rattle.std.proofs.lemmas.List.{at_drop_more, at_drop_all, append_cancel_left, append_cancel_right, get_or_default}
 use Rattle.std.proofs.lemmas.Bool.{false_from_ne_true}
 use Rattle.std.proofs.lemmas.Cmp.{tied_itself}
@@ -14,9 +12,11 @@ use Rattle.coef_int.specs.Operations.{product_of, sum_of, first_overflow}
 use Rattle.word_core.specs.Canonical.{word_cmp, word_cmp_total}
 use Rattle.definitions.specs.Poly.{word_eq, coefficient_of, poly_multiple, poly_between}
 use Rattle.definitions.proofs.Linear.{word_eq-true}
+use Rattle.nc_polynomial.specs.Collected.{coefficient_in}
+use Rattle.nc_polynomial.specs.Terms.{IsDescending}
 use Rattle.cofactor_checker.specs.declared.sum.SumFault.{SumFault}
 use Rattle.cofactor_checker.specs.Operations.{adding_operations}
-use Rattle.cofactor_checker.specs.Running.{coefficient_in, Adds, IsStoppedBy}
+use Rattle.cofactor_checker.specs.Running.{Adds, IsStoppedBy}
 use Rattle.cofactor_checker.proofs.First.{first-fits, first-fails, stopped_before}
 
 -- words that are apart stay so between two others
@@ -79,7 +79,7 @@ module _ (start now : BTreeMap (List ℕ) ℤ) (c : ℤ) (l : List ℕ) (g : Lis
       (stopped_before adding later e stopped)
 
   -- one term more
-  pub goes_on : (new : BTreeMap (List ℕ) ℤ) → AllPairs (λ t u. word_cmp t.1 u.1 ≡ Greater) g → IsCoefficient (c *ℤ t.0)
+  pub goes_on : (new : BTreeMap (List ℕ) ℤ) → IsDescending g → IsCoefficient (c *ℤ t.0)
       → Adds now new ((c *ℤ t.0, l ++ (t.1 ++ r)) ∷ []) → IsCoefficient (coefficient_in now (l ++ (t.1 ++ r)) +ℤ c *ℤ t.0) → AddsUpTo start new c l g r (i + 1)
   goes_on new descending fits adds sum_fits = record { ahead = ahead; first = first; total = total }
     where

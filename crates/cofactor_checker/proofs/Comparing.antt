@@ -1,5 +1,5 @@
 -- the sum compared with a multiple of the claim, from the least word on
-use Rattle.std.proofs.Common.{◌≡◌, ◌≢◌, ℕ, zero, suc, ◌+◌, ◌<◌, ◌≤◌, ℤ, pos, negsuc, ◌+ℤ◌, ◌*ℤ◌, ◌<ℤ◌, List, [], ◌∷◌, ◌++◌, map, Bool, true, false, cond, Option, Some, unwrap_or, Result, Ok, Err, IfOk, sym, refl, ap, ap₂, ◌∙◌, subst, arith, All, AllPairs, append_assoc}
+use Rattle.std.proofs.Common.{◌≡◌, ◌≢◌, ℕ, zero, suc, ℤ, pos, negsuc, ◌+ℤ◌, ◌*ℤ◌, ◌<ℤ◌, List, [], ◌∷◌, ◌++◌, map, Bool, true, false, cond, Option, Some, unwrap_or, Result, Ok, Err, IfOk, sym, refl, ap, ap₂, ◌∙◌, subst, arith, All, append_assoc}
 use Rattle.std.specs.BTreeMap.{BTreeMap, get, is_at, IsOrdered}
 use Rattle.std.specs.List.{AllByRecursion}
 use Rattle.std.specs.List.Sorted.{IsStrictlySortedBy}
@@ -13,16 +13,19 @@ use Rattle.std.proofs.lemmas.List.Elements.{recursion_from_All}
 use Rattle.std.proofs.lemmas.Map.Keys.{sorted_head, sorted_tail}
 use Rattle.std.proofs.Math.IntN.{+ℤ_idl, +ℤ_idr, +ℤ_comm, *ℤ-zero}
 use Rattle.word_core.specs.Canonical.{word_cmp, word_cmp_total}
-use Rattle.word_core.proofs.Order.{word_cmp-same, word_cmp-turned, word_cmp-trans}
+use Rattle.word_core.proofs.Order.{word_cmp-same, word_cmp-turned, word_cmp-turned_back, word_cmp-trans}
 use Rattle.definitions.specs.Poly.{word_eq, coefficient_of}
 use Rattle.definitions.proofs.Linear.{word_eq-same, word_eq-true, coefficient_at, coefficient_other}
 use Rattle.definitions.proofs.Coefficients.{coefficient_of-append}
 use Rattle.definitions.proofs.Integers.{*ℤ-+ℤ, *ℤ_zero}
+use Rattle.nc_polynomial.specs.Collected.{coefficient_in}
+use Rattle.nc_polynomial.specs.Terms.{IsDescending}
 use Rattle.cofactor_checker.specs.Difference.{IsLeastDifference, IsComparison}
 use Rattle.cofactor_checker.specs.declared.compare.Difference.{Difference}
-use Rattle.cofactor_checker.specs.Running.{coefficient_in, IsRunning}
-use Rattle.cofactor_checker.proofs.Words.{is_eq-word_cmp, word_eq-turned}
-use Rattle.cofactor_checker.proofs.Descending.{apart_less, apart_greater, turned, weaker, absent, above, coefficient_there, holds_between}
+use Rattle.cofactor_checker.specs.Running.{IsRunning}
+use Rattle.nc_polynomial.proofs.Words.{word_eq-cmp, word_eq-turned}
+use Rattle.nc_polynomial.proofs.Distinct.{none_listed}
+use Rattle.cofactor_checker.proofs.Descending.{apart_greater, weaker, above, coefficient_there, holds_between}
 
 -- the entries of a map as terms
 abbrev pub terms_of : List (List ℕ × ℤ) → List (ℤ × List ℕ)
@@ -30,7 +33,7 @@ terms_of es = map (λ e. (e.1, e.0)) es
 
 -- a word below the first entry is in none
 entries_absent : (w : List ℕ) (es : List (List ℕ × ℤ)) → AllByRecursion (λ k. word_cmp w k ≡ Less) (keys_of es) → coefficient_of (terms_of es) w ≡ pos 0
-entries_absent w es below = absent w (terms_of es) (go es below)
+entries_absent w es below = none_listed w (terms_of es) (go es below)
   where
     go : (es : List (List ℕ × ℤ)) → AllByRecursion (λ k. word_cmp w k ≡ Less) (keys_of es) → AllByRecursion (λ t. word_eq t.1 w ≡ false) (terms_of es)
     go [] below = tt
@@ -95,7 +98,7 @@ module _ (m : BTreeMap (List ℕ) ℤ) (d : ℤ) (claim : List (ℤ × List ℕ)
     pub entry_left : Compares m d claim [] (e ∷ es) → IsLeastDifference wanted (coefficient_in m) e.0 (pos 0) e.1
     entry_left compares = entry_differs [] compares refl (λ w less. refl)
 
-  module _ (greater : List (ℤ × List ℕ)) (t : ℤ × List ℕ) (descending : AllPairs (λ x y. word_cmp x.1 y.1 ≡ Greater) claim) where
+  module _ (greater : List (ℤ × List ℕ)) (t : ℤ × List ℕ) (descending : IsDescending claim) where
     -- the whole claim, at the term
     split : (entries : List (List ℕ × ℤ)) (compares : Compares m d claim (greater ++ t ∷ []) entries) → claim ≡ greater ++ t ∷ compares.passed
     split entries compares = compares.splits ∙ append_assoc greater (t ∷ []) compares.passed
@@ -105,25 +108,25 @@ module _ (m : BTreeMap (List ℕ) ℤ) (d : ℤ) (claim : List (ℤ × List ℕ)
     term_holds P all entries compares = holds_between P greater t compares.passed (subst (All P) (split entries compares) all)
 
     terms_above : (entries : List (List ℕ × ℤ)) → Compares m d claim (greater ++ t ∷ []) entries → AllByRecursion (λ u. word_cmp u.1 t.1 ≡ Greater) greater
-    terms_above entries compares = above greater t compares.passed (subst (AllPairs (λ x y. word_cmp x.1 y.1 ≡ Greater)) (split entries compares) descending)
+    terms_above entries compares = above greater t compares.passed (subst IsDescending (split entries compares) descending)
 
     wanted_is : (entries : List (List ℕ × ℤ)) → Compares m d claim (greater ++ t ∷ []) entries → wanted t.1 ≡ d *ℤ t.0
     wanted_is entries compares =
         ap (λ p. d *ℤ coefficient_of p t.1) (split entries compares)
-        ∙ ap (λ k. d *ℤ k) (coefficient_there greater t compares.passed (subst (AllPairs (λ x y. word_cmp x.1 y.1 ≡ Greater)) (split entries compares) descending))
+        ∙ ap (λ k. d *ℤ k) (coefficient_there greater t compares.passed (subst IsDescending (split entries compares) descending))
 
     -- a word below the last term is in none of those left
     below_terms : (entries : List (List ℕ × ℤ)) → Compares m d claim (greater ++ t ∷ []) entries → (w : List ℕ) → word_cmp w t.1 ≡ Less → coefficient_of (greater ++ t ∷ []) w ≡ pos 0
     below_terms entries compares w less =
         let least = word_cmp-turned w t.1 less in
         coefficient_of-append greater (t ∷ []) w
-        ∙ ap₂ ◌+ℤ◌ (absent w greater (weaker (λ u higher. apart_greater u.1 w (word_cmp-trans u.1 t.1 w higher least)) greater (terms_above entries compares)))
-        (absent w (t ∷ []) (apart_greater t.1 w least, tt))
+        ∙ ap₂ ◌+ℤ◌ (none_listed w greater (weaker (λ u higher. apart_greater u.1 w (word_cmp-trans u.1 t.1 w higher least)) greater (terms_above entries compares)))
+        (none_listed w (t ∷ []) (apart_greater t.1 w least, tt))
 
     last_there : (entries : List (List ℕ × ℤ)) → Compares m d claim (greater ++ t ∷ []) entries → coefficient_of (greater ++ t ∷ []) t.1 ≡ t.0
     last_there entries compares =
         coefficient_of-append greater (t ∷ []) t.1
-        ∙ ap₂ ◌+ℤ◌ (absent t.1 greater (weaker (λ u higher. apart_greater u.1 t.1 higher) greater (terms_above entries compares)))
+        ∙ ap₂ ◌+ℤ◌ (none_listed t.1 greater (weaker (λ u higher. apart_greater u.1 t.1 higher) greater (terms_above entries compares)))
         (coefficient_at t.1 t [] (word_eq-same t.1) ∙ +ℤ_idr t.0)
         ∙ +ℤ_idl t.0
 
@@ -160,7 +163,7 @@ module _ (m : BTreeMap (List ℕ) ℤ) (d : ℤ) (claim : List (ℤ × List ℕ)
     pub term_first : IsRunning m → (e : List ℕ × ℤ) (es : List (List ℕ × ℤ)) → Compares m d claim (greater ++ t ∷ []) (e ∷ es) → word_cmp e.0 t.1 ≡ Greater → pos 0 <ℤ d → t.0 ≢ pos 0
         → IsLeastDifference wanted (coefficient_in m) t.1 (d *ℤ t.0) (pos 0)
     term_first running e es compares higher positive nonzero =
-        let less = turned e.0 t.1 higher in
+        let less = word_cmp-turned_back e.0 t.1 higher in
         term_differs (e ∷ es) compares positive nonzero (below_entries running e es (greater ++ t ∷ []) compares t.1 less)
         (λ w lesser. below_entries running e es (greater ++ t ∷ []) compares w (word_cmp_total.trans w t.1 e.0 lesser less))
 
@@ -207,7 +210,7 @@ entries_are w [] sorted = refl
 entries_are w (e ∷ es) sorted = go (word_eq e.0 w) refl (entries_are w es (sorted_tail word_cmp e.0 (keys_of es) sorted))
   where
     tests : is_eq (word_cmp w e.0) ≡ word_eq e.0 w
-    tests = is_eq-word_cmp w e.0 ∙ word_eq-turned w e.0
+    tests = sym (word_eq-cmp w e.0) ∙ word_eq-turned w e.0
 
     go : (b : Bool) → word_eq e.0 w ≡ b → coefficient_of (terms_of es) w ≡ unwrap_or (lookup (is_at (word_cmp w)) es) (pos 0)
         → coefficient_of (terms_of (e ∷ es)) w ≡ unwrap_or (lookup (is_at (word_cmp w)) (e ∷ es)) (pos 0)

@@ -10,7 +10,7 @@ use Rattle.coef_int.specs.Range.{IsCoefficient, is_coefficient}
 use Rattle.coef_int.specs.Operations.{product_of, exact_value, first_overflow}
 use Rattle.cofactor_checker.specs.declared.sum.SumFault.{SumFault}
 use Rattle.cofactor_checker.specs.declared.sum.SumFault.TheVariants as fault
-use Rattle.cofactor_checker.specs.Operations.{multiple_operations}
+use Rattle.nc_polynomial.specs.Terms.{products}
 use Rattle.cofactor_checker.specs.Running.{IsStoppedBy}
 
 -- an operation that fits is passed over
@@ -31,15 +31,15 @@ stopped_before o os (fault.Overflow e) stopped = go (is_coefficient (exact_value
 stopped_before o os (fault.Memory e) stopped = tt
 
 -- where no product of a multiple overflows, all are coefficients
-pub products_fit : (d : ℤ) (p : List (ℤ × List ℕ)) → first_overflow (multiple_operations d p) ≡ None → All (λ t. IsCoefficient (d *ℤ t.0)) p
+pub products_fit : (d : ℤ) (p : List (ℤ × List ℕ)) → first_overflow (products d p) ≡ None → All (λ t. IsCoefficient (d *ℤ t.0)) p
 products_fit d p none = All-from_recursion (λ t. IsCoefficient (d *ℤ t.0)) p (go p none)
   where
     one : (b : Bool) (o : Overflow) (later : Option Overflow) → cond b later (Some o) ≡ None → (b ≡ true) × (later ≡ None)
     one true o later none = (refl, none)
     one false o later none = (cc)
 
-    go : (p : List (ℤ × List ℕ)) → first_overflow (multiple_operations d p) ≡ None → AllByRecursion (λ t. IsCoefficient (d *ℤ t.0)) p
+    go : (p : List (ℤ × List ℕ)) → first_overflow (products d p) ≡ None → AllByRecursion (λ t. IsCoefficient (d *ℤ t.0)) p
     go [] none = tt
     go (t ∷ p) none =
-        let parts = one (is_coefficient (d *ℤ t.0)) (product_of d t.0) (first_overflow (multiple_operations d p)) none in
+        let parts = one (is_coefficient (d *ℤ t.0)) (product_of d t.0) (first_overflow (products d p)) none in
         (ltb-true (unsigned_abs (d *ℤ t.0)) (2 ^ 127) parts.0, go p parts.1)

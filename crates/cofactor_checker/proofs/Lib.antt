@@ -6,3 +6,4 @@ pub mod Descending
 pub mod Comparing
 pub mod Counts
 pub mod RowSums
+pub mod Outcomes

@@ -1,11 +1,11 @@
 -- the running sum behind some rows
-use Rattle.std.proofs.Common.{◌≡◌, ◌≢◌, ℕ, zero, suc, ◌+◌, ◌-◌, ◌<◌, ◌≤◌, ℤ, pos, ◌+ℤ◌, List, [], ◌∷◌, ◌++◌, length, map, take, get_or, slice_get, Option, Some, None, unwrap_or, ◌⊎◌, inl, inr, sym, refl, ap, ap₂, ◌∙◌, subst, arith}
+use Rattle.std.proofs.Common.{◌≡◌, ℕ, zero, suc, ◌+◌, ◌-◌, ◌<◌, ◌≤◌, ℤ, pos, ◌+ℤ◌, List, [], ◌∷◌, ◌++◌, length, take, get_or, slice_get, Some, None, unwrap_or, ◌⊎◌, inl, inr, sym, refl, ap, ◌∙◌, subst, arith}
 use Rattle.std.specs.BTreeMap.{BTreeMap, get, is_at, btree_map_len, IsOrdered, IsEmpty}
 use Rattle.std.proofs.lemmas.List.{take_more, length-map}
 use Rattle.std.proofs.lemmas.Bool.{cases_eq}
 use Rattle.std.specs.Option.{option_map}
 use Rattle.std.proofs.lemmas.Option.{slice_get_within, get_or_from_slice_get, slice_get-map, slice_get_read}
-use Rattle.std.proofs.Math.IntN.{+ℤ_idl, +ℤ_idr, +ℤ_comm, +ℤ_assoc}
+use Rattle.std.proofs.Math.IntN.{+ℤ_comm, +ℤ_assoc}
 use Rattle.std.specs.Map.{lookup}
 use Rattle.coef_int.specs.Range.{IsCoefficient}
 use Rattle.coef_int.specs.declared.Overflow.{Overflow}
@@ -17,10 +17,11 @@ use Rattle.definitions.proofs.Coefficients.{coefficient_of-append}
 use Rattle.nc_polynomial.specs.declared.poly.Poly.{Poly}
 use Rattle.cofactor_trace.specs.declared.CertRow.{CertRow}
 use Rattle.cofactor_trace.specs.Rows.{row_of, rows_of}
+use Rattle.nc_polynomial.specs.Collected.{coefficient_in}
 use Rattle.cofactor_checker.specs.Acceptance.{polynomials}
 use Rattle.cofactor_checker.specs.Operations.{adding_operations, row_operations}
-use Rattle.cofactor_checker.specs.Rows.{term_count, IsNumberUpTo, RowPasses, RowsPass, Reaches, LacksGenerator, Overflows, Outgrows}
-use Rattle.cofactor_checker.specs.Running.{coefficient_in, IsRunning, IsSumOf, Adds}
+use Rattle.cofactor_checker.specs.Rows.{IsNumberUpTo, RowPasses, RowsPass, Reaches, LacksGenerator, Overflows, Outgrows}
+use Rattle.cofactor_checker.specs.Running.{IsRunning, IsSumOf, Adds}
 use Rattle.cofactor_checker.proofs.Counts.{len-term_count}
 
 -- one row more at the end

@@ -1,19 +1,19 @@
 -- one change of the map in which the rows are added up
-use Rattle.std.proofs.Common.{◌≡◌, ◌≢◌, ℕ, ℤ, pos, ◌+ℤ◌, List, [], ◌∷◌, Bool, true, false, cond, Option, Some, unwrap_or, sym, refl, ap, ◌∙◌, subst, arith}
+use Rattle.std.proofs.Common.{◌≡◌, ◌≢◌, ℕ, ℤ, pos, ◌+ℤ◌, List, [], ◌∷◌, Bool, true, false, cond, Option, Some, unwrap_or, sym, refl, ap, ◌∙◌, subst}
 use Rattle.std.specs.BTreeMap.{BTreeMap, get, Updates}
-use Rattle.std.proofs.lemmas.Int.{ints}
 use Rattle.std.proofs.Math.IntN.{+ℤ_idr}
 use Rattle.coef_int.specs.Range.{IsCoefficient}
 use Rattle.word_core.specs.Canonical.{word_cmp}
-use Rattle.definitions.specs.Poly.{word_eq, coefficient_of}
+use Rattle.definitions.specs.Poly.{word_eq}
 use Rattle.definitions.proofs.Linear.{word_eq-true}
-use Rattle.cofactor_checker.specs.Running.{coefficient_in, IsRunning, Adds}
-use Rattle.cofactor_checker.proofs.Words.{is_eq-word_cmp}
+use Rattle.nc_polynomial.specs.Collected.{coefficient_in}
+use Rattle.cofactor_checker.specs.Running.{IsRunning, Adds}
+use Rattle.nc_polynomial.proofs.Words.{word_eq-cmp}
 
 module _ (m n : BTreeMap (List ℕ) ℤ) (w : List ℕ) (v : Option ℤ) (update : Updates word_cmp m n w v) where
   -- what the map has after the change
   get_after : (u : List ℕ) → get word_cmp n u ≡ cond (word_eq w u) v (get word_cmp m u)
-  get_after u = update.0 u ∙ ap (λ b. cond b v (get word_cmp m u)) (is_eq-word_cmp w u)
+  get_after u = update.0 u ∙ ap (λ b. cond b v (get word_cmp m u)) (sym (word_eq-cmp w u))
 
   -- the word's coefficient has grown by x, and no other has changed
   pub adds_from_update : (x : ℤ) → unwrap_or v (pos 0) ≡ coefficient_in m w +ℤ x → Adds m n ((x, w) ∷ [])

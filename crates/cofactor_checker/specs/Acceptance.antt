@@ -3,11 +3,11 @@ use Rattle.std.specs.Prelude.{◌≡◌, ◌⊎◌, ℕ, ℤ, pos, ◌≤ℤ◌,
 use Rattle.coef_int.specs.declared.Overflow.{Overflow}
 use Rattle.coef_int.specs.Operations.{first_overflow}
 use Rattle.nc_polynomial.specs.declared.poly.Poly.{Poly}
+use Rattle.nc_polynomial.specs.Terms.{products}
 use Rattle.cofactor_trace.specs.declared.Certificate.{Certificate}
 use Rattle.cofactor_trace.specs.Rows.{rows_of}
 use Rattle.definitions.specs.Poly.{coefficient_of, poly_multiple, SamePolynomial}
-use Rattle.definitions.specs.Combination.{Row, generator_at, row_sum}
-use Rattle.cofactor_checker.specs.Operations.{multiple_operations}
+use Rattle.definitions.specs.Combination.{generator_at, row_sum}
 use Rattle.cofactor_checker.specs.Rows.{IsNumberUpTo, RowsPass, LacksGenerator, Overflows, Outgrows}
 use Rattle.cofactor_checker.specs.Difference.{IsLeastDifference}
 use Rattle.cofactor_checker.specs.declared.Refusal.{Refusal}
@@ -29,7 +29,7 @@ pub record IsPosed (claims : List (List (ℤ × List ℕ))) (c : Certificate) : 
 -- And no product of the denominator with a coefficient of the claim leaves the range.
 pub record Begins (claims : List (List (ℤ × List ℕ))) (c : Certificate) : Type 0 where
   pub posed : IsPosed claims c
-  pub products : first_overflow (multiple_operations c.denominator (claim_of claims c)) ≡ None
+  pub products : first_overflow (products c.denominator (claim_of claims c)) ≡ None
 
 -- And each row passes.
 pub record AddsUp (claims generators : List (List (ℤ × List ℕ))) (c : Certificate) : Type 0 where
@@ -49,7 +49,7 @@ pub record LacksDenominator (claims : List (List (ℤ × List ℕ))) (c : Certif
 pub record MultipleOverflows (claims : List (List (ℤ × List ℕ))) (c : Certificate) (row : ℕ) (overflow : Overflow) : Type 0 where
   pub before_rows : row ≡ 0
   pub posed : IsPosed claims c
-  pub products : first_overflow (multiple_operations c.denominator (claim_of claims c)) ≡ Some overflow
+  pub products : first_overflow (products c.denominator (claim_of claims c)) ≡ Some overflow
 
 pub record SumDiffers (claims generators : List (List (ℤ × List ℕ))) (c : Certificate) (word : List ℕ) (want got : ℤ) : Type 0 where
   pub adds_up : AddsUp claims generators c

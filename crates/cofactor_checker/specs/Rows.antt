@@ -1,16 +1,14 @@
 -- The tests of rows, one after another.
-use Rattle.std.specs.Prelude.{◌≡◌, ℕ, ◌+◌, ◌<◌, ◌≤◌, ℤ, pos, List, map, filter, length, take, slice_get, not, Some, None}
-use Rattle.std.specs.Ordering.{int_eq}
-use Rattle.std.specs.Set.{distinct_count}
+use Rattle.std.specs.Prelude.{◌≡◌, ℕ, ◌+◌, ◌<◌, ◌≤◌, ℤ, List, length, take, slice_get, Some, None}
 use Rattle.coef_int.specs.declared.Overflow.{Overflow}
 use Rattle.coef_int.specs.Operations.{first_overflow}
-use Rattle.definitions.specs.Poly.{word_eq, coefficient_of}
 use Rattle.definitions.specs.Combination.{Row, row_sum}
+use Rattle.nc_polynomial.specs.Collected.{collected}
 use Rattle.cofactor_checker.specs.Operations.{row_operations}
 
--- how many words have a coefficient other than zero
+-- how many terms the polynomial has, once the terms of one word are collected
 abbrev pub term_count : List (ℤ × List ℕ) → ℕ
-term_count p = distinct_count word_eq (filter (λ w. not (int_eq (coefficient_of p w) (pos 0))) (map (λ t. t.1) p))
+term_count p = length (collected p)
 
 -- a number from 1 to the count
 pub record IsNumberUpTo (count number : ℕ) : Type 0 where

@@ -1,16 +1,13 @@
 -- The map in which the rows are added up.
-use Rattle.std.specs.Prelude.{◌≡◌, ◌≢◌, ℕ, ℤ, pos, ◌+ℤ◌, List, Option, Some, unwrap_or, ⊤}
+use Rattle.std.specs.Prelude.{◌≡◌, ◌≢◌, ℕ, ℤ, pos, ◌+ℤ◌, List, Option, Some, ⊤}
 use Rattle.std.specs.BTreeMap.{BTreeMap, get}
 use Rattle.coef_int.specs.declared.Overflow.{Overflow}
 use Rattle.coef_int.specs.Range.{IsCoefficient}
 use Rattle.word_core.specs.Canonical.{word_cmp}
 use Rattle.definitions.specs.Poly.{coefficient_of}
+use Rattle.nc_polynomial.specs.Collected.{coefficient_in}
 use Rattle.cofactor_checker.specs.declared.sum.SumFault.{SumFault}
 use Rattle.cofactor_checker.specs.declared.sum.SumFault.TheVariants as fault
-
--- what the map has at the word, and zero where it has nothing
-abbrev pub coefficient_in : BTreeMap (List ℕ) ℤ → List ℕ → ℤ
-coefficient_in m w = unwrap_or (get word_cmp m w) (pos 0)
 
 -- the map has no zeros, and coefficients alone
 pub record IsRunning (m : BTreeMap (List ℕ) ℤ) : Type 0 where

@@ -1,13 +1,12 @@
 ghost use Rattle.std.specs.Prelude.{◌≡◌, ◌≢◌, ◌*ℤ◌, ◌<ℤ◌, pos, None, IfOk, Some};
-ghost use Rattle.std.specs.List.{All, AllPairs};
-ghost use Rattle.std.specs.declared.cmp.Ordering.TheVariants.{Greater};
+ghost use Rattle.std.specs.List.{All};
 ghost use Rattle.coef_int.specs.Operations.{first_overflow};
 ghost use Rattle.coef_int.specs.Range.{IsCoefficient};
 ghost use Rattle.definitions.specs.Poly.{coefficient_of};
-ghost use Rattle.word_core.specs.Canonical.{word_cmp};
 ghost use Rattle.cofactor_checker.specs.Difference.{IsComparison};
-ghost use Rattle.cofactor_checker.specs.Operations.{multiple_operations};
-ghost use Rattle.cofactor_checker.specs.Running.{coefficient_in, IsRunning};
+ghost use Rattle.nc_polynomial.specs.Terms.{IsDescending, products};
+ghost use Rattle.nc_polynomial.specs.Collected.{coefficient_in};
+ghost use Rattle.cofactor_checker.specs.Running.{IsRunning};
 
 use std::alloc::AllocError;
 use std::cmp::Ordering;
@@ -29,10 +28,10 @@ pub(crate) fn least_difference(
     claim: &[(i128, Word)],
 ) -> Result<Option<Difference>, AllocError>
     requires running { IsRunning sum.now }
-    requires descending { AllPairs (λ t u. word_cmp t.1 u.1 ≡ Greater) claim.now }
+    requires descending { IsDescending claim.now }
     requires nonzero { All (λ t. t.0 ≢ pos 0) claim.now }
     requires denominator { pos 0 <ℤ denominator }
-    requires products { first_overflow (multiple_operations denominator claim.now) ≡ None }
+    requires products { first_overflow (products denominator claim.now) ≡ None }
     ensures { IfOk result (IsComparison (λ w. denominator *ℤ coefficient_of claim.now w) (coefficient_in sum.now)) }
 {
     let mut rest = claim;

@@ -4,7 +4,7 @@ ghost use Rattle.coef_int.specs.Range.{IsCoefficient};
 ghost use Rattle.cofactor_trace.specs.Rows.{rows_of};
 ghost use Rattle.definitions.specs.Combination.{row_sum};
 ghost use Rattle.cofactor_checker.specs.Acceptance.{polynomials};
-ghost use Rattle.cofactor_checker.specs.Operations.{multiple_operations};
+ghost use Rattle.nc_polynomial.specs.Terms.{products};
 ghost use Rattle.cofactor_checker.specs.Rows.{IsNumberUpTo, RowsPass};
 ghost use Rattle.cofactor_checker.specs.Running.{IsRunning, IsSumOf};
 ghost use Rattle.cofactor_checker.specs.RowRefusals.{RefusesRow};
@@ -34,7 +34,7 @@ pub(crate) fn numbered<T>(items: &[T], number: u32) -> Option<&T>
 pub(crate) fn overflow_of_multiple(denominator: i128, claim: &[(i128, Word)]) -> Option<Overflow>
     requires denominator { IsCoefficient denominator }
     requires coefficients { All (λ t. IsCoefficient t.0) claim.now }
-    ensures { result ≡ first_overflow (multiple_operations denominator claim.now) }
+    ensures { result ≡ first_overflow (products denominator claim.now) }
 {
     for term in claim {
         if let Err(overflow) = times(denominator, term.0) {

@@ -1,12 +1,12 @@
 ghost use Rattle.std.specs.Prelude.{◌≡◌, [], ◌∷◌, ◌++◌, ◌+ℤ◌, OnOk, OnErr, IfErr, MatchResult, None};
-ghost use Rattle.std.specs.List.{All, AllPairs};
-ghost use Rattle.std.specs.declared.cmp.Ordering.TheVariants.{Greater};
+ghost use Rattle.std.specs.List.{All};
 ghost use Rattle.coef_int.specs.Operations.{sum_of, first_overflow};
 ghost use Rattle.coef_int.specs.Range.{IsCoefficient};
 ghost use Rattle.definitions.specs.Poly.{poly_multiple, poly_between};
-ghost use Rattle.word_core.specs.Canonical.{word_cmp};
 ghost use Rattle.cofactor_checker.specs.Operations.{adding_operations};
-ghost use Rattle.cofactor_checker.specs.Running.{coefficient_in, IsRunning, Adds, IsStoppedBy, IsMemory};
+ghost use Rattle.nc_polynomial.specs.Terms.{IsDescending};
+ghost use Rattle.nc_polynomial.specs.Collected.{coefficient_in};
+ghost use Rattle.cofactor_checker.specs.Running.{IsRunning, Adds, IsStoppedBy, IsMemory};
 
 use coef_int::{Overflow, plus, times};
 use cofactor_trace::CertRow;
@@ -59,7 +59,7 @@ pub(crate) fn add_row(
 ) -> Result<(), SumFault>
     requires coefficient { IsCoefficient row.now.coef }
     requires in_range { All (λ t. IsCoefficient t.0) generator.now }
-    requires descending { AllPairs (λ t u. word_cmp t.1 u.1 ≡ Greater) generator.now }
+    requires descending { IsDescending generator.now }
     requires running { IsRunning sum.old }
     ensures running { OnOk result (IsRunning sum.new) }
     ensures added { OnOk result (Adds sum.old sum.new (poly_multiple row.now.coef (poly_between row.now.left generator.now row.now.right))) }

@@ -1,4 +1,4 @@
-use Rattle.std.proofs.Common.{rules, ◌≡◌, ◌≢◌, ◌*ℤ◌, pos, [], ◌∷◌, ◌++◌, None, Some, IfOk, All, length, sym, ◌∙◌, to_z, of_z}
+use Rattle.std.proofs.Common.{rules, ◌≡◌, ◌≢◌, ◌*ℤ◌, pos, [], ◌∷◌, ◌++◌, Some, IfOk, All, length, to_z, of_z}
 use mir.Syntax.{w128}
 use Rattle.std.proofs.lemmas.List.{nil_from_length}
 use Rattle.std.specs.BTreeMap.{get, IsOrdered}
@@ -6,7 +6,7 @@ use Rattle.std.specs.declared.cmp.Ordering.TheVariants.{Less, Equal, Greater}
 use Rattle.coef_int.specs.Range.{IsCoefficient}
 use Rattle.word_core.specs.Canonical.{word_cmp}
 use Rattle.cofactor_checker.proofs.First.{products_fit}
-use Rattle.cofactor_checker.proofs.Comparing.{term_holds, Compares, begins, told, entry_left, entry_first, term_left, term_first, both_differ, both_agree, nothing_differs}
+use Rattle.cofactor_checker.proofs.Comparing.{term_holds, Compares, begins, told, entry_left, entry_first, term_left, term_first, both_differ, both_agree}
 use Rattle.cofactor_checker.proofs.compare.least_difference.Goals as goal
 
 pub loop-word-init : goal.loop-word-init

@@ -5,10 +5,11 @@ use Rattle.word_core.specs.Canonical.{word_cmp}
 use Rattle.definitions.specs.Poly.{poly_multiple, poly_between}
 use Rattle.definitions.specs.Combination.{generator_at}
 use Rattle.cofactor_trace.specs.Rows.{row_of, rows_of}
+use Rattle.nc_polynomial.specs.Collected.{coefficient_in}
 use Rattle.cofactor_checker.specs.Acceptance.{polynomials}
 use Rattle.cofactor_checker.specs.Operations.{adding_operations}
 use Rattle.cofactor_checker.specs.Rows.{IsNumberUpTo, Overflows}
-use Rattle.cofactor_checker.specs.Running.{coefficient_in, IsRunning, Adds}
+use Rattle.cofactor_checker.specs.Running.{IsRunning, Adds}
 use Rattle.cofactor_checker.proofs.RowSums.{row_there, length-polynomials, generator_at-numbered, lacks_generator, overflows, outgrows, passes}
 use Rattle.cofactor_checker.proofs.rows.add_rows.Goals as goal
 

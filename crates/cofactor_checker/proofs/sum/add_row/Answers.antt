@@ -1,7 +1,8 @@
-use Rattle.std.proofs.Common.{rules, ◌≡◌, [], ◌∷◌, ◌++◌, ◌+ℤ◌, ◌*ℤ◌, Err, get_or, sym, ◌∙◌, subst}
+use Rattle.std.proofs.Common.{rules, ◌≡◌, [], ◌∷◌, ◌++◌, ◌+ℤ◌, ◌*ℤ◌, Err}
 use Rattle.coef_int.specs.Range.{IsCoefficient}
 use Rattle.coef_int.specs.Operations.{sum_of, first_overflow}
-use Rattle.cofactor_checker.specs.Running.{coefficient_in, Adds, IsStoppedBy}
+use Rattle.nc_polynomial.specs.Collected.{coefficient_in}
+use Rattle.cofactor_checker.specs.Running.{Adds, IsStoppedBy}
 use Rattle.cofactor_checker.proofs.Adding.{sum_stopped, goes_on}
 use Rattle.cofactor_checker.proofs.sum.add_row.Goals as goal
 

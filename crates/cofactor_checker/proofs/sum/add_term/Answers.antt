@@ -1,8 +1,8 @@
-use Rattle.std.proofs.Common.{rules, ◌≡◌, ◌≢◌, ◌+ℤ◌, pos, Some, None, unwrap_or, sym, ◌∙◌}
+use Rattle.std.proofs.Common.{rules, ◌≡◌, ◌≢◌, ◌+ℤ◌, pos, Some, None, ◌∙◌}
 use Rattle.std.specs.BTreeMap.{Updates}
 use Rattle.coef_int.specs.Range.{IsCoefficient}
 use Rattle.word_core.specs.Canonical.{word_cmp}
-use Rattle.cofactor_checker.specs.Running.{coefficient_in}
+use Rattle.nc_polynomial.specs.Collected.{coefficient_in}
 use Rattle.cofactor_checker.proofs.Updates.{adds_from_update, running_from_update}
 use Rattle.cofactor_checker.proofs.sum.add_term.Goals as goal
 
