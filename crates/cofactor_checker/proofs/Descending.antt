@@ -1,0 +1,52 @@
+-- descending lists of terms, and the coefficients of words between them
+use Rattle.std.proofs.Common.{◌≡◌, ℕ, suc, ◌+◌, ℤ, ◌+ℤ◌, false, List, [], ◌∷◌, ◌++◌, length, get_or, sym, refl, ap, ap₂, ◌∙◌, subst, arith, All}
+use Rattle.std.specs.List.{AllByRecursion}
+use Rattle.std.specs.Ordering.{is_eq}
+use Rattle.std.specs.declared.cmp.Ordering.TheVariants.{Less, Greater}
+use Rattle.std.proofs.lemmas.Int.{ints}
+use Rattle.std.proofs.lemmas.List.{get_or_append_left, get_or_at, get_or-append-add, length-append}
+use Rattle.std.proofs.lemmas.List.Elements.{recursion_from_All}
+use Rattle.word_core.specs.Canonical.{word_cmp}
+use Rattle.word_core.proofs.Order.{word_cmp-turned_back}
+use Rattle.definitions.specs.Poly.{word_eq, coefficient_of}
+use Rattle.definitions.proofs.Linear.{word_eq-same, coefficient_at}
+use Rattle.definitions.proofs.Coefficients.{coefficient_of-append}
+use Rattle.nc_polynomial.specs.Terms.{IsDescending}
+use Rattle.nc_polynomial.proofs.Words.{word_eq-cmp}
+use Rattle.nc_polynomial.proofs.Distinct.{none_listed}
+
+pub apart_less : (v w : List ℕ) → word_cmp v w ≡ Less → word_eq v w ≡ false
+apart_less v w less = word_eq-cmp v w ∙ ap is_eq less
+
+pub apart_greater : (v w : List ℕ) → word_cmp v w ≡ Greater → word_eq v w ≡ false
+apart_greater v w greater = word_eq-cmp v w ∙ ap is_eq greater
+
+pub weaker : {X : Type 0} {P Q : X → Type 0} → ((x : X) → P x → Q x) → (xs : List X) → AllByRecursion P xs → AllByRecursion Q xs
+weaker f [] all = tt
+weaker f (x ∷ xs) all = (f x all.0, weaker f xs all.1)
+
+module _ (p : List (ℤ × List ℕ)) (t : ℤ × List ℕ) (q : List (ℤ × List ℕ)) (descending : IsDescending (p ++ t ∷ q)) where
+  -- what stands before a term is above it
+  pub above : AllByRecursion (λ u. word_cmp u.1 t.1 ≡ Greater) p
+  above = recursion_from_All _ p (λ k d inside.
+      let at : word_cmp (get_or (p ++ t ∷ q) k d).1 (get_or (p ++ t ∷ q) (length p) d).1 ≡ Greater = descending k (length p) d inside (omega (arith, length-append p (t ∷ q))) in
+      sym (ap₂ (λ x y. word_cmp x.1 y.1) (get_or_append_left p (t ∷ q) d k inside) (get_or_at p t q d (length p) refl)) ∙ at)
+
+  -- what stands behind it is below it
+  pub below : AllByRecursion (λ u. word_cmp u.1 t.1 ≡ Less) q
+  below = recursion_from_All _ q (λ k d inside.
+      let at : word_cmp (get_or (p ++ t ∷ q) (length p) d).1 (get_or (p ++ t ∷ q) (length p + suc k) d).1 ≡ Greater =
+      descending (length p) (length p + suc k) d (omega arith) (omega (arith, length-append p (t ∷ q))) in
+      word_cmp-turned_back t.1 (get_or q k d).1 (sym (ap₂ (λ x y. word_cmp x.1 y.1) (get_or_at p t q d (length p) refl) (get_or-append-add p (t ∷ q) (suc k) d)) ∙ at))
+
+  -- so its coefficient is that of its word
+  pub coefficient_there : coefficient_of (p ++ t ∷ q) t.1 ≡ t.0
+  coefficient_there =
+      coefficient_of-append p (t ∷ q) t.1
+      ∙ ap₂ ◌+ℤ◌ (none_listed t.1 p (weaker (λ u greater. apart_greater u.1 t.1 greater) p above))
+      (coefficient_at t.1 t q (word_eq-same t.1) ∙ ap (λ k. t.0 +ℤ k) (none_listed t.1 q (weaker (λ u less. apart_less u.1 t.1 less) q below)))
+      ∙ omega (arith, ints)
+
+-- what holds of all terms holds of one between others
+pub holds_between : (P : ℤ × List ℕ → Type 0) (p : List (ℤ × List ℕ)) (t : ℤ × List ℕ) (q : List (ℤ × List ℕ)) → All P (p ++ t ∷ q) → P t
+holds_between P p t q all = subst P (get_or_at p t q t (length p) refl) (all (length p) t (omega (arith, length-append p (t ∷ q))))

@@ -1,0 +1,45 @@
+-- the first overflow of some operations, one operation on
+use Rattle.std.proofs.Common.{◌≡◌, ◌^◌, ℕ, ℤ, ◌*ℤ◌, All, List, [], ◌∷◌, Bool, true, false, cond, Option, Some, None, refl, arith}
+use Rattle.std.specs.Int.RustNames.{unsigned_abs}
+use Rattle.std.specs.List.{AllByRecursion}
+use Rattle.std.proofs.lemmas.Bool.Decides.{nat_tests}
+use Rattle.std.proofs.lemmas.List.Elements.{All-from_recursion}
+use borrow.Author.Tests.{ltb-true}
+use Rattle.coef_int.specs.declared.Overflow.{Overflow}
+use Rattle.coef_int.specs.Range.{IsCoefficient, is_coefficient}
+use Rattle.coef_int.specs.Operations.{product_of, exact_value, first_overflow}
+use Rattle.cofactor_checker.specs.declared.sum.SumFault.{SumFault}
+use Rattle.cofactor_checker.specs.declared.sum.SumFault.TheVariants as fault
+use Rattle.nc_polynomial.specs.Terms.{products}
+use Rattle.cofactor_checker.specs.Running.{IsStoppedBy}
+
+-- an operation that fits is passed over
+pub first-fits : (o : Overflow) (os : List Overflow) → IsCoefficient (exact_value o) → first_overflow (o ∷ os) ≡ first_overflow os
+first-fits o os fits = grind (arith, nat_tests)
+
+-- one that does not is the first
+pub first-fails : (o : Overflow) (os : List Overflow) → ¬ IsCoefficient (exact_value o) → first_overflow (o ∷ os) ≡ Some o
+first-fails o os fails = grind (arith, nat_tests)
+
+-- what stops one operation stops it before others
+pub stopped_before : (o : Overflow) (os : List Overflow) (e : SumFault) → IsStoppedBy (first_overflow (o ∷ [])) e → IsStoppedBy (first_overflow (o ∷ os)) e
+stopped_before o os (fault.Overflow e) stopped = go (is_coefficient (exact_value o)) stopped
+  where
+    go : (b : Bool) → cond b None (Some o) ≡ Some e → cond b (first_overflow os) (Some o) ≡ Some e
+    go true none = absurd (cc)
+    go false same = same
+stopped_before o os (fault.Memory e) stopped = tt
+
+-- where no product of a multiple overflows, all are coefficients
+pub products_fit : (d : ℤ) (p : List (ℤ × List ℕ)) → first_overflow (products d p) ≡ None → All (λ t. IsCoefficient (d *ℤ t.0)) p
+products_fit d p none = All-from_recursion (λ t. IsCoefficient (d *ℤ t.0)) p (go p none)
+  where
+    one : (b : Bool) (o : Overflow) (later : Option Overflow) → cond b later (Some o) ≡ None → (b ≡ true) × (later ≡ None)
+    one true o later none = (refl, none)
+    one false o later none = (cc)
+
+    go : (p : List (ℤ × List ℕ)) → first_overflow (products d p) ≡ None → AllByRecursion (λ t. IsCoefficient (d *ℤ t.0)) p
+    go [] none = tt
+    go (t ∷ p) none =
+        let parts = one (is_coefficient (d *ℤ t.0)) (product_of d t.0) (first_overflow (products d p)) none in
+        (ltb-true (unsigned_abs (d *ℤ t.0)) (2 ^ 127) parts.0, go p parts.1)

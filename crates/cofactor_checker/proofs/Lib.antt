@@ -1,0 +1,9 @@
+pub mod Words
+pub mod Updates
+pub mod First
+pub mod Adding
+pub mod Descending
+pub mod Comparing
+pub mod Counts
+pub mod RowSums
+pub mod Outcomes

@@ -1,0 +1,121 @@
+-- the running sum behind some rows
+use Rattle.std.proofs.Common.{◌≡◌, ℕ, zero, suc, ◌+◌, ◌-◌, ◌<◌, ◌≤◌, ℤ, pos, ◌+ℤ◌, List, [], ◌∷◌, ◌++◌, length, take, get_or, slice_get, Some, None, unwrap_or, ◌⊎◌, inl, inr, sym, refl, ap, ◌∙◌, subst, arith}
+use Rattle.std.specs.BTreeMap.{BTreeMap, get, is_at, btree_map_len, IsOrdered, IsEmpty}
+use Rattle.std.proofs.lemmas.List.{take_more, length-map}
+use Rattle.std.proofs.lemmas.Bool.{cases_eq}
+use Rattle.std.specs.Option.{option_map}
+use Rattle.std.proofs.lemmas.Option.{slice_get_within, get_or_from_slice_get, slice_get-map, slice_get_read}
+use Rattle.std.proofs.Math.IntN.{+ℤ_comm, +ℤ_assoc}
+use Rattle.std.specs.Map.{lookup}
+use Rattle.coef_int.specs.Range.{IsCoefficient}
+use Rattle.coef_int.specs.declared.Overflow.{Overflow}
+use Rattle.coef_int.specs.Operations.{first_overflow}
+use Rattle.word_core.specs.Canonical.{word_cmp}
+use Rattle.definitions.specs.Poly.{coefficient_of}
+use Rattle.definitions.specs.Combination.{Row, generator_at, row_poly, row_sum}
+use Rattle.definitions.proofs.Coefficients.{coefficient_of-append}
+use Rattle.nc_polynomial.specs.declared.poly.Poly.{Poly}
+use Rattle.cofactor_trace.specs.declared.CertRow.{CertRow}
+use Rattle.cofactor_trace.specs.Rows.{row_of, rows_of}
+use Rattle.nc_polynomial.specs.Collected.{coefficient_in}
+use Rattle.cofactor_checker.specs.Acceptance.{polynomials}
+use Rattle.cofactor_checker.specs.Operations.{adding_operations, row_operations}
+use Rattle.cofactor_checker.specs.Rows.{IsNumberUpTo, RowPasses, RowsPass, Reaches, LacksGenerator, Overflows, Outgrows}
+use Rattle.cofactor_checker.specs.Running.{IsRunning, IsSumOf, Adds}
+use Rattle.cofactor_checker.proofs.Counts.{len-term_count}
+
+-- one row more at the end
+row_sum-push : (generators : List (List (ℤ × List ℕ))) (rows : List Row) (r : Row) (w : List ℕ)
+    → coefficient_of (row_sum generators (rows ++ r ∷ [])) w ≡ coefficient_of (row_sum generators rows) w +ℤ coefficient_of (row_poly generators r) w
+row_sum-push generators [] r w = coefficient_of-append (row_poly generators r) [] w ∙ +ℤ_comm (coefficient_of (row_poly generators r) w) (pos 0)
+row_sum-push generators (s ∷ rows) r w =
+    coefficient_of-append (row_poly generators s) (row_sum generators (rows ++ r ∷ [])) w
+    ∙ ap (λ k. coefficient_of (row_poly generators s) w +ℤ k) (row_sum-push generators rows r w)
+    ∙ sym (+ℤ_assoc (coefficient_of (row_poly generators s) w) (coefficient_of (row_sum generators rows) w) (coefficient_of (row_poly generators r) w))
+    ∙ sym (ap (λ k. k +ℤ coefficient_of (row_poly generators r) w) (coefficient_of-append (row_poly generators s) (row_sum generators rows) w))
+
+-- The map is the sum of the first i rows, and each of them passes.
+pub record SumsUpTo (generators : List (List (ℤ × List ℕ))) (rows : List Row) (m : BTreeMap (List ℕ) ℤ) (i : ℕ) : Type 0 where
+  pub running : IsRunning m
+  pub sum : IsSumOf m (row_sum generators (take i rows))
+  pub passed : RowsPass generators rows i
+
+module _ (generators : List (List (ℤ × List ℕ))) (rows : List Row) (m : BTreeMap (List ℕ) ℤ) (i : ℕ) (r : Row) (there : slice_get rows i ≡ Some r) (so_far : SumsUpTo generators rows m i) (number : ℕ) (numbered : number ≡ i + 1) where
+  reached : Reaches generators rows number i r
+  reached = record { numbered = numbered; row = there; earlier = so_far.passed }
+
+  -- the operations by what the map has
+  operations_are : adding_operations (coefficient_in m) r.coefficient r.left (generator_at generators r.generator) r.right ≡ row_operations generators rows i r
+  operations_are = ap (λ (f : List ℕ → ℤ). adding_operations f r.coefficient r.left (generator_at generators r.generator) r.right) (λ k w. so_far.sum.at w k)
+
+  pub lacks_generator : (IsNumberUpTo (length generators) r.generator → ⊥) → LacksGenerator generators rows number
+  lacks_generator none = record { before = i; row = r; reached = reached; generator = none }
+
+  module _ (generator : IsNumberUpTo (length generators) r.generator) where
+    pub overflows : (o : Overflow) → first_overflow (adding_operations (coefficient_in m) r.coefficient r.left (generator_at generators r.generator) r.right) ≡ Some o → Overflows generators rows number o
+    overflows o first = record { before = i; row = r; reached = reached; generator = generator; operations = sym (ap first_overflow operations_are) ∙ first }
+
+    module _ (none : first_overflow (adding_operations (coefficient_in m) r.coefficient r.left (generator_at generators r.generator) r.right) ≡ None)
+        (n : BTreeMap (List ℕ) ℤ) (running : IsRunning n) (adds : Adds m n (row_poly generators r)) (ordered : IsOrdered word_cmp n) where
+      -- the map with the row
+      sum_more : IsSumOf n (row_sum generators (take (i + 1) rows))
+      sum_more = record {
+        at = λ w.
+            adds.at w ∙ ap (λ k. k +ℤ coefficient_of (row_poly generators r) w) (so_far.sum.at w) ∙ sym (row_sum-push generators (take i rows) r w)
+            ∙ ap (λ rs. coefficient_of (row_sum generators rs) w) (sym (take_more rows i r (slice_get_within rows i r there) ∙ ap (λ x. take i rows ++ x ∷ []) (get_or_from_slice_get rows i r r there)));
+      }
+
+      pub outgrows : 200000 < btree_map_len n → Outgrows generators rows number
+      outgrows large = record {
+        before = i;
+        row = r;
+        reached = reached;
+        generator = generator;
+        operations = sym (ap first_overflow operations_are) ∙ none;
+        size = subst (λ k. 200000 < k) (len-term_count n (row_sum generators (take (i + 1) rows)) ordered running sum_more) large;
+      }
+
+      pub passes : btree_map_len n ≤ 200000 → SumsUpTo generators rows n (i + 1)
+      passes small = record { running = running; sum = sum_more; passed = record { at = each } }
+        where
+          here : RowPasses generators rows i r
+          here = record {
+            generator = generator;
+            operations = sym (ap first_overflow operations_are) ∙ none;
+            size = subst (λ k. k ≤ 200000) (len-term_count n (row_sum generators (take (i + 1) rows)) ordered running sum_more) small;
+          }
+
+          each : (j : ℕ) (s : Row) → j < i + 1 → slice_get rows j ≡ Some s → RowPasses generators rows j s
+          each j s below at = by (cases_eq j i)
+            where
+              by : (j ≡ i) ⊎ (j ≡ i → ⊥) → RowPasses generators rows j s
+              by (inl last) = let same : s ≡ r = cc in subst (λ k. RowPasses generators rows k s) (sym last) (subst (RowPasses generators rows i) (sym same) here)
+              by (inr earlier) = so_far.passed.at j s (omega arith) at
+
+-- before the first row
+pub begins : (generators : List (List (ℤ × List ℕ))) (rows : List Row) (m : BTreeMap (List ℕ) ℤ) → IsEmpty m → SumsUpTo generators rows m 0
+begins generators rows m empty = record {
+  running = record {
+    nonzero = λ w there. let none = absent w in (cc);
+    in_range = λ w. subst IsCoefficient (sym (ap (λ o. unwrap_or o (pos 0)) (absent w))) (omega arith);
+  };
+  sum = record { at = λ w. ap (λ o. unwrap_or o (pos 0)) (absent w) };
+  passed = record { at = λ i r below there. absurd (omega arith) };
+}
+  where
+    absent : (w : List ℕ) → get word_cmp m w ≡ None
+    absent w = ap (lookup (is_at (word_cmp w))) empty
+
+-- a row of the certificate
+pub row_there : (rows : List CertRow) (i : ℕ) (row : CertRow) → i < length rows → row ≡ get_or rows i row → slice_get (rows_of rows) i ≡ Some (row_of row)
+row_there rows i row below is = slice_get-map row_of rows i ∙ ap (option_map row_of) (slice_get_read rows (length rows) i row refl below is)
+
+-- the item with a number
+pub generator_at-numbered : (ps : List Poly) (n : ℕ) (p : Poly) → IsNumberUpTo (length ps) n → slice_get ps (n - 1) ≡ Some p → generator_at (polynomials ps) n ≡ p.terms
+generator_at-numbered ps zero p numbered there = absurd (omega arith)
+generator_at-numbered ps (suc k) p numbered there =
+    let place : suc k - 1 ≡ k = omega arith in
+    get_or_from_slice_get (polynomials ps) k p.terms [] (slice_get-map (λ (q : Poly). q.terms) ps k ∙ ap (λ j. option_map (λ (q : Poly). q.terms) (slice_get ps j)) (sym place) ∙ ap (option_map (λ (q : Poly). q.terms)) there)
+
+pub length-polynomials : (ps : List Poly) → length (polynomials ps) ≡ length ps
+length-polynomials ps = length-map ps (λ (q : Poly). q.terms)

@@ -1,0 +1,11 @@
+use Rattle.std.proofs.Common.{◌≡◌}
+use Rattle.cofactor_trace.specs.Rows.{rows_of}
+use Rattle.cofactor_checker.specs.Acceptance.{polynomials}
+use Rattle.cofactor_checker.proofs.RowSums.{SumsUpTo}
+use Rattle.cofactor_checker.proofs.rows.add_rows.Given as goal
+
+abbrev pub invariant-loop-row : goal.invariant-loop-row
+invariant-loop-row l = record {
+  numbered : l.number ≡ l.row-index;
+  sums : SumsUpTo (polynomials l.generators) (rows_of l.rows) l.sum l.row-index;
+}

@@ -1,0 +1,26 @@
+use Rattle.std.proofs.Common.{rules, ◌≡◌, ◌≢◌, ◌+ℤ◌, pos, Some, None, ◌∙◌}
+use Rattle.std.specs.BTreeMap.{Updates}
+use Rattle.coef_int.specs.Range.{IsCoefficient}
+use Rattle.word_core.specs.Canonical.{word_cmp}
+use Rattle.nc_polynomial.specs.Collected.{coefficient_in}
+use Rattle.cofactor_checker.proofs.Updates.{adds_from_update, running_from_update}
+use Rattle.cofactor_checker.proofs.sum.add_term.Goals as goal
+
+pub returns-then-total-eq0-clause-added : goal.returns-then-total-eq0-clause-added
+returns-then-total-eq0-clause-added c =
+    let total : c.in-Ok.total ≡ coefficient_in c.args.sum.now c.args.word +ℤ c.args.product = search rules in
+    let zero : pos 0 ≡ c.in-Ok.total = search rules in
+    adds_from_update c.args.sum.now c.remove.new.self c.args.word None c.remove.ensures.updates c.args.product (zero ∙ total)
+
+pub returns-else-is_err-clause-running : goal.returns-else-is_err-clause-running
+returns-else-is_err-clause-running c =
+    let inserted : Updates word_cmp c.args.sum.now c.insert.new.self c.args.word (Some c.in-Ok.total) = search rules in
+    let nonzero : c.in-Ok.total ≢ pos 0 = search rules in
+    let in_range : IsCoefficient c.in-Ok.total = search rules in
+    running_from_update c.args.sum.now c.insert.new.self c.args.word (Some c.in-Ok.total) inserted c.requires.running (λ zero. nonzero (cc)) in_range
+
+pub returns-else-is_err-clause-added : goal.returns-else-is_err-clause-added
+returns-else-is_err-clause-added c =
+    let inserted : Updates word_cmp c.args.sum.now c.insert.new.self c.args.word (Some c.in-Ok.total) = search rules in
+    let total : c.in-Ok.total ≡ coefficient_in c.args.sum.now c.args.word +ℤ c.args.product = search rules in
+    adds_from_update c.args.sum.now c.insert.new.self c.args.word (Some c.in-Ok.total) inserted c.args.product total

@@ -1,0 +1,65 @@
+-- When a certificate is accepted, and else the first test that fails.
+use Rattle.std.specs.Prelude.{◌≡◌, ◌⊎◌, ℕ, ℤ, pos, ◌≤ℤ◌, ◌<ℤ◌, List, map, length, Some, None, ⊤}
+use Rattle.coef_int.specs.declared.Overflow.{Overflow}
+use Rattle.coef_int.specs.Operations.{first_overflow}
+use Rattle.nc_polynomial.specs.declared.poly.Poly.{Poly}
+use Rattle.nc_polynomial.specs.Terms.{products}
+use Rattle.cofactor_trace.specs.declared.Certificate.{Certificate}
+use Rattle.cofactor_trace.specs.Rows.{rows_of}
+use Rattle.definitions.specs.Poly.{coefficient_of, poly_multiple, SamePolynomial}
+use Rattle.definitions.specs.Combination.{generator_at, row_sum}
+use Rattle.cofactor_checker.specs.Rows.{IsNumberUpTo, RowsPass, LacksGenerator, Overflows, Outgrows}
+use Rattle.cofactor_checker.specs.Difference.{IsLeastDifference}
+use Rattle.cofactor_checker.specs.declared.Refusal.{Refusal}
+use Rattle.cofactor_checker.specs.declared.Refusal.TheVariants as refusal
+
+-- the lists of terms
+abbrev pub polynomials : List Poly → List (List (ℤ × List ℕ))
+polynomials ps = map (λ p. p.terms) ps
+
+-- the claim that the certificate names, counted from 1 like the generators
+abbrev pub claim_of : List (List (ℤ × List ℕ)) → Certificate → List (ℤ × List ℕ)
+claim_of claims c = generator_at claims c.claim
+
+-- The certificate names a claim, and its denominator is at least 1.
+pub record IsPosed (claims : List (List (ℤ × List ℕ))) (c : Certificate) : Type 0 where
+  pub claim : IsNumberUpTo (length claims) c.claim
+  pub denominator : pos 1 ≤ℤ c.denominator
+
+-- And no product of the denominator with a coefficient of the claim leaves the range.
+pub record Begins (claims : List (List (ℤ × List ℕ))) (c : Certificate) : Type 0 where
+  pub posed : IsPosed claims c
+  pub products : first_overflow (products c.denominator (claim_of claims c)) ≡ None
+
+-- And each row passes.
+pub record AddsUp (claims generators : List (List (ℤ × List ℕ))) (c : Certificate) : Type 0 where
+  pub begins : Begins claims c
+  pub rows : RowsPass generators (rows_of c.rows) (length c.rows)
+
+-- And the sum of the rows is the denominator times the claim.
+pub record Accepts (claims generators : List (List (ℤ × List ℕ))) (c : Certificate) : Type 0 where
+  pub adds_up : AddsUp claims generators c
+  pub sum : SamePolynomial (row_sum generators (rows_of c.rows)) (poly_multiple c.denominator (claim_of claims c))
+
+-- each refusal comes where all tests before its own hold
+pub record LacksDenominator (claims : List (List (ℤ × List ℕ))) (c : Certificate) : Type 0 where
+  pub claim : IsNumberUpTo (length claims) c.claim
+  pub denominator : c.denominator <ℤ pos 1
+
+pub record MultipleOverflows (claims : List (List (ℤ × List ℕ))) (c : Certificate) (row : ℕ) (overflow : Overflow) : Type 0 where
+  pub before_rows : row ≡ 0
+  pub posed : IsPosed claims c
+  pub products : first_overflow (products c.denominator (claim_of claims c)) ≡ Some overflow
+
+pub record SumDiffers (claims generators : List (List (ℤ × List ℕ))) (c : Certificate) (word : List ℕ) (want got : ℤ) : Type 0 where
+  pub adds_up : AddsUp claims generators c
+  pub difference : IsLeastDifference (coefficient_of (poly_multiple c.denominator (claim_of claims c))) (coefficient_of (row_sum generators (rows_of c.rows))) word want got
+
+abbrev pub Refuses : List (List (ℤ × List ℕ)) → List (List (ℤ × List ℕ)) → Certificate → Refusal → Type 0
+Refuses claims generators c refusal.NoSuchClaim = IsNumberUpTo (length claims) c.claim → ⊥
+Refuses claims generators c refusal.ZeroDenominator = LacksDenominator claims c
+Refuses claims generators c (refusal.Overflow row overflow) = MultipleOverflows claims c row overflow ⊎ (Begins claims c × Overflows generators (rows_of c.rows) row overflow)
+Refuses claims generators c (refusal.NoSuchGenerator row) = Begins claims c × LacksGenerator generators (rows_of c.rows) row
+Refuses claims generators c (refusal.Size row) = Begins claims c × Outgrows generators (rows_of c.rows) row
+Refuses claims generators c (refusal.Differs word want got) = SumDiffers claims generators c word want got
+Refuses claims generators c (refusal.Memory failed) = ⊤

@@ -1,0 +1,6 @@
+pub mod Operations
+pub mod Rows
+pub mod RowRefusals
+pub mod Acceptance
+pub mod Running
+pub mod Difference

@@ -1,0 +1,86 @@
+//! Checks a certificate: adds up its rows, and compares the sum with the denominator times the claim.
+#![tactic(auto)]
+
+ghost use Rattle.std.specs.Prelude.{◌≡◌, ◌≤◌, length, All, MatchResult};
+ghost use Rattle.coef_int.specs.Range.{IsCoefficient};
+ghost use Rattle.cofactor_checker.specs.Acceptance.{polynomials, Accepts, Refuses};
+
+mod compare;
+mod rows;
+mod sum;
+
+use coef_int::Overflow;
+use cofactor_trace::Certificate;
+use compare::least_difference;
+use nc_polynomial::Poly;
+use rows::{add_rows, numbered, overflow_of_multiple};
+use std::alloc::{AllocError, Global};
+use word_core::Word;
+
+/// What an accepted certificate says: the denominator times the claim is a sum of rows.
+#[derive(Clone, Copy, Debug, PartialEq, Eq)]
+pub struct Accepted {
+    /// The number of the claim, counted from 1.
+    pub claim: u32,
+    /// A positive integer.
+    pub denominator: i128,
+}
+
+/// The first test that a certificate fails.
+#[derive(Drop)]
+pub enum Refusal {
+    /// The certificate names no claim.
+    NoSuchClaim,
+    /// The row with this number, counted from 1, names no generator.
+    NoSuchGenerator { row: u32 },
+    /// The denominator is below 1.
+    ZeroDenominator,
+    /// A product or a sum leaves the range of coefficients: in the row with this number, or, for the
+    /// number 0, in the denominator times the claim.
+    Overflow { row: u32, overflow: Overflow },
+    /// The sum of the rows up to this one has more than 200,000 terms.
+    Size { row: u32 },
+    /// The least word, in the canonical order, at which the sum isn't the denominator times the claim, with
+    /// the coefficient of the multiple and that of the sum.
+    Differs { word: Word, want: i128, got: i128 },
+    /// Memory is short.
+    Memory(AllocError),
+}
+
+/// Whether the rows add up to the denominator times the claim, over the generators. The rows may be of any
+/// words. Each refusal comes exactly where its test is the first that fails.
+pub fn check(
+    alloc: Global,
+    claims: &[Poly],
+    generators: &[Poly],
+    certificate: &Certificate,
+) -> Result<Accepted, Refusal>
+    requires rows { length certificate.now.rows ≤ 4294967295 }
+    requires denominator { IsCoefficient certificate.now.denominator }
+    requires coefficients { All (λ r. IsCoefficient r.coef) certificate.now.rows }
+    ensures { MatchResult result (λ accepted. Accepts (polynomials claims.now) (polynomials generators.now) certificate.now × (accepted ≡ record { claim = certificate.now.claim; denominator = certificate.now.denominator })) (Refuses (polynomials claims.now) (polynomials generators.now) certificate.now) }
+{
+    let Some(claim) = numbered(claims, certificate.claim) else {
+        return Err(Refusal::NoSuchClaim);
+    };
+    let denominator = certificate.denominator;
+    if denominator < 1 {
+        return Err(Refusal::ZeroDenominator);
+    }
+    if let Some(overflow) = overflow_of_multiple(denominator, claim.terms.as_slice()) {
+        return Err(Refusal::Overflow { row: 0, overflow });
+    }
+    let sum = add_rows(alloc, generators, certificate.rows.as_slice())?;
+    match least_difference(&sum, denominator, claim.terms.as_slice()) {
+        Ok(None) => Ok(Accepted {
+            claim: certificate.claim,
+            denominator,
+        }),
+        Ok(Some(difference)) => Err(Refusal::Differs {
+            word: difference.word,
+            want: difference.want,
+            got: difference.got,
+        }),
+        Err(failed) => Err(Refusal::Memory(failed)),
+    }
+}

@@ -1,0 +1,82 @@
+ghost use Rattle.std.specs.Prelude.{◌≡◌, ◌≤◌, ◌-◌, length, All, OnOk, IfOk, IfErr, IfSome, IfNone, slice_get, Some};
+ghost use Rattle.coef_int.specs.Operations.{first_overflow};
+ghost use Rattle.coef_int.specs.Range.{IsCoefficient};
+ghost use Rattle.cofactor_trace.specs.Rows.{rows_of};
+ghost use Rattle.definitions.specs.Combination.{row_sum};
+ghost use Rattle.cofactor_checker.specs.Acceptance.{polynomials};
+ghost use Rattle.nc_polynomial.specs.Terms.{products};
+ghost use Rattle.cofactor_checker.specs.Rows.{IsNumberUpTo, RowsPass};
+ghost use Rattle.cofactor_checker.specs.Running.{IsRunning, IsSumOf};
+ghost use Rattle.cofactor_checker.specs.RowRefusals.{RefusesRow};
+
+use crate::Refusal;
+use crate::sum::{SumFault, add_row};
+use coef_int::{Overflow, times};
+use cofactor_trace::CertRow;
+use nc_polynomial::Poly;
+use std::alloc::Global;
+use std::collections::BTreeMap;
+use word_core::Word;
+
+const TERM_LIMIT: usize = 200_000;
+
+/// The item with this number, counted from 1.
+pub(crate) fn numbered<T>(items: &[T], number: u32) -> Option<&T>
+    ensures found { IfSome result (λ item. slice_get items.now (number - 1) ≡ Some item.now) }
+    ensures in_range { IfSome result (λ _. IsNumberUpTo (length items.now) number) }
+    ensures absent { IfNone result (IsNumberUpTo (length items.now) number → ⊥) }
+{
+    let place = number.checked_sub(1)?;
+    items.get(place as usize)
+}
+
+/// The first product of the denominator with a coefficient that leaves the range.
+pub(crate) fn overflow_of_multiple(denominator: i128, claim: &[(i128, Word)]) -> Option<Overflow>
+    requires denominator { IsCoefficient denominator }
+    requires coefficients { All (λ t. IsCoefficient t.0) claim.now }
+    ensures { result ≡ first_overflow (products denominator claim.now) }
+{
+    for term in claim {
+        if let Err(overflow) = times(denominator, term.0) {
+            return Some(overflow);
+        }
+    }
+    None
+}
+
+/// The sum of the rows, or the first refusal among them.
+pub(crate) fn add_rows(
+    alloc: Global,
+    generators: &[Poly],
+    rows: &[CertRow],
+) -> Result<BTreeMap<Word, i128>, Refusal>
+    requires count { length rows.now ≤ 4294967295 }
+    requires coefficients { All (λ r. IsCoefficient r.coef) rows.now }
+    ensures running { IfOk result IsRunning }
+    ensures sum { IfOk result (λ m. IsSumOf m (row_sum (polynomials generators.now) (rows_of rows.now))) }
+    ensures passed { OnOk result (RowsPass (polynomials generators.now) (rows_of rows.now) (length rows.now)) }
+    ensures refused { IfErr result (RefusesRow (polynomials generators.now) (rows_of rows.now)) }
+{
+    let mut sum = BTreeMap::new(alloc);
+    let mut number = 0u32;
+    for row in rows {
+        number += 1;
+        let Some(generator) = numbered(generators, row.generator) else {
+            return Err(Refusal::NoSuchGenerator { row: number });
+        };
+        match add_row(&mut sum, row, generator.terms.as_slice()) {
+            Ok(()) => {}
+            Err(SumFault::Overflow(overflow)) => {
+                return Err(Refusal::Overflow {
+                    row: number,
+                    overflow,
+                });
+            }
+            Err(SumFault::Memory(failed)) => return Err(Refusal::Memory(failed)),
+        }
+        if sum.len() > TERM_LIMIT {
+            return Err(Refusal::Size { row: number });
+        }
+    }
+    Ok(sum)
+}
