@@ -18,9 +18,13 @@ checked os x = unless_overflow (first_overflow os) (Ok x)
 abbrev pub size_fault : Bool → PolyFault
 size_fault letters = fault.Size (record { letters = letters })
 
--- a polynomial, unless a word has more than 500 letters or there are more than 20,000 terms
+-- whether a word has more than 500 letters
+abbrev pub has_long_word : List Term → Bool
+has_long_word p = list_any (λ t. nat_lt 500 (length t.1)) p
+
+-- a polynomial, unless a word is too long or there are more than 20,000 terms
 abbrev pub sized : List Term → Result (List Term) PolyFault
-sized p = if list_any (λ t. nat_lt 500 (length t.1)) p then Err (size_fault true)
+sized p = if has_long_word p then Err (size_fault true)
     else (if nat_lt 20000 (length p) then Err (size_fault false) else Ok p)
 
 -- a polynomial, unless one of the operations overflows or it is too large

@@ -5,3 +5,5 @@ pub mod Faults
 pub mod Arithmetic
 pub mod Ascending
 pub mod Collected
+pub mod Product
+pub mod Content

@@ -3,9 +3,11 @@
 
 mod collect;
 mod combine;
+mod content;
 mod fault;
 mod laws;
 mod poly;
+mod product;
 mod size;
 mod terms;
 

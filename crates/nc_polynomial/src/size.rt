@@ -1,6 +1,6 @@
-ghost use Rattle.std.specs.Prelude.{◌≡◌, MatchResult, Ok, Err, length, nat_lt};
-ghost use Rattle.std.specs.List.{list_any};
-ghost use Rattle.nc_polynomial.specs.Faults.{sized};
+ghost use Rattle.std.specs.Prelude.{◌≡◌, ◌≤◌, MatchResult, Ok, Err, length};
+ghost use Rattle.definitions.specs.Poly.{poly_between};
+ghost use Rattle.nc_polynomial.specs.Faults.{sized, has_long_word};
 
 use crate::{PolyFault, SizeFault};
 use word_core::Word;
@@ -19,7 +19,7 @@ pub fn check_size(terms: &[(i128, Word)]) -> Result<(), PolyFault>
 }
 
 fn has_long_word(terms: &[(i128, Word)]) -> bool
-    ensures { result ≡ list_any (λ t. nat_lt 500 (length t.1)) terms.now }
+    ensures { result ≡ has_long_word terms.now }
 {
     for term in terms {
         if term.1.len() > 500 {
@@ -27,4 +27,22 @@ fn has_long_word(terms: &[(i128, Word)]) -> bool
         }
     }
     false
+}
+
+// Refuses a polynomial that, with these words on the left and on the right of each word, is too large.
+pub(crate) fn check_moved(
+    left: &Word,
+    terms: &[(i128, Word)],
+    right: &Word,
+) -> Result<(), PolyFault>
+    requires { length terms.now ≤ 20000 }
+    ensures { MatchResult result (λ _. sized (poly_between left.now terms.now right.now) ≡ Ok (poly_between left.now terms.now right.now)) (λ e. sized (poly_between left.now terms.now right.now) ≡ Err e) }
+{
+    let around = left.len().saturating_add(right.len());
+    for term in terms {
+        if term.1.len().saturating_add(around) > 500 {
+            return Err(PolyFault::Size(SizeFault { letters: true }));
+        }
+    }
+    Ok(())
 }

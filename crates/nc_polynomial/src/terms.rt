@@ -9,7 +9,7 @@ ghost use Rattle.nc_polynomial.specs.Sides.{side_of};
 
 use crate::PolyFault;
 use lists::Listing;
-use std::alloc::Global;
+use std::alloc::{AllocError, Global};
 use std::cmp::Ordering;
 use std::collections::VecDeque;
 use word_core::Word;
@@ -96,10 +96,19 @@ pub fn shift_terms(
             Ok(product) => product,
             Err(fault) => return Err(PolyFault::Overflow(fault)),
         };
-        let tail = term.1.concat(right)?;
-        push_nonzero(&mut shifted, product, left.concat(&tail)?)?;
+        push_nonzero(&mut shifted, product, surrounded(left, &term.1, right)?)?;
     }
     Ok(shifted)
+}
+
+// The word with others on its left and on its right.
+pub(crate) fn surrounded(left: &Word, word: &Word, right: &Word) -> Result<Word, AllocError>
+    ensures { IfOk result (λ w. w ≡ left.now ++ (word.now ++ right.now)) }
+{
+    if right.len() == 0 {
+        return left.concat(word);
+    }
+    left.concat(&word.concat(right)?)
 }
 
 /// The terms with the sign of each coefficient turned.

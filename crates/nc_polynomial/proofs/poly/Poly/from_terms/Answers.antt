@@ -1,5 +1,6 @@
 use Rattle.std.proofs.Common.{rules, ◌≡◌, ℕ, ◌+◌, ◌+ℤ◌, List, [], ◌∷◌, ◌++◌, take, drop, length, ◌<◌, get_or, None, Err, sym, ap, subst, ◌∙◌, arith}
-use Rattle.std.proofs.lemmas.List.{drop_all, take_all, take_more, drop_more}
+use Rattle.std.proofs.lemmas.List.{drop_all, take_all}
+use Rattle.nc_polynomial.proofs.Steps.{take_next, drop_next}
 use Rattle.coef_int.specs.Range.{IsCoefficient}
 use Rattle.coef_int.specs.Operations.{sum_of, first_overflow}
 use Rattle.definitions.specs.Poly.{Term, coefficient_of}
@@ -17,10 +18,8 @@ returns-in_err-add_term-clause-exact c =
     let terms = c.args.terms.now in
     let i = c.loop-term.term-index in
     let t : Term = c.term-item.result in
-    let inside : i < length terms = omega arith in
-    let item : get_or terms i t ≡ t = sym c.term-item.is in
-    let front : take (i + 1) terms ≡ take i terms ++ t ∷ [] = take_more terms i t inside ∙ ap (λ x. take i terms ++ x ∷ []) item in
-    let back : drop i terms ≡ t ∷ drop (i + 1) terms = drop_more terms i t inside ∙ ap (λ x. x ∷ drop (i + 1) terms) item in
+    let front = take_next terms i t (omega arith) c.term-item.is in
+    let back = drop_next terms i t (omega arith) c.term-item.is in
     let more = additions (take (i + 1) terms) (drop (i + 1) terms) in
     let next = sum_of (coefficient_in c.loop-term.table t.1) t.0 in
     let from_here : first_overflow (additions [] terms) ≡ first_overflow (next ∷ more) =
@@ -36,10 +35,8 @@ loop-term-preserved c =
     let terms = c.args.terms.now in
     let i = c.loop-term.term-index in
     let t : Term = c.term-item.result in
-    let inside : i < length terms = omega arith in
-    let item : get_or terms i t ≡ t = sym c.term-item.is in
-    let front : take (i + 1) terms ≡ take i terms ++ t ∷ [] = take_more terms i t inside ∙ ap (λ x. take i terms ++ x ∷ []) item in
-    let back : drop i terms ≡ t ∷ drop (i + 1) terms = drop_more terms i t inside ∙ ap (λ x. x ∷ drop (i + 1) terms) item in
+    let front = take_next terms i t (omega arith) c.term-item.is in
+    let back = drop_next terms i t (omega arith) c.term-item.is in
     let old = coefficient_in c.loop-term.table in
     let new = coefficient_in c.add_term.new.table in
     let fits : IsCoefficient (old t.1 +ℤ t.0) = search rules in

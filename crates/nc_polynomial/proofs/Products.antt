@@ -1,0 +1,166 @@
+-- Products of polynomials.
+use Rattle.std.proofs.Common.{◌≡◌, ◌≢◌, ℕ, zero, suc, ◌*◌, ◌≤◌, ℤ, pos, negsuc, neg_ℤ, ◌+ℤ◌, ◌*ℤ◌, Bool, true, false, cond, ◌||◌, nat_lt, List, [], ◌∷◌, ◌++◌, length, map, Option, Some, None, Result, Ok, Err, sym, refl, ap, ap₂, subst, ◌∙◌, arith}
+use Rattle.std.proofs.lemmas.Bool.Decides.{nat_tests}
+use Rattle.std.proofs.lemmas.Int.{ints}
+use Rattle.std.proofs.Math.IntN.{pos-*ℤ-pos, pos-*ℤ-negsuc, +ℤ_idl, +ℤ_idr, +ℤ_assoc}
+use Rattle.std.proofs.lemmas.List.{append-nil}
+use Rattle.std.proofs.lemmas.List.Elements.{All-from_recursion, recursion_from_All}
+use Rattle.std.specs.List.{AllByRecursion, list_any}
+use Rattle.coef_int.specs.declared.Overflow.{Overflow}
+use Rattle.coef_int.specs.Range.{IsCoefficient}
+use Rattle.coef_int.specs.Operations.{product_of, first_overflow}
+use Rattle.definitions.specs.Poly.{Term, SamePolynomial, coefficient_of, poly_multiple, poly_between, poly_product}
+use Rattle.definitions.proofs.Coefficients.{coefficient_of-append, coefficient_of-multiple}
+use Rattle.nc_polynomial.specs.declared.fault.PolyFault.{PolyFault}
+use Rattle.nc_polynomial.specs.declared.fault.PolyFault.TheVariants as fault
+use Rattle.nc_polynomial.specs.Terms.{keep, scaled, products, shifted, added, sums}
+use Rattle.nc_polynomial.specs.Shape.{IsShaped, IsCanonical}
+use Rattle.nc_polynomial.specs.Faults.{checked, unless_overflow, finished, sized, size_fault, has_long_word, Explains}
+use Rattle.nc_polynomial.specs.Arithmetic.{combined}
+use Rattle.nc_polynomial.specs.Product.{and_then, product_step, product_from}
+use Rattle.nc_polynomial.proofs.Around.{shaped-between}
+use Rattle.nc_polynomial.proofs.Chains.{first-append, first-fits, or_first, none_overflows, value_is, sized-value}
+use Rattle.nc_polynomial.proofs.CoefficientLaws.{coefficient_of-added, coefficient_of-scaled}
+use Rattle.nc_polynomial.proofs.Shapes.{shaped-scaled}
+
+-- ---- one step
+one-*ℤ : (z : ℤ) → pos 1 *ℤ z ≡ z
+one-*ℤ (pos n) =
+    let once : 1 * n ≡ n = omega arith in
+    pos-*ℤ-pos 1 n ∙ ap pos once
+one-*ℤ (negsuc n) =
+    let once : 1 * suc n ≡ suc n = omega arith in
+    pos-*ℤ-negsuc 1 n ∙ ap (λ m. neg_ℤ (pos m)) once
+
+keep-nonzero : (z : ℤ) (w : List ℕ) (p : List Term) → z ≢ pos 0 → keep z w p ≡ (z, w) ∷ p
+keep-nonzero (pos zero) w p h = absurd (h refl)
+keep-nonzero (pos (suc n)) w p h = refl
+keep-nonzero (negsuc n) w p h = refl
+
+scaled-one : (p : List Term) → AllByRecursion (λ t. t.0 ≢ pos 0) p → scaled (pos 1) p ≡ p
+scaled-one [] h = refl
+scaled-one (t ∷ p) h =
+    ap₂ (λ z rest. keep z t.1 rest) (one-*ℤ t.0) (scaled-one p h.1) ∙ keep-nonzero t.0 t.1 p h.0
+
+products-one : (p : List Term) → AllByRecursion (λ t. IsCoefficient t.0) p → first_overflow (products (pos 1) p) ≡ None
+products-one [] h = refl
+products-one (t ∷ p) h =
+    first-fits (product_of (pos 1) t.0) (products (pos 1) p) (subst IsCoefficient (sym (one-*ℤ t.0)) h.0) ∙ products-one p h.1
+
+pub scaled-between : (k : ℤ) (l : List ℕ) (p : List Term) (r : List ℕ) → scaled k (poly_between l p r) ≡ shifted k l p r
+scaled-between k l [] r = refl
+scaled-between k l (t ∷ p) r = ap (keep (k *ℤ t.0) (l ++ (t.1 ++ r))) (scaled-between k l p r)
+
+products-between : (k : ℤ) (l : List ℕ) (p : List Term) (r : List ℕ) → products k (poly_between l p r) ≡ products k p
+products-between k l [] r = refl
+products-between k l (t ∷ p) r = ap (λ os. product_of k t.0 ∷ os) (products-between k l p r)
+
+-- the multiple of a moved polynomial
+pub shaped_shift : (k : ℤ) (l : List ℕ) (p : List Term) (r : List ℕ) (v : List Term) → IsShaped p → checked (products k p) (shifted k l p r) ≡ Ok v → IsShaped v
+shaped_shift k l p r v h e =
+    let fits : first_overflow (products k (poly_between l p r)) ≡ None = ap first_overflow (products-between k l p r) ∙ none_overflows (products k p) (shifted k l p r) v e in
+    subst IsShaped (scaled-between k l p r ∙ value_is (products k p) (shifted k l p r) v e) (shaped-scaled k (poly_between l p r) fits (shaped-between l r p h))
+
+-- 1 times the sum so far changes nothing and always fits
+pub combined-one : (sum : List Term) (k : ℤ) (w : List ℕ) (q : List Term) → IsShaped sum → combined (pos 1) sum k (poly_between w q []) ≡ finished (products k q ++ sums sum (shifted k w q [])) (added sum (shifted k w q []))
+combined-one sum k w q h =
+    let itself : scaled (pos 1) sum ≡ sum = scaled-one sum (recursion_from_All (λ (t : Term). t.0 ≢ pos 0) sum h.nonzero) in
+    let fits : first_overflow (products (pos 1) sum) ≡ None = products-one sum (recursion_from_All (λ (t : Term). IsCoefficient t.0) sum h.in_range) in
+    let moved = poly_between w q [] in
+    ap (λ o. unless_overflow o (sized (added (scaled (pos 1) sum) (scaled k moved)))) (first-append (products (pos 1) sum) (products k moved ++ sums (scaled (pos 1) sum) (scaled k moved)) ∙ ap (λ o. or_first o (first_overflow (products k moved ++ sums (scaled (pos 1) sum) (scaled k moved)))) fits)
+    ∙ ap₂ (λ os (parts : List Term × List Term). finished (os ++ sums parts.0 parts.1) (added parts.0 parts.1)) (products-between k w q []) (λ i. (itself i, scaled-between k w q [] i))
+
+-- a step whose moved factor is within the limits
+pub step_is : (sum : List Term) (k : ℤ) (w : List ℕ) (q : List Term) → IsShaped sum → sized (poly_between w q []) ≡ Ok (poly_between w q [])
+    → product_step sum (k, w) q ≡ finished (products k q ++ sums sum (shifted k w q [])) (added sum (shifted k w q []))
+step_is sum k w q h within = ap (λ r. and_then r (λ moved. combined (pos 1) sum k moved)) within ∙ combined-one sum k w q h
+
+-- ---- results
+pub explains-err : {A : Type 0} (r : Result A PolyFault) (e : PolyFault) → r ≡ Err e → Explains r e
+explains-err r (fault.Overflow o) h = h
+explains-err r (fault.Size s) h = h
+explains-err r (fault.Memory m) h = tt
+
+pub explains-then : (r : Result (List Term) PolyFault) (next : List Term → Result (List Term) PolyFault) (e : PolyFault) → Explains r e → Explains (and_then r next) e
+explains-then r next (fault.Overflow o) h = ap (λ x. and_then x next) h
+explains-then r next (fault.Size s) h = ap (λ x. and_then x next) h
+explains-then r next (fault.Memory m) h = tt
+
+-- ---- limits
+short_words : (p : List Term) → has_long_word p ≡ false → AllByRecursion (λ t. length t.1 ≤ 500) p
+short_words [] e = tt
+short_words (t ∷ p) e = go (nat_lt 500 (length t.1)) refl e (short_words p)
+  where
+    go : (b : Bool) → nat_lt 500 (length t.1) ≡ b → (b || has_long_word p) ≡ false → (has_long_word p ≡ false → AllByRecursion (λ u. length u.1 ≤ 500) p) → (length t.1 ≤ 500) × AllByRecursion (λ u. length u.1 ≤ 500) p
+    go true long k rest = absurd (cc)
+    go false long k rest = (within (length t.1) long, rest k)
+      where
+        within : (n : ℕ) → nat_lt 500 n ≡ false → n ≤ 500
+        within n h = grind (arith, nat_tests)
+
+-- what is left as it is by the limits is within them
+pub canonical_sized : (p v : List Term) → IsShaped p → sized p ≡ Ok v → IsCanonical p
+canonical_sized p v h e = go (has_long_word p) (nat_lt 20000 (length p)) refl refl e
+  where
+    no_error : (fault : PolyFault) → ◌≡◌ {A = Result (List Term) PolyFault} (Err fault) (Ok v) → ⊥
+    no_error fault k = cc
+
+    within : (n : ℕ) → nat_lt 20000 n ≡ false → n ≤ 20000
+    within n k = grind (arith, nat_tests)
+
+    go : (long many : Bool) → has_long_word p ≡ long → nat_lt 20000 (length p) ≡ many → cond long (Err (size_fault true)) (cond many (Err (size_fault false)) (Ok p)) ≡ Ok v → IsCanonical p
+    go true many a b k = absurd (no_error (size_fault true) k)
+    go false true a b k = absurd (no_error (size_fault false) k)
+    go false false a b k = record { shaped = h; short = All-from_recursion (λ (t : Term). length t.1 ≤ 500) p (short_words p a); few = within (length p) b }
+
+-- ---- what a product is
+moved-row : (t : Term) (q : List Term) → map (λ u. (t.0 *ℤ u.0, t.1 ++ u.1)) q ≡ poly_multiple t.0 (poly_between t.1 q [])
+moved-row t [] = refl
+moved-row t (u ∷ q) = ap₂ (λ v (rest : List Term). (t.0 *ℤ u.0, t.1 ++ v) ∷ rest) (sym (append-nil u.1)) (moved-row t q)
+
+no_fault : (e : PolyFault) (r : List Term) → ◌≡◌ {A = Result (List Term) PolyFault} (Err e) (Ok r) → ⊥
+no_fault e r h = cc
+
+same_value : (p r : List Term) → ◌≡◌ {A = Result (List Term) PolyFault} (Ok p) (Ok r) → p ≡ r
+same_value p r h = cc
+
+finished-value : (os : List Overflow) (x v : List Term) → finished os x ≡ Ok v → x ≡ v
+finished-value os x v h = go (first_overflow os) h
+  where
+    go : (o : Option Overflow) → unless_overflow o (sized x) ≡ Ok v → x ≡ v
+    go None k = sized-value x v k
+    go (Some o) k = absurd (no_fault (fault.Overflow o) v k)
+
+combined-coefficient : (a : ℤ) (p : List Term) (b : ℤ) (q r : List Term) → combined a p b q ≡ Ok r → (w : List ℕ) → coefficient_of r w ≡ a *ℤ coefficient_of p w +ℤ b *ℤ coefficient_of q w
+combined-coefficient a p b q r h w =
+    ap (λ s. coefficient_of s w) (sym (finished-value (products a p ++ (products b q ++ sums (scaled a p) (scaled b q))) (added (scaled a p) (scaled b q)) r h))
+    ∙ coefficient_of-added w (scaled a p) (scaled b q) ∙ ap₂ ◌+ℤ◌ (coefficient_of-scaled a p w) (coefficient_of-scaled b q w)
+
+step-coefficient : (sum : List Term) (t : Term) (q v : List Term) → product_step sum t q ≡ Ok v → (w : List ℕ) → coefficient_of v w ≡ coefficient_of sum w +ℤ t.0 *ℤ coefficient_of (poly_between t.1 q []) w
+step-coefficient sum t q v h w = go (sized (poly_between t.1 q [])) refl h
+  where
+    go : (r : Result (List Term) PolyFault) → sized (poly_between t.1 q []) ≡ r → and_then r (λ moved. combined (pos 1) sum t.0 moved) ≡ Ok v → coefficient_of v w ≡ coefficient_of sum w +ℤ t.0 *ℤ coefficient_of (poly_between t.1 q []) w
+    go (Err e) limits k = absurd (no_fault e v k)
+    go (Ok moved) limits k =
+        let moved_is = sized-value (poly_between t.1 q []) moved limits in
+        combined-coefficient (pos 1) sum t.0 moved v k w
+        ∙ ap₂ (λ a b. a +ℤ t.0 *ℤ b) (one-*ℤ (coefficient_of sum w)) (ap (λ p. coefficient_of p w) (sym moved_is))
+
+pub coefficient_of-product_from : (sum p q r : List Term) → product_from sum p q ≡ Ok r → (w : List ℕ) → coefficient_of r w ≡ coefficient_of sum w +ℤ coefficient_of (poly_product p q) w
+coefficient_of-product_from sum [] q r h w = ap (λ p. coefficient_of p w) (sym (same_value sum r h)) ∙ sym (+ℤ_idr (coefficient_of sum w))
+coefficient_of-product_from sum (t ∷ p) q r h w = go (product_step sum t q) refl h (λ next k. coefficient_of-product_from next p q r k w)
+  where
+    go : (s : Result (List Term) PolyFault) → product_step sum t q ≡ s → and_then s (λ next. product_from next p q) ≡ Ok r
+        → ((next : List Term) → product_from next p q ≡ Ok r → coefficient_of r w ≡ coefficient_of next w +ℤ coefficient_of (poly_product p q) w) → coefficient_of r w ≡ coefficient_of sum w +ℤ coefficient_of (poly_product (t ∷ p) q) w
+    go (Err e) step k more = absurd (no_fault e r k)
+    go (Ok next) step k more =
+        let rest : coefficient_of r w ≡ coefficient_of next w +ℤ coefficient_of (poly_product p q) w = more next k in
+        let here : coefficient_of next w ≡ coefficient_of sum w +ℤ t.0 *ℤ coefficient_of (poly_between t.1 q []) w = step-coefficient sum t q next step w in
+        let row : coefficient_of (map (λ u. (t.0 *ℤ u.0, t.1 ++ u.1)) q) w ≡ t.0 *ℤ coefficient_of (poly_between t.1 q []) w = ap (λ x. coefficient_of x w) (moved-row t q) ∙ coefficient_of-multiple t.0 (poly_between t.1 q []) w in
+        let whole : coefficient_of (poly_product (t ∷ p) q) w ≡ coefficient_of (map (λ u. (t.0 *ℤ u.0, t.1 ++ u.1)) q) w +ℤ coefficient_of (poly_product p q) w = coefficient_of-append (map (λ u. (t.0 *ℤ u.0, t.1 ++ u.1)) q) (poly_product p q) w in
+        rest ∙ ap (λ x. x +ℤ coefficient_of (poly_product p q) w) here
+        ∙ +ℤ_assoc (coefficient_of sum w) (t.0 *ℤ coefficient_of (poly_between t.1 q []) w) (coefficient_of (poly_product p q) w)
+        ∙ ap (λ x. coefficient_of sum w +ℤ x) (ap (λ x. x +ℤ coefficient_of (poly_product p q) w) (sym row) ∙ sym whole)
+
+pub product_value : (p q r : List Term) → product_from [] p q ≡ Ok r → SamePolynomial r (poly_product p q)
+product_value p q r h = record { at = λ w. coefficient_of-product_from [] p q r h w ∙ +ℤ_idl (coefficient_of (poly_product p q) w) }

@@ -1,0 +1,11 @@
+use Rattle.std.proofs.Common.{take}
+use Rattle.coef_int.specs.Range.{IsCoefficient}
+use Rattle.nc_polynomial.specs.Content.{IsContent}
+use Rattle.nc_polynomial.proofs.poly.Poly.content.Given as goal
+
+-- the divisor is that of the terms that were passed
+abbrev pub invariant-loop-term : goal.invariant-loop-term
+invariant-loop-term l = record {
+  content : IsContent (take l.term-index l.self.terms) l.divisor;
+  in_range : IsCoefficient l.divisor;
+}

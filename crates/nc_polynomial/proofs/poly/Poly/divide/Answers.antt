@@ -1,0 +1,33 @@
+use Rattle.std.proofs.Common.{rules, ◌≡◌, ◌+◌, ◌++◌, [], ◌∷◌, ◌*ℤ◌, ◌<◌, length, get_or, take, sym, ap, ap₂, subst, ◌∙◌, arith}
+use Rattle.std.proofs.lemmas.List.{take_all}
+use Rattle.std.specs.Int.{◌∣◌}
+use Rattle.std.specs.Int.RustNames.{unsigned_abs, int_div}
+use Rattle.definitions.specs.Poly.{Term, poly_multiple}
+use Rattle.nc_polynomial.proofs.Divisors.{quotient_times, canonical_back, multiple-append}
+use Rattle.nc_polynomial.proofs.Steps.{take_next}
+use Rattle.nc_polynomial.proofs.poly.Poly.divide.Goals as goal
+
+pub loop-term-preserved : goal.loop-term-preserved
+loop-term-preserved c =
+    let p = c.args.self.now.terms in
+    let i = c.loop-term.term-index in
+    let t : Term = c.term-item.result in
+    let k = c.args.by in
+    let same = c.as_slice-term-items.ensures in
+    let inside : i < length p = omega (arith, ap length same) in
+    let item : t ≡ get_or p i t = c.term-item.is ∙ ap (λ xs. get_or xs i t) same in
+    let divides : unsigned_abs k ∣ unsigned_abs t.0 = subst (λ (u : Term). unsigned_abs k ∣ unsigned_abs u.0) (sym item) (c.requires.divides i t inside) in
+    let pushed : c.push.new.self ≡ c.loop-term.quotients ++ (int_div t.0 k, t.1) ∷ [] = search rules in
+    let kept : poly_multiple k c.loop-term.quotients ≡ take i p = search rules in
+    let front : take (i + 1) p ≡ take i p ++ t ∷ [] = take_next p i t inside item in
+    let same : poly_multiple k c.push.new.self ≡ take (i + 1) p =
+    ap (poly_multiple k) pushed ∙ multiple-append k c.loop-term.quotients (int_div t.0 k, t.1)
+    ∙ ap₂ (λ q z. q ++ (z, t.1) ∷ []) kept (quotient_times t.0 k divides) ∙ sym front in
+    search (rules, same)
+
+pub invariant_of-result : goal.invariant_of-result
+invariant_of-result c =
+    let p = c.args.self.now.terms in
+    let kept : poly_multiple c.args.by c.loop-term.quotients ≡ take c.loop-term.term-index p = search rules in
+    let whole : poly_multiple c.args.by c.loop-term.quotients ≡ p = kept ∙ take_all c.loop-term.term-index p (omega (arith, ap length c.as_slice-term-items.ensures)) in
+    record { canonical = canonical_back c.args.by c.requires.nonzero c.loop-term.quotients p whole c.args.self.now.canonical }

@@ -1,0 +1,70 @@
+ghost use Rattle.std.specs.Prelude.{◌≡◌, ◌++◌, [], pos, IfOk, MatchResult, Ok, Err};
+ghost use Rattle.std.specs.List.{All};
+ghost use Rattle.coef_int.specs.Range.{IsCoefficient};
+ghost use Rattle.definitions.specs.Poly.{SamePolynomial, poly_between, poly_product};
+ghost use Rattle.nc_polynomial.specs.Faults.{sized, Explains};
+ghost use Rattle.nc_polynomial.specs.Product.{moved_result, product_step, product_result};
+
+use crate::size::check_moved;
+use crate::terms::surrounded;
+use crate::{Poly, PolyFault, merge_terms, shift_terms};
+use lists::Listing;
+use std::alloc::{AllocError, Global};
+use word_core::Word;
+
+impl Poly {
+    /// The polynomial with the same words on the left and on the right of each word. `Size` comes exactly
+    /// where one of them then has more than 500 letters.
+    pub fn left_right(&self, left: &Word, right: &Word) -> Result<Poly, PolyFault>
+        ensures exact { MatchResult result (λ r. moved_result left.now self.now.terms right.now ≡ Ok r.terms) (Explains (moved_result left.now self.now.terms right.now)) }
+        ensures moved { IfOk result (λ r. r.terms ≡ poly_between left.now self.now.terms right.now) }
+    {
+        let terms = self.terms.as_slice();
+        check_moved(left, terms, right)?;
+        let moved = move_terms(self.terms.allocator(), left, terms, right)?;
+        Ok(Poly { terms: moved })
+    }
+
+    /// The product, with each word of this polynomial on the left of each word of `right`. The sum starts
+    /// with zero. Each term of this polynomial, in descending order, moves `right` by its word and adds
+    /// that times its coefficient, as `left_right` and `combine` do; their first fault is that of the product.
+    pub fn product(&self, right: &Poly) -> Result<Poly, PolyFault>
+        ensures exact { MatchResult result (λ r. product_result self.now.terms right.now.terms ≡ Ok r.terms) (Explains (product_result self.now.terms right.now.terms)) }
+        ensures product { IfOk result (λ r. SamePolynomial r.terms (poly_product self.now.terms right.now.terms)) }
+    {
+        let mut sum = Poly::zero(self.terms.allocator());
+        for term in self.terms.as_slice() {
+            sum = add_moved(sum, term.0, &term.1, right)?;
+        }
+        Ok(sum)
+    }
+}
+
+// The sum and a term's multiple of the right factor. The sum is given away.
+fn add_moved(sum: Poly, coefficient: i128, word: &Word, right: &Poly) -> Result<Poly, PolyFault>
+    requires { IsCoefficient coefficient }
+    ensures { MatchResult result (λ r. product_step sum.terms (coefficient, word.now) right.now.terms ≡ Ok r.terms) (Explains (product_step sum.terms (coefficient, word.now) right.now.terms)) }
+{
+    let alloc = right.terms.allocator();
+    let terms = right.terms.as_slice();
+    let empty = Word::new(alloc);
+    check_moved(word, terms, &empty)?;
+    let multiple = shift_terms(alloc, coefficient, word, terms, &empty)?;
+    Poly::from_descending(merge_terms(alloc, sum.terms, multiple)?)
+}
+
+// The terms with the same words on the left and on the right of each word.
+fn move_terms(
+    alloc: Global,
+    left: &Word,
+    terms: &[(i128, Word)],
+    right: &Word,
+) -> Result<Listing<(i128, Word)>, AllocError>
+    ensures { IfOk result (λ v. v ≡ poly_between left.now terms.now right.now) }
+{
+    let mut moved = Listing::new(alloc);
+    for term in terms {
+        moved.push((term.0, surrounded(left, &term.1, right)?))?;
+    }
+    Ok(moved)
+}
