@@ -1,0 +1,3 @@
+pub mod BlockReading
+pub mod FirstFault
+pub mod WeightReading

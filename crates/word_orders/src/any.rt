@@ -1,0 +1,73 @@
+ghost use Rattle.std.specs.Prelude.{◌≡◌, ◌≤◌, ◌^◌, ℕ, List, IfOk, MatchResult};
+ghost use Rattle.word_orders.specs.Orders.{asked_cmp, IsSound, ExplainsSpec, made_cmp, letters_of, made_rank, made_cmp-admissible};
+
+use crate::{BlockLex, DegLex, OrderFault, WeightLex, WordOrder};
+use lists::Listing;
+use std::alloc::Global;
+use std::cmp::Ordering;
+use word_core::{Letter, Word};
+
+/// What an order is to compare first.
+#[derive(Drop)]
+pub enum OrderSpec {
+    /// Nothing: the canonical order.
+    Degree,
+    /// The sums of these weights; a letter that isn't listed weighs 1.
+    Weight(Listing<(Letter, u32)>),
+    /// The numbers of letters of this block.
+    Block(Listing<Letter>),
+}
+
+/// One of the orders.
+#[derive(Drop)]
+pub enum AnyOrder {
+    /// The canonical order.
+    Degree(DegLex),
+    /// By weights.
+    Weight(WeightLex),
+    /// By a block of letters.
+    Block(BlockLex),
+}
+
+impl AnyOrder {
+    /// The order that is asked for, for words over the letters below `letters`. The fault is that of the first item of
+    /// the list that has one; for one item a number that is no letter's counts before a repetition, and that before a
+    /// weight that is 0 or above 1,000.
+    pub fn new(alloc: Global, spec: &OrderSpec, letters: u32) -> Result<AnyOrder, OrderFault>
+        ensures order { IfOk result (λ o. (u v : List ℕ) → made_cmp o u v ≡ asked_cmp spec.now u v) }
+        ensures letters { IfOk result (λ o. letters ≤ 2 ^ 16 → letters ≤ letters_of o) }
+        ensures first_fault {
+            MatchResult result (λ _. IsSound letters spec.now) (ExplainsSpec letters spec.now)
+        }
+    {
+        match spec {
+            OrderSpec::Degree => Ok(AnyOrder::Degree(DegLex::new())),
+            OrderSpec::Weight(weights) => {
+                let order = WeightLex::new(alloc, weights.as_slice(), letters)?;
+                Ok(AnyOrder::Weight(order))
+            }
+            OrderSpec::Block(block) => {
+                let order = BlockLex::new(alloc, block.as_slice(), letters)?;
+                Ok(AnyOrder::Block(order))
+            }
+        }
+    }
+}
+
+impl WordOrder for AnyOrder {
+    ghost compare = { made_cmp };
+
+    ghost letters = { letters_of };
+
+    ghost rank = { made_rank };
+
+    fn cmp(&self, left: &Word, right: &Word) -> Ordering {
+        match self {
+            AnyOrder::Degree(order) => order.cmp(left, right),
+            AnyOrder::Weight(order) => order.cmp(left, right),
+            AnyOrder::Block(order) => order.cmp(left, right),
+        }
+    }
+
+    ghost admissible = { made_cmp-admissible };
+}

@@ -1,0 +1,33 @@
+ghost use Rattle.std.specs.Prelude.{◌^◌};
+ghost use Rattle.word_core.specs.Canonical.{word_cmp};
+ghost use Rattle.word_orders.specs.Rank.{rank_of};
+ghost use Rattle.word_orders.specs.CanonicalLaws.{word_cmp-admissible};
+
+use crate::WordOrder;
+use std::cmp::Ordering;
+use word_core::Word;
+
+/// The canonical order: length first, and then letter by letter from the left.
+#[derive(Clone, Copy, Debug)]
+pub struct DegLex;
+
+impl DegLex {
+    /// The order.
+    pub fn new() -> DegLex {
+        DegLex
+    }
+}
+
+impl WordOrder for DegLex {
+    ghost compare = { λ _. word_cmp };
+
+    ghost letters = { λ _. 2 ^ 16 };
+
+    ghost rank = { λ _. rank_of (2 ^ 16) };
+
+    fn cmp(&self, left: &Word, right: &Word) -> Ordering {
+        left.cmp_degree(right)
+    }
+
+    ghost admissible = { λ _. word_cmp-admissible (2 ^ 16) };
+}
