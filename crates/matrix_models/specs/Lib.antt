@@ -1,0 +1,5 @@
+pub mod Matrix
+pub mod Matrices
+mod Totals
+mod Entries
+pub mod Laws
