@@ -1,1 +1,8 @@
 mod Examples
+pub mod Counts
+pub mod Growth
+pub mod Letters
+pub mod Identities
+pub mod Fields
+pub mod Declared
+pub mod Added

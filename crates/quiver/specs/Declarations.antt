@@ -112,11 +112,18 @@ quiver_of ds = record {
 abbrev pub name_at : List Declaration → ℕ → List ℕ
 name_at ds place = get_or (map name_of ds) place []
 
+-- the entry of an object and of a letter; zeros stand where there is none
+abbrev pub no_object : ObjectEntry
+no_object = record { identity = 0; declaration = 0 }
+
 abbrev pub object_at : List Declaration → ℕ → ObjectEntry
-object_at ds v = get_or (object_table ds) v (record { identity = 0; declaration = 0 })
+object_at ds v = get_or (object_table ds) v no_object
+
+abbrev pub no_letter : LetterEntry
+no_letter = record { source = 0; target = 0; star = 0; declaration = 0 }
 
 abbrev pub letter_at : List Declaration → ℕ → LetterEntry
-letter_at ds a = get_or (letter_table ds) a (record { source = 0; target = 0; star = 0; declaration = 0 })
+letter_at ds a = get_or (letter_table ds) a no_letter
 
 -- the identity of an object, its name, and the name of the object or map that a letter or its adjoint is declared as
 abbrev pub identity_in : List Declaration → ℕ → ℕ

@@ -5,7 +5,7 @@ use Rattle.quiver.specs.declared.named.Named.TheVariants.{Object, Map}
 use Rattle.quiver.specs.declared.quiver.Quiver.TheInside.{Inside}
 use Rattle.quiver.specs.declared.quiver.ObjectEntry as code_object
 use Rattle.quiver.specs.declared.quiver.LetterEntry as code_letter
-use Rattle.quiver.specs.Declarations.{Declaration, object, arrow, ObjectEntry, LetterEntry, object_table, letter_table, naming_table, IsDeclared}
+use Rattle.quiver.specs.Declarations.{Declaration, object, arrow, ObjectEntry, LetterEntry, no_letter, object_table, letter_table, naming_table, IsDeclared}
 
 -- the fields as tables of numbers
 abbrev pub object_entry : code_object.ObjectEntry → ObjectEntry
@@ -25,7 +25,7 @@ names_in q = map (λ e. (string_bytes e.0, e.1)) q.names.entries
 
 -- the declaration of a name: a map has the ends of its letter, and is its own adjoint where the letter is
 abbrev pub letter_in : List LetterEntry → ℕ → LetterEntry
-letter_in letters a = get_or letters a (record { source = 0; target = 0; star = 0; declaration = 0 })
+letter_in letters a = get_or letters a no_letter
 
 abbrev pub declared_as : List LetterEntry → List ℕ → Named → Declaration
 declared_as letters name (Object v) = object name
