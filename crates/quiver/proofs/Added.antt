@@ -1,5 +1,5 @@
 -- The fields of a quiver with one declaration more.
-use Rattle.std.proofs.Common.{◌≡◌, ℕ, List, [], ◌∷◌, ◌++◌, map, None, sym, refl, ap, ap₂, subst, ◌∙◌, string_bytes, Global, String}
+use Rattle.std.proofs.Common.{◌≡◌, List, [], ◌∷◌, ◌++◌, map, None, sym, ap, ap₂, subst, ◌∙◌, string_bytes, Global, String}
 use Rattle.std.specs.String.{string_eq}
 use Rattle.std.proofs.lemmas.List.{map-append}
 use Rattle.indexmap.specs.IndexMap.{insert_entry}

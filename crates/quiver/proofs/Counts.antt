@@ -1,5 +1,5 @@
 -- How long the tables of the declarations are.
-use Rattle.std.proofs.Common.{◌≡◌, ℕ, ◌+◌, ◌*◌, ◌≤◌, true, false, List, [], ◌∷◌, ◌++◌, length, map, refl, ap, ◌∙◌, arith}
+use Rattle.std.proofs.Common.{◌≡◌, ℕ, ◌+◌, ◌*◌, ◌≤◌, true, false, List, [], ◌∷◌, ◌++◌, length, refl, ◌∙◌, arith}
 use Rattle.std.specs.List.{flat_map}
 use Rattle.definitions.specs.Quiver.{letters}
 use Rattle.quiver.specs.Declarations.{Declaration, object, arrow, objects_of, letters_of, object_count, map_count, letter_count, turns_from, objects_made, letters_made, object_table, letter_table, naming_table, quiver_of}

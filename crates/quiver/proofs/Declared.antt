@@ -1,5 +1,5 @@
 -- What holds of the declarations of a quiver holds with one more that is not refused.
-use Rattle.std.proofs.Common.{◌≡◌, ◌≢◌, ℕ, zero, suc, ◌+◌, ◌<◌, ◌≤◌, Bool, true, false, cond, ◌&&◌, ◌||◌, not, nat_eq, nat_lt, nat_le, List, [], ◌∷◌, ◌++◌, length, map, get_or, Option, Some, None, is_some, IsTrue, AllPairs, sym, refl, ap, ap₂, subst, ◌∙◌, arith, rules, lt-ltb, leb-false, true≢false}
+use Rattle.std.proofs.Common.{◌≡◌, ◌≢◌, ℕ, zero, suc, ◌+◌, ◌<◌, ◌≤◌, Bool, true, false, cond, ◌&&◌, ◌||◌, not, nat_eq, nat_le, List, [], ◌∷◌, ◌++◌, length, map, get_or, Option, Some, None, is_some, AllPairs, sym, refl, ap, subst, ◌∙◌, arith, lt-ltb, leb-false, true≢false}
 use Rattle.std.specs.List.{list_all}
 use Rattle.std.specs.Map.{lookup}
 use Rattle.std.specs.Str.{bytes_eq}
@@ -11,7 +11,7 @@ use Rattle.std.proofs.lemmas.List.Quantifiers.{all_pairs_push}
 use Rattle.quiver.specs.declared.named.Named.{Named}
 use Rattle.quiver.specs.declared.fault.QuiverFault.{QuiverFault}
 use Rattle.quiver.specs.declared.fault.QuiverFault.TheVariants.{DoubleName, TooMany, NotSquare}
-use Rattle.quiver.specs.Declarations.{Declaration, object, arrow, name_of, objects_of, letters_of, maps_of, object_count, map_count, turns_from, named_by, naming_table, named_in, has_ends, IsDeclared}
+use Rattle.quiver.specs.Declarations.{Declaration, object, arrow, name_of, objects_of, letters_of, object_count, map_count, turns_from, named_by, naming_table, named_in, has_ends, IsDeclared}
 use Rattle.quiver.specs.Refusals.{is_named, object_fault, map_fault}
 use Rattle.quiver.proofs.Counts.{object_count-append, map_count-append}
 use Rattle.quiver.proofs.Letters.{ends_of}

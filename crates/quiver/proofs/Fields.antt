@@ -1,5 +1,5 @@
 -- What the fields of a quiver say of its declarations.
-use Rattle.std.proofs.Common.{◌≡◌, ℕ, ◌<◌, ◌≤◌, List, [], ◌∷◌, length, map, get_or, Option, Some, option_map, cond, slice_get, sym, refl, ap, subst, ap₂, ◌∙◌, arith, string_bytes, Global, String}
+use Rattle.std.proofs.Common.{◌≡◌, ℕ, ◌<◌, List, [], ◌∷◌, length, map, get_or, Some, option_map, cond, slice_get, sym, refl, ap, subst, ap₂, ◌∙◌, string_bytes, Global, String}
 use Rattle.std.specs.Map.{lookup}
 use Rattle.std.specs.Str.{bytes_eq}
 use Rattle.std.proofs.lemmas.List.{length-map, get_or-map}

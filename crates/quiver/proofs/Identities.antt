@@ -2,7 +2,7 @@
 use Rattle.std.proofs.Common.{◌≡◌, ℕ, zero, suc, ◌+◌, ◌<◌, true, List, [], ◌∷◌, ◌++◌, length, get_or, sym, refl, ap, subst, ◌∙◌, arith}
 use Rattle.std.proofs.lemmas.List.{append_assoc, length-map}
 use Rattle.std.specs.List.{flat_map, list_all}
-use Rattle.definitions.specs.Quiver.{Quiver, IsQuiver, letters, source, target, star}
+use Rattle.definitions.specs.Quiver.{IsQuiver, letters, star}
 use Rattle.quiver.specs.Declarations.{Declaration, object, arrow, letters_of, object_count, letter_count, turns_from, objects_made, ObjectEntry, LetterEntry, letter_table, no_object, letter_at, quiver_of, is_arrow, objects_first, ObjectsFirst, identity_in, IsDeclared}
 use Rattle.quiver.specs.Tables.{letter_in}
 use Rattle.quiver.proofs.Counts.{letters-quiver_of}

@@ -6,3 +6,6 @@ pub mod Identities
 pub mod Fields
 pub mod Declared
 pub mod Added
+pub mod Continued
+pub mod SameSignature
+pub mod TypedTerms

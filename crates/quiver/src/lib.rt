@@ -4,6 +4,7 @@
 mod fault;
 mod named;
 mod quiver;
+mod signatures;
 
 pub use fault::QuiverFault;
 pub use named::{Named, Sig};

@@ -75,9 +75,9 @@ adds_pair c =
       new_letters = two ∙ ap (λ entries. entries ++ second ∷ []) one ∙ append_assoc c.self.inside.letters.items (first ∷ []) (second ∷ []);
       letters_are =
           (λ j.
-            record { source = c.args.source.0; target = c.args.target.0; star = c.next_letter-letter.ensures.number j + 1; declaration = place_of_pair c j }
-            ∷ record { source = c.args.target.0; target = c.args.source.0; star = c.next_letter-letter.ensures.number j; declaration = place_of_pair c j }
-            ∷ [])
+          record { source = c.args.source.0; target = c.args.target.0; star = c.next_letter-letter.ensures.number j + 1; declaration = place_of_pair c j }
+          ∷ record { source = c.args.target.0; target = c.args.source.0; star = c.next_letter-letter.ensures.number j; declaration = place_of_pair c j }
+          ∷ [])
           ∙ ap (λ selfmade. letters_made (made selfmade) (next_turn c.args.self.now (made selfmade))) (sym c.if-selfmade.false);
     }
 

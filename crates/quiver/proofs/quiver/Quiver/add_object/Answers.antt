@@ -1,4 +1,4 @@
-use Rattle.std.proofs.Common.{rules, arith, ◌≡◌, ◌∷◌, [], length, None, ap, ap₂}
+use Rattle.std.proofs.Common.{rules, arith, ◌≡◌, ◌∷◌, [], length, None, ap}
 use Rattle.quiver.specs.declared.named.Named.TheVariants.{Object}
 use Rattle.quiver.specs.Declarations.{object}
 use Rattle.quiver.specs.Refusals.{object_fault}

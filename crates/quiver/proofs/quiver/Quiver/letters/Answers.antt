@@ -1,4 +1,4 @@
-use Rattle.std.proofs.Common.{arith, ◌≡◌, ◌∙◌, ◌≤◌}
+use Rattle.std.proofs.Common.{arith, ◌≡◌, ◌≤◌}
 use Rattle.quiver.specs.Declarations.{letter_count}
 use Rattle.quiver.proofs.Counts.{few_letters}
 use Rattle.quiver.proofs.Fields.{are_declared, letters_len}
