@@ -1,0 +1,36 @@
+-- The first thing that is wrong with a declaration.
+use Rattle.std.specs.Prelude.{◌≡◌, ⊤, ℕ, ◌&&◌, Bool, not, nat_eq, nat_le, if◌then◌else◌, is_some, List, Option, None, Some}
+use Rattle.quiver.specs.declared.fault.QuiverFault.{QuiverFault}
+use Rattle.quiver.specs.declared.fault.QuiverFault.TheVariants.{DoubleName, TooMany, NotSquare, Memory}
+use Rattle.quiver.specs.Declarations.{Declaration, named_in, object_count, map_count}
+
+abbrev pub is_named : List Declaration → List ℕ → Bool
+is_named ds name = is_some (named_in ds name)
+
+-- of an object with this name
+abbrev pub object_fault : List Declaration → List ℕ → Option QuiverFault
+object_fault ds name =
+    if is_named ds name then Some DoubleName
+    else if nat_le 64 (object_count ds) then Some (TooMany 64)
+    else None
+
+-- of a map with this name and these ends, which is to be its own adjoint or not
+abbrev pub map_fault : List Declaration → List ℕ → ℕ → ℕ → Bool → Option QuiverFault
+map_fault ds name u v selfmade =
+    if is_named ds name then Some DoubleName
+    else if nat_le 200 (map_count ds) then Some (TooMany 200)
+    else if selfmade && not (nat_eq u v) then Some NotSquare
+    else None
+
+-- The fault that is found is the answer; want of memory is the answer only where there is none.
+abbrev pub Explains : Option QuiverFault → QuiverFault → Type 0
+Explains found DoubleName = found ≡ Some DoubleName
+Explains found (TooMany limit) = found ≡ Some (TooMany limit)
+Explains found NotSquare = found ≡ Some NotSquare
+Explains found (Memory e) = found ≡ None
+
+abbrev pub IsMemory : QuiverFault → Type 0
+IsMemory DoubleName = ⊥
+IsMemory (TooMany limit) = ⊥
+IsMemory NotSquare = ⊥
+IsMemory (Memory e) = ⊤
