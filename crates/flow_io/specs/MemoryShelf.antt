@@ -1,5 +1,5 @@
 -- A shelf in memory, by what it keeps.
-use Rattle.std.specs.Prelude.{ℕ, ◌≡◌, ◌+◌, ◌≤◌, ◌⊎◌, List, length, set, slice_index, Contains, Result, Ok, Err, Vec}
+use Rattle.std.specs.Prelude.{ℕ, ◌≡◌, ◌+◌, ◌≤◌, ◌⊎◌, List, length, replicate, set, slice_index, Contains, Result, Ok, Err, Vec}
 use Rattle.std.specs.declared.alloc.Global.{Global}
 use Rattle.flow_io.specs.declared.shelf.ShelfFault.{ShelfFault}
 use Rattle.flow_io.specs.declared.shelf.ShelfFault.TheVariants.{Failed, TooLong, Memory}
@@ -14,6 +14,10 @@ pub record ShelfState : Type 0 where
   pub failing : List ℕ
   pub loads : ℕ
   pub counts : List ℕ
+
+-- a shelf of which nothing was loaded
+abbrev pub new_shelf : Files → List ℕ → ShelfState
+new_shelf files failing = record { files = files; failing = failing; loads = 0; counts = replicate (length files + 1) 0 }
 
 -- the shelf with one load more; the new count is the number of that load
 abbrev pub with_load : ShelfState → ShelfState
@@ -33,7 +37,9 @@ LoadFails s name = Contains s.failing (next_count s.loads) ⊎ (file_under s.fil
 
 -- what a load answers, and the shelf after it
 abbrev pub LoadGives : ShelfState → List ℕ → ℕ → Result (Vec ℕ Global) ShelfFault → ShelfState → Type 0
-LoadGives old name most (Ok bytes) new = ¬ LoadFails old name × (file_under old.files name ≡ Holds bytes.items) × (length bytes.items ≤ most) × (new ≡ with_load old)
+LoadGives old name most (Ok bytes) new =
+    ¬ LoadFails old name × (file_under old.files name ≡ Holds bytes.items) × (length bytes.items ≤ most) × (new ≡ with_load old)
 LoadGives old name most (Err Failed) new = LoadFails old name × (new ≡ with_fault (with_load old) name)
-LoadGives old name most (Err (TooLong got)) new = ¬ LoadFails old name × MayExceed (file_under old.files name) most × (got ≡ most + 1) × (new ≡ with_load old)
+LoadGives old name most (Err (TooLong got)) new =
+    ¬ LoadFails old name × MayExceed (file_under old.files name) most × (got ≡ most + 1) × (new ≡ with_load old)
 LoadGives old name most (Err (Memory _)) new = ¬ LoadFails old name × (new ≡ with_load old)

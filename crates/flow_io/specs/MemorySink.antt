@@ -1,5 +1,5 @@
 -- A sink in memory, by what it keeps.
-use Rattle.std.specs.Prelude.{ℕ, ◌≡◌, ◌+◌, ◌<◌, ◌⊎◌, min, List, ◌++◌, length, take, Bool, true, false, Contains, Result, MatchResult}
+use Rattle.std.specs.Prelude.{ℕ, ◌≡◌, ◌+◌, ◌<◌, ◌⊎◌, min, List, [], ◌++◌, length, take, Bool, true, false, Contains, Result, MatchResult}
 use Rattle.flow_io.specs.declared.sink.SinkFault.{SinkFault}
 use Rattle.flow_io.specs.Causes.{next_count}
 
@@ -13,6 +13,18 @@ pub record SinkState : Type 0 where
   pub calls : ℕ
   pub faults : ℕ
   pub finished : Bool
+
+-- a sink that took nothing and was not called
+abbrev pub new_sink : ℕ → ℕ → List ℕ → SinkState
+new_sink most_per_put room failing = record {
+  bytes = [];
+  most_per_put = most_per_put;
+  room = room;
+  failing = failing;
+  calls = 0;
+  faults = 0;
+  finished = false;
+}
 
 -- the sink with one call more; the new count is the number of that call
 abbrev pub with_call : SinkState → SinkState
@@ -38,7 +50,8 @@ PutFails s piece = IsToFail s ⊎ (s.room < length s.bytes + at_once s piece)
 abbrev pub PutGives : SinkState → List ℕ → Result ℕ SinkFault → SinkState → Type 0
 PutGives old piece result new =
     MatchResult result
-    (λ count. ¬ PutFails old piece × (count ≡ at_once old piece) × (new ≡ record (with_call old) { bytes = old.bytes ++ take count piece; finished = false }))
+    (λ count. ¬ PutFails old piece × (count ≡ at_once old piece)
+    × (new ≡ record (with_call old) { bytes = old.bytes ++ take count piece; finished = false }))
     (λ _. PutFails old piece × (new ≡ with_fault (with_call old)))
 
 -- what a finish answers, and the sink after it

@@ -1,9 +1,9 @@
-ghost use Rattle.std.specs.Prelude.{◌≡◌, ◌≢◌, ◌+◌, ◌<◌, ◌≤◌, ◌↔◌, ℕ, List, Some, IfOk, AllPairs, length, replicate, set, slice_get, slice_index};
+ghost use Rattle.std.specs.Prelude.{◌≡◌, ◌≢◌, ◌+◌, ◌<◌, ◌≤◌, ◌↔◌, ℕ, List, Some, IfOk, AllPairs, length, set, slice_get, slice_index};
 ghost use Rattle.flow_io.specs.Causes.{Rose, next_count};
 ghost use Rattle.flow_io.specs.Shelf.{LoadAnswers};
 ghost use Rattle.flow_io.specs.Told.{Absent, Holds};
 ghost use Rattle.flow_io.specs.Files.{place_of, file_under};
-ghost use Rattle.flow_io.specs.MemoryShelf.{LoadGives, count_of};
+ghost use Rattle.flow_io.specs.MemoryShelf.{new_shelf, LoadGives, count_of};
 
 use crate::{Shelf, ShelfFault};
 use lists::{Listing, Text};
@@ -26,7 +26,12 @@ impl Model for MemoryShelf {
 
     ghost Value = { ShelfState };
 
-    ghost view = { λ shelf. record { files = shelf.files; failing = shelf.failing; loads = shelf.loads; counts = shelf.counts.items } };
+    ghost view = { λ shelf. record {
+      files = shelf.files;
+      failing = shelf.failing;
+      loads = shelf.loads;
+      counts = shelf.counts.items;
+    } };
 
     ghost invariant = { λ shelf. vec_len shelf.counts ≡ length shelf.files + 1 };
 }
@@ -39,7 +44,7 @@ impl MemoryShelf {
         failing: Listing<u64>,
     ) -> Result<MemoryShelf, AllocError>
         requires { AllPairs (λ one other. one.0 ≢ other.0) files }
-        ensures { IfOk result (λ shelf. shelf ≡ record { files = files; failing = failing; loads = 0; counts = replicate (length files + 1) 0 }) }
+        ensures { IfOk result (λ shelf. shelf ≡ new_shelf files failing) }
     {
         let counts = vec![in alloc; 0; files.len() + 1]?;
         Ok(MemoryShelf {
@@ -97,7 +102,8 @@ impl Shelf for MemoryShelf {
         requires { most < usize.MAX }
         ensures exact { LoadGives self.old name.now most result self.new }
         // as of the trait
-        ensures answer { LoadAnswers (file_under self.old.files name.now) most (count_of self.old name.now) (count_of self.new name.now) result }
+        ensures answer { LoadAnswers (file_under self.old.files name.now) most
+            (count_of self.old name.now) (count_of self.new name.now) result }
         ensures counts { (other : List ℕ) → count_of self.old other ≤ count_of self.new other }
     {
         self.loads = self.loads.saturating_add(1);

@@ -1,6 +1,6 @@
-ghost use Rattle.std.specs.Prelude.{◌≡◌, ◌<◌, ◌≤◌, [], Some, false, IfOk, OnErr, length};
+ghost use Rattle.std.specs.Prelude.{◌≡◌, ◌<◌, ◌≤◌, Some, IfOk, OnErr, length};
 ghost use Rattle.flow_io.specs.Causes.{Rose};
-ghost use Rattle.flow_io.specs.MemorySink.{PutGives, FinishGives};
+ghost use Rattle.flow_io.specs.MemorySink.{new_sink, PutGives, FinishGives};
 
 use crate::{Sink, SinkFault};
 use lists::Listing;
@@ -26,7 +26,15 @@ impl Model for MemorySink {
 
     ghost Value = { SinkState };
 
-    ghost view = { λ sink. record { bytes = sink.bytes.items; most_per_put = sink.most_per_put; room = sink.room; failing = sink.failing; calls = sink.calls; faults = sink.faults; finished = sink.finished } };
+    ghost view = { λ sink. record {
+      bytes = sink.bytes.items;
+      most_per_put = sink.most_per_put;
+      room = sink.room;
+      failing = sink.failing;
+      calls = sink.calls;
+      faults = sink.faults;
+      finished = sink.finished;
+    } };
 
     ghost invariant = { λ sink. (0 < sink.most_per_put) × (vec_len sink.bytes ≤ sink.room) × (sink.room ≤ vec_capacity sink.bytes) };
 }
@@ -40,7 +48,7 @@ impl MemorySink {
         failing: Listing<u64>,
     ) -> Result<MemorySink, AllocError>
         requires { 0 < most_per_put }
-        ensures { IfOk result (λ sink. sink ≡ record { bytes = []; most_per_put = most_per_put; room = room; failing = failing; calls = 0; faults = 0; finished = false }) }
+        ensures { IfOk result (λ sink. sink ≡ new_sink most_per_put room failing) }
     {
         Ok(MemorySink {
             bytes: Vec::with_capacity(alloc, room)?,

@@ -70,11 +70,13 @@ where
     let (left, right) = join(
         rt,
         || -> Result<Vec<J::Out>, AllocError>
-            requires { IsSync R.row × IsSync J.row × IsSync G.row × (ahead ≤ length front.now) × (first + length front.now < 2 ^ 64) × All (J.can_go job.now) front.now }
+            requires { IsSync R.row × IsSync J.row × IsSync G.row × (ahead ≤ length front.now)
+                × (first + length front.now < 2 ^ 64) × All (J.can_go job.now) front.now }
             ensures { IfOk result (λ v. AllZip (J.gives job.entry.now) front.entry.now v.items) }
         { spread(rt, alloc, front, first, job, ahead, gate) },
         || -> Result<Vec<J::Out>, AllocError>
-            requires { IsSync R.row × IsSync J.row × IsSync G.row × (behind ≤ length back.now) × (middle + length back.now < 2 ^ 64) × All (J.can_go job.now) back.now }
+            requires { IsSync R.row × IsSync J.row × IsSync G.row × (behind ≤ length back.now)
+                × (middle + length back.now < 2 ^ 64) × All (J.can_go job.now) back.now }
             ensures { IfOk result (λ v. AllZip (J.gives job.entry.now) back.entry.now v.items) }
         { spread(rt, alloc, back, middle, job, behind, gate) },
     );
