@@ -34,7 +34,7 @@ pub record Begins (claims : List (List (ℤ × List ℕ))) (c : Certificate) : T
 -- And each row passes.
 pub record AddsUp (claims generators : List (List (ℤ × List ℕ))) (c : Certificate) : Type 0 where
   pub begins : Begins claims c
-  pub rows : RowsPass generators (rows_of c.rows) (length c.rows)
+  pub rows : RowsPass generators (rows_of c.rows) (length (rows_of c.rows))
 
 -- And the sum of the rows is the denominator times the claim.
 pub record Accepts (claims generators : List (List (ℤ × List ℕ))) (c : Certificate) : Type 0 where
@@ -63,3 +63,13 @@ Refuses claims generators c (refusal.NoSuchGenerator row) = Begins claims c × L
 Refuses claims generators c (refusal.Size row) = Begins claims c × Outgrows generators (rows_of c.rows) row
 Refuses claims generators c (refusal.Differs word want got) = SumDiffers claims generators c word want got
 Refuses claims generators c (refusal.Memory failed) = ⊤
+
+-- want of memory, which alone can come at any time
+abbrev pub IsMemory : Refusal → Type 0
+IsMemory refusal.NoSuchClaim = ⊥
+IsMemory refusal.ZeroDenominator = ⊥
+IsMemory (refusal.Overflow row overflow) = ⊥
+IsMemory (refusal.NoSuchGenerator row) = ⊥
+IsMemory (refusal.Size row) = ⊥
+IsMemory (refusal.Differs word want got) = ⊥
+IsMemory (refusal.Memory failed) = ⊤

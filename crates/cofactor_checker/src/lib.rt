@@ -1,13 +1,17 @@
 //! Checks a certificate: adds up its rows, and compares the sum with the denominator times the claim.
 #![tactic(auto)]
 
-ghost use Rattle.std.specs.Prelude.{◌≡◌, ◌≤◌, length, All, MatchResult};
+ghost use Rattle.std.specs.Prelude.{◌≡◌, ◌≤◌, length, All, IfOk, IfErr, OnOk};
 ghost use Rattle.coef_int.specs.Range.{IsCoefficient};
-ghost use Rattle.cofactor_checker.specs.Acceptance.{polynomials, Accepts, Refuses};
+ghost use Rattle.cofactor_checker.specs.Acceptance.{polynomials, claim_of, Accepts, Refuses, IsMemory};
+ghost use Rattle.cofactor_trace.specs.Rows.{rows_of};
+ghost use Rattle.definitions.specs.Combination.{IsCombination};
 
 mod compare;
 mod rows;
 mod sum;
+#[cfg(test)]
+mod tests;
 
 use coef_int::Overflow;
 use cofactor_trace::Certificate;
@@ -58,7 +62,11 @@ pub fn check(
     requires rows { length certificate.now.rows ≤ 4294967295 }
     requires denominator { IsCoefficient certificate.now.denominator }
     requires coefficients { All (λ r. IsCoefficient r.coef) certificate.now.rows }
-    ensures { MatchResult result (λ accepted. Accepts (polynomials claims.now) (polynomials generators.now) certificate.now × (accepted ≡ record { claim = certificate.now.claim; denominator = certificate.now.denominator })) (Refuses (polynomials claims.now) (polynomials generators.now) certificate.now) }
+    ensures accepted { IfOk result (λ accepted. accepted ≡ record { claim = certificate.now.claim; denominator = certificate.now.denominator }) }
+    ensures accepts { OnOk result (Accepts (polynomials claims.now) (polynomials generators.now) certificate.now) }
+    ensures combination { OnOk result (IsCombination (polynomials generators.now) (rows_of certificate.now.rows) certificate.now.denominator (claim_of (polynomials claims.now) certificate.now)) }
+    ensures refuses { IfErr result (Refuses (polynomials claims.now) (polynomials generators.now) certificate.now) }
+    ensures complete { Accepts (polynomials claims.now) (polynomials generators.now) certificate.now → IfErr result IsMemory }
 {
     let Some(claim) = numbered(claims, certificate.claim) else {
         return Err(Refusal::NoSuchClaim);

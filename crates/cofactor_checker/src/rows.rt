@@ -54,7 +54,7 @@ pub(crate) fn add_rows(
     requires coefficients { All (λ r. IsCoefficient r.coef) rows.now }
     ensures running { IfOk result IsRunning }
     ensures sum { IfOk result (λ m. IsSumOf m (row_sum (polynomials generators.now) (rows_of rows.now))) }
-    ensures passed { OnOk result (RowsPass (polynomials generators.now) (rows_of rows.now) (length rows.now)) }
+    ensures passed { OnOk result (RowsPass (polynomials generators.now) (rows_of rows.now) (length (rows_of rows.now))) }
     ensures refused { IfErr result (RefusesRow (polynomials generators.now) (rows_of rows.now)) }
 {
     let mut sum = BTreeMap::new(alloc);
