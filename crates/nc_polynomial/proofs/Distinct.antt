@@ -1,5 +1,5 @@
 -- Terms with different words.
-use Rattle.std.proofs.Common.{◌≡◌, ℕ, pos, ◌+ℤ◌, Bool, true, false, List, [], ◌∷◌, sym, refl, ap, subst, ◌∙◌, arith}
+use Rattle.std.proofs.Common.{◌≡◌, ◌≢◌, ◌++◌, ℕ, pos, ◌+ℤ◌, Bool, true, false, List, [], ◌∷◌, sym, refl, ap, subst, ◌∙◌, arith}
 use Rattle.std.proofs.Math.IntN.{+ℤ_idr}
 use Rattle.std.specs.List.{AllByRecursion}
 use Rattle.std.specs.Ordering.{is_eq}
@@ -38,7 +38,7 @@ ranged-distinct (t ∷ p) d h = (subst IsCoefficient (first_coefficient t p d.0)
         in_range-zero = omega arith
     rest w false e = subst IsCoefficient (coefficient_other w t p e) (h w)
 
-distinct-descending : (p : List Term) → Descends p → AreDistinct p
+pub distinct-descending : (p : List Term) → Descends p → AreDistinct p
 distinct-descending [] d = tt
 distinct-descending (t ∷ p) d = (apart p d.0, distinct-descending p d.1)
   where
@@ -48,3 +48,29 @@ distinct-descending (t ∷ p) d = (apart p d.0, distinct-descending p d.1)
 
 pub ranged-descending : (p : List Term) → Descends p → ((w : List ℕ) → IsCoefficient (coefficient_of p w)) → AllByRecursion (λ t. IsCoefficient t.0) p
 ranged-descending p d = ranged-distinct p (distinct-descending p d)
+
+pub apart-before : (front : List Term) (t : Term) (rest : List Term) → Descends (front ++ t ∷ rest) → AllByRecursion (λ u. word_eq u.1 t.1 ≡ false) front
+apart-before [] t rest d = tt
+apart-before (u ∷ front) t rest d = (word_eq-cmp u.1 t.1 ∙ ap is_eq (at front d.0), apart-before front t rest d.1)
+  where
+    at : (xs : List Term) → AllByRecursion (λ x. word_cmp u.1 x.1 ≡ Greater) (xs ++ t ∷ rest) → word_cmp u.1 t.1 ≡ Greater
+    at [] h = h.0
+    at (x ∷ xs) h = at xs h.1
+
+-- where the integers beside the words are in range, so is each coefficient
+pub coefficient-ranged : (p : List Term) → AreDistinct p → AllByRecursion (λ t. IsCoefficient t.0) p → (w : List ℕ) → IsCoefficient (coefficient_of p w)
+coefficient-ranged [] d h w = omega arith
+coefficient-ranged (t ∷ p) d h w = go (word_eq t.1 w) refl (coefficient-ranged p d.1 h.1 w)
+  where
+    go : (b : Bool) → word_eq t.1 w ≡ b → IsCoefficient (coefficient_of p w) → IsCoefficient (coefficient_of (t ∷ p) w)
+    go true e rest = subst IsCoefficient (sym (ap (coefficient_of (t ∷ p)) (sym (word_eq-true t.1 w e)) ∙ first_coefficient t p d.0)) h.0
+    go false e rest = subst IsCoefficient (sym (coefficient_other w t p e)) rest
+
+-- what holds of each word with a coefficient holds of each word that stands there
+pub words_listed : (P : List ℕ → Type 0) (p : List Term) → AreDistinct p → AllByRecursion (λ t. t.0 ≢ pos 0) p → ((w : List ℕ) → coefficient_of p w ≢ pos 0 → P w) → AllByRecursion (λ t. P t.1) p
+words_listed P [] d h each = tt
+words_listed P (t ∷ p) d h each = (each t.1 (λ e. h.0 (sym (first_coefficient t p d.0) ∙ e)), words_listed P p d.1 h.1 (λ w there. each w (λ e. there (go w (word_eq t.1 w) refl e))))
+  where
+    go : (w : List ℕ) (b : Bool) → word_eq t.1 w ≡ b → coefficient_of (t ∷ p) w ≡ pos 0 → coefficient_of p w ≡ pos 0
+    go w true same e = ap (coefficient_of p) (sym (word_eq-true t.1 w same)) ∙ none_listed t.1 p d.0
+    go w false other e = sym (coefficient_other w t p other) ∙ e

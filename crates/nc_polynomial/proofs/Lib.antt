@@ -13,4 +13,5 @@ pub mod CollectedTerms
 pub mod Divisors
 pub mod Around
 pub mod Products
+pub mod Adjoints
 pub mod Rests

@@ -1,5 +1,5 @@
 -- The terms of a table of words.
-use Rattle.std.proofs.Common.{◌≡◌, ◌≢◌, ℕ, ℤ, pos, ◌+ℤ◌, Bool, true, false, cond, List, [], ◌∷◌, ◌++◌, map, Some, unwrap_or, sym, refl, ap, subst, ◌∙◌, arith, append_assoc}
+use Rattle.std.proofs.Common.{◌≡◌, ◌≢◌, ℕ, zero, suc, ◌+◌, ◌≤◌, ℤ, pos, negsuc, ◌+ℤ◌, length, Bool, true, false, cond, List, [], ◌∷◌, ◌++◌, map, Some, unwrap_or, sym, refl, ap, subst, ◌∙◌, arith, append_assoc}
 use Rattle.std.proofs.lemmas.Int.{ints}
 use Rattle.std.proofs.Math.IntN.{+ℤ_idr}
 use Rattle.std.specs.List.{AllByRecursion}
@@ -120,3 +120,15 @@ module _ (table : BTreeMap (List ℕ) ℤ) (sorted : IsOrdered word_cmp table) w
     nonzero = All-from_recursion (λ t. t.0 ≢ pos 0) (reversed table.entries []) nonzero-table;
     in_range = All-from_recursion (λ t. IsCoefficient t.0) (reversed table.entries []) (ranged-descending (reversed table.entries []) descending-table (λ w. subst IsCoefficient (sym (coefficient_of-table w)) (in_range w)));
   }
+
+length-keep : (z : ℤ) (w : List ℕ) (p : List Term) → length (keep z w p) ≤ length p + 1
+length-keep (pos zero) w p = omega arith
+length-keep (pos (suc n)) w p = omega arith
+length-keep (negsuc n) w p = omega arith
+
+pub length-reversed : (entries : List Entry) (later : List Term) → length (reversed entries later) ≤ length entries + length later
+length-reversed [] later = omega arith
+length-reversed (e ∷ entries) later =
+    let rest = length-reversed entries (keep e.1 e.0 later) in
+    let first = length-keep e.1 e.0 later in
+    omega arith

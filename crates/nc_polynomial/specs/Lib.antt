@@ -7,3 +7,4 @@ pub mod Ascending
 pub mod Collected
 pub mod Product
 pub mod Content
+pub mod Adjoint

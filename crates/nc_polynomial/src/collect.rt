@@ -1,18 +1,18 @@
-ghost use Rattle.std.specs.Prelude.{◌≡◌, ◌+ℤ◌, ℕ, List, [], ◌∷◌, ◌++◌, IfOk, IfErr, OnOk, MatchResult, Ok};
+ghost use Rattle.std.specs.Prelude.{◌≡◌, ◌+ℤ◌, ℕ, List, [], ◌∷◌, ◌++◌, IfOk, OnOk, MatchResult, Ok};
 ghost use Rattle.std.specs.List.{All};
 ghost use Rattle.std.specs.BTreeMap.{IsOrdered};
 ghost use Rattle.coef_int.specs.Range.{IsCoefficient};
 ghost use Rattle.coef_int.specs.Operations.{sum_of};
 ghost use Rattle.definitions.specs.Poly.{SamePolynomial, coefficient_of};
 ghost use Rattle.word_core.specs.Canonical.{word_cmp};
-ghost use Rattle.nc_polynomial.specs.Faults.{Explains, IsMemory, checked};
+ghost use Rattle.nc_polynomial.specs.Faults.{Explains, checked};
 ghost use Rattle.nc_polynomial.specs.Collected.{collection_result, coefficient_in};
 ghost use Rattle.nc_polynomial.specs.Ascending.{reversed};
 
 use crate::terms::push_nonzero;
 use crate::{Poly, PolyFault};
 use lists::Listing;
-use std::alloc::Global;
+use std::alloc::{AllocError, Global};
 use std::collections::BTreeMap;
 use word_core::Word;
 
@@ -60,12 +60,11 @@ fn add_term(
 }
 
 // The nonzero coefficients with their words, descending.
-fn descending(
+pub(crate) fn descending(
     alloc: Global,
     mut table: BTreeMap<Word, i128>,
-) -> Result<Listing<(i128, Word)>, PolyFault>
-    ensures value { IfOk result (λ terms. terms ≡ reversed table.entries []) }
-    ensures err { IfErr result IsMemory }
+) -> Result<Listing<(i128, Word)>, AllocError>
+    ensures { IfOk result (λ terms. terms ≡ reversed table.entries []) }
 {
     let mut terms = Listing::new(alloc);
     while let Some((word, coefficient)) = table.pop_last() {

@@ -1,6 +1,7 @@
 //! Polynomials in letters that do not commute, with exact arithmetic or the first fault.
 #![tactic(auto)]
 
+mod adjoint;
 mod collect;
 mod combine;
 mod content;

@@ -1,10 +1,10 @@
 //! Lists of terms of any size, most of which are given away, so that no word is copied.
-ghost use Rattle.std.specs.Prelude.{◌≡◌, ◌≤◌, ◌+◌, ◌<◌, ◌++◌, [], ◌∷◌, pos, length, MatchResult, MatchOption, IfSome, IfOk, OnOk, IfErr, Ok};
+ghost use Rattle.std.specs.Prelude.{◌≡◌, ◌≤◌, ◌+◌, ◌<◌, ◌++◌, [], ◌∷◌, pos, length, MatchResult, MatchOption, IfSome, IfOk, OnOk, Ok};
 ghost use Rattle.std.specs.List.{All};
 ghost use Rattle.coef_int.specs.Range.{IsCoefficient};
 ghost use Rattle.coef_int.specs.Operations.{product_of, sum_of};
 ghost use Rattle.nc_polynomial.specs.Terms.{keep, scaled, products, multiplied, multiplications, shifted, negated, aligned, added, sums};
-ghost use Rattle.nc_polynomial.specs.Faults.{checked, Explains, IsMemory};
+ghost use Rattle.nc_polynomial.specs.Faults.{checked, Explains};
 ghost use Rattle.nc_polynomial.specs.Sides.{side_of};
 
 use crate::PolyFault;
@@ -19,9 +19,8 @@ pub(crate) fn push_nonzero(
     terms: &mut Listing<(i128, Word)>,
     coefficient: i128,
     word: Word,
-) -> Result<(), PolyFault>
-    ensures ok { OnOk result (terms.new ≡ terms.old ++ keep coefficient word []) }
-    ensures err { IfErr result IsMemory }
+) -> Result<(), AllocError>
+    ensures { OnOk result (terms.new ≡ terms.old ++ keep coefficient word []) }
 {
     if coefficient != 0 {
         terms.push((coefficient, word))?;
@@ -115,10 +114,9 @@ pub(crate) fn surrounded(left: &Word, word: &Word, right: &Word) -> Result<Word,
 pub fn negate_terms(
     alloc: Global,
     terms: Listing<(i128, Word)>,
-) -> Result<Listing<(i128, Word)>, PolyFault>
-    requires in_range { All (λ t. IsCoefficient t.0) terms }
-    ensures value { IfOk result (λ v. v ≡ negated terms) }
-    ensures err { IfErr result IsMemory }
+) -> Result<Listing<(i128, Word)>, AllocError>
+    requires { All (λ t. IsCoefficient t.0) terms }
+    ensures { IfOk result (λ v. v ≡ negated terms) }
 {
     let mut turned = Listing::new(alloc);
     let mut rest = VecDeque::from_vec(terms.into_vec());
