@@ -11,7 +11,7 @@ use Rattle.quiver.specs.declared.quiver.LetterEntry as code_letter
 use Rattle.quiver.specs.Declarations.{Declaration, name_of, named_by, named_in, objects_made, letters_made, object_table, letter_table, naming_table, IsDeclared}
 use Rattle.quiver.specs.Tables.{object_entry, letter_entry, objects_in, letters_in, names_in, declarations_by, declarations, IsKept}
 use Rattle.quiver.proofs.Fields.{named_in-names}
-use Rattle.quiver.proofs.Growth.{next_turn, object_table-more, letter_table-more, naming_table-more, declarations_by-tables}
+use Rattle.quiver.proofs.Growth.{next_turn, object_table-more, letter_table-more, naming_table-append, declarations_by-tables}
 
 -- What is added to the fields of a quiver with the declarations ds for the declaration d.
 pub record Adds (old new : Inside) (ds : List Declaration) (d : Declaration) : Type 0 where
@@ -50,7 +50,7 @@ module _ (old new : Inside) (ds : List Declaration) (d : Declaration) (view_is :
       ap (map (λ e. (string_bytes e.0, e.1))) (adds.new_names ∙ insert_entry-new string_eq old.names adds.key adds.named absent)
       ∙ map-append (λ e. (string_bytes e.0, e.1)) old.names.entries ((adds.key, adds.named) ∷ [])
       ∙ ap₂ (λ xs x. xs ++ x ∷ []) (kept.names ∙ ap naming_table view_is) (ap₂ (λ x y. (x, y)) adds.key_is adds.named_is)
-      ∙ sym (naming_table-more ds d)
+      ∙ sym (naming_table-append ds (d ∷ []))
 
   pub declarations_added : declarations new ≡ ds ++ d ∷ []
   declarations_added = ap₂ declarations_by letters_table names_table ∙ declarations_by-tables (ds ++ d ∷ [])

@@ -4,7 +4,7 @@ use Rattle.std.specs.List.{flat_map}
 use Rattle.std.proofs.lemmas.Grind.{flat_map-append}
 use Rattle.std.proofs.lemmas.List.{map-append, append-nil, append_assoc, length-append}
 use Rattle.std.proofs.Math.Seq.{get_or-append_seam}
-use Rattle.quiver.specs.Declarations.{Declaration, object, arrow, name_of, objects_of, letters_of, object_count, letter_count, Turn, turns_from, turns, named_by, objects_made, letters_made, LetterEntry, object_table, letter_table, naming_table}
+use Rattle.quiver.specs.Declarations.{Declaration, object, arrow, name_of, objects_of, letters_of, object_count, letter_count, Turn, turns_from, turns, named_by, objects_made, letters_made, ObjectEntry, LetterEntry, object_table, letter_table, naming_table}
 use Rattle.quiver.specs.declared.named.Named.{Named}
 use Rattle.quiver.specs.Tables.{letter_in, declarations_by}
 
@@ -16,48 +16,63 @@ turn d p v a = record { declared = d; place = p; object = v; letter = a }
 abbrev pub next_turn : List Declaration → Declaration → Turn
 next_turn ds d = turn d (length ds) (object_count ds) (letter_count ds)
 
-same_turn : (d : Declaration) {p p' v v' a a' : ℕ} → p ≡ p' → v ≡ v' → a ≡ a' → turn d p v a ≡ turn d p' v' a'
-same_turn d p_is v_is a_is = λ j. turn d (p_is j) (v_is j) (a_is j)
+-- the tables from these numbers on
+abbrev pub objects_from : ℕ → ℕ → ℕ → List Declaration → List ObjectEntry
+objects_from p v a ds = flat_map (λ t. objects_made t.declared t) (turns_from p v a ds)
 
-turns_more : (p v a : ℕ) (ds : List Declaration) (d : Declaration)
-    → turns_from p v a (ds ++ d ∷ []) ≡ turns_from p v a ds ++ turn d (p + length ds) (v + object_count ds) (a + letter_count ds) ∷ []
-turns_more p v a [] d = ap (λ t. t ∷ []) (same_turn d (omega arith) (omega arith) (omega arith))
-turns_more p v a (e ∷ ds) d =
-    ap (λ ts. turn e p v a ∷ ts)
-    (turns_more (p + 1) (v + objects_of e) (a + letters_of e) ds d
-    ∙ ap (λ t. turns_from (p + 1) (v + objects_of e) (a + letters_of e) ds ++ t ∷ []) (same_turn d (omega arith) (omega arith) (omega arith)))
-
-module _ (ds : List Declaration) (d : Declaration) where
-  pub turns-more : turns (ds ++ d ∷ []) ≡ turns ds ++ next_turn ds d ∷ []
-  turns-more = turns_more 0 0 0 ds d ∙ ap (λ t. turns ds ++ t ∷ []) (same_turn d (omega arith) (omega arith) (omega arith))
-
-  pub object_table-more : object_table (ds ++ d ∷ []) ≡ object_table ds ++ objects_made d (next_turn ds d)
-  object_table-more =
-      ap (flat_map (λ t. objects_made t.declared t)) turns-more
-      ∙ flat_map-append (λ t. objects_made t.declared t) (turns ds) (next_turn ds d ∷ [])
-      ∙ ap (λ more. object_table ds ++ more) (append-nil _)
-
-  pub letter_table-more : letter_table (ds ++ d ∷ []) ≡ letter_table ds ++ letters_made d (next_turn ds d)
-  letter_table-more =
-      ap (flat_map (λ t. letters_made t.declared t)) turns-more
-      ∙ flat_map-append (λ t. letters_made t.declared t) (turns ds) (next_turn ds d ∷ [])
-      ∙ ap (λ more. letter_table ds ++ more) (append-nil _)
-
-  pub naming_table-more : naming_table (ds ++ d ∷ []) ≡ naming_table ds ++ (name_of d, named_by d (next_turn ds d)) ∷ []
-  naming_table-more =
-      ap (map (λ t. (name_of t.declared, named_by t.declared t))) turns-more
-      ∙ map-append (λ t. (name_of t.declared, named_by t.declared t)) (turns ds) (next_turn ds d ∷ [])
-
--- ---- from the tables back
 abbrev pub letters_from : ℕ → ℕ → ℕ → List Declaration → List LetterEntry
 letters_from p v a ds = flat_map (λ t. letters_made t.declared t) (turns_from p v a ds)
 
+abbrev pub names_from : ℕ → ℕ → ℕ → List Declaration → List (List ℕ × Named)
+names_from p v a ds = map (λ t. (name_of t.declared, named_by t.declared t)) (turns_from p v a ds)
+
+turns_from-append : (p v a : ℕ) (xs ys : List Declaration)
+    → turns_from p v a (xs ++ ys) ≡ turns_from p v a xs ++ turns_from (p + length xs) (v + object_count xs) (a + letter_count xs) ys
+turns_from-append p v a [] ys =
+    let place : p ≡ p + 0 = omega arith in
+    let object_is : v ≡ v + 0 = omega arith in
+    let letter : a ≡ a + 0 = omega arith in
+    λ j. turns_from (place j) (object_is j) (letter j) ys
+turns_from-append p v a (d ∷ xs) ys =
+    let place : p + 1 + length xs ≡ p + length (d ∷ xs) = omega arith in
+    let object_is : v + objects_of d + object_count xs ≡ v + object_count (d ∷ xs) = omega arith in
+    let letter : a + letters_of d + letter_count xs ≡ a + letter_count (d ∷ xs) = omega arith in
+    ap (λ ts. turn d p v a ∷ ts)
+    (turns_from-append (p + 1) (v + objects_of d) (a + letters_of d) xs ys
+    ∙ (λ j. turns_from (p + 1) (v + objects_of d) (a + letters_of d) xs ++ turns_from (place j) (object_is j) (letter j) ys))
+
+-- ---- declarations after others
+module _ (xs ys : List Declaration) where
+  turns-append : turns (xs ++ ys) ≡ turns xs ++ turns_from (length xs) (object_count xs) (letter_count xs) ys
+  turns-append =
+      let place : 0 + length xs ≡ length xs = omega arith in
+      let object_is : 0 + object_count xs ≡ object_count xs = omega arith in
+      let letter : 0 + letter_count xs ≡ letter_count xs = omega arith in
+      turns_from-append 0 0 0 xs ys ∙ (λ j. turns xs ++ turns_from (place j) (object_is j) (letter j) ys)
+
+  pub object_table-append : object_table (xs ++ ys) ≡ object_table xs ++ objects_from (length xs) (object_count xs) (letter_count xs) ys
+  object_table-append = ap (flat_map (λ t. objects_made t.declared t)) turns-append ∙ flat_map-append (λ t. objects_made t.declared t) (turns xs) _
+
+  pub letter_table-append : letter_table (xs ++ ys) ≡ letter_table xs ++ letters_from (length xs) (object_count xs) (letter_count xs) ys
+  letter_table-append = ap (flat_map (λ t. letters_made t.declared t)) turns-append ∙ flat_map-append (λ t. letters_made t.declared t) (turns xs) _
+
+  pub naming_table-append : naming_table (xs ++ ys) ≡ naming_table xs ++ names_from (length xs) (object_count xs) (letter_count xs) ys
+  naming_table-append =
+      ap (map (λ t. (name_of t.declared, named_by t.declared t))) turns-append
+      ∙ map-append (λ t. (name_of t.declared, named_by t.declared t)) (turns xs) _
+
+-- one declaration more
+module _ (ds : List Declaration) (d : Declaration) where
+  pub object_table-more : object_table (ds ++ d ∷ []) ≡ object_table ds ++ objects_made d (next_turn ds d)
+  object_table-more = object_table-append ds (d ∷ []) ∙ ap (λ more. object_table ds ++ more) (append-nil _)
+
+  pub letter_table-more : letter_table (ds ++ d ∷ []) ≡ letter_table ds ++ letters_made d (next_turn ds d)
+  letter_table-more = letter_table-append ds (d ∷ []) ∙ ap (λ more. letter_table ds ++ more) (append-nil _)
+
+-- ---- from the tables back
 -- the entry at its number, behind those before it
 pub letter_in_seam : (before after : List LetterEntry) (a : ℕ) (e : LetterEntry) → length before ≡ a → letter_in (before ++ e ∷ after) a ≡ e
 letter_in_seam before after a e at = ap (letter_in (before ++ e ∷ after)) (sym at) ∙ get_or-append_seam before e after _
-
-abbrev names_from : ℕ → ℕ → ℕ → List Declaration → List (List ℕ × Named)
-names_from p v a ds = map (λ t. (name_of t.declared, named_by t.declared t)) (turns_from p v a ds)
 
 -- a letter is its own adjoint where its number is that of its entry
 own_adjoint : (a : ℕ) → nat_eq a a ≡ true

@@ -9,3 +9,4 @@ pub mod Added
 pub mod Continued
 pub mod SameSignature
 pub mod TypedTerms
+pub mod Found

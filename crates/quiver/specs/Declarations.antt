@@ -1,5 +1,5 @@
 -- The declarations of a quiver, in their order, and the objects and letters that they number.
-use Rattle.std.specs.Prelude.{◌≢◌, ℕ, ◌+◌, ◌≤◌, Bool, true, false, ◌&&◌, ◌||◌, not, nat_eq, nat_lt, IsTrue, if◌then◌else◌, List, [], ◌∷◌, map, AllPairs, get_or, Option}
+use Rattle.std.specs.Prelude.{◌≡◌, ◌≢◌, ℕ, ◌+◌, ◌<◌, ◌≤◌, Bool, true, false, ◌&&◌, ◌||◌, not, nat_eq, nat_lt, IsTrue, if◌then◌else◌, List, [], ◌∷◌, map, AllPairs, get_or, Option}
 use Rattle.std.specs.List.{flat_map, list_all}
 use Rattle.std.specs.Map.{lookup}
 use Rattle.std.specs.Str.{bytes_eq}
@@ -134,6 +134,11 @@ object_name ds v = name_at ds (object_at ds v).declaration
 
 abbrev pub letter_name : List Declaration → ℕ → List ℕ
 letter_name ds a = name_at ds (letter_at ds a).declaration
+
+-- an object or a letter of the quiver, with this name
+abbrev pub IsNamed : List Declaration → List ℕ → Named → Type 0
+IsNamed ds name (Object v) = (v.0 < object_count ds) × (object_name ds v.0 ≡ name)
+IsNamed ds name (Map a) = (a.0 < letter_count ds) × (letter_name ds a.0 ≡ name)
 
 -- Every object is declared before the first map.
 abbrev pub is_arrow : Declaration → Bool

@@ -1,6 +1,6 @@
-ghost use Rattle.std.specs.Prelude.{◌≡◌, ◌<◌, ◌≤◌, ◌++◌, ◌∷◌, [], IfOk, IfErr, OnOk, OnErr, None, Some};
+ghost use Rattle.std.specs.Prelude.{◌≡◌, ◌<◌, ◌≤◌, ◌++◌, ◌∷◌, [], IfOk, IfErr, IfSome, OnOk, OnErr, None, Some};
 ghost use Rattle.definitions.specs.Quiver.{IsQuiver, star, source, target};
-ghost use Rattle.quiver.specs.Declarations.{object, arrow, object_count, map_count, letter_count, named_in, name_at, object_at, letter_at, object_name, letter_name, identity_in, quiver_of, IsDeclared, ObjectsFirst};
+ghost use Rattle.quiver.specs.Declarations.{object, arrow, object_count, map_count, letter_count, named_in, name_at, object_at, letter_at, object_name, letter_name, identity_in, quiver_of, IsNamed, IsDeclared, ObjectsFirst};
 ghost use Rattle.quiver.specs.Tables.{object_entry, letter_entry};
 ghost use Rattle.quiver.specs.Refusals.{object_fault, map_fault, Explains};
 
@@ -190,7 +190,8 @@ impl Quiver {
 
     /// What the name stands for, and `None` where it isn't declared.
     pub fn find(&self, name: &str) -> Option<Named>
-        ensures { result ≡ named_in self.now name.now }
+        ensures exact { result ≡ named_in self.now name.now }
+        ensures named { IfSome result (IsNamed self.now name.now) }
     {
         self.names.get(name).copied()
     }
