@@ -1,0 +1,34 @@
+-- The statement that a text of the first form stands for.
+use Rattle.std.specs.Prelude.{ℕ, nat_le, List, [], ◌∷◌, length, Option, Some, None, if◌then◌else◌}
+use Rattle.std.specs.Option.{option_map, option_and_then}
+use Rattle.definitions.specs.Poly.{Term}
+use Rattle.quiver.specs.Declarations.{Declaration}
+use Rattle.first_form.specs.declared.line.Line.{Line}
+use Rattle.first_form.specs.Each.{each_of}
+use Rattle.first_form.specs.Text.{lines_of}
+use Rattle.first_form.specs.Lines.{line_of}
+use Rattle.first_form.specs.Context.{Context, with_objects_of, with_lines}
+
+-- The objects and then the maps of a statement, the polynomials of its assumptions in their order, and that of its claim.
+pub record Stated : Type 0 where
+  pub declared : List Declaration
+  pub assumptions : List (List Term)
+  pub claim : List Term
+
+-- at most 500 assumptions, and a claim
+abbrev pub stated_in : Context → Option Stated
+stated_in c =
+    if nat_le (length c.assumptions) 500
+    then option_map (λ claim. record { declared = c.declared; assumptions = c.assumptions; claim = claim }) c.claim
+    else None
+
+abbrev pub first_context : List Declaration → Context
+first_context ds = record { objects = []; declared = ds; assumptions = []; claim = None }
+
+-- what is known below all lines: the objects of the statement are numbered before the first map
+abbrev pub known_by : List Line → Option Context
+known_by lines = option_and_then (λ ds. with_lines (first_context ds) lines) (with_objects_of [] lines)
+
+-- the statement that the bytes spell
+abbrev pub statement_of : List ℕ → Option Stated
+statement_of bytes = option_and_then stated_in (option_and_then known_by (option_and_then (each_of line_of) (lines_of bytes)))

@@ -1,0 +1,14 @@
+//! The first form of statements and certificates: definitions over bytes, and readers that are exact against them.
+#![tactic(auto)]
+
+mod context;
+mod declare;
+mod equation;
+mod fault;
+mod line;
+mod names;
+mod statement;
+mod text;
+
+pub use fault::FormFault;
+pub use statement::{Statement, read_statement};
