@@ -5,3 +5,4 @@ pub mod Parts
 pub mod Ends
 pub mod Numbers
 pub mod TextLines
+pub mod Small

@@ -6,3 +6,4 @@ pub mod Lines
 pub mod Context
 pub mod Statement
 pub mod Views
+pub mod Certificate

@@ -25,7 +25,7 @@ fn coefficient_of(product: &Product) -> Option<i128>
     ensures in_range { IfSome result IsCoefficient }
 {
     let value = match &product.literal {
-        Some(digits) => literal_of(digits)?,
+        Some(digits) => literal_of(digits.as_str())?,
         None => 1,
     };
     Some(if product.negative { -value } else { value })
@@ -41,7 +41,7 @@ fn letter_in(quiver: &Quiver, name: &Text) -> Option<Letter>
     }
 }
 
-fn word_of(alloc: Global, quiver: &Quiver, names: &[Text]) -> Result<Word, FormFault>
+pub(crate) fn word_of(alloc: Global, quiver: &Quiver, names: &[Text]) -> Result<Word, FormFault>
     ensures exact { Reads result (word_of quiver.now names.now) }
     ensures over { IfOk result (IsOver (letter_count quiver.now)) }
 {

@@ -1,7 +1,9 @@
 //! The first form of statements and certificates: definitions over bytes, and readers that are exact against them.
 #![tactic(auto)]
 
+mod certificate;
 mod context;
+mod cut;
 mod declare;
 mod equation;
 mod fault;
@@ -10,5 +12,6 @@ mod names;
 mod statement;
 mod text;
 
+pub use certificate::read_certificate;
 pub use fault::FormFault;
 pub use statement::{Statement, read_statement};

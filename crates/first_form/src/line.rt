@@ -91,7 +91,7 @@ fn product_of(alloc: Global, negative: bool, words: &[Text]) -> Result<Product, 
     let [first, rest @ ..] = words else {
         return Err(FormFault::Form);
     };
-    let (literal, names) = if are_digits(first) {
+    let (literal, names) = if are_digits(first.as_str()) {
         (Some(first.duplicate()?), rest)
     } else {
         (None, words)

@@ -62,19 +62,19 @@ pub(crate) fn with_copies(
 }
 
 /// Whether each byte of the word is a digit.
-pub(crate) fn are_digits(word: &Text) -> bool
+pub(crate) fn are_digits(word: &str) -> bool
     ensures { result ≡ are_digits word.now }
 {
-    let bytes = word.as_str().as_bytes();
+    let bytes = word.as_bytes();
     bytes.iter().all(|byte| byte.is_ascii_digit())
 }
 
 /// The value of decimal digits, and `None` where it is more than 2^127 - 1 or the word is none of digits.
-pub(crate) fn literal_of(word: &Text) -> Option<i128>
+pub(crate) fn literal_of(word: &str) -> Option<i128>
     ensures { result ≡ option_map pos (literal_of word.now) }
 {
     if !are_digits(word) {
         return None;
     }
-    word.as_str().parse().ok()
+    word.parse().ok()
 }

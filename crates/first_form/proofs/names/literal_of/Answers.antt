@@ -5,5 +5,5 @@ use Rattle.first_form.proofs.names.literal_of.Goals as goal
 
 pub returns : goal.returns
 returns c =
-    let all : are_digits c.as_str.result.now ≡ true = search rules in
-    rw (c.ok.ensures.value, ← c.as_str.ensures) (literal_read c.as_str.result.now c.parse.result all c.parse.ensures.value.0)
+    let all : are_digits c.args.word.now ≡ true = search rules in
+    rw c.ok.ensures.value (literal_read c.args.word.now c.parse.result all c.parse.ensures.value.0)
