@@ -5,3 +5,8 @@ pub mod Parts
 pub mod Ends
 pub mod Numbers
 pub mod TextLines
+pub mod Inversions
+pub mod Typing
+pub mod Longer
+pub mod Contexts
+pub mod StatementRead

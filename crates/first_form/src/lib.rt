@@ -11,4 +11,4 @@ mod statement;
 mod text;
 
 pub use fault::FormFault;
-pub use statement::{Statement, read_statement};
+pub use statement::{Statement, read_statement, statements_are_typed};
