@@ -1,15 +1,14 @@
 -- The body of a text.
-use Rattle.std.proofs.Common.{◌≡◌, ◌<◌, ◌≤◌, ◌-◌, ℕ, suc, Bool, true, false, List, [], ◌∷◌, Result, Ok, Err, Some, None, arith, rules, refl, sym, ap, ◌∙◌, length, take, drop, get_or, nat_lt, Bor}
+use Rattle.std.proofs.Common.{◌≡◌, ◌-◌, ℕ, suc, true, List, [], ◌∷◌, Result, Ok, Err, Some, rules, refl, ap, ◌∙◌, length, take, drop, nat_lt, Bor}
 use borrow.Author.Tests.{tests}
 use Rattle.std.proofs.lemmas.Str.{IsAscii-take, IsUtf8-from_ascii}
-use Rattle.std.proofs.lemmas.Bool.Decides.{nat_tests}
 use Rattle.std.proofs.lemmas.Slice.Eq.{bytes_eq-Decides}
 use Rattle.std.specs.Cmp.Lexicographic.{pointwise}
 use Rattle.std.specs.List.{list_all}
 use Rattle.std.specs.Option.{option_copied}
 use Rattle.std.specs.Prelude.{nat_eq}
 use Rattle.std.specs.Result.{MatchResult, result_ok}
-use Rattle.std.specs.Str.{IsAscii, IsNotAscii, IsUtf8}
+use Rattle.std.specs.Str.{IsAscii, IsUtf8}
 use Rattle.first_form.specs.Text.{is_ascii, body_of}
 
 -- a text is ASCII where the test says so

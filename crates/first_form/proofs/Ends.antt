@@ -1,11 +1,7 @@
 -- The line of maps whose ends were read.
-use Rattle.std.proofs.Common.{◌≡◌, ◌<◌, ◌≤◌, ◌+◌, ℕ, suc, Bool, true, false, List, [], ◌∷◌, Option, Some, None, Err, arith, rules, refl, sym, ap, ◌∙◌, length, get_or}
+use Rattle.std.proofs.Common.{◌≡◌, ◌<◌, ◌≤◌, ℕ, List, [], ◌∷◌, arith, sym, ap, ◌∙◌, length, get_or}
 use lib.Chars.{codes}
 use Rattle.std.specs.List.{before_first, after_first}
-use Rattle.std.specs.Option.{option_map}
-use Rattle.first_form.specs.declared.fault.FormFault.{FormFault}
-use Rattle.first_form.specs.declared.fault.FormFault.TheVariants as fault
-use Rattle.first_form.specs.Fault.{Reads}
 use Rattle.first_form.specs.Lines.{is, maps_of, maps_to, maps_between}
 
 three : (xs : List (List ℕ)) (a b c : List ℕ) → length xs ≡ 3 → a ≡ get_or xs 0 a → b ≡ get_or xs 1 b → c ≡ get_or xs 2 c → xs ≡ a ∷ b ∷ c ∷ []

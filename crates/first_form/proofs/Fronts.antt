@@ -1,7 +1,7 @@
 -- What a loop has read of a list, in front of what the rest gives.
-use Rattle.std.proofs.Common.{◌≡◌, ◌≤◌, ◌<◌, ◌+◌, ℕ, suc, List, [], ◌∷◌, ◌++◌, Option, Some, None, arith, rules, refl, sym, ap, ◌∙◌, length, drop, get_or, map}
-use Rattle.std.proofs.lemmas.List.{append_assoc, append-nil, drop_more, drop_all}
-use Rattle.std.specs.Option.{option_map, option_and_then}
+use Rattle.std.proofs.Common.{◌≡◌, List, [], ◌∷◌, ◌++◌, Option, Some, None, refl, ap, map}
+use Rattle.std.proofs.lemmas.List.{append_assoc, append-nil}
+use Rattle.std.specs.Option.{option_map}
 use Rattle.first_form.specs.Each.{each_of}
 
 abbrev pub behind : {B : Type 0} → List B → Option (List B) → Option (List B)

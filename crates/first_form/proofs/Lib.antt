@@ -6,3 +6,8 @@ pub mod Ends
 pub mod Numbers
 pub mod TextLines
 pub mod Small
+pub mod Inversions
+pub mod Typing
+pub mod Longer
+pub mod Contexts
+pub mod StatementRead

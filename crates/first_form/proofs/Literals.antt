@@ -1,6 +1,5 @@
 -- Literals as `parse` reads them.
-use Rattle.std.proofs.Common.{◌≡◌, ◌<◌, ◌^◌, ℕ, ℤ, pos, Bool, true, false, List, Result, Ok, Err, Some, None, arith, rules, refl, ap, length, nat_lt, ◌&&◌}
-use Prim.Native.Nat.{suc}
+use Rattle.std.proofs.Common.{◌≡◌, ◌<◌, ◌^◌, ℕ, ℤ, pos, true, false, List, Result, Ok, Err, Some, rules, refl, ap, length, nat_lt, ◌&&◌}
 use borrow.Author.Tests.{tests}
 use mir.Syntax.{w128}
 use Rattle.std.proofs.lemmas.Bool.{false_from_ne_true, and_parts}

@@ -1,12 +1,12 @@
 -- The numbers of what is declared.
-use Rattle.std.proofs.Common.{◌≡◌, ◌<◌, ◌+◌, ℕ, Bool, true, false, List, [], ◌∷◌, Option, Some, None, arith, rules, refl, ap, map, cond, subst}
+use Rattle.std.proofs.Common.{◌≡◌, ◌<◌, ◌+◌, ℕ, Bool, true, false, List, [], ◌∷◌, Option, Some, None, arith, map, cond, subst}
 use Rattle.std.specs.Map.{lookup}
 use Rattle.std.specs.Str.{bytes_eq}
 use Rattle.word_core.specs.declared.letter.Letter as letter
 use Rattle.word_core.specs.declared.letter.Object as number
 use Rattle.quiver.specs.declared.named.Named.{Named}
 use Rattle.quiver.specs.declared.named.Named.TheVariants.{Object, Map}
-use Rattle.quiver.specs.Declarations.{Declaration, object, arrow, objects_of, letters_of, object_count, letter_count, turns_from, named_by, name_of, named_in}
+use Rattle.quiver.specs.Declarations.{Declaration, object, arrow, object_count, letter_count, turns_from, named_by, name_of, named_in}
 
 -- the number of an object is below the one bound, that of a letter below the other
 abbrev IsBelow : ℕ → ℕ → Named → Type 0

@@ -1,11 +1,11 @@
 -- The parts of a sum, one by one.
-use Rattle.std.proofs.Common.{◌≡◌, ◌<◌, ◌≤◌, ◌+◌, ◌-◌, ℕ, suc, zero, Bool, true, false, List, [], ◌∷◌, Option, Some, None, arith, rules, refl, sym, ap, ◌∙◌, length, take, drop, get_or, nat_lt, add-one}
+use Rattle.std.proofs.Common.{◌≡◌, ◌<◌, ◌≤◌, ◌+◌, ◌-◌, ℕ, suc, Bool, true, false, List, [], ◌∷◌, Some, None, arith, refl, sym, ◌∙◌, length, take, drop, get_or, nat_lt, add-one}
 use lib.Chars.{codes}
 use Rattle.std.proofs.lemmas.Option.{cond_some}
 use Rattle.std.proofs.lemmas.Bool.Decides.{nat_tests}
 use Rattle.std.proofs.lemmas.List.{get_or_default, take_rest}
-use Rattle.std.specs.List.{position, position_or_len, before_first, after_first}
-use Rattle.first_form.specs.Lines.{is, is_sign, signed_parts, onto_first}
+use Rattle.std.specs.List.{position, position_or_len}
+use Rattle.first_form.specs.Lines.{is, is_sign, signed_parts}
 
 -- the words before the first sign at the place, the sign, and the words behind it
 abbrev cut : Bool → List (List ℕ) → ℕ → List (Bool × List (List ℕ))

@@ -1,5 +1,5 @@
 -- The lines of a text, piece by piece.
-use Rattle.std.proofs.Common.{◌≡◌, ℕ, List, Some, map, rules, refl, sym, ap, ◌∙◌, Bor}
+use Rattle.std.proofs.Common.{◌≡◌, ℕ, List, Some, map, refl, ◌∙◌, Bor}
 use Rattle.std.specs.List.{slice_split}
 use Rattle.std.specs.Option.{option_and_then}
 use Rattle.first_form.specs.Each.{each_of}

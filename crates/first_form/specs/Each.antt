@@ -1,5 +1,5 @@
 -- Lists of which each element stands for something.
-use Rattle.std.specs.Prelude.{List, [], ◌∷◌, Option, Some, None}
+use Rattle.std.specs.Prelude.{List, [], ◌∷◌, Option, Some}
 use Rattle.std.specs.Option.{option_map, option_and_then}
 
 -- what f gives of the elements, if it gives something of each

@@ -1,8 +1,11 @@
 -- The statement that a text of the first form stands for.
-use Rattle.std.specs.Prelude.{ℕ, nat_le, List, [], ◌∷◌, length, Option, Some, None, if◌then◌else◌}
+use Rattle.std.specs.Prelude.{ℕ, nat_le, List, [], length, Option, None, if◌then◌else◌}
+use Rattle.std.specs.List.{AllByRecursion}
 use Rattle.std.specs.Option.{option_map, option_and_then}
 use Rattle.definitions.specs.Poly.{Term}
-use Rattle.quiver.specs.Declarations.{Declaration}
+use Rattle.definitions.specs.Quiver.{IsQuiver}
+use Rattle.definitions.specs.Soundness.{HasSignature}
+use Rattle.quiver.specs.Declarations.{Declaration, quiver_of}
 use Rattle.first_form.specs.declared.line.Line.{Line}
 use Rattle.first_form.specs.Each.{each_of}
 use Rattle.first_form.specs.Text.{lines_of}
@@ -15,12 +18,12 @@ pub record Stated : Type 0 where
   pub assumptions : List (List Term)
   pub claim : List Term
 
+abbrev pub stated_with : Context → List Term → Stated
+stated_with c claim = record { declared = c.declared; assumptions = c.assumptions; claim = claim }
+
 -- at most 500 assumptions, and a claim
 abbrev pub stated_in : Context → Option Stated
-stated_in c =
-    if nat_le (length c.assumptions) 500
-    then option_map (λ claim. record { declared = c.declared; assumptions = c.assumptions; claim = claim }) c.claim
-    else None
+stated_in c = if nat_le (length c.assumptions) 500 then option_map (stated_with c) c.claim else None
 
 abbrev pub first_context : List Declaration → Context
 first_context ds = record { objects = []; declared = ds; assumptions = []; claim = None }
@@ -32,3 +35,9 @@ known_by lines = option_and_then (λ ds. with_lines (first_context ds) lines) (w
 -- the statement that the bytes spell
 abbrev pub statement_of : List ℕ → Option Stated
 statement_of bytes = option_and_then stated_in (option_and_then known_by (option_and_then (each_of line_of) (lines_of bytes)))
+
+-- The declarations are those of a quiver, and the polynomials are typed in it.
+pub record IsTypedStatement (s : Stated) : Type 0 where
+  pub quiver : IsQuiver (quiver_of s.declared)
+  pub assumptions : AllByRecursion (HasSignature (quiver_of s.declared)) s.assumptions
+  pub claim : HasSignature (quiver_of s.declared) s.claim

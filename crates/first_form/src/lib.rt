@@ -14,4 +14,4 @@ mod text;
 
 pub use certificate::read_certificate;
 pub use fault::FormFault;
-pub use statement::{Statement, read_statement};
+pub use statement::{Statement, read_statement, statements_are_typed};

@@ -1,10 +1,10 @@
-ghost use Rattle.std.specs.Prelude.{◌≡◌, IfOk, map};
+ghost use Rattle.std.specs.Prelude.{◌≡◌, ℕ, List, Some, IfOk};
 ghost use Rattle.std.specs.Option.{option_and_then};
 ghost use Rattle.first_form.specs.Each.{each_of};
 ghost use Rattle.first_form.specs.Fault.{Reads, ReadsAs};
 ghost use Rattle.first_form.specs.Text.{lines_of, words_of};
 ghost use Rattle.first_form.specs.Lines.{line_of};
-ghost use Rattle.first_form.specs.Statement.{known_by, stated_in, statement_of};
+ghost use Rattle.first_form.specs.Statement.{Stated, IsTypedStatement, known_by, stated_in, statement_of};
 ghost use Rattle.first_form.specs.Views.{line_in, context, stated};
 
 use crate::FormFault;
@@ -88,9 +88,15 @@ fn stated_in(last: Context) -> Result<Statement, FormFault>
     }
 }
 
+/// The law that each statement is typed. It has nothing to run.
+pub fn statements_are_typed()
+    ensures { (bytes : List ℕ) (s : Stated) → statement_of bytes ≡ Some s → IsTypedStatement s }
+{}
+
 /// The statement that the bytes spell. `Form` comes exactly where they spell none.
 pub fn read_statement(alloc: Global, bytes: &[u8]) -> Result<Statement, FormFault>
     ensures exact { ReadsAs stated result (statement_of bytes.now) }
+    ensures typed { IfOk result (λ s. IsTypedStatement (stated s)) }
 {
     let lines = lines_of(alloc, bytes)?;
     let context = context_of(alloc, lines.as_slice())?;

@@ -1,4 +1,4 @@
-use Rattle.std.proofs.Common.{rules, ◌≡◌, sym, ◌∙◌}
+use Rattle.std.proofs.Common.{sym, ◌∙◌}
 use Rattle.first_form.proofs.Parts.{parts_at, parts_whole}
 use Rattle.first_form.proofs.line.first_part.Goals as goal
 
