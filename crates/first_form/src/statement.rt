@@ -1,4 +1,4 @@
-ghost use Rattle.std.specs.Prelude.{◌≡◌, ℕ, List, Some, IfOk};
+ghost use Rattle.std.specs.Prelude.{◌≡◌, ℕ, List, Some, IfOk, ◌≤◌, length};
 ghost use Rattle.std.specs.Option.{option_and_then};
 ghost use Rattle.first_form.specs.Each.{each_of};
 ghost use Rattle.first_form.specs.Fault.{Reads, ReadsAs};
@@ -67,7 +67,8 @@ fn context_of(alloc: Global, lines: &[Line]) -> Result<Context, FormFault>
 }
 
 fn stated_in(last: Context) -> Result<Statement, FormFault>
-    ensures { ReadsAs stated result (stated_in (context last)) }
+    ensures exact { ReadsAs stated result (stated_in (context last)) }
+    ensures few { IfOk result (λ s. length s.assumptions ≤ 500) }
 {
     let Context {
         quiver,
@@ -97,6 +98,7 @@ pub fn statements_are_typed()
 pub fn read_statement(alloc: Global, bytes: &[u8]) -> Result<Statement, FormFault>
     ensures exact { ReadsAs stated result (statement_of bytes.now) }
     ensures typed { IfOk result (λ s. IsTypedStatement (stated s)) }
+    ensures few { IfOk result (λ s. length s.assumptions ≤ 500) }
 {
     let lines = lines_of(alloc, bytes)?;
     let context = context_of(alloc, lines.as_slice())?;

@@ -1,0 +1,9 @@
+pub mod Words
+pub mod Ending
+pub mod Refusals
+pub mod Decides
+pub mod Ends
+pub mod Load
+pub mod Put
+pub mod Status
+pub mod Headline

@@ -1,0 +1,101 @@
+// Statuses and reports.
+ghost use Rattle.std.specs.Prelude.{◌≡◌, IfOk};
+ghost use Rattle.opprove.specs.Ending.{usage, load_failed, too_long, refused_form, accepted, refused};
+
+use itoa::Buffer;
+use std::alloc::{AllocError, Global};
+use std::marker::Model;
+
+/// How a run ends: its status, and the report that it puts.
+#[derive(Drop)]
+pub struct Ending {
+    status: u8,
+    report: Vec<u8>,
+}
+
+impl Model for Ending {
+    ghost use Rattle.opprove.specs.Ending.{Ending as End};
+
+    ghost Value = { End };
+
+    ghost view = { λ ending. record { status = ending.status; report = ending.report.items } };
+}
+
+impl Ending {
+    pub fn status(&self) -> u8
+        ensures { result ≡ self.now.status }
+    {
+        self.status
+    }
+
+    pub fn report(&self) -> &[u8]
+        ensures { result.now ≡ self.now.report }
+    {
+        &self.report
+    }
+
+    /// The usage line, for words that are no call.
+    pub fn usage(alloc: Global) -> Result<Ending, AllocError>
+        ensures { IfOk result (λ ending. ending ≡ usage) }
+    {
+        Ok(Ending {
+            status: 2,
+            report: b"# usage: opprove prove|check|refute|model|bench\n".to_vec(alloc)?,
+        })
+    }
+
+    /// A file that could not be loaded.
+    pub fn load_failed(alloc: Global, name: &str) -> Result<Ending, AllocError>
+        ensures { IfOk result (λ ending. ending ≡ load_failed name.now) }
+    {
+        Ok(Ending {
+            status: 4,
+            report: format!(in alloc; "# load failed {name}\n")?.into_bytes(),
+        })
+    }
+
+    /// A file that is longer than its limit.
+    pub fn too_long(alloc: Global, name: &str, limit: usize) -> Result<Ending, AllocError>
+        ensures { IfOk result (λ ending. ending ≡ too_long name.now limit) }
+    {
+        Ok(Ending {
+            status: 4,
+            report: format!(in alloc; "# too long {name} limit {limit}\n")?.into_bytes(),
+        })
+    }
+
+    /// A statement (status 3) or a certificate (status 7) that isn't of its form.
+    pub fn refused_form(alloc: Global, status: u8) -> Result<Ending, AllocError>
+        ensures { IfOk result (λ ending. ending ≡ refused_form status) }
+    {
+        Ok(Ending {
+            status,
+            report: b"# refused form\n".to_vec(alloc)?,
+        })
+    }
+
+    /// The certificate is accepted.
+    pub fn accepted(alloc: Global, denominator: i128) -> Result<Ending, AllocError>
+        ensures { IfOk result (λ ending. ending ≡ accepted denominator) }
+    {
+        let mut digits = Buffer::new();
+        let report = format!(in alloc;
+            "# block 1 accepted claim 1 denominator {}\n",
+            digits.format(denominator)
+        )?;
+        Ok(Ending {
+            status: 0,
+            report: report.into_bytes(),
+        })
+    }
+
+    /// The certificate is refused, for what the text says.
+    pub fn refused(alloc: Global, text: &str) -> Result<Ending, AllocError>
+        ensures { IfOk result (λ ending. ending ≡ refused text.now) }
+    {
+        Ok(Ending {
+            status: 7,
+            report: format!(in alloc; "{text}\n")?.into_bytes(),
+        })
+    }
+}
