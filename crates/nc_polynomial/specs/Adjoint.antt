@@ -1,5 +1,5 @@
 -- Adjoints of polynomials, where a list gives the adjoint of each letter.
-use Rattle.std.specs.Prelude.{◌≡◌, ◌<◌, ℕ, ℤ, List, [], ◌∷◌, ◌++◌, length, map, get_or}
+use Rattle.std.specs.Prelude.{◌≡◌, ◌<◌, ℕ, List, [], ◌∷◌, ◌++◌, length, map, get_or}
 use Rattle.word_core.specs.declared.letter.Letter.{Letter}
 use Rattle.definitions.specs.Poly.{Term, SamePolynomial}
 use Rattle.definitions.specs.Quiver.{Quiver}
