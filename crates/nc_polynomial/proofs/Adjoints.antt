@@ -1,5 +1,5 @@
 -- Adjoints of words and polynomials by a list of letters.
-use Rattle.std.proofs.Common.{◌≡◌, ◌≢◌, ℕ, zero, suc, ◌+◌, ◌<◌, ◌≤◌, ℤ, pos, negsuc, ◌+ℤ◌, Bool, true, false, cond, ◌⊎◌, inl, inr, List, [], ◌∷◌, ◌++◌, length, map, take, drop, get_or, nat_le, IsTrue, sym, refl, ap, ap₂, subst, ◌∙◌, arith, append_assoc}
+use Rattle.std.proofs.Common.{◌≡◌, ◌≢◌, ℕ, ◌<◌, ◌≤◌, ℤ, pos, ◌+ℤ◌, Bool, true, false, cond, ◌⊎◌, inl, inr, List, [], ◌∷◌, ◌++◌, length, map, nat_le, sym, refl, ap, ap₂, subst, ◌∙◌, arith, append_assoc}
 use Rattle.std.proofs.lemmas.Bool.Decides.{nat_tests}
 use Rattle.std.proofs.lemmas.Bool.{cases_lt, and_from}
 use Rattle.std.proofs.lemmas.List.{append-nil, get_or_past, length-append}
@@ -11,14 +11,13 @@ use Rattle.std.specs.BTreeMap.{BTreeMap, IsOrdered, btree_map_len}
 use Rattle.word_core.specs.Canonical.{word_cmp}
 use Rattle.nc_polynomial.specs.Collected.{coefficient_in}
 use Rattle.coef_int.specs.Range.{IsCoefficient}
-use Rattle.definitions.specs.Poly.{Term, word_eq, coefficient_of, SamePolynomial}
+use Rattle.definitions.specs.Poly.{Term, word_eq, coefficient_of}
 use Rattle.definitions.specs.Quiver.{Quiver}
 use Rattle.definitions.specs.Generators.{adjoint_word, adjoint_poly}
 use Rattle.definitions.proofs.Coefficients.{at_word, coefficient_of-append}
-use Rattle.definitions.proofs.Linear.{word_eq-same, word_eq-true, coefficient_at, coefficient_other}
-use Rattle.nc_polynomial.specs.Terms.{keep}
+use Rattle.definitions.proofs.Linear.{word_eq-same, word_eq-true}
 use Rattle.nc_polynomial.specs.Ascending.{reversed}
-use Rattle.nc_polynomial.specs.Shape.{IsShaped, IsCanonical}
+use Rattle.nc_polynomial.specs.Shape.{IsCanonical}
 use Rattle.nc_polynomial.specs.Adjoint.{star_in, reversed_star, IsInvolution, IsAdjoint}
 use Rattle.nc_polynomial.proofs.Shapes.{Descends, recursion_from_IsDescending}
 use Rattle.nc_polynomial.proofs.Tables.{shaped-table, descending-table, nonzero-table, coefficient_of-table, length-reversed}

@@ -1,4 +1,4 @@
--- operations in several parts
+-- Operations in several parts: a fault of an earlier part is that of the whole.
 use Rattle.std.proofs.Common.{◌≡◌, ℕ, ℤ, Bool, true, false, List, [], ◌∷◌, ◌++◌, length, nat_lt, Option, Some, None, Result, Ok, Err, sym, refl, ap, subst, ◌∙◌, cond}
 use Rattle.std.specs.List.{All, list_any}
 use Rattle.coef_int.specs.Range.{IsCoefficient, is_coefficient}
@@ -32,7 +32,7 @@ first-append (o ∷ os) more = go (is_coefficient (exact_value o)) (first-append
 pub first-fits : (o : Overflow) (os : List Overflow) → IsCoefficient (exact_value o) → first_overflow (o ∷ os) ≡ first_overflow os
 first-fits o os fits = grind (arith, nat_tests)
 
-no_error : {A : Type 0} (x : A) (e : PolyFault) → ◌≡◌ {A = Result A PolyFault} (Ok x) (Err e) → ⊥
+pub no_error : {A : Type 0} (x : A) (e : PolyFault) → ◌≡◌ {A = Result A PolyFault} (Ok x) (Err e) → ⊥
 no_error x e h = cc
 
 -- no operation of an Ok overflowed, and its value is that of the definition

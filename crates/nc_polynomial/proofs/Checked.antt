@@ -1,11 +1,9 @@
--- operations one by one
+-- Operations one by one, and the terms that they make.
 use Rattle.std.proofs.Common.{◌≡◌, ℕ, zero, suc, ℤ, pos, negsuc, List, [], ◌∷◌, ◌++◌, Option, Some, None, Result, Ok, Err, refl, sym, ap, ◌∙◌, arith, append_assoc}
-use Rattle.std.proofs.lemmas.List.{append-nil}
 use Rattle.std.proofs.lemmas.Bool.Decides.{nat_tests}
 use Rattle.coef_int.specs.declared.Overflow.{Overflow}
 use Rattle.coef_int.specs.Range.{IsCoefficient}
 use Rattle.nc_polynomial.specs.declared.fault.PolyFault.{PolyFault}
-use Rattle.nc_polynomial.specs.declared.fault.PolyFault.TheVariants as fault
 use Rattle.coef_int.specs.Operations.{exact_value, first_overflow}
 use Rattle.definitions.specs.Poly.{Term}
 use Rattle.nc_polynomial.specs.Terms.{Pair, keep, scaled, products, multiplied, multiplications, shifted, totals, total_operations}
@@ -28,26 +26,17 @@ keep-append (negsuc n) w xs = refl
 pub checked-fits : {A : Type 0} (o : Overflow) (os : List Overflow) (xs : A) → IsCoefficient (exact_value o) → checked (o ∷ os) xs ≡ checked os xs
 checked-fits o os xs h = grind (arith, nat_tests)
 
-pub checked-fails : {A : Type 0} (o : Overflow) (os : List Overflow) (xs : A) → ¬ IsCoefficient (exact_value o) → checked (o ∷ os) xs ≡ Err (fault.Overflow o)
-checked-fails o os xs h = grind (arith, nat_tests)
-
 -- one operation that fits, and the term that it makes
 pub one-fits : (o : Overflow) (os : List Overflow) (w : List ℕ) (out xs : List Term) → IsCoefficient (exact_value o) → join out (checked (o ∷ os) (keep (exact_value o) w xs)) ≡ join (out ++ keep (exact_value o) w []) (checked os xs)
 one-fits o os w out xs h =
     ap (join out) (checked-fits o os (keep (exact_value o) w xs) h ∙ ap (checked os) (keep-append (exact_value o) w xs))
     ∙ join-append out (keep (exact_value o) w []) xs (first_overflow os)
 
-pub one-fails : (o : Overflow) (os : List Overflow) (out xs : List Term) → ¬ IsCoefficient (exact_value o) → join out (checked (o ∷ os) xs) ≡ Err (fault.Overflow o)
-one-fails o os out xs h = ap (join out) (checked-fails o os xs h)
-
 abbrev pub scale_from : ℤ → List Term → Result (List Term) PolyFault
 scale_from k p = checked (products k p) (scaled k p)
 
 abbrev pub total_from : List Pair → Result (List Term) PolyFault
 total_from pairs = checked (total_operations pairs) (totals pairs)
-
-pub done : (out xs : List Term) → xs ≡ [] → join out (checked [] xs) ≡ Ok out
-done out xs e = ap (λ x. Ok (out ++ x)) e ∙ ap Ok (append-nil out)
 
 abbrev pub multiply_from : List Term → ℤ → Result (List Term) PolyFault
 multiply_from p k = checked (multiplications p k) (multiplied p k)

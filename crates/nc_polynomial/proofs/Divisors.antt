@@ -1,12 +1,12 @@
 -- Common divisors of coefficients, and quotients that leave nothing.
-use Rattle.std.proofs.Common.{◌≡◌, ◌≢◌, ℕ, zero, suc, ◌<◌, ◌≤◌, ◌+◌, ◌*◌, ◌%◌, ℤ, pos, negsuc, neg_ℤ, ◌+ℤ◌, ◌*ℤ◌, List, [], ◌∷◌, ◌++◌, map, length, ◌↔◌, sym, refl, ap, ap₂, subst, ◌∙◌, arith}
+use Rattle.std.proofs.Common.{◌≡◌, ◌≢◌, ℕ, zero, suc, ◌<◌, ◌≤◌, ℤ, pos, negsuc, neg_ℤ, ◌+ℤ◌, ◌*ℤ◌, List, [], ◌∷◌, ◌++◌, length, ◌↔◌, sym, refl, ap, subst, ◌∙◌, arith}
 use Rattle.std.proofs.lemmas.Int.{quot-rem, unsigned_abs-mul}
-use Rattle.std.proofs.lemmas.Nat.Gcd.{mod-eq-zero_of_dvd, dvd-zero, dvd_trans}
+use Rattle.std.proofs.lemmas.Nat.Gcd.{mod-eq-zero_of_dvd, dvd_trans}
 use Rattle.std.proofs.lemmas.List.{length-map}
 use Rattle.std.proofs.lemmas.List.Elements.{All-weaker, All-push, All-from_recursion, recursion_from_All}
 use Rattle.std.proofs.Math.IntN.{*ℤ_comm, *ℤ-zero, +ℤ_idr}
 use Rattle.std.proofs.Math.Nat.{eq-zero_of_zero-dvd, le-mul_of_pos_right, mul_comm}
-use Rattle.std.specs.List.{All, AllByRecursion}
+use Rattle.std.specs.List.{AllByRecursion}
 use Rattle.std.specs.declared.cmp.Ordering.TheVariants.{Greater}
 use Rattle.coef_int.specs.Range.{IsCoefficient}
 use Rattle.definitions.specs.Poly.{Term, poly_multiple}
@@ -29,8 +29,6 @@ quotient_times a d h =
     ∙ quot-rem a d
 
 -- ---- the content
-pub content-none : IsContent [] (pos 0)
-content-none = record { nonnegative = tt; divides = λ i x h. absurd (omega arith); greatest = λ d each. dvd-zero d }
 
 each_part : (d : ℕ) (p : List Term) (t : Term) → AllByRecursion (λ u. d ∣ unsigned_abs u.0) (p ++ t ∷ []) → AllByRecursion (λ u. d ∣ unsigned_abs u.0) p × (d ∣ unsigned_abs t.0)
 each_part d [] t h = (tt, h.0)

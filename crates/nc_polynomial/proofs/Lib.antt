@@ -15,3 +15,4 @@ pub mod Around
 pub mod Products
 pub mod Adjoints
 pub mod Rests
+mod Examples

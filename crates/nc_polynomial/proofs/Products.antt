@@ -1,11 +1,10 @@
 -- Products of polynomials.
 use Rattle.std.proofs.Common.{◌≡◌, ◌≢◌, ℕ, zero, suc, ◌*◌, ◌≤◌, ℤ, pos, negsuc, neg_ℤ, ◌+ℤ◌, ◌*ℤ◌, Bool, true, false, cond, ◌||◌, nat_lt, List, [], ◌∷◌, ◌++◌, length, map, Option, Some, None, Result, Ok, Err, sym, refl, ap, ap₂, subst, ◌∙◌, arith}
 use Rattle.std.proofs.lemmas.Bool.Decides.{nat_tests}
-use Rattle.std.proofs.lemmas.Int.{ints}
 use Rattle.std.proofs.Math.IntN.{pos-*ℤ-pos, pos-*ℤ-negsuc, +ℤ_idl, +ℤ_idr, +ℤ_assoc}
 use Rattle.std.proofs.lemmas.List.{append-nil}
 use Rattle.std.proofs.lemmas.List.Elements.{All-from_recursion, recursion_from_All}
-use Rattle.std.specs.List.{AllByRecursion, list_any}
+use Rattle.std.specs.List.{AllByRecursion}
 use Rattle.coef_int.specs.declared.Overflow.{Overflow}
 use Rattle.coef_int.specs.Range.{IsCoefficient}
 use Rattle.coef_int.specs.Operations.{product_of, first_overflow}
@@ -15,11 +14,11 @@ use Rattle.nc_polynomial.specs.declared.fault.PolyFault.{PolyFault}
 use Rattle.nc_polynomial.specs.declared.fault.PolyFault.TheVariants as fault
 use Rattle.nc_polynomial.specs.Terms.{keep, scaled, products, shifted, added, sums}
 use Rattle.nc_polynomial.specs.Shape.{IsShaped, IsCanonical}
-use Rattle.nc_polynomial.specs.Faults.{checked, unless_overflow, finished, sized, size_fault, has_long_word, Explains}
+use Rattle.nc_polynomial.specs.Faults.{checked, unless_overflow, finished, sized, size_fault, has_long_word}
 use Rattle.nc_polynomial.specs.Arithmetic.{combined}
 use Rattle.nc_polynomial.specs.Product.{and_then, product_step, product_from}
 use Rattle.nc_polynomial.proofs.Around.{shaped-between}
-use Rattle.nc_polynomial.proofs.Chains.{first-append, first-fits, or_first, none_overflows, value_is, sized-value}
+use Rattle.nc_polynomial.proofs.Chains.{first-append, first-fits, or_first, no_error, none_overflows, value_is, sized-value}
 use Rattle.nc_polynomial.proofs.CoefficientLaws.{coefficient_of-added, coefficient_of-scaled}
 use Rattle.nc_polynomial.proofs.Shapes.{shaped-scaled}
 
@@ -75,17 +74,6 @@ pub step_is : (sum : List Term) (k : ℤ) (w : List ℕ) (q : List Term) → IsS
     → product_step sum (k, w) q ≡ finished (products k q ++ sums sum (shifted k w q [])) (added sum (shifted k w q []))
 step_is sum k w q h within = ap (λ r. and_then r (λ moved. combined (pos 1) sum k moved)) within ∙ combined-one sum k w q h
 
--- ---- results
-pub explains-err : {A : Type 0} (r : Result A PolyFault) (e : PolyFault) → r ≡ Err e → Explains r e
-explains-err r (fault.Overflow o) h = h
-explains-err r (fault.Size s) h = h
-explains-err r (fault.Memory m) h = tt
-
-pub explains-then : (r : Result (List Term) PolyFault) (next : List Term → Result (List Term) PolyFault) (e : PolyFault) → Explains r e → Explains (and_then r next) e
-explains-then r next (fault.Overflow o) h = ap (λ x. and_then x next) h
-explains-then r next (fault.Size s) h = ap (λ x. and_then x next) h
-explains-then r next (fault.Memory m) h = tt
-
 -- ---- limits
 short_words : (p : List Term) → has_long_word p ≡ false → AllByRecursion (λ t. length t.1 ≤ 500) p
 short_words [] e = tt
@@ -102,24 +90,18 @@ short_words (t ∷ p) e = go (nat_lt 500 (length t.1)) refl e (short_words p)
 pub canonical_sized : (p v : List Term) → IsShaped p → sized p ≡ Ok v → IsCanonical p
 canonical_sized p v h e = go (has_long_word p) (nat_lt 20000 (length p)) refl refl e
   where
-    no_error : (fault : PolyFault) → ◌≡◌ {A = Result (List Term) PolyFault} (Err fault) (Ok v) → ⊥
-    no_error fault k = cc
-
     within : (n : ℕ) → nat_lt 20000 n ≡ false → n ≤ 20000
     within n k = grind (arith, nat_tests)
 
     go : (long many : Bool) → has_long_word p ≡ long → nat_lt 20000 (length p) ≡ many → cond long (Err (size_fault true)) (cond many (Err (size_fault false)) (Ok p)) ≡ Ok v → IsCanonical p
-    go true many a b k = absurd (no_error (size_fault true) k)
-    go false true a b k = absurd (no_error (size_fault false) k)
+    go true many a b k = absurd (no_error v (size_fault true) (sym k))
+    go false true a b k = absurd (no_error v (size_fault false) (sym k))
     go false false a b k = record { shaped = h; short = All-from_recursion (λ (t : Term). length t.1 ≤ 500) p (short_words p a); few = within (length p) b }
 
 -- ---- what a product is
 moved-row : (t : Term) (q : List Term) → map (λ u. (t.0 *ℤ u.0, t.1 ++ u.1)) q ≡ poly_multiple t.0 (poly_between t.1 q [])
 moved-row t [] = refl
 moved-row t (u ∷ q) = ap₂ (λ v (rest : List Term). (t.0 *ℤ u.0, t.1 ++ v) ∷ rest) (sym (append-nil u.1)) (moved-row t q)
-
-no_fault : (e : PolyFault) (r : List Term) → ◌≡◌ {A = Result (List Term) PolyFault} (Err e) (Ok r) → ⊥
-no_fault e r h = cc
 
 same_value : (p r : List Term) → ◌≡◌ {A = Result (List Term) PolyFault} (Ok p) (Ok r) → p ≡ r
 same_value p r h = cc
@@ -129,7 +111,7 @@ finished-value os x v h = go (first_overflow os) h
   where
     go : (o : Option Overflow) → unless_overflow o (sized x) ≡ Ok v → x ≡ v
     go None k = sized-value x v k
-    go (Some o) k = absurd (no_fault (fault.Overflow o) v k)
+    go (Some o) k = absurd (no_error v (fault.Overflow o) (sym k))
 
 combined-coefficient : (a : ℤ) (p : List Term) (b : ℤ) (q r : List Term) → combined a p b q ≡ Ok r → (w : List ℕ) → coefficient_of r w ≡ a *ℤ coefficient_of p w +ℤ b *ℤ coefficient_of q w
 combined-coefficient a p b q r h w =
@@ -140,7 +122,7 @@ step-coefficient : (sum : List Term) (t : Term) (q v : List Term) → product_st
 step-coefficient sum t q v h w = go (sized (poly_between t.1 q [])) refl h
   where
     go : (r : Result (List Term) PolyFault) → sized (poly_between t.1 q []) ≡ r → and_then r (λ moved. combined (pos 1) sum t.0 moved) ≡ Ok v → coefficient_of v w ≡ coefficient_of sum w +ℤ t.0 *ℤ coefficient_of (poly_between t.1 q []) w
-    go (Err e) limits k = absurd (no_fault e v k)
+    go (Err e) limits k = absurd (no_error v e (sym k))
     go (Ok moved) limits k =
         let moved_is = sized-value (poly_between t.1 q []) moved limits in
         combined-coefficient (pos 1) sum t.0 moved v k w
@@ -152,7 +134,7 @@ coefficient_of-product_from sum (t ∷ p) q r h w = go (product_step sum t q) re
   where
     go : (s : Result (List Term) PolyFault) → product_step sum t q ≡ s → and_then s (λ next. product_from next p q) ≡ Ok r
         → ((next : List Term) → product_from next p q ≡ Ok r → coefficient_of r w ≡ coefficient_of next w +ℤ coefficient_of (poly_product p q) w) → coefficient_of r w ≡ coefficient_of sum w +ℤ coefficient_of (poly_product (t ∷ p) q) w
-    go (Err e) step k more = absurd (no_fault e r k)
+    go (Err e) step k more = absurd (no_error r e (sym k))
     go (Ok next) step k more =
         let rest : coefficient_of r w ≡ coefficient_of next w +ℤ coefficient_of (poly_product p q) w = more next k in
         let here : coefficient_of next w ≡ coefficient_of sum w +ℤ t.0 *ℤ coefficient_of (poly_between t.1 q []) w = step-coefficient sum t q next step w in

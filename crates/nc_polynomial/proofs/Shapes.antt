@@ -1,4 +1,4 @@
--- descending lists, coefficients that are not zero, coefficients in range
+-- Sums and multiples of polynomials are descending, have no zero coefficient, and are in range where nothing overflows.
 use Rattle.std.proofs.Common.{◌≡◌, ◌≢◌, ℕ, zero, suc, ℤ, pos, negsuc, ◌+ℤ◌, ◌*ℤ◌, Bool, true, false, List, [], ◌∷◌, ◌++◌, map, Option, Some, None, neg_ℤ, sym, refl, ap, ◌∙◌, subst, arith}
 use Rattle.std.proofs.lemmas.Bool.Decides.{nat_tests}
 use Rattle.std.proofs.Math.IntN.{neg_ℤ-neg_ℤ}

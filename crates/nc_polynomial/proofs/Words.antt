@@ -6,22 +6,12 @@ use Rattle.std.proofs.lemmas.Int.{ints}
 use Rattle.std.specs.Bool.{Decides}
 use Rattle.std.specs.BTreeMap.{BTreeMap, get}
 use Rattle.std.specs.Cmp.{both_ways, Equal-is}
-use Rattle.std.specs.Ordering.{is_eq, int_eq, ordering_reverse}
-use Rattle.std.specs.declared.cmp.Ordering.{Ordering}
-use Rattle.std.specs.declared.cmp.Ordering.TheVariants.{Less, Equal, Greater}
+use Rattle.std.specs.Ordering.{is_eq, int_eq}
 use Rattle.definitions.specs.Poly.{Term, word_eq, coefficient_of}
 use Rattle.definitions.proofs.Linear.{word_eq-same, word_eq-true}
-use Rattle.word_core.specs.Canonical.{word_cmp, word_cmp_total}
-use Rattle.word_core.proofs.Order.{word_cmp-same}
+use Rattle.word_core.specs.Canonical.{word_cmp}
+use Rattle.word_core.proofs.Order.{word_cmp-same, word_cmp-itself}
 use Rattle.nc_polynomial.specs.Collected.{coefficient_in}
-
-pub word_cmp-itself : (w : List ℕ) → word_cmp w w ≡ Equal
-word_cmp-itself w = go (word_cmp w w) (word_cmp_total.antisymm w w)
-  where
-    go : (o : Ordering) → o ≡ ordering_reverse o → o ≡ Equal
-    go Less e = cc
-    go Equal e = refl
-    go Greater e = cc
 
 pub word_eq-cmp : (v w : List ℕ) → word_eq v w ≡ is_eq (word_cmp v w)
 word_eq-cmp v w = both_ways (word_eq v w) (is_eq (word_cmp v w))

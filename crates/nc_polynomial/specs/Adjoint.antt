@@ -1,10 +1,11 @@
 -- Adjoints of polynomials, where a list gives the adjoint of each letter.
-use Rattle.std.specs.Prelude.{◌≡◌, ◌<◌, ℕ, ℤ, List, [], ◌∷◌, ◌++◌, length, map, get_or}
+use Rattle.std.specs.Prelude.{◌≡◌, ◌<◌, ℕ, List, [], ◌∷◌, ◌++◌, length, map, get_or}
 use Rattle.word_core.specs.declared.letter.Letter.{Letter}
 use Rattle.definitions.specs.Poly.{Term, SamePolynomial}
 use Rattle.definitions.specs.Quiver.{Quiver}
 use Rattle.definitions.specs.Generators.{adjoint_poly}
 
+-- the numbers of letters
 abbrev pub numbers_of : List Letter → List ℕ
 numbers_of letters = map (λ l. l.0) letters
 
@@ -22,6 +23,6 @@ pub record IsInvolution (stars : List ℕ) : Type 0 where
   pub in_range : (a : ℕ) → a < length stars → star_in stars a < length stars
   pub twice : (a : ℕ) → a < length stars → star_in stars (star_in stars a) ≡ a
 
--- In a quiver whose letters have these adjoints, the second polynomial is the adjoint of the first.
+-- In each quiver whose letters have these adjoints, the second polynomial is the adjoint of the first.
 abbrev pub IsAdjoint : List ℕ → List Term → List Term → Type 0
 IsAdjoint stars p r = (q : Quiver) → q.stars ≡ stars → SamePolynomial r (adjoint_poly q p)

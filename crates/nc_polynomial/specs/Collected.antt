@@ -19,6 +19,7 @@ abbrev pub additions : List Term → List Term → List Overflow
 additions done [] = []
 additions done (t ∷ rest) = sum_of (coefficient_of done t.1) t.0 ∷ additions (done ++ t ∷ []) rest
 
+-- what the terms add up to
 abbrev pub collection_result : List Term → Result (List Term) PolyFault
 collection_result terms = finished (additions [] terms) (collected terms)
 

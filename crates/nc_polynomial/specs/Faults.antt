@@ -7,6 +7,7 @@ use Rattle.definitions.specs.Poly.{Term}
 use Rattle.nc_polynomial.specs.declared.fault.PolyFault.{PolyFault}
 use Rattle.nc_polynomial.specs.declared.fault.PolyFault.TheVariants as fault
 
+-- a result, unless an operation overflowed
 abbrev pub unless_overflow : {A : Type 0} → Option Overflow → Result A PolyFault → Result A PolyFault
 unless_overflow None r = r
 unless_overflow (Some o) r = Err (fault.Overflow o)
@@ -15,6 +16,7 @@ unless_overflow (Some o) r = Err (fault.Overflow o)
 abbrev pub checked : {A : Type 0} → List Overflow → A → Result A PolyFault
 checked os x = unless_overflow (first_overflow os) (Ok x)
 
+-- a word has too many letters, or else there are too many terms
 abbrev pub size_fault : Bool → PolyFault
 size_fault letters = fault.Size (record { letters = letters })
 
@@ -37,6 +39,7 @@ Explains r (fault.Overflow o) = r ≡ Err (fault.Overflow o)
 Explains r (fault.Size s) = r ≡ Err (fault.Size s)
 Explains r (fault.Memory e) = Unit {0}
 
+-- want of memory
 abbrev pub IsMemory : PolyFault → Type 0
 IsMemory (fault.Overflow o) = ⊥
 IsMemory (fault.Size s) = ⊥

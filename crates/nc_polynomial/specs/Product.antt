@@ -1,5 +1,5 @@
 -- Polynomials between words, and products of polynomials.
-use Rattle.std.specs.Prelude.{ℕ, ℤ, pos, List, [], ◌∷◌, Result, Ok, Err}
+use Rattle.std.specs.Prelude.{ℕ, pos, List, [], ◌∷◌, Result, Ok, Err}
 use Rattle.definitions.specs.Poly.{Term, poly_between}
 use Rattle.nc_polynomial.specs.declared.fault.PolyFault.{PolyFault}
 use Rattle.nc_polynomial.specs.Faults.{sized}

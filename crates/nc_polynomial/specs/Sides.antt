@@ -1,4 +1,4 @@
--- Which of two lists of terms has the next word.
+-- Which of two descending lists has the next word: the left one at Greater, the right one at Less, both at Equal.
 use Rattle.std.specs.Prelude.{List, [], ◌∷◌, Option, Some, None}
 use Rattle.std.specs.declared.cmp.Ordering.{Ordering}
 use Rattle.std.specs.declared.cmp.Ordering.TheVariants.{Less, Greater}

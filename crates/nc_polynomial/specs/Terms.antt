@@ -47,9 +47,11 @@ negated p = map (λ t. (neg_ℤ t.0, t.1)) p
 abbrev pub Pair : Type 0
 Pair = ℤ × ℤ × List ℕ
 
+-- a word that only the right one has
 abbrev pub only_right : Term → Pair
 only_right y = (pos 0, y.0, y.1)
 
+-- one of three, by the order of two words
 abbrev pub by_order : {X : Type 0} → Ordering → X → X → X → X
 by_order Less a b c = a
 by_order Equal a b c = b

@@ -11,6 +11,8 @@ mod poly;
 mod product;
 mod size;
 mod terms;
+#[cfg(test)]
+mod tests;
 
 pub use fault::{PolyFault, SizeFault};
 pub use laws::canonical_is_unique;

@@ -72,3 +72,9 @@ impl Poly {
         self.terms.as_slice() == other.terms.as_slice()
     }
 }
+
+impl Duplicate for Poly {
+    fn duplicate(&self) -> Result<Poly, AllocError> {
+        self.copy()
+    }
+}

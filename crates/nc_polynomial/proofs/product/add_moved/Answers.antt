@@ -1,4 +1,4 @@
-use Rattle.std.proofs.Common.{rules, ◌≡◌, ◌++◌, [], Ok, Err, sym, ◌∙◌, subst}
+use Rattle.std.proofs.Common.{rules, ◌≡◌, [], Ok, Err, sym, ◌∙◌, subst}
 use Rattle.definitions.specs.Poly.{poly_between}
 use Rattle.nc_polynomial.specs.Terms.{products, shifted, added, sums}
 use Rattle.nc_polynomial.specs.Faults.{checked, sized, Explains}

@@ -1,4 +1,4 @@
-use Rattle.std.proofs.Common.{rules, ◌≡◌, ◌≢◌, pos, ◌+◌, ◌<◌, ◌++◌, [], ◌∷◌, length, take, get_or, to_z, of_z, sym, ap, subst, ◌∙◌, arith}
+use Rattle.std.proofs.Common.{rules, ◌≡◌, ◌≢◌, pos, ◌+◌, ◌++◌, [], ◌∷◌, length, take, get_or, to_z, of_z, sym, ap, subst, ◌∙◌, arith}
 use Rattle.std.proofs.lemmas.List.{take_all}
 use Rattle.std.proofs.lemmas.List.Elements.{recursion_from_All}
 use Rattle.std.specs.Int.{IsGcd}

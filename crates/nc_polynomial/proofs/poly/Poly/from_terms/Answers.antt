@@ -1,4 +1,4 @@
-use Rattle.std.proofs.Common.{rules, ◌≡◌, ℕ, ◌+◌, ◌+ℤ◌, List, [], ◌∷◌, ◌++◌, take, drop, length, ◌<◌, get_or, None, Err, sym, ap, subst, ◌∙◌, arith}
+use Rattle.std.proofs.Common.{rules, ◌≡◌, ℕ, ◌+◌, ◌+ℤ◌, List, [], ◌∷◌, take, drop, None, Err, sym, ap, subst, ◌∙◌, arith}
 use Rattle.std.proofs.lemmas.List.{drop_all, take_all}
 use Rattle.nc_polynomial.proofs.Steps.{take_next, drop_next}
 use Rattle.coef_int.specs.Range.{IsCoefficient}
