@@ -7,3 +7,5 @@ pub mod Comparing
 pub mod Counts
 pub mod RowSums
 pub mod Outcomes
+pub mod Unique
+mod Examples

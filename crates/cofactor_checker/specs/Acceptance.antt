@@ -26,35 +26,38 @@ pub record IsPosed (claims : List (List (ℤ × List ℕ))) (c : Certificate) : 
   pub claim : IsNumberUpTo (length claims) c.claim
   pub denominator : pos 1 ≤ℤ c.denominator
 
--- And no product of the denominator with a coefficient of the claim leaves the range.
+-- It is posed, and no product of the denominator with a coefficient of the claim leaves the range.
 pub record Begins (claims : List (List (ℤ × List ℕ))) (c : Certificate) : Type 0 where
   pub posed : IsPosed claims c
   pub products : first_overflow (products c.denominator (claim_of claims c)) ≡ None
 
--- And each row passes.
+-- It begins, and each row passes.
 pub record AddsUp (claims generators : List (List (ℤ × List ℕ))) (c : Certificate) : Type 0 where
   pub begins : Begins claims c
   pub rows : RowsPass generators (rows_of c.rows) (length (rows_of c.rows))
 
--- And the sum of the rows is the denominator times the claim.
+-- It adds up, and the sum of the rows is the denominator times the claim.
 pub record Accepts (claims generators : List (List (ℤ × List ℕ))) (c : Certificate) : Type 0 where
   pub adds_up : AddsUp claims generators c
   pub sum : SamePolynomial (row_sum generators (rows_of c.rows)) (poly_multiple c.denominator (claim_of claims c))
 
--- each refusal comes where all tests before its own hold
+-- The certificate names a claim, and its denominator is below 1.
 pub record LacksDenominator (claims : List (List (ℤ × List ℕ))) (c : Certificate) : Type 0 where
   pub claim : IsNumberUpTo (length claims) c.claim
   pub denominator : c.denominator <ℤ pos 1
 
+-- The certificate is posed, and this is the first product of the denominator with a coefficient of the claim that leaves the range. It stands before all rows, and so in row 0.
 pub record MultipleOverflows (claims : List (List (ℤ × List ℕ))) (c : Certificate) (row : ℕ) (overflow : Overflow) : Type 0 where
   pub before_rows : row ≡ 0
   pub posed : IsPosed claims c
   pub products : first_overflow (products c.denominator (claim_of claims c)) ≡ Some overflow
 
+-- Each row passes, and this is the least word at which the sum of the rows isn't the denominator times the claim.
 pub record SumDiffers (claims generators : List (List (ℤ × List ℕ))) (c : Certificate) (word : List ℕ) (want got : ℤ) : Type 0 where
   pub adds_up : AddsUp claims generators c
   pub difference : IsLeastDifference (coefficient_of (poly_multiple c.denominator (claim_of claims c))) (coefficient_of (row_sum generators (rows_of c.rows))) word want got
 
+-- Each refusal comes where its test is the first that fails, and want of memory can come at any time.
 abbrev pub Refuses : List (List (ℤ × List ℕ)) → List (List (ℤ × List ℕ)) → Certificate → Refusal → Type 0
 Refuses claims generators c refusal.NoSuchClaim = IsNumberUpTo (length claims) c.claim → ⊥
 Refuses claims generators c refusal.ZeroDenominator = LacksDenominator claims c
@@ -64,7 +67,7 @@ Refuses claims generators c (refusal.Size row) = Begins claims c × Outgrows gen
 Refuses claims generators c (refusal.Differs word want got) = SumDiffers claims generators c word want got
 Refuses claims generators c (refusal.Memory failed) = ⊤
 
--- want of memory, which alone can come at any time
+-- the refusal is want of memory
 abbrev pub IsMemory : Refusal → Type 0
 IsMemory refusal.NoSuchClaim = ⊥
 IsMemory refusal.ZeroDenominator = ⊥
@@ -73,3 +76,7 @@ IsMemory (refusal.NoSuchGenerator row) = ⊥
 IsMemory (refusal.Size row) = ⊥
 IsMemory (refusal.Differs word want got) = ⊥
 IsMemory (refusal.Memory failed) = ⊤
+
+-- Of one certificate there is one refusal at most, apart from want of memory.
+abbrev pub RefusalIsUnique : Type 0
+RefusalIsUnique = (claims generators : List (List (ℤ × List ℕ))) (c : Certificate) (e f : Refusal) → Refuses claims generators c e → Refuses claims generators c f → (IsMemory e → ⊥) → (IsMemory f → ⊥) → e ≡ f

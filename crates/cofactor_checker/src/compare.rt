@@ -1,17 +1,33 @@
-ghost use Rattle.std.specs.Prelude.{◌≡◌, ◌≢◌, ◌*ℤ◌, ◌<ℤ◌, pos, None, IfOk, Some};
+ghost use Rattle.std.specs.Prelude.{◌≡◌, ◌*ℤ◌, ◌<ℤ◌, pos, None, IfOk, Some};
 ghost use Rattle.std.specs.List.{All};
 ghost use Rattle.coef_int.specs.Operations.{first_overflow};
 ghost use Rattle.coef_int.specs.Range.{IsCoefficient};
 ghost use Rattle.definitions.specs.Poly.{coefficient_of};
 ghost use Rattle.cofactor_checker.specs.Difference.{IsComparison};
-ghost use Rattle.nc_polynomial.specs.Terms.{IsDescending, products};
+ghost use Rattle.nc_polynomial.specs.Shape.{IsShaped};
+ghost use Rattle.nc_polynomial.specs.Terms.{products};
 ghost use Rattle.nc_polynomial.specs.Collected.{coefficient_in};
 ghost use Rattle.cofactor_checker.specs.Running.{IsRunning};
 
+use coef_int::{Overflow, times};
 use std::alloc::AllocError;
 use std::cmp::Ordering;
 use std::collections::BTreeMap;
 use word_core::Word;
+
+/// The first product of the denominator with a coefficient that leaves the range.
+pub(crate) fn overflow_of_multiple(denominator: i128, claim: &[(i128, Word)]) -> Option<Overflow>
+    requires denominator { IsCoefficient denominator }
+    requires coefficients { All (λ t. IsCoefficient t.0) claim.now }
+    ensures { result ≡ first_overflow (products denominator claim.now) }
+{
+    for term in claim {
+        if let Err(overflow) = times(denominator, term.0) {
+            return Some(overflow);
+        }
+    }
+    None
+}
 
 /// A word with one coefficient where another is wanted.
 #[derive(Drop)]
@@ -28,8 +44,7 @@ pub(crate) fn least_difference(
     claim: &[(i128, Word)],
 ) -> Result<Option<Difference>, AllocError>
     requires running { IsRunning sum.now }
-    requires descending { IsDescending claim.now }
-    requires nonzero { All (λ t. t.0 ≢ pos 0) claim.now }
+    requires shaped { IsShaped claim.now }
     requires denominator { pos 0 <ℤ denominator }
     requires products { first_overflow (products denominator claim.now) ≡ None }
     ensures { IfOk result (IsComparison (λ w. denominator *ℤ coefficient_of claim.now w) (coefficient_in sum.now)) }

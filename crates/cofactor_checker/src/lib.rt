@@ -3,7 +3,7 @@
 
 ghost use Rattle.std.specs.Prelude.{◌≡◌, ◌≤◌, length, All, IfOk, IfErr, OnOk};
 ghost use Rattle.coef_int.specs.Range.{IsCoefficient};
-ghost use Rattle.cofactor_checker.specs.Acceptance.{polynomials, claim_of, Accepts, Refuses, IsMemory};
+ghost use Rattle.cofactor_checker.specs.Acceptance.{polynomials, claim_of, Accepts, Refuses, IsMemory, RefusalIsUnique};
 ghost use Rattle.cofactor_trace.specs.Rows.{rows_of};
 ghost use Rattle.definitions.specs.Combination.{IsCombination};
 
@@ -15,9 +15,9 @@ mod tests;
 
 use coef_int::Overflow;
 use cofactor_trace::Certificate;
-use compare::least_difference;
+use compare::{least_difference, overflow_of_multiple};
 use nc_polynomial::Poly;
-use rows::{add_rows, numbered, overflow_of_multiple};
+use rows::{add_rows, numbered};
 use std::alloc::{AllocError, Global};
 use word_core::Word;
 
@@ -62,9 +62,12 @@ pub fn check(
     requires rows { length certificate.now.rows ≤ 4294967295 }
     requires denominator { IsCoefficient certificate.now.denominator }
     requires coefficients { All (λ r. IsCoefficient r.coef) certificate.now.rows }
-    ensures accepted { IfOk result (λ accepted. accepted ≡ record { claim = certificate.now.claim; denominator = certificate.now.denominator }) }
+    ensures accepted { let c = certificate.now in
+        IfOk result (λ accepted. accepted ≡ record { claim = c.claim; denominator = c.denominator }) }
     ensures accepts { OnOk result (Accepts (polynomials claims.now) (polynomials generators.now) certificate.now) }
-    ensures combination { OnOk result (IsCombination (polynomials generators.now) (rows_of certificate.now.rows) certificate.now.denominator (claim_of (polynomials claims.now) certificate.now)) }
+    ensures combination { let c = certificate.now in
+        let claim = claim_of (polynomials claims.now) c in
+        OnOk result (IsCombination (polynomials generators.now) (rows_of c.rows) c.denominator claim) }
     ensures refuses { IfErr result (Refuses (polynomials claims.now) (polynomials generators.now) certificate.now) }
     ensures complete { Accepts (polynomials claims.now) (polynomials generators.now) certificate.now → IfErr result IsMemory }
 {
@@ -92,3 +95,10 @@ pub fn check(
         Err(failed) => Err(Refusal::Memory(failed)),
     }
 }
+
+/// Of one certificate there is one refusal at most, apart from want of memory: so `check` answers with no
+/// other. It does nothing when it runs.
+#[tactic(auto, using(crate::proofs::Unique::refusal_is_unique))]
+pub fn refusal_is_unique()
+    ensures { RefusalIsUnique }
+{}

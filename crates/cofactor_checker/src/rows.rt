@@ -1,17 +1,14 @@
 ghost use Rattle.std.specs.Prelude.{◌≡◌, ◌≤◌, ◌-◌, length, All, OnOk, IfOk, IfErr, IfSome, IfNone, slice_get, Some};
-ghost use Rattle.coef_int.specs.Operations.{first_overflow};
 ghost use Rattle.coef_int.specs.Range.{IsCoefficient};
 ghost use Rattle.cofactor_trace.specs.Rows.{rows_of};
 ghost use Rattle.definitions.specs.Combination.{row_sum};
 ghost use Rattle.cofactor_checker.specs.Acceptance.{polynomials};
-ghost use Rattle.nc_polynomial.specs.Terms.{products};
 ghost use Rattle.cofactor_checker.specs.Rows.{IsNumberUpTo, RowsPass};
 ghost use Rattle.cofactor_checker.specs.Running.{IsRunning, IsSumOf};
 ghost use Rattle.cofactor_checker.specs.RowRefusals.{RefusesRow};
 
 use crate::Refusal;
 use crate::sum::{SumFault, add_row};
-use coef_int::{Overflow, times};
 use cofactor_trace::CertRow;
 use nc_polynomial::Poly;
 use std::alloc::Global;
@@ -28,20 +25,6 @@ pub(crate) fn numbered<T>(items: &[T], number: u32) -> Option<&T>
 {
     let place = number.checked_sub(1)?;
     items.get(place as usize)
-}
-
-/// The first product of the denominator with a coefficient that leaves the range.
-pub(crate) fn overflow_of_multiple(denominator: i128, claim: &[(i128, Word)]) -> Option<Overflow>
-    requires denominator { IsCoefficient denominator }
-    requires coefficients { All (λ t. IsCoefficient t.0) claim.now }
-    ensures { result ≡ first_overflow (products denominator claim.now) }
-{
-    for term in claim {
-        if let Err(overflow) = times(denominator, term.0) {
-            return Some(overflow);
-        }
-    }
-    None
 }
 
 /// The sum of the rows, or the first refusal among them.

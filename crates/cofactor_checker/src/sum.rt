@@ -1,16 +1,15 @@
-ghost use Rattle.std.specs.Prelude.{◌≡◌, [], ◌∷◌, ◌++◌, ◌+ℤ◌, OnOk, OnErr, IfErr, MatchResult, None};
-ghost use Rattle.std.specs.List.{All};
+ghost use Rattle.std.specs.Prelude.{◌≡◌, [], ◌∷◌, ◌+ℤ◌, OnOk, IfErr, MatchResult, None};
 ghost use Rattle.coef_int.specs.Operations.{sum_of, first_overflow};
 ghost use Rattle.coef_int.specs.Range.{IsCoefficient};
 ghost use Rattle.definitions.specs.Poly.{poly_multiple, poly_between};
 ghost use Rattle.cofactor_checker.specs.Operations.{adding_operations};
-ghost use Rattle.nc_polynomial.specs.Terms.{IsDescending};
+ghost use Rattle.nc_polynomial.specs.Shape.{IsShaped};
 ghost use Rattle.nc_polynomial.specs.Collected.{coefficient_in};
 ghost use Rattle.cofactor_checker.specs.Running.{IsRunning, Adds, IsStoppedBy, IsMemory};
 
 use coef_int::{Overflow, plus, times};
 use cofactor_trace::CertRow;
-use std::alloc::{AllocError, AllocFailed};
+use std::alloc::AllocError;
 use std::collections::BTreeMap;
 use word_core::Word;
 
@@ -58,12 +57,14 @@ pub(crate) fn add_row(
     generator: &[(i128, Word)],
 ) -> Result<(), SumFault>
     requires coefficient { IsCoefficient row.now.coef }
-    requires in_range { All (λ t. IsCoefficient t.0) generator.now }
-    requires descending { IsDescending generator.now }
+    requires shaped { IsShaped generator.now }
     requires running { IsRunning sum.old }
     ensures running { OnOk result (IsRunning sum.new) }
-    ensures added { OnOk result (Adds sum.old sum.new (poly_multiple row.now.coef (poly_between row.now.left generator.now row.now.right))) }
-    ensures exact { MatchResult result (λ _. first_overflow (adding_operations (coefficient_in sum.old) row.now.coef row.now.left generator.now row.now.right) ≡ None) (IsStoppedBy (first_overflow (adding_operations (coefficient_in sum.old) row.now.coef row.now.left generator.now row.now.right))) }
+    ensures added { let r = row.now in
+        OnOk result (Adds sum.old sum.new (poly_multiple r.coef (poly_between r.left generator.now r.right))) }
+    ensures exact { let r = row.now in
+        let first = first_overflow (adding_operations (coefficient_in sum.old) r.coef r.left generator.now r.right) in
+        MatchResult result (λ _. first ≡ None) (IsStoppedBy first) }
 {
     for term in generator {
         let product = match times(row.coef, term.0) {

@@ -1,7 +1,7 @@
 ghost use Rattle.std.specs.Prelude.{◌≡◌, ◌≤◌, All, IfOk, length};
 ghost use Rattle.coef_int.specs.Range.{IsCoefficient};
 
-use crate::{Accepted, Refusal, check};
+use crate::{Accepted, Refusal, check, refusal_is_unique};
 use cofactor_trace::{CertRow, Certificate};
 use lists::Listing;
 use nc_polynomial::Poly;
@@ -202,5 +202,6 @@ fn the_operands_of_an_overflow_are_told(rt: HostRuntime) -> Result<(), Fail> {
         let outcome = check(alloc, &polys, &polys, &certificate);
         assert_eq!(rt; described(alloc, &outcome)?.as_str(), want);
     }
+    refusal_is_unique();
     Ok(())
 }

@@ -36,7 +36,7 @@ overflow_mul-want c =
     let rest_is : c.loop-word.rest.now ≡ greater ++ t ∷ [] = search rules in
     let entries_is : c.loop-word.word-iterator ≡ (w, got) ∷ c.next.new.self = search rules in
     let compares : Compares c.args.sum.now c.args.denominator c.args.claim.now (greater ++ t ∷ []) ((w, got) ∷ c.next.new.self) = rw (← rest_is, ← entries_is) (search rules) in
-    let fits : IsCoefficient (c.args.denominator *ℤ t.0) = term_holds c.args.sum.now c.args.denominator c.args.claim.now greater t c.requires.descending (λ u. IsCoefficient (c.args.denominator *ℤ u.0)) (products_fit c.args.denominator c.args.claim.now c.requires.products) ((w, got) ∷ c.next.new.self) compares in
+    let fits : IsCoefficient (c.args.denominator *ℤ t.0) = term_holds c.args.sum.now c.args.denominator c.args.claim.now greater t c.requires.shaped.descending (λ u. IsCoefficient (c.args.denominator *ℤ u.0)) (products_fit c.args.denominator c.args.claim.now c.requires.products) ((w, got) ∷ c.next.new.self) compares in
     search rules
 
 pub returns-in-Less : goal.returns-in-Less
@@ -50,7 +50,7 @@ returns-in-Less c =
     let compares : Compares c.args.sum.now c.args.denominator c.args.claim.now (greater ++ t ∷ []) ((w, got) ∷ c.next.new.self) = rw (← rest_is, ← entries_is) (search rules) in
     let less : word_cmp w t.1 ≡ Less = search rules in
     let made : IfOk c.differs-in-Less.result (λ d. d ≡ Some (record { word = w; want = pos 0; got = got })) = search rules in
-    told _ _ c.differs-in-Less.result w (pos 0) got made (entry_first c.args.sum.now c.args.denominator c.args.claim.now greater t c.requires.descending c.requires.running (w, got) c.next.new.self compares less)
+    told _ _ c.differs-in-Less.result w (pos 0) got made (entry_first c.args.sum.now c.args.denominator c.args.claim.now greater t c.requires.shaped.descending c.requires.running (w, got) c.next.new.self compares less)
 
 pub returns-in-Greater : goal.returns-in-Greater
 returns-in-Greater c =
@@ -61,12 +61,12 @@ returns-in-Greater c =
     let rest_is : c.loop-word.rest.now ≡ greater ++ t ∷ [] = search rules in
     let entries_is : c.loop-word.word-iterator ≡ (w, got) ∷ c.next.new.self = search rules in
     let compares : Compares c.args.sum.now c.args.denominator c.args.claim.now (greater ++ t ∷ []) ((w, got) ∷ c.next.new.self) = rw (← rest_is, ← entries_is) (search rules) in
-    let fits : IsCoefficient (c.args.denominator *ℤ t.0) = term_holds c.args.sum.now c.args.denominator c.args.claim.now greater t c.requires.descending (λ u. IsCoefficient (c.args.denominator *ℤ u.0)) (products_fit c.args.denominator c.args.claim.now c.requires.products) ((w, got) ∷ c.next.new.self) compares in
+    let fits : IsCoefficient (c.args.denominator *ℤ t.0) = term_holds c.args.sum.now c.args.denominator c.args.claim.now greater t c.requires.shaped.descending (λ u. IsCoefficient (c.args.denominator *ℤ u.0)) (products_fit c.args.denominator c.args.claim.now c.requires.products) ((w, got) ∷ c.next.new.self) compares in
     let d = c.args.denominator in
     let higher : word_cmp w t.1 ≡ Greater = search rules in
-    let nonzero : t.0 ≢ pos 0 = term_holds c.args.sum.now d c.args.claim.now greater t c.requires.descending (λ u. u.0 ≢ pos 0) c.requires.nonzero ((w, got) ∷ c.next.new.self) compares in
+    let nonzero : t.0 ≢ pos 0 = term_holds c.args.sum.now d c.args.claim.now greater t c.requires.shaped.descending (λ u. u.0 ≢ pos 0) c.requires.shaped.nonzero ((w, got) ∷ c.next.new.self) compares in
     let made : IfOk c.differs-in-Greater.result (λ x. x ≡ Some (record { word = t.1; want = d *ℤ t.0; got = pos 0 })) = search rules in
-    told _ _ c.differs-in-Greater.result t.1 (d *ℤ t.0) (pos 0) made (term_first c.args.sum.now d c.args.claim.now greater t c.requires.descending c.requires.running (w, got) c.next.new.self compares higher c.requires.denominator nonzero)
+    told _ _ c.differs-in-Greater.result t.1 (d *ℤ t.0) (pos 0) made (term_first c.args.sum.now d c.args.claim.now greater t c.requires.shaped.descending c.requires.running (w, got) c.next.new.self compares higher c.requires.denominator nonzero)
 
 pub returns-then-want-got : goal.returns-then-want-got
 returns-then-want-got c =
@@ -77,12 +77,12 @@ returns-then-want-got c =
     let rest_is : c.loop-word.rest.now ≡ greater ++ t ∷ [] = search rules in
     let entries_is : c.loop-word.word-iterator ≡ (w, got) ∷ c.next.new.self = search rules in
     let compares : Compares c.args.sum.now c.args.denominator c.args.claim.now (greater ++ t ∷ []) ((w, got) ∷ c.next.new.self) = rw (← rest_is, ← entries_is) (search rules) in
-    let fits : IsCoefficient (c.args.denominator *ℤ t.0) = term_holds c.args.sum.now c.args.denominator c.args.claim.now greater t c.requires.descending (λ u. IsCoefficient (c.args.denominator *ℤ u.0)) (products_fit c.args.denominator c.args.claim.now c.requires.products) ((w, got) ∷ c.next.new.self) compares in
+    let fits : IsCoefficient (c.args.denominator *ℤ t.0) = term_holds c.args.sum.now c.args.denominator c.args.claim.now greater t c.requires.shaped.descending (λ u. IsCoefficient (c.args.denominator *ℤ u.0)) (products_fit c.args.denominator c.args.claim.now c.requires.products) ((w, got) ∷ c.next.new.self) compares in
     let d = c.args.denominator in
     let equal : word_cmp w t.1 ≡ Equal = search rules in
     let differ : d *ℤ t.0 ≢ got = search rules in
     let made : IfOk c.differs-then-want-got.result (λ x. x ≡ Some (record { word = w; want = d *ℤ t.0; got = got })) = search rules in
-    told _ _ c.differs-then-want-got.result w (d *ℤ t.0) got made (both_differ c.args.sum.now d c.args.claim.now greater t c.requires.descending c.requires.running (w, got) c.next.new.self compares equal differ)
+    told _ _ c.differs-then-want-got.result w (d *ℤ t.0) got made (both_differ c.args.sum.now d c.args.claim.now greater t c.requires.shaped.descending c.requires.running (w, got) c.next.new.self compares equal differ)
 
 pub loop-word-preserved : goal.loop-word-preserved
 loop-word-preserved c =
@@ -93,12 +93,12 @@ loop-word-preserved c =
     let rest_is : c.loop-word.rest.now ≡ greater ++ t ∷ [] = search rules in
     let entries_is : c.loop-word.word-iterator ≡ (w, got) ∷ c.next.new.self = search rules in
     let compares : Compares c.args.sum.now c.args.denominator c.args.claim.now (greater ++ t ∷ []) ((w, got) ∷ c.next.new.self) = rw (← rest_is, ← entries_is) (search rules) in
-    let fits : IsCoefficient (c.args.denominator *ℤ t.0) = term_holds c.args.sum.now c.args.denominator c.args.claim.now greater t c.requires.descending (λ u. IsCoefficient (c.args.denominator *ℤ u.0)) (products_fit c.args.denominator c.args.claim.now c.requires.products) ((w, got) ∷ c.next.new.self) compares in
+    let fits : IsCoefficient (c.args.denominator *ℤ t.0) = term_holds c.args.sum.now c.args.denominator c.args.claim.now greater t c.requires.shaped.descending (λ u. IsCoefficient (c.args.denominator *ℤ u.0)) (products_fit c.args.denominator c.args.claim.now c.requires.products) ((w, got) ∷ c.next.new.self) compares in
     let d = c.args.denominator in
     let equal : word_cmp w t.1 ≡ Equal = search rules in
     let agree : d *ℤ t.0 ≡ got = search rules in
     let is : to_z w128 (of_z w128 d) ≡ d = search rules in
-    rw is (both_agree c.args.sum.now d c.args.claim.now greater t c.requires.descending c.requires.running (w, got) c.next.new.self compares equal agree)
+    rw is (both_agree c.args.sum.now d c.args.claim.now greater t c.requires.shaped.descending c.requires.running (w, got) c.next.new.self compares equal agree)
 
 pub overflow_mul-denominator : goal.overflow_mul-denominator
 overflow_mul-denominator c =
@@ -108,7 +108,7 @@ overflow_mul-denominator c =
     let rest_is : c.loop-word.rest.now ≡ greater ++ t ∷ [] = search rules in
     let entries_is : c.loop-word.word-iterator ≡ [] = search rules in
     let compares : Compares c.args.sum.now d c.args.claim.now (greater ++ t ∷ []) [] = rw (← rest_is, ← entries_is) (search rules) in
-    let fits : IsCoefficient (d *ℤ t.0) = term_holds c.args.sum.now d c.args.claim.now greater t c.requires.descending (λ u. IsCoefficient (d *ℤ u.0)) (products_fit d c.args.claim.now c.requires.products) [] compares in
+    let fits : IsCoefficient (d *ℤ t.0) = term_holds c.args.sum.now d c.args.claim.now greater t c.requires.shaped.descending (λ u. IsCoefficient (d *ℤ u.0)) (products_fit d c.args.claim.now c.requires.products) [] compares in
     search rules
 
 pub returns-in-Some-split_last-2 : goal.returns-in-Some-split_last-2
@@ -119,7 +119,7 @@ returns-in-Some-split_last-2 c =
     let rest_is : c.loop-word.rest.now ≡ greater ++ t ∷ [] = search rules in
     let entries_is : c.loop-word.word-iterator ≡ [] = search rules in
     let compares : Compares c.args.sum.now d c.args.claim.now (greater ++ t ∷ []) [] = rw (← rest_is, ← entries_is) (search rules) in
-    let fits : IsCoefficient (d *ℤ t.0) = term_holds c.args.sum.now d c.args.claim.now greater t c.requires.descending (λ u. IsCoefficient (d *ℤ u.0)) (products_fit d c.args.claim.now c.requires.products) [] compares in
-    let nonzero : t.0 ≢ pos 0 = term_holds c.args.sum.now d c.args.claim.now greater t c.requires.descending (λ u. u.0 ≢ pos 0) c.requires.nonzero [] compares in
+    let fits : IsCoefficient (d *ℤ t.0) = term_holds c.args.sum.now d c.args.claim.now greater t c.requires.shaped.descending (λ u. IsCoefficient (d *ℤ u.0)) (products_fit d c.args.claim.now c.requires.products) [] compares in
+    let nonzero : t.0 ≢ pos 0 = term_holds c.args.sum.now d c.args.claim.now greater t c.requires.shaped.descending (λ u. u.0 ≢ pos 0) c.requires.shaped.nonzero [] compares in
     let made : IfOk c.differs-in-Some-split_last-2.result (λ x. x ≡ Some (record { word = t.1; want = d *ℤ t.0; got = pos 0 })) = search rules in
-    told _ _ c.differs-in-Some-split_last-2.result t.1 (d *ℤ t.0) (pos 0) made (term_left c.args.sum.now d c.args.claim.now greater t c.requires.descending compares c.requires.denominator nonzero)
+    told _ _ c.differs-in-Some-split_last-2.result t.1 (d *ℤ t.0) (pos 0) made (term_left c.args.sum.now d c.args.claim.now greater t c.requires.shaped.descending compares c.requires.denominator nonzero)

@@ -31,6 +31,6 @@ loop-term-preserved c =
     record {
       running = search rules;
       added = goes_on c.args.sum.now c.loop-term.sum row.coef row.left c.args.generator.now row.right c.loop-term.term-index t
-          c.loop-term.invariant.added c.loop-term-test.true c.term-item.is c.add_term.new.sum c.requires.descending fits
+          c.loop-term.invariant.added c.loop-term-test.true c.term-item.is c.add_term.new.sum c.requires.shaped.descending fits
           (rw (product, word) at adds) (rw (product, word) at sum_fits);
     }
