@@ -4,7 +4,6 @@ use Rattle.std.proofs.lemmas.Bool.Decides.{nat_tests, eqb_tells, leb_tells}
 use Rattle.std.proofs.lemmas.Grind.{get_or-set_at}
 use Rattle.std.proofs.lemmas.List.{get_or-set_other, length-set, length-replicate}
 use Rattle.std.proofs.lemmas.List.Folds.{list_any-append}
-use Rattle.std.specs.List.{list_any}
 use Rattle.word_core.specs.declared.letter.Letter.{Letter}
 use Rattle.word_orders.specs.declared.fault.OrderFault.{OrderFault}
 use Rattle.word_orders.specs.declared.fault.OrderFault.TheVariants.{RepeatedLetter, NoSuchLetter}

@@ -1,3 +1,6 @@
 pub mod BlockReading
 pub mod FirstFault
+pub mod Induction
+pub mod Orders
+pub mod Over
 pub mod WeightReading

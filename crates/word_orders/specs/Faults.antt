@@ -42,13 +42,14 @@ pub record IsFirstFault {A : Type 0} (fault_of : List A → A → Option OrderFa
   pub sound_before : HasNoFault fault_of before
   pub is_fault : fault_of before item ≡ Some fault
 
+-- memory ran out
 abbrev pub IsMemory : OrderFault → Type 0
 IsMemory (BadWeight letter) = ⊥
 IsMemory (RepeatedLetter letter) = ⊥
 IsMemory (NoSuchLetter letter) = ⊥
 IsMemory (Memory e) = Unit {0}
 
--- want of memory is free
+-- the fault is the first one of the items; want of memory is free
 abbrev pub Explains : {A : Type 0} → (List A → A → Option OrderFault) → List A → OrderFault → Type 0
 Explains fault_of items (BadWeight letter) = IsFirstFault fault_of items (BadWeight letter)
 Explains fault_of items (RepeatedLetter letter) = IsFirstFault fault_of items (RepeatedLetter letter)

@@ -9,3 +9,4 @@ pub mod Tables
 pub mod CanonicalLaws
 pub mod MeasuredLaws
 pub mod Orders
+pub mod Specified

@@ -1,55 +1,29 @@
--- The orders that can be asked for, and those that are made.
-use Rattle.std.specs.Prelude.{◌^◌, ℕ, List, length}
-use Rattle.word_core.specs.Canonical.{word_cmp}
-use Rattle.word_orders.specs.declared.fault.OrderFault.{OrderFault}
-use Rattle.word_orders.specs.declared.any.OrderSpec.{OrderSpec}
-use Rattle.word_orders.specs.declared.any.OrderSpec.TheVariants as asked
-use Rattle.word_orders.specs.declared.any.AnyOrder.{AnyOrder}
-use Rattle.word_orders.specs.declared.any.AnyOrder.TheVariants as made
-use Rattle.word_orders.specs.Admissible.{Compare, IsAdmissible}
-use Rattle.word_orders.specs.CanonicalLaws.{word_cmp-admissible}
-use Rattle.word_orders.specs.Faults.{block_fault, entry_fault, HasNoFault, Explains}
-use Rattle.word_orders.specs.Lists.{is_listed, weight_of}
-use Rattle.word_orders.specs.Measured.{weight_cmp, weight_rank, block_cmp, block_rank}
-use Rattle.word_orders.specs.MeasuredLaws.{weight_cmp-admissible, block_cmp-admissible}
-use Rattle.word_orders.specs.Rank.{rank_of}
-use Rattle.word_orders.specs.Tables.{is_in, weight_in}
+-- Admissible orders as what a proof about words asks of them.
+use Rattle.std.specs.Prelude.{◌≡◌, ◌⊎◌, ℕ, List, ◌++◌}
+use Rattle.std.specs.declared.cmp.Ordering.TheVariants.{Less}
+use Rattle.word_core.specs.Letters.{IsOver}
+use Rattle.word_orders.specs.Admissible.{Compare}
 
--- the order that is asked for
-abbrev pub asked_cmp : OrderSpec → Compare
-asked_cmp asked.Degree = word_cmp
-asked_cmp (asked.Weight weights) = weight_cmp (weight_of weights)
-asked_cmp (asked.Block block) = block_cmp (is_listed block)
+-- An admissible order of the words that are in range. What is less is in range, and so is what is greater.
+pub record Order : Type 1 where
+  pub Range : List ℕ → Type 0
+  pub Less : List ℕ → List ℕ → Type 0
+  pub less_range : (u v : List ℕ) → Less u v → Range u
+  pub irreflexive : (u : List ℕ) → Less u u → ⊥
+  pub less_trans : (u v w : List ℕ) → Less u v → Less v w → Less u w
+  pub compare : (u v : List ℕ) → Range u → Range v → (u ≡ v) ⊎ (Less u v ⊎ Less v u)
+  -- what holds of a word when it holds of all lower ones holds of all
+  pub induction : (P : List ℕ → Type 0) → ((M : List ℕ) → ((L : List ℕ) → Less L M → P L) → P M) → (M : List ℕ) → P M
+  pub compatible : (l u v r : List ℕ) → Range (l ++ (v ++ r)) → Less u v → Less (l ++ (u ++ r)) (l ++ (v ++ r))
+  pub factor : (l u r : List ℕ) → Range (l ++ (u ++ r)) → Range u
+  pub factor_le : (l u r : List ℕ) → Range (l ++ (u ++ r)) → (u ≡ l ++ (u ++ r)) ⊎ Less u (l ++ (u ++ r))
+  pub range_decided : (u : List ℕ) → Range u ⊎ (Range u → ⊥)
+  pub range_left : (l u r : List ℕ) → Range (l ++ (u ++ r)) → Range l
+  pub range_right : (l u r : List ℕ) → Range (l ++ (u ++ r)) → Range r
+  pub range_join : (l u r : List ℕ) → Range l → Range u → Range r → Range (l ++ (u ++ r))
 
--- nothing is wrong with its list
-abbrev pub IsSound : ℕ → OrderSpec → Type 0
-IsSound letters asked.Degree = Unit {0}
-IsSound letters (asked.Weight weights) = HasNoFault (entry_fault letters) weights
-IsSound letters (asked.Block block) = HasNoFault (block_fault letters) block
-
--- what its first fault is
-abbrev pub ExplainsSpec : ℕ → OrderSpec → OrderFault → Type 0
-ExplainsSpec letters asked.Degree fault = ⊥
-ExplainsSpec letters (asked.Weight weights) fault = Explains (entry_fault letters) weights fault
-ExplainsSpec letters (asked.Block block) fault = Explains (block_fault letters) block fault
-
--- how one that is made compares, over which letters, and its ranks
-abbrev pub made_cmp : AnyOrder → Compare
-made_cmp (made.Degree order) = word_cmp
-made_cmp (made.Weight order) = weight_cmp (weight_in order)
-made_cmp (made.Block order) = block_cmp (is_in order)
-
-abbrev pub letters_of : AnyOrder → ℕ
-letters_of (made.Degree order) = 2 ^ 16
-letters_of (made.Weight order) = length order
-letters_of (made.Block order) = length order
-
-abbrev pub made_rank : AnyOrder → List ℕ → List ℕ
-made_rank (made.Degree order) = rank_of (2 ^ 16)
-made_rank (made.Weight order) = weight_rank (weight_in order) (length order)
-made_rank (made.Block order) = block_rank (is_in order) (length order)
-
-pub made_cmp-admissible : (order : AnyOrder) → IsAdmissible (letters_of order) (made_cmp order) (made_rank order)
-made_cmp-admissible (made.Degree order) = word_cmp-admissible (2 ^ 16)
-made_cmp-admissible (made.Weight order) = weight_cmp-admissible (weight_in order) (length order)
-made_cmp-admissible (made.Block order) = block_cmp-admissible (is_in order) (length order)
+-- both words are over the letters below the number, and the first is below the second
+pub record IsBelow (letters : ℕ) (compare : Compare) (u v : List ℕ) : Type 0 where
+  pub left : IsOver letters u
+  pub right : IsOver letters v
+  pub less : compare u v ≡ Less

@@ -1,5 +1,5 @@
 ghost use Rattle.std.specs.Prelude.{◌≡◌, ◌≤◌, ◌^◌, ℕ, List, IfOk, MatchResult};
-ghost use Rattle.word_orders.specs.Orders.{asked_cmp, IsSound, ExplainsSpec, made_cmp, letters_of, made_rank, made_cmp-admissible};
+ghost use Rattle.word_orders.specs.Specified.{asked_cmp, IsSound, ExplainsSpec, made_cmp, letters_of, made_rank, made_cmp-admissible};
 
 use crate::{BlockLex, DegLex, OrderFault, WeightLex, WordOrder};
 use lists::Listing;
@@ -30,15 +30,13 @@ pub enum AnyOrder {
 }
 
 impl AnyOrder {
-    /// The order that is asked for, for words over the letters below `letters`. The fault is that of the first item of
-    /// the list that has one; for one item a number that is no letter's counts before a repetition, and that before a
-    /// weight that is 0 or above 1,000.
+    /// The order that is asked for, for words over the letters below `letters`; no word has a letter past 65,535. The
+    /// fault is that of the first item of the list that has one; for one item a number that is no letter's counts
+    /// before a repetition, and that before a weight that is 0 or above 1,000.
     pub fn new(alloc: Global, spec: &OrderSpec, letters: u32) -> Result<AnyOrder, OrderFault>
         ensures order { IfOk result (λ o. (u v : List ℕ) → made_cmp o u v ≡ asked_cmp spec.now u v) }
         ensures letters { IfOk result (λ o. letters ≤ 2 ^ 16 → letters ≤ letters_of o) }
-        ensures first_fault {
-            MatchResult result (λ _. IsSound letters spec.now) (ExplainsSpec letters spec.now)
-        }
+        ensures first_fault { MatchResult result (λ _. IsSound letters spec.now) (ExplainsSpec letters spec.now) }
     {
         match spec {
             OrderSpec::Degree => Ok(AnyOrder::Degree(DegLex::new())),

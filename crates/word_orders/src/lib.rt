@@ -6,6 +6,8 @@ mod block;
 mod degree;
 mod fault;
 mod order;
+#[cfg(test)]
+mod tests;
 mod weight;
 
 pub use any::{AnyOrder, OrderSpec};

@@ -1,7 +1,7 @@
-use Rattle.std.proofs.Common.{◌≡◌, ℕ, List, sym, ap, ◌∙◌, rules}
+use Rattle.std.proofs.Common.{◌≡◌, ap, ◌∙◌, rules}
 use Rattle.word_orders.specs.Lists.{is_listed, weight_of}
 use Rattle.word_orders.specs.Measured.{weight_cmp, block_cmp}
-use Rattle.word_orders.specs.Orders.{asked_cmp}
+use Rattle.word_orders.specs.Specified.{asked_cmp}
 use Rattle.word_orders.specs.Tables.{is_in, weight_in}
 use Rattle.word_orders.proofs.any.AnyOrder.new.Goals as goal
 

@@ -1,4 +1,4 @@
-use Rattle.std.proofs.Common.{◌≡◌, ◌+◌, suc, [], ◌∷◌, ◌++◌, get_or, take, drop, Err, MatchResult, sym, subst, rules}
+use Rattle.std.proofs.Common.{◌≡◌, suc, [], ◌∷◌, ◌++◌, get_or, take, drop, Err, MatchResult, sym, subst, rules}
 use Rattle.std.proofs.lemmas.List.{take_more}
 use Rattle.word_core.specs.declared.letter.Letter.{Letter}
 use Rattle.word_orders.specs.Faults.{block_fault, HasNoFault, Explains}
