@@ -1,8 +1,8 @@
 -- A representation that is given by lists.
-use Rattle.std.specs.Prelude.{◌≡◌, List, length, get_or}
+use Rattle.std.specs.Prelude.{◌≡◌, ℕ, ℤ, List, length, get_or}
 use Rattle.definitions.specs.Category.{Structure}
 use Rattle.definitions.specs.Quiver.{Quiver, letters}
-use Rattle.definitions.specs.Representation.{Representation, Represents, StarRepresents}
+use Rattle.definitions.specs.Representation.{Representation, Represents, StarRepresents, value_at}
 
 -- past the ends of the lists the given object and arrow stand, which count for nothing
 abbrev pub listed : {Object Arrow : Type 0} → List Object → List Arrow → Object → Arrow → Representation Object Arrow
@@ -18,3 +18,7 @@ pub record IsRepresentation {Object Arrow : Type 0} (s : Structure Object Arrow)
 pub record IsStarRepresentation {Object Arrow : Type 0} (s : Structure Object Arrow) (adjoint : Arrow → Arrow) (q : Quiver) (objects : List Object) (arrows : List Arrow) : Type 0 where
   pub representation : IsRepresentation s q objects arrows
   pub represents : (o : Object) (a : Arrow) → StarRepresents s adjoint q (listed objects arrows o a)
+
+-- The arrow is the value of the polynomial at the signature (u, v).
+pub record IsValue {Object Arrow : Type 0} (s : Structure Object Arrow) (q : Quiver) (objects : List Object) (arrows : List Arrow) (u v : ℕ) (p : List (ℤ × List ℕ)) (x : Arrow) : Type 0 where
+  pub at : (o : Object) (a : Arrow) → x ≡ value_at s q (listed objects arrows o a) u v p

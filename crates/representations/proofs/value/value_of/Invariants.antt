@@ -1,0 +1,12 @@
+use Rattle.std.proofs.Common.{◌≡◌, take}
+use Rattle.definitions.specs.Representation.{value_at}
+use Rattle.quiver.specs.Declarations.{quiver_of}
+use Rattle.representations.specs.Listed.{listed}
+use Rattle.representations.proofs.value.value_of.Given as goal
+
+-- the value of the terms so far
+abbrev pub invariant-loop-place : goal.invariant-loop-place
+invariant-loop-place g l =
+    (o : _) (a : _)
+    → l.sum ≡ value_at (g.C.Preadditive.structure l.category) (quiver_of l.quiver) (listed l.representation.objects l.representation.arrows o a)
+    l.fn.sig.source.0 l.fn.sig.target.0 (take l.place l.poly.terms)
