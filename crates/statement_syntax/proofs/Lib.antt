@@ -1,0 +1,12 @@
+pub mod Values
+pub mod Scanning
+pub mod Choices
+pub mod Machine
+pub mod Seen
+pub mod Run
+pub mod Written
+pub mod Runs
+pub mod Same
+pub mod Viable
+pub mod LineReads
+pub mod LineEnds

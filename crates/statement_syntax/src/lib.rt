@@ -1,0 +1,15 @@
+//! The statement language: its text, read into a tree and written back.
+#![tactic(auto)]
+
+mod expression;
+mod line;
+mod place;
+mod read;
+mod scan;
+mod stack;
+mod token;
+mod tree;
+
+pub use place::Spot;
+pub use token::{Token, TokenKind};
+pub use tree::{Factor, Mark, Name, Number, Primary, Statement, StatementKind, Sum, Term};
