@@ -10,3 +10,8 @@ pub mod Same
 pub mod Viable
 pub mod LineReads
 pub mod LineEnds
+pub mod LineRuns
+pub mod FileReads
+pub mod FileDeep
+pub mod LastToken
+pub mod Stopping

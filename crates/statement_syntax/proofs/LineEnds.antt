@@ -206,7 +206,7 @@ map_on at names (rest.Arrow s) ts h =
     (more, mapped at h.2.has_first.first h.2.has_first.more h.0 s h.1 some_name no_word, tt, map_front at names ts _ more h.2)
 map_on at names (rest.Target s e) ts h = ([], mapped at h.2.has_first.first h.2.has_first.more h.0 s h.1 e no_word, tt, map_front at names ts _ [] h.2)
 
-abbrev some_expr : Expr
+abbrev pub some_expr : Expr
 some_expr = first no_sign (factors None (one (plain (name some_name))))
 
 first_on : (w : SidesWord) (at : Spot) (r : Reading) (ts : List Token) → FirstSide w at r ts → LineGoesOn ts

@@ -4,4 +4,6 @@ pub mod Grammar
 pub mod Steps
 pub mod Tree
 pub mod Lines
+pub mod Fault
+pub mod Stages
 pub mod Places

@@ -2,6 +2,7 @@
 #![tactic(auto)]
 
 mod expression;
+mod fault;
 mod line;
 mod place;
 mod read;
@@ -10,6 +11,8 @@ mod stack;
 mod token;
 mod tree;
 
+pub use fault::SyntaxFault;
 pub use place::Spot;
+pub use read::read_tree;
 pub use token::{Token, TokenKind};
-pub use tree::{Factor, Mark, Name, Number, Primary, Statement, StatementKind, Sum, Term};
+pub use tree::{Factor, Mark, Name, Number, Primary, Statement, StatementKind, Sum, Term, Tree};

@@ -212,7 +212,7 @@ pub fn characters(alloc: Global, text: &str) -> Result<Vec<char>, AllocError>
 
 /// The tokens of a text. A line that has a token ends with one just past its last.
 pub fn tokens(alloc: Global, text: &[char]) -> Result<Vec<Token>, ScanError>
-    requires { length text.now + 2 < 2 ^ 32 }
+    requires { length text.now < 4294967295 }
     ensures { ScansTo (λ v. v.items) result (tokens_of text.now) }
 {
     let mut out = Vec::new(alloc);

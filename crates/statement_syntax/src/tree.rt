@@ -1,5 +1,14 @@
+ghost use Rattle.statement_syntax.specs.Fault.{HasText};
+
 use crate::place::Spot;
 use lists::{Listing, Text};
+
+/// The statements of a text, one a line. It is the tree of some text of the language.
+#[derive(Drop)]
+pub struct Tree {
+    pub statements: Listing<Statement>,
+    pub ghost spelled: { ∥ HasText statements ∥₁ },
+}
 
 /// A name with its place.
 #[derive(Drop)]
