@@ -4,7 +4,7 @@ pub mod Choices
 pub mod Machine
 pub mod Seen
 pub mod Run
-pub mod Written
+pub mod StateReads
 pub mod Runs
 pub mod Same
 pub mod Viable
@@ -14,4 +14,6 @@ pub mod LineRuns
 pub mod FileReads
 pub mod FileDeep
 pub mod LastToken
+pub mod TreeKinds
+pub mod Moved
 pub mod Stopping

@@ -12,7 +12,7 @@ use Rattle.statement_syntax.specs.declared.expression.Misfit.TheVariants.{Expect
 use Rattle.statement_syntax.specs.Steps.{◌>>=◌, run}
 use Rattle.statement_syntax.specs.Grammar.{no_sign, lead_plus, lead_minus, Sign, plus, minus, Expr, Product, factors, one, beside, plain, Prime, name, identity, bracket, sign_token, name_token, expr_tokens, ExprFits}
 use Rattle.statement_syntax.proofs.Machine.{Head, led, after, Part, nothing, scaled, product, Focus, outside, square, named, Level, State, fresh, add, whole_term, with_term, Stepped, step_literal, sign_after, step_sign, step_quote, close_after, step_outside, step_square, step_named, step_by, step, whole, end_by, state_tokens, head_tokens, part_tokens}
-use Rattle.statement_syntax.proofs.Written.{with_term-tokens, whole_term-tokens, run_reads, step_reads}
+use Rattle.statement_syntax.proofs.StateReads.{with_term-tokens, whole_term-tokens, run_reads, step_reads}
 use Rattle.statement_syntax.proofs.Run.{Upto, before_it, upto_ok, run_front}
 use Rattle.statement_syntax.proofs.Runs.{at_outside, end_state, expr_run, end-whole}
 

@@ -6,4 +6,5 @@ pub mod Tree
 pub mod Lines
 pub mod Fault
 pub mod Stages
+pub mod Written
 pub mod Places

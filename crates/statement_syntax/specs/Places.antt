@@ -1,10 +1,11 @@
--- Two expressions are the same up to places where they are equal once all places are set to one.
-use Rattle.std.specs.Prelude.{ℕ, List, [], ◌∷◌, map, Option, Some, None, Result, Ok, Err}
+-- Statements without their places: all are set to one, and a leading plus is left out.
+use Rattle.std.specs.Prelude.{◌≡◌, ℕ, List, [], ◌∷◌, map, Option, Some, None, Result, Ok, Err}
 use Rattle.statement_syntax.specs.declared.place.Spot.{Spot}
-use Rattle.statement_syntax.specs.declared.token.Token.{Token}
+use Rattle.statement_syntax.specs.declared.tree.Statement.{Statement}
 use Rattle.statement_syntax.specs.declared.tree.Name.{Name}
 use Rattle.statement_syntax.specs.declared.tree.Number.{Number}
-use Rattle.statement_syntax.specs.Grammar.{Lead, no_sign, lead_plus, lead_minus, Sign, plus, minus, Expr, first, joined, Product, zero_alone, factors, Factors, one, beside, Marked, plain, marked, Prime, name, identity, bracket}
+use Rattle.statement_syntax.specs.Grammar.{Lead, no_sign, lead_plus, lead_minus, Sign, plus, minus, Expr, first, joined, Product, zero_alone, factors, Factors, one, beside, Marked, plain, marked, Prime, name, identity, bracket, Ending, no_word, self_word, Stated, listed, mapped, sides, paired, projected, by_degree, by_weight, modelled, StatedLine}
+use Rattle.statement_syntax.specs.Tree.{file_tree}
 
 abbrev pub somewhere : Spot
 somewhere = record { line = 1; column = 1 }
@@ -19,12 +20,9 @@ abbrev pub bare_literal : Option Number → Option Number
 bare_literal None = None
 bare_literal (Some n) = Some (bare_number n)
 
-abbrev pub bare_token : Token → Token
-bare_token t = record { at = somewhere; kind = t.kind }
-
 abbrev pub bare_lead : Lead → Lead
 bare_lead no_sign = no_sign
-bare_lead (lead_plus at) = lead_plus somewhere
+bare_lead (lead_plus at) = no_sign
 bare_lead (lead_minus at) = lead_minus somewhere
 
 abbrev pub bare_sign : Sign → Sign
@@ -52,3 +50,38 @@ abbrev mutual
   bare_prime (name n) = name (bare_name n)
   bare_prime (identity left n right) = identity somewhere (bare_name n) somewhere
   bare_prime (bracket left e right) = bracket somewhere (bare e) somewhere
+
+-- ---- statements
+
+abbrev pub bare_ending : Ending → Ending
+bare_ending no_word = no_word
+bare_ending (self_word at) = self_word somewhere
+
+abbrev pub bare_names : List Name → List Name
+bare_names ns = map bare_name ns
+
+abbrev pub bare_pair : Name × Number → Name × Number
+bare_pair p = (bare_name p.0, bare_number p.1)
+
+abbrev pub bare_pairs : List (Name × Number) → List (Name × Number)
+bare_pairs ps = map bare_pair ps
+
+abbrev pub bare_stated : Stated → Stated
+bare_stated (listed w at n ns) = listed w somewhere (bare_name n) (bare_names ns)
+bare_stated (mapped at n ns colon s arrow t end) = mapped somewhere (bare_name n) (bare_names ns) somewhere (bare_name s) somewhere (bare_name t) (bare_ending end)
+bare_stated (sides w at d equals e) = sides w somewhere (bare d) somewhere (bare e)
+bare_stated (paired w at m n) = paired w somewhere (bare_name m) (bare_name n)
+bare_stated (projected at n) = projected somewhere (bare_name n)
+bare_stated (by_degree at word) = by_degree somewhere somewhere
+bare_stated (by_weight at word p ps) = by_weight somewhere somewhere (bare_pair p) (bare_pairs ps)
+bare_stated (modelled at m ps) = modelled somewhere (bare_number m) (bare_pairs ps)
+
+abbrev pub bare_line : StatedLine → StatedLine
+bare_line l = record { stated = bare_stated l.stated; end = somewhere }
+
+abbrev pub bare_file : List StatedLine → List StatedLine
+bare_file ls = map bare_line ls
+
+-- trees of statements that are the same without their places
+abbrev pub SameButPlaces : List Statement → List Statement → Type 0
+SameButPlaces s t = (ls : List StatedLine) × (ms : List StatedLine) × (s ≡ file_tree ls) × (t ≡ file_tree ms) × (bare_file ls ≡ bare_file ms)

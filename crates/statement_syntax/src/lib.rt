@@ -10,9 +10,11 @@ mod scan;
 mod stack;
 mod token;
 mod tree;
+mod write;
 
 pub use fault::SyntaxFault;
 pub use place::Spot;
 pub use read::read_tree;
 pub use token::{Token, TokenKind};
 pub use tree::{Factor, Mark, Name, Number, Primary, Statement, StatementKind, Sum, Term, Tree};
+pub use write::write_tree;
