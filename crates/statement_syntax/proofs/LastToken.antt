@@ -27,7 +27,7 @@ token_ends : (t : Token) (n : ℕ) (us : List Token) (past : ℕ) → EndsWell (
 token_ends t n us past (inl h) = absurd (omega (arith, h.0))
 token_ends t n us past (inr h) = inr (t ∷ h.0, h.1, ap (λ x. t ∷ x) h.2)
 
-scan_ok : {A B F : Type 0} (r : Result A F) (f : A → Result B F) (y : B) → (r >>= f) ≡ Ok y → (x : A) × (r ≡ Ok x) × (f x ≡ Ok y)
+pub scan_ok : {A B F : Type 0} (r : Result A F) (f : A → Result B F) (y : B) → (r >>= f) ≡ Ok y → (x : A) × (r ≡ Ok x) × (f x ≡ Ok y)
 scan_ok (Ok x) f y e = (x, refl, e)
 scan_ok (Err d) f y e = absurd cc
 

@@ -16,4 +16,11 @@ pub mod FileDeep
 pub mod LastToken
 pub mod TreeKinds
 pub mod Moved
+pub mod Spelled
+pub mod BareTokens
+pub mod Rescan
+pub mod Literals
+pub mod StatedKinds
+pub mod ReadBack
+pub mod FileBack
 pub mod Stopping

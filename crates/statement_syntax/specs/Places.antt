@@ -6,6 +6,7 @@ use Rattle.statement_syntax.specs.declared.tree.Name.{Name}
 use Rattle.statement_syntax.specs.declared.tree.Number.{Number}
 use Rattle.statement_syntax.specs.Grammar.{Lead, no_sign, lead_plus, lead_minus, Sign, plus, minus, Expr, first, joined, Product, zero_alone, factors, Factors, one, beside, Marked, plain, marked, Prime, name, identity, bracket, Ending, no_word, self_word, Stated, listed, mapped, sides, paired, projected, by_degree, by_weight, modelled, StatedLine}
 use Rattle.statement_syntax.specs.Tree.{file_tree}
+use Rattle.statement_syntax.specs.Fault.{IsTreeOf}
 
 abbrev pub somewhere : Spot
 somewhere = record { line = 1; column = 1 }
@@ -85,3 +86,7 @@ bare_file ls = map bare_line ls
 -- trees of statements that are the same without their places
 abbrev pub SameButPlaces : List Statement → List Statement → Type 0
 SameButPlaces s t = (ls : List StatedLine) × (ms : List StatedLine) × (s ≡ file_tree ls) × (t ≡ file_tree ms) × (bare_file ls ≡ bare_file ms)
+
+-- the bytes are statements of which the tree is the same but for its places
+abbrev pub ReadsBackAs : List ℕ → List Statement → Type 0
+ReadsBackAs bytes statements = (back : List Statement) × IsTreeOf bytes back × SameButPlaces statements back

@@ -3,6 +3,7 @@
 ghost use Rattle.std.specs.Prelude.{◌≡◌, ◌++◌, ◌∷◌, [], length, OnOk, IfOk};
 ghost use Rattle.std.specs.List.{flat_map};
 ghost use Rattle.statement_syntax.specs.Written.{name_kinds, number_kinds, sign_kinds, quotes, literal_kinds, term_kinds, sum_kinds, factor_kinds, word_kinds, pair_kinds, list_kinds, self_kinds, map_kinds, sides_kinds, two_kinds, projection_kinds, degree_kinds, weight_kinds, shape_kinds, statement_kinds, opens, closes, kind_text, gap, text_from, line_text, tree_text};
+ghost use Rattle.statement_syntax.specs.Places.{ReadsBackAs};
 
 use crate::token::TokenKind;
 use crate::tree::{Factor, Name, Number, Primary, StatementKind, Sum, Term, Tree};
@@ -336,7 +337,10 @@ fn put_line(kinds: &[TokenKind], text: &mut Vec<u8>) -> Result<(), AllocError>
 /// The text of a tree, a statement a line. One blank stands between two tokens, but none after `(` and `[`, and none
 /// before `)`, `]` and `'`.
 pub fn write_tree(alloc: Global, tree: &Tree) -> Result<Vec<u8>, AllocError>
+    // One blank between two tokens, but where a bracket or a mark stands close.
     ensures exact { IfOk result (λ text. text.items ≡ tree_text tree.now.statements) }
+    // It is read as the same tree, up to places.
+    ensures read_back { IfOk result (λ text. ∥ ReadsBackAs text.items tree.now.statements ∥₁) }
 {
     let mut text = Vec::new(alloc);
     for statement in tree.statements.as_slice() {
