@@ -82,9 +82,11 @@ ending_are (self_word at) h = h
 pub stated_are : (s : Stated) → Are (stated_tokens s) → AreTokens (stated_tokens (bare_stated s))
 stated_are (listed w at n ns) h = (h.0, names_are (n ∷ ns) h.1)
 stated_are (mapped at n ns colon s arrow t end) h =
-    let parts = split (names_tokens (n ∷ ns)) (sign_token kind.Colon colon ∷ name_token s ∷ sign_token kind.Arrow arrow ∷ name_token t ∷ ending_tokens end) h.1 in
-    (h.0, join (names_tokens (bare_names (n ∷ ns))) (sign_token kind.Colon somewhere ∷ name_token (bare_name s) ∷ sign_token kind.Arrow somewhere ∷ name_token (bare_name t) ∷ ending_tokens (bare_ending end))
-        (names_are (n ∷ ns) parts.0) (tt, (parts.1.1.0, (tt, (parts.1.1.1.1.0, ending_are end parts.1.1.1.1.1)))))
+    let parts = split (names_tokens (n ∷ ns)) (sign_token kind.Colon colon ∷ name_token s ∷ sign_token kind.Arrow arrow ∷ name_token t ∷ ending_tokens end) h.1 in (
+      h.0,
+      join (names_tokens (bare_names (n ∷ ns))) (sign_token kind.Colon somewhere ∷ name_token (bare_name s) ∷ sign_token kind.Arrow somewhere ∷ name_token (bare_name t) ∷ ending_tokens (bare_ending end))
+          (names_are (n ∷ ns) parts.0) (tt, (parts.1.1.0, (tt, (parts.1.1.1.1.0, ending_are end parts.1.1.1.1.1)))),
+    )
 stated_are (sides w at d equals e) h =
     let parts = split (expr_tokens d) (sign_token kind.Equals equals ∷ expr_tokens e) h.1 in
     (h.0, join (expr_tokens (bare d)) (sign_token kind.Equals somewhere ∷ expr_tokens (bare e)) (expr_are d parts.0) (tt, expr_are e parts.1.1))

@@ -110,10 +110,11 @@ written_back ls all fits =
     let utf8 : IsUtf8 bytes = (file_characters ls all, (file-scalars ls all, file-bytes ls all)) in
     let are : file_characters ls all ≡ chars bytes = chars_from_encodes (file_characters ls all) bytes utf8 (file-bytes ls all) in
     let r = file_read ls all 1 in
-    let m = file_moved ls r.tokens r.are in
-    (file_tree m.moved,
-    (m.moved, record { utf8 = utf8; tokens = ap tokens_of (sym are) ∙ r.read ∙ ap (λ x. Ok x) m.are; fits = m.fits fits }, refl),
-    (ls, m.moved, refl, refl, sym m.same))
+    let m = file_moved ls r.tokens r.are in (
+      file_tree m.moved,
+      (m.moved, record { utf8 = utf8; tokens = ap tokens_of (sym are) ∙ r.read ∙ ap (λ x. Ok x) m.are; fits = m.fits fits }, refl),
+      (ls, m.moved, refl, refl, sym m.same),
+    )
 
 -- the tree of some text is written as a text that reads back
 pub reads_back : (statements : List Statement) → HasText statements → ReadsBackAs (tree_text statements) statements

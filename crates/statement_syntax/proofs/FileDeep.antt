@@ -60,19 +60,23 @@ bind_deep (Err e) f fails = let same : e ≡ TooDeep = cc in ap (λ x. Err x) sa
 first_deep : (w : SidesWord) (at : Spot) (r : Reading) (ts : List Token) (t : Spot) (k : TokenKind) → FirstSide w at r ts → IsDeep ts t k (token_step r k t >>= λ x. Ok (line.Sides w at None x))
 first_deep w at r ts t k h fails =
     let on = reading_deep r h.side t k h.reads (bind_deep (token_step r k t) (λ x. line.Sides w at None x) fails) in
-    let last : List Token = sign_token kind.Equals somewhere ∷ name_token some_name ∷ [] in
-    (on.0 ++ last, sides w at on.1 somewhere some_expr,
-    ap (λ (x : List Token). (x ++ sign_token k t ∷ []) ++ (on.0 ++ last)) h.are
-    ∙ ap (λ x. word_token (sides_text w) at ∷ x) (append_assoc h.side (sign_token k t ∷ []) (on.0 ++ last) ∙ sym (append_assoc h.side (sign_token k t ∷ on.0) last) ∙ ap (λ x. x ++ last) on.2))
+    let last : List Token = sign_token kind.Equals somewhere ∷ name_token some_name ∷ [] in (
+      on.0 ++ last,
+      sides w at on.1 somewhere some_expr,
+      ap (λ (x : List Token). (x ++ sign_token k t ∷ []) ++ (on.0 ++ last)) h.are
+          ∙ ap (λ x. word_token (sides_text w) at ∷ x) (append_assoc h.side (sign_token k t ∷ []) (on.0 ++ last) ∙ sym (append_assoc h.side (sign_token k t ∷ on.0) last) ∙ ap (λ x. x ++ last) on.2),
+    )
 
 second_deep : (w : SidesWord) (at : Spot) (left : Sum) (r : Reading) (ts : List Token) (t : Spot) (k : TokenKind) → SecondSide w at left r ts → IsDeep ts t k (token_step r k t >>= λ x. Ok (line.Sides w at (Some left) x))
 second_deep w at left r ts t k h fails =
-    let on = reading_deep r h.side t k h.reads (bind_deep (token_step r k t) (λ x. line.Sides w at (Some left) x) fails) in
-    (on.0, sides w at h.expr h.equals on.1,
-    ap (λ (x : List Token). (x ++ sign_token k t ∷ []) ++ on.0) h.are
-    ∙ ap (λ x. word_token (sides_text w) at ∷ x) (append_assoc (expr_tokens h.expr ++ sign_token kind.Equals h.equals ∷ h.side) (sign_token k t ∷ []) on.0
-        ∙ append_assoc (expr_tokens h.expr) (sign_token kind.Equals h.equals ∷ h.side) (sign_token k t ∷ on.0)
-        ∙ ap (λ x. expr_tokens h.expr ++ sign_token kind.Equals h.equals ∷ x) on.2))
+    let on = reading_deep r h.side t k h.reads (bind_deep (token_step r k t) (λ x. line.Sides w at (Some left) x) fails) in (
+      on.0,
+      sides w at h.expr h.equals on.1,
+      ap (λ (x : List Token). (x ++ sign_token k t ∷ []) ++ on.0) h.are
+          ∙ ap (λ x. word_token (sides_text w) at ∷ x) (append_assoc (expr_tokens h.expr ++ sign_token kind.Equals h.equals ∷ h.side) (sign_token k t ∷ []) on.0
+          ∙ append_assoc (expr_tokens h.expr) (sign_token kind.Equals h.equals ∷ h.side) (sign_token k t ∷ on.0)
+          ∙ ap (λ x. expr_tokens h.expr ++ sign_token kind.Equals h.equals ∷ x) on.2),
+    )
 
 tree_or-deep : (o : Option Expr) → NotDeep (tree_or o Expected)
 tree_or-deep None fails = absurd cc
@@ -167,13 +171,15 @@ inside_deep : (p : Progress) (ts : List Token) (t : Spot) (k : TokenKind) → Fi
 inside_deep p ts t k h fails =
     let on = line_deep p.line h.now t k h.reads (bind_deep (line_step p.line k t) (λ l. record { statements = p.statements; line = l }) fails) in
     let end : List Token = sign_token kind.End somewhere ∷ [] in
-    let last : StatedLine = record { stated = on.1; end = somewhere } in
-    (on.0 ++ end, h.lines ++ last ∷ [],
-    ap (λ (x : List Token). (x ++ sign_token k t ∷ []) ++ (on.0 ++ end)) h.are
-    ∙ ap (λ (x : List Token). x ++ (on.0 ++ end)) (append_assoc (file_tokens h.lines) h.now (sign_token k t ∷ []))
-    ∙ append_assoc (file_tokens h.lines) (h.now ++ sign_token k t ∷ []) (on.0 ++ end)
-    ∙ ap (λ x. file_tokens h.lines ++ x) (sym (append_assoc (h.now ++ sign_token k t ∷ []) on.0 end) ∙ ap (λ x. x ++ end) on.2 ∙ sym (nothing_more (stated_tokens on.1 ++ end)))
-    ∙ sym (file_tokens-append h.lines (last ∷ [])))
+    let last : StatedLine = record { stated = on.1; end = somewhere } in (
+      on.0 ++ end,
+      h.lines ++ last ∷ [],
+      ap (λ (x : List Token). (x ++ sign_token k t ∷ []) ++ (on.0 ++ end)) h.are
+          ∙ ap (λ (x : List Token). x ++ (on.0 ++ end)) (append_assoc (file_tokens h.lines) h.now (sign_token k t ∷ []))
+          ∙ append_assoc (file_tokens h.lines) (h.now ++ sign_token k t ∷ []) (on.0 ++ end)
+          ∙ ap (λ x. file_tokens h.lines ++ x) (sym (append_assoc (h.now ++ sign_token k t ∷ []) on.0 end) ∙ ap (λ x. x ++ end) on.2 ∙ sym (nothing_more (stated_tokens on.1 ++ end)))
+          ∙ sym (file_tokens-append h.lines (last ∷ [])),
+    )
   where
     nothing_more : (xs : List Token) → xs ++ [] ≡ xs
     nothing_more [] = refl

@@ -105,10 +105,10 @@ file_run statements (l ∷ lines) =
     let more : List Statement = statements ++ stated_tree l.stated ∷ [] in
     before_it (ap (run file_step (in_file statements line.Start)) (append_assoc (stated_tokens l.stated) (sign_token kind.End l.end ∷ []) (file_tokens lines)))
     (then_on
-      (run_upto file_step (in_file statements line.Start) (stated_tokens l.stated) (in_file statements (end_line l.stated)) behind
-        (inside_upto by_token file_step (in_file statements) (file_each statements) (file_deep statements) (stated_tokens l.stated) line.Start (end_line l.stated) (stated_run l.stated)))
-      (before_it (one_step file_step (in_file statements (end_line l.stated)) (in_file more line.Start) (sign_token kind.End l.end) (file_tokens lines) (line_ended statements l.stated l.end))
-        (after_it (file_run more lines) (ap (λ x. Ok (in_file x line.Start)) (append_assoc statements (stated_tree l.stated ∷ []) (file_tree lines))))))
+    (run_upto file_step (in_file statements line.Start) (stated_tokens l.stated) (in_file statements (end_line l.stated)) behind
+    (inside_upto by_token file_step (in_file statements) (file_each statements) (file_deep statements) (stated_tokens l.stated) line.Start (end_line l.stated) (stated_run l.stated)))
+    (before_it (one_step file_step (in_file statements (end_line l.stated)) (in_file more line.Start) (sign_token kind.End l.end) (file_tokens lines) (line_ended statements l.stated l.end))
+    (after_it (file_run more lines) (ap (λ x. Ok (in_file x line.Start)) (append_assoc statements (stated_tree l.stated ∷ []) (file_tree lines))))))
 
 pub all_run : (lines : List StatedLine) → Upto (FileFits lines) (run file_step beginning (file_tokens lines)) (Ok (in_file (file_tree lines) line.Start))
 all_run lines = file_run [] lines
@@ -193,12 +193,15 @@ run_reads p ts ran = run_reads_from beginning p [] ts ran (record { lines = []; 
 pub file_on : (p : Progress) (ts : List Token) → FileReads p ts → (more : List Token) × (lines : List StatedLine) × FileFits lines × (ts ++ more ≡ file_tokens lines)
 file_on p ts h =
     let on = line_on p.line h.now h.reads in
-    let last : StatedLine = record { stated = on.1; end = somewhere } in
-    (on.0 ++ sign_token kind.End somewhere ∷ [], h.lines ++ last ∷ [], FileFits-append h.lines (last ∷ []) h.fits (on.2, tt),
-    ap (λ (x : List Token). x ++ (on.0 ++ sign_token kind.End somewhere ∷ [])) h.are
-    ∙ append_assoc (file_tokens h.lines) h.now (on.0 ++ sign_token kind.End somewhere ∷ [])
-    ∙ ap (λ x. file_tokens h.lines ++ x) (sym (append_assoc h.now on.0 (sign_token kind.End somewhere ∷ [])) ∙ ap (λ x. x ++ sign_token kind.End somewhere ∷ []) on.3)
-    ∙ sym (one_line h.lines on.1 somewhere))
+    let last : StatedLine = record { stated = on.1; end = somewhere } in (
+      on.0 ++ sign_token kind.End somewhere ∷ [],
+      h.lines ++ last ∷ [],
+      FileFits-append h.lines (last ∷ []) h.fits (on.2, tt),
+      ap (λ (x : List Token). x ++ (on.0 ++ sign_token kind.End somewhere ∷ [])) h.are
+          ∙ append_assoc (file_tokens h.lines) h.now (on.0 ++ sign_token kind.End somewhere ∷ [])
+          ∙ ap (λ x. file_tokens h.lines ++ x) (sym (append_assoc h.now on.0 (sign_token kind.End somewhere ∷ [])) ∙ ap (λ x. x ++ sign_token kind.End somewhere ∷ []) on.3)
+          ∙ sym (one_line h.lines on.1 somewhere),
+    )
 
 misfit_by : (lines : List StatedLine) (ts : List Token) (f : Misfit) → ts ≡ file_tokens lines → run file_step beginning ts ≡ Err f → Upto (FileFits lines) (run file_step beginning (file_tokens lines)) (Ok (in_file (file_tree lines) line.Start))
     → (FileFits lines → ⊥) × (f ≡ TooDeep)

@@ -103,10 +103,10 @@ sides_run : (w : SidesWord) (at : Spot) (d : Expr) (equals : Spot) (e : Expr)
 sides_run w at d equals e =
     before_it (sides_start w at (expr_tokens d ++ sign_token kind.Equals equals ∷ expr_tokens e))
     (then_on
-      (run_upto by_token (line.Sides w at None (reading_of (fresh []))) (expr_tokens d) (line.Sides w at None (reading_of (end_state [] d))) (sign_token kind.Equals equals ∷ expr_tokens e)
-        (inside_upto step by_token (λ st. line.Sides w at None (reading_of st)) (first_each w at) (first_deep w at) (expr_tokens d) (fresh []) (end_state [] d) (only d)))
-      (before_it (one_step by_token _ _ (sign_token kind.Equals equals) (expr_tokens e) (equals_step w at d equals))
-        (inside_upto step by_token (λ st. line.Sides w at (Some (expr_tree d)) (reading_of st)) (second_each w at (expr_tree d)) (second_deep w at (expr_tree d)) (expr_tokens e) (fresh []) (end_state [] e) (only e))))
+    (run_upto by_token (line.Sides w at None (reading_of (fresh []))) (expr_tokens d) (line.Sides w at None (reading_of (end_state [] d))) (sign_token kind.Equals equals ∷ expr_tokens e)
+    (inside_upto step by_token (λ st. line.Sides w at None (reading_of st)) (first_each w at) (first_deep w at) (expr_tokens d) (fresh []) (end_state [] d) (only d)))
+    (before_it (one_step by_token _ _ (sign_token kind.Equals equals) (expr_tokens e) (equals_step w at d equals))
+    (inside_upto step by_token (λ st. line.Sides w at (Some (expr_tree d)) (reading_of st)) (second_each w at (expr_tree d)) (second_deep w at (expr_tree d)) (expr_tokens e) (fresh []) (end_state [] e) (only e))))
 
 -- ---- names and pairs
 

@@ -171,7 +171,7 @@ characters-bytes (k ∷ ks) all glued rest =
     let more = characters ks all.1 (opens k) rest in
     glue-bytes (glued || closes k) (first_of k all.0 ∷ (more_of k all.0 ++ more))
     ∙ ap (λ x. gap (glued || closes k) ++ x)
-      (encodes-append (first_of k all.0 ∷ more_of k all.0) more ∙ ap₂ (λ x y. x ++ y) (sym (text_is k all.0)) (characters-bytes ks all.1 (opens k) rest) ∙ sym (append_assoc (kind_text k) (text_from (opens k) ks) (encode_utf8_all rest)))
+    (encodes-append (first_of k all.0 ∷ more_of k all.0) more ∙ ap₂ (λ x y. x ++ y) (sym (text_is k all.0)) (characters-bytes ks all.1 (opens k) rest) ∙ sym (append_assoc (kind_text k) (text_from (opens k) ks) (encode_utf8_all rest)))
     ∙ sym (append_assoc (gap (glued || closes k)) (kind_text k ++ text_from (opens k) ks) (encode_utf8_all rest))
     ∙ ap (λ x. x ++ encode_utf8_all rest) (sym (append_assoc (gap (glued || closes k)) (kind_text k) (text_from (opens k) ks)))
 

@@ -132,9 +132,14 @@ misfit_of bytes ts refused utf8 read h = record {
 
 tells_by : (bytes : List ℕ) (ts : List Token) (refused : SyntaxFault) (f : Misfit) → IsUtf8 bytes → tokens_of (chars bytes) ≡ Ok ts → (h : StoppedAt ts refused) → h.misfit ≡ f → TellsFirstFault bytes (fault_at (misfit_fault f) h.token.at)
 unfolding misfit_of
-tells_by bytes ts refused Expected utf8 read h is =
-    (fault.Expected, refl, (misfit_of bytes ts refused utf8 read h,
-    λ on. not_deep (sym is ∙ (file_misfit h.front h.progress h.token h.misfit h.ran h.stops on.0 on.1 (sym (joined h.front on.0 h.token) ∙ on.2)).1)))
+tells_by bytes ts refused Expected utf8 read h is = (
+  fault.Expected,
+  refl,
+  (
+    misfit_of bytes ts refused utf8 read h,
+    λ on. not_deep (sym is ∙ (file_misfit h.front h.progress h.token h.misfit h.ran h.stops on.0 on.1 (sym (joined h.front on.0 h.token) ∙ on.2)).1),
+  ),
+)
   where
     not_deep : (let f : Misfit = Expected in f) ≡ TooDeep → ⊥
     not_deep e = absurd cc

@@ -190,9 +190,11 @@ pub deep : (front : List Token) (st : State) (t : Token) → run step (fresh [])
 unfolding step
 deep front st t ran fails =
     let wider = focus-deep st.levels st.head st.part st.focus t fails in
-    let on = ends wider.0.levels wider.0.head wider.0.part wider.0.focus in
-    (on.0, on.2,
-    sym (append_assoc front (t ∷ []) on.0)
-    ∙ ap (λ (x : List Token). (x ++ t ∷ []) ++ on.0) (sym (run_reads (fresh []) front st ran))
-    ∙ ap (λ (x : List Token). x ++ on.0) (sym wider.1)
-    ∙ sym (run_reads wider.0 on.0 on.1 on.3) ∙ whole-tokens on.1 on.2 on.4)
+    let on = ends wider.0.levels wider.0.head wider.0.part wider.0.focus in (
+      on.0,
+      on.2,
+      sym (append_assoc front (t ∷ []) on.0)
+          ∙ ap (λ (x : List Token). (x ++ t ∷ []) ++ on.0) (sym (run_reads (fresh []) front st ran))
+          ∙ ap (λ (x : List Token). x ++ on.0) (sym wider.1)
+          ∙ sym (run_reads wider.0 on.0 on.1 on.3) ∙ whole-tokens on.1 on.2 on.4,
+    )

@@ -95,7 +95,6 @@ abbrev mutual
 abbrev pub expr_tree : Expr → Sum
 expr_tree e = sum_of (expr_at e) (expr_terms e)
 
-
 -- ---- statements
 
 abbrev pub list_kind : ListWord → List Name → StatementKind

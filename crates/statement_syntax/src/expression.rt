@@ -4,8 +4,8 @@ ghost use Rattle.std.specs.Prelude.{◌≡◌, IfOk, IfErr, Some, None, Ok, Err}
 ghost use Rattle.statement_syntax.specs.Steps.{name_with, part_with, Gives, ended_part, sum_with, quote_step, sign_step, close_step, open_step, outside_step, outside, token_step, whole_sum};
 ghost use Rattle.statement_syntax.specs.declared.expression.ReadError.TheVariants.{Memory};
 
-use crate::stack::Stack;
 use crate::place::Spot;
+use crate::stack::Stack;
 use crate::token::{Token, TokenKind};
 use crate::tree::{Factor, Mark, Name, Number, Primary, Sum, Term};
 use lists::{Duplicate, Listing, Text};

@@ -18,3 +18,6 @@ pub use read::read_tree;
 pub use token::{Token, TokenKind};
 pub use tree::{Factor, Mark, Name, Number, Primary, Statement, StatementKind, Sum, Term, Tree};
 pub use write::write_tree;
+
+#[cfg(test)]
+mod tests;

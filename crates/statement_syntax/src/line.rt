@@ -255,12 +255,7 @@ fn map_names_step(at: Spot, names: Listing<Name>, token: &Token) -> Result<Line,
     }
 }
 
-fn map_step(
-    at: Spot,
-    names: Listing<Name>,
-    rest: MapRest,
-    token: &Token,
-) -> Result<Line, ReadError>
+fn map_step(at: Spot, names: Listing<Name>, rest: MapRest, token: &Token) -> Result<Line, ReadError>
     ensures { Gives (λ l. l) result (map_step at names rest token.now.kind token.now.at) }
 {
     match rest {
@@ -516,10 +511,7 @@ fn shape_end(modulus: Number, pairs: Pairs) -> Result<StatementKind, ReadError>
     Ok(StatementKind::Shape { modulus, sides })
 }
 
-fn statement_of(
-    at: Spot,
-    kind: Result<StatementKind, ReadError>,
-) -> Result<Statement, ReadError>
+fn statement_of(at: Spot, kind: Result<StatementKind, ReadError>) -> Result<Statement, ReadError>
     ensures { result ≡ statement_of at kind }
 {
     match kind {
@@ -544,10 +536,7 @@ pub fn line_end(alloc: Global, line: Line) -> Result<Statement, ReadError>
         Line::Weights(at, pairs) => statement_of(at, weights_end(pairs)),
         Line::Shape(at, modulus, pairs) => statement_of(at, shape_end(modulus, pairs)),
         Line::Whole(statement) => Ok(statement),
-        Line::Start
-        | Line::Pair { .. }
-        | Line::Projection(_)
-        | Line::Order(_)
-        | Line::Model(_) => Err(ReadError::Misfit(Misfit::Expected)),
+        Line::Start | Line::Pair { .. } | Line::Projection(_) | Line::Order(_) | Line::Model(_) =>
+            Err(ReadError::Misfit(Misfit::Expected)),
     }
 }

@@ -46,10 +46,7 @@ fn put_quotes(count: usize, out: &mut Listing<TokenKind>) -> Result<(), AllocErr
     Ok(())
 }
 
-fn put_literal(
-    literal: &Option<Number>,
-    out: &mut Listing<TokenKind>,
-) -> Result<(), AllocError>
+fn put_literal(literal: &Option<Number>, out: &mut Listing<TokenKind>) -> Result<(), AllocError>
     ensures { OnOk result (out.new ≡ out.old ++ literal_kinds literal.now) }
 {
     match literal {
@@ -143,11 +140,7 @@ fn put_list(
     put_names(names, out)
 }
 
-fn put_self(
-    alloc: Global,
-    selfmade: bool,
-    out: &mut Listing<TokenKind>,
-) -> Result<(), AllocError>
+fn put_self(alloc: Global, selfmade: bool, out: &mut Listing<TokenKind>) -> Result<(), AllocError>
     ensures { OnOk result (out.new ≡ out.old ++ self_kinds selfmade) }
 {
     if selfmade {
