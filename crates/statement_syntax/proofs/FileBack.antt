@@ -21,7 +21,7 @@ use Rattle.statement_syntax.proofs.Scanning.{spot}
 use Rattle.statement_syntax.proofs.Moved.{kinds, file_moved}
 use Rattle.statement_syntax.proofs.Spelled.{tokens_are}
 use Rattle.statement_syntax.proofs.BareTokens.{AllSpelled, file_are}
-use Rattle.statement_syntax.proofs.StatedKinds.{stated-kinds}
+use Rattle.statement_syntax.proofs.StatedKinds.{kinds-append, stated-kinds}
 use Rattle.statement_syntax.proofs.ReadBack.{characters, characters-bytes, characters-scalars, line_read}
 
 -- the characters of all lines
@@ -75,9 +75,6 @@ some_tokens s =
     let f = first_token s in
     subst (λ ts. 1 ≤ 0 + length (kinds ts)) (sym f.2) (some_kinds f.0.kind (kinds f.1))
 
-kinds-append : (ts us : List Token) → kinds (ts ++ us) ≡ kinds ts ++ kinds us
-kinds-append ts us = map-append (λ t. t.kind) ts us
-
 -- the characters are read as tokens of the statements' kinds
 record FileRead (ls : List StatedLine) (text : List ℕ) (line : ℕ) : Type 0 where
   pub tokens : List Token
@@ -118,9 +115,9 @@ written_back ls all fits =
 
 -- the tree of some text is written as a text that reads back
 pub reads_back : (statements : List Statement) → HasText statements → ReadsBackAs (tree_text statements) statements
-reads_back statements h =
-    let bytes = h.0 in
-    let ls = h.1.0 in
-    let is = h.1.1 in
+reads_back statements some_text =
+    let bytes = some_text.0 in
+    let ls = some_text.1.0 in
+    let is = some_text.1.1 in
     let all = file_are ls (tokens_are (chars bytes) 0 (spot 1 1) 0 (file_tokens ls) (scalars-chars bytes is.utf8) is.tokens) in
-    subst (λ x. ReadsBackAs (tree_text x) x) (sym h.1.2) (written_back ls all is.fits)
+    subst (λ x. ReadsBackAs (tree_text x) x) (sym some_text.1.2) (written_back ls all is.fits)

@@ -50,32 +50,32 @@ seen_deep (Ok st) fails = absurd cc
 seen_deep (Err e) fails = cc
 
 reading_deep : (r : Reading) (ts : List Token) (t : Spot) (k : TokenKind) → ExprReads r ts → token_step r k t ≡ Err TooDeep → (more : List Token) × (e : Expr) × (ts ++ sign_token k t ∷ more ≡ expr_tokens e)
-reading_deep r ts t k h fails =
-    deep ts h.state (sign_token k t) h.ran (seen_deep _ (sym (step-seen h.state (sign_token k t)) ∙ ap (λ x. token_step x k t) (sym h.seen) ∙ fails))
+reading_deep r ts t k read fails =
+    deep ts read.state (sign_token k t) read.ran (seen_deep _ (sym (step-seen read.state (sign_token k t)) ∙ ap (λ x. token_step x k t) (sym read.seen) ∙ fails))
 
 bind_deep : {A B : Type 0} (r : Result A Misfit) (f : A → B) → (r >>= λ x. Ok (f x)) ≡ Err TooDeep → r ≡ Err TooDeep
 bind_deep (Ok x) f fails = absurd cc
 bind_deep (Err e) f fails = let same : e ≡ TooDeep = cc in ap (λ x. Err x) same
 
 first_deep : (w : SidesWord) (at : Spot) (r : Reading) (ts : List Token) (t : Spot) (k : TokenKind) → FirstSide w at r ts → IsDeep ts t k (token_step r k t >>= λ x. Ok (line.Sides w at None x))
-first_deep w at r ts t k h fails =
-    let on = reading_deep r h.side t k h.reads (bind_deep (token_step r k t) (λ x. line.Sides w at None x) fails) in
+first_deep w at r ts t k read fails =
+    let on = reading_deep r read.side t k read.reads (bind_deep (token_step r k t) (λ x. line.Sides w at None x) fails) in
     let last : List Token = sign_token kind.Equals somewhere ∷ name_token some_name ∷ [] in (
       on.0 ++ last,
       sides w at on.1 somewhere some_expr,
-      ap (λ (x : List Token). (x ++ sign_token k t ∷ []) ++ (on.0 ++ last)) h.are
-          ∙ ap (λ x. word_token (sides_text w) at ∷ x) (append_assoc h.side (sign_token k t ∷ []) (on.0 ++ last) ∙ sym (append_assoc h.side (sign_token k t ∷ on.0) last) ∙ ap (λ x. x ++ last) on.2),
+      ap (λ (x : List Token). (x ++ sign_token k t ∷ []) ++ (on.0 ++ last)) read.are
+          ∙ ap (λ x. word_token (sides_text w) at ∷ x) (append_assoc read.side (sign_token k t ∷ []) (on.0 ++ last) ∙ sym (append_assoc read.side (sign_token k t ∷ on.0) last) ∙ ap (λ x. x ++ last) on.2),
     )
 
 second_deep : (w : SidesWord) (at : Spot) (left : Sum) (r : Reading) (ts : List Token) (t : Spot) (k : TokenKind) → SecondSide w at left r ts → IsDeep ts t k (token_step r k t >>= λ x. Ok (line.Sides w at (Some left) x))
-second_deep w at left r ts t k h fails =
-    let on = reading_deep r h.side t k h.reads (bind_deep (token_step r k t) (λ x. line.Sides w at (Some left) x) fails) in (
+second_deep w at left r ts t k read fails =
+    let on = reading_deep r read.side t k read.reads (bind_deep (token_step r k t) (λ x. line.Sides w at (Some left) x) fails) in (
       on.0,
-      sides w at h.expr h.equals on.1,
-      ap (λ (x : List Token). (x ++ sign_token k t ∷ []) ++ on.0) h.are
-          ∙ ap (λ x. word_token (sides_text w) at ∷ x) (append_assoc (expr_tokens h.expr ++ sign_token kind.Equals h.equals ∷ h.side) (sign_token k t ∷ []) on.0
-          ∙ append_assoc (expr_tokens h.expr) (sign_token kind.Equals h.equals ∷ h.side) (sign_token k t ∷ on.0)
-          ∙ ap (λ x. expr_tokens h.expr ++ sign_token kind.Equals h.equals ∷ x) on.2),
+      sides w at read.expr read.equals on.1,
+      ap (λ (x : List Token). (x ++ sign_token k t ∷ []) ++ on.0) read.are
+          ∙ ap (λ x. word_token (sides_text w) at ∷ x) (append_assoc (expr_tokens read.expr ++ sign_token kind.Equals read.equals ∷ read.side) (sign_token k t ∷ []) on.0
+          ∙ append_assoc (expr_tokens read.expr) (sign_token kind.Equals read.equals ∷ read.side) (sign_token k t ∷ on.0)
+          ∙ ap (λ x. expr_tokens read.expr ++ sign_token kind.Equals read.equals ∷ x) on.2),
     )
 
 tree_or-deep : (o : Option Expr) → NotDeep (tree_or o Expected)
@@ -83,13 +83,13 @@ tree_or-deep None fails = absurd cc
 tree_or-deep (Some e) fails = absurd cc
 
 equals_deep : (w : SidesWord) (at : Spot) (r : Reading) (ts : List Token) → FirstSide w at r ts → NotDeep (whole_sum r >>= λ left. Ok (line.Sides w at (Some left) start_reading))
-equals_deep w at r ts h fails =
-    tree_or-deep (machine.whole h.reads.state) (sym (whole-seen h.reads.state) ∙ ap whole_sum (sym h.reads.seen) ∙ bind_deep (whole_sum r) (λ left. line.Sides w at (Some left) start_reading) fails)
+equals_deep w at r ts read fails =
+    tree_or-deep (machine.whole read.reads.state) (sym (whole-seen read.reads.state) ∙ ap whole_sum (sym read.reads.seen) ∙ bind_deep (whole_sum r) (λ left. line.Sides w at (Some left) start_reading) fails)
 
 sides_deep : (w : SidesWord) (at : Spot) (left : Option Sum) (r : Reading) (ts : List Token) (t : Spot) (k : TokenKind) → SidesReads w at left r ts → IsDeep ts t k (sides_step w at left r k t)
-sides_deep w at (Some left) r ts t k h = second_deep w at left r ts t k h
-sides_deep w at None r ts t k h =
-    by_equals (IsDeep ts t) _ (λ k. token_step r k t >>= λ x. Ok (line.Sides w at None x)) (λ fails. absurd (equals_deep w at r ts h fails)) (λ k differs. first_deep w at r ts t k h) k
+sides_deep w at (Some left) r ts t k read = second_deep w at left r ts t k read
+sides_deep w at None r ts t k read =
+    by_equals (IsDeep ts t) _ (λ k. token_step r k t >>= λ x. Ok (line.Sides w at None x)) (λ fails. absurd (equals_deep w at r ts read fails)) (λ k differs. first_deep w at r ts t k read) k
 
 -- ---- no other token is too deep
 
@@ -142,18 +142,18 @@ pairs_deep ps None t k = name_deep (λ n. record { whole = ps; half = Some n }) 
 pairs_deep ps (Some n) t k = by_number (λ k r. NotDeep r) (λ m. Ok (record { whole = ps ++ (n, m) ∷ []; half = None })) t (λ v fails. absurd cc) (λ k fails. absurd cc) k
 
 line_deep : (l : Line) (ts : List Token) (t : Spot) (k : TokenKind) → LineReads l ts → IsDeep ts t k (line_step l k t)
-line_deep line.Start ts t k h fails = absurd (start_deep k t fails)
-line_deep (line.List w at names) ts t k h fails = absurd (name_deep (λ n. line.List w at (names ++ n ∷ [])) t k fails)
-line_deep (line.Map at names r) ts t k h fails = absurd (map_deep at names r t k fails)
-line_deep (line.Sides w at left r) ts t k h fails = sides_deep w at left r ts t k h fails
-line_deep (line.Pair w at before) ts t k h fails = absurd (name_deep _ t k fails)
-line_deep (line.Projection at) ts t k h fails = absurd (name_deep (λ n. whole at (statement.Projection n)) t k fails)
-line_deep (line.Order at) ts t k h fails =
+line_deep line.Start ts t k read fails = absurd (start_deep k t fails)
+line_deep (line.List w at names) ts t k read fails = absurd (name_deep (λ n. line.List w at (names ++ n ∷ [])) t k fails)
+line_deep (line.Map at names r) ts t k read fails = absurd (map_deep at names r t k fails)
+line_deep (line.Sides w at left r) ts t k read fails = sides_deep w at left r ts t k read fails
+line_deep (line.Pair w at before) ts t k read fails = absurd (name_deep _ t k fails)
+line_deep (line.Projection at) ts t k read fails = absurd (name_deep (λ n. whole at (statement.Projection n)) t k fails)
+line_deep (line.Order at) ts t k read fails =
     absurd (chosen_deep (is_word k (codes "degree")) (whole at statement.Degree) _ (chosen_deep (is_word k (codes "weight")) (line.Weights at no_pairs) (Err Expected) expected_deep) fails)
-line_deep (line.Weights at p) ts t k h fails = absurd (pairs_deep p.whole p.half t k (bind_deep (pairs_step p k t) (line.Weights at) fails))
-line_deep (line.Model at) ts t k h fails = absurd (by_number (λ k r. NotDeep r) (λ m. Ok (line.Shape at m no_pairs)) t (λ v f. absurd cc) (λ k f. absurd cc) k fails)
-line_deep (line.Shape at m p) ts t k h fails = absurd (pairs_deep p.whole p.half t k (bind_deep (pairs_step p k t) (line.Shape at m) fails))
-line_deep (line.Whole s) ts t k h fails = absurd cc
+line_deep (line.Weights at p) ts t k read fails = absurd (pairs_deep p.whole p.half t k (bind_deep (pairs_step p k t) (line.Weights at) fails))
+line_deep (line.Model at) ts t k read fails = absurd (by_number (λ k r. NotDeep r) (λ m. Ok (line.Shape at m no_pairs)) t (λ v f. absurd cc) (λ k f. absurd cc) k fails)
+line_deep (line.Shape at m p) ts t k read fails = absurd (pairs_deep p.whole p.half t k (bind_deep (pairs_step p k t) (line.Shape at m) fails))
+line_deep (line.Whole s) ts t k read fails = absurd cc
 
 -- ---- in a file
 
@@ -161,24 +161,24 @@ abbrev FileIsDeep : Progress → List Token → Spot → TokenKind → Result Pr
 FileIsDeep p ts t k r = r ≡ Err TooDeep → (more : List Token) × (lines : List StatedLine) × ((ts ++ sign_token k t ∷ []) ++ more ≡ file_tokens lines)
 
 not_same : (let f : Misfit = TooDeep in f) ≡ Expected → ⊥
-not_same h = absurd cc
+not_same read = absurd cc
 
 end_deep : (p : Progress) (ts : List Token) (t : Spot) → FileReads p ts → FileIsDeep p ts t kind.End (ended p)
-end_deep p ts t h fails =
-    absurd (not_same (line_end-fault p.line h.now TooDeep h.reads (bind_deep (line_end p.line) (λ s. record { statements = p.statements ++ s ∷ []; line = line.Start }) fails)))
+end_deep p ts t read fails =
+    absurd (not_same (line_end-fault p.line read.now TooDeep read.reads (bind_deep (line_end p.line) (λ s. record { statements = p.statements ++ s ∷ []; line = line.Start }) fails)))
 
 inside_deep : (p : Progress) (ts : List Token) (t : Spot) (k : TokenKind) → FileReads p ts → FileIsDeep p ts t k (within_line p k t)
-inside_deep p ts t k h fails =
-    let on = line_deep p.line h.now t k h.reads (bind_deep (line_step p.line k t) (λ l. record { statements = p.statements; line = l }) fails) in
+inside_deep p ts t k read fails =
+    let on = line_deep p.line read.now t k read.reads (bind_deep (line_step p.line k t) (λ l. record { statements = p.statements; line = l }) fails) in
     let end : List Token = sign_token kind.End somewhere ∷ [] in
     let last : StatedLine = record { stated = on.1; end = somewhere } in (
       on.0 ++ end,
-      h.lines ++ last ∷ [],
-      ap (λ (x : List Token). (x ++ sign_token k t ∷ []) ++ (on.0 ++ end)) h.are
-          ∙ ap (λ (x : List Token). x ++ (on.0 ++ end)) (append_assoc (file_tokens h.lines) h.now (sign_token k t ∷ []))
-          ∙ append_assoc (file_tokens h.lines) (h.now ++ sign_token k t ∷ []) (on.0 ++ end)
-          ∙ ap (λ x. file_tokens h.lines ++ x) (sym (append_assoc (h.now ++ sign_token k t ∷ []) on.0 end) ∙ ap (λ x. x ++ end) on.2 ∙ sym (nothing_more (stated_tokens on.1 ++ end)))
-          ∙ sym (file_tokens-append h.lines (last ∷ [])),
+      read.lines ++ last ∷ [],
+      ap (λ (x : List Token). (x ++ sign_token k t ∷ []) ++ (on.0 ++ end)) read.are
+          ∙ ap (λ (x : List Token). x ++ (on.0 ++ end)) (append_assoc (file_tokens read.lines) read.now (sign_token k t ∷ []))
+          ∙ append_assoc (file_tokens read.lines) (read.now ++ sign_token k t ∷ []) (on.0 ++ end)
+          ∙ ap (λ x. file_tokens read.lines ++ x) (sym (append_assoc (read.now ++ sign_token k t ∷ []) on.0 end) ∙ ap (λ x. x ++ end) on.2 ∙ sym (nothing_more (stated_tokens on.1 ++ end)))
+          ∙ sym (file_tokens-append read.lines (last ∷ [])),
     )
   where
     nothing_more : (xs : List Token) → xs ++ [] ≡ xs
@@ -187,4 +187,4 @@ inside_deep p ts t k h fails =
 
 -- with the bracket it can go on to a file that is not within the limit
 pub file_deep : (p : Progress) (ts : List Token) (t : Token) → FileReads p ts → file_step p t ≡ Err TooDeep → (more : List Token) × (lines : List StatedLine) × ((ts ++ t ∷ []) ++ more ≡ file_tokens lines)
-file_deep p ts t h fails = by_end (FileIsDeep p ts t.at) (ended p) (λ k. within_line p k t.at) (end_deep p ts t.at h) (λ k differs. inside_deep p ts t.at k h) t.kind fails
+file_deep p ts t read fails = by_end (FileIsDeep p ts t.at) (ended p) (λ k. within_line p k t.at) (end_deep p ts t.at read) (λ k differs. inside_deep p ts t.at k read) t.kind fails

@@ -80,10 +80,10 @@ not_end_by : (l : Line) (t : Token) (r : Lined) → by_token l t ≡ r → (r �
 not_end_by l t r is other k = other (sym is ∙ ap (λ x. line_step l x t.at) k ∙ line_no_end l t.at)
 
 err_differs : (let r : Lined = Err TooDeep in r) ≡ Err Expected → ⊥
-err_differs h = absurd cc
+err_differs read = absurd cc
 
 ok_not_err : (l : Line) → (let r : Lined = Ok l in r) ≡ Err Expected → ⊥
-ok_not_err l h = absurd cc
+ok_not_err l read = absurd cc
 
 file_each : (statements : List Statement) (l next : Line) (t : Token) → by_token l t ≡ Ok next → file_step (in_file statements l) t ≡ Ok (in_file statements next)
 file_each statements l next t goes =
@@ -141,47 +141,47 @@ Goes ts at k (Ok p) = FileReads p (ts ++ sign_token k at ∷ [])
 Goes ts at k (Err e) = Unit {0}
 
 next_is : (ts front now : List Token) (t : Token) → ts ≡ front ++ now → ts ++ t ∷ [] ≡ front ++ (now ++ t ∷ [])
-next_is ts front now t h = ap (λ (x : List Token). x ++ t ∷ []) h ∙ append_assoc front now (t ∷ [])
+next_is ts front now t read = ap (λ (x : List Token). x ++ t ∷ []) read ∙ append_assoc front now (t ∷ [])
 
 end_goes : (p : Progress) (ts : List Token) (t : Spot) (r : Result Statement Misfit) → line_end p.line ≡ r → FileReads p ts
     → Goes ts t kind.End (r >>= λ s. Ok (record { statements = p.statements ++ s ∷ []; line = line.Start }))
-end_goes p ts t (Err e) is h = tt
-end_goes p ts t (Ok s) is h =
-    let w = line_end_reads p.line h.now s h.reads is in
+end_goes p ts t (Err e) is read = tt
+end_goes p ts t (Ok s) is read =
+    let w = line_end_reads p.line read.now s read.reads is in
     record {
-      lines = h.lines ++ record { stated = w.stated; end = t } ∷ [];
-      fits = FileFits-append h.lines _ h.fits (w.fits, tt);
-      trees = ap₂ (λ x y. x ++ y ∷ []) h.trees w.tree ∙ sym (map-append (λ l. stated_tree l.stated) h.lines (record { stated = w.stated; end = t } ∷ []));
+      lines = read.lines ++ record { stated = w.stated; end = t } ∷ [];
+      fits = FileFits-append read.lines _ read.fits (w.fits, tt);
+      trees = ap₂ (λ x y. x ++ y ∷ []) read.trees w.tree ∙ sym (map-append (λ l. stated_tree l.stated) read.lines (record { stated = w.stated; end = t } ∷ []));
       now = [];
       reads = refl;
-      are = next_is ts (file_tokens h.lines) h.now (sign_token kind.End t) h.are ∙ ap (λ x. file_tokens h.lines ++ (x ++ sign_token kind.End t ∷ [])) w.are ∙ sym (one_line h.lines w.stated t) ∙ sym (append-nil _);
+      are = next_is ts (file_tokens read.lines) read.now (sign_token kind.End t) read.are ∙ ap (λ x. file_tokens read.lines ++ (x ++ sign_token kind.End t ∷ [])) w.are ∙ sym (one_line read.lines w.stated t) ∙ sym (append-nil _);
     }
 
 within_goes : (p : Progress) (ts : List Token) (t : Spot) (k : TokenKind) (r : Lined) → line_step p.line k t ≡ r → FileReads p ts
     → Goes ts t k (r >>= λ l. Ok (record { statements = p.statements; line = l }))
-within_goes p ts t k (Err e) is h = tt
-within_goes p ts t k (Ok l) is h = record {
-  lines = h.lines;
-  fits = h.fits;
-  trees = h.trees;
-  now = h.now ++ sign_token k t ∷ [];
-  reads = line_step_reads p.line l (sign_token k t) h.now is h.reads;
-  are = next_is ts (file_tokens h.lines) h.now (sign_token k t) h.are;
+within_goes p ts t k (Err e) is read = tt
+within_goes p ts t k (Ok l) is read = record {
+  lines = read.lines;
+  fits = read.fits;
+  trees = read.trees;
+  now = read.now ++ sign_token k t ∷ [];
+  reads = line_step_reads p.line l (sign_token k t) read.now is read.reads;
+  are = next_is ts (file_tokens read.lines) read.now (sign_token k t) read.are;
 }
 
 file_goes : (p : Progress) (ts : List Token) (t : Token) → FileReads p ts → Goes ts t.at t.kind (file_step p t)
-file_goes p ts t h =
-    by_end (Goes ts t.at) (ended p) (λ k. within_line p k t.at) (end_goes p ts t.at (line_end p.line) refl h) (λ k differs. within_goes p ts t.at k (line_step p.line k t.at) refl h) t.kind
+file_goes p ts t read =
+    by_end (Goes ts t.at) (ended p) (λ k. within_line p k t.at) (end_goes p ts t.at (line_end p.line) refl read) (λ k differs. within_goes p ts t.at k (line_step p.line k t.at) refl read) t.kind
 
 file_step_reads : (p next : Progress) (ts : List Token) (t : Token) → file_step p t ≡ Ok next → FileReads p ts → FileReads next (ts ++ t ∷ [])
-file_step_reads p next ts t goes h = subst (Goes ts t.at t.kind) goes (file_goes p ts t h)
+file_step_reads p next ts t goes read = subst (Goes ts t.at t.kind) goes (file_goes p ts t read)
 
 run_reads_from : (p next : Progress) (ts us : List Token) → run file_step p us ≡ Ok next → FileReads p ts → FileReads next (ts ++ us)
 unfolding run
-run_reads_from p next ts [] ran h = subst (λ x. FileReads x (ts ++ [])) (ok_is p next ran) (subst (FileReads p) (sym (append-nil ts)) h)
-run_reads_from p next ts (t ∷ us) ran h =
+run_reads_from p next ts [] ran read = subst (λ x. FileReads x (ts ++ [])) (ok_is p next ran) (subst (FileReads p) (sym (append-nil ts)) read)
+run_reads_from p next ts (t ∷ us) ran read =
     let one = bind_ok (file_step p t) (λ x. run file_step x us) next ran in
-    subst (FileReads next) (append_assoc ts (t ∷ []) us) (run_reads_from one.0 next (ts ++ t ∷ []) us one.2 (file_step_reads p one.0 ts t one.1 h))
+    subst (FileReads next) (append_assoc ts (t ∷ []) us) (run_reads_from one.0 next (ts ++ t ∷ []) us one.2 (file_step_reads p one.0 ts t one.1 read))
 
 -- a run reads what it was given
 pub run_reads : (p : Progress) (ts : List Token) → run file_step beginning ts ≡ Ok p → FileReads p ts
@@ -191,16 +191,16 @@ run_reads p ts ran = run_reads_from beginning p [] ts ran (record { lines = []; 
 
 -- what was read can go on to a file within the limit
 pub file_on : (p : Progress) (ts : List Token) → FileReads p ts → (more : List Token) × (lines : List StatedLine) × FileFits lines × (ts ++ more ≡ file_tokens lines)
-file_on p ts h =
-    let on = line_on p.line h.now h.reads in
+file_on p ts read =
+    let on = line_on p.line read.now read.reads in
     let last : StatedLine = record { stated = on.1; end = somewhere } in (
       on.0 ++ sign_token kind.End somewhere ∷ [],
-      h.lines ++ last ∷ [],
-      FileFits-append h.lines (last ∷ []) h.fits (on.2, tt),
-      ap (λ (x : List Token). x ++ (on.0 ++ sign_token kind.End somewhere ∷ [])) h.are
-          ∙ append_assoc (file_tokens h.lines) h.now (on.0 ++ sign_token kind.End somewhere ∷ [])
-          ∙ ap (λ x. file_tokens h.lines ++ x) (sym (append_assoc h.now on.0 (sign_token kind.End somewhere ∷ [])) ∙ ap (λ x. x ++ sign_token kind.End somewhere ∷ []) on.3)
-          ∙ sym (one_line h.lines on.1 somewhere),
+      read.lines ++ last ∷ [],
+      FileFits-append read.lines (last ∷ []) read.fits (on.2, tt),
+      ap (λ (x : List Token). x ++ (on.0 ++ sign_token kind.End somewhere ∷ [])) read.are
+          ∙ append_assoc (file_tokens read.lines) read.now (on.0 ++ sign_token kind.End somewhere ∷ [])
+          ∙ ap (λ x. file_tokens read.lines ++ x) (sym (append_assoc read.now on.0 (sign_token kind.End somewhere ∷ [])) ∙ ap (λ x. x ++ sign_token kind.End somewhere ∷ []) on.3)
+          ∙ sym (one_line read.lines on.1 somewhere),
     )
 
 misfit_by : (lines : List StatedLine) (ts : List Token) (f : Misfit) → ts ≡ file_tokens lines → run file_step beginning ts ≡ Err f → Upto (FileFits lines) (run file_step beginning (file_tokens lines)) (Ok (in_file (file_tree lines) line.Start))
@@ -209,7 +209,7 @@ misfit_by lines ts f is fails (inl (fits, ran)) = absurd (ok_differs _ f (sym ra
 misfit_by lines ts f is fails (inr (wide, ran)) = (wide, err_is (sym fails ∙ ap (run file_step beginning) is ∙ ran))
   where
     err_is : (let r : Result Progress Misfit = Err f in r) ≡ Err TooDeep → f ≡ TooDeep
-    err_is h = cc
+    err_is read = cc
 
 -- where a token is a misfit no file goes on with it but one that is not within the limit, and that only where the misfit is a bracket that is too deep
 pub file_misfit : (front : List Token) (p : Progress) (t : Token) (f : Misfit) → run file_step beginning front ≡ Ok p → file_step p t ≡ Err f

@@ -48,10 +48,10 @@ no_equals st (square left) at = refl
 no_equals st (machine.named left n) at = refl
 
 err_is : {A : Type 0} (f g : Misfit) → (let r : Result A Misfit = Err f in r) ≡ Err g → f ≡ g
-err_is f g h = cc
+err_is f g same = cc
 
 not_deep : (let f : Misfit = Expected in f) ≡ TooDeep → ⊥
-not_deep h = absurd cc
+not_deep same = absurd cc
 
 -- ---- an expression inside a line
 

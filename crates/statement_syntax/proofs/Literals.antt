@@ -17,11 +17,11 @@ value_from-append k [] d = refl
 value_from-append k (c ∷ ds) d = value_from-append (k * 10 + (c - 48)) ds d
 
 EachIs-append : (p : ℕ → Bool) (ds : List ℕ) (d : ℕ) → EachIs p ds → p d ≡ true → EachIs p (ds ++ d ∷ [])
-EachIs-append p [] d h k = (k, tt)
-EachIs-append p (c ∷ ds) d h k = (h.0, EachIs-append p ds d h.1 k)
+EachIs-append p [] d known k = (k, tt)
+EachIs-append p (c ∷ ds) d known k = (known.0, EachIs-append p ds d known.1 k)
 
 digit_is : (n : ℕ) → n < 10 → is_digit (48 + n) ≡ true
-digit_is n h = rw (le-leb 48 (48 + n) (omega arith), le-leb (48 + n) 57 (omega arith)) refl
+digit_is n known = rw (le-leb 48 (48 + n) (omega arith), le-leb (48 + n) 57 (omega arith)) refl
 
 pub record Digits (n : ℕ) (ds : List ℕ) : Type 0 where
   pub value : value_from 0 ds ≡ n
@@ -53,12 +53,12 @@ pub record PlainDigit (c : ℕ) : Type 0 where
   pub low : c < 128
 
 both : (a b : Bool) → (a && b) ≡ true → (a ≡ true) × (b ≡ true)
-both true b h = (refl, h)
-both false b h = absurd cc
+both true b known = (refl, known)
+both false b known = absurd cc
 
 pub plain_digit : (c : ℕ) → is_digit c ≡ true → PlainDigit c
-plain_digit c h =
-    let parts = both (nat_le 48 c) (nat_le c 57) h in
+plain_digit c known =
+    let parts = both (nat_le 48 c) (nat_le c 57) known in
     let low : 48 ≤ c = leb-true 48 c parts.0 in
     let high : c ≤ 57 = leb-true c 57 parts.1 in
     record {

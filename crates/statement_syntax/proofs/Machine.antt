@@ -72,10 +72,6 @@ with_term (after e s) t = joined e s t
 abbrev pub Stepped : Type 0
 Stepped = Result State Misfit
 
--- a name, a literal, a sign between terms and a mark outside square brackets
-abbrev pub put_prime : State → Prime → State
-put_prime st p = record st { part = add st.part p; focus = outside }
-
 abbrev pub step_literal : List Level → Head → Part → Number → Stepped
 step_literal levels head nothing n = Ok (record { levels = levels; head = head; part = scaled n; focus = outside })
 step_literal levels head (scaled m) n = Err Expected

@@ -25,15 +25,15 @@ record Led (ts : List Token) (k : TokenKind) (ks : List TokenKind) : Type 0 wher
   pub kinds_are : kinds rest ≡ ks
 
 led_by : (ts : List Token) (k : TokenKind) (ks : List TokenKind) → kinds ts ≡ k ∷ ks → Led ts k ks
-led_by [] k ks h = absurd cc
-led_by (t ∷ ts) k ks h =
+led_by [] k ks alike = absurd cc
+led_by (t ∷ ts) k ks alike =
     let here : t.kind ≡ k = cc in
     let there : kinds ts ≡ ks = cc in
     record { at = t.at; rest = ts; are = ap (λ x. sign_token x t.at ∷ ts) here; kinds_are = there }
 
 none_left : (ts : List Token) → kinds ts ≡ [] → ts ≡ []
-none_left [] h = refl
-none_left (t ∷ ts) h = absurd cc
+none_left [] alike = refl
+none_left (t ∷ ts) alike = absurd cc
 
 -- the tokens of two parts
 record Parts (ts : List Token) (xs ys : List TokenKind) : Type 0 where
@@ -44,14 +44,14 @@ record Parts (ts : List Token) (xs ys : List TokenKind) : Type 0 where
   pub right_are : kinds right ≡ ys
 
 parts_by : (ts : List Token) (xs ys : List TokenKind) → kinds ts ≡ xs ++ ys → Parts ts xs ys
-parts_by ts [] ys h = record { left = []; right = ts; are = refl; left_are = refl; right_are = h }
-parts_by ts (x ∷ xs) ys h =
-    let l = led_by ts x (xs ++ ys) h in
+parts_by ts [] ys alike = record { left = []; right = ts; are = refl; left_are = refl; right_are = alike }
+parts_by ts (x ∷ xs) ys alike =
+    let l = led_by ts x (xs ++ ys) alike in
     let p = parts_by l.rest xs ys l.kinds_are in
     record { left = sign_token x l.at ∷ p.left; right = p.right; are = l.are ∙ ap (λ y. sign_token x l.at ∷ y) p.are; left_are = ap (λ y. x ∷ y) p.left_are; right_are = p.right_are }
 
 parts_of : (ts us vs : List Token) → kinds ts ≡ kinds (us ++ vs) → Parts ts (kinds us) (kinds vs)
-parts_of ts us vs h = parts_by ts (kinds us) (kinds vs) (h ∙ map-append (λ t. t.kind) us vs)
+parts_of ts us vs alike = parts_by ts (kinds us) (kinds vs) (alike ∙ map-append (λ t. t.kind) us vs)
 
 -- ---- expressions
 
@@ -93,8 +93,8 @@ record MovedSign (s : Sign) (ts : List Token) (ks : List TokenKind) : Type 0 whe
   pub kinds_are : kinds rest ≡ ks
 
 sign_moved : (s : Sign) (ts us : List Token) → kinds ts ≡ kinds (signed_token (bare_sign s) ∷ us) → MovedSign s ts (kinds us)
-sign_moved (plus at) ts us h = let l = led_by ts kind.Plus (kinds us) h in record { moved = plus l.at; rest = l.rest; are = l.are; same = refl; kinds_are = l.kinds_are }
-sign_moved (minus at) ts us h = let l = led_by ts kind.Minus (kinds us) h in record { moved = minus l.at; rest = l.rest; are = l.are; same = refl; kinds_are = l.kinds_are }
+sign_moved (plus at) ts us alike = let l = led_by ts kind.Plus (kinds us) alike in record { moved = plus l.at; rest = l.rest; are = l.are; same = refl; kinds_are = l.kinds_are }
+sign_moved (minus at) ts us alike = let l = led_by ts kind.Minus (kinds us) alike in record { moved = minus l.at; rest = l.rest; are = l.are; same = refl; kinds_are = l.kinds_are }
 
 record MovedLiteral (l : Option Number) (ts : List Token) (ks : List TokenKind) : Type 0 where
   pub moved : Option Number
@@ -104,9 +104,9 @@ record MovedLiteral (l : Option Number) (ts : List Token) (ks : List TokenKind) 
   pub kinds_are : kinds rest ≡ ks
 
 literal_moved : (l : Option Number) (ts us : List Token) → kinds ts ≡ kinds (literal_tokens (bare_literal l) ++ us) → MovedLiteral l ts (kinds us)
-literal_moved None ts us h = record { moved = None; rest = ts; are = refl; same = refl; kinds_are = h }
-literal_moved (Some n) ts us h =
-    let l = led_by ts (kind.Literal n.value) (kinds us) h in
+literal_moved None ts us alike = record { moved = None; rest = ts; are = refl; same = refl; kinds_are = alike }
+literal_moved (Some n) ts us alike =
+    let l = led_by ts (kind.Literal n.value) (kinds us) alike in
     record { moved = Some (record { value = n.value; at = l.at }); rest = l.rest; are = l.are; same = refl; kinds_are = l.kinds_are }
 
 bracket_fits : (left right left' right' : Spot) (e d : Expr) → ((n : ℕ) → ExprFits e n → ExprFits d n) → (n : ℕ) → PrimeFits (bracket left e right) n → PrimeFits (bracket left' d right') n
@@ -115,18 +115,18 @@ bracket_fits left right left' right' e d go (suc n) f = go n f
 
 mutual
   pub expr_moved : (e : Expr) (ts : List Token) → kinds ts ≡ kinds (expr_tokens (bare e)) → MovedExpr e ts
-  expr_moved (first no_sign t) ts h =
-      let p = product_moved t ts h in
+  expr_moved (first no_sign t) ts alike =
+      let p = product_moved t ts alike in
       record { moved = first no_sign p.moved; are = p.are; same = ap (first no_sign) p.same; fits = p.fits }
-  expr_moved (first (lead_plus at) t) ts h =
-      let p = product_moved t ts h in
+  expr_moved (first (lead_plus at) t) ts alike =
+      let p = product_moved t ts alike in
       record { moved = first no_sign p.moved; are = p.are; same = ap (first no_sign) p.same; fits = p.fits }
-  expr_moved (first (lead_minus at) t) ts h =
-      let l = led_by ts kind.Minus (kinds (product_tokens (bare_product t))) h in
+  expr_moved (first (lead_minus at) t) ts alike =
+      let l = led_by ts kind.Minus (kinds (product_tokens (bare_product t))) alike in
       let p = product_moved t l.rest l.kinds_are in
       record { moved = first (lead_minus l.at) p.moved; are = l.are ∙ ap (λ x. sign_token kind.Minus l.at ∷ x) p.are; same = ap (first (lead_minus somewhere)) p.same; fits = p.fits }
-  expr_moved (joined e s t) ts h =
-      let parts = parts_of ts (expr_tokens (bare e)) (signed_token (bare_sign s) ∷ product_tokens (bare_product t)) h in
+  expr_moved (joined e s t) ts alike =
+      let parts = parts_of ts (expr_tokens (bare e)) (signed_token (bare_sign s) ∷ product_tokens (bare_product t)) alike in
       let d = expr_moved e parts.left parts.left_are in
       let sign = sign_moved s parts.right (product_tokens (bare_product t)) parts.right_are in
       let p = product_moved t sign.rest sign.kinds_are in
@@ -138,30 +138,30 @@ mutual
       }
 
   product_moved : (t : Product) (ts : List Token) → kinds ts ≡ kinds (product_tokens (bare_product t)) → MovedProduct t ts
-  product_moved (zero_alone at) ts h =
-      let l = led_by ts (kind.Literal (zero_at at).value) [] h in
+  product_moved (zero_alone at) ts alike =
+      let l = led_by ts (kind.Literal (zero_at at).value) [] alike in
       record { moved = zero_alone l.at; are = l.are ∙ ap (λ x. number_token (zero_at l.at) ∷ x) (none_left l.rest l.kinds_are); same = refl; fits = λ n f. f }
-  product_moved (factors l fs) ts h =
-      let m = literal_moved l ts (factors_tokens (bare_factors fs)) h in
+  product_moved (factors l fs) ts alike =
+      let m = literal_moved l ts (factors_tokens (bare_factors fs)) alike in
       let f = factors_moved fs m.rest m.kinds_are in
       record { moved = factors m.moved f.moved; are = m.are ∙ ap (λ x. literal_tokens m.moved ++ x) f.are; same = ap₂ factors m.same f.same; fits = f.fits }
 
   factors_moved : (fs : Factors) (ts : List Token) → kinds ts ≡ kinds (factors_tokens (bare_factors fs)) → MovedFactors fs ts
-  factors_moved (one f) ts h =
-      let m = marked_moved f ts h in
+  factors_moved (one f) ts alike =
+      let m = marked_moved f ts alike in
       record { moved = one m.moved; are = m.are; same = ap one m.same; fits = m.fits }
-  factors_moved (beside fs f) ts h =
-      let parts = parts_of ts (factors_tokens (bare_factors fs)) (marked_tokens (bare_marked f)) h in
+  factors_moved (beside fs f) ts alike =
+      let parts = parts_of ts (factors_tokens (bare_factors fs)) (marked_tokens (bare_marked f)) alike in
       let l = factors_moved fs parts.left parts.left_are in
       let r = marked_moved f parts.right parts.right_are in
       record { moved = beside l.moved r.moved; are = parts.are ∙ ap₂ (λ x y. x ++ y) l.are r.are; same = ap₂ beside l.same r.same; fits = λ n f. (l.fits n f.0, r.fits n f.1) }
 
   marked_moved : (f : Marked) (ts : List Token) → kinds ts ≡ kinds (marked_tokens (bare_marked f)) → MovedMarked f ts
-  marked_moved (plain p) ts h =
-      let m = prime_moved p ts h in
+  marked_moved (plain p) ts alike =
+      let m = prime_moved p ts alike in
       record { moved = plain m.moved; are = m.are; same = ap plain m.same; fits = m.fits }
-  marked_moved (marked f at) ts h =
-      let parts = parts_of ts (marked_tokens (bare_marked f)) (sign_token kind.Quote somewhere ∷ []) h in
+  marked_moved (marked f at) ts alike =
+      let parts = parts_of ts (marked_tokens (bare_marked f)) (sign_token kind.Quote somewhere ∷ []) alike in
       let m = marked_moved f parts.left parts.left_are in
       let l = led_by parts.right kind.Quote [] parts.right_are in
       record {
@@ -172,12 +172,12 @@ mutual
       }
 
   prime_moved : (p : Prime) (ts : List Token) → kinds ts ≡ kinds (prime_tokens (bare_prime p)) → MovedPrime p ts
-  prime_moved (name n) ts h =
-      let l = led_by ts (kind.Name n.text) [] h in
+  prime_moved (name n) ts alike =
+      let l = led_by ts (kind.Name n.text) [] alike in
       let m : Name = record { text = n.text; at = l.at } in
       record { moved = name m; are = l.are ∙ ap (λ x. name_token m ∷ x) (none_left l.rest l.kinds_are); same = refl; fits = λ n f. f }
-  prime_moved (identity left n right) ts h =
-      let l = led_by ts kind.OpenSquare (kind.Name n.text ∷ kind.CloseSquare ∷ []) h in
+  prime_moved (identity left n right) ts alike =
+      let l = led_by ts kind.OpenSquare (kind.Name n.text ∷ kind.CloseSquare ∷ []) alike in
       let k = led_by l.rest (kind.Name n.text) (kind.CloseSquare ∷ []) l.kinds_are in
       let r = led_by k.rest kind.CloseSquare [] k.kinds_are in
       let m : Name = record { text = n.text; at = k.at } in
@@ -187,8 +187,8 @@ mutual
         same = refl;
         fits = λ n f. f;
       }
-  prime_moved (bracket left e right) ts h =
-      let l = led_by ts kind.Open (kinds (expr_tokens (bare e) ++ sign_token kind.Close somewhere ∷ [])) h in
+  prime_moved (bracket left e right) ts alike =
+      let l = led_by ts kind.Open (kinds (expr_tokens (bare e) ++ sign_token kind.Close somewhere ∷ [])) alike in
       let parts = parts_of l.rest (expr_tokens (bare e)) (sign_token kind.Close somewhere ∷ []) l.kinds_are in
       let d = expr_moved e parts.left parts.left_are in
       let r = led_by parts.right kind.Close [] parts.right_are in
@@ -209,8 +209,8 @@ record MovedName (n : Name) (ts : List Token) (ks : List TokenKind) : Type 0 whe
   pub kinds_are : kinds rest ≡ ks
 
 name_moved : (n : Name) (ts us : List Token) → kinds ts ≡ kinds (name_token (bare_name n) ∷ us) → MovedName n ts (kinds us)
-name_moved n ts us h =
-    let l = led_by ts (kind.Name n.text) (kinds us) h in
+name_moved n ts us alike =
+    let l = led_by ts (kind.Name n.text) (kinds us) alike in
     record { moved = record { text = n.text; at = l.at }; rest = l.rest; are = l.are; same = refl; kinds_are = l.kinds_are }
 
 record MovedNames (ns : List Name) (ts : List Token) : Type 0 where
@@ -219,9 +219,9 @@ record MovedNames (ns : List Name) (ts : List Token) : Type 0 where
   pub same : bare_names moved ≡ bare_names ns
 
 names_moved : (ns : List Name) (ts : List Token) → kinds ts ≡ kinds (names_tokens (bare_names ns)) → MovedNames ns ts
-names_moved [] ts h = record { moved = []; are = none_left ts h; same = refl }
-names_moved (n ∷ ns) ts h =
-    let m = name_moved n ts (names_tokens (bare_names ns)) h in
+names_moved [] ts alike = record { moved = []; are = none_left ts alike; same = refl }
+names_moved (n ∷ ns) ts alike =
+    let m = name_moved n ts (names_tokens (bare_names ns)) alike in
     let ms = names_moved ns m.rest m.kinds_are in
     record { moved = m.moved ∷ ms.moved; are = m.are ∙ ap (λ x. name_token m.moved ∷ x) ms.are; same = ap₂ (λ x y. x ∷ y) m.same ms.same }
 
@@ -233,8 +233,8 @@ record MovedPair (p : Name × Number) (ts : List Token) (ks : List TokenKind) : 
   pub kinds_are : kinds rest ≡ ks
 
 pair_moved : (p : Name × Number) (ts us : List Token) → kinds ts ≡ kinds (name_token (bare_pair p).0 ∷ number_token (bare_pair p).1 ∷ us) → MovedPair p ts (kinds us)
-pair_moved p ts us h =
-    let l = led_by ts (kind.Name p.0.text) (kind.Literal p.1.value ∷ kinds us) h in
+pair_moved p ts us alike =
+    let l = led_by ts (kind.Name p.0.text) (kind.Literal p.1.value ∷ kinds us) alike in
     let r = led_by l.rest (kind.Literal p.1.value) (kinds us) l.kinds_are in
     record {
       moved = (record { text = p.0.text; at = l.at }, record { value = p.1.value; at = r.at });
@@ -250,9 +250,9 @@ record MovedPairs (ps : List (Name × Number)) (ts : List Token) : Type 0 where
   pub same : bare_pairs moved ≡ bare_pairs ps
 
 pairs_moved : (ps : List (Name × Number)) (ts : List Token) → kinds ts ≡ kinds (pairs_tokens (bare_pairs ps)) → MovedPairs ps ts
-pairs_moved [] ts h = record { moved = []; are = none_left ts h; same = refl }
-pairs_moved (p ∷ ps) ts h =
-    let m = pair_moved p ts (pairs_tokens (bare_pairs ps)) h in
+pairs_moved [] ts alike = record { moved = []; are = none_left ts alike; same = refl }
+pairs_moved (p ∷ ps) ts alike =
+    let m = pair_moved p ts (pairs_tokens (bare_pairs ps)) alike in
     let ms = pairs_moved ps m.rest m.kinds_are in
     record { moved = m.moved ∷ ms.moved; are = m.are ∙ ap (λ x. name_token m.moved.0 ∷ number_token m.moved.1 ∷ x) ms.are; same = ap₂ (λ x y. x ∷ y) m.same ms.same }
 
@@ -262,9 +262,9 @@ record MovedEnding (end : Ending) (ts : List Token) : Type 0 where
   pub same : bare_ending moved ≡ bare_ending end
 
 ending_moved : (end : Ending) (ts : List Token) → kinds ts ≡ kinds (ending_tokens (bare_ending end)) → MovedEnding end ts
-ending_moved no_word ts h = record { moved = no_word; are = none_left ts h; same = refl }
-ending_moved (self_word at) ts h =
-    let l = led_by ts (kind.Name (codes "self")) [] h in
+ending_moved no_word ts alike = record { moved = no_word; are = none_left ts alike; same = refl }
+ending_moved (self_word at) ts alike =
+    let l = led_by ts (kind.Name (codes "self")) [] alike in
     record { moved = self_word l.at; are = l.are ∙ ap (λ x. word_token (codes "self") l.at ∷ x) (none_left l.rest l.kinds_are); same = refl }
 
 pub record MovedStated (s : Stated) (ts : List Token) : Type 0 where
@@ -274,8 +274,8 @@ pub record MovedStated (s : Stated) (ts : List Token) : Type 0 where
   pub fits : StatedFits s → StatedFits moved
 
 pub stated_moved : (s : Stated) (ts : List Token) → kinds ts ≡ kinds (stated_tokens (bare_stated s)) → MovedStated s ts
-stated_moved (listed w at n ns) ts h =
-    let l = led_by ts (kind.Name (list_text w)) (kinds (names_tokens (bare_names (n ∷ ns)))) h in
+stated_moved (listed w at n ns) ts alike =
+    let l = led_by ts (kind.Name (list_text w)) (kinds (names_tokens (bare_names (n ∷ ns)))) alike in
     let m = name_moved n l.rest (names_tokens (bare_names ns)) l.kinds_are in
     let ms = names_moved ns m.rest m.kinds_are in
     record {
@@ -284,9 +284,9 @@ stated_moved (listed w at n ns) ts h =
       same = ap₂ (listed w somewhere) m.same ms.same;
       fits = λ f. f;
     }
-stated_moved (mapped at n ns colon s arrow t end) ts h =
+stated_moved (mapped at n ns colon s arrow t end) ts alike =
     let behind : List Token = sign_token kind.Colon somewhere ∷ name_token (bare_name s) ∷ sign_token kind.Arrow somewhere ∷ name_token (bare_name t) ∷ ending_tokens (bare_ending end) in
-    let l = led_by ts (kind.Name (codes "map")) (kinds (names_tokens (bare_names (n ∷ ns)) ++ behind)) h in
+    let l = led_by ts (kind.Name (codes "map")) (kinds (names_tokens (bare_names (n ∷ ns)) ++ behind)) alike in
     let parts = parts_of l.rest (names_tokens (bare_names (n ∷ ns))) behind l.kinds_are in
     let m = name_moved n parts.left (names_tokens (bare_names ns)) parts.left_are in
     let ms = names_moved ns m.rest m.kinds_are in
@@ -304,8 +304,8 @@ stated_moved (mapped at n ns colon s arrow t end) ts h =
           ∙ ap (mapped somewhere (bare_name n) (bare_names ns) somewhere (bare_name s) somewhere (bare_name t)) last.same;
       fits = λ f. f;
     }
-stated_moved (sides w at d equals e) ts h =
-    let l = led_by ts (kind.Name (sides_text w)) (kinds (expr_tokens (bare d) ++ sign_token kind.Equals somewhere ∷ expr_tokens (bare e))) h in
+stated_moved (sides w at d equals e) ts alike =
+    let l = led_by ts (kind.Name (sides_text w)) (kinds (expr_tokens (bare d) ++ sign_token kind.Equals somewhere ∷ expr_tokens (bare e))) alike in
     let parts = parts_of l.rest (expr_tokens (bare d)) (sign_token kind.Equals somewhere ∷ expr_tokens (bare e)) l.kinds_are in
     let left = expr_moved d parts.left parts.left_are in
     let q = led_by parts.right kind.Equals (kinds (expr_tokens (bare e))) parts.right_are in
@@ -316,8 +316,8 @@ stated_moved (sides w at d equals e) ts h =
       same = ap₂ (λ x y. sides w somewhere x somewhere y) left.same right.same;
       fits = λ f. (left.fits 64 f.0, right.fits 64 f.1);
     }
-stated_moved (paired w at m n) ts h =
-    let l = led_by ts (kind.Name (pair_text w)) (kinds (name_token (bare_name m) ∷ name_token (bare_name n) ∷ [])) h in
+stated_moved (paired w at m n) ts alike =
+    let l = led_by ts (kind.Name (pair_text w)) (kinds (name_token (bare_name m) ∷ name_token (bare_name n) ∷ [])) alike in
     let x = name_moved m l.rest (name_token (bare_name n) ∷ []) l.kinds_are in
     let y = name_moved n x.rest [] x.kinds_are in
     record {
@@ -326,8 +326,8 @@ stated_moved (paired w at m n) ts h =
       same = ap₂ (paired w somewhere) x.same y.same;
       fits = λ f. f;
     }
-stated_moved (projected at n) ts h =
-    let l = led_by ts (kind.Name (codes "projection")) (kinds (name_token (bare_name n) ∷ [])) h in
+stated_moved (projected at n) ts alike =
+    let l = led_by ts (kind.Name (codes "projection")) (kinds (name_token (bare_name n) ∷ [])) alike in
     let x = name_moved n l.rest [] l.kinds_are in
     record {
       moved = projected l.at x.moved;
@@ -335,8 +335,8 @@ stated_moved (projected at n) ts h =
       same = ap (projected somewhere) x.same;
       fits = λ f. f;
     }
-stated_moved (by_degree at word) ts h =
-    let l = led_by ts (kind.Name (codes "order")) (kind.Name (codes "degree") ∷ []) h in
+stated_moved (by_degree at word) ts alike =
+    let l = led_by ts (kind.Name (codes "order")) (kind.Name (codes "degree") ∷ []) alike in
     let r = led_by l.rest (kind.Name (codes "degree")) [] l.kinds_are in
     record {
       moved = by_degree l.at r.at;
@@ -344,8 +344,8 @@ stated_moved (by_degree at word) ts h =
       same = refl;
       fits = λ f. f;
     }
-stated_moved (by_weight at word p ps) ts h =
-    let l = led_by ts (kind.Name (codes "order")) (kind.Name (codes "weight") ∷ kinds (pairs_tokens (bare_pairs (p ∷ ps)))) h in
+stated_moved (by_weight at word p ps) ts alike =
+    let l = led_by ts (kind.Name (codes "order")) (kind.Name (codes "weight") ∷ kinds (pairs_tokens (bare_pairs (p ∷ ps)))) alike in
     let r = led_by l.rest (kind.Name (codes "weight")) (kinds (pairs_tokens (bare_pairs (p ∷ ps)))) l.kinds_are in
     let x = pair_moved p r.rest (pairs_tokens (bare_pairs ps)) r.kinds_are in
     let xs = pairs_moved ps x.rest x.kinds_are in
@@ -355,8 +355,8 @@ stated_moved (by_weight at word p ps) ts h =
       same = ap₂ (by_weight somewhere somewhere) x.same xs.same;
       fits = λ f. f;
     }
-stated_moved (modelled at m ps) ts h =
-    let l = led_by ts (kind.Name (codes "model")) (kind.Literal m.value ∷ kinds (pairs_tokens (bare_pairs ps))) h in
+stated_moved (modelled at m ps) ts alike =
+    let l = led_by ts (kind.Name (codes "model")) (kind.Literal m.value ∷ kinds (pairs_tokens (bare_pairs ps))) alike in
     let r = led_by l.rest (kind.Literal m.value) (kinds (pairs_tokens (bare_pairs ps))) l.kinds_are in
     let xs = pairs_moved ps r.rest r.kinds_are in
     record {
@@ -375,9 +375,9 @@ pub record MovedFile (ls : List StatedLine) (ts : List Token) : Type 0 where
   pub fits : FileFits ls → FileFits moved
 
 pub file_moved : (ls : List StatedLine) (ts : List Token) → kinds ts ≡ kinds (file_tokens (bare_file ls)) → MovedFile ls ts
-file_moved [] ts h = record { moved = []; are = none_left ts h; same = refl; fits = λ f. f }
-file_moved (l ∷ ls) ts h =
-    let outer = parts_of ts (line_tokens (bare_line l)) (file_tokens (bare_file ls)) h in
+file_moved [] ts alike = record { moved = []; are = none_left ts alike; same = refl; fits = λ f. f }
+file_moved (l ∷ ls) ts alike =
+    let outer = parts_of ts (line_tokens (bare_line l)) (file_tokens (bare_file ls)) alike in
     let inner = parts_of outer.left (stated_tokens (bare_stated l.stated)) (sign_token kind.End somewhere ∷ []) outer.left_are in
     let s = stated_moved l.stated inner.left inner.left_are in
     let e = led_by inner.right kind.End [] inner.right_are in

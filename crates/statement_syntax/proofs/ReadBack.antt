@@ -63,12 +63,12 @@ scalar_ascii c low = rw (lt-ltb c 55296 (omega (arith, low))) refl
 
 -- digits are their own bytes
 digits_bytes : (ds : List ℕ) → EachIs is_digit ds → encode_utf8_all ds ≡ ds
-digits_bytes [] h = refl
-digits_bytes (d ∷ ds) h = ap₂ (λ x y. x ++ y) (encode_ascii d (plain_digit d h.0).low) (digits_bytes ds h.1)
+digits_bytes [] given = refl
+digits_bytes (d ∷ ds) given = ap₂ (λ x y. x ++ y) (encode_ascii d (plain_digit d given.0).low) (digits_bytes ds given.1)
 
 digits_scalars : (ds : List ℕ) → EachIs is_digit ds → scalars ds ≡ true
-digits_scalars [] h = refl
-digits_scalars (d ∷ ds) h = ap₂ (λ x y. x && y) (scalar_ascii d (plain_digit d h.0).low) (digits_scalars ds h.1)
+digits_scalars [] given = refl
+digits_scalars (d ∷ ds) given = ap₂ (λ x y. x && y) (scalar_ascii d (plain_digit d given.0).low) (digits_scalars ds given.1)
 
 one_byte : (c : ℕ) → c < 128 → c ∷ [] ≡ encode_utf8_all (c ∷ [])
 one_byte c low = ap (λ x. x ++ []) (sym (encode_ascii c low))
@@ -122,32 +122,32 @@ Behind kind.Quote rest = EndsBefore rest
 Behind kind.End rest = EndsBefore rest
 
 number_back : (v : ℤ) (t : SpellsNumber v) (rest : List ℕ) → EndsBefore rest → item_at (first_of (kind.Literal v) t) (more_of (kind.Literal v) t ++ rest) ≡ Ok (item.Token (kind.Literal v) (length (more_of (kind.Literal v) t)))
-number_back v t rest h =
+number_back v t rest given =
     let d = digits_of v t in
     let each : EachIs is_digit (d.first ∷ d.more) = subst (EachIs is_digit) d.is d.each in
-    literal_back t.size d.first d.more rest t.below (ap (value_from 0) (sym d.is) ∙ d.value) each.0 each.1 (stops_digits rest h)
+    literal_back t.size d.first d.more rest t.below (ap (value_from 0) (sym d.is) ∙ d.value) each.0 each.1 (stops_digits rest given)
     ∙ ap (λ z. Ok (item.Token (kind.Literal z) (length d.more))) (sym t.is)
 
 word_back : (x : List ℕ) (t : SpellsName x) (rest : List ℕ) → EndsBefore rest → item_at t.first (t.more ++ rest) ≡ Ok (item.Token (kind.Name x) (length t.more))
-word_back x t rest h =
-    name_back t.first t.more rest t.starts t.goes_on (stops_name rest h)
+word_back x t rest given =
+    name_back t.first t.more rest t.starts t.goes_on (stops_name rest given)
     ∙ ap (λ y. name_of y (length t.more)) (sym t.is)
     ∙ ap (λ b. cond b (Ok (item.Token (kind.Name x) (length t.more))) (Err BadToken)) (le-leb (length x) 32 t.short)
 
 read_back : (k : TokenKind) (t : IsToken k) (rest : List ℕ) → Behind k rest → item_at (first_of k t) (more_of k t ++ rest) ≡ Ok (item.Token k (length (more_of k t)))
-read_back (kind.Name x) t rest h = word_back x t rest h
-read_back (kind.Literal v) t rest h = number_back v t rest h
-read_back kind.Colon t rest h = colon_back rest
-read_back kind.Arrow t rest h = arrow_back rest
-read_back kind.Equals t rest h = equals_back rest
-read_back kind.Plus t rest h = plus_back rest
-read_back kind.Minus t rest h = minus_back rest h
-read_back kind.Open t rest h = open_back rest
-read_back kind.Close t rest h = close_back rest
-read_back kind.OpenSquare t rest h = open_square_back rest
-read_back kind.CloseSquare t rest h = close_square_back rest
-read_back kind.Quote t rest h = quote_back rest
-read_back kind.End t rest h = absurd t
+read_back (kind.Name x) t rest given = word_back x t rest given
+read_back (kind.Literal v) t rest given = number_back v t rest given
+read_back kind.Colon t rest given = colon_back rest
+read_back kind.Arrow t rest given = arrow_back rest
+read_back kind.Equals t rest given = equals_back rest
+read_back kind.Plus t rest given = plus_back rest
+read_back kind.Minus t rest given = minus_back rest given
+read_back kind.Open t rest given = open_back rest
+read_back kind.Close t rest given = close_back rest
+read_back kind.OpenSquare t rest given = open_square_back rest
+read_back kind.CloseSquare t rest given = close_square_back rest
+read_back kind.Quote t rest given = quote_back rest
+read_back kind.End t rest given = absurd t
 
 -- ---- the characters of a line
 
@@ -180,53 +180,53 @@ scalars-join [] ys f g = g
 scalars-join (x ∷ xs) ys f g = ap₂ (λ a b. a && b) (and_first (scalar x) (scalars xs) f) (scalars-join xs ys (and_second (scalar x) (scalars xs) f) g)
 
 glue-scalars : (b : Bool) (text : List ℕ) → scalars text ≡ true → scalars (glue b text) ≡ true
-glue-scalars true text h = h
-glue-scalars false text h = h
+glue-scalars true text given = given
+glue-scalars false text given = given
 
 pub characters-scalars : (ks : List TokenKind) (all : AllKinds IsToken ks) (glued : Bool) (rest : List ℕ) → scalars rest ≡ true → scalars (characters ks all glued rest) ≡ true
-characters-scalars [] all glued rest h = h
-characters-scalars (k ∷ ks) all glued rest h =
-    glue-scalars (glued || closes k) _ (scalars-join (first_of k all.0 ∷ more_of k all.0) (characters ks all.1 (opens k) rest) (scalar_is k all.0) (characters-scalars ks all.1 (opens k) rest h))
+characters-scalars [] all glued rest given = given
+characters-scalars (k ∷ ks) all glued rest given =
+    glue-scalars (glued || closes k) _ (scalars-join (first_of k all.0 ∷ more_of k all.0) (characters ks all.1 (opens k) rest) (scalar_is k all.0) (characters-scalars ks all.1 (opens k) rest given))
 
 -- ---- what stands behind a token
 
 closing_first : (k : TokenKind) (t : IsToken k) → closes k ≡ true → Ender (first_of k t)
-closing_first (kind.Name x) t h = absurd cc
-closing_first (kind.Literal v) t h = absurd cc
-closing_first kind.Colon t h = absurd cc
-closing_first kind.Arrow t h = absurd cc
-closing_first kind.Equals t h = absurd cc
-closing_first kind.Plus t h = absurd cc
-closing_first kind.Minus t h = absurd cc
-closing_first kind.Open t h = absurd cc
-closing_first kind.Close t h = inr (inr (inl refl))
-closing_first kind.OpenSquare t h = absurd cc
-closing_first kind.CloseSquare t h = inr (inr (inr (inl refl)))
-closing_first kind.Quote t h = inr (inr (inr (inr refl)))
-closing_first kind.End t h = absurd t
+closing_first (kind.Name x) t given = absurd cc
+closing_first (kind.Literal v) t given = absurd cc
+closing_first kind.Colon t given = absurd cc
+closing_first kind.Arrow t given = absurd cc
+closing_first kind.Equals t given = absurd cc
+closing_first kind.Plus t given = absurd cc
+closing_first kind.Minus t given = absurd cc
+closing_first kind.Open t given = absurd cc
+closing_first kind.Close t given = inr (inr (inl refl))
+closing_first kind.OpenSquare t given = absurd cc
+closing_first kind.CloseSquare t given = inr (inr (inr (inl refl)))
+closing_first kind.Quote t given = inr (inr (inr (inr refl)))
+closing_first kind.End t given = absurd t
 
 behind_gap : (k : TokenKind) (t : IsToken k) (more : List ℕ) (b : Bool) → closes k ≡ b → EndsBefore (glue b (first_of k t ∷ more))
 behind_gap k t more true is = closing_first k t is
 behind_gap k t more false is = inl refl
 
 unglued : (ks : List TokenKind) (all : AllKinds IsToken ks) (rest : List ℕ) → EndsBefore rest → EndsBefore (characters ks all false rest)
-unglued [] all rest h = h
-unglued (k ∷ ks) all rest h = behind_gap k all.0 (more_of k all.0 ++ characters ks all.1 (opens k) rest) (closes k) refl
+unglued [] all rest given = given
+unglued (k ∷ ks) all rest given = behind_gap k all.0 (more_of k all.0 ++ characters ks all.1 (opens k) rest) (closes k) refl
 
 behind_is : (k : TokenKind) (ks : List TokenKind) (all : AllKinds IsToken ks) (rest : List ℕ) → EndsBefore rest → Behind k (characters ks all (opens k) rest)
-behind_is (kind.Name x) ks all rest h = unglued ks all rest h
-behind_is (kind.Literal v) ks all rest h = unglued ks all rest h
-behind_is kind.Colon ks all rest h = unglued ks all rest h
-behind_is kind.Arrow ks all rest h = unglued ks all rest h
-behind_is kind.Equals ks all rest h = unglued ks all rest h
-behind_is kind.Plus ks all rest h = unglued ks all rest h
-behind_is kind.Minus ks all rest h = unglued ks all rest h
-behind_is kind.Open ks all rest h = tt
-behind_is kind.Close ks all rest h = unglued ks all rest h
-behind_is kind.OpenSquare ks all rest h = tt
-behind_is kind.CloseSquare ks all rest h = unglued ks all rest h
-behind_is kind.Quote ks all rest h = unglued ks all rest h
-behind_is kind.End ks all rest h = unglued ks all rest h
+behind_is (kind.Name x) ks all rest given = unglued ks all rest given
+behind_is (kind.Literal v) ks all rest given = unglued ks all rest given
+behind_is kind.Colon ks all rest given = unglued ks all rest given
+behind_is kind.Arrow ks all rest given = unglued ks all rest given
+behind_is kind.Equals ks all rest given = unglued ks all rest given
+behind_is kind.Plus ks all rest given = unglued ks all rest given
+behind_is kind.Minus ks all rest given = unglued ks all rest given
+behind_is kind.Open ks all rest given = tt
+behind_is kind.Close ks all rest given = unglued ks all rest given
+behind_is kind.OpenSquare ks all rest given = tt
+behind_is kind.CloseSquare ks all rest given = unglued ks all rest given
+behind_is kind.Quote ks all rest given = unglued ks all rest given
+behind_is kind.End ks all rest given = unglued ks all rest given
 
 -- ---- a line is read as its tokens
 
@@ -253,25 +253,25 @@ unfolding tokens_from
 blank_step text line column past = ap (λ i. placed i (spot line column) past (λ skip to end. tokens_from text skip to end)) (blank_back text)
 
 glued_reads : (b : Bool) (text : List ℕ) (ks : List TokenKind) (rest : List ℕ) (line past : ℕ) → ((column : ℕ) → ReadAs text ks rest line column past) → (column : ℕ) → ReadAs (glue b text) ks rest line column past
-glued_reads true text ks rest line past h column = h column
-glued_reads false text ks rest line past h column =
-    let r = h (column + 1) in
+glued_reads true text ks rest line past given column = given column
+glued_reads false text ks rest line past given column =
+    let r = given (column + 1) in
     record { tokens = r.tokens; are = r.are; column' = r.column'; past' = r.past'; reads = blank_step text line column past ∙ r.reads; kept = r.kept }
 
 pub line_read : (ks : List TokenKind) (all : AllKinds IsToken ks) (glued : Bool) (rest : List ℕ) (line column past : ℕ) → EndsBefore rest → ReadAs (characters ks all glued rest) ks rest line column past
-line_read [] all glued rest line column past h =
+line_read [] all glued rest line column past given =
     record { tokens = []; are = refl; column' = column; past' = past; reads = sym (front_nil (tokens_from rest 0 (spot line column) past)); kept = λ some. omega (arith, some) }
-line_read (k ∷ ks) all glued rest line column past h =
+line_read (k ∷ ks) all glued rest line column past given =
     let more = characters ks all.1 (opens k) rest in
     glued_reads (glued || closes k) (first_of k all.0 ∷ (more_of k all.0 ++ more)) (k ∷ ks) rest line past (λ col.
     let after = col + 1 + length (more_of k all.0) in
-    let r = line_read ks all.1 (opens k) rest line after after h in
+    let r = line_read ks all.1 (opens k) rest line after after given in
     record {
       tokens = record { at = spot line col; kind = k } ∷ r.tokens;
       are = ap (λ x. k ∷ x) r.are;
       column' = r.column';
       past' = r.past';
-      reads = one_token (first_of k all.0) (more_of k all.0) more k line col past (read_back k all.0 more (behind_is k ks all.1 rest h))
+      reads = one_token (first_of k all.0) (more_of k all.0) more k line col past (read_back k all.0 more (behind_is k ks all.1 rest given))
           ∙ ap (λ (x : Result (List Token) Placed). x >>= λ ts. Ok (record { at = spot line col; kind = k } ∷ ts)) r.reads
           ∙ front_more (record { at = spot line col; kind = k }) r.tokens (tokens_from rest 0 (spot line r.column') r.past');
       kept = λ some. r.kept (omega arith);

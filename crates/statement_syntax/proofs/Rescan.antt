@@ -29,28 +29,28 @@ prefix_is p [] (d ∷ ds) e s = ap (λ b. cond b (1 + prefix_len p ds) 0) s
 prefix_is p (c ∷ cs) rest e s = ap (λ b. cond b (1 + prefix_len p (cs ++ rest)) 0) e.0 ∙ ap (λ n. 1 + n) (prefix_is p cs rest e.1 s) ∙ omega arith
 
 true_false : (b : Bool) → b ≡ true → b ≡ false → ⊥
-true_false b h k = let e : true ≡ false = sym h ∙ k in absurd cc
+true_false b given k = let e : true ≡ false = sym given ∙ k in absurd cc
 
 is_not : (c n : ℕ) (b : Bool) → (c == n) ≡ b → starts_name c ≡ true → starts_name n ≡ false → (c == n) ≡ false
-is_not c n false e h k = e
-is_not c n true e h k = absurd (true_false (starts_name c) h (ap starts_name (eqb-true c n e) ∙ k))
+is_not c n false e given k = e
+is_not c n true e given k = absurd (true_false (starts_name c) given (ap starts_name (eqb-true c n e) ∙ k))
 
 -- the characters before names in `item_at` start none
 pub plain_start : (c : ℕ) → starts_name c ≡ true → ((c == 10) ≡ false) × ((c == 32) ≡ false) × ((c == 9) ≡ false) × ((c == 13) ≡ false) × ((c == 35) ≡ false)
-plain_start c h = (
-  is_not c 10 (c == 10) refl h (rw (is_xid_start-ascii 10 (omega arith)) refl),
-  is_not c 32 (c == 32) refl h (rw (is_xid_start-ascii 32 (omega arith)) refl),
-  is_not c 9 (c == 9) refl h (rw (is_xid_start-ascii 9 (omega arith)) refl),
-  is_not c 13 (c == 13) refl h (rw (is_xid_start-ascii 13 (omega arith)) refl),
-  is_not c 35 (c == 35) refl h (rw (is_xid_start-ascii 35 (omega arith)) refl),
+plain_start c given = (
+  is_not c 10 (c == 10) refl given (rw (is_xid_start-ascii 10 (omega arith)) refl),
+  is_not c 32 (c == 32) refl given (rw (is_xid_start-ascii 32 (omega arith)) refl),
+  is_not c 9 (c == 9) refl given (rw (is_xid_start-ascii 9 (omega arith)) refl),
+  is_not c 13 (c == 13) refl given (rw (is_xid_start-ascii 13 (omega arith)) refl),
+  is_not c 35 (c == 35) refl given (rw (is_xid_start-ascii 35 (omega arith)) refl),
 )
 
 pub one_token : (c : ℕ) (cs rest : List ℕ) (k : TokenKind) (line column past : ℕ) → item_at c (cs ++ rest) ≡ Ok (item.Token k (length cs))
     → tokens_from (c ∷ (cs ++ rest)) 0 (spot line column) past
     ≡ (tokens_from rest 0 (spot line (column + 1 + length cs)) (column + 1 + length cs) >>= λ ts. Ok (record { at = spot line column; kind = k } ∷ ts))
 unfolding tokens_from
-one_token c cs rest k line column past h =
-    ap (λ i. placed i (spot line column) past (λ skip to end. tokens_from (cs ++ rest) skip to end)) h
+one_token c cs rest k line column past given =
+    ap (λ i. placed i (spot line column) past (λ skip to end. tokens_from (cs ++ rest) skip to end)) given
     ∙ ap (λ (r : Result (List Token) Placed). r >>= λ ts. Ok (record { at = spot line column; kind = k } ∷ ts))
     (skipped (length cs) (cs ++ rest) line (column + 1) (column + 1 + length cs) (omega (arith, length-append cs rest))
     ∙ ap (λ x. tokens_from x 0 (spot line (column + 1 + length cs)) (column + 1 + length cs)) (drop_at cs rest (length cs) refl))
@@ -76,15 +76,15 @@ EndsBefore (c ∷ rest) = Ender c
 
 -- what holds at these characters holds at whatever may stand there
 ender_by : (P : ℕ → Type 0) → P 32 → P 10 → P 41 → P 93 → P 39 → (c : ℕ) → Ender c → P c
-ender_by P a b d e f c (inl h) = subst P (sym h) a
-ender_by P a b d e f c (inr (inl h)) = subst P (sym h) b
-ender_by P a b d e f c (inr (inr (inl h))) = subst P (sym h) d
-ender_by P a b d e f c (inr (inr (inr (inl h)))) = subst P (sym h) e
-ender_by P a b d e f c (inr (inr (inr (inr h)))) = subst P (sym h) f
+ender_by P a b d e f c (inl given) = subst P (sym given) a
+ender_by P a b d e f c (inr (inl given)) = subst P (sym given) b
+ender_by P a b d e f c (inr (inr (inl given))) = subst P (sym given) d
+ender_by P a b d e f c (inr (inr (inr (inl given)))) = subst P (sym given) e
+ender_by P a b d e f c (inr (inr (inr (inr given)))) = subst P (sym given) f
 
 stops_by : (p : ℕ → Bool) → p 32 ≡ false → p 10 ≡ false → p 41 ≡ false → p 93 ≡ false → p 39 ≡ false → (rest : List ℕ) → EndsBefore rest → StopsAt p rest
-stops_by p a b c d e [] h = tt
-stops_by p a b c d e (x ∷ rest) h = ender_by (λ x. p x ≡ false) a b c d e x h
+stops_by p a b c d e [] given = tt
+stops_by p a b c d e (x ∷ rest) given = ender_by (λ x. p x ≡ false) a b c d e x given
 
 -- no name and no literal goes on with it, and no sign
 pub stops_name : (rest : List ℕ) → EndsBefore rest → StopsAt is_xid_continue rest
@@ -100,8 +100,8 @@ pub stops_digits : (rest : List ℕ) → EndsBefore rest → StopsAt is_digit re
 stops_digits = stops_by is_digit refl refl refl refl refl
 
 no_arrow : (rest : List ℕ) → EndsBefore rest → begins_with 62 rest ≡ false
-no_arrow [] h = refl
-no_arrow (c ∷ rest) h = ender_by (λ c. (c == 62) ≡ false) refl refl refl refl refl c h
+no_arrow [] given = refl
+no_arrow (c ∷ rest) given = ender_by (λ c. (c == 62) ≡ false) refl refl refl refl refl c given
 
 -- ---- signs
 
@@ -143,4 +143,4 @@ arrow_back rest = rw (is_xid_start-ascii 45 (omega arith)) refl
 
 pub minus_back : (rest : List ℕ) → EndsBefore rest → item_at 45 rest ≡ Ok (item.Token kind.Minus 0)
 unfolding item_at
-minus_back rest h = rw (is_xid_start-ascii 45 (omega arith), no_arrow rest h) refl
+minus_back rest given = rw (is_xid_start-ascii 45 (omega arith), no_arrow rest given) refl

@@ -35,13 +35,13 @@ module _ {S : Type 0} (step : S → Token → Result S Misfit) where
 
   fails_by : (front rest : List Token) (f : Misfit) (r : Result S Misfit) → ((s : S) → run step s front ≡ Err f → run step s (front ++ rest) ≡ Err f)
       → (r >>= λ s. run step s front) ≡ Err f → (r >>= λ s. run step s (front ++ rest)) ≡ Err f
-  fails_by front rest f (Ok s) go h = go s h
-  fails_by front rest f (Err e) go h = h
+  fails_by front rest f (Ok s) go given = go s given
+  fails_by front rest f (Err e) go given = given
 
   pub run_fails : (st : S) (front : List Token) (f : Misfit) (rest : List Token) → run step st front ≡ Err f → run step st (front ++ rest) ≡ Err f
   unfolding run
   run_fails st [] f rest ran = absurd (ok_differs st f ran)
-  run_fails st (t ∷ front) f rest ran = fails_by front rest f (step st t) (λ s h. run_fails s front f rest h) ran
+  run_fails st (t ∷ front) f rest ran = fails_by front rest f (step st t) (λ s given. run_fails s front f rest given) ran
 
 -- ---- runs that may stop at a bracket that is too deep
 
@@ -69,8 +69,8 @@ run_upto step st front next rest (inr (f, p)) = inr (f, run_fails step st front 
 
 -- what a run comes to is what was meant, if it comes to anything
 pub upto_ok : {S : Type 0} {F : Type 0} (r : Result S Misfit) (meant next : S) → Upto F r (Ok meant) → r ≡ Ok next → F × (meant ≡ next)
-upto_ok r meant next (inl (f, p)) h = (f, ok_is _ _ (sym p ∙ h))
-upto_ok r meant next (inr (f, p)) h = absurd (ok_differs next TooDeep (sym h ∙ p))
+upto_ok r meant next (inl (f, p)) given = (f, ok_is _ _ (sym p ∙ given))
+upto_ok r meant next (inr (f, p)) given = absurd (ok_differs next TooDeep (sym given ∙ p))
 
 -- ---- one run inside another
 
@@ -86,13 +86,13 @@ module _ {S T : Type 0} (inner : S → Token → Result S Misfit) (outer : T →
 
   deep_by : (t : Token) (ts : List Token) (s : S) (r : Result S Misfit) → inner s t ≡ r → ((x : S) → run inner x ts ≡ Err TooDeep → run outer (wrap x) ts ≡ Err TooDeep)
       → (r >>= λ x. run inner x ts) ≡ Err TooDeep → run outer (wrap s) (t ∷ ts) ≡ Err TooDeep
-  deep_by t ts s (Ok x) is go h = one_step outer (wrap s) (wrap x) t ts (each s x t is) ∙ go x h
-  deep_by t ts s (Err f) is go h = failing outer (wrap s) t ts TooDeep (deep s t (is ∙ h))
+  deep_by t ts s (Ok x) is go given = one_step outer (wrap s) (wrap x) t ts (each s x t is) ∙ go x given
+  deep_by t ts s (Err f) is go given = failing outer (wrap s) t ts TooDeep (deep s t (is ∙ given))
 
   pub inside_deep : (ts : List Token) (s : S) → run inner s ts ≡ Err TooDeep → run outer (wrap s) ts ≡ Err TooDeep
   unfolding run
   inside_deep [] s ran = absurd (ok_differs s TooDeep ran)
-  inside_deep (t ∷ ts) s ran = deep_by t ts s (inner s t) refl (λ x h. inside_deep ts x h) ran
+  inside_deep (t ∷ ts) s ran = deep_by t ts s (inner s t) refl (λ x given. inside_deep ts x given) ran
 
   pub inside_upto : {F : Type 0} (ts : List Token) (s end : S) → Upto F (run inner s ts) (Ok end) → Upto F (run outer (wrap s) ts) (Ok (wrap end))
   inside_upto ts s end (inl (f, p)) = inl (f, inside ts s end p)

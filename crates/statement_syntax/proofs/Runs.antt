@@ -62,7 +62,7 @@ close_step levels head part left (joined e s (factors n fs)) right = refl
 open_step : (levels : List Level) (head : Head) (part : Part) (left : Spot) → length levels < 64
     → step (at_outside levels head part) (sign_token kind.Open left) ≡ Ok (fresh (record { head = head; part = part; at = left } ∷ levels))
 unfolding step
-open_step levels head part left h = ap (λ b. cond b (Ok (fresh (record { head = head; part = part; at = left } ∷ levels))) (Err TooDeep)) (lt-ltb (length levels) 64 h)
+open_step levels head part left room = ap (λ b. cond b (Ok (fresh (record { head = head; part = part; at = left } ∷ levels))) (Err TooDeep)) (lt-ltb (length levels) 64 room)
 
 quote_step : (levels : List Level) (head : Head) (part : Part) (f : Marked) (at : Spot)
     → step (at_outside levels head (add_marked part f)) (sign_token kind.Quote at) ≡ Ok (at_outside levels head (add_marked part (marked f at)))
@@ -107,59 +107,59 @@ identity_run levels head part left n right rest = refl
 open_fails : (levels : List Level) (head : Head) (part : Part) (left : Spot) (rest : List Token) → length levels + 0 ≡ 64
     → run step (at_outside levels head part) (sign_token kind.Open left ∷ rest) ≡ Err TooDeep
 unfolding step run
-open_fails levels head part left rest h =
+open_fails levels head part left rest room =
     ap (λ b. cond b (Ok (fresh (record { head = head; part = part; at = left } ∷ levels))) (Err TooDeep) >>= λ s. run step s rest)
-    (le-ltb (length levels) 64 (omega (arith, h)))
+    (le-ltb (length levels) 64 (omega (arith, room)))
 
 mutual
   pub expr_run : (levels : List Level) (e : Expr) (d : ℕ) (rest : List Token) → length levels + d ≡ 64
       → Upto (ExprFits e d) (run step (fresh levels) (expr_tokens e ++ rest)) (run step (end_state levels e) rest)
-  expr_run levels (first l t) d rest h =
+  expr_run levels (first l t) d rest room =
       before_it (ap (run step (fresh levels)) (append_assoc (lead_tokens l) (product_tokens t) rest)
       ∙ lead_run levels l (product_tokens t ++ rest))
-      (product_run levels (led l) t d rest h)
-  expr_run levels (joined e s t) d rest h =
+      (product_run levels (led l) t d rest room)
+  expr_run levels (joined e s t) d rest room =
       before_it (ap (run step (fresh levels)) (append_assoc (expr_tokens e) (signed_token s ∷ product_tokens t) rest))
-      (then_on (expr_run levels e d (signed_token s ∷ (product_tokens t ++ rest)) h)
+      (then_on (expr_run levels e d (signed_token s ∷ (product_tokens t ++ rest)) room)
       (before_it (one_step step (end_state levels e) (at_outside levels (after e s) nothing) (signed_token s) (product_tokens t ++ rest) (sign_step levels e s))
-      (product_run levels (after e s) t d rest h)))
+      (product_run levels (after e s) t d rest room)))
 
   product_run : (levels : List Level) (head : Head) (t : Product) (d : ℕ) (rest : List Token) → length levels + d ≡ 64
       → Upto (ProductFits t d) (run step (at_outside levels head nothing) (product_tokens t ++ rest)) (run step (at_outside levels head (part_of t)) rest)
-  product_run levels head (zero_alone at) d rest h = inl (tt, literal_run levels head (Some (zero_at at)) rest)
-  product_run levels head (factors l fs) d rest h =
+  product_run levels head (zero_alone at) d rest room = inl (tt, literal_run levels head (Some (zero_at at)) rest)
+  product_run levels head (factors l fs) d rest room =
       before_it (ap (run step (at_outside levels head nothing)) (append_assoc (literal_tokens l) (factors_tokens fs) rest)
       ∙ literal_run levels head l (factors_tokens fs ++ rest))
-      (factors_run levels head l fs d rest h)
+      (factors_run levels head l fs d rest room)
 
   factors_run : (levels : List Level) (head : Head) (l : Option Number) (fs : Factors) (d : ℕ) (rest : List Token) → length levels + d ≡ 64
       → Upto (FactorsFit fs d) (run step (at_outside levels head (after_literal l)) (factors_tokens fs ++ rest)) (run step (at_outside levels head (product l fs)) rest)
-  factors_run levels head l (one f) d rest h =
-      after_it (marked_run levels head (after_literal l) f d rest h) (ap (λ p. run step (at_outside levels head p) rest) (literal_is l f))
-  factors_run levels head l (beside fs f) d rest h =
+  factors_run levels head l (one f) d rest room =
+      after_it (marked_run levels head (after_literal l) f d rest room) (ap (λ p. run step (at_outside levels head p) rest) (literal_is l f))
+  factors_run levels head l (beside fs f) d rest room =
       before_it (ap (run step (at_outside levels head (after_literal l))) (append_assoc (factors_tokens fs) (marked_tokens f) rest))
-      (then_on (factors_run levels head l fs d (marked_tokens f ++ rest) h)
-      (marked_run levels head (product l fs) f d rest h))
+      (then_on (factors_run levels head l fs d (marked_tokens f ++ rest) room)
+      (marked_run levels head (product l fs) f d rest room))
 
   marked_run : (levels : List Level) (head : Head) (part : Part) (f : Marked) (d : ℕ) (rest : List Token) → length levels + d ≡ 64
       → Upto (MarkedFits f d) (run step (at_outside levels head part) (marked_tokens f ++ rest)) (run step (at_outside levels head (add_marked part f)) rest)
-  marked_run levels head part (plain p) d rest h = after_it (prime_run levels head part p d rest h) (ap (λ q. run step (at_outside levels head q) rest) (plain_is part p))
-  marked_run levels head part (marked f at) d rest h =
+  marked_run levels head part (plain p) d rest room = after_it (prime_run levels head part p d rest room) (ap (λ q. run step (at_outside levels head q) rest) (plain_is part p))
+  marked_run levels head part (marked f at) d rest room =
       before_it (ap (run step (at_outside levels head part)) (append_assoc (marked_tokens f) (sign_token kind.Quote at ∷ []) rest))
-      (after_it (marked_run levels head part f d (sign_token kind.Quote at ∷ rest) h)
+      (after_it (marked_run levels head part f d (sign_token kind.Quote at ∷ rest) room)
       (one_step step (at_outside levels head (add_marked part f)) (at_outside levels head (add_marked part (marked f at))) (sign_token kind.Quote at) rest (quote_step levels head part f at)))
 
   prime_run : (levels : List Level) (head : Head) (part : Part) (p : Prime) (d : ℕ) (rest : List Token) → length levels + d ≡ 64
       → Upto (PrimeFits p d) (run step (at_outside levels head part) (prime_tokens p ++ rest)) (run step (at_outside levels head (add part p)) rest)
-  prime_run levels head part (name n) d rest h = inl (tt, name_run levels head part n rest)
-  prime_run levels head part (identity left n right) d rest h = inl (tt, identity_run levels head part left n right rest)
-  prime_run levels head part (bracket left e right) zero rest h =
-      inr (λ x. x, open_fails levels head part left ((expr_tokens e ++ sign_token kind.Close right ∷ []) ++ rest) h)
-  prime_run levels head part (bracket left e right) (suc d) rest h =
+  prime_run levels head part (name n) d rest room = inl (tt, name_run levels head part n rest)
+  prime_run levels head part (identity left n right) d rest room = inl (tt, identity_run levels head part left n right rest)
+  prime_run levels head part (bracket left e right) zero rest room =
+      inr (λ x. x, open_fails levels head part left ((expr_tokens e ++ sign_token kind.Close right ∷ []) ++ rest) room)
+  prime_run levels head part (bracket left e right) (suc d) rest room =
       let inner = record { head = head; part = part; at = left } ∷ levels in
-      before_it (one_step step (at_outside levels head part) (fresh inner) (sign_token kind.Open left) ((expr_tokens e ++ sign_token kind.Close right ∷ []) ++ rest) (open_step levels head part left (omega (arith, h)))
+      before_it (one_step step (at_outside levels head part) (fresh inner) (sign_token kind.Open left) ((expr_tokens e ++ sign_token kind.Close right ∷ []) ++ rest) (open_step levels head part left (omega (arith, room)))
       ∙ ap (run step (fresh inner)) (append_assoc (expr_tokens e) (sign_token kind.Close right ∷ []) rest))
-      (after_it (expr_run inner e d (sign_token kind.Close right ∷ rest) (omega (arith, h)))
+      (after_it (expr_run inner e d (sign_token kind.Close right ∷ rest) (omega (arith, room)))
       (one_step step (end_state inner e) (at_outside levels head (add part (bracket left e right))) (sign_token kind.Close right) rest (close_step levels head part left e right)))
 
 -- an expression ends where its tokens do

@@ -60,23 +60,23 @@ sum-seen head t = ap₂ steps.sum_of (place-seen head t) (terms-seen head t)
 -- ---- the steps
 
 sign_made : (levels : List Level) (head : Head) (s : Sign) (t : Option Product)
-    → (steps.sign_by (head_of head) (product_or t (head_of head).negative) (is_minus s) >>= λ h. Ok (steps.outside (levels_of levels) h (part_of nothing))) ≡ seen (sign_after levels head t s)
+    → (steps.sign_by (head_of head) (product_or t (head_of head).negative) (is_minus s) >>= λ next. Ok (steps.outside (levels_of levels) next (part_of nothing))) ≡ seen (sign_after levels head t s)
 sign_made levels head s None = refl
 sign_made levels head s (Some t) =
     ap₂ (λ at terms. Ok (steps.outside (levels_of levels) (record { at = Some at; terms = terms; negative = is_minus s }) (part_of nothing))) (place-seen head t) (terms-seen head t)
 
 sign-seen : (levels : List Level) (head : Head) (part : Part) (s : Sign) (at : Spot) → lead_of s ≡ lead_of s
     → (at-is : (head_of (led (lead_of s))) ≡ record { at = Some at; terms = []; negative = is_minus s })
-    → (steps.sign_step (head_of head) (part_of part) at (is_minus s) >>= λ h. Ok (steps.outside (levels_of levels) h (part_of nothing))) ≡ seen (step_sign levels head part s)
-sign-seen levels (led no_sign) nothing s at e at-is = ap (λ h. Ok (steps.outside (levels_of levels) h (part_of nothing))) (sym at-is)
+    → (steps.sign_step (head_of head) (part_of part) at (is_minus s) >>= λ next. Ok (steps.outside (levels_of levels) next (part_of nothing))) ≡ seen (step_sign levels head part s)
+sign-seen levels (led no_sign) nothing s at e at-is = ap (λ next. Ok (steps.outside (levels_of levels) next (part_of nothing))) (sym at-is)
 sign-seen levels (led (lead_plus x)) nothing s at e at-is = refl
 sign-seen levels (led (lead_minus x)) nothing s at e at-is = refl
 sign-seen levels (after d t) nothing s at e at-is = refl
 sign-seen levels (led l) (scaled n) s at e at-is =
-    ap (λ r. steps.sign_by (head_of (led l)) r (is_minus s) >>= λ h. Ok (steps.outside (levels_of levels) h (part_of nothing))) (ended-seen (scaled n) (head_of (led l)).negative)
+    ap (λ r. steps.sign_by (head_of (led l)) r (is_minus s) >>= λ next. Ok (steps.outside (levels_of levels) next (part_of nothing))) (ended-seen (scaled n) (head_of (led l)).negative)
     ∙ sign_made levels (led l) s (whole_term (scaled n))
 sign-seen levels (after d t) (scaled n) s at e at-is =
-    ap (λ r. steps.sign_by (head_of (after d t)) r (is_minus s) >>= λ h. Ok (steps.outside (levels_of levels) h (part_of nothing))) (ended-seen (scaled n) (head_of (after d t)).negative)
+    ap (λ r. steps.sign_by (head_of (after d t)) r (is_minus s) >>= λ next. Ok (steps.outside (levels_of levels) next (part_of nothing))) (ended-seen (scaled n) (head_of (after d t)).negative)
     ∙ sign_made levels (after d t) s (whole_term (scaled n))
 sign-seen levels (led l) (product k fs) s at e at-is = sign_made levels (led l) s (whole_term (product k fs))
 sign-seen levels (after d t) (product k fs) s at e at-is = sign_made levels (after d t) s (whole_term (product k fs))

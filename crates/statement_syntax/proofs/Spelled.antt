@@ -80,8 +80,8 @@ AllKinds-append P [] ys f g = g
 AllKinds-append P (x ∷ xs) ys f g = (f.0, AllKinds-append P xs ys f.1 g)
 
 pub AllKinds-split : (P : TokenKind → Type 0) (xs ys : List TokenKind) → AllKinds P (xs ++ ys) → AllKinds P xs × AllKinds P ys
-AllKinds-split P [] ys h = (tt, h)
-AllKinds-split P (x ∷ xs) ys h = let rest = AllKinds-split P xs ys h.1 in ((h.0, rest.0), rest.1)
+AllKinds-split P [] ys given = (tt, given)
+AllKinds-split P (x ∷ xs) ys given = let rest = AllKinds-split P xs ys given.1 in ((given.0, rest.0), rest.1)
 
 -- ---- characters
 
@@ -97,18 +97,18 @@ EachIs-take_while p [] = tt
 EachIs-take_while p (c ∷ cs) = kept_by p c cs (p c) refl (EachIs-take_while p cs)
 
 pub and_first : (a b : Bool) → (a && b) ≡ true → a ≡ true
-and_first true b h = refl
-and_first false b h = absurd cc
+and_first true b given = refl
+and_first false b given = absurd cc
 
 pub and_second : (a b : Bool) → (a && b) ≡ true → b ≡ true
-and_second true b h = h
-and_second false b h = absurd cc
+and_second true b given = given
+and_second false b given = absurd cc
 
 scalars-take : (n : ℕ) (cs : List ℕ) → scalars cs ≡ true → scalars (take n cs) ≡ true
-scalars-take zero [] h = refl
-scalars-take zero (c ∷ cs) h = refl
-scalars-take (suc n) [] h = refl
-scalars-take (suc n) (c ∷ cs) h = ap (λ b. b && scalars (take n cs)) (and_first _ _ h) ∙ scalars-take n cs (and_second _ _ h)
+scalars-take zero [] given = refl
+scalars-take zero (c ∷ cs) given = refl
+scalars-take (suc n) [] given = refl
+scalars-take (suc n) (c ∷ cs) given = ap (λ b. b && scalars (take n cs)) (and_first _ _ given) ∙ scalars-take n cs (and_second _ _ given)
 
 -- ---- one token
 
@@ -121,16 +121,16 @@ by_test true x y here there = here refl
 by_test false x y here there = there
 
 no_token : Makes (Ok item.NewLine)
-no_token k more h = absurd cc
+no_token k more given = absurd cc
 
 no_gap : (n : ℕ) → Makes (Ok (item.Gap n))
-no_gap n k more h = absurd cc
+no_gap n k more given = absurd cc
 
 no_fault : (f : ScanFault) → Makes (Err f)
-no_fault f k more h = absurd cc
+no_fault f k more given = absurd cc
 
 this_token : (k : TokenKind) (n : ℕ) → IsToken k → Makes (Ok (item.Token k n))
-this_token k n t l more h = let same : k ≡ l = cc in subst IsToken same t
+this_token k n t l more given = let same : k ≡ l = cc in subst IsToken same t
 
 name_makes : (c : ℕ) (rest : List ℕ) → scalars (c ∷ rest) ≡ true → starts_name c ≡ true → Makes (name_of (encode_utf8_all (c ∷ take_while is_xid_continue rest)) (prefix_len is_xid_continue rest))
 name_makes c rest scalar starts =
@@ -192,25 +192,25 @@ abbrev AreFileTokens : List Token → Type 0
 AreFileTokens ts = AllKinds IsFileToken (kinds ts)
 
 end_are : (line past : ℕ) (us : List Token) → AreFileTokens us → AreFileTokens (end_of line past ++ us)
-end_are line zero us h = h
-end_are line (suc n) us h = (tt, h)
+end_are line zero us given = given
+end_are line (suc n) us given = (tt, given)
 
 placed_are : (r : Result Item ScanFault) (at : Spot) (past : ℕ) (next : ℕ → Spot → ℕ → Result (List Token) Placed) → Makes r → ((skip : ℕ) (to : Spot) (end : ℕ) (us : List Token) → next skip to end ≡ Ok us → AreFileTokens us)
     → (ts : List Token) → placed r at past next ≡ Ok ts → AreFileTokens ts
-placed_are (Err e) at past next makes go ts h = absurd cc
-placed_are (Ok item.NewLine) at past next makes go ts h =
-    let one = scan_ok (next 0 (below at) 0) (λ ts. Ok (end_of at.line past ++ ts)) ts h in
+placed_are (Err e) at past next makes go ts given = absurd cc
+placed_are (Ok item.NewLine) at past next makes go ts given =
+    let one = scan_ok (next 0 (below at) 0) (λ ts. Ok (end_of at.line past ++ ts)) ts given in
     subst AreFileTokens (tokens_is _ ts one.2) (end_are at.line past one.0 (go 0 (below at) 0 one.0 one.1))
-placed_are (Ok (item.Gap more)) at past next makes go ts h = go more (right_of at 1) past ts h
-placed_are (Ok (item.Token k more)) at past next makes go ts h =
-    let one = scan_ok (next more (right_of at 1) (at.column + 1 + more)) (λ ts. Ok (record { at = at; kind = k } ∷ ts)) ts h in
+placed_are (Ok (item.Gap more)) at past next makes go ts given = go more (right_of at 1) past ts given
+placed_are (Ok (item.Token k more)) at past next makes go ts given =
+    let one = scan_ok (next more (right_of at 1) (at.column + 1 + more)) (λ ts. Ok (record { at = at; kind = k } ∷ ts)) ts given in
     subst AreFileTokens (tokens_is _ ts one.2) (file_token k (makes k more refl), go more (right_of at 1) (at.column + 1 + more) one.0 one.1)
 
 -- the tokens of a text are spelled so
 pub tokens_are : (cs : List ℕ) (skip : ℕ) (at : Spot) (past : ℕ) (ts : List Token) → scalars cs ≡ true → tokens_from cs skip at past ≡ Ok ts → AreFileTokens ts
 unfolding tokens_from
-tokens_are [] skip at zero ts scalar h = subst AreFileTokens (tokens_is _ ts h) tt
-tokens_are [] skip at (suc past) ts scalar h = subst AreFileTokens (tokens_is _ ts h) (tt, tt)
-tokens_are (c ∷ cs) (suc skip) at past ts scalar h = tokens_are cs skip (right_of at 1) past ts (and_second _ _ scalar) h
-tokens_are (c ∷ cs) zero at past ts scalar h =
-    placed_are (item_at c cs) at past (λ skip to end. tokens_from cs skip to end) (item_makes c cs scalar) (λ skip to end us e. tokens_are cs skip to end us (and_second _ _ scalar) e) ts h
+tokens_are [] skip at zero ts scalar given = subst AreFileTokens (tokens_is _ ts given) tt
+tokens_are [] skip at (suc past) ts scalar given = subst AreFileTokens (tokens_is _ ts given) (tt, tt)
+tokens_are (c ∷ cs) (suc skip) at past ts scalar given = tokens_are cs skip (right_of at 1) past ts (and_second _ _ scalar) given
+tokens_are (c ∷ cs) zero at past ts scalar given =
+    placed_are (item_at c cs) at past (λ skip to end. tokens_from cs skip to end) (item_makes c cs scalar) (λ skip to end us e. tokens_are cs skip to end us (and_second _ _ scalar) e) ts given

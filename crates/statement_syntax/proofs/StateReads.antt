@@ -47,7 +47,7 @@ Reads levels head part focus t (Ok st) = state_tokens st ≡ (level_tokens level
 Reads levels head part focus t (Err e) = Unit {0}
 
 grow : (base x y e : List Token) → x ≡ y ++ e → (base ++ x) ++ [] ≡ ((base ++ y) ++ []) ++ e
-grow base x y e h = rw (h, append-nil, append-nil) (sym (append_assoc base y e))
+grow base x y e given = rw (given, append-nil, append-nil) (sym (append_assoc base y e))
 
 name_reads : (levels : List Level) (head : Head) (part : Part) (x : List ℕ) (at : Spot)
     → Reads levels head part outside (sign_token (kind.Name x) at) (step_outside levels head part (kind.Name x) at)
@@ -67,21 +67,21 @@ quote_reads levels head (product l fs) at = grow (level_tokens levels ++ head_to
     (ap (λ (x : List Token). literal_tokens l ++ x) (mark-tokens fs at) ∙ sym (append_assoc (literal_tokens l) (factors_tokens fs) (sign_token kind.Quote at ∷ [])))
 
 sign_group : (a b c d e : List Token) → d ≡ b ++ c → ((a ++ (d ++ e)) ++ []) ++ [] ≡ (((a ++ b) ++ c) ++ []) ++ e
-sign_group a b c d e h = simp (h, append-nil, append_assoc) refl
+sign_group a b c d e given = simp (given, append-nil, append_assoc) refl
 
 sign_after_reads : (levels : List Level) (head : Head) (part : Part) (s : Sign) (t : Option Product) → whole_term part ≡ t
     → Reads levels head part outside (signed_token s) (sign_after levels head t s)
-sign_after_reads levels head part s None h = tt
-sign_after_reads levels head part s (Some t) h =
+sign_after_reads levels head part s None given = tt
+sign_after_reads levels head part s (Some t) given =
     sign_group (level_tokens levels) (head_tokens head) (part_tokens part) (expr_tokens (with_term head t)) (signed_token s ∷ [])
-    (with_term-tokens head t ∙ ap (λ (x : List Token). head_tokens head ++ x) (whole_term-tokens part t h))
+    (with_term-tokens head t ∙ ap (λ (x : List Token). head_tokens head ++ x) (whole_term-tokens part t given))
 
 lead_tokens-of : (s : Sign) → lead_tokens (lead_of s) ≡ signed_token s ∷ []
 lead_tokens-of (plus at) = refl
 lead_tokens-of (minus at) = refl
 
 lead_group : (a b e : List Token) → b ≡ e → ((a ++ b) ++ []) ++ [] ≡ (((a ++ []) ++ []) ++ []) ++ e
-lead_group a b e h = simp (h, append-nil) refl
+lead_group a b e given = simp (given, append-nil) refl
 
 sign_reads : (levels : List Level) (head : Head) (part : Part) (s : Sign)
     → Reads levels head part outside (signed_token s) (step_sign levels head part s)
@@ -94,18 +94,18 @@ sign_reads levels (after e t) (scaled n) s = sign_after_reads levels (after e t)
 sign_reads levels (led l) (product l' fs) s = sign_after_reads levels (led l) (product l' fs) s _ refl
 sign_reads levels (after e t) (product l' fs) s = sign_after_reads levels (after e t) (product l' fs) s _ refl
 
-close_group : (a b c o h p e r x : List Token) → e ≡ h ++ p → x ≡ c ++ (o ++ (e ++ r))
-    → ((a ++ b) ++ x) ++ [] ≡ ((((((a ++ b) ++ c) ++ o) ++ h) ++ p) ++ []) ++ r
-close_group a b c o h p e r x h1 h2 = simp (h2, h1, append-nil, append_assoc) refl
+close_group : (a b c o given p e r x : List Token) → e ≡ given ++ p → x ≡ c ++ (o ++ (e ++ r))
+    → ((a ++ b) ++ x) ++ [] ≡ ((((((a ++ b) ++ c) ++ o) ++ given) ++ p) ++ []) ++ r
+close_group a b c o given p e r x h1 h2 = simp (h2, h1, append-nil, append_assoc) refl
 
 close_reads : (levels : List Level) (head : Head) (part : Part) (at : Spot) (t : Option Product) → whole_term part ≡ t
     → Reads levels head part outside (sign_token kind.Close at) (close_after levels head t at)
-close_reads levels head part at None h = tt
-close_reads [] head part at (Some t) h = tt
-close_reads (level ∷ levels) head part at (Some t) h =
+close_reads levels head part at None given = tt
+close_reads [] head part at (Some t) given = tt
+close_reads (level ∷ levels) head part at (Some t) given =
     close_group (level_tokens levels) (head_tokens level.head) (part_tokens level.part) (sign_token kind.Open level.at ∷ []) (head_tokens head) (part_tokens part)
     (expr_tokens (with_term head t)) (sign_token kind.Close at ∷ []) _
-    (with_term-tokens head t ∙ ap (λ (x : List Token). head_tokens head ++ x) (whole_term-tokens part t h))
+    (with_term-tokens head t ∙ ap (λ (x : List Token). head_tokens head ++ x) (whole_term-tokens part t given))
     (add-tokens level.part (bracket level.at (with_term head t) at))
 
 open_group : (a b c e : List Token) → ((((((a ++ b) ++ c) ++ e) ++ []) ++ []) ++ []) ≡ (((a ++ b) ++ c) ++ []) ++ e
@@ -149,7 +149,7 @@ square_reads levels head part left kind.Quote at = tt
 square_reads levels head part left kind.End at = tt
 
 named_group : (a p q r x : List Token) → x ≡ p ++ (q ++ r) → (a ++ x) ++ [] ≡ ((a ++ p) ++ q) ++ r
-named_group a p q r x h = simp (h, append-nil, append_assoc) refl
+named_group a p q r x given = simp (given, append-nil, append_assoc) refl
 
 named_reads : (levels : List Level) (head : Head) (part : Part) (left : Spot) (n : Name) (k : TokenKind) (at : Spot)
     → Reads levels head part (named left n) (sign_token k at) (step_named levels head part left n at k)
@@ -177,12 +177,12 @@ focus_reads levels head part (named left n) k at = named_reads levels head part 
 -- one step reads one token
 pub step_reads : (st : State) (t : Token) (next : State) → step st t ≡ Ok next → state_tokens next ≡ state_tokens st ++ t ∷ []
 unfolding step
-step_reads st t next h = subst (Reads st.levels st.head st.part st.focus t) h (focus_reads st.levels st.head st.part st.focus t.kind t.at)
+step_reads st t next given = subst (Reads st.levels st.head st.part st.focus t) given (focus_reads st.levels st.head st.part st.focus t.kind t.at)
 
 -- a run reads its tokens
 pub run_reads : (st : State) (ts : List Token) (next : State) → run step st ts ≡ Ok next → state_tokens next ≡ state_tokens st ++ ts
 unfolding run
-run_reads st [] next h = let same : st ≡ next = cc in ap state_tokens (sym same) ∙ sym (append-nil (state_tokens st))
-run_reads st (t ∷ ts) next h =
-    let one = bind_ok (step st t) (λ s. run step s ts) next h in
+run_reads st [] next given = let same : st ≡ next = cc in ap state_tokens (sym same) ∙ sym (append-nil (state_tokens st))
+run_reads st (t ∷ ts) next given =
+    let one = bind_ok (step st t) (λ s. run step s ts) next given in
     run_reads one.0 ts next one.2 ∙ ap (λ (x : List Token). x ++ ts) (step_reads st t one.0 one.1) ∙ append_assoc (state_tokens st) (t ∷ []) ts

@@ -29,7 +29,7 @@ use Rattle.statement_syntax.specs.Written.{name_kinds, number_kinds, literal_kin
 use Rattle.statement_syntax.proofs.TreeKinds.{terms_of, term-flat, sum-flat}
 use Rattle.statement_syntax.proofs.Moved.{kinds}
 
-kinds-append : (ts us : List Token) → kinds (ts ++ us) ≡ kinds ts ++ kinds us
+pub kinds-append : (ts us : List Token) → kinds (ts ++ us) ≡ kinds ts ++ kinds us
 kinds-append ts us = map-append (λ t. t.kind) ts us
 
 sum_of-kinds : (at : Spot) (terms : List Term) → sum_kinds (sum_of at terms) ≡ terms_of true terms

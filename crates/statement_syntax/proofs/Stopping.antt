@@ -43,8 +43,8 @@ goes_on ts place t p next within is ran goes =
     ∙ one_step file_step p next t [] goes
 
 no_memory : (ts : List Token) (refused : SyntaxFault) → IsWantOfMemory refused → Refused ts refused
-no_memory ts (refusal.Memory e) h = tt
-no_memory ts (refusal.Fault code l c) h = absurd h
+no_memory ts (refusal.Memory e) loop = tt
+no_memory ts (refusal.Fault code l c) loop = absurd loop
 
 pub stops_at : (ts : List Token) (place : ℕ) (t : Token) (p : Progress) (e : ReadError) (refused : SyntaxFault) → place < length ts → t ≡ get_or ts place t → run file_step beginning (take place ts) ≡ Ok p
     → Fails e (file_step p t) → IsRefusal e t.at refused → Refused ts refused
@@ -80,10 +80,10 @@ end_starts mid p at ran =
 
 closed_by : (ts : List Token) (p : Progress) → EndsWell 0 ts → run file_step beginning ts ≡ Ok p → p.line ≡ line.Start
 unfolding run
-closed_by ts p (inl h) ran = ap (λ (q : Progress). q.line) (sym (ok_is beginning p (sym (ap (run file_step beginning) h.1) ∙ ran)))
-closed_by ts p (inr h) ran =
-    let parts = run_split beginning h.0 (sign_token kind.End h.1 ∷ []) p (sym (ap (run file_step beginning) h.2) ∙ ran) in
-    end_starts parts.0 p h.1 parts.2
+closed_by ts p (inl loop) ran = ap (λ (q : Progress). q.line) (sym (ok_is beginning p (sym (ap (run file_step beginning) loop.1) ∙ ran)))
+closed_by ts p (inr loop) ran =
+    let parts = run_split beginning loop.0 (sign_token kind.End loop.1 ∷ []) p (sym (ap (run file_step beginning) loop.2) ∙ ran) in
+    end_starts parts.0 p loop.1 parts.2
 
 -- ---- the clauses
 
@@ -91,61 +91,61 @@ tokens_are : (bytes : List ℕ) (ts : List Token) (lines : List StatedLine) → 
 tokens_are bytes ts lines read is = tokens_is _ _ (sym read ∙ is.tokens)
 
 nothing_now : (p : Progress) (l : Line) (now : List Token) → p.line ≡ l → l ≡ line.Start → FileReads p now → (lines : List StatedLine) × FileFits lines × (p.statements ≡ file_tree lines) × (now ≡ file_tokens lines)
-nothing_now p l now is start h =
-    let none : h.now ≡ [] = subst (λ x. LineReads x h.now) (is ∙ start) h.reads in
-    (h.lines, h.fits, h.trees, h.are ∙ ap (λ x. file_tokens h.lines ++ x) none ∙ append-nil (file_tokens h.lines))
+nothing_now p l now is start loop =
+    let none : loop.now ≡ [] = subst (λ x. LineReads x loop.now) (is ∙ start) loop.reads in
+    (loop.lines, loop.fits, loop.trees, loop.are ∙ ap (λ x. file_tokens loop.lines ++ x) none ∙ append-nil (file_tokens loop.lines))
 
 pub is_found : (bytes : List ℕ) (ts : List Token) (statements : List Statement) → IsUtf8 bytes → tokens_of (chars bytes) ≡ Ok ts → AllRead ts statements → IsTreeOf bytes statements
-is_found bytes ts statements utf8 read h =
-    let closed = closed_by ts h.0 (ends_from (chars bytes) 0 (record { line = 1; column = 1 }) 0 ts read) h.1 in
-    let all = nothing_now h.0 line.Start ts closed refl (run_reads h.0 ts h.1) in
-    (all.0, record { utf8 = utf8; tokens = read ∙ ap (λ x. Ok x) all.3; fits = all.1 }, h.2 ∙ all.2)
+is_found bytes ts statements utf8 read loop =
+    let closed = closed_by ts loop.0 (ends_from (chars bytes) 0 (record { line = 1; column = 1 }) 0 ts read) loop.1 in
+    let all = nothing_now loop.0 line.Start ts closed refl (run_reads loop.0 ts loop.1) in
+    (all.0, record { utf8 = utf8; tokens = read ∙ ap (λ x. Ok x) all.3; fits = all.1 }, loop.2 ∙ all.2)
 
 pub is_only : (bytes : List ℕ) (ts : List Token) (statements : List Statement) → tokens_of (chars bytes) ≡ Ok ts → AllRead ts statements → (lines : List StatedLine) → IsStatements bytes lines → statements ≡ file_tree lines
-is_only bytes ts statements read h lines is =
-    let same = upto_ok _ (in_file (file_tree lines) line.Start) h.0 (all_run lines) (ap (run file_step beginning) (sym (tokens_are bytes ts lines read is)) ∙ h.1) in
-    h.2 ∙ ap (λ (p : Progress). p.statements) (sym same.1)
+is_only bytes ts statements read loop lines is =
+    let same = upto_ok _ (in_file (file_tree lines) line.Start) loop.0 (all_run lines) (ap (run file_step beginning) (sym (tokens_are bytes ts lines read is)) ∙ loop.1) in
+    loop.2 ∙ ap (λ (p : Progress). p.statements) (sym same.1)
 
 stopped_misfit : (bytes : List ℕ) (ts : List Token) (lines : List StatedLine) (refused : SyntaxFault) → tokens_of (chars bytes) ≡ Ok ts → StoppedAt ts refused → IsStatements bytes lines → ⊥
-stopped_misfit bytes ts lines refused read h is =
-    (file_misfit h.front h.progress h.token h.misfit h.ran h.stops h.rest lines (sym h.splits ∙ tokens_are bytes ts lines read is)).0 is.fits
+stopped_misfit bytes ts lines refused read loop is =
+    (file_misfit loop.front loop.progress loop.token loop.misfit loop.ran loop.stops loop.rest lines (sym loop.splits ∙ tokens_are bytes ts lines read is)).0 is.fits
 
 pub is_refused : (bytes : List ℕ) (ts : List Token) (lines : List StatedLine) (refused : SyntaxFault) → tokens_of (chars bytes) ≡ Ok ts → Refused ts refused → IsStatements bytes lines → IsWantOfMemory refused
-is_refused bytes ts lines (refusal.Memory e) read h is = tt
-is_refused bytes ts lines (refusal.Fault code l c) read h is = stopped_misfit bytes ts lines (refusal.Fault code l c) read h is
+is_refused bytes ts lines (refusal.Memory e) read loop is = tt
+is_refused bytes ts lines (refusal.Fault code l c) read loop is = stopped_misfit bytes ts lines (refusal.Fault code l c) read loop is
 
 joined : (front more : List Token) (t : Token) → (front ++ t ∷ []) ++ more ≡ front ++ t ∷ more
 joined front more t = append_assoc front (t ∷ []) more
 
 -- the token at which the loop stopped is the first misfit
-misfit_of : (bytes : List ℕ) (ts : List Token) (refused : SyntaxFault) → IsUtf8 bytes → tokens_of (chars bytes) ≡ Ok ts → (h : StoppedAt ts refused) → IsMisfit bytes h.token.at
-misfit_of bytes ts refused utf8 read h = record {
+misfit_of : (bytes : List ℕ) (ts : List Token) (refused : SyntaxFault) → IsUtf8 bytes → tokens_of (chars bytes) ≡ Ok ts → (loop : StoppedAt ts refused) → IsMisfit bytes loop.token.at
+misfit_of bytes ts refused utf8 read loop = record {
   utf8 = utf8;
-  front = h.front;
-  token = h.token;
-  rest = h.rest;
-  tokens = read ∙ ap (λ x. Ok x) h.splits;
+  front = loop.front;
+  token = loop.token;
+  rest = loop.rest;
+  tokens = read ∙ ap (λ x. Ok x) loop.splits;
   place = refl;
-  before = file_on h.progress h.front (run_reads h.progress h.front h.ran);
-  there = λ on. (file_misfit h.front h.progress h.token h.misfit h.ran h.stops on.0 on.1 (sym (joined h.front on.0 h.token) ∙ on.3)).0 on.2;
+  before = file_on loop.progress loop.front (run_reads loop.progress loop.front loop.ran);
+  there = λ on. (file_misfit loop.front loop.progress loop.token loop.misfit loop.ran loop.stops on.0 on.1 (sym (joined loop.front on.0 loop.token) ∙ on.3)).0 on.2;
 }
 
-tells_by : (bytes : List ℕ) (ts : List Token) (refused : SyntaxFault) (f : Misfit) → IsUtf8 bytes → tokens_of (chars bytes) ≡ Ok ts → (h : StoppedAt ts refused) → h.misfit ≡ f → TellsFirstFault bytes (fault_at (misfit_fault f) h.token.at)
+tells_by : (bytes : List ℕ) (ts : List Token) (refused : SyntaxFault) (f : Misfit) → IsUtf8 bytes → tokens_of (chars bytes) ≡ Ok ts → (loop : StoppedAt ts refused) → loop.misfit ≡ f → TellsFirstFault bytes (fault_at (misfit_fault f) loop.token.at)
 unfolding misfit_of
-tells_by bytes ts refused Expected utf8 read h is = (
+tells_by bytes ts refused Expected utf8 read loop is = (
   fault.Expected,
   refl,
   (
-    misfit_of bytes ts refused utf8 read h,
-    λ on. not_deep (sym is ∙ (file_misfit h.front h.progress h.token h.misfit h.ran h.stops on.0 on.1 (sym (joined h.front on.0 h.token) ∙ on.2)).1),
+    misfit_of bytes ts refused utf8 read loop,
+    λ on. not_deep (sym is ∙ (file_misfit loop.front loop.progress loop.token loop.misfit loop.ran loop.stops on.0 on.1 (sym (joined loop.front on.0 loop.token) ∙ on.2)).1),
   ),
 )
   where
     not_deep : (let f : Misfit = Expected in f) ≡ TooDeep → ⊥
     not_deep e = absurd cc
-tells_by bytes ts refused TooDeep utf8 read h is =
-    (fault.TooDeep, refl, (misfit_of bytes ts refused utf8 read h, file_deep h.progress h.front h.token (run_reads h.progress h.front h.ran) (h.stops ∙ ap (λ x. Err x) is)))
+tells_by bytes ts refused TooDeep utf8 read loop is =
+    (fault.TooDeep, refl, (misfit_of bytes ts refused utf8 read loop, file_deep loop.progress loop.front loop.token (run_reads loop.progress loop.front loop.ran) (loop.stops ∙ ap (λ x. Err x) is)))
 
 pub is_first : (bytes : List ℕ) (ts : List Token) (refused : SyntaxFault) → IsUtf8 bytes → tokens_of (chars bytes) ≡ Ok ts → Refused ts refused → TellsFirstFault bytes refused
-is_first bytes ts (refusal.Memory e) utf8 read h = tt
-is_first bytes ts (refusal.Fault code l c) utf8 read h = subst (TellsFirstFault bytes) (sym h.tells) (tells_by bytes ts (refusal.Fault code l c) h.misfit utf8 read h refl)
+is_first bytes ts (refusal.Memory e) utf8 read loop = tt
+is_first bytes ts (refusal.Fault code l c) utf8 read loop = subst (TellsFirstFault bytes) (sym loop.tells) (tells_by bytes ts (refusal.Fault code l c) loop.misfit utf8 read loop refl)

@@ -11,8 +11,8 @@ value_grows n (d ∷ ds) = let more = value_grows (n * 10 + (d - 48)) ds in omeg
 
 -- the next digit is part of the value
 pub digit_more : (ds : List ℕ) (i d n : ℕ) → i < length ds → d ≡ get_or ds i d → n * 10 + (d - 48) ≤ value_from n (drop i ds)
-digit_more ds i d n h e =
-    let split : drop i ds ≡ d ∷ drop (i + 1) ds = drop_more ds i d h ∙ ap (λ x. x ∷ drop (i + 1) ds) (sym e) in
+digit_more ds i d n given e =
+    let split : drop i ds ≡ d ∷ drop (i + 1) ds = drop_more ds i d given ∙ ap (λ x. x ∷ drop (i + 1) ds) (sym e) in
     subst (λ xs. n * 10 + (d - 48) ≤ value_from n xs) (sym split) (value_grows (n * 10 + (d - 48)) (drop (i + 1) ds))
 
 -- a text has no more characters than bytes

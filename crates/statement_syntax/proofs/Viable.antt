@@ -33,16 +33,16 @@ Ends st = (more : List Token) × (next : State) × (e : Expr) × (run step st mo
 
 run_on : (st next : State) (t : Token) → step st t ≡ Ok next → Ends next → Ends st
 unfolding run
-run_on st next t h ends = (t ∷ ends.0, ends.1, ends.2, ap (λ (r : Stepped). r >>= λ s. run step s ends.0) h ∙ ends.3, ends.4)
+run_on st next t given ends = (t ∷ ends.0, ends.1, ends.2, ap (λ (r : Stepped). r >>= λ s. run step s ends.0) given ∙ ends.3, ends.4)
 
 closes : (levels : List Level) (head : Head) (part : Part) (t : Product) → whole_term part ≡ Some t → Ends (at_outside levels head part)
 unfolding run step
-closes [] head part t h = ([], at_outside [] head part, with_term head t, refl, ap (end_by [] head outside) h)
-closes (level ∷ levels) head part t h =
+closes [] head part t given = ([], at_outside [] head part, with_term head t, refl, ap (end_by [] head outside) given)
+closes (level ∷ levels) head part t given =
     let inner = bracket level.at (with_term head t) somewhere in
     let wide = add_whole level.part inner in
     run_on (at_outside (level ∷ levels) head part) (at_outside levels level.head (add level.part inner)) (sign_token kind.Close somewhere)
-    (ap (λ x. close_after (level ∷ levels) head x somewhere) h)
+    (ap (λ x. close_after (level ∷ levels) head x somewhere) given)
     (closes levels level.head (add level.part inner) wide.0 wide.1)
 
 -- each state can go on to the end of an expression
@@ -65,17 +65,17 @@ ends levels head part (named left n) =
 
 end_tokens : (levels : List Level) (head : Head) (part : Part) (f : Focus) (t : Option Product) (e : Expr) → whole_term part ≡ t → end_by levels head f t ≡ Some e
     → state_tokens (record { levels = levels; head = head; part = part; focus = f }) ≡ expr_tokens e
-end_tokens (level ∷ levels) head part f t e w h = absurd cc
-end_tokens [] head part (square left) t e w h = absurd cc
-end_tokens [] head part (named left n) t e w h = absurd cc
-end_tokens [] head part outside None e w h = absurd cc
-end_tokens [] head part outside (Some t) e w h =
+end_tokens (level ∷ levels) head part f t e w given = absurd cc
+end_tokens [] head part (square left) t e w given = absurd cc
+end_tokens [] head part (named left n) t e w given = absurd cc
+end_tokens [] head part outside None e w given = absurd cc
+end_tokens [] head part outside (Some t) e w given =
     let e-is : with_term head t ≡ e = cc in
     append-nil (head_tokens head ++ part_tokens part) ∙ ap (λ (x : List Token). head_tokens head ++ x) (sym (whole_term-tokens part t w)) ∙ sym (with_term-tokens head t) ∙ ap expr_tokens e-is
 
 -- what is read whole is the expression's tokens
 pub whole-tokens : (st : State) (e : Expr) → whole st ≡ Some e → state_tokens st ≡ expr_tokens e
-whole-tokens st e h = end_tokens st.levels st.head st.part st.focus (whole_term st.part) e refl h
+whole-tokens st e given = end_tokens st.levels st.head st.part st.focus (whole_term st.part) e refl given
 
 -- ---- the laws
 

@@ -1,5 +1,4 @@
 pub mod Token
-pub mod Classes
 pub mod Grammar
 pub mod Steps
 pub mod Tree

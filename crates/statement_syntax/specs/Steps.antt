@@ -49,10 +49,10 @@ abbrev pub Fails : {Y : Type 0} → ReadError → Result Y Misfit → Type 0
 Fails error.Memory read = Unit {0}
 Fails (error.Misfit f) read = read ≡ Err f
 
--- what a function returned, seen by view, is what reading gives, unless memory ran out
-abbrev pub Gives : {X Y : Type 0} → (X → Y) → Result X ReadError → Result Y Misfit → Type 0
-Gives view (Ok x) read = read ≡ Ok (view x)
-Gives view (Err e) read = Fails e read
+-- what a function returned is what reading gives, unless memory ran out
+abbrev pub Gives : {X : Type 0} → Result X ReadError → Result X Misfit → Type 0
+Gives (Ok x) read = read ≡ Ok x
+Gives (Err e) read = Fails e read
 
 abbrev pub term_of : Spot → Bool → Option Number → List Factor → Term
 term_of at negative l fs = roll-Term (record { at = at; negative = negative; literal = l; factors = fs })

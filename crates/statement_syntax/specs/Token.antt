@@ -7,6 +7,8 @@ use Rattle.statement_syntax.specs.declared.place.Spot.{Spot}
 use Rattle.statement_syntax.specs.declared.token.Token.{Token}
 use Rattle.statement_syntax.specs.declared.token.TokenKind.{TokenKind}
 use Rattle.statement_syntax.specs.declared.token.TokenKind.TheVariants as kind
+use Rattle.statement_syntax.specs.declared.scan.Class.{Class}
+use Rattle.statement_syntax.specs.declared.scan.Class.TheVariants as class
 use Rattle.statement_syntax.specs.declared.scan.Item.{Item}
 use Rattle.statement_syntax.specs.declared.scan.Item.TheVariants as item
 use Rattle.statement_syntax.specs.declared.scan.ScanFault.{ScanFault}
@@ -27,6 +29,12 @@ is_digit c = nat_le 48 c && nat_le c 57
 
 abbrev pub is_inside_line : ℕ → Bool
 is_inside_line c = not (c == 10)
+
+-- whether a token or a comment goes on with the character
+abbrev pub is_in : Class → ℕ → Bool
+is_in class.Name = is_xid_continue
+is_in class.Digit = is_digit
+is_in class.Comment = is_inside_line
 
 abbrev pub begins_with : ℕ → List ℕ → Bool
 begins_with c [] = false

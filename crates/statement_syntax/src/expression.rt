@@ -125,7 +125,7 @@ fn part_with(alloc: Global, part: Part, primary: Primary, at: Spot) -> Result<Pa
 
 // The term, where it may end here. A literal alone is one only where its value is 0.
 fn ended_part(alloc: Global, part: Part, negative: bool) -> Result<Term, ReadError>
-    ensures { Gives (λ t. t) result (ended_part part negative) }
+    ensures { Gives result (ended_part part negative) }
 {
     match part {
         Part::Nothing => Err(ReadError::Misfit(Misfit::Expected)),
@@ -170,7 +170,7 @@ fn sum_with(head: Head, term: Term) -> Result<Sum, AllocError>
 }
 
 fn quote_step(part: Part) -> Result<Part, ReadError>
-    ensures { Gives (λ p. p) result (quote_step part) }
+    ensures { Gives result (quote_step part) }
 {
     match part {
         Part::Product {
@@ -199,7 +199,7 @@ fn sign_step(
     at: Spot,
     negative: bool,
 ) -> Result<Head, ReadError>
-    ensures { Gives (λ h. h) result (sign_step head part at negative) }
+    ensures { Gives result (sign_step head part at negative) }
 {
     match (part, head.at) {
         (Part::Nothing, None) => Ok(Head {
@@ -226,7 +226,7 @@ fn close_step(
     head: Head,
     part: Part,
 ) -> Result<Reading, ReadError>
-    ensures { Gives (λ r. r) result (close_step levels head part) }
+    ensures { Gives result (close_step levels head part) }
 {
     let negative = head.negative;
     let term = ended_part(alloc, part, negative)?;
@@ -250,7 +250,7 @@ fn open_step(
     part: Part,
     at: Spot,
 ) -> Result<Reading, ReadError>
-    ensures { Gives (λ r. r) result (open_step levels head part at) }
+    ensures { Gives result (open_step levels head part at) }
 {
     if levels.len() >= 64 {
         return Err(ReadError::Misfit(Misfit::TooDeep));
@@ -285,7 +285,7 @@ fn outside_step(
     part: Part,
     token: &Token,
 ) -> Result<Reading, ReadError>
-    ensures { Gives (λ r. r) result (outside_step levels head part token.now.kind token.now.at) }
+    ensures { Gives result (outside_step levels head part token.now.kind token.now.at) }
 {
     let at = token.at;
     match &token.kind {
@@ -338,7 +338,7 @@ fn outside(levels: Stack<Level>, head: Head, part: Part) -> Reading
 
 /// The next token of an expression.
 pub fn token_step(alloc: Global, reading: Reading, token: &Token) -> Result<Reading, ReadError>
-    ensures { Gives (λ r. r) result (token_step reading token.now.kind token.now.at) }
+    ensures { Gives result (token_step reading token.now.kind token.now.at) }
 {
     let Reading {
         levels,
@@ -372,7 +372,7 @@ pub fn token_step(alloc: Global, reading: Reading, token: &Token) -> Result<Read
 
 /// The expression, where it may end here.
 pub fn whole_sum(alloc: Global, reading: Reading) -> Result<Sum, ReadError>
-    ensures { Gives (λ s. s) result (whole_sum reading) }
+    ensures { Gives result (whole_sum reading) }
 {
     let Reading {
         levels,

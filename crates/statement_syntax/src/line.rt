@@ -175,7 +175,7 @@ fn opened(alloc: Global, opening: Opening, at: Spot) -> Line
 }
 
 fn name_in(token: &Token) -> Result<Name, ReadError>
-    ensures { Gives (λ n. n) result (name_in token.now.kind token.now.at) }
+    ensures { Gives result (name_in token.now.kind token.now.at) }
 {
     match &token.kind {
         TokenKind::Name(text) => Ok(Name {
@@ -187,7 +187,7 @@ fn name_in(token: &Token) -> Result<Name, ReadError>
 }
 
 fn number_in(token: &Token) -> Result<Number, ReadError>
-    ensures { Gives (λ n. n) result (number_in token.now.kind token.now.at) }
+    ensures { Gives result (number_in token.now.kind token.now.at) }
 {
     match &token.kind {
         TokenKind::Literal(value) => {
@@ -202,7 +202,7 @@ fn number_in(token: &Token) -> Result<Number, ReadError>
 }
 
 fn start_step(alloc: Global, token: &Token) -> Result<Line, ReadError>
-    ensures { Gives (λ l. l) result (start_step token.now.kind token.now.at) }
+    ensures { Gives result (start_step token.now.kind token.now.at) }
 {
     match &token.kind {
         TokenKind::Name(text) => match opening_in(text.as_str()) {
@@ -228,7 +228,7 @@ fn list_step(
     names: Listing<Name>,
     token: &Token,
 ) -> Result<Line, ReadError>
-    ensures { Gives (λ l. l) result (list_step word at names token.now.kind token.now.at) }
+    ensures { Gives result (list_step word at names token.now.kind token.now.at) }
 {
     let mut names = names;
     names.push(name_in(token)?)?;
@@ -236,7 +236,7 @@ fn list_step(
 }
 
 fn map_names_step(at: Spot, names: Listing<Name>, token: &Token) -> Result<Line, ReadError>
-    ensures { Gives (λ l. l) result (map_names_step at names token.now.kind token.now.at) }
+    ensures { Gives result (map_names_step at names token.now.kind token.now.at) }
 {
     match &token.kind {
         TokenKind::Colon => {
@@ -256,7 +256,7 @@ fn map_names_step(at: Spot, names: Listing<Name>, token: &Token) -> Result<Line,
 }
 
 fn map_step(at: Spot, names: Listing<Name>, rest: MapRest, token: &Token) -> Result<Line, ReadError>
-    ensures { Gives (λ l. l) result (map_step at names rest token.now.kind token.now.at) }
+    ensures { Gives result (map_step at names rest token.now.kind token.now.at) }
 {
     match rest {
         MapRest::Names => map_names_step(at, names, token),
@@ -297,7 +297,7 @@ fn left_step(
     reading: Reading,
     token: &Token,
 ) -> Result<Line, ReadError>
-    ensures { Gives (λ l. l) result (left_step word at reading token.now.kind token.now.at) }
+    ensures { Gives result (left_step word at reading token.now.kind token.now.at) }
 {
     match &token.kind {
         TokenKind::Equals => Ok(Line::Sides {
@@ -323,7 +323,7 @@ fn sides_step(
     reading: Reading,
     token: &Token,
 ) -> Result<Line, ReadError>
-    ensures { Gives (λ l. l) result (sides_step word at left reading token.now.kind token.now.at) }
+    ensures { Gives result (sides_step word at left reading token.now.kind token.now.at) }
 {
     match left {
         Some(left) => Ok(Line::Sides {
@@ -352,7 +352,7 @@ fn pair_step(
     first: Option<Name>,
     token: &Token,
 ) -> Result<Line, ReadError>
-    ensures { Gives (λ l. l) result (pair_step word at first token.now.kind token.now.at) }
+    ensures { Gives result (pair_step word at first token.now.kind token.now.at) }
 {
     let name = name_in(token)?;
     match first {
@@ -378,7 +378,7 @@ fn no_pairs(alloc: Global) -> Pairs
 }
 
 fn pairs_step(pairs: Pairs, token: &Token) -> Result<Pairs, ReadError>
-    ensures { Gives (λ p. p) result (pairs_step pairs token.now.kind token.now.at) }
+    ensures { Gives result (pairs_step pairs token.now.kind token.now.at) }
 {
     let Pairs { mut whole, half } = pairs;
     match half {
@@ -394,7 +394,7 @@ fn pairs_step(pairs: Pairs, token: &Token) -> Result<Pairs, ReadError>
 }
 
 fn order_step(alloc: Global, at: Spot, token: &Token) -> Result<Line, ReadError>
-    ensures { Gives (λ l. l) result (order_step at token.now.kind) }
+    ensures { Gives result (order_step at token.now.kind) }
 {
     if is_word(token, "degree") {
         let kind = StatementKind::Degree;
@@ -407,7 +407,7 @@ fn order_step(alloc: Global, at: Spot, token: &Token) -> Result<Line, ReadError>
 }
 
 fn projection_step(at: Spot, token: &Token) -> Result<Line, ReadError>
-    ensures { Gives (λ l. l) result (projection_step at token.now.kind token.now.at) }
+    ensures { Gives result (projection_step at token.now.kind token.now.at) }
 {
     let kind = StatementKind::Projection(name_in(token)?);
     Ok(Line::Whole(Statement { at, kind }))
@@ -415,7 +415,7 @@ fn projection_step(at: Spot, token: &Token) -> Result<Line, ReadError>
 
 /// The line with one more token.
 pub fn line_step(alloc: Global, line: Line, token: &Token) -> Result<Line, ReadError>
-    ensures { Gives (λ l. l) result (line_step line token.now.kind token.now.at) }
+    ensures { Gives result (line_step line token.now.kind token.now.at) }
 {
     match line {
         Line::Start => start_step(alloc, token),
@@ -440,7 +440,7 @@ pub fn line_step(alloc: Global, line: Line, token: &Token) -> Result<Line, ReadE
 }
 
 fn list_end(word: ListWord, names: Listing<Name>) -> Result<StatementKind, ReadError>
-    ensures { Gives (λ k. k) result (list_end word names) }
+    ensures { Gives result (list_end word names) }
 {
     if names.len() == 0 {
         return Err(ReadError::Misfit(Misfit::Expected));
@@ -452,7 +452,7 @@ fn list_end(word: ListWord, names: Listing<Name>) -> Result<StatementKind, ReadE
 }
 
 fn map_end(names: Listing<Name>, rest: MapRest) -> Result<StatementKind, ReadError>
-    ensures { Gives (λ k. k) result (map_end names rest) }
+    ensures { Gives result (map_end names rest) }
 {
     match rest {
         MapRest::Target(source, target) => Ok(StatementKind::Maps {
@@ -471,7 +471,7 @@ fn sides_end(
     left: Option<Sum>,
     reading: Reading,
 ) -> Result<StatementKind, ReadError>
-    ensures { Gives (λ k. k) result (sides_end word left reading) }
+    ensures { Gives result (sides_end word left reading) }
 {
     match left {
         None => Err(ReadError::Misfit(Misfit::Expected)),
@@ -486,7 +486,7 @@ fn sides_end(
 }
 
 fn whole_pairs(pairs: Pairs) -> Result<Listing<(Name, Number)>, ReadError>
-    ensures { Gives (λ p. p) result (whole_pairs pairs) }
+    ensures { Gives result (whole_pairs pairs) }
 {
     match pairs.half {
         None => Ok(pairs.whole),
@@ -495,7 +495,7 @@ fn whole_pairs(pairs: Pairs) -> Result<Listing<(Name, Number)>, ReadError>
 }
 
 fn weights_end(pairs: Pairs) -> Result<StatementKind, ReadError>
-    ensures { Gives (λ k. k) result (weights_end pairs) }
+    ensures { Gives result (weights_end pairs) }
 {
     let weights = whole_pairs(pairs)?;
     if weights.len() == 0 {
@@ -505,7 +505,7 @@ fn weights_end(pairs: Pairs) -> Result<StatementKind, ReadError>
 }
 
 fn shape_end(modulus: Number, pairs: Pairs) -> Result<StatementKind, ReadError>
-    ensures { Gives (λ k. k) result (shape_end modulus pairs) }
+    ensures { Gives result (shape_end modulus pairs) }
 {
     let sides = whole_pairs(pairs)?;
     Ok(StatementKind::Shape { modulus, sides })
@@ -522,7 +522,7 @@ fn statement_of(at: Spot, kind: Result<StatementKind, ReadError>) -> Result<Stat
 
 /// The statement, where the line may end here.
 pub fn line_end(alloc: Global, line: Line) -> Result<Statement, ReadError>
-    ensures { Gives (λ s. s) result (line_end line) }
+    ensures { Gives result (line_end line) }
 {
     match line {
         Line::List { word, at, names } => statement_of(at, list_end(word, names)),

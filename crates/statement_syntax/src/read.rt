@@ -26,7 +26,7 @@ pub struct Progress {
 }
 
 fn file_step(alloc: Global, progress: Progress, token: &Token) -> Result<Progress, ReadError>
-    ensures { Gives (λ p. p) result (file_step progress token.now) }
+    ensures { Gives result (file_step progress token.now) }
 {
     let Progress { statements, line } = progress;
     match &token.kind {

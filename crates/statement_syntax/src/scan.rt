@@ -5,7 +5,7 @@ ghost use Rattle.std.specs.List.{prefix_len, take_while};
 ghost use Rattle.std.specs.Str.{chars, encode_utf8_all};
 ghost use Rattle.statement_syntax.specs.Token.{item_at, sign_at, GivesItem, ScansTo, tokens_of, more_of, value_from, name_of, literal_of, begins_with, is_digit, starts_name, end_of};
 ghost use Rattle.unicode_ident.specs.Ident.{is_xid_continue};
-ghost use Rattle.statement_syntax.specs.Classes.{is_in};
+ghost use Rattle.statement_syntax.specs.Token.{is_in};
 ghost use Rattle.statement_syntax.specs.declared.scan.ItemError.TheVariants as item_error;
 ghost use Rattle.statement_syntax.specs.declared.scan.ScanError.TheVariants as scan_error;
 
