@@ -1,0 +1,413 @@
+-- The tokens that bring a line to what has been read of it; with each step there is one more, and where the line may end they are a statement's.
+use Rattle.std.proofs.Common.{◌≡◌, ℕ, Bool, true, false, cond, List, [], ◌∷◌, ◌++◌, map, Option, Some, None, Result, Ok, Err, refl, sym, ap, ap₂, subst, ◌∙◌, append_assoc}
+use Rattle.std.specs.Prelude.{bytes_eq, codes}
+use Rattle.std.specs.List.{flat_map}
+use Rattle.std.proofs.lemmas.List.{append-nil, map-append}
+use Rattle.std.proofs.lemmas.Slice.Eq.{bytes_eq-Decides}
+use Rattle.statement_syntax.specs.declared.place.Spot.{Spot}
+use Rattle.statement_syntax.specs.declared.token.Token.{Token}
+use Rattle.statement_syntax.specs.declared.token.TokenKind.{TokenKind}
+use Rattle.statement_syntax.specs.declared.token.TokenKind.TheVariants as kind
+use Rattle.statement_syntax.specs.declared.tree.Name.{Name}
+use Rattle.statement_syntax.specs.declared.tree.Number.{Number}
+use Rattle.statement_syntax.specs.declared.tree.Sum.{Sum}
+use Rattle.statement_syntax.specs.declared.tree.Statement.{Statement}
+use Rattle.statement_syntax.specs.declared.tree.StatementKind.TheVariants as statement
+use Rattle.statement_syntax.specs.declared.expression.Misfit.{Misfit}
+use Rattle.statement_syntax.specs.declared.expression.Misfit.TheVariants.{Expected, TooDeep}
+use Rattle.statement_syntax.specs.declared.expression.Reading.{Reading}
+use Rattle.statement_syntax.specs.declared.line.ListWord.{ListWord}
+use Rattle.statement_syntax.specs.declared.line.ListWord.TheVariants.{Object, Solve}
+use Rattle.statement_syntax.specs.declared.line.SidesWord.{SidesWord}
+use Rattle.statement_syntax.specs.declared.line.SidesWord.TheVariants.{Assume, Claim}
+use Rattle.statement_syntax.specs.declared.line.PairWord.{PairWord}
+use Rattle.statement_syntax.specs.declared.line.PairWord.TheVariants.{Pinv, Inverse, Inner}
+use Rattle.statement_syntax.specs.declared.line.Opening.{Opening}
+use Rattle.statement_syntax.specs.declared.line.Opening.TheVariants as opening
+use Rattle.statement_syntax.specs.declared.line.MapRest.{MapRest}
+use Rattle.statement_syntax.specs.declared.line.MapRest.TheVariants as rest
+use Rattle.statement_syntax.specs.declared.line.Pairs.{Pairs}
+use Rattle.statement_syntax.specs.declared.line.Line.{Line}
+use Rattle.statement_syntax.specs.declared.line.Line.TheVariants as line
+use Rattle.statement_syntax.specs.Steps.{◌>>=◌, run, token_step, whole_sum}
+use Rattle.statement_syntax.specs.Grammar.{Expr, expr_tokens, ExprFits, sign_token, name_token, number_token, word_token, names_tokens, pairs_tokens, list_text, sides_text, pair_text, Ending, no_word, self_word, Stated, listed, mapped, sides, paired, projected, by_degree, by_weight, modelled, stated_tokens, StatedFits}
+use Rattle.statement_syntax.specs.Tree.{expr_tree, stated_tree, list_kind, sides_kind, pair_kind}
+use Rattle.statement_syntax.specs.Lines.{Lined, named, on_colon, on_arrow, on_equals, name_in, number_in, opening_in, start_reading, opened, begun, start_step, is_word, whole, list_step, colon_after, map_names_step, map_step, left_step, sides_step, pair_with, pair_step, no_pairs, pairs_by, pairs_step, order_step, projection_step, line_step}
+use Rattle.statement_syntax.proofs.Machine as machine
+use Rattle.statement_syntax.proofs.Machine.{State, fresh, step}
+use Rattle.statement_syntax.proofs.Seen.{reading_of, seen, tree_or}
+use Rattle.statement_syntax.proofs.Run.{bind_ok, run_front}
+use Rattle.statement_syntax.proofs.Same.{step-seen, whole-seen}
+use Rattle.statement_syntax.proofs.Viable.{found, within}
+use Rattle.statement_syntax.proofs.Choices.{by_name, by_number, by_colon, by_arrow, by_equals}
+
+-- ---- what has been read
+
+-- an expression that isn't at its end
+pub record ExprReads (r : Reading) (ts : List Token) : Type 0 where
+  pub state : State
+  pub ran : run step (fresh []) ts ≡ Ok state
+  pub seen : r ≡ reading_of state
+
+pub record HasFirst {A : Type 0} (xs : List A) : Type 0 where
+  pub first : A
+  pub more : List A
+  pub is : xs ≡ first ∷ more
+
+-- a map's names with what stands behind them
+pub record MapReads (at : Spot) (names : List Name) (ts behind : List Token) : Type 0 where
+  pub has_first : HasFirst names
+  pub are : ts ≡ word_token (codes "map") at ∷ (names_tokens names ++ behind)
+
+abbrev pub RestReads : Spot → List Name → MapRest → List Token → Type 0
+RestReads at names rest.Names ts = ts ≡ word_token (codes "map") at ∷ names_tokens names
+RestReads at names rest.Colon ts = (c : Spot) × MapReads at names ts (sign_token kind.Colon c ∷ [])
+RestReads at names (rest.Source s) ts = (c : Spot) × MapReads at names ts (sign_token kind.Colon c ∷ name_token s ∷ [])
+RestReads at names (rest.Arrow s) ts = (c : Spot) × (a : Spot) × MapReads at names ts (sign_token kind.Colon c ∷ name_token s ∷ sign_token kind.Arrow a ∷ [])
+RestReads at names (rest.Target s t) ts = (c : Spot) × (a : Spot) × MapReads at names ts (sign_token kind.Colon c ∷ name_token s ∷ sign_token kind.Arrow a ∷ name_token t ∷ [])
+
+pub record FirstSide (w : SidesWord) (at : Spot) (r : Reading) (ts : List Token) : Type 0 where
+  pub side : List Token
+  pub reads : ExprReads r side
+  pub are : ts ≡ word_token (sides_text w) at ∷ side
+
+pub record SecondSide (w : SidesWord) (at : Spot) (left : Sum) (r : Reading) (ts : List Token) : Type 0 where
+  pub expr : Expr
+  pub fits : ExprFits expr 64
+  pub left_is : left ≡ expr_tree expr
+  pub equals : Spot
+  pub side : List Token
+  pub reads : ExprReads r side
+  pub are : ts ≡ word_token (sides_text w) at ∷ (expr_tokens expr ++ sign_token kind.Equals equals ∷ side)
+
+abbrev pub SidesReads : SidesWord → Spot → Option Sum → Reading → List Token → Type 0
+SidesReads w at None r ts = FirstSide w at r ts
+SidesReads w at (Some left) r ts = SecondSide w at left r ts
+
+abbrev pub half_tokens : Option Name → List Token
+half_tokens None = []
+half_tokens (Some n) = name_token n ∷ []
+
+abbrev pub read_pairs : Pairs → List Token
+read_pairs p = pairs_tokens p.whole ++ half_tokens p.half
+
+-- a whole statement, after which nothing fits
+pub record WholeReads (s : Statement) (ts : List Token) : Type 0 where
+  pub stated : Stated
+  pub fits : StatedFits stated
+  pub tree : s ≡ stated_tree stated
+  pub are : ts ≡ stated_tokens stated
+
+-- the tokens of a line of which this has been read
+abbrev pub LineReads : Line → List Token → Type 0
+LineReads line.Start ts = ts ≡ []
+LineReads (line.List w at names) ts = ts ≡ word_token (list_text w) at ∷ names_tokens names
+LineReads (line.Map at names r) ts = RestReads at names r ts
+LineReads (line.Sides w at left r) ts = SidesReads w at left r ts
+LineReads (line.Pair w at first) ts = ts ≡ word_token (pair_text w) at ∷ half_tokens first
+LineReads (line.Projection at) ts = ts ≡ word_token (codes "projection") at ∷ []
+LineReads (line.Order at) ts = ts ≡ word_token (codes "order") at ∷ []
+LineReads (line.Weights at ps) ts = (word : Spot) × (ts ≡ word_token (codes "order") at ∷ word_token (codes "weight") word ∷ read_pairs ps)
+LineReads (line.Model at) ts = ts ≡ word_token (codes "model") at ∷ []
+LineReads (line.Shape at m ps) ts = ts ≡ word_token (codes "model") at ∷ number_token m ∷ read_pairs ps
+LineReads (line.Whole s) ts = WholeReads s ts
+
+abbrev pub After : Lined → List Token → Type 0
+After (Ok l) ts = LineReads l ts
+After (Err e) ts = Unit {0}
+
+-- a line with one token more
+abbrev pub Grows : List Token → Spot → TokenKind → Lined → Type 0
+Grows ts at k r = After r (ts ++ sign_token k at ∷ [])
+
+-- ---- the first word
+
+-- the text of the word that begins a statement
+abbrev pub opening_text : Opening → List ℕ
+opening_text (opening.List w) = list_text w
+opening_text opening.Map = codes "map"
+opening_text (opening.Sides w) = sides_text w
+opening_text (opening.Pair w) = pair_text w
+opening_text opening.Projection = codes "projection"
+opening_text opening.Order = codes "order"
+opening_text opening.Model = codes "model"
+
+choose : (word : List ℕ) (o : Opening) (rest : Option Opening) (b : Bool) → bytes_eq word (opening_text o) ≡ b → ((p : Opening) → rest ≡ Some p → word ≡ opening_text p)
+    → (p : Opening) → cond b (Some o) rest ≡ Some p → word ≡ opening_text p
+choose word o rest true is there p read = let same : o ≡ p = cc in (bytes_eq-Decides word (opening_text o)).0 is ∙ ap opening_text same
+choose word o rest false is there p read = there p read
+
+none_is : (word : List ℕ) (p : Opening) → (let r : Option Opening = None in r) ≡ Some p → word ≡ opening_text p
+none_is word p read = absurd cc
+
+pub opening_is : (word : List ℕ) (o : Opening) → opening_in word ≡ Some o → word ≡ opening_text o
+opening_is word =
+    choose word (opening.List Object) _ _ refl (
+    choose word (opening.List Solve) _ _ refl (
+    choose word opening.Map _ _ refl (
+    choose word (opening.Sides Assume) _ _ refl (
+    choose word (opening.Sides Claim) _ _ refl (
+    choose word (opening.Pair Pinv) _ _ refl (
+    choose word (opening.Pair Inverse) _ _ refl (
+    choose word (opening.Pair Inner) _ _ refl (
+    choose word opening.Projection _ _ refl (
+    choose word opening.Order _ _ refl (
+    choose word opening.Model _ _ refl (none_is word)))))))))))
+
+start_is : start_reading ≡ reading_of (fresh [])
+start_is = refl
+
+pub start_reads : ExprReads start_reading []
+unfolding run
+start_reads = record { state = fresh []; ran = refl; seen = start_is }
+
+opened_reads : (o : Opening) (at : Spot) → LineReads (opened o at) (word_token (opening_text o) at ∷ [])
+opened_reads (opening.List w) at = refl
+opened_reads opening.Map at = refl
+opened_reads (opening.Sides w) at = record { side = []; reads = start_reads; are = refl }
+opened_reads (opening.Pair w) at = refl
+opened_reads opening.Projection at = refl
+opened_reads opening.Order at = refl
+opened_reads opening.Model at = refl
+
+begun_reads : (word : List ℕ) (o : Option Opening) (at : Spot) → opening_in word ≡ o → After (begun o at) (word_token word at ∷ [])
+begun_reads word None at is = tt
+begun_reads word (Some o) at is = subst (λ x. LineReads (opened o at) (word_token x at ∷ [])) (sym (opening_is word o is)) (opened_reads o at)
+
+start_grows : (k : TokenKind) (at : Spot) → Grows [] at k (start_step k at)
+start_grows (kind.Name x) at = begun_reads x (opening_in x) at refl
+start_grows (kind.Literal n) at = tt
+start_grows kind.Colon at = tt
+start_grows kind.Arrow at = tt
+start_grows kind.Equals at = tt
+start_grows kind.Plus at = tt
+start_grows kind.Minus at = tt
+start_grows kind.Open at = tt
+start_grows kind.Close at = tt
+start_grows kind.OpenSquare at = tt
+start_grows kind.CloseSquare at = tt
+start_grows kind.Quote at = tt
+start_grows kind.End at = tt
+
+-- ---- the other tokens
+
+with_next : (ts us : List Token) (t : Token) → ts ≡ us → ts ++ t ∷ [] ≡ us ++ t ∷ []
+with_next ts us t read = ap (λ (x : List Token). x ++ t ∷ []) read
+
+more_names : (front : Token) (names : List Name) (n : Name) → (front ∷ names_tokens names) ++ name_token n ∷ [] ≡ front ∷ names_tokens (names ++ n ∷ [])
+more_names front names n = ap (λ x. front ∷ x) (sym (map-append name_token names (n ∷ [])))
+
+list_grows : (w : ListWord) (at : Spot) (names : List Name) (ts : List Token) (t : Spot) (k : TokenKind) → LineReads (line.List w at names) ts → Grows ts t k (list_step w at names k t)
+list_grows w at names ts t k read =
+    by_name (Grows ts t) _ t (λ x. with_next ts _ _ read ∙ more_names (word_token (list_text w) at) names (named x t)) (λ k. tt) k
+
+map_more : (at : Spot) (names : List Name) (ts behind : List Token) (t : Token) → MapReads at names ts behind → MapReads at names (ts ++ t ∷ []) (behind ++ t ∷ [])
+map_more at names ts behind t read = record {
+  has_first = read.has_first;
+  are = with_next ts _ t read.are ∙ ap (λ x. word_token (codes "map") at ∷ x) (append_assoc (names_tokens names) behind (t ∷ []));
+}
+
+colon_grows : (at : Spot) (names : List Name) (ts : List Token) (t : Spot) → RestReads at names rest.Names ts → Grows ts t kind.Colon (colon_after at names)
+colon_grows at [] ts t read = tt
+colon_grows at (n ∷ ns) ts t read = (t, record { has_first = record { first = n; more = ns; is = refl }; are = with_next ts _ _ read })
+
+map_names_grows : (at : Spot) (names : List Name) (ts : List Token) (t : Spot) (k : TokenKind) → RestReads at names rest.Names ts → Grows ts t k (map_names_step at names k t)
+map_names_grows at names ts t k read =
+    by_colon (Grows ts t) (colon_after at names) (λ k. name_in k t >>= λ n. Ok (line.Map at (names ++ n ∷ []) rest.Names)) (colon_grows at names ts t read)
+    (λ k. by_name (Grows ts t) _ t (λ x. with_next ts _ _ read ∙ more_names (word_token (codes "map") at) names (named x t)) (λ k. tt) k) k
+
+self_grows : (at : Spot) (names : List Name) (s e : Name) (ts : List Token) (t : Spot) (x : List ℕ) (b : Bool) → bytes_eq x (codes "self") ≡ b → RestReads at names (rest.Target s e) ts
+    → Grows ts t (kind.Name x) (cond b (Ok (whole at (statement.Maps names s e true))) (Err Expected))
+self_grows at names s e ts t x false is read = tt
+self_grows at names s e ts t x true is read =
+    let wider = map_more at names ts _ (word_token x t) read.2 in
+    let first = read.2.has_first in
+    record {
+      stated = mapped at first.first first.more read.0 s read.1 e (self_word t);
+      fits = tt;
+      tree = ap (λ ns. record { at = at; kind = statement.Maps ns s e true }) first.is;
+      are = wider.are ∙ ap₂ (λ ns y. word_token (codes "map") at ∷ (names_tokens ns ++ sign_token kind.Colon read.0 ∷ name_token s ∷ sign_token kind.Arrow read.1 ∷ name_token e ∷ word_token y t ∷ []))
+          first.is ((bytes_eq-Decides x (codes "self")).0 is);
+    }
+
+map_grows : (at : Spot) (names : List Name) (r : MapRest) (ts : List Token) (t : Spot) (k : TokenKind) → RestReads at names r ts → Grows ts t k (map_step at names r k t)
+map_grows at names rest.Names ts t k read = map_names_grows at names ts t k read
+map_grows at names rest.Colon ts t k read = by_name (Grows ts t) _ t (λ x. (read.0, map_more at names ts _ (word_token x t) read.1)) (λ k. tt) k
+map_grows at names (rest.Source s) ts t k read = by_arrow (Grows ts t) (Ok (line.Map at names (rest.Arrow s))) (λ k. Err Expected) (read.0, t, map_more at names ts _ (sign_token kind.Arrow t) read.1) (λ k. tt) k
+map_grows at names (rest.Arrow s) ts t k read = by_name (Grows ts t) _ t (λ x. (read.0, read.1, map_more at names ts _ (word_token x t) read.2)) (λ k. tt) k
+map_grows at names (rest.Target s e) ts t k read = on_word k
+  where
+    on_word : (k : TokenKind) → Grows ts t k (map_step at names (rest.Target s e) k t)
+    on_word (kind.Name x) = self_grows at names s e ts t x (bytes_eq x (codes "self")) refl read
+    on_word (kind.Literal n) = tt
+    on_word kind.Colon = tt
+    on_word kind.Arrow = tt
+    on_word kind.Equals = tt
+    on_word kind.Plus = tt
+    on_word kind.Minus = tt
+    on_word kind.Open = tt
+    on_word kind.Close = tt
+    on_word kind.OpenSquare = tt
+    on_word kind.CloseSquare = tt
+    on_word kind.Quote = tt
+    on_word kind.End = tt
+
+-- ---- expressions
+
+seen_ok : (r : Result State Misfit) (next : Reading) → seen r ≡ Ok next → (st : State) × (r ≡ Ok st) × (next ≡ reading_of st)
+seen_ok (Ok st) next read = (st, refl, cc)
+seen_ok (Err e) next read = absurd cc
+
+tree_ok : (o : Option Expr) (s : Sum) → tree_or o Expected ≡ Ok s → (e : Expr) × (o ≡ Some e) × (s ≡ expr_tree e)
+tree_ok None s read = absurd cc
+tree_ok (Some e) s read = (e, refl, cc)
+
+reading_grows : (r next : Reading) (ts : List Token) (k : TokenKind) (t : Spot) → ExprReads r ts → token_step r k t ≡ Ok next → ExprReads next (ts ++ sign_token k t ∷ [])
+unfolding run
+reading_grows r next ts k t read goes =
+    let one = seen_ok (step read.state (sign_token k t)) next (sym (step-seen read.state (sign_token k t)) ∙ ap (λ x. token_step x k t) (sym read.seen) ∙ goes) in
+    record {
+      state = one.0;
+      ran = run_front step (fresh []) ts read.state (sign_token k t ∷ []) read.ran ∙ ap (λ x. x >>= λ s. run step s []) one.1;
+      seen = one.2;
+    }
+
+-- where it may end, it is an expression
+pub reading_ends : (r : Reading) (s : Sum) (ts : List Token) → ExprReads r ts → whole_sum r ≡ Ok s → (e : Expr) × ExprFits e 64 × (s ≡ expr_tree e) × (ts ≡ expr_tokens e)
+reading_ends r s ts read goes =
+    let e = tree_ok (machine.whole read.state) s (sym (whole-seen read.state) ∙ ap whole_sum (sym read.seen) ∙ goes) in
+    (e.0, within ts read.state e.0 read.ran e.1, e.2, found ts read.state e.0 read.ran e.1)
+
+side_more : (front ts side : List Token) (t : Token) → ts ≡ front ++ side → ts ++ t ∷ [] ≡ front ++ (side ++ t ∷ [])
+side_more front ts side t read = with_next ts _ t read ∙ append_assoc front side (t ∷ [])
+
+first_grows : (w : SidesWord) (at : Spot) (r : Reading) (ts : List Token) (t : Spot) (k : TokenKind) (res : Result Reading Misfit) → token_step r k t ≡ res → FirstSide w at r ts
+    → Grows ts t k (res >>= λ x. Ok (line.Sides w at None x))
+first_grows w at r ts t k (Err e) is read = tt
+first_grows w at r ts t k (Ok next) is read = record {
+  side = read.side ++ sign_token k t ∷ [];
+  reads = reading_grows r next read.side k t read.reads is;
+  are = side_more (word_token (sides_text w) at ∷ []) ts read.side (sign_token k t) read.are;
+}
+
+second_grows : (w : SidesWord) (at : Spot) (left : Sum) (r : Reading) (ts : List Token) (t : Spot) (k : TokenKind) (res : Result Reading Misfit) → token_step r k t ≡ res → SecondSide w at left r ts
+    → Grows ts t k (res >>= λ x. Ok (line.Sides w at (Some left) x))
+second_grows w at left r ts t k (Err e) is read = tt
+second_grows w at left r ts t k (Ok next) is read =
+    let front : List Token = word_token (sides_text w) at ∷ (expr_tokens read.expr ++ sign_token kind.Equals read.equals ∷ []) in
+    record {
+      expr = read.expr;
+      fits = read.fits;
+      left_is = read.left_is;
+      equals = read.equals;
+      side = read.side ++ sign_token k t ∷ [];
+      reads = reading_grows r next read.side k t read.reads is;
+      are = side_more front ts read.side (sign_token k t) (read.are ∙ ap (λ x. word_token (sides_text w) at ∷ x) (sym (append_assoc (expr_tokens read.expr) (sign_token kind.Equals read.equals ∷ []) read.side)))
+          ∙ ap (λ x. word_token (sides_text w) at ∷ x) (append_assoc (expr_tokens read.expr) (sign_token kind.Equals read.equals ∷ []) (read.side ++ sign_token k t ∷ []));
+    }
+
+equals_grows : (w : SidesWord) (at : Spot) (r : Reading) (ts : List Token) (t : Spot) (res : Result Sum Misfit) → whole_sum r ≡ res → FirstSide w at r ts
+    → Grows ts t kind.Equals (res >>= λ left. Ok (line.Sides w at (Some left) start_reading))
+equals_grows w at r ts t (Err e) is read = tt
+equals_grows w at r ts t (Ok left) is read =
+    let e = reading_ends r left read.side read.reads is in
+    record {
+      expr = e.0;
+      fits = e.1;
+      left_is = e.2;
+      equals = t;
+      side = [];
+      reads = start_reads;
+      are = with_next ts _ _ read.are ∙ ap (λ x. word_token (sides_text w) at ∷ (x ++ sign_token kind.Equals t ∷ [])) e.3;
+    }
+
+sides_grows : (w : SidesWord) (at : Spot) (left : Option Sum) (r : Reading) (ts : List Token) (t : Spot) (k : TokenKind) → SidesReads w at left r ts → Grows ts t k (sides_step w at left r k t)
+sides_grows w at (Some left) r ts t k read = second_grows w at left r ts t k (token_step r k t) refl read
+sides_grows w at None r ts t k read =
+    by_equals (Grows ts t) _ (λ k. token_step r k t >>= λ x. Ok (line.Sides w at None x)) (equals_grows w at r ts t (whole_sum r) refl read)
+    (λ k differs. first_grows w at r ts t k (token_step r k t) refl read) k
+
+-- ---- names and pairs
+
+pair_grows : (w : PairWord) (at : Spot) (first : Option Name) (ts : List Token) (t : Spot) (k : TokenKind) → LineReads (line.Pair w at first) ts → Grows ts t k (pair_step w at first k t)
+pair_grows w at None ts t k read = by_name (Grows ts t) _ t (λ x. with_next ts _ _ read) (λ k. tt) k
+pair_grows w at (Some m) ts t k read =
+    by_name (Grows ts t) _ t (λ x. record { stated = paired w at m (named x t); fits = tt; tree = refl; are = with_next ts _ _ read }) (λ k. tt) k
+
+projection_grows : (at : Spot) (ts : List Token) (t : Spot) (k : TokenKind) → LineReads (line.Projection at) ts → Grows ts t k (projection_step at k t)
+projection_grows at ts t k read = by_name (Grows ts t) _ t (λ x. record { stated = projected at (named x t); fits = tt; tree = refl; are = with_next ts _ _ read }) (λ k. tt) k
+
+-- what a step of pairs makes of their tokens
+abbrev PairsGrow : Pairs → Spot → TokenKind → Result Pairs Misfit → Type 0
+PairsGrow p t k (Ok q) = read_pairs q ≡ read_pairs p ++ sign_token k t ∷ []
+PairsGrow p t k (Err e) = Unit {0}
+
+pub pairs_more : (ps : List (Name × Number)) (n : Name) (m : Number) → pairs_tokens (ps ++ (n, m) ∷ []) ≡ pairs_tokens ps ++ name_token n ∷ number_token m ∷ []
+pairs_more [] n m = refl
+pairs_more (p ∷ ps) n m = ap (λ x. name_token p.0 ∷ number_token p.1 ∷ x) (pairs_more ps n m)
+
+pairs_grow : (ps : List (Name × Number)) (half : Option Name) (t : Spot) (k : TokenKind) → PairsGrow (record { whole = ps; half = half }) t k (pairs_by ps half k t)
+pairs_grow ps None t k = by_name (PairsGrow (record { whole = ps; half = None }) t) _ t (λ x. ap (λ y. y ++ word_token x t ∷ []) (sym (append-nil (pairs_tokens ps)))) (λ k. tt) k
+pairs_grow ps (Some n) t k =
+    by_number (PairsGrow (record { whole = ps; half = Some n }) t) _ t
+    (λ v. append-nil (pairs_tokens (ps ++ (n, record { value = v; at = t }) ∷ []))
+    ∙ pairs_more ps n (record { value = v; at = t })
+    ∙ sym (append_assoc (pairs_tokens ps) (name_token n ∷ []) (sign_token (kind.Literal v) t ∷ []))) (λ k. tt) k
+
+weights_grow : (at : Spot) (p : Pairs) (ts : List Token) (t : Spot) (k : TokenKind) (res : Result Pairs Misfit) → PairsGrow p t k res → LineReads (line.Weights at p) ts
+    → Grows ts t k (res >>= λ q. Ok (line.Weights at q))
+weights_grow at p ts t k (Err e) grows read = tt
+weights_grow at p ts t k (Ok q) grows read = (read.0, with_next ts _ _ read.1 ∙ ap (λ x. word_token (codes "order") at ∷ word_token (codes "weight") read.0 ∷ x) (sym grows))
+
+shape_grows : (at : Spot) (m : Number) (p : Pairs) (ts : List Token) (t : Spot) (k : TokenKind) (res : Result Pairs Misfit) → PairsGrow p t k res → LineReads (line.Shape at m p) ts
+    → Grows ts t k (res >>= λ q. Ok (line.Shape at m q))
+shape_grows at m p ts t k (Err e) grows read = tt
+shape_grows at m p ts t k (Ok q) grows read = with_next ts _ _ read ∙ ap (λ x. word_token (codes "model") at ∷ number_token m ∷ x) (sym grows)
+
+model_grows : (at : Spot) (ts : List Token) (t : Spot) (k : TokenKind) → LineReads (line.Model at) ts → Grows ts t k (line_step (line.Model at) k t)
+model_grows at ts t k read = by_number (Grows ts t) _ t (λ v. with_next ts _ _ read) (λ k. tt) k
+
+order_by : (at : Spot) (ts : List Token) (t : Spot) (x : List ℕ) (b c : Bool) → bytes_eq x (codes "degree") ≡ b → bytes_eq x (codes "weight") ≡ c → LineReads (line.Order at) ts
+    → Grows ts t (kind.Name x) (cond b (Ok (whole at statement.Degree)) (cond c (Ok (line.Weights at no_pairs)) (Err Expected)))
+order_by at ts t x true c is_degree is_weight read = record {
+  stated = by_degree at t;
+  fits = tt;
+  tree = refl;
+  are = with_next ts _ _ read ∙ ap (λ y. word_token (codes "order") at ∷ word_token y t ∷ []) ((bytes_eq-Decides x (codes "degree")).0 is_degree);
+}
+order_by at ts t x false true is_degree is_weight read = (t, with_next ts _ _ read ∙ ap (λ y. word_token (codes "order") at ∷ word_token y t ∷ []) ((bytes_eq-Decides x (codes "weight")).0 is_weight))
+order_by at ts t x false false is_degree is_weight read = tt
+
+order_grows : (at : Spot) (ts : List Token) (t : Spot) (k : TokenKind) → LineReads (line.Order at) ts → Grows ts t k (order_step at k)
+order_grows at ts t (kind.Name x) read = order_by at ts t x (bytes_eq x (codes "degree")) (bytes_eq x (codes "weight")) refl refl read
+order_grows at ts t (kind.Literal n) read = tt
+order_grows at ts t kind.Colon read = tt
+order_grows at ts t kind.Arrow read = tt
+order_grows at ts t kind.Equals read = tt
+order_grows at ts t kind.Plus read = tt
+order_grows at ts t kind.Minus read = tt
+order_grows at ts t kind.Open read = tt
+order_grows at ts t kind.Close read = tt
+order_grows at ts t kind.OpenSquare read = tt
+order_grows at ts t kind.CloseSquare read = tt
+order_grows at ts t kind.Quote read = tt
+order_grows at ts t kind.End read = tt
+
+-- ---- all lines
+
+line_grows : (l : Line) (ts : List Token) (t : Spot) (k : TokenKind) → LineReads l ts → Grows ts t k (line_step l k t)
+line_grows line.Start ts t k read = subst (λ us. Grows us t k (start_step k t)) (sym read) (start_grows k t)
+line_grows (line.List w at names) ts t k read = list_grows w at names ts t k read
+line_grows (line.Map at names r) ts t k read = map_grows at names r ts t k read
+line_grows (line.Sides w at left r) ts t k read = sides_grows w at left r ts t k read
+line_grows (line.Pair w at first) ts t k read = pair_grows w at first ts t k read
+line_grows (line.Projection at) ts t k read = projection_grows at ts t k read
+line_grows (line.Order at) ts t k read = order_grows at ts t k read
+line_grows (line.Weights at p) ts t k read = weights_grow at p ts t k (pairs_step p k t) (pairs_grow p.whole p.half t k) read
+line_grows (line.Model at) ts t k read = model_grows at ts t k read
+line_grows (line.Shape at m p) ts t k read = shape_grows at m p ts t k (pairs_step p k t) (pairs_grow p.whole p.half t k) read
+line_grows (line.Whole s) ts t k read = tt
+
+-- one step reads one token
+pub line_step_reads : (l next : Line) (t : Token) (ts : List Token) → line_step l t.kind t.at ≡ Ok next → LineReads l ts → LineReads next (ts ++ t ∷ [])
+line_step_reads l next t ts goes read = subst (λ r. After r (ts ++ t ∷ [])) goes (line_grows l ts t.at t.kind read)

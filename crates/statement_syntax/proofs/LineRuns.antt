@@ -1,0 +1,239 @@
+-- Each statement is read as itself where it is within the limit, and else stops at a bracket that is too deep.
+use Rattle.std.proofs.Common.{◌≡◌, ℕ, Bool, true, false, cond, List, [], ◌∷◌, ◌++◌, ◌⊎◌, inl, inr, map, Option, Some, None, Result, Ok, Err, refl, sym, ap, ap₂, subst, ◌∙◌, append_assoc}
+use Rattle.std.specs.Prelude.{codes, pos}
+use Rattle.std.proofs.lemmas.List.{append-nil}
+use Rattle.statement_syntax.specs.declared.place.Spot.{Spot}
+use Rattle.statement_syntax.specs.declared.token.Token.{Token}
+use Rattle.statement_syntax.specs.declared.token.TokenKind.{TokenKind}
+use Rattle.statement_syntax.specs.declared.token.TokenKind.TheVariants as kind
+use Rattle.statement_syntax.specs.declared.tree.Name.{Name}
+use Rattle.statement_syntax.specs.declared.tree.Number.{Number}
+use Rattle.statement_syntax.specs.declared.tree.Sum.{Sum}
+use Rattle.statement_syntax.specs.declared.tree.StatementKind.TheVariants as statement
+use Rattle.statement_syntax.specs.declared.expression.Misfit.{Misfit}
+use Rattle.statement_syntax.specs.declared.expression.Misfit.TheVariants.{Expected, TooDeep}
+use Rattle.statement_syntax.specs.declared.expression.Reading.{Reading}
+use Rattle.statement_syntax.specs.declared.line.ListWord.{ListWord}
+use Rattle.statement_syntax.specs.declared.line.ListWord.TheVariants.{Object, Solve}
+use Rattle.statement_syntax.specs.declared.line.SidesWord.{SidesWord}
+use Rattle.statement_syntax.specs.declared.line.SidesWord.TheVariants.{Assume, Claim}
+use Rattle.statement_syntax.specs.declared.line.PairWord.{PairWord}
+use Rattle.statement_syntax.specs.declared.line.PairWord.TheVariants.{Pinv, Inverse, Inner}
+use Rattle.statement_syntax.specs.declared.line.MapRest.TheVariants as rest
+use Rattle.statement_syntax.specs.declared.line.Pairs.{Pairs}
+use Rattle.statement_syntax.specs.declared.line.Line.{Line}
+use Rattle.statement_syntax.specs.declared.line.Line.TheVariants as line
+use Rattle.statement_syntax.specs.Steps.{◌>>=◌, run, token_step, whole_sum}
+use Rattle.statement_syntax.specs.Grammar.{Expr, expr_tokens, ExprFits, sign_token, name_token, number_token, word_token, names_tokens, pairs_tokens, list_text, sides_text, pair_text, Ending, no_word, self_word, ending_tokens, Stated, listed, mapped, sides, paired, projected, by_degree, by_weight, modelled, stated_tokens, StatedFits}
+use Rattle.statement_syntax.specs.Tree.{expr_tree, stated_tree, sides_kind, is_self}
+use Rattle.statement_syntax.specs.Lines.{Lined, start_reading, whole, on_equals, line_step, line_end, sides_end, statement_by}
+use Rattle.statement_syntax.proofs.Machine as machine
+use Rattle.statement_syntax.proofs.Machine.{Focus, outside, square, State, Stepped, fresh, step}
+use Rattle.statement_syntax.proofs.Seen.{reading_of, seen, tree_or}
+use Rattle.statement_syntax.proofs.Run.{Upto, then_on, before_it, after_it, run_upto, inside_upto, one_step, ok_differs}
+use Rattle.statement_syntax.proofs.Runs.{end_state, end-whole}
+use Rattle.statement_syntax.proofs.Same.{step-seen, whole-seen}
+use Rattle.statement_syntax.proofs.Viable.{only}
+use Rattle.statement_syntax.proofs.Choices.{not_equals}
+
+-- a step of a line by a token
+abbrev pub by_token : Line → Token → Lined
+by_token l t = line_step l t.kind t.at
+
+-- no expression goes on with an equals sign
+no_equals : (st : State) (f : Focus) (at : Spot) → step (record { levels = st.levels; head = st.head; part = st.part; focus = f }) (sign_token kind.Equals at) ≡ Err Expected
+unfolding step
+no_equals st outside at = refl
+no_equals st (square left) at = refl
+no_equals st (machine.named left n) at = refl
+
+err_is : {A : Type 0} (f g : Misfit) → (let r : Result A Misfit = Err f in r) ≡ Err g → f ≡ g
+err_is f g same = cc
+
+not_deep : (let f : Misfit = Expected in f) ≡ TooDeep → ⊥
+not_deep same = absurd cc
+
+-- ---- an expression inside a line
+
+first_line : SidesWord → Spot → State → Line
+first_line w at st = line.Sides w at None (reading_of st)
+
+second_line : SidesWord → Spot → Sum → State → Line
+second_line w at left st = line.Sides w at (Some left) (reading_of st)
+
+token_seen : (st next : State) (t : Token) → step st t ≡ Ok next → token_step (reading_of st) t.kind t.at ≡ Ok (reading_of next)
+token_seen st next t goes = step-seen st t ∙ ap seen goes
+
+token_deep : (st : State) (t : Token) → step st t ≡ Err TooDeep → token_step (reading_of st) t.kind t.at ≡ Err TooDeep
+token_deep st t fails = step-seen st t ∙ ap seen fails
+
+step_equals : (st : State) (r : Stepped) (t : Token) → step st t ≡ r → t.kind ≡ kind.Equals → r ≡ Err Expected
+step_equals st r t is k = sym is ∙ ap (λ x. step st (sign_token x t.at)) k ∙ no_equals st st.focus t.at
+
+first_each : (w : SidesWord) (at : Spot) (st next : State) (t : Token) → step st t ≡ Ok next → by_token (line.Sides w at None (reading_of st)) t ≡ Ok (line.Sides w at None (reading_of next))
+first_each w at st next t goes =
+    not_equals _ _ t.kind (λ k. ok_differs next Expected (step_equals st (Ok next) t goes k))
+    ∙ ap (λ x. x >>= λ r. Ok (line.Sides w at None r)) (token_seen st next t goes)
+
+first_deep : (w : SidesWord) (at : Spot) (st : State) (t : Token) → step st t ≡ Err TooDeep → by_token (line.Sides w at None (reading_of st)) t ≡ Err TooDeep
+first_deep w at st t fails =
+    not_equals _ _ t.kind (λ k. not_deep (sym (err_is {A = State} TooDeep Expected (step_equals st (Err TooDeep) t fails k))))
+    ∙ ap (λ x. x >>= λ r. Ok (line.Sides w at None r)) (token_deep st t fails)
+
+second_each : (w : SidesWord) (at : Spot) (left : Sum) (st next : State) (t : Token) → step st t ≡ Ok next → by_token (line.Sides w at (Some left) (reading_of st)) t ≡ Ok (line.Sides w at (Some left) (reading_of next))
+second_each w at left st next t goes = ap (λ x. x >>= λ r. Ok (line.Sides w at (Some left) r)) (token_seen st next t goes)
+
+second_deep : (w : SidesWord) (at : Spot) (left : Sum) (st : State) (t : Token) → step st t ≡ Err TooDeep → by_token (line.Sides w at (Some left) (reading_of st)) t ≡ Err TooDeep
+second_deep w at left st t fails = ap (λ x. x >>= λ r. Ok (line.Sides w at (Some left) r)) (token_deep st t fails)
+
+sum_seen : (e : Expr) → whole_sum (reading_of (end_state [] e)) ≡ Ok (expr_tree e)
+sum_seen e = whole-seen (end_state [] e) ∙ ap (λ o. tree_or o Expected) (end-whole e)
+
+equals_step : (w : SidesWord) (at : Spot) (d : Expr) (equals : Spot)
+    → by_token (line.Sides w at None (reading_of (end_state [] d))) (sign_token kind.Equals equals) ≡ Ok (line.Sides w at (Some (expr_tree d)) (reading_of (fresh [])))
+equals_step w at d equals = ap (λ x. x >>= λ left. Ok (line.Sides w at (Some left) start_reading)) (sum_seen d)
+
+sides_start : (w : SidesWord) (at : Spot) (rest : List Token) → run by_token line.Start (word_token (sides_text w) at ∷ rest) ≡ run by_token (line.Sides w at None (reading_of (fresh []))) rest
+unfolding run
+sides_start Assume at rest = refl
+sides_start Claim at rest = refl
+
+sides_run : (w : SidesWord) (at : Spot) (d : Expr) (equals : Spot) (e : Expr)
+    → Upto (ExprFits d 64 × ExprFits e 64) (run by_token line.Start (stated_tokens (sides w at d equals e))) (Ok (line.Sides w at (Some (expr_tree d)) (reading_of (end_state [] e))))
+sides_run w at d equals e =
+    before_it (sides_start w at (expr_tokens d ++ sign_token kind.Equals equals ∷ expr_tokens e))
+    (then_on
+    (run_upto by_token (line.Sides w at None (reading_of (fresh []))) (expr_tokens d) (line.Sides w at None (reading_of (end_state [] d))) (sign_token kind.Equals equals ∷ expr_tokens e)
+    (inside_upto step by_token (λ st. line.Sides w at None (reading_of st)) (first_each w at) (first_deep w at) (expr_tokens d) (fresh []) (end_state [] d) (only d)))
+    (before_it (one_step by_token _ _ (sign_token kind.Equals equals) (expr_tokens e) (equals_step w at d equals))
+    (inside_upto step by_token (λ st. line.Sides w at (Some (expr_tree d)) (reading_of st)) (second_each w at (expr_tree d)) (second_deep w at (expr_tree d)) (expr_tokens e) (fresh []) (end_state [] e) (only e))))
+
+-- ---- names and pairs
+
+list_start : (w : ListWord) (at : Spot) (rest : List Token) → run by_token line.Start (word_token (list_text w) at ∷ rest) ≡ run by_token (line.List w at []) rest
+unfolding run
+list_start Object at rest = refl
+list_start Solve at rest = refl
+
+list_run : (w : ListWord) (at : Spot) (front ns : List Name) → run by_token (line.List w at front) (names_tokens ns) ≡ Ok (line.List w at (front ++ ns))
+unfolding run
+list_run w at front [] = ap (λ ns. Ok (line.List w at ns)) (sym (append-nil front))
+list_run w at front (n ∷ ns) = list_run w at (front ++ n ∷ []) ns ∙ ap (λ x. Ok (line.List w at x)) (append_assoc front (n ∷ []) ns)
+
+names_run : (at : Spot) (front ns : List Name) (behind : List Token) → run by_token (line.Map at front rest.Names) (names_tokens ns ++ behind) ≡ run by_token (line.Map at (front ++ ns) rest.Names) behind
+unfolding run
+names_run at front [] behind = ap (λ ns. run by_token (line.Map at ns rest.Names) behind) (sym (append-nil front))
+names_run at front (n ∷ ns) behind = names_run at (front ++ n ∷ []) ns behind ∙ ap (λ x. run by_token (line.Map at x rest.Names) behind) (append_assoc front (n ∷ []) ns)
+
+map_rest : (at : Spot) (n : Name) (ns : List Name) (colon : Spot) (s : Name) (arrow : Spot) (t : Name) (behind : List Token)
+    → run by_token (line.Map at (n ∷ ns) rest.Names) (sign_token kind.Colon colon ∷ name_token s ∷ sign_token kind.Arrow arrow ∷ name_token t ∷ behind) ≡ run by_token (line.Map at (n ∷ ns) (rest.Target s t)) behind
+unfolding run
+map_rest at n ns colon s arrow t behind = refl
+
+abbrev map_line : Spot → List Name → Name → Name → Ending → Line
+map_line at names s t no_word = line.Map at names (rest.Target s t)
+map_line at names s t (self_word self) = whole at (statement.Maps names s t true)
+
+map_last : (at : Spot) (names : List Name) (s t : Name) (end : Ending) → run by_token (line.Map at names (rest.Target s t)) (ending_tokens end) ≡ Ok (map_line at names s t end)
+unfolding run
+map_last at names s t no_word = refl
+map_last at names s t (self_word self) = refl
+
+map_start : (at : Spot) (behind : List Token) → run by_token line.Start (word_token (codes "map") at ∷ behind) ≡ run by_token (line.Map at [] rest.Names) behind
+unfolding run
+map_start at behind = refl
+
+map_run : (at : Spot) (n : Name) (ns : List Name) (colon : Spot) (s : Name) (arrow : Spot) (t : Name) (end : Ending)
+    → run by_token line.Start (stated_tokens (mapped at n ns colon s arrow t end)) ≡ Ok (map_line at (n ∷ ns) s t end)
+map_run at n ns colon s arrow t end =
+    map_start at (names_tokens (n ∷ ns) ++ sign_token kind.Colon colon ∷ name_token s ∷ sign_token kind.Arrow arrow ∷ name_token t ∷ ending_tokens end)
+    ∙ names_run at [] (n ∷ ns) (sign_token kind.Colon colon ∷ name_token s ∷ sign_token kind.Arrow arrow ∷ name_token t ∷ ending_tokens end)
+    ∙ map_rest at n ns colon s arrow t (ending_tokens end)
+    ∙ map_last at (n ∷ ns) s t end
+
+pair_run : (w : PairWord) (at : Spot) (m n : Name) → run by_token line.Start (stated_tokens (paired w at m n)) ≡ Ok (line.Whole (stated_tree (paired w at m n)))
+unfolding run
+pair_run Pinv at m n = refl
+pair_run Inverse at m n = refl
+pair_run Inner at m n = refl
+
+projection_run : (at : Spot) (n : Name) → run by_token line.Start (stated_tokens (projected at n)) ≡ Ok (line.Whole (stated_tree (projected at n)))
+unfolding run
+projection_run at n = refl
+
+degree_run : (at word : Spot) → run by_token line.Start (stated_tokens (by_degree at word)) ≡ Ok (line.Whole (stated_tree (by_degree at word)))
+unfolding run
+degree_run at word = refl
+
+abbrev whole_pairs_of : List (Name × Number) → Pairs
+whole_pairs_of ps = record { whole = ps; half = None }
+
+pairs_run : (wrap : Pairs → Line) → ((ps : List (Name × Number)) (p : Name × Number) (behind : List Token) → run by_token (wrap (whole_pairs_of ps)) (name_token p.0 ∷ number_token p.1 ∷ behind) ≡ run by_token (wrap (whole_pairs_of (ps ++ p ∷ []))) behind)
+    → (front ps : List (Name × Number)) → run by_token (wrap (whole_pairs_of front)) (pairs_tokens ps) ≡ Ok (wrap (whole_pairs_of (front ++ ps)))
+unfolding run
+pairs_run wrap one front [] = ap (λ x. Ok (wrap (whole_pairs_of x))) (sym (append-nil front))
+pairs_run wrap one front (p ∷ ps) = one front p (pairs_tokens ps) ∙ pairs_run wrap one (front ++ p ∷ []) ps ∙ ap (λ x. Ok (wrap (whole_pairs_of x))) (append_assoc front (p ∷ []) ps)
+
+weight_one : (at : Spot) (ps : List (Name × Number)) (p : Name × Number) (behind : List Token)
+    → run by_token (line.Weights at (whole_pairs_of ps)) (name_token p.0 ∷ number_token p.1 ∷ behind) ≡ run by_token (line.Weights at (whole_pairs_of (ps ++ p ∷ []))) behind
+unfolding run
+weight_one at ps p behind = refl
+
+side_one : (at : Spot) (m : Number) (ps : List (Name × Number)) (p : Name × Number) (behind : List Token)
+    → run by_token (line.Shape at m (whole_pairs_of ps)) (name_token p.0 ∷ number_token p.1 ∷ behind) ≡ run by_token (line.Shape at m (whole_pairs_of (ps ++ p ∷ []))) behind
+unfolding run
+side_one at m ps p behind = refl
+
+weight_start : (at word : Spot) (behind : List Token) → run by_token line.Start (word_token (codes "order") at ∷ word_token (codes "weight") word ∷ behind) ≡ run by_token (line.Weights at (whole_pairs_of [])) behind
+unfolding run
+weight_start at word behind = refl
+
+model_start : (at : Spot) (m : Number) (behind : List Token) → run by_token line.Start (word_token (codes "model") at ∷ number_token m ∷ behind) ≡ run by_token (line.Shape at m (whole_pairs_of [])) behind
+unfolding run
+model_start at m behind = refl
+
+-- ---- all statements
+
+-- what has been read of a line once it is whole
+abbrev pub end_line : Stated → Line
+end_line (listed w at n ns) = line.List w at (n ∷ ns)
+end_line (mapped at n ns colon s arrow t end) = map_line at (n ∷ ns) s t end
+end_line (sides w at d equals e) = line.Sides w at (Some (expr_tree d)) (reading_of (end_state [] e))
+end_line (paired w at m n) = line.Whole (stated_tree (paired w at m n))
+end_line (projected at n) = line.Whole (stated_tree (projected at n))
+end_line (by_degree at word) = line.Whole (stated_tree (by_degree at word))
+end_line (by_weight at word p ps) = line.Weights at (whole_pairs_of (p ∷ ps))
+end_line (modelled at m ps) = line.Shape at m (whole_pairs_of ps)
+
+pub stated_run : (s : Stated) → Upto (StatedFits s) (run by_token line.Start (stated_tokens s)) (Ok (end_line s))
+stated_run (listed w at n ns) = inl (tt, list_start w at (names_tokens (n ∷ ns)) ∙ list_run w at [] (n ∷ ns))
+stated_run (mapped at n ns colon s arrow t end) = inl (tt, map_run at n ns colon s arrow t end)
+stated_run (sides w at d equals e) = sides_run w at d equals e
+stated_run (paired w at m n) = inl (tt, pair_run w at m n)
+stated_run (projected at n) = inl (tt, projection_run at n)
+stated_run (by_degree at word) = inl (tt, degree_run at word)
+stated_run (by_weight at word p ps) = inl (tt, weight_start at word (pairs_tokens (p ∷ ps)) ∙ pairs_run (line.Weights at) (weight_one at) [] (p ∷ ps))
+stated_run (modelled at m ps) = inl (tt, model_start at m (pairs_tokens ps) ∙ pairs_run (line.Shape at m) (side_one at m) [] ps)
+
+map_line-end : (at : Spot) (names : List Name) (s t : Name) (end : Ending) → line_end (map_line at names s t end) ≡ Ok (record { at = at; kind = statement.Maps names s t (is_self end) })
+map_line-end at names s t no_word = refl
+map_line-end at names s t (self_word self) = refl
+
+-- and it ends as the statement
+pub stated_end : (s : Stated) → line_end (end_line s) ≡ Ok (stated_tree s)
+stated_end (listed w at n ns) = refl
+stated_end (mapped at n ns colon s arrow t end) = map_line-end at (n ∷ ns) s t end
+stated_end (sides w at d equals e) = ap (λ x. statement_by at (x >>= λ right. Ok (sides_kind w (expr_tree d) right))) (sum_seen e)
+stated_end (paired w at m n) = refl
+stated_end (projected at n) = refl
+stated_end (by_degree at word) = refl
+stated_end (by_weight at word p ps) = refl
+stated_end (modelled at m ps) = refl
+
+-- ---- the end of a line is a step of no line
+
+no_end : (st : State) (f : Focus) (at : Spot) → step (record { levels = st.levels; head = st.head; part = st.part; focus = f }) (sign_token kind.End at) ≡ Err Expected
+unfolding step
+no_end st outside at = refl
+no_end st (square left) at = refl
+no_end st (machine.named left n) at = refl

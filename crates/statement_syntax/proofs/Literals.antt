@@ -1,0 +1,79 @@
+-- A written literal is read as its value.
+use Rattle.std.proofs.Common.{◌≡◌, ℕ, zero, suc, ◌+◌, ◌-◌, ◌*◌, ◌/◌, ◌%◌, ◌<◌, ◌≤◌, ◌^◌, ◌==◌, ◌&&◌, Bool, true, false, cond, leb, List, [], ◌∷◌, ◌++◌, length, Result, Ok, Err, refl, sym, ap, ap₂, subst, ◌∙◌, arith}
+use Rattle.std.specs.Prelude.{nat_le, nat_lt, pos, decimal}
+use Rattle.std.proofs.lemmas.Fmt.{decimal_by_steps_wide}
+use Rattle.std.proofs.lemmas.Bool.{le-leb, leb-true, lt-leb, lt-ltb, ne_eqb}
+use Rattle.std.proofs.lemmas.List.{take_at}
+use Rattle.unicode_ident.specs.Ident.{is_xid_start}
+use Rattle.unicode_ident.proofs.IdentLemmas.{is_xid_start-ascii}
+use Rattle.statement_syntax.specs.declared.token.TokenKind.TheVariants as kind
+use Rattle.statement_syntax.specs.declared.scan.Item.TheVariants as item
+use Rattle.statement_syntax.specs.Token.{item_at, is_digit, value_from, literal_of, starts_name}
+use Rattle.statement_syntax.proofs.Spelled.{EachIs}
+use Rattle.statement_syntax.proofs.Rescan.{StopsAt, prefix_is}
+
+value_from-append : (k : ℕ) (ds : List ℕ) (d : ℕ) → value_from k (ds ++ d ∷ []) ≡ value_from k ds * 10 + (d - 48)
+value_from-append k [] d = refl
+value_from-append k (c ∷ ds) d = value_from-append (k * 10 + (c - 48)) ds d
+
+EachIs-append : (p : ℕ → Bool) (ds : List ℕ) (d : ℕ) → EachIs p ds → p d ≡ true → EachIs p (ds ++ d ∷ [])
+EachIs-append p [] d known k = (k, tt)
+EachIs-append p (c ∷ ds) d known k = (known.0, EachIs-append p ds d known.1 k)
+
+digit_is : (n : ℕ) → n < 10 → is_digit (48 + n) ≡ true
+digit_is n known = rw (le-leb 48 (48 + n) (omega arith), le-leb (48 + n) 57 (omega arith)) refl
+
+pub record Digits (n : ℕ) (ds : List ℕ) : Type 0 where
+  pub value : value_from 0 ds ≡ n
+  pub each : EachIs is_digit ds
+  pub first : ℕ
+  pub more : List ℕ
+  pub is : ds ≡ first ∷ more
+
+pub decimal_digits : (n : ℕ) → n < 10 ^ 64 → Digits n (decimal n)
+decimal_digits n below = decimal_by_steps_wide Digits
+    (λ n small. record { value = omega arith; each = (digit_is n small, tt); first = 48 + n; more = []; is = refl })
+    (λ n ds large digits. record {
+      value = value_from-append 0 ds (48 + n % 10) ∙ ap (λ m. m * 10 + (48 + n % 10 - 48)) digits.value ∙ omega arith;
+      each = EachIs-append is_digit ds (48 + n % 10) digits.each (digit_is (n % 10) (omega arith));
+      first = digits.first;
+      more = digits.more ++ (48 + n % 10) ∷ [];
+      is = ap (λ x. x ++ (48 + n % 10) ∷ []) digits.is;
+    })
+    n below
+
+-- a digit begins no name and no blank
+pub record PlainDigit (c : ℕ) : Type 0 where
+  pub line : (c == 10) ≡ false
+  pub blank : (c == 32) ≡ false
+  pub tab : (c == 9) ≡ false
+  pub return : (c == 13) ≡ false
+  pub comment : (c == 35) ≡ false
+  pub name : starts_name c ≡ false
+  pub low : c < 128
+
+both : (a b : Bool) → (a && b) ≡ true → (a ≡ true) × (b ≡ true)
+both true b known = (refl, known)
+both false b known = absurd cc
+
+pub plain_digit : (c : ℕ) → is_digit c ≡ true → PlainDigit c
+plain_digit c known =
+    let parts = both (nat_le 48 c) (nat_le c 57) known in
+    let low : 48 ≤ c = leb-true 48 c parts.0 in
+    let high : c ≤ 57 = leb-true c 57 parts.1 in
+    record {
+      line = ne_eqb c 10 (λ e. omega (arith, e, low));
+      blank = ne_eqb c 32 (λ e. omega (arith, e, low));
+      tab = ne_eqb c 9 (λ e. omega (arith, e, low));
+      return = ne_eqb c 13 (λ e. omega (arith, e, low));
+      comment = ne_eqb c 35 (λ e. omega (arith, e, low));
+      name = rw (is_xid_start-ascii c (omega (arith, high)), lt-leb 65 c (omega (arith, high)), lt-leb 97 c (omega (arith, high)), ne_eqb c 95 (λ e. omega (arith, e, high))) refl;
+      low = omega (arith, high);
+    }
+
+pub literal_back : (n c : ℕ) (cs rest : List ℕ) → n < 2 ^ 127 → value_from 0 (c ∷ cs) ≡ n → is_digit c ≡ true → EachIs is_digit cs → StopsAt is_digit rest
+    → item_at c (cs ++ rest) ≡ Ok (item.Token (kind.Literal (pos n)) (length cs))
+unfolding item_at
+literal_back n c cs rest below value digit each stops =
+    let plain = plain_digit c digit in
+    rw (plain.line, plain.blank, plain.tab, plain.return, plain.comment, plain.name, digit, prefix_is is_digit cs rest each stops, take_at cs rest (length cs) refl, value, lt-ltb n (2 ^ 127) below) refl

@@ -1,0 +1,146 @@
+-- A token's text is read as that token, where what follows it begins no longer one.
+use Rattle.std.proofs.Common.{◌≡◌, ℕ, zero, suc, ◌+◌, ◌-◌, ◌<◌, ◌≤◌, ◌^◌, ◌==◌, ◌||◌, Bool, true, false, cond, List, [], ◌∷◌, ◌++◌, length, drop, take, Result, Ok, Err, refl, sym, ap, ap₂, subst, ◌∙◌, append_assoc, length-append, arith, ◌⊎◌, inl, inr}
+use Rattle.std.specs.Prelude.{nat_le, pos}
+use Rattle.std.specs.List.{prefix_len, take_while}
+use Rattle.std.specs.Str.{encode_utf8_all}
+use Rattle.std.proofs.lemmas.List.{append-nil, drop_at, take_at}
+use Rattle.std.proofs.lemmas.Bool.{eqb-true}
+use Rattle.unicode_ident.specs.Ident.{is_xid_start, is_xid_continue}
+use Rattle.unicode_ident.proofs.IdentLemmas.{is_xid_start-ascii, is_xid_continue-ascii}
+use Rattle.statement_syntax.specs.declared.place.Spot.{Spot}
+use Rattle.statement_syntax.specs.declared.token.Token.{Token}
+use Rattle.statement_syntax.specs.declared.token.TokenKind.{TokenKind}
+use Rattle.statement_syntax.specs.declared.token.TokenKind.TheVariants as kind
+use Rattle.statement_syntax.specs.declared.scan.Item.{Item}
+use Rattle.statement_syntax.specs.declared.scan.Item.TheVariants as item
+use Rattle.statement_syntax.specs.declared.scan.Placed.{Placed}
+use Rattle.statement_syntax.specs.Token.{◌>>=◌, item_at, tokens_from, placed, starts_name, is_digit, begins_with, name_of}
+use Rattle.statement_syntax.proofs.Scanning.{spot, skipped}
+use Rattle.statement_syntax.proofs.Spelled.{EachIs}
+
+-- what follows does not go on
+abbrev pub StopsAt : (ℕ → Bool) → List ℕ → Type 0
+StopsAt p [] = Unit {0}
+StopsAt p (c ∷ cs) = p c ≡ false
+
+pub prefix_is : (p : ℕ → Bool) (cs rest : List ℕ) → EachIs p cs → StopsAt p rest → prefix_len p (cs ++ rest) ≡ length cs
+prefix_is p [] [] e s = refl
+prefix_is p [] (d ∷ ds) e s = ap (λ b. cond b (1 + prefix_len p ds) 0) s
+prefix_is p (c ∷ cs) rest e s = ap (λ b. cond b (1 + prefix_len p (cs ++ rest)) 0) e.0 ∙ ap (λ n. 1 + n) (prefix_is p cs rest e.1 s) ∙ omega arith
+
+true_false : (b : Bool) → b ≡ true → b ≡ false → ⊥
+true_false b given k = let e : true ≡ false = sym given ∙ k in absurd cc
+
+is_not : (c n : ℕ) (b : Bool) → (c == n) ≡ b → starts_name c ≡ true → starts_name n ≡ false → (c == n) ≡ false
+is_not c n false e given k = e
+is_not c n true e given k = absurd (true_false (starts_name c) given (ap starts_name (eqb-true c n e) ∙ k))
+
+-- the characters before names in `item_at` start none
+pub plain_start : (c : ℕ) → starts_name c ≡ true → ((c == 10) ≡ false) × ((c == 32) ≡ false) × ((c == 9) ≡ false) × ((c == 13) ≡ false) × ((c == 35) ≡ false)
+plain_start c given = (
+  is_not c 10 (c == 10) refl given (rw (is_xid_start-ascii 10 (omega arith)) refl),
+  is_not c 32 (c == 32) refl given (rw (is_xid_start-ascii 32 (omega arith)) refl),
+  is_not c 9 (c == 9) refl given (rw (is_xid_start-ascii 9 (omega arith)) refl),
+  is_not c 13 (c == 13) refl given (rw (is_xid_start-ascii 13 (omega arith)) refl),
+  is_not c 35 (c == 35) refl given (rw (is_xid_start-ascii 35 (omega arith)) refl),
+)
+
+pub one_token : (c : ℕ) (cs rest : List ℕ) (k : TokenKind) (line column past : ℕ) → item_at c (cs ++ rest) ≡ Ok (item.Token k (length cs))
+    → tokens_from (c ∷ (cs ++ rest)) 0 (spot line column) past
+    ≡ (tokens_from rest 0 (spot line (column + 1 + length cs)) (column + 1 + length cs) >>= λ ts. Ok (record { at = spot line column; kind = k } ∷ ts))
+unfolding tokens_from
+one_token c cs rest k line column past given =
+    ap (λ i. placed i (spot line column) past (λ skip to end. tokens_from (cs ++ rest) skip to end)) given
+    ∙ ap (λ (r : Result (List Token) Placed). r >>= λ ts. Ok (record { at = spot line column; kind = k } ∷ ts))
+    (skipped (length cs) (cs ++ rest) line (column + 1) (column + 1 + length cs) (omega (arith, length-append cs rest))
+    ∙ ap (λ x. tokens_from x 0 (spot line (column + 1 + length cs)) (column + 1 + length cs)) (drop_at cs rest (length cs) refl))
+
+pub blank_back : (rest : List ℕ) → item_at 32 rest ≡ Ok (item.Gap 0)
+unfolding item_at
+blank_back rest = refl
+
+pub name_back : (c : ℕ) (cs rest : List ℕ) → starts_name c ≡ true → EachIs is_xid_continue cs → StopsAt is_xid_continue rest
+    → item_at c (cs ++ rest) ≡ name_of (encode_utf8_all (c ∷ cs)) (length cs)
+unfolding item_at
+name_back c cs rest s e stop =
+    let plain = plain_start c s in
+    rw (plain.0, plain.1, plain.2, plain.3, plain.4, s, prefix_is is_xid_continue cs rest e stop, take_at cs rest (length cs) refl) refl
+
+-- what may stand behind a token with no blank between
+abbrev pub Ender : ℕ → Type 0
+Ender c = (c ≡ 32) ⊎ (c ≡ 10) ⊎ (c ≡ 41) ⊎ (c ≡ 93) ⊎ (c ≡ 39)
+
+abbrev pub EndsBefore : List ℕ → Type 0
+EndsBefore [] = Unit {0}
+EndsBefore (c ∷ rest) = Ender c
+
+-- what holds at these characters holds at whatever may stand there
+ender_by : (P : ℕ → Type 0) → P 32 → P 10 → P 41 → P 93 → P 39 → (c : ℕ) → Ender c → P c
+ender_by P a b d e f c (inl given) = subst P (sym given) a
+ender_by P a b d e f c (inr (inl given)) = subst P (sym given) b
+ender_by P a b d e f c (inr (inr (inl given))) = subst P (sym given) d
+ender_by P a b d e f c (inr (inr (inr (inl given)))) = subst P (sym given) e
+ender_by P a b d e f c (inr (inr (inr (inr given)))) = subst P (sym given) f
+
+stops_by : (p : ℕ → Bool) → p 32 ≡ false → p 10 ≡ false → p 41 ≡ false → p 93 ≡ false → p 39 ≡ false → (rest : List ℕ) → EndsBefore rest → StopsAt p rest
+stops_by p a b c d e [] given = tt
+stops_by p a b c d e (x ∷ rest) given = ender_by (λ x. p x ≡ false) a b c d e x given
+
+-- no name and no literal goes on with it, and no sign
+pub stops_name : (rest : List ℕ) → EndsBefore rest → StopsAt is_xid_continue rest
+stops_name =
+    stops_by is_xid_continue
+    (rw (is_xid_continue-ascii 32 (omega arith)) refl)
+    (rw (is_xid_continue-ascii 10 (omega arith)) refl)
+    (rw (is_xid_continue-ascii 41 (omega arith)) refl)
+    (rw (is_xid_continue-ascii 93 (omega arith)) refl)
+    (rw (is_xid_continue-ascii 39 (omega arith)) refl)
+
+pub stops_digits : (rest : List ℕ) → EndsBefore rest → StopsAt is_digit rest
+stops_digits = stops_by is_digit refl refl refl refl refl
+
+no_arrow : (rest : List ℕ) → EndsBefore rest → begins_with 62 rest ≡ false
+no_arrow [] given = refl
+no_arrow (c ∷ rest) given = ender_by (λ c. (c == 62) ≡ false) refl refl refl refl refl c given
+
+-- ---- signs
+
+pub colon_back : (rest : List ℕ) → item_at 58 rest ≡ Ok (item.Token kind.Colon 0)
+unfolding item_at
+colon_back rest = rw (is_xid_start-ascii 58 (omega arith)) refl
+
+pub equals_back : (rest : List ℕ) → item_at 61 rest ≡ Ok (item.Token kind.Equals 0)
+unfolding item_at
+equals_back rest = rw (is_xid_start-ascii 61 (omega arith)) refl
+
+pub plus_back : (rest : List ℕ) → item_at 43 rest ≡ Ok (item.Token kind.Plus 0)
+unfolding item_at
+plus_back rest = rw (is_xid_start-ascii 43 (omega arith)) refl
+
+pub open_back : (rest : List ℕ) → item_at 40 rest ≡ Ok (item.Token kind.Open 0)
+unfolding item_at
+open_back rest = rw (is_xid_start-ascii 40 (omega arith)) refl
+
+pub close_back : (rest : List ℕ) → item_at 41 rest ≡ Ok (item.Token kind.Close 0)
+unfolding item_at
+close_back rest = rw (is_xid_start-ascii 41 (omega arith)) refl
+
+pub open_square_back : (rest : List ℕ) → item_at 91 rest ≡ Ok (item.Token kind.OpenSquare 0)
+unfolding item_at
+open_square_back rest = rw (is_xid_start-ascii 91 (omega arith)) refl
+
+pub close_square_back : (rest : List ℕ) → item_at 93 rest ≡ Ok (item.Token kind.CloseSquare 0)
+unfolding item_at
+close_square_back rest = rw (is_xid_start-ascii 93 (omega arith)) refl
+
+pub quote_back : (rest : List ℕ) → item_at 39 rest ≡ Ok (item.Token kind.Quote 0)
+unfolding item_at
+quote_back rest = rw (is_xid_start-ascii 39 (omega arith)) refl
+
+pub arrow_back : (rest : List ℕ) → item_at 45 (62 ∷ rest) ≡ Ok (item.Token kind.Arrow 1)
+unfolding item_at
+arrow_back rest = rw (is_xid_start-ascii 45 (omega arith)) refl
+
+pub minus_back : (rest : List ℕ) → EndsBefore rest → item_at 45 rest ≡ Ok (item.Token kind.Minus 0)
+unfolding item_at
+minus_back rest given = rw (is_xid_start-ascii 45 (omega arith), no_arrow rest given) refl

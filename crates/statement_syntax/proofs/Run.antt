@@ -1,0 +1,99 @@
+-- Items read one after another, whatever a step does.
+use Rattle.std.proofs.Common.{◌≡◌, Bool, true, false, List, [], ◌∷◌, ◌++◌, ◌⊎◌, inl, inr, Result, Ok, Err, refl, sym, ap, ◌∙◌}
+use Rattle.statement_syntax.specs.declared.token.Token.{Token}
+use Rattle.statement_syntax.specs.declared.expression.Misfit.{Misfit}
+use Rattle.statement_syntax.specs.declared.expression.Misfit.TheVariants.{TooDeep}
+use Rattle.statement_syntax.specs.Steps.{◌>>=◌, run}
+
+pub bind_ok : {A B : Type 0} (r : Result A Misfit) (f : A → Result B Misfit) (y : B) → (r >>= f) ≡ Ok y → (x : A) × (r ≡ Ok x) × (f x ≡ Ok y)
+bind_ok (Ok x) f y e = (x, refl, e)
+bind_ok (Err d) f y e = absurd cc
+
+pub ok_is : {A : Type 0} (x y : A) → (let r : Result A Misfit = Ok x in r) ≡ Ok y → x ≡ y
+ok_is x y p = cc
+
+pub ok_differs : {A : Type 0} (x : A) (f : Misfit) → (let r : Result A Misfit = Ok x in r) ≡ Err f → ⊥
+ok_differs x f p = absurd cc
+
+-- ---- runs
+
+module _ {S : Type 0} (step : S → Token → Result S Misfit) where
+  pub one_step : (st next : S) (t : Token) (rest : List Token) → step st t ≡ Ok next → run step st (t ∷ rest) ≡ run step next rest
+  unfolding run
+  one_step st next t rest goes = ap (λ (r : Result S Misfit). r >>= λ s. run step s rest) goes
+
+  pub failing : (st : S) (t : Token) (more : List Token) (f : Misfit) → step st t ≡ Err f → run step st (t ∷ more) ≡ Err f
+  unfolding run
+  failing st t more f fails = ap (λ (r : Result S Misfit). r >>= λ s. run step s more) fails
+
+  pub run_front : (st : S) (front : List Token) (next : S) (rest : List Token) → run step st front ≡ Ok next → run step st (front ++ rest) ≡ run step next rest
+  unfolding run
+  run_front st [] next rest ran = ap (λ s. run step s rest) (ok_is st next ran)
+  run_front st (t ∷ front) next rest ran =
+      let one = bind_ok (step st t) (λ s. run step s front) next ran in
+      one_step st one.0 t (front ++ rest) one.1 ∙ run_front one.0 front next rest one.2
+
+  fails_by : (front rest : List Token) (f : Misfit) (r : Result S Misfit) → ((s : S) → run step s front ≡ Err f → run step s (front ++ rest) ≡ Err f)
+      → (r >>= λ s. run step s front) ≡ Err f → (r >>= λ s. run step s (front ++ rest)) ≡ Err f
+  fails_by front rest f (Ok s) go given = go s given
+  fails_by front rest f (Err e) go given = given
+
+  pub run_fails : (st : S) (front : List Token) (f : Misfit) (rest : List Token) → run step st front ≡ Err f → run step st (front ++ rest) ≡ Err f
+  unfolding run
+  run_fails st [] f rest ran = absurd (ok_differs st f ran)
+  run_fails st (t ∷ front) f rest ran = fails_by front rest f (step st t) (λ s given. run_fails s front f rest given) ran
+
+-- ---- runs that may stop at a bracket that is too deep
+
+-- it is within the limit and goes on as this, or it is not and stops at a bracket that is too deep
+abbrev pub Upto : {S : Type 0} → Type 0 → Result S Misfit → Result S Misfit → Type 0
+Upto F r s = (F × (r ≡ s)) ⊎ ((F → ⊥) × (r ≡ Err TooDeep))
+
+pub then_on : {S : Type 0} {F G : Type 0} {r s u : Result S Misfit} → Upto F r s → Upto G s u → Upto (F × G) r u
+then_on (inl (f, p)) (inl (g, q)) = inl ((f, g), p ∙ q)
+then_on (inl (f, p)) (inr (g, q)) = inr (λ x. g x.1, p ∙ q)
+then_on (inr (f, p)) k = inr (λ x. f x.0, p)
+
+pub before_it : {S : Type 0} {F : Type 0} {r s u : Result S Misfit} → r ≡ s → Upto F s u → Upto F r u
+before_it p (inl (f, q)) = inl (f, p ∙ q)
+before_it p (inr (f, q)) = inr (f, p ∙ q)
+
+pub after_it : {S : Type 0} {F : Type 0} {r s u : Result S Misfit} → Upto F r s → s ≡ u → Upto F r u
+after_it (inl (f, p)) q = inl (f, p ∙ q)
+after_it (inr (f, p)) q = inr (f, p)
+
+pub run_upto : {S : Type 0} {F : Type 0} (step : S → Token → Result S Misfit) (st : S) (front : List Token) (next : S) (rest : List Token)
+    → Upto F (run step st front) (Ok next) → Upto F (run step st (front ++ rest)) (run step next rest)
+run_upto step st front next rest (inl (f, p)) = inl (f, run_front step st front next rest p)
+run_upto step st front next rest (inr (f, p)) = inr (f, run_fails step st front TooDeep rest p)
+
+-- what a run comes to is what was meant, if it comes to anything
+pub upto_ok : {S : Type 0} {F : Type 0} (r : Result S Misfit) (meant next : S) → Upto F r (Ok meant) → r ≡ Ok next → F × (meant ≡ next)
+upto_ok r meant next (inl (f, p)) given = (f, ok_is _ _ (sym p ∙ given))
+upto_ok r meant next (inr (f, p)) given = absurd (ok_differs next TooDeep (sym given ∙ p))
+
+-- ---- one run inside another
+
+module _ {S T : Type 0} (inner : S → Token → Result S Misfit) (outer : T → Token → Result T Misfit) (wrap : S → T)
+    (each : (s next : S) (t : Token) → inner s t ≡ Ok next → outer (wrap s) t ≡ Ok (wrap next))
+    (deep : (s : S) (t : Token) → inner s t ≡ Err TooDeep → outer (wrap s) t ≡ Err TooDeep) where
+  pub inside : (ts : List Token) (s end : S) → run inner s ts ≡ Ok end → run outer (wrap s) ts ≡ Ok (wrap end)
+  unfolding run
+  inside [] s end ran = ap (λ x. Ok (wrap x)) (ok_is s end ran)
+  inside (t ∷ ts) s end ran =
+      let one = bind_ok (inner s t) (λ x. run inner x ts) end ran in
+      one_step outer (wrap s) (wrap one.0) t ts (each s one.0 t one.1) ∙ inside ts one.0 end one.2
+
+  deep_by : (t : Token) (ts : List Token) (s : S) (r : Result S Misfit) → inner s t ≡ r → ((x : S) → run inner x ts ≡ Err TooDeep → run outer (wrap x) ts ≡ Err TooDeep)
+      → (r >>= λ x. run inner x ts) ≡ Err TooDeep → run outer (wrap s) (t ∷ ts) ≡ Err TooDeep
+  deep_by t ts s (Ok x) is go given = one_step outer (wrap s) (wrap x) t ts (each s x t is) ∙ go x given
+  deep_by t ts s (Err f) is go given = failing outer (wrap s) t ts TooDeep (deep s t (is ∙ given))
+
+  pub inside_deep : (ts : List Token) (s : S) → run inner s ts ≡ Err TooDeep → run outer (wrap s) ts ≡ Err TooDeep
+  unfolding run
+  inside_deep [] s ran = absurd (ok_differs s TooDeep ran)
+  inside_deep (t ∷ ts) s ran = deep_by t ts s (inner s t) refl (λ x given. inside_deep ts x given) ran
+
+  pub inside_upto : {F : Type 0} (ts : List Token) (s end : S) → Upto F (run inner s ts) (Ok end) → Upto F (run outer (wrap s) ts) (Ok (wrap end))
+  inside_upto ts s end (inl (f, p)) = inl (f, inside ts s end p)
+  inside_upto ts s end (inr (f, p)) = inr (f, inside_deep ts s p)

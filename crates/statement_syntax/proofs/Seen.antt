@@ -1,0 +1,45 @@
+-- What the program keeps of a state, which is all but the places of signs.
+use Rattle.std.specs.Prelude.{Bool, true, false, List, [], ◌∷◌, Option, Some, None, Result, Ok, Err}
+use Rattle.statement_syntax.specs.declared.tree.Sum.{Sum}
+use Rattle.statement_syntax.specs.declared.expression.Misfit.{Misfit}
+use Rattle.statement_syntax.specs.declared.expression.Part.{Part}
+use Rattle.statement_syntax.specs.declared.expression.Part.TheVariants as part
+use Rattle.statement_syntax.specs.declared.expression.Head.{Head}
+use Rattle.statement_syntax.specs.declared.expression.Level.{Level}
+use Rattle.statement_syntax.specs.declared.expression.Reading.{Reading}
+use Rattle.statement_syntax.specs.declared.expression.Focus.{Focus}
+use Rattle.statement_syntax.specs.declared.expression.Focus.TheVariants as focus
+use Rattle.statement_syntax.specs.Grammar.{no_sign, lead_plus, lead_minus, Expr}
+use Rattle.statement_syntax.specs.Tree.{expr_at, expr_terms, expr_tree, is_minus, literal_or, factors_at, front_trees, last_tree}
+use Rattle.statement_syntax.proofs.Machine as machine
+
+abbrev pub head_of : machine.Head → Head
+head_of (machine.led no_sign) = record { at = None; terms = []; negative = false }
+head_of (machine.led (lead_plus at)) = record { at = Some at; terms = []; negative = false }
+head_of (machine.led (lead_minus at)) = record { at = Some at; terms = []; negative = true }
+head_of (machine.after e s) = record { at = Some (expr_at e); terms = expr_terms e; negative = is_minus s }
+
+abbrev pub part_of : machine.Part → Part
+part_of machine.nothing = part.Nothing
+part_of (machine.scaled n) = part.Scaled n
+part_of (machine.product l fs) = part.Product (literal_or l (factors_at fs)) l (front_trees fs) (last_tree fs)
+
+abbrev pub focus_of : machine.Focus → Focus
+focus_of machine.outside = focus.Outside
+focus_of (machine.square left) = focus.Square left
+focus_of (machine.named left n) = focus.Named left n
+
+abbrev pub levels_of : List machine.Level → List Level
+levels_of [] = []
+levels_of (level ∷ levels) = record { head = head_of level.head; part = part_of level.part; at = level.at } ∷ levels_of levels
+
+abbrev pub reading_of : machine.State → Reading
+reading_of st = record { levels = levels_of st.levels; head = head_of st.head; part = part_of st.part; focus = focus_of st.focus }
+
+abbrev pub seen : Result machine.State Misfit → Result Reading Misfit
+seen (Ok st) = Ok (reading_of st)
+seen (Err e) = Err e
+
+abbrev pub tree_or : Option Expr → Misfit → Result Sum Misfit
+tree_or None e = Err e
+tree_or (Some x) e = Ok (expr_tree x)

@@ -1,0 +1,216 @@
+-- What is read as a name or a literal is spelled as one.
+use Rattle.std.proofs.Common.{◌≡◌, ℕ, zero, suc, ◌+◌, ◌-◌, ◌≤◌, ◌<◌, ◌^◌, ◌==◌, ◌&&◌, ◌||◌, Bool, true, false, cond, leb, ltb, List, [], ◌∷◌, ◌++◌, length, take, Result, Ok, Err, refl, sym, ap, subst, ◌∙◌, arith}
+use Rattle.std.specs.Prelude.{ℤ, pos, nat_le, nat_lt}
+use Rattle.std.specs.List.{prefix_len, take_while}
+use Rattle.std.specs.Str.{encode_utf8_all}
+use Rattle.std.proofs.Math.Utf8.{scalars}
+use Rattle.std.proofs.lemmas.Bool.{leb-true, ltb-true}
+use Rattle.unicode_ident.specs.Ident.{is_xid_continue}
+use Rattle.statement_syntax.specs.declared.place.Spot.{Spot}
+use Rattle.statement_syntax.specs.declared.token.Token.{Token}
+use Rattle.statement_syntax.specs.declared.token.TokenKind.{TokenKind}
+use Rattle.statement_syntax.specs.declared.token.TokenKind.TheVariants as kind
+use Rattle.statement_syntax.specs.declared.scan.Item.{Item}
+use Rattle.statement_syntax.specs.declared.scan.Item.TheVariants as item
+use Rattle.statement_syntax.specs.declared.scan.ScanFault.{ScanFault}
+use Rattle.statement_syntax.specs.declared.scan.ScanFault.TheVariants.{BadToken, LiteralTooLarge}
+use Rattle.statement_syntax.specs.declared.scan.Placed.{Placed}
+use Rattle.statement_syntax.specs.Token.{◌>>=◌, item_at, sign_at, starts_name, is_digit, is_inside_line, begins_with, value_from, name_of, literal_of, tokens_from, placed, end_of, right_of, below}
+use Rattle.statement_syntax.proofs.LastToken.{scan_ok, tokens_is}
+use Rattle.statement_syntax.proofs.Moved.{kinds}
+
+-- each character passes
+abbrev pub EachIs : (ℕ → Bool) → List ℕ → Type 0
+EachIs p [] = Unit {0}
+EachIs p (c ∷ cs) = (p c ≡ true) × EachIs p cs
+
+-- a name is spelled by these characters
+pub record SpellsName (text : List ℕ) : Type 0 where
+  pub first : ℕ
+  pub more : List ℕ
+  pub is : text ≡ encode_utf8_all (first ∷ more)
+  pub starts : starts_name first ≡ true
+  pub goes_on : EachIs is_xid_continue more
+  pub scalar : scalars (first ∷ more) ≡ true
+  pub short : length text ≤ 32
+
+pub record SpellsNumber (value : ℤ) : Type 0 where
+  pub size : ℕ
+  pub is : value ≡ pos size
+  pub below : size < 2 ^ 127
+
+-- it can be a token of a statement
+abbrev pub IsToken : TokenKind → Type 0
+IsToken (kind.Name text) = SpellsName text
+IsToken (kind.Literal value) = SpellsNumber value
+IsToken kind.End = ⊥
+IsToken kind.Colon = Unit {0}
+IsToken kind.Arrow = Unit {0}
+IsToken kind.Equals = Unit {0}
+IsToken kind.Plus = Unit {0}
+IsToken kind.Minus = Unit {0}
+IsToken kind.Open = Unit {0}
+IsToken kind.Close = Unit {0}
+IsToken kind.OpenSquare = Unit {0}
+IsToken kind.CloseSquare = Unit {0}
+IsToken kind.Quote = Unit {0}
+
+-- it can be a token of a file
+abbrev pub IsFileToken : TokenKind → Type 0
+IsFileToken (kind.Name text) = SpellsName text
+IsFileToken (kind.Literal value) = SpellsNumber value
+IsFileToken kind.End = Unit {0}
+IsFileToken kind.Colon = Unit {0}
+IsFileToken kind.Arrow = Unit {0}
+IsFileToken kind.Equals = Unit {0}
+IsFileToken kind.Plus = Unit {0}
+IsFileToken kind.Minus = Unit {0}
+IsFileToken kind.Open = Unit {0}
+IsFileToken kind.Close = Unit {0}
+IsFileToken kind.OpenSquare = Unit {0}
+IsFileToken kind.CloseSquare = Unit {0}
+IsFileToken kind.Quote = Unit {0}
+
+abbrev pub AllKinds : (TokenKind → Type 0) → List TokenKind → Type 0
+AllKinds P [] = Unit {0}
+AllKinds P (k ∷ ks) = P k × AllKinds P ks
+
+pub AllKinds-append : (P : TokenKind → Type 0) (xs ys : List TokenKind) → AllKinds P xs → AllKinds P ys → AllKinds P (xs ++ ys)
+AllKinds-append P [] ys f g = g
+AllKinds-append P (x ∷ xs) ys f g = (f.0, AllKinds-append P xs ys f.1 g)
+
+pub AllKinds-split : (P : TokenKind → Type 0) (xs ys : List TokenKind) → AllKinds P (xs ++ ys) → AllKinds P xs × AllKinds P ys
+AllKinds-split P [] ys given = (tt, given)
+AllKinds-split P (x ∷ xs) ys given = let rest = AllKinds-split P xs ys given.1 in ((given.0, rest.0), rest.1)
+
+-- ---- characters
+
+kept_by : (p : ℕ → Bool) (c : ℕ) (cs : List ℕ) (b : Bool) → p c ≡ b → EachIs p (take_while p cs) → EachIs p (take (cond b (1 + prefix_len p cs) 0) (c ∷ cs))
+kept_by p c cs true is rest =
+    let all : EachIs p (take (suc (prefix_len p cs)) (c ∷ cs)) = (is, rest) in
+    let longer : suc (prefix_len p cs) ≡ 1 + prefix_len p cs = omega arith in
+    subst (λ n. EachIs p (take n (c ∷ cs))) longer all
+kept_by p c cs false is rest = tt
+
+EachIs-take_while : (p : ℕ → Bool) (cs : List ℕ) → EachIs p (take_while p cs)
+EachIs-take_while p [] = tt
+EachIs-take_while p (c ∷ cs) = kept_by p c cs (p c) refl (EachIs-take_while p cs)
+
+pub and_first : (a b : Bool) → (a && b) ≡ true → a ≡ true
+and_first true b given = refl
+and_first false b given = absurd cc
+
+pub and_second : (a b : Bool) → (a && b) ≡ true → b ≡ true
+and_second true b given = given
+and_second false b given = absurd cc
+
+scalars-take : (n : ℕ) (cs : List ℕ) → scalars cs ≡ true → scalars (take n cs) ≡ true
+scalars-take zero [] given = refl
+scalars-take zero (c ∷ cs) given = refl
+scalars-take (suc n) [] given = refl
+scalars-take (suc n) (c ∷ cs) given = ap (λ b. b && scalars (take n cs)) (and_first _ _ given) ∙ scalars-take n cs (and_second _ _ given)
+
+-- ---- one token
+
+-- what is read here is such a token
+abbrev Makes : Result Item ScanFault → Type 0
+Makes r = (k : TokenKind) (more : ℕ) → r ≡ Ok (item.Token k more) → IsToken k
+
+by_test : (b : Bool) (x y : Result Item ScanFault) → (b ≡ true → Makes x) → Makes y → Makes (cond b x y)
+by_test true x y here there = here refl
+by_test false x y here there = there
+
+no_token : Makes (Ok item.NewLine)
+no_token k more given = absurd cc
+
+no_gap : (n : ℕ) → Makes (Ok (item.Gap n))
+no_gap n k more given = absurd cc
+
+no_fault : (f : ScanFault) → Makes (Err f)
+no_fault f k more given = absurd cc
+
+this_token : (k : TokenKind) (n : ℕ) → IsToken k → Makes (Ok (item.Token k n))
+this_token k n t l more given = let same : k ≡ l = cc in subst IsToken same t
+
+name_makes : (c : ℕ) (rest : List ℕ) → scalars (c ∷ rest) ≡ true → starts_name c ≡ true → Makes (name_of (encode_utf8_all (c ∷ take_while is_xid_continue rest)) (prefix_len is_xid_continue rest))
+name_makes c rest scalar starts =
+    by_test (nat_le (length (encode_utf8_all (c ∷ take_while is_xid_continue rest))) 32) _ _
+    (λ short. this_token _ _ (record {
+      first = c;
+      more = take_while is_xid_continue rest;
+      is = refl;
+      starts = starts;
+      goes_on = EachIs-take_while is_xid_continue rest;
+      scalar = scalars-take (suc (prefix_len is_xid_continue rest)) (c ∷ rest) scalar;
+      short = leb-true _ _ short;
+    }))
+    (no_fault BadToken)
+
+literal_makes : (value more : ℕ) → Makes (literal_of value more)
+literal_makes value more =
+    by_test (nat_lt value (2 ^ 127)) _ _ (λ below. this_token _ _ (record { size = value; is = refl; below = ltb-true _ _ below })) (no_fault LiteralTooLarge)
+
+sign_makes : (c : ℕ) → Makes (sign_at c)
+sign_makes c =
+    by_test (c == 58) _ _ (λ e. this_token _ _ tt) (
+    by_test (c == 61) _ _ (λ e. this_token _ _ tt) (
+    by_test (c == 43) _ _ (λ e. this_token _ _ tt) (
+    by_test (c == 40) _ _ (λ e. this_token _ _ tt) (
+    by_test (c == 41) _ _ (λ e. this_token _ _ tt) (
+    by_test (c == 91) _ _ (λ e. this_token _ _ tt) (
+    by_test (c == 93) _ _ (λ e. this_token _ _ tt) (
+    by_test (c == 39) _ _ (λ e. this_token _ _ tt) (no_fault BadToken))))))))
+
+item_makes : (c : ℕ) (rest : List ℕ) → scalars (c ∷ rest) ≡ true → Makes (item_at c rest)
+unfolding item_at
+item_makes c rest scalar =
+    by_test (c == 10) _ _ (λ e. no_token) (
+    by_test ((c == 32) || (c == 9) || ((c == 13) && begins_with 10 rest)) _ _ (λ e. no_gap 0) (
+    by_test (c == 35) _ _ (λ e. no_gap _) (
+    by_test (starts_name c) _ _ (λ starts. name_makes c rest scalar starts) (
+    by_test (is_digit c) _ _ (λ e. literal_makes _ _) (
+    by_test (c == 45) _ _ (λ e. by_test (begins_with 62 rest) _ _ (λ e. this_token kind.Arrow 1 tt) (this_token kind.Minus 0 tt)) (sign_makes c))))))
+
+-- ---- all tokens
+
+file_token : (k : TokenKind) → IsToken k → IsFileToken k
+file_token (kind.Name x) t = t
+file_token (kind.Literal n) t = t
+file_token kind.Colon t = tt
+file_token kind.Arrow t = tt
+file_token kind.Equals t = tt
+file_token kind.Plus t = tt
+file_token kind.Minus t = tt
+file_token kind.Open t = tt
+file_token kind.Close t = tt
+file_token kind.OpenSquare t = tt
+file_token kind.CloseSquare t = tt
+file_token kind.Quote t = tt
+file_token kind.End t = tt
+
+abbrev AreFileTokens : List Token → Type 0
+AreFileTokens ts = AllKinds IsFileToken (kinds ts)
+
+end_are : (line past : ℕ) (us : List Token) → AreFileTokens us → AreFileTokens (end_of line past ++ us)
+end_are line zero us given = given
+end_are line (suc n) us given = (tt, given)
+
+placed_are : (r : Result Item ScanFault) (at : Spot) (past : ℕ) (next : ℕ → Spot → ℕ → Result (List Token) Placed) → Makes r → ((skip : ℕ) (to : Spot) (end : ℕ) (us : List Token) → next skip to end ≡ Ok us → AreFileTokens us)
+    → (ts : List Token) → placed r at past next ≡ Ok ts → AreFileTokens ts
+placed_are (Err e) at past next makes go ts given = absurd cc
+placed_are (Ok item.NewLine) at past next makes go ts given =
+    let one = scan_ok (next 0 (below at) 0) (λ ts. Ok (end_of at.line past ++ ts)) ts given in
+    subst AreFileTokens (tokens_is _ ts one.2) (end_are at.line past one.0 (go 0 (below at) 0 one.0 one.1))
+placed_are (Ok (item.Gap more)) at past next makes go ts given = go more (right_of at 1) past ts given
+placed_are (Ok (item.Token k more)) at past next makes go ts given =
+    let one = scan_ok (next more (right_of at 1) (at.column + 1 + more)) (λ ts. Ok (record { at = at; kind = k } ∷ ts)) ts given in
+    subst AreFileTokens (tokens_is _ ts one.2) (file_token k (makes k more refl), go more (right_of at 1) (at.column + 1 + more) one.0 one.1)
+
+-- the tokens of a text are spelled so
+pub tokens_are : (cs : List ℕ) (skip : ℕ) (at : Spot) (past : ℕ) (ts : List Token) → scalars cs ≡ true → tokens_from cs skip at past ≡ Ok ts → AreFileTokens ts
+unfolding tokens_from
+tokens_are [] skip at zero ts scalar given = subst AreFileTokens (tokens_is _ ts given) tt
+tokens_are [] skip at (suc past) ts scalar given = subst AreFileTokens (tokens_is _ ts given) (tt, tt)
+tokens_are (c ∷ cs) (suc skip) at past ts scalar given = tokens_are cs skip (right_of at 1) past ts (and_second _ _ scalar) given
+tokens_are (c ∷ cs) zero at past ts scalar given =
+    placed_are (item_at c cs) at past (λ skip to end. tokens_from cs skip to end) (item_makes c cs scalar) (λ skip to end us e. tokens_are cs skip to end us (and_second _ _ scalar) e) ts given

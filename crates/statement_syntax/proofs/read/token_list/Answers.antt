@@ -1,0 +1,10 @@
+use Rattle.std.proofs.Common.{◌≡◌, length, arith, rules, ap}
+use Rattle.std.specs.Str.{IsUtf8, chars}
+use Rattle.statement_syntax.proofs.Values.{chars_short}
+use Rattle.statement_syntax.proofs.read.token_list.Goals as goal
+
+pub tokens-requires : goal.tokens-requires
+tokens-requires c =
+    let utf8 : IsUtf8 c.args.bytes.now = search rules in
+    let is : c.deref.result.now ≡ chars c.args.bytes.now = search rules in
+    omega (arith, ap length is, chars_short c.args.bytes.now utf8, c.requires)

@@ -1,0 +1,10 @@
+use Rattle.std.proofs.Common.{arith}
+use Rattle.std.proofs.lemmas.Grind.{common_steps}
+use Rattle.statement_syntax.proofs.TreeKinds.{sum-flat, term-flat}
+use Rattle.statement_syntax.proofs.write.+kinds.Goals as goal
+
+pub put_sum-returns : goal.put_sum-returns
+put_sum-returns t c = grind (arith, common_steps, sum-flat)
+
+pub put_term-returns : goal.put_term-returns
+put_term-returns t c = grind (arith, common_steps, term-flat)

@@ -1,0 +1,11 @@
+use Rattle.std.proofs.Common.{◌≡◌, ◌++◌, true, drop, take}
+use Rattle.std.specs.List.{flat_map}
+use Rattle.statement_syntax.specs.Written.{factor_kinds, literal_kinds, sign_kinds}
+use Rattle.statement_syntax.proofs.TreeKinds.{terms_of}
+use Rattle.statement_syntax.proofs.write.+kinds.Given as goal
+
+abbrev pub invariant-put_sum-loop-term : goal.invariant-put_sum-loop-term
+invariant-put_sum-loop-term l = l.out ++ terms_of l.leading (drop l.term-index l.term-items) ≡ l.initial.out ++ terms_of true l.term-items
+
+abbrev pub invariant-put_term-loop-factor : goal.invariant-put_term-loop-factor
+invariant-put_term-loop-factor l = l.out ≡ l.initial.out ++ flat_map factor_kinds (take l.factor-index l.factor-items)

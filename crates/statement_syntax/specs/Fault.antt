@@ -1,0 +1,97 @@
+-- Which bytes are which statements, and what is the first thing that is wrong with all others.
+use Rattle.std.specs.Prelude.{◌≡◌, ℕ, List, [], ◌∷◌, ◌++◌, Result, Ok, Err}
+use Rattle.std.specs.Str.{IsUtf8, chars}
+use Rattle.std.specs.Str.Lossy.{utf8_valid_len}
+use Rattle.statement_syntax.specs.declared.place.Spot.{Spot}
+use Rattle.statement_syntax.specs.declared.token.Token.{Token}
+use Rattle.statement_syntax.specs.declared.tree.Statement.{Statement}
+use Rattle.statement_syntax.specs.declared.scan.ScanFault.{ScanFault}
+use Rattle.statement_syntax.specs.declared.scan.ScanFault.TheVariants as scan
+use Rattle.statement_syntax.specs.declared.expression.Misfit.{Misfit}
+use Rattle.statement_syntax.specs.declared.expression.Misfit.TheVariants as misfit
+use Rattle.statement_syntax.specs.declared.fault.Fault.{Fault}
+use Rattle.statement_syntax.specs.declared.fault.Fault.TheVariants as fault
+use Rattle.statement_syntax.specs.declared.fault.SyntaxFault.{SyntaxFault}
+use Rattle.statement_syntax.specs.declared.fault.SyntaxFault.TheVariants as refusal
+use Rattle.statement_syntax.specs.Token.{tokens_of}
+use Rattle.statement_syntax.specs.Grammar.{StatedLine, file_tokens, FileFits}
+use Rattle.statement_syntax.specs.Tree.{file_tree}
+
+-- ---- the language
+
+-- the bytes are these statements, a line each, with at most 64 round brackets in one another
+pub record IsStatements (bytes : List ℕ) (lines : List StatedLine) : Type 0 where
+  pub utf8 : IsUtf8 bytes
+  pub tokens : tokens_of (chars bytes) ≡ Ok (file_tokens lines)
+  pub fits : FileFits lines
+
+-- the bytes are statements that have this tree
+abbrev pub IsTreeOf : List ℕ → List Statement → Type 0
+IsTreeOf bytes statements = (lines : List StatedLine) × IsStatements bytes lines × (statements ≡ file_tree lines)
+
+-- they are the tree of some text
+abbrev pub HasText : List Statement → Type 0
+HasText statements = (bytes : List ℕ) × IsTreeOf bytes statements
+
+-- ---- the faults
+
+-- the number that is printed for a fault
+abbrev pub code_of : Fault → ℕ
+code_of fault.NotUtf8 = 1
+code_of fault.BadToken = 2
+code_of fault.Expected = 3
+code_of fault.LiteralTooLarge = 4
+code_of fault.TooDeep = 5
+
+-- some statements begin so
+abbrev pub GoesOn : List Token → Type 0
+GoesOn front = (more : List Token) × (lines : List StatedLine) × (front ++ more ≡ file_tokens lines)
+
+-- some statements with at most 64 round brackets in one another begin so
+abbrev pub GoesOnWithin : List Token → Type 0
+GoesOnWithin front = (more : List Token) × (lines : List StatedLine) × FileFits lines × (front ++ more ≡ file_tokens lines)
+
+-- all tokens are good, and this is the first with which no statements within the limit go on
+pub record IsMisfit (bytes : List ℕ) (at : Spot) : Type 0 where
+  pub utf8 : IsUtf8 bytes
+  pub front : List Token
+  pub token : Token
+  pub rest : List Token
+  pub tokens : tokens_of (chars bytes) ≡ Ok (front ++ token ∷ rest)
+  pub place : token.at ≡ at
+  pub before : GoesOnWithin front
+  pub there : GoesOnWithin (front ++ token ∷ []) → ⊥
+
+-- the fault is the first of the bytes, and it stands there
+abbrev pub IsFirstFault : List ℕ → Fault → Spot → Type 0
+-- the place is the number of valid bytes
+IsFirstFault bytes fault.NotUtf8 at = (IsUtf8 bytes → ⊥) × (at ≡ record { line = 0; column = utf8_valid_len bytes })
+IsFirstFault bytes fault.BadToken at = IsUtf8 bytes × (tokens_of (chars bytes) ≡ Err (record { fault = scan.BadToken; at = at }))
+IsFirstFault bytes fault.LiteralTooLarge at = IsUtf8 bytes × (tokens_of (chars bytes) ≡ Err (record { fault = scan.LiteralTooLarge; at = at }))
+-- no statements go on with the token, whatever the limit
+IsFirstFault bytes fault.Expected at = (m : IsMisfit bytes at) × (GoesOn (m.front ++ m.token ∷ []) → ⊥)
+-- some go on with it, but none within the limit
+IsFirstFault bytes fault.TooDeep at = (m : IsMisfit bytes at) × GoesOn (m.front ++ m.token ∷ [])
+
+-- the refusal tells the first fault of the bytes
+abbrev pub TellsFirstFault : List ℕ → SyntaxFault → Type 0
+TellsFirstFault bytes (refusal.Fault code line column) = (f : Fault) × (code ≡ code_of f) × IsFirstFault bytes f (record { line = line; column = column })
+-- want of memory is the one free answer
+TellsFirstFault bytes (refusal.Memory e) = Unit {0}
+
+abbrev pub IsWantOfMemory : SyntaxFault → Type 0
+IsWantOfMemory (refusal.Fault code line column) = ⊥
+IsWantOfMemory (refusal.Memory e) = Unit {0}
+
+-- ---- how the code speaks of them
+
+abbrev pub fault_at : Fault → Spot → SyntaxFault
+fault_at f at = refusal.Fault (code_of f) at.line at.column
+
+abbrev pub scan_fault : ScanFault → Fault
+scan_fault scan.BadToken = fault.BadToken
+scan_fault scan.LiteralTooLarge = fault.LiteralTooLarge
+
+abbrev pub misfit_fault : Misfit → Fault
+misfit_fault misfit.Expected = fault.Expected
+misfit_fault misfit.TooDeep = fault.TooDeep

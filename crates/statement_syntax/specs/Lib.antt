@@ -1,0 +1,9 @@
+pub mod Token
+pub mod Grammar
+pub mod Steps
+pub mod Tree
+pub mod Lines
+pub mod Fault
+pub mod Stages
+pub mod Written
+pub mod Places

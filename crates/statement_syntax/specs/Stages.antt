@@ -1,0 +1,52 @@
+-- What the stages of reading come to, one after another.
+use Rattle.std.specs.Prelude.{◌≡◌, ℕ, List, [], ◌∷◌, ◌++◌, Result, Ok, Err}
+use Rattle.std.specs.Global.{Vec}
+use Rattle.std.specs.Str.{IsUtf8, chars}
+use Rattle.statement_syntax.specs.declared.token.Token.{Token}
+use Rattle.statement_syntax.specs.declared.tree.Statement.{Statement}
+use Rattle.statement_syntax.specs.declared.place.Spot.{Spot}
+use Rattle.statement_syntax.specs.declared.expression.ReadError.{ReadError}
+use Rattle.statement_syntax.specs.declared.expression.ReadError.TheVariants as error
+use Rattle.statement_syntax.specs.declared.expression.Misfit.{Misfit}
+use Rattle.statement_syntax.specs.declared.read.Progress.{Progress}
+use Rattle.statement_syntax.specs.declared.fault.SyntaxFault.{SyntaxFault}
+use Rattle.statement_syntax.specs.declared.fault.SyntaxFault.TheVariants as refusal
+use Rattle.statement_syntax.specs.Steps.{run}
+use Rattle.statement_syntax.specs.Lines.{beginning, file_step}
+use Rattle.statement_syntax.specs.Token.{tokens_of}
+use Rattle.statement_syntax.specs.Fault.{TellsFirstFault, IsWantOfMemory, fault_at, misfit_fault}
+
+-- what is told of a step that fails at this place
+abbrev pub IsRefusal : ReadError → Spot → SyntaxFault → Type 0
+IsRefusal error.Memory at refused = IsWantOfMemory refused
+IsRefusal (error.Misfit f) at refused = refused ≡ fault_at (misfit_fault f) at
+
+-- bytes to tokens
+abbrev pub TokensRead : List ℕ → Result (Vec Token) SyntaxFault → Type 0
+TokensRead bytes (Ok ts) = IsUtf8 bytes × (tokens_of (chars bytes) ≡ Ok ts.items)
+TokensRead bytes (Err e) = TellsFirstFault bytes e
+
+-- the loop came to this token, and stopped at it
+pub record StoppedAt (ts : List Token) (refused : SyntaxFault) : Type 0 where
+  pub front : List Token
+  pub token : Token
+  pub rest : List Token
+  pub splits : ts ≡ front ++ token ∷ rest
+  pub progress : Progress
+  pub ran : run file_step beginning front ≡ Ok progress
+  pub misfit : Misfit
+  pub stops : file_step progress token ≡ Err misfit
+  pub tells : refused ≡ fault_at (misfit_fault misfit) token.at
+
+-- the loop came to its end with these statements
+abbrev pub AllRead : List Token → List Statement → Type 0
+AllRead ts statements = (p : Progress) × (run file_step beginning ts ≡ Ok p) × (statements ≡ p.statements)
+
+abbrev pub Refused : List Token → SyntaxFault → Type 0
+Refused ts (refusal.Memory e) = Unit {0}
+Refused ts (refusal.Fault code line column) = StoppedAt ts (refusal.Fault code line column)
+
+-- tokens to statements
+abbrev pub LinesRead : List Token → Result (List Statement) SyntaxFault → Type 0
+LinesRead ts (Ok statements) = AllRead ts statements
+LinesRead ts (Err e) = Refused ts e

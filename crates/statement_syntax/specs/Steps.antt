@@ -1,0 +1,166 @@
+-- The same steps on the trees of the program, which keep no places of signs.
+use Rattle.std.specs.Prelude.{◌≡◌, ℕ, ℤ, zero, suc, Bool, true, false, List, [], ◌∷◌, ◌++◌, length, Option, Some, None, Result, Ok, Err, pos, negsuc, nat_lt, if◌then◌else◌}
+use Rattle.statement_syntax.specs.declared.place.Spot.{Spot}
+use Rattle.statement_syntax.specs.declared.token.Token.{Token}
+use Rattle.statement_syntax.specs.declared.token.TokenKind.{TokenKind}
+use Rattle.statement_syntax.specs.declared.token.TokenKind.TheVariants as kind
+use Rattle.statement_syntax.specs.declared.tree.Name.{Name}
+use Rattle.statement_syntax.specs.declared.tree.Number.{Number}
+use Rattle.statement_syntax.specs.declared.tree.Mark.{Mark}
+use Rattle.statement_syntax.specs.declared.tree.Mark.TheVariants.{Adjoint}
+use Rattle.statement_syntax.specs.declared.tree.Primary.{Primary, Letter, Identity, Bracket}
+use Rattle.statement_syntax.specs.declared.tree.Factor.{Factor, roll-Factor, out-Factor}
+use Rattle.statement_syntax.specs.declared.tree.Term.{Term, roll-Term, out-Term}
+use Rattle.statement_syntax.specs.declared.expression.Head.{Head}
+use Rattle.statement_syntax.specs.declared.expression.Level.{Level}
+use Rattle.statement_syntax.specs.declared.expression.Reading.{Reading}
+use Rattle.statement_syntax.specs.declared.expression.Focus.{Focus}
+use Rattle.statement_syntax.specs.declared.expression.Focus.TheVariants as focus
+use Rattle.statement_syntax.specs.declared.expression.Misfit.{Misfit}
+use Rattle.statement_syntax.specs.declared.expression.Misfit.TheVariants.{Expected, TooDeep}
+use Rattle.statement_syntax.specs.declared.expression.ReadError.{ReadError}
+use Rattle.statement_syntax.specs.declared.expression.ReadError.TheVariants as error
+use Rattle.statement_syntax.specs.declared.tree.Sum.{Sum, roll-Sum}
+use Rattle.statement_syntax.specs.declared.expression.Part.{Part}
+use Rattle.statement_syntax.specs.declared.expression.Part.TheVariants.{Nothing, Scaled, Product}
+
+abbrev pub name_with : List ℕ → Spot → Name
+name_with text at = record { text = text; at = at }
+
+abbrev pub factor_of : Spot → Primary → List Mark → Factor
+factor_of at primary marks = roll-Factor (record { at = at; primary = primary; marks = marks })
+
+abbrev pub part_with : Part → Primary → Spot → Part
+part_with Nothing p at = Product at None [] (factor_of at p [])
+part_with (Scaled n) p at = Product n.at (Some n) [] (factor_of at p [])
+part_with (Product first l fs last) p at = Product first l (fs ++ last ∷ []) (factor_of at p [])
+
+infixl 10 ◌>>=◌
+abbrev pub ◌>>=◌ : {A B : Type 0} → Result A Misfit → (A → Result B Misfit) → Result B Misfit
+(Ok x) >>= f = f x
+(Err e) >>= f = Err e
+
+-- the items one after another, by what each of them does
+unfoldable pub run : {S : Type 0} → (S → Token → Result S Misfit) → S → List Token → Result S Misfit
+run step state [] = Ok state
+run step state (t ∷ ts) = step state t >>= λ next. run step next ts
+
+abbrev pub Fails : {Y : Type 0} → ReadError → Result Y Misfit → Type 0
+Fails error.Memory read = Unit {0}
+Fails (error.Misfit f) read = read ≡ Err f
+
+-- what a function returned is what reading gives, unless memory ran out
+abbrev pub Gives : {X : Type 0} → Result X ReadError → Result X Misfit → Type 0
+Gives (Ok x) read = read ≡ Ok x
+Gives (Err e) read = Fails e read
+
+abbrev pub term_of : Spot → Bool → Option Number → List Factor → Term
+term_of at negative l fs = roll-Term (record { at = at; negative = negative; literal = l; factors = fs })
+
+abbrev pub lone_term : ℤ → Number → Bool → Result Term Misfit
+lone_term (pos zero) n negative = Ok (term_of n.at negative (Some n) [])
+lone_term (pos (suc k)) n negative = Err Expected
+lone_term (negsuc k) n negative = Err Expected
+
+abbrev pub ended_part : Part → Bool → Result Term Misfit
+ended_part Nothing negative = Err Expected
+ended_part (Scaled n) negative = lone_term n.value n negative
+ended_part (Product at l fs last) negative = Ok (term_of at negative l (fs ++ last ∷ []))
+
+abbrev pub at_or : Option Spot → Spot → Spot
+at_or None at = at
+at_or (Some at) other = at
+
+abbrev pub sum_of : Spot → List Term → Sum
+sum_of at terms = roll-Sum (record { at = at; terms = terms })
+
+abbrev pub sum_at : Head → Term → Spot
+sum_at head t = at_or head.at (out-Term t).at
+
+abbrev pub sum_with : Head → Term → Sum
+sum_with head t = sum_of (sum_at head t) (head.terms ++ t ∷ [])
+
+abbrev pub marked_factor : Factor → Factor
+marked_factor f = factor_of (out-Factor f).at (out-Factor f).primary ((out-Factor f).marks ++ Adjoint ∷ [])
+
+abbrev pub quote_step : Part → Result Part Misfit
+quote_step Nothing = Err Expected
+quote_step (Scaled n) = Err Expected
+quote_step (Product at l fs last) = Ok (Product at l fs (marked_factor last))
+
+abbrev pub sign_by : Head → Result Term Misfit → Bool → Result Head Misfit
+sign_by head (Ok t) negative = Ok (record { at = Some (sum_at head t); terms = head.terms ++ t ∷ []; negative = negative })
+sign_by head (Err e) negative = Err e
+
+abbrev pub lead_by : Head → Option Spot → Spot → Bool → Result Head Misfit
+lead_by head None at negative = Ok (record { at = Some at; terms = head.terms; negative = negative })
+lead_by head (Some first) at negative = Err Expected
+
+abbrev pub sign_step : Head → Part → Spot → Bool → Result Head Misfit
+sign_step head Nothing at negative = lead_by head head.at at negative
+sign_step head (Scaled n) at negative = sign_by head (ended_part (Scaled n) head.negative) negative
+sign_step head (Product p l fs last) at negative = sign_by head (ended_part (Product p l fs last) head.negative) negative
+
+abbrev pub outside : List Level → Head → Part → Reading
+outside levels head part = record { levels = levels; head = head; part = part; focus = focus.Outside }
+
+abbrev pub close_by : List Level → Sum → Result Reading Misfit
+close_by [] s = Err Expected
+close_by (level ∷ levels) s = Ok (outside levels level.head (part_with level.part (Bracket s) level.at))
+
+abbrev pub close_step : List Level → Head → Part → Result Reading Misfit
+close_step levels head part = do
+  t ← ended_part part head.negative
+  close_by levels (sum_with head t)
+
+abbrev pub empty_head : Head
+empty_head = record { at = None; terms = []; negative = false }
+
+abbrev pub open_step : List Level → Head → Part → Spot → Result Reading Misfit
+open_step levels head part at =
+    if nat_lt (length levels) 64 then Ok (outside (record { head = head; part = part; at = at } ∷ levels) empty_head Nothing) else Err TooDeep
+
+abbrev pub literal_step : List Level → Head → Part → Number → Result Reading Misfit
+literal_step levels head Nothing n = Ok (outside levels head (Scaled n))
+literal_step levels head (Scaled m) n = Err Expected
+literal_step levels head (Product p l fs last) n = Err Expected
+
+abbrev pub outside_step : List Level → Head → Part → TokenKind → Spot → Result Reading Misfit
+outside_step levels head part (kind.Name x) at = Ok (outside levels head (part_with part (Letter (record { text = x; at = at })) at))
+outside_step levels head part (kind.Literal n) at = literal_step levels head part (record { value = n; at = at })
+outside_step levels head part kind.Colon at = Err Expected
+outside_step levels head part kind.Arrow at = Err Expected
+outside_step levels head part kind.Equals at = Err Expected
+outside_step levels head part kind.Plus at = sign_step head part at false >>= λ h. Ok (outside levels h Nothing)
+outside_step levels head part kind.Minus at = sign_step head part at true >>= λ h. Ok (outside levels h Nothing)
+outside_step levels head part kind.Open at = open_step levels head part at
+outside_step levels head part kind.Close at = close_step levels head part
+outside_step levels head part kind.OpenSquare at = Ok (record { levels = levels; head = head; part = part; focus = focus.Square at })
+outside_step levels head part kind.CloseSquare at = Err Expected
+outside_step levels head part kind.Quote at = quote_step part >>= λ p. Ok (outside levels head p)
+outside_step levels head part kind.End at = Err Expected
+
+abbrev pub square_step : List Level → Head → Part → Spot → TokenKind → Spot → Result Reading Misfit
+square_step levels head part left (kind.Name x) at = Ok (record { levels = levels; head = head; part = part; focus = focus.Named left (record { text = x; at = at }) })
+square_step levels head part left k at = Err Expected
+
+abbrev pub named_step : List Level → Head → Part → Spot → Name → TokenKind → Result Reading Misfit
+named_step levels head part left n kind.CloseSquare = Ok (outside levels head (part_with part (Identity n) left))
+named_step levels head part left n k = Err Expected
+
+abbrev pub focus_step : List Level → Head → Part → Focus → TokenKind → Spot → Result Reading Misfit
+focus_step levels head part focus.Outside k at = outside_step levels head part k at
+focus_step levels head part (focus.Square left) k at = square_step levels head part left k at
+focus_step levels head part (focus.Named left n) k at = named_step levels head part left n k
+
+abbrev pub token_step : Reading → TokenKind → Spot → Result Reading Misfit
+token_step r k at = focus_step r.levels r.head r.part r.focus k at
+
+abbrev pub whole_by : List Level → Head → Part → Focus → Result Sum Misfit
+whole_by [] head part focus.Outside = ended_part part head.negative >>= λ t. Ok (sum_with head t)
+whole_by [] head part (focus.Square left) = Err Expected
+whole_by [] head part (focus.Named left n) = Err Expected
+whole_by (level ∷ levels) head part f = Err Expected
+
+abbrev pub whole_sum : Reading → Result Sum Misfit
+whole_sum r = whole_by r.levels r.head r.part r.focus

@@ -1,0 +1,75 @@
+ghost use Rattle.std.specs.Prelude.{◌≡◌};
+ghost use Rattle.statement_syntax.specs.Fault.{code_of, fault_at, scan_fault, misfit_fault};
+
+use crate::expression::Misfit;
+use crate::place::Spot;
+use crate::scan::ScanFault;
+use std::alloc::AllocError;
+
+/// What can be wrong with a text. All that is not UTF-8 comes before all bad tokens and literals, and those before
+/// all tokens that do not fit the grammar.
+#[derive(Clone, Copy, Debug, PartialEq, Eq)]
+pub enum Fault {
+    /// The bytes are not UTF-8.
+    NotUtf8,
+    /// A character begins no token, or a name has more than 32 bytes.
+    BadToken,
+    /// A token does not fit the grammar, or the line ends too early.
+    Expected,
+    /// A literal is larger than 2^127 - 1.
+    LiteralTooLarge,
+    /// A 65th nested round bracket.
+    TooDeep,
+}
+
+/// Why a text has no tree: its first fault with its place, or want of memory.
+#[derive(Debug, Drop)]
+pub enum SyntaxFault {
+    /// Lines and columns count from 1, and columns count characters. Where the bytes are not UTF-8 the line is 0, and
+    /// the column is the number of valid bytes.
+    Fault { code: u32, line: u32, column: u32 },
+    Memory(AllocError),
+}
+
+fn code_of(fault: Fault) -> u32
+    ensures { result ≡ code_of fault }
+{
+    match fault {
+        Fault::NotUtf8 => 1,
+        Fault::BadToken => 2,
+        Fault::Expected => 3,
+        Fault::LiteralTooLarge => 4,
+        Fault::TooDeep => 5,
+    }
+}
+
+/// The refusal for a fault at a place.
+pub fn fault_at(fault: Fault, at: Spot) -> SyntaxFault
+    ensures { result ≡ fault_at fault at }
+{
+    SyntaxFault::Fault {
+        code: code_of(fault),
+        line: at.line,
+        column: at.column,
+    }
+}
+
+/// The fault of a token that cannot be read.
+pub fn scan_fault(fault: ScanFault) -> Fault
+    ensures { result ≡ scan_fault fault }
+{
+    match fault {
+        ScanFault::BadToken => Fault::BadToken,
+        ScanFault::LiteralTooLarge => Fault::LiteralTooLarge,
+    }
+}
+
+/// The fault of a token that does not fit.
+pub fn misfit_fault(misfit: Misfit) -> Fault
+    ensures { result ≡ misfit_fault misfit }
+{
+    match misfit {
+        Misfit::Expected => Fault::Expected,
+        Misfit::TooDeep => Fault::TooDeep,
+    }
+}

@@ -1,0 +1,23 @@
+//! The statement language: its text, read into a tree and written back.
+#![tactic(auto)]
+
+mod expression;
+mod fault;
+mod line;
+mod place;
+mod read;
+mod scan;
+mod stack;
+mod token;
+mod tree;
+mod write;
+
+pub use fault::SyntaxFault;
+pub use place::Spot;
+pub use read::read_tree;
+pub use token::{Token, TokenKind};
+pub use tree::{Factor, Mark, Name, Number, Primary, Statement, StatementKind, Sum, Term, Tree};
+pub use write::write_tree;
+
+#[cfg(test)]
+mod tests;
