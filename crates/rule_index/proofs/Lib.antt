@@ -1,0 +1,2 @@
+pub mod PlacesOfWords
+pub mod Matching

@@ -1,0 +1,2 @@
+pub use Rattle.word_core.specs.Occurrence
+pub mod Matches
