@@ -110,27 +110,58 @@ fn an_object_after_a_map_has_a_later_identity(rt: HostRuntime) -> Result<(), Fai
     Ok(())
 }
 
+const DOUBLE: &str = "the name is declared";
+
+const NOT_SQUARE: &str = "the source and the target differ";
+
+// The text of the fault of an object, and the empty one where it is declared.
+fn object_fault(alloc: Global, quiver: &mut Quiver, name: &str) -> Result<String, AllocError> {
+    match quiver.add_object(name) {
+        Ok(_) => format!(in alloc; ""),
+        Err(fault) => format!(in alloc; "{fault}"),
+    }
+}
+
+// The same of a map between objects that there are.
+fn map_fault(
+    alloc: Global,
+    quiver: &mut Quiver,
+    name: &str,
+    source: u16,
+    target: u16,
+    selfmade: bool,
+) -> Result<String, AllocError> {
+    let objects = quiver.objects();
+    if u32::from(source) >= objects || u32::from(target) >= objects {
+        return format!(in alloc; "no object");
+    }
+    match quiver.add_map(name, Object(source), Object(target), selfmade) {
+        Ok(_) => format!(in alloc; ""),
+        Err(fault) => format!(in alloc; "{fault}"),
+    }
+}
+
 #[test]
 fn a_refused_declaration_leaves_the_quiver(rt: HostRuntime) -> Result<(), Fail> {
     let mut quiver = small(rt.alloc())?;
-    assert!(rt; matches!(quiver.add_object("U"), Err(QuiverFault::DoubleName)));
-    assert!(rt; matches!(quiver.add_object("a"), Err(QuiverFault::DoubleName)));
-    assert!(rt; quiver.objects() == 2);
-    assert!(rt;
-        matches!(
-            quiver.add_map("V", Object(0), Object(1), true),
-            Err(QuiverFault::DoubleName)
-        )
-    );
-    assert!(rt; quiver.objects() == 2);
-    assert!(rt;
-        matches!(
-            quiver.add_map("q", Object(0), Object(1), true),
-            Err(QuiverFault::NotSquare)
-        )
-    );
+    for name in ["U", "a"] {
+        assert_eq!(rt;
+            object_fault(rt.alloc(), &mut quiver, name)?.as_str(),
+            DOUBLE,
+            "{name}"
+        );
+    }
+    let maps = [
+        ("V", 0, 1, true, DOUBLE),
+        ("p", 0, 0, false, DOUBLE),
+        ("q", 0, 1, true, NOT_SQUARE),
+    ];
+    for (name, source, target, selfmade, want) in maps {
+        let fault = map_fault(rt.alloc(), &mut quiver, name, source, target, selfmade)?;
+        assert_eq!(rt; fault.as_str(), want, "{name}");
+    }
     assert_eq!(rt; quiver.find("q"), None);
-    assert_eq!(rt; quiver.letters(), 5);
+    assert_eq!(rt; (quiver.objects(), quiver.letters()), (2, 5));
     Ok(())
 }
 
@@ -140,13 +171,9 @@ fn there_are_64_objects_at_most(rt: HostRuntime) -> Result<(), Fail> {
     for number in 0..64u32 {
         quiver.add_object(&format!(in rt.alloc(); "V{number}")?)?;
     }
-    assert!(rt; matches!(quiver.add_object("V7"), Err(QuiverFault::DoubleName)));
-    assert!(rt;
-        matches!(
-            quiver.add_object("W"),
-            Err(QuiverFault::TooMany { limit: 64 })
-        )
-    );
+    for (name, want) in [("V7", DOUBLE), ("W", "there are 64 already")] {
+        assert_eq!(rt; object_fault(rt.alloc(), &mut quiver, name)?.as_str(), want);
+    }
     assert_eq!(rt; quiver.objects(), 64);
     assert_eq!(rt; quiver.find("V63"), Some(Named::Object(Object(63))));
     Ok(())
@@ -156,28 +183,16 @@ fn there_are_64_objects_at_most(rt: HostRuntime) -> Result<(), Fail> {
 fn there_are_200_maps_at_most(rt: HostRuntime) -> Result<(), Fail> {
     let mut quiver = small(rt.alloc())?;
     for number in 2..200u32 {
-        assert!(rt; quiver.objects() == 2);
-        quiver.add_map(
-            &format!(in rt.alloc(); "m{number}")?,
-            Object(1),
-            Object(0),
-            false,
-        )?;
+        let name = format!(in rt.alloc(); "m{number}")?;
+        assert_eq!(rt;
+            map_fault(rt.alloc(), &mut quiver, &name, 1, 0, false)?.as_str(),
+            ""
+        );
     }
-    assert!(rt; quiver.objects() == 2);
-    assert!(rt;
-        matches!(
-            quiver.add_map("m7", Object(0), Object(1), true),
-            Err(QuiverFault::DoubleName)
-        )
-    );
-    assert!(rt; quiver.objects() == 2);
-    assert!(rt;
-        matches!(
-            quiver.add_map("n", Object(0), Object(1), true),
-            Err(QuiverFault::TooMany { limit: 200 })
-        )
-    );
+    for (name, want) in [("m7", DOUBLE), ("n", "there are 200 already")] {
+        let fault = map_fault(rt.alloc(), &mut quiver, name, 0, 1, true)?;
+        assert_eq!(rt; fault.as_str(), want);
+    }
     assert_eq!(rt; quiver.letters(), 401);
     assert_eq!(rt; quiver.find("m199"), Some(Named::Map(Letter(399))));
     assert_eq!(rt; quiver.find("n"), None);
