@@ -10,6 +10,8 @@ mod fault;
 mod line;
 mod names;
 mod statement;
+#[cfg(test)]
+mod tests;
 mod text;
 
 pub use certificate::read_certificate;
