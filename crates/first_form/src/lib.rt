@@ -17,3 +17,4 @@ mod text;
 pub use certificate::read_certificate;
 pub use fault::FormFault;
 pub use statement::{Statement, read_statement, statements_are_typed};
+pub use text::texts_are_spelled;
