@@ -3,6 +3,7 @@ use Rattle.std.specs.Prelude.{◌≡◌, ◌≢◌, ℕ, ◌-◌, ◌==◌, ◌&
 use Rattle.std.specs.List.{AllByRecursion, list_all, ends_with, flat_map, join_with_byte, slice_split}
 use Rattle.std.specs.Option.{option_map}
 
+-- the bytes that may stand in a text, the end of a line, and a blank
 abbrev pub is_ascii : ℕ → Bool
 is_ascii byte = nat_lt byte 128
 

@@ -1,4 +1,4 @@
-use crate::{FormFault, Statement, read_statement};
+use crate::{FormFault, Statement, read_statement, statements_are_typed, texts_are_spelled};
 use nc_polynomial::Poly;
 use std::alloc::{AllocError, Global};
 use std::test::Fail;
@@ -52,6 +52,8 @@ fn texts_of_the_form(rt: HostRuntime) -> Result<(), Fail> {
         b"object U\nmap abcdefghijklmnopqrstuvwxyz012345 : U -> U\nclaim abcdefghijklmnopqrstuvwxyz012345 = 3 abcdefghijklmnopqrstuvwxyz012345\n",
         b"object U V\nmap a : U -> V\nmap b : V -> U\nclaim a b a - 2 a b a + a = a\n",
     ];
+    statements_are_typed();
+    texts_are_spelled();
     for text in cases {
         assert!(rt; is_of_the_form(rt.alloc(), text)?, "{text:?}");
     }
