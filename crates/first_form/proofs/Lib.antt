@@ -11,3 +11,5 @@ pub mod Typing
 pub mod Longer
 pub mod Contexts
 pub mod StatementRead
+pub mod Spelling
+mod Examples

@@ -1,11 +1,10 @@
 -- The integers of a certificate are coefficients, and it has no more rows than its text has bytes.
 use lib.Chars.{codes}
-use Rattle.std.proofs.Common.{◌≡◌, ◌<◌, ◌≤◌, ◌+◌, ◌-◌, ◌^◌, ℕ, zero, suc, get_or, nat_eq, nat_le, ℤ, pos, neg_ℤ, Bool, true, false, cond, ◌&&◌, List, [], ◌∷◌, Option, Some, None, Result, Ok, Err, IfOk, arith, refl, sym, ap, subst, ◌∙◌, length, take, drop, nat_lt, true≢false, ltb-true}
+use Rattle.std.proofs.Common.{◌≡◌, ◌<◌, ◌≤◌, ◌-◌, ◌^◌, ℕ, zero, suc, get_or, nat_eq, nat_le, ℤ, pos, neg_ℤ, Bool, true, false, cond, ◌&&◌, List, [], ◌∷◌, Option, Some, None, Result, Ok, Err, IfOk, arith, refl, ap, subst, length, take, drop, nat_lt, ltb-true}
 use Rattle.std.proofs.lemmas.Bool.{and_parts}
-use Rattle.std.specs.Int.RustNames.{unsigned_abs}
 use Rattle.first_form.specs.declared.fault.FormFault.{FormFault}
 use Rattle.first_form.specs.Fault.{Reads}
-use Rattle.std.specs.List.{list_all, All, AllByRecursion, ends_with, slice_split}
+use Rattle.std.specs.List.{list_all, AllByRecursion, ends_with, slice_split}
 use Rattle.std.proofs.lemmas.List.{length-take}
 use Rattle.std.proofs.lemmas.List.Splits.{length-slice_split}
 use Rattle.std.proofs.lemmas.List.Sums.{count_by-le-length}

@@ -1,5 +1,5 @@
 -- The first form of certificates, over the declarations of a quiver and a number of assumptions.
-use Rattle.std.specs.Prelude.{◌-◌, ◌<◌, ℕ, ℤ, pos, neg_ℤ, ◌&&◌, List, [], ◌∷◌, length, take, drop, get_or, nat_eq, nat_le, nat_lt, Option, Some, None, if◌then◌else◌}
+use Rattle.std.specs.Prelude.{◌-◌, ℕ, ℤ, pos, neg_ℤ, ◌&&◌, List, [], ◌∷◌, length, take, drop, get_or, nat_eq, nat_le, nat_lt, Option, Some, None, if◌then◌else◌}
 use Rattle.std.specs.List.{before_first, after_first, position_or_len, slice_split}
 use Rattle.std.specs.Option.{option_map, option_and_then}
 use lib.Chars.{codes}

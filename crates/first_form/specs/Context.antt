@@ -22,6 +22,7 @@ use Rattle.first_form.specs.Names.{literal_of}
 
 -- ---- declarations
 
+-- a value, unless there is a fault
 abbrev pub unless : {X : Type 0} → Option QuiverFault → Option X → Option X
 unless None x = x
 unless (Some fault) x = None
@@ -36,6 +37,7 @@ abbrev pub with_maps : ℕ → ℕ → List Declaration → List (List ℕ) → 
 with_maps u v ds [] = Some ds
 with_maps u v ds (name ∷ names) = unless (map_fault ds name u v false) (with_maps u v (ds ++ arrow name u v false ∷ []) names)
 
+-- the names of the objects that a line declares
 abbrev pub objects_in : Line → List (List ℕ)
 objects_in (Objects names) = names
 objects_in (Maps names source target) = []
@@ -49,6 +51,7 @@ with_objects_of ds (line ∷ lines) = option_and_then (λ es. with_objects_of es
 
 -- ---- equations
 
+-- n or -n
 abbrev pub signed : Bool → ℕ → ℤ
 signed true n = neg_ℤ (pos n)
 signed false n = pos n
@@ -58,6 +61,7 @@ abbrev pub coefficient_of : Bool → Option (List ℕ) → Option ℤ
 coefficient_of negative None = Some (signed negative 1)
 coefficient_of negative (Some digits) = option_map (signed negative) (literal_of digits)
 
+-- the letter, where what is named is a map
 abbrev pub letter_named : Option Named → Option ℕ
 letter_named None = None
 letter_named (Some (Object v)) = None
@@ -67,12 +71,15 @@ letter_named (Some (Map a)) = Some a.0
 abbrev pub letter_in : List Declaration → List ℕ → Option ℕ
 letter_in ds name = letter_named (named_in ds name)
 
+-- the letters of the names, if all are declared as maps
 abbrev pub word_of : List Declaration → List (List ℕ) → Option (List ℕ)
 word_of ds names = each_of (letter_in ds) names
 
+-- the coefficient and the word of a product
 abbrev pub term_of : List Declaration → Product → Option Term
 term_of ds p = option_and_then (λ coefficient. option_map (λ word. (coefficient, word)) (word_of ds p.names)) (coefficient_of p.negative p.literal)
 
+-- whether what was found is the signature
 abbrev pub is_signature : ℕ × ℕ → Option (ℕ × ℕ) → Bool
 is_signature s None = false
 is_signature s (Some t) = nat_eq t.0 s.0 && nat_eq t.1 s.1
@@ -81,6 +88,7 @@ is_signature s (Some t) = nat_eq t.0 s.0 && nat_eq t.1 s.1
 abbrev pub all_have : Quiver → ℕ × ℕ → List Term → Bool
 all_have q s terms = list_all (λ t. is_signature s (signature_of q t.1)) terms
 
+-- the same on both sides, where there is such a signature
 abbrev pub all_have_that : Quiver → Option (ℕ × ℕ) → List Term → List Term → Bool
 all_have_that q None left right = false
 all_have_that q (Some s) left right = all_have q s left && all_have q s right
@@ -95,6 +103,7 @@ abbrev pub difference_of : List Term → List Term → Option (List Term)
 difference_of left right =
     option_and_then (λ p. option_and_then (λ q. result_ok (difference_result p q)) (result_ok (collection_result right))) (result_ok (collection_result left))
 
+-- the difference, if all words are paths of one signature
 abbrev pub typed_difference : Quiver → List Term → List Term → Option (List Term)
 typed_difference q left right = if have_one_signature q left right then difference_of left right else None
 
@@ -113,6 +122,7 @@ pub record Context : Type 0 where
   pub assumptions : List (List Term)
   pub claim : Option (List Term)
 
+-- the number, where what is named is an object
 abbrev pub object_named : Option Named → Option ℕ
 object_named None = None
 object_named (Some (Object v)) = Some v.0
@@ -122,10 +132,12 @@ object_named (Some (Map a)) = None
 abbrev pub object_above : Context → List ℕ → Option ℕ
 object_above c name = if list_any (bytes_eq name) c.objects then object_named (named_in c.declared name) else None
 
+-- the source and the target are objects of the lines above
 abbrev pub maps_known : Context → List (List ℕ) → List ℕ → List ℕ → Option Context
 maps_known c names source target =
     option_and_then (λ u. option_and_then (λ v. option_map (λ ds. record c { declared = ds }) (with_maps u v c.declared names)) (object_above c target)) (object_above c source)
 
+-- the polynomial is typed over the maps of the lines above
 abbrev pub assumption_known : Context → Equation → Option Context
 assumption_known c equation = option_map (λ p. record c { assumptions = c.assumptions ++ p ∷ [] }) (polynomial_of c.declared equation)
 
@@ -140,6 +152,7 @@ with_line c (Maps names source target) = maps_known c names source target
 with_line c (Assume equation) = assumption_known c equation
 with_line c (Claim equation) = claim_known c equation
 
+-- what is known below the last of the lines
 abbrev pub with_lines : Context → List Line → Option Context
 with_lines c [] = Some c
 with_lines c (line ∷ lines) = option_and_then (λ d. with_lines d lines) (with_line c line)

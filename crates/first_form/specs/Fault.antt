@@ -19,18 +19,20 @@ ReadsAs view (Ok x) o = o ≡ Some (view x)
 ReadsAs view (Err fault.Form) o = o ≡ None
 ReadsAs view (Err (fault.Memory e)) o = Unit {0}
 
--- why a text is not read where a declaration or a polynomial is refused
+-- a declaration that is refused is of no statement of the form
 abbrev pub refused_declaration : QuiverFault → FormFault
 refused_declaration quiver_fault.DoubleName = fault.Form
 refused_declaration (quiver_fault.TooMany limit) = fault.Form
 refused_declaration quiver_fault.NotSquare = fault.Form
 refused_declaration (quiver_fault.Memory e) = fault.Memory e
 
+-- an overflow and a size that is passed are no statement of the form
 abbrev pub refused_polynomial : PolyFault → FormFault
 refused_polynomial (poly_fault.Overflow o) = fault.Form
 refused_polynomial (poly_fault.Size s) = fault.Form
 refused_polynomial (poly_fault.Memory e) = fault.Memory e
 
+-- want of memory
 abbrev pub IsMemory : FormFault → Type 0
 IsMemory fault.Form = ⊥
 IsMemory (fault.Memory e) = Unit {0}

@@ -3,7 +3,6 @@ use Rattle.std.specs.Prelude.{ℕ, Bool, false, ◌||◌, ◌&&◌, List, [], �
 use Rattle.std.specs.List.{before_first, after_first}
 use Rattle.std.specs.Option.{option_map, option_and_then}
 use Rattle.std.specs.Str.{bytes_eq}
-use Rattle.std.specs.Borrow.{Bor}
 use lib.Chars.{codes}
 use Rattle.first_form.specs.declared.line.Line.{Line}
 use Rattle.first_form.specs.declared.line.Line.TheVariants.{Objects, Maps, Assume, Claim}
@@ -18,6 +17,7 @@ is mark word = bytes_eq word mark
 
 -- ---- products
 
+-- whether a - stands before it, the digits of its literal if it has one, and the names of its factors
 abbrev pub product : Bool → Option (List ℕ) → List (List ℕ) → Product
 product negative literal names = record { negative = negative; literal = literal; names = names }
 
@@ -30,10 +30,12 @@ product_of (negative, word ∷ words) =
 
 -- ---- sums
 
+-- the parts with a word more in front of the first
 abbrev pub onto_first : List ℕ → List (Bool × List (List ℕ)) → List (Bool × List (List ℕ))
 onto_first word [] = []
 onto_first word (part ∷ parts) = (part.0, word ∷ part.1) ∷ parts
 
+-- + or -
 abbrev pub is_sign : List ℕ → Bool
 is_sign word = is (codes "+") word || is (codes "-") word
 
@@ -42,10 +44,6 @@ abbrev pub signed_parts : Bool → List (List ℕ) → List (Bool × List (List 
 signed_parts negative [] = (negative, []) ∷ []
 signed_parts negative (word ∷ words) =
     if is_sign word then (negative, []) ∷ signed_parts (is (codes "-") word) words else onto_first word (signed_parts negative words)
-
-abbrev pub parts_behind : Option (Bool × Bor (List (List ℕ))) → List (Bool × List (List ℕ))
-parts_behind None = []
-parts_behind (Some (negative, words)) = signed_parts negative words.now
 
 -- one or more products with signs between them
 abbrev pub sum_of : List (List ℕ) → Option (List Product)
@@ -64,6 +62,7 @@ abbrev pub maps_between : List (List ℕ) → List ℕ → List ℕ → List ℕ
 maps_between names source arrow target =
     if is (codes "->") arrow && (is_name source && is_name target) then option_map (λ names. Maps names source target) (names_of names) else None
 
+-- the same, of which the words behind the colon are SOURCE, -> and TARGET
 abbrev pub maps_to : List (List ℕ) → List (List ℕ) → Option Line
 maps_to names (source ∷ arrow ∷ target ∷ []) = maps_between names source arrow target
 maps_to names [] = None
@@ -71,6 +70,7 @@ maps_to names (source ∷ []) = None
 maps_to names (source ∷ arrow ∷ []) = None
 maps_to names (source ∷ arrow ∷ target ∷ word ∷ words) = None
 
+-- the words before the first colon, and those behind it
 abbrev pub maps_of : List (List ℕ) → Option Line
 maps_of words = maps_to (before_first (is (codes ":")) words) (after_first (is (codes ":")) words)
 

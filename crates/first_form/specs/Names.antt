@@ -4,6 +4,7 @@ use Rattle.std.specs.Char.{is_ascii_alphabetic, is_ascii_digit, is_ascii_alphanu
 use Rattle.std.specs.List.{list_all}
 use Rattle.std.specs.Str.Parse.{digits_value}
 
+-- whether the first byte is a letter: A to Z, or a to z
 abbrev pub begins_with_letter : List ℕ → Bool
 begins_with_letter [] = false
 begins_with_letter (byte ∷ bytes) = is_ascii_alphabetic byte
@@ -17,6 +18,7 @@ abbrev pub names_of : List (List ℕ) → Option (List (List ℕ))
 names_of [] = None
 names_of (word ∷ words) = if is_name word && list_all is_name words then Some (word ∷ words) else None
 
+-- whether each byte is a decimal digit
 abbrev pub are_digits : List ℕ → Bool
 are_digits word = list_all is_ascii_digit word
 

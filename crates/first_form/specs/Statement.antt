@@ -18,6 +18,7 @@ pub record Stated : Type 0 where
   pub assumptions : List (List Term)
   pub claim : List Term
 
+-- what is known below the last line, with its claim
 abbrev pub stated_with : Context → List Term → Stated
 stated_with c claim = record { declared = c.declared; assumptions = c.assumptions; claim = claim }
 
@@ -25,10 +26,11 @@ stated_with c claim = record { declared = c.declared; assumptions = c.assumption
 abbrev pub stated_in : Context → Option Stated
 stated_in c = if nat_le (length c.assumptions) 500 then option_map (stated_with c) c.claim else None
 
+-- what is known above the first line: all objects of the statement have their numbers
 abbrev pub first_context : List Declaration → Context
 first_context ds = record { objects = []; declared = ds; assumptions = []; claim = None }
 
--- what is known below all lines: the objects of the statement are numbered before the first map
+-- what is known below the last line
 abbrev pub known_by : List Line → Option Context
 known_by lines = option_and_then (λ ds. with_lines (first_context ds) lines) (with_objects_of [] lines)
 

@@ -10,8 +10,11 @@ mod fault;
 mod line;
 mod names;
 mod statement;
+#[cfg(test)]
+mod tests;
 mod text;
 
 pub use certificate::read_certificate;
 pub use fault::FormFault;
 pub use statement::{Statement, read_statement, statements_are_typed};
+pub use text::texts_are_spelled;

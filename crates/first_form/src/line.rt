@@ -1,7 +1,8 @@
 ghost use Rattle.std.specs.Prelude.{◌≡◌, ◌<◌, ◌∷◌, Bool, IfSome, length, position};
 ghost use Rattle.std.specs.List.{position_or_len, before_first, after_first};
 ghost use Rattle.first_form.specs.Fault.{Reads};
-ghost use Rattle.first_form.specs.Lines.{is, is_sign, product_of, signed_parts, parts_behind, sum_of, equation_of, maps_of, maps_between, line_of};
+ghost use Rattle.first_form.specs.Lines.{is, is_sign, product_of, signed_parts, sum_of, equation_of, maps_of, maps_between, line_of};
+ghost use Rattle.first_form.specs.Views.{parts_behind};
 
 use crate::FormFault;
 use crate::names::{are_digits, is_name, names_of};

@@ -94,7 +94,7 @@ pub fn statements_are_typed()
     ensures { (bytes : List ℕ) (s : Stated) → statement_of bytes ≡ Some s → IsTypedStatement s }
 {}
 
-/// The statement that the bytes spell. `Form` comes exactly where they spell none.
+/// The statement that the bytes spell. `Form` comes exactly where they spell none, and `Memory` where memory is short.
 pub fn read_statement(alloc: Global, bytes: &[u8]) -> Result<Statement, FormFault>
     ensures exact { ReadsAs stated result (statement_of bytes.now) }
     ensures typed { IfOk result (λ s. IsTypedStatement (stated s)) }

@@ -1,7 +1,7 @@
-ghost use Rattle.std.specs.Prelude.{◌≡◌, ◌==◌, ◌<◌, Some, IfOk, map};
+ghost use Rattle.std.specs.Prelude.{◌≡◌, ◌↔◌, ◌==◌, ℕ, List, ◌<◌, Some, IfOk, map};
 ghost use Rattle.std.specs.List.{slice_split};
 ghost use Rattle.std.specs.Option.{option_copied};
-ghost use Rattle.first_form.specs.Text.{body_of, words_of};
+ghost use Rattle.first_form.specs.Text.{body_of, words_of, lines_of, SpellsLines};
 
 use lists::{Listing, Text};
 use std::alloc::{AllocError, Global};
@@ -36,3 +36,8 @@ pub(crate) fn words_of(alloc: Global, line: &str) -> Result<Listing<Text>, Alloc
     }
     Ok(words)
 }
+
+/// The law that a text is read as lines of words exactly where it is ASCII and made by them. It has nothing to run.
+pub fn texts_are_spelled()
+    ensures { (text : List ℕ) (lines : List (List (List ℕ))) → (lines_of text ≡ Some lines) ↔ SpellsLines text lines }
+{}

@@ -1,6 +1,7 @@
 use Rattle.std.proofs.Common.{rules, ◌≡◌, ◌∷◌, ◌++◌, [], Some, sym, ap, ◌∙◌}
 use Rattle.first_form.specs.Each.{each_of}
-use Rattle.first_form.specs.Lines.{product_of, parts_behind}
+use Rattle.first_form.specs.Lines.{product_of}
+use Rattle.first_form.specs.Views.{parts_behind}
 use Rattle.first_form.proofs.Fronts.{behind, each_read}
 use Rattle.first_form.proofs.line.sum_of.Goals as goal
 

@@ -1,7 +1,8 @@
 use Rattle.std.proofs.Common.{◌≡◌, ◌+◌, length}
 use Rattle.std.specs.Option.{option_map_or}
 use Rattle.first_form.specs.Each.{each_of}
-use Rattle.first_form.specs.Lines.{product_of, parts_behind, sum_of}
+use Rattle.first_form.specs.Lines.{product_of, sum_of}
+use Rattle.first_form.specs.Views.{parts_behind}
 use Rattle.first_form.proofs.Fronts.{behind}
 use Rattle.first_form.proofs.line.sum_of.Given as goal
 
