@@ -80,6 +80,7 @@ module _ {Object Arrow : Type 0} (s : Structure Object Arrow) (sound : IsSound s
         evidence = evidence;
         statement_is = statement_is;
         certificate_is = certificate_is;
+        accepted = holds;
         sum = sum;
         zero = sound.certificate (quiver_of stated.declared) stated.assumptions (rows_of evidence.rows) evidence.denominator stated.claim typed.quiver typed.assumptions sum;
       }
