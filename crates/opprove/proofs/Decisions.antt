@@ -1,5 +1,5 @@
 -- What follows of what two texts decide.
-use Rattle.std.proofs.Common.{◌≡◌, ℕ, ℤ, List, [], ◌∷◌, Option, Some, None, refl, sym, ap, subst, arith}
+use Rattle.std.proofs.Common.{◌≡◌, ℕ, ℤ, List, [], ◌∷◌, Option, Some, None, refl, sym, ap, subst, arith, ◌∙◌}
 use Rattle.definitions.specs.Category.{Structure}
 use Rattle.definitions.specs.Combination.{generator_at, IsCombination}
 use Rattle.definitions.specs.Soundness.{IsSound}
@@ -7,11 +7,12 @@ use Rattle.cofactor_trace.specs.declared.Certificate.{Certificate}
 use Rattle.cofactor_trace.specs.Rows.{rows_of}
 use Rattle.cofactor_checker.specs.declared.Refusal.{Refusal}
 use Rattle.cofactor_checker.specs.declared.Refusal.TheVariants as refusal
-use Rattle.cofactor_checker.specs.Acceptance.{Accepts, IsMemory, claim_of}
+use Rattle.cofactor_checker.specs.Acceptance.{Accepts, IsMemory, claim_of, Refuses}
 use Rattle.cofactor_checker.proofs.Outcomes.{combination_from_accepts, accepted_is_not_refused}
+use Rattle.cofactor_checker.proofs.Unique.{refusal_is_unique}
 use Rattle.quiver.specs.Declarations.{Declaration, quiver_of}
 use Rattle.first_form.specs.Statement.{Stated, statement_of, IsTypedStatement}
-use Rattle.opprove.specs.Ending.{Ending, accepted}
+use Rattle.opprove.specs.Ending.{Ending, accepted, refused}
 use Rattle.opprove.specs.Refusals.{refusal_text}
 use Rattle.opprove.specs.Decides.{claims_of, evidence_of, Judges, accepts, refuses, DecidesBy, DecidesOver, Decides}
 use Rattle.opprove.specs.Headline.{Proved}
@@ -61,6 +62,31 @@ told ds (refusal.Differs word want got) text is memory = memory
 pub accepted_ending : {stated : Stated} {evidence : Certificate} {ending : Ending} → Accepts (claims_of stated) stated.assumptions evidence → Judges stated evidence ending → ending ≡ accepted evidence.denominator
 accepted_ending {stated} {evidence} holds (accepts _ is) = is
 accepted_ending {stated} {evidence} holds (refuses r text refused told_as _) = absurd (told stated.declared r text told_as (accepted_is_not_refused (claims_of stated) stated.assumptions evidence holds r refused))
+
+-- ---- two endings that the same texts decide are one
+module _ (stated : Stated) (evidence : Certificate) where
+  same_text : (r r' : Refusal) (text text' : List ℕ) → Refuses (claims_of stated) stated.assumptions evidence r → Refuses (claims_of stated) stated.assumptions evidence r'
+      → refusal_text stated.declared r ≡ Some text → refusal_text stated.declared r' ≡ Some text' → text ≡ text'
+  same_text r r' text text' because because' told_as told_as' =
+      let one : r ≡ r' = refusal_is_unique (claims_of stated) stated.assumptions evidence r r' because because' (told stated.declared r text told_as) (told stated.declared r' text' told_as') in
+      let both : Some text ≡ Some text' = sym told_as ∙ ap (refusal_text stated.declared) one ∙ told_as' in
+      cc
+
+  judged_once : (ending ending' : Ending) → Judges stated evidence ending → Judges stated evidence ending' → ending ≡ ending'
+  judged_once ending ending' (accepts holds is) judged = is ∙ sym (accepted_ending holds judged)
+  judged_once ending ending' (refuses r text because told_as is) (accepts holds is') = accepted_ending holds (refuses r text because told_as is) ∙ sym is'
+  judged_once ending ending' (refuses r text because told_as is) (refuses r' text' because' told_as' is') = is ∙ ap refused (same_text r r' text text' because because' told_as told_as') ∙ sym is'
+
+by_once : (stated : Stated) (evidence : Option Certificate) (ending ending' : Ending) → DecidesBy stated evidence ending → DecidesBy stated evidence ending' → ending ≡ ending'
+by_once stated None ending ending' is is' = is ∙ sym is'
+by_once stated (Some evidence) ending ending' judged judged' = judged_once stated evidence ending ending' judged judged'
+
+over_once : (stated : Option Stated) (certificate : List ℕ) (ending ending' : Ending) → DecidesOver stated certificate ending → DecidesOver stated certificate ending' → ending ≡ ending'
+over_once None certificate ending ending' is is' = is ∙ sym is'
+over_once (Some stated) certificate ending ending' decided decided' = by_once stated (evidence_of stated certificate) ending ending' decided decided'
+
+pub decided_once : {statement certificate : List ℕ} {ending ending' : Ending} → Decides statement certificate ending → Decides statement certificate ending' → ending ≡ ending'
+decided_once {statement} {certificate} {ending} {ending'} decides decides' = over_once (statement_of statement) certificate ending ending' decides.by decides'.by
 
 -- the one claim is meant
 first_claim : (claim : List (ℤ × List ℕ)) (evidence : Certificate) → evidence.claim ≡ 1 → claim_of (claim ∷ []) evidence ≡ claim

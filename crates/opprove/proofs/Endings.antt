@@ -11,7 +11,7 @@ use Rattle.opprove.specs.Decides.{Decides, claims_of, evidence_of}
 use Rattle.opprove.specs.Ends.{AreLoaded, AfterFiles, MayEndBy, MayEnd, statement_limit, certificate_limit}
 use Rattle.opprove.specs.Put.{IsPut}
 use Rattle.opprove.specs.Status.{SaysLoadFailed, SaysTooLong, IsMissing, IsFirstTooLong, AreHeld, WereLoaded}
-use Rattle.opprove.proofs.Decisions.{DecisionStatus, is_accepted, is_no_statement, is_refused, decision_status, judged_from, accepted_ending}
+use Rattle.opprove.proofs.Decisions.{DecisionStatus, is_accepted, is_no_statement, is_refused, decision_status, decided_once, judged_from, accepted_ending}
 
 -- The kinds of endings that two named files lead to.
 pub data Kind (told : List ℕ → Told) (rose : List ℕ → Type 0) (files : Named) (ending : Ending) : Type 0 where
@@ -226,6 +226,14 @@ module _ {words : List (String Global)} {told : List ℕ → Told} {rose : List 
       by_words : (p : Option Named) → files_named words ≡ p → p ≡ None
       by_words None is = refl
       by_words (Some files) is = absurd (cases files (at_files files is))
+
+  -- both files are held: the ending is the one that their bytes decide
+  pub completed : (files : Named) (statement certificate : List ℕ) (end : Ending) → files_named words ≡ Some files → AreHeld told rose files statement certificate → (sink_rose → ⊥) → Decides statement certificate end
+      → (status ≡ end.status) × Appends old new end.report × finished
+  completed files statement certificate end is held steady decides =
+      let done = complete files statement certificate is held steady in
+      let P : Ending → Type 0 = λ e. (status ≡ e.status) × Appends old new e.report × finished in
+      subst P (decided_once done.0 decides) (done.1, done.2, done.3)
 
   -- both files are held, and their certificate is accepted
   pub held_accepted : (files : Named) (statement certificate : List ℕ) (given : Stated) (evidence : Certificate) → files_named words ≡ Some files → AreHeld told rose files statement certificate → (sink_rose → ⊥)

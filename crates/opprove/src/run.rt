@@ -113,11 +113,11 @@ pub fn run<C: Preadditive, L: Shelf, K: Sink>(
         × ((statement : List ℕ) × ((certificate : List ℕ) × WereLoaded (L.file shelf.old) files statement certificate
         × ((ending : End) × Decides statement certificate ending × (result ≡ ending.status)))) }
 
-    // Where the files are held within their limits and no count rose, the report of what their bytes decide is put whole.
-    ensures complete { (files : Named) (statement certificate : List ℕ) → files_named words.now ≡ Some files
+    // Where the files are held within their limits and no count rose, what their bytes decide is the status, and its report is put whole.
+    ensures complete { (files : Named) (statement certificate : List ℕ) (ending : End) → files_named words.now ≡ Some files
         → AreHeld (L.file shelf.old) (RoseAt (L.faults shelf.old) (L.faults shelf.new)) files statement certificate
-        → (Rose (K.faults sink.old) (K.faults sink.new) → ⊥) → result ≢ 6
-        → (ending : End) × Decides statement certificate ending × (result ≡ ending.status) × Appends (K.written sink.old) (K.written sink.new) ending.report × IsTrue (K.is_finished sink.new) }
+        → (Rose (K.faults sink.old) (K.faults sink.new) → ⊥) → result ≢ 6 → Decides statement certificate ending
+        → (result ≡ ending.status) × Appends (K.written sink.old) (K.written sink.new) ending.report × IsTrue (K.is_finished sink.new) }
 
     // The certificate that is accepted is answered by 0.
     ensures accepted { (files : Named) (statement certificate : List ℕ) (given : Stated) (evidence : Certificate) → files_named words.now ≡ Some files

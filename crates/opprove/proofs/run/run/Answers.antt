@@ -1,6 +1,6 @@
 use Rattle.std.proofs.Common.{arith, sym, ◌∙◌}
 use Rattle.opprove.proofs.Decisions.{decided_meaning}
-use Rattle.opprove.proofs.Endings.{not_loaded, first_too_long, loaded, complete, held_accepted, sink_failed, never_six, only_usage}
+use Rattle.opprove.proofs.Endings.{not_loaded, first_too_long, loaded, completed, held_accepted, sink_failed, never_six, only_usage}
 use Rattle.opprove.proofs.run.run.Goals as goal
 
 pub returns-in-Ok-clause-not_loaded : goal.returns-in-Ok-clause-not_loaded
@@ -19,9 +19,8 @@ pub returns-in-Ok-clause-usage : goal.returns-in-Ok-clause-usage
 returns-in-Ok-clause-usage g c = only_usage c.in-Ok.ensures c.put_ending.ensures
 
 pub returns-in-Ok-clause-complete : goal.returns-in-Ok-clause-complete
-returns-in-Ok-clause-complete g c files statement certificate is held steady _ =
-    let done = complete c.in-Ok.ensures c.put_ending.ensures files statement certificate is held steady in
-    (c.in-Ok.ending, done.0, done.1, done.2, done.3)
+returns-in-Ok-clause-complete g c files statement certificate ending is held steady _ decides =
+    completed c.in-Ok.ensures c.put_ending.ensures files statement certificate ending is held steady decides
 
 pub returns-in-Ok-clause-accepted : goal.returns-in-Ok-clause-accepted
 returns-in-Ok-clause-accepted g c files statement certificate given evidence is held steady _ statement_is certificate_is holds =
