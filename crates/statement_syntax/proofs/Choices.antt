@@ -1,5 +1,5 @@
 -- Choices by the next token, whatever it is.
-use Rattle.std.proofs.Common.{◌≡◌, ℕ, Bool, true, false, cond, List, [], ◌∷◌, Result, Ok, Err, refl}
+use Rattle.std.proofs.Common.{◌≡◌, ℕ, List, Result, Err, refl}
 use Rattle.statement_syntax.specs.declared.place.Spot.{Spot}
 use Rattle.statement_syntax.specs.declared.token.TokenKind.{TokenKind}
 use Rattle.statement_syntax.specs.declared.token.TokenKind.TheVariants as kind
@@ -8,7 +8,7 @@ use Rattle.statement_syntax.specs.declared.tree.Number.{Number}
 use Rattle.statement_syntax.specs.declared.expression.Misfit.{Misfit}
 use Rattle.statement_syntax.specs.declared.expression.Misfit.TheVariants.{Expected}
 use Rattle.statement_syntax.specs.Steps.{◌>>=◌}
-use Rattle.statement_syntax.specs.Lines.{on_colon, on_arrow, on_equals, on_end, name_in, number_in, named, is_word}
+use Rattle.statement_syntax.specs.Lines.{on_colon, on_arrow, on_equals, on_end, name_in, number_in, named}
 
 module _ {A : Type 0} where
   -- what holds at a name, and wherever none is found, holds at each token

@@ -1,6 +1,6 @@
 -- A bracket that is too deep fits the grammar, though not within the limit.
-use Rattle.std.proofs.Common.{◌≡◌, ℕ, Bool, true, false, cond, List, [], ◌∷◌, ◌++◌, Option, Some, None, Result, Ok, Err, refl, sym, ap, ◌∙◌, append_assoc}
-use Rattle.std.specs.Prelude.{codes, bytes_eq}
+use Rattle.std.proofs.Common.{◌≡◌, Bool, true, false, cond, List, [], ◌∷◌, ◌++◌, Option, Some, None, Result, Ok, Err, refl, sym, ap, ◌∙◌, append_assoc}
+use Rattle.std.specs.Prelude.{codes}
 use Rattle.statement_syntax.specs.declared.place.Spot.{Spot}
 use Rattle.statement_syntax.specs.declared.token.Token.{Token}
 use Rattle.statement_syntax.specs.declared.token.TokenKind.{TokenKind}
@@ -8,7 +8,6 @@ use Rattle.statement_syntax.specs.declared.token.TokenKind.TheVariants as kind
 use Rattle.statement_syntax.specs.declared.tree.Name.{Name}
 use Rattle.statement_syntax.specs.declared.tree.Number.{Number}
 use Rattle.statement_syntax.specs.declared.tree.Sum.{Sum}
-use Rattle.statement_syntax.specs.declared.tree.Statement.{Statement}
 use Rattle.statement_syntax.specs.declared.tree.StatementKind.TheVariants as statement
 use Rattle.statement_syntax.specs.declared.expression.Misfit.{Misfit}
 use Rattle.statement_syntax.specs.declared.expression.Misfit.TheVariants.{Expected, TooDeep}
@@ -17,16 +16,15 @@ use Rattle.statement_syntax.specs.declared.line.Opening.{Opening}
 use Rattle.statement_syntax.specs.declared.line.SidesWord.{SidesWord}
 use Rattle.statement_syntax.specs.declared.line.MapRest.{MapRest}
 use Rattle.statement_syntax.specs.declared.line.MapRest.TheVariants as rest
-use Rattle.statement_syntax.specs.declared.line.Pairs.{Pairs}
 use Rattle.statement_syntax.specs.declared.line.Line.{Line}
 use Rattle.statement_syntax.specs.declared.line.Line.TheVariants as line
 use Rattle.statement_syntax.specs.declared.read.Progress.{Progress}
-use Rattle.statement_syntax.specs.Steps.{◌>>=◌, run, token_step, whole_sum}
+use Rattle.statement_syntax.specs.Steps.{◌>>=◌, token_step, whole_sum}
 use Rattle.statement_syntax.specs.Grammar.{Expr, expr_tokens, sign_token, name_token, word_token, sides_text, sides, Stated, stated_tokens, StatedLine, file_tokens}
-use Rattle.statement_syntax.specs.Lines.{Lined, opening_in, begun, start_step, name_in, is_word, whole, colon_after, map_names_step, map_step, left_step, sides_step, pairs_by, pairs_step, no_pairs, order_step, line_step, line_end, start_reading, beginning, ended, within_line, file_step}
+use Rattle.statement_syntax.specs.Lines.{Lined, opening_in, begun, start_step, name_in, is_word, whole, colon_after, map_step, sides_step, pairs_by, pairs_step, no_pairs, line_step, line_end, start_reading, ended, within_line, file_step}
 use Rattle.statement_syntax.proofs.Machine as machine
 use Rattle.statement_syntax.proofs.Machine.{State, step}
-use Rattle.statement_syntax.proofs.Seen.{reading_of, seen, tree_or}
+use Rattle.statement_syntax.proofs.Seen.{seen, tree_or}
 use Rattle.statement_syntax.proofs.Same.{step-seen, whole-seen}
 use Rattle.statement_syntax.proofs.Viable.{deep, somewhere, some_name}
 use Rattle.statement_syntax.proofs.Choices.{by_name, by_number, by_colon, by_arrow, by_equals, by_end}

@@ -1,6 +1,5 @@
 -- A file is read line by line: what was read is written so, can go on, and where a token is a misfit nothing goes on with it.
-use Rattle.std.proofs.Common.{◌≡◌, ℕ, Bool, true, false, cond, List, [], ◌∷◌, ◌++◌, ◌⊎◌, inl, inr, map, Option, Some, None, Result, Ok, Err, refl, sym, ap, ap₂, subst, ◌∙◌, append_assoc}
-use Rattle.std.specs.Prelude.{codes}
+use Rattle.std.proofs.Common.{◌≡◌, List, [], ◌∷◌, ◌++◌, inl, inr, Option, Some, None, Result, Ok, Err, refl, sym, ap, ap₂, subst, ◌∙◌, append_assoc}
 use Rattle.std.proofs.lemmas.List.{append-nil, map-append}
 use Rattle.statement_syntax.specs.declared.place.Spot.{Spot}
 use Rattle.statement_syntax.specs.declared.token.Token.{Token}
@@ -10,7 +9,6 @@ use Rattle.statement_syntax.specs.declared.tree.Name.{Name}
 use Rattle.statement_syntax.specs.declared.tree.Number.{Number}
 use Rattle.statement_syntax.specs.declared.tree.Sum.{Sum}
 use Rattle.statement_syntax.specs.declared.tree.Statement.{Statement}
-use Rattle.statement_syntax.specs.declared.tree.StatementKind.TheVariants as statement
 use Rattle.statement_syntax.specs.declared.expression.Misfit.{Misfit}
 use Rattle.statement_syntax.specs.declared.expression.Misfit.TheVariants.{Expected, TooDeep}
 use Rattle.statement_syntax.specs.declared.expression.Reading.{Reading}
@@ -22,18 +20,15 @@ use Rattle.statement_syntax.specs.declared.line.MapRest.TheVariants as rest
 use Rattle.statement_syntax.specs.declared.line.Line.{Line}
 use Rattle.statement_syntax.specs.declared.line.Line.TheVariants as line
 use Rattle.statement_syntax.specs.declared.read.Progress.{Progress}
-use Rattle.statement_syntax.specs.Steps.{◌>>=◌, run, focus_step, token_step, whole_sum}
-use Rattle.statement_syntax.specs.Grammar.{Expr, expr_tokens, sign_token, name_token, word_token, sides_text, sides, Stated, stated_tokens, StatedFits, StatedLine, line_tokens, file_tokens, FileFits}
+use Rattle.statement_syntax.specs.Steps.{◌>>=◌, run, focus_step}
+use Rattle.statement_syntax.specs.Grammar.{sign_token, Stated, stated_tokens, StatedLine, line_tokens, file_tokens, FileFits}
 use Rattle.statement_syntax.specs.Tree.{stated_tree, file_tree}
-use Rattle.statement_syntax.specs.Lines.{Lined, on_end, opening_in, begun, start_step, name_in, number_in, is_word, list_step, colon_after, map_names_step, map_step, left_step, sides_step, pair_step, pairs_by, order_step, projection_step, line_step, line_end, start_reading, beginning, ended, within_line, file_step}
-use Rattle.statement_syntax.proofs.Machine.{State, step}
-use Rattle.statement_syntax.proofs.Seen.{reading_of, seen, tree_or}
+use Rattle.statement_syntax.specs.Lines.{Lined, map_step, sides_step, pairs_by, line_step, line_end, beginning, ended, within_line, file_step}
 use Rattle.statement_syntax.proofs.Run.{Upto, then_on, before_it, after_it, run_upto, inside_upto, one_step, failing, run_front, bind_ok, ok_is, ok_differs}
-use Rattle.statement_syntax.proofs.Same.{step-seen, whole-seen}
-use Rattle.statement_syntax.proofs.Viable.{deep, somewhere, some_name}
-use Rattle.statement_syntax.proofs.Choices.{by_name, by_number, by_colon, by_arrow, by_equals, by_end, not_end}
-use Rattle.statement_syntax.proofs.LineReads.{ExprReads, FirstSide, SecondSide, SidesReads, LineReads, WholeReads, line_step_reads}
-use Rattle.statement_syntax.proofs.LineEnds.{line_end_reads, line_end-fault, line_on}
+use Rattle.statement_syntax.proofs.Viable.{somewhere}
+use Rattle.statement_syntax.proofs.Choices.{by_end, not_end}
+use Rattle.statement_syntax.proofs.LineReads.{LineReads, line_step_reads}
+use Rattle.statement_syntax.proofs.LineEnds.{line_end_reads, line_on}
 use Rattle.statement_syntax.proofs.LineRuns.{by_token, end_line, stated_run, stated_end}
 
 -- ---- the end of a line is a step of no line

@@ -1,10 +1,9 @@
 -- Where a line may end it is a statement's, and each line can go on to one.
-use Rattle.std.proofs.Common.{◌≡◌, ℕ, Bool, true, false, List, [], ◌∷◌, ◌++◌, map, Option, Some, None, Result, Ok, Err, refl, sym, ap, ap₂, subst, ◌∙◌, append_assoc}
+use Rattle.std.proofs.Common.{◌≡◌, false, List, [], ◌∷◌, ◌++◌, Option, Some, None, Result, Ok, Err, refl, sym, ap, ap₂, subst, ◌∙◌, append_assoc}
 use Rattle.std.specs.Prelude.{codes, pos}
 use Rattle.std.proofs.lemmas.List.{append-nil}
 use Rattle.statement_syntax.specs.declared.place.Spot.{Spot}
 use Rattle.statement_syntax.specs.declared.token.Token.{Token}
-use Rattle.statement_syntax.specs.declared.token.TokenKind.{TokenKind}
 use Rattle.statement_syntax.specs.declared.token.TokenKind.TheVariants as kind
 use Rattle.statement_syntax.specs.declared.tree.Name.{Name}
 use Rattle.statement_syntax.specs.declared.tree.Number.{Number}
@@ -13,12 +12,10 @@ use Rattle.statement_syntax.specs.declared.tree.Statement.{Statement}
 use Rattle.statement_syntax.specs.declared.tree.StatementKind.{StatementKind}
 use Rattle.statement_syntax.specs.declared.tree.StatementKind.TheVariants as statement
 use Rattle.statement_syntax.specs.declared.expression.Misfit.{Misfit}
-use Rattle.statement_syntax.specs.declared.expression.Misfit.TheVariants.{Expected, TooDeep}
+use Rattle.statement_syntax.specs.declared.expression.Misfit.TheVariants.{Expected}
 use Rattle.statement_syntax.specs.declared.expression.Reading.{Reading}
 use Rattle.statement_syntax.specs.declared.line.ListWord.{ListWord}
-use Rattle.statement_syntax.specs.declared.line.ListWord.TheVariants.{Object, Solve}
 use Rattle.statement_syntax.specs.declared.line.SidesWord.{SidesWord}
-use Rattle.statement_syntax.specs.declared.line.SidesWord.TheVariants.{Assume, Claim}
 use Rattle.statement_syntax.specs.declared.line.PairWord.{PairWord}
 use Rattle.statement_syntax.specs.declared.line.MapRest.{MapRest}
 use Rattle.statement_syntax.specs.declared.line.MapRest.TheVariants as rest
@@ -26,15 +23,15 @@ use Rattle.statement_syntax.specs.declared.line.Pairs.{Pairs}
 use Rattle.statement_syntax.specs.declared.line.Line.{Line}
 use Rattle.statement_syntax.specs.declared.line.Line.TheVariants as line
 use Rattle.statement_syntax.specs.Steps.{◌>>=◌, whole_sum}
-use Rattle.statement_syntax.specs.Grammar.{Expr, first, no_sign, factors, one, plain, name, expr_tokens, ExprFits, sign_token, name_token, number_token, word_token, names_tokens, pairs_tokens, list_text, sides_text, pair_text, Ending, no_word, self_word, Stated, listed, mapped, sides, paired, projected, by_degree, by_weight, modelled, stated_tokens, StatedFits}
-use Rattle.statement_syntax.specs.Tree.{expr_tree, stated_tree, list_kind, sides_kind, pair_kind}
+use Rattle.statement_syntax.specs.Grammar.{Expr, first, no_sign, factors, one, plain, name, expr_tokens, sign_token, name_token, number_token, word_token, names_tokens, pairs_tokens, sides_text, no_word, Stated, listed, mapped, sides, paired, projected, by_degree, by_weight, modelled, stated_tokens, StatedFits}
+use Rattle.statement_syntax.specs.Tree.{sides_kind}
 use Rattle.statement_syntax.specs.Lines.{list_end, map_end, sides_end, pairs_end, whole_pairs, weights_by, weights_end, shape_end, statement_by, line_end}
 use Rattle.statement_syntax.proofs.Run.{bind_ok}
 use Rattle.statement_syntax.proofs.Seen.{tree_or}
 use Rattle.statement_syntax.proofs.Same.{whole-seen}
 use Rattle.statement_syntax.proofs.Viable.{viable, somewhere, some_name}
 use Rattle.statement_syntax.proofs.Machine as machine
-use Rattle.statement_syntax.proofs.LineReads.{ExprReads, HasFirst, MapReads, RestReads, FirstSide, SecondSide, SidesReads, half_tokens, read_pairs, WholeReads, LineReads, reading_ends, pairs_more}
+use Rattle.statement_syntax.proofs.LineReads.{MapReads, RestReads, FirstSide, SecondSide, SidesReads, half_tokens, WholeReads, LineReads, reading_ends, pairs_more}
 
 -- ---- what has ended
 

@@ -1,7 +1,6 @@
 -- The tokens that bring a line to what has been read of it; with each step there is one more, and where the line may end they are a statement's.
-use Rattle.std.proofs.Common.{◌≡◌, ℕ, Bool, true, false, cond, List, [], ◌∷◌, ◌++◌, map, Option, Some, None, Result, Ok, Err, refl, sym, ap, ap₂, subst, ◌∙◌, append_assoc}
+use Rattle.std.proofs.Common.{◌≡◌, ℕ, Bool, true, false, cond, List, [], ◌∷◌, ◌++◌, Option, Some, None, Result, Ok, Err, refl, sym, ap, ap₂, subst, ◌∙◌, append_assoc}
 use Rattle.std.specs.Prelude.{bytes_eq, codes}
-use Rattle.std.specs.List.{flat_map}
 use Rattle.std.proofs.lemmas.List.{append-nil, map-append}
 use Rattle.std.proofs.lemmas.Slice.Eq.{bytes_eq-Decides}
 use Rattle.statement_syntax.specs.declared.place.Spot.{Spot}
@@ -14,7 +13,7 @@ use Rattle.statement_syntax.specs.declared.tree.Sum.{Sum}
 use Rattle.statement_syntax.specs.declared.tree.Statement.{Statement}
 use Rattle.statement_syntax.specs.declared.tree.StatementKind.TheVariants as statement
 use Rattle.statement_syntax.specs.declared.expression.Misfit.{Misfit}
-use Rattle.statement_syntax.specs.declared.expression.Misfit.TheVariants.{Expected, TooDeep}
+use Rattle.statement_syntax.specs.declared.expression.Misfit.TheVariants.{Expected}
 use Rattle.statement_syntax.specs.declared.expression.Reading.{Reading}
 use Rattle.statement_syntax.specs.declared.line.ListWord.{ListWord}
 use Rattle.statement_syntax.specs.declared.line.ListWord.TheVariants.{Object, Solve}
@@ -30,13 +29,13 @@ use Rattle.statement_syntax.specs.declared.line.Pairs.{Pairs}
 use Rattle.statement_syntax.specs.declared.line.Line.{Line}
 use Rattle.statement_syntax.specs.declared.line.Line.TheVariants as line
 use Rattle.statement_syntax.specs.Steps.{◌>>=◌, run, token_step, whole_sum}
-use Rattle.statement_syntax.specs.Grammar.{Expr, expr_tokens, ExprFits, sign_token, name_token, number_token, word_token, names_tokens, pairs_tokens, list_text, sides_text, pair_text, Ending, no_word, self_word, Stated, listed, mapped, sides, paired, projected, by_degree, by_weight, modelled, stated_tokens, StatedFits}
-use Rattle.statement_syntax.specs.Tree.{expr_tree, stated_tree, list_kind, sides_kind, pair_kind}
-use Rattle.statement_syntax.specs.Lines.{Lined, named, on_colon, on_arrow, on_equals, name_in, number_in, opening_in, start_reading, opened, begun, start_step, is_word, whole, list_step, colon_after, map_names_step, map_step, left_step, sides_step, pair_with, pair_step, no_pairs, pairs_by, pairs_step, order_step, projection_step, line_step}
+use Rattle.statement_syntax.specs.Grammar.{Expr, expr_tokens, ExprFits, sign_token, name_token, number_token, word_token, names_tokens, pairs_tokens, list_text, sides_text, pair_text, self_word, Stated, mapped, paired, projected, by_degree, stated_tokens, StatedFits}
+use Rattle.statement_syntax.specs.Tree.{expr_tree, stated_tree}
+use Rattle.statement_syntax.specs.Lines.{Lined, named, name_in, opening_in, start_reading, opened, begun, start_step, whole, list_step, colon_after, map_names_step, map_step, sides_step, pair_step, no_pairs, pairs_by, pairs_step, order_step, projection_step, line_step}
 use Rattle.statement_syntax.proofs.Machine as machine
 use Rattle.statement_syntax.proofs.Machine.{State, fresh, step}
 use Rattle.statement_syntax.proofs.Seen.{reading_of, seen, tree_or}
-use Rattle.statement_syntax.proofs.Run.{bind_ok, run_front}
+use Rattle.statement_syntax.proofs.Run.{run_front}
 use Rattle.statement_syntax.proofs.Same.{step-seen, whole-seen}
 use Rattle.statement_syntax.proofs.Viable.{found, within}
 use Rattle.statement_syntax.proofs.Choices.{by_name, by_number, by_colon, by_arrow, by_equals}

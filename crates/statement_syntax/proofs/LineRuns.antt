@@ -1,10 +1,9 @@
 -- Each statement is read as itself where it is within the limit, and else stops at a bracket that is too deep.
-use Rattle.std.proofs.Common.{◌≡◌, ℕ, Bool, true, false, cond, List, [], ◌∷◌, ◌++◌, ◌⊎◌, inl, inr, map, Option, Some, None, Result, Ok, Err, refl, sym, ap, ap₂, subst, ◌∙◌, append_assoc}
-use Rattle.std.specs.Prelude.{codes, pos}
+use Rattle.std.proofs.Common.{◌≡◌, true, List, [], ◌∷◌, ◌++◌, inl, Some, None, Result, Ok, Err, refl, sym, ap, ◌∙◌, append_assoc}
+use Rattle.std.specs.Prelude.{codes}
 use Rattle.std.proofs.lemmas.List.{append-nil}
 use Rattle.statement_syntax.specs.declared.place.Spot.{Spot}
 use Rattle.statement_syntax.specs.declared.token.Token.{Token}
-use Rattle.statement_syntax.specs.declared.token.TokenKind.{TokenKind}
 use Rattle.statement_syntax.specs.declared.token.TokenKind.TheVariants as kind
 use Rattle.statement_syntax.specs.declared.tree.Name.{Name}
 use Rattle.statement_syntax.specs.declared.tree.Number.{Number}
@@ -12,7 +11,6 @@ use Rattle.statement_syntax.specs.declared.tree.Sum.{Sum}
 use Rattle.statement_syntax.specs.declared.tree.StatementKind.TheVariants as statement
 use Rattle.statement_syntax.specs.declared.expression.Misfit.{Misfit}
 use Rattle.statement_syntax.specs.declared.expression.Misfit.TheVariants.{Expected, TooDeep}
-use Rattle.statement_syntax.specs.declared.expression.Reading.{Reading}
 use Rattle.statement_syntax.specs.declared.line.ListWord.{ListWord}
 use Rattle.statement_syntax.specs.declared.line.ListWord.TheVariants.{Object, Solve}
 use Rattle.statement_syntax.specs.declared.line.SidesWord.{SidesWord}
@@ -24,13 +22,13 @@ use Rattle.statement_syntax.specs.declared.line.Pairs.{Pairs}
 use Rattle.statement_syntax.specs.declared.line.Line.{Line}
 use Rattle.statement_syntax.specs.declared.line.Line.TheVariants as line
 use Rattle.statement_syntax.specs.Steps.{◌>>=◌, run, token_step, whole_sum}
-use Rattle.statement_syntax.specs.Grammar.{Expr, expr_tokens, ExprFits, sign_token, name_token, number_token, word_token, names_tokens, pairs_tokens, list_text, sides_text, pair_text, Ending, no_word, self_word, ending_tokens, Stated, listed, mapped, sides, paired, projected, by_degree, by_weight, modelled, stated_tokens, StatedFits}
+use Rattle.statement_syntax.specs.Grammar.{Expr, expr_tokens, ExprFits, sign_token, name_token, number_token, word_token, names_tokens, pairs_tokens, list_text, sides_text, Ending, no_word, self_word, ending_tokens, Stated, listed, mapped, sides, paired, projected, by_degree, by_weight, modelled, stated_tokens, StatedFits}
 use Rattle.statement_syntax.specs.Tree.{expr_tree, stated_tree, sides_kind, is_self}
-use Rattle.statement_syntax.specs.Lines.{Lined, start_reading, whole, on_equals, line_step, line_end, sides_end, statement_by}
+use Rattle.statement_syntax.specs.Lines.{Lined, start_reading, whole, line_step, line_end, statement_by}
 use Rattle.statement_syntax.proofs.Machine as machine
 use Rattle.statement_syntax.proofs.Machine.{Focus, outside, square, State, Stepped, fresh, step}
 use Rattle.statement_syntax.proofs.Seen.{reading_of, seen, tree_or}
-use Rattle.statement_syntax.proofs.Run.{Upto, then_on, before_it, after_it, run_upto, inside_upto, one_step, ok_differs}
+use Rattle.statement_syntax.proofs.Run.{Upto, then_on, before_it, run_upto, inside_upto, one_step, ok_differs}
 use Rattle.statement_syntax.proofs.Runs.{end_state, end-whole}
 use Rattle.statement_syntax.proofs.Same.{step-seen, whole-seen}
 use Rattle.statement_syntax.proofs.Viable.{only}

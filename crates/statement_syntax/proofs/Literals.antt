@@ -1,14 +1,13 @@
 -- A written literal is read as its value.
-use Rattle.std.proofs.Common.{◌≡◌, ℕ, zero, suc, ◌+◌, ◌-◌, ◌*◌, ◌/◌, ◌%◌, ◌<◌, ◌≤◌, ◌^◌, ◌==◌, ◌&&◌, Bool, true, false, cond, leb, List, [], ◌∷◌, ◌++◌, length, Result, Ok, Err, refl, sym, ap, ap₂, subst, ◌∙◌, arith}
-use Rattle.std.specs.Prelude.{nat_le, nat_lt, pos, decimal}
+use Rattle.std.proofs.Common.{◌≡◌, ℕ, ◌+◌, ◌-◌, ◌*◌, ◌%◌, ◌<◌, ◌≤◌, ◌^◌, ◌==◌, ◌&&◌, Bool, true, false, List, [], ◌∷◌, ◌++◌, length, Ok, refl, ap, ◌∙◌, arith}
+use Rattle.std.specs.Prelude.{nat_le, pos, decimal}
 use Rattle.std.proofs.lemmas.Fmt.{decimal_by_steps_wide}
 use Rattle.std.proofs.lemmas.Bool.{le-leb, leb-true, lt-leb, lt-ltb, ne_eqb}
 use Rattle.std.proofs.lemmas.List.{take_at}
-use Rattle.unicode_ident.specs.Ident.{is_xid_start}
 use Rattle.unicode_ident.proofs.IdentLemmas.{is_xid_start-ascii}
 use Rattle.statement_syntax.specs.declared.token.TokenKind.TheVariants as kind
 use Rattle.statement_syntax.specs.declared.scan.Item.TheVariants as item
-use Rattle.statement_syntax.specs.Token.{item_at, is_digit, value_from, literal_of, starts_name}
+use Rattle.statement_syntax.specs.Token.{item_at, is_digit, value_from, starts_name}
 use Rattle.statement_syntax.proofs.Spelled.{EachIs}
 use Rattle.statement_syntax.proofs.Rescan.{StopsAt, prefix_is}
 

@@ -1,5 +1,5 @@
 -- Items read one after another, whatever a step does.
-use Rattle.std.proofs.Common.{◌≡◌, Bool, true, false, List, [], ◌∷◌, ◌++◌, ◌⊎◌, inl, inr, Result, Ok, Err, refl, sym, ap, ◌∙◌}
+use Rattle.std.proofs.Common.{◌≡◌, List, [], ◌∷◌, ◌++◌, ◌⊎◌, inl, inr, Result, Ok, Err, refl, sym, ap, ◌∙◌}
 use Rattle.statement_syntax.specs.declared.token.Token.{Token}
 use Rattle.statement_syntax.specs.declared.expression.Misfit.{Misfit}
 use Rattle.statement_syntax.specs.declared.expression.Misfit.TheVariants.{TooDeep}

@@ -1,20 +1,16 @@
 -- Each expression is read: after its tokens stands the state that it ends in.
-use Rattle.std.proofs.Common.{◌≡◌, ℕ, zero, suc, ◌+◌, ◌<◌, ◌≤◌, Bool, true, false, cond, ltb, List, [], ◌∷◌, ◌++◌, length, ◌⊎◌, inl, inr, Option, Some, None, Result, Ok, Err, refl, sym, ap, ap₂, subst, ◌∙◌, append_assoc, arith}
-use Rattle.std.specs.Prelude.{ℤ, pos, negsuc, nat_lt}
-use Rattle.std.proofs.lemmas.List.{append-nil}
+use Rattle.std.proofs.Common.{◌≡◌, ℕ, zero, suc, ◌+◌, ◌<◌, cond, List, [], ◌∷◌, ◌++◌, length, inl, inr, Option, Some, None, Ok, Err, refl, ap, ◌∙◌, append_assoc, arith}
 use Rattle.std.proofs.lemmas.Bool.{lt-ltb, le-ltb}
 use Rattle.statement_syntax.specs.declared.place.Spot.{Spot}
 use Rattle.statement_syntax.specs.declared.token.Token.{Token}
-use Rattle.statement_syntax.specs.declared.token.TokenKind.{TokenKind}
 use Rattle.statement_syntax.specs.declared.token.TokenKind.TheVariants as kind
 use Rattle.statement_syntax.specs.declared.tree.Name.{Name}
 use Rattle.statement_syntax.specs.declared.tree.Number.{Number}
-use Rattle.statement_syntax.specs.declared.expression.Misfit.{Misfit}
-use Rattle.statement_syntax.specs.declared.expression.Misfit.TheVariants.{Expected, TooDeep}
+use Rattle.statement_syntax.specs.declared.expression.Misfit.TheVariants.{TooDeep}
 use Rattle.statement_syntax.specs.Steps.{◌>>=◌, run}
 use Rattle.statement_syntax.proofs.Run.{Upto, then_on, before_it, after_it, one_step}
-use Rattle.statement_syntax.specs.Grammar.{Lead, no_sign, lead_plus, lead_minus, Sign, plus, minus, Expr, first, joined, Product, zero_alone, factors, Factors, one, beside, Marked, plain, marked, Prime, name, identity, bracket, sign_token, name_token, number_token, lead_tokens, signed_token, literal_tokens, zero_at, expr_tokens, product_tokens, factors_tokens, marked_tokens, prime_tokens, ExprFits, ProductFits, FactorsFit, MarkedFits, PrimeFits}
-use Rattle.statement_syntax.proofs.Machine.{Head, led, after, Part, nothing, scaled, product, Focus, outside, square, named, Level, State, fresh, add, with_mark, lone_literal, whole_term, with_term, Stepped, step_literal, lead_of, sign_after, step_sign, step_quote, close_after, step_open, step_outside, step_square, step_named, step_by, step, end_by, whole}
+use Rattle.statement_syntax.specs.Grammar.{Lead, no_sign, lead_plus, lead_minus, Sign, plus, minus, Expr, first, joined, Product, zero_alone, factors, Factors, one, beside, Marked, plain, marked, Prime, name, identity, bracket, sign_token, name_token, lead_tokens, signed_token, literal_tokens, zero_at, expr_tokens, product_tokens, factors_tokens, marked_tokens, prime_tokens, ExprFits, ProductFits, FactorsFit, MarkedFits, PrimeFits}
+use Rattle.statement_syntax.proofs.Machine.{Head, led, after, Part, nothing, scaled, product, outside, Level, State, fresh, add, step, whole}
 
 -- ---- the state at the end of each part
 

@@ -1,22 +1,20 @@
 -- The program's steps are those of the definition, seen without the places of signs.
-use Rattle.std.proofs.Common.{◌≡◌, ℕ, zero, suc, ◌+◌, ◌<◌, ◌≤◌, Bool, true, false, cond, ltb, List, [], ◌∷◌, ◌++◌, length, Option, Some, None, Result, Ok, Err, refl, sym, ap, ap₂, subst, ◌∙◌, append_assoc, arith}
-use Rattle.std.specs.Prelude.{ℤ, pos, negsuc, nat_lt}
+use Rattle.std.proofs.Common.{◌≡◌, zero, suc, Bool, true, false, cond, ltb, List, [], ◌∷◌, ◌++◌, length, Option, Some, None, Result, Ok, Err, refl, sym, ap, ap₂, ◌∙◌}
+use Rattle.std.specs.Prelude.{ℤ, pos, negsuc}
 use Rattle.statement_syntax.specs.declared.place.Spot.{Spot}
 use Rattle.statement_syntax.specs.declared.token.Token.{Token}
 use Rattle.statement_syntax.specs.declared.token.TokenKind.{TokenKind}
 use Rattle.statement_syntax.specs.declared.token.TokenKind.TheVariants as kind
 use Rattle.statement_syntax.specs.declared.tree.Name.{Name}
 use Rattle.statement_syntax.specs.declared.tree.Number.{Number}
-use Rattle.statement_syntax.specs.declared.tree.Term.{Term, out-Term, roll-Term, out-roll-Term}
-use Rattle.statement_syntax.specs.declared.tree.Sum.{Sum}
+use Rattle.statement_syntax.specs.declared.tree.Term.{Term, out-Term, out-roll-Term}
 use Rattle.statement_syntax.specs.declared.expression.Misfit.{Misfit}
 use Rattle.statement_syntax.specs.declared.expression.Misfit.TheVariants.{Expected, TooDeep}
-use Rattle.statement_syntax.specs.declared.expression.Reading.{Reading}
-use Rattle.statement_syntax.specs.Grammar.{Lead, no_sign, lead_plus, lead_minus, Sign, plus, minus, Expr, first, joined, Product, zero_alone, factors, Factors, one, beside, Marked, plain, marked, Prime, name, identity, bracket, zero_at}
-use Rattle.statement_syntax.proofs.Machine.{Head, led, after, Part, nothing, scaled, product, Focus, outside, square, named, Level, State, fresh, add, with_mark, lone_literal, whole_term, with_term, Stepped, step_literal, lead_of, sign_after, step_sign, step_quote, close_after, step_open, step_outside, step_square, step_named, step_by, step, end_by, whole}
+use Rattle.statement_syntax.specs.Grammar.{no_sign, lead_plus, lead_minus, Sign, plus, minus, Product, zero_alone, factors, one, beside, Prime, name, identity, bracket}
+use Rattle.statement_syntax.proofs.Machine.{Head, led, after, Part, nothing, scaled, product, Focus, outside, square, named, Level, State, fresh, add, lone_literal, whole_term, with_term, step_literal, lead_of, sign_after, step_sign, step_quote, close_after, step_open, step_outside, step_square, step_named, step_by, step, end_by, whole}
 use Rattle.statement_syntax.specs.Steps as steps
 use Rattle.statement_syntax.specs.Steps.{◌>>=◌, run}
-use Rattle.statement_syntax.specs.Tree.{prime_at, prime_tree, product_at, product_tree, expr_at, expr_terms, expr_tree, is_minus, is_negative, literal_or, factors_at, front_trees, last_tree}
+use Rattle.statement_syntax.specs.Tree.{prime_at, prime_tree, product_at, product_tree, expr_at, expr_terms, expr_tree, is_minus}
 use Rattle.statement_syntax.proofs.Seen.{head_of, part_of, focus_of, levels_of, reading_of, seen, tree_or}
 
 add-seen : (part : Part) (p : Prime) → steps.part_with (part_of part) (prime_tree p) (prime_at p) ≡ part_of (add part p)

@@ -1,14 +1,13 @@
 -- One turn of the scanner reads one item of what is left.
 use Rattle.std.proofs.Common.{◌≡◌, ℕ, zero, suc, ◌+◌, ◌-◌, ◌<◌, ◌≤◌, List, [], ◌∷◌, ◌++◌, length, length-drop, drop, take, get_or, Result, Ok, Err, refl, sym, ap, ap₂, ◌∙◌, append_assoc, arith}
-use Rattle.std.proofs.lemmas.List.{append-nil, drop_more, drop_all, take_rest, drop-drop}
+use Rattle.std.proofs.lemmas.List.{drop_more, drop_all, take_rest, drop-drop}
 use Rattle.statement_syntax.specs.declared.place.Spot.{Spot}
 use Rattle.statement_syntax.specs.declared.token.Token.{Token}
 use Rattle.statement_syntax.specs.declared.token.TokenKind.{TokenKind}
-use Rattle.statement_syntax.specs.declared.scan.Item.{Item}
 use Rattle.statement_syntax.specs.declared.scan.Item.TheVariants as item
 use Rattle.statement_syntax.specs.declared.scan.ScanFault.{ScanFault}
 use Rattle.statement_syntax.specs.declared.scan.Placed.{Placed}
-use Rattle.statement_syntax.specs.Token.{◌>>=◌, item_at, tokens_from, tokens_of, placed, right_of, below, end_of, with_front}
+use Rattle.statement_syntax.specs.Token.{◌>>=◌, item_at, tokens_from, placed, end_of, with_front}
 
 abbrev pub spot : ℕ → ℕ → Spot
 spot line column = record { line = line; column = column }

@@ -1,5 +1,5 @@
 -- What is read as a name or a literal is spelled as one.
-use Rattle.std.proofs.Common.{◌≡◌, ℕ, zero, suc, ◌+◌, ◌-◌, ◌≤◌, ◌<◌, ◌^◌, ◌==◌, ◌&&◌, ◌||◌, Bool, true, false, cond, leb, ltb, List, [], ◌∷◌, ◌++◌, length, take, Result, Ok, Err, refl, sym, ap, subst, ◌∙◌, arith}
+use Rattle.std.proofs.Common.{◌≡◌, ℕ, zero, suc, ◌+◌, ◌≤◌, ◌<◌, ◌^◌, ◌==◌, ◌&&◌, ◌||◌, Bool, true, false, cond, List, [], ◌∷◌, ◌++◌, length, take, Result, Ok, Err, refl, ap, subst, ◌∙◌, arith}
 use Rattle.std.specs.Prelude.{ℤ, pos, nat_le, nat_lt}
 use Rattle.std.specs.List.{prefix_len, take_while}
 use Rattle.std.specs.Str.{encode_utf8_all}
@@ -15,7 +15,7 @@ use Rattle.statement_syntax.specs.declared.scan.Item.TheVariants as item
 use Rattle.statement_syntax.specs.declared.scan.ScanFault.{ScanFault}
 use Rattle.statement_syntax.specs.declared.scan.ScanFault.TheVariants.{BadToken, LiteralTooLarge}
 use Rattle.statement_syntax.specs.declared.scan.Placed.{Placed}
-use Rattle.statement_syntax.specs.Token.{◌>>=◌, item_at, sign_at, starts_name, is_digit, is_inside_line, begins_with, value_from, name_of, literal_of, tokens_from, placed, end_of, right_of, below}
+use Rattle.statement_syntax.specs.Token.{item_at, sign_at, starts_name, is_digit, begins_with, name_of, literal_of, tokens_from, placed, end_of, right_of, below}
 use Rattle.statement_syntax.proofs.LastToken.{scan_ok, tokens_is}
 use Rattle.statement_syntax.proofs.Moved.{kinds}
 

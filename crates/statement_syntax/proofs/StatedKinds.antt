@@ -1,5 +1,5 @@
 -- The tokens that are written of a tree are those of its statements without their places.
-use Rattle.std.proofs.Common.{◌≡◌, ℕ, zero, suc, ◌+◌, Bool, true, false, List, [], ◌∷◌, ◌++◌, length, map, Option, Some, None, refl, sym, ap, ap₂, subst, ◌∙◌, append_assoc}
+use Rattle.std.proofs.Common.{◌≡◌, ℕ, Bool, true, false, List, [], ◌∷◌, ◌++◌, length, Option, Some, None, refl, sym, ap, ap₂, ◌∙◌, append_assoc}
 use Rattle.std.specs.Prelude.{codes}
 use Rattle.std.specs.List.{flat_map}
 use Rattle.std.proofs.lemmas.List.{append-nil, map-append}
@@ -13,19 +13,16 @@ use Rattle.statement_syntax.specs.declared.tree.Number.{Number}
 use Rattle.statement_syntax.specs.declared.tree.Mark.{Mark}
 use Rattle.statement_syntax.specs.declared.tree.Mark.TheVariants.{Adjoint}
 use Rattle.statement_syntax.specs.declared.tree.Factor.{Factor}
-use Rattle.statement_syntax.specs.declared.tree.Term.{Term, out-Term, roll-Term, out-roll-Term}
-use Rattle.statement_syntax.specs.declared.tree.Sum.{Sum, out-Sum, roll-Sum, out-roll-Sum}
-use Rattle.statement_syntax.specs.declared.line.ListWord.{ListWord}
+use Rattle.statement_syntax.specs.declared.tree.Term.{Term, out-roll-Term}
+use Rattle.statement_syntax.specs.declared.tree.Sum.{out-roll-Sum}
 use Rattle.statement_syntax.specs.declared.line.ListWord.TheVariants.{Object, Solve}
-use Rattle.statement_syntax.specs.declared.line.SidesWord.{SidesWord}
 use Rattle.statement_syntax.specs.declared.line.SidesWord.TheVariants.{Assume, Claim}
-use Rattle.statement_syntax.specs.declared.line.PairWord.{PairWord}
 use Rattle.statement_syntax.specs.declared.line.PairWord.TheVariants.{Pinv, Inverse, Inner}
-use Rattle.statement_syntax.specs.Steps.{factor_of, term_of, sum_of, marked_factor}
-use Rattle.statement_syntax.specs.Grammar.{Lead, no_sign, lead_plus, lead_minus, Sign, plus, minus, Expr, first, joined, Product, zero_alone, factors, Factors, one, beside, Marked, plain, marked, Prime, name, identity, bracket, sign_token, name_token, number_token, zero_at, lead_tokens, signed_token, literal_tokens, expr_tokens, product_tokens, factors_tokens, marked_tokens, prime_tokens, Ending, no_word, self_word, ending_tokens, word_token, names_tokens, pairs_tokens, list_text, sides_text, pair_text, Stated, listed, mapped, sides, paired, projected, by_degree, by_weight, modelled, stated_tokens}
-use Rattle.statement_syntax.specs.Tree.{prime_at, prime_tree, marked_tree, front_trees, last_tree, product_tree, expr_terms, expr_tree, expr_at, is_minus, is_negative, literal_or, factors_at, list_kind, sides_kind, pair_kind, is_self, stated_kind}
-use Rattle.statement_syntax.specs.Places.{somewhere, bare_name, bare_number, bare_literal, bare_lead, bare_sign, bare, bare_product, bare_factors, bare_marked, bare_prime, bare_ending, bare_names, bare_pair, bare_pairs, bare_stated}
-use Rattle.statement_syntax.specs.Written.{name_kinds, number_kinds, literal_kinds, sign_kinds, quotes, primary_kinds, factor_kinds, term_kinds, sum_kinds, word_kinds, pair_kinds, list_kinds, self_kinds, map_kinds, sides_kinds, two_kinds, statement_kinds}
+use Rattle.statement_syntax.specs.Steps.{term_of, sum_of}
+use Rattle.statement_syntax.specs.Grammar.{Lead, no_sign, lead_plus, lead_minus, Sign, plus, minus, Expr, first, joined, Product, zero_alone, factors, Factors, one, beside, Marked, plain, marked, Prime, name, identity, bracket, sign_token, name_token, zero_at, lead_tokens, signed_token, literal_tokens, expr_tokens, product_tokens, factors_tokens, marked_tokens, prime_tokens, Ending, no_word, self_word, ending_tokens, names_tokens, pairs_tokens, Stated, listed, mapped, sides, paired, projected, by_degree, by_weight, modelled, stated_tokens}
+use Rattle.statement_syntax.specs.Tree.{prime_tree, marked_tree, front_trees, last_tree, product_tree, expr_terms, expr_tree, expr_at, is_minus, is_negative, literal_or, factors_at, is_self, stated_kind}
+use Rattle.statement_syntax.specs.Places.{somewhere, bare_name, bare_literal, bare_lead, bare_sign, bare, bare_product, bare_factors, bare_marked, bare_prime, bare_ending, bare_names, bare_pairs, bare_stated}
+use Rattle.statement_syntax.specs.Written.{name_kinds, number_kinds, literal_kinds, sign_kinds, quotes, primary_kinds, factor_kinds, term_kinds, sum_kinds, pair_kinds, self_kinds, sides_kinds, statement_kinds}
 use Rattle.statement_syntax.proofs.TreeKinds.{terms_of, term-flat, sum-flat}
 use Rattle.statement_syntax.proofs.Moved.{kinds}
 

@@ -1,5 +1,5 @@
 -- The loop over the tokens of a file, and what its end says of the bytes.
-use Rattle.std.proofs.Common.{◌≡◌, ℕ, zero, suc, ◌+◌, ◌≤◌, ◌<◌, Bool, true, false, List, [], ◌∷◌, ◌++◌, ◌⊎◌, inl, inr, length, take, drop, get_or, Result, Ok, Err, refl, sym, ap, subst, ◌∙◌, arith, take-append-drop, append_assoc}
+use Rattle.std.proofs.Common.{◌≡◌, ℕ, ◌+◌, ◌<◌, List, [], ◌∷◌, ◌++◌, inl, inr, length, take, drop, get_or, Ok, Err, refl, sym, ap, subst, ◌∙◌, take-append-drop, append_assoc}
 use Rattle.std.proofs.lemmas.List.{append-nil, drop_more, take_more}
 use Rattle.std.specs.Str.{IsUtf8, chars}
 use Rattle.statement_syntax.specs.declared.place.Spot.{Spot}
@@ -21,9 +21,9 @@ use Rattle.statement_syntax.specs.Token.{tokens_of}
 use Rattle.statement_syntax.specs.Grammar.{sign_token, StatedLine, file_tokens, FileFits}
 use Rattle.statement_syntax.specs.Tree.{file_tree}
 use Rattle.statement_syntax.specs.Lines.{line_end, beginning, ended, file_step}
-use Rattle.statement_syntax.specs.Fault.{IsStatements, IsTreeOf, GoesOn, GoesOnWithin, IsMisfit, IsFirstFault, TellsFirstFault, IsWantOfMemory, fault_at, misfit_fault}
+use Rattle.statement_syntax.specs.Fault.{IsStatements, IsTreeOf, IsMisfit, TellsFirstFault, IsWantOfMemory, fault_at, misfit_fault}
 use Rattle.statement_syntax.specs.Stages.{StoppedAt, AllRead, Refused, IsRefusal}
-use Rattle.statement_syntax.proofs.Run.{bind_ok, ok_is, run_front, one_step, upto_ok, Upto}
+use Rattle.statement_syntax.proofs.Run.{bind_ok, ok_is, run_front, one_step, upto_ok}
 use Rattle.statement_syntax.proofs.LastToken.{EndsWell, ends_from, tokens_is}
 use Rattle.statement_syntax.proofs.LineReads.{LineReads}
 use Rattle.statement_syntax.proofs.FileReads.{FileReads, run_reads, file_on, file_misfit, all_run, in_file}

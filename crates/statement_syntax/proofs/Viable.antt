@@ -1,5 +1,5 @@
 -- What a state has read can go on to an expression; what a fault stands at can't.
-use Rattle.std.proofs.Common.{◌≡◌, ℕ, zero, suc, ◌+◌, ◌≤◌, Bool, true, false, cond, List, [], ◌∷◌, ◌++◌, length, Option, Some, None, Result, Ok, Err, refl, sym, ap, ap₂, subst, ◌∙◌, append_assoc, arith}
+use Rattle.std.proofs.Common.{◌≡◌, List, [], ◌∷◌, ◌++◌, Option, Some, None, Ok, Err, refl, sym, ap, ◌∙◌, append_assoc, arith}
 use Rattle.std.proofs.lemmas.List.{append-nil}
 use Rattle.statement_syntax.specs.declared.place.Spot.{Spot}
 use Rattle.statement_syntax.specs.declared.token.Token.{Token}
@@ -7,14 +7,13 @@ use Rattle.statement_syntax.specs.declared.token.TokenKind.{TokenKind}
 use Rattle.statement_syntax.specs.declared.token.TokenKind.TheVariants as kind
 use Rattle.statement_syntax.specs.declared.tree.Number.{Number}
 use Rattle.statement_syntax.specs.declared.tree.Name.{Name}
-use Rattle.statement_syntax.specs.declared.expression.Misfit.{Misfit}
-use Rattle.statement_syntax.specs.declared.expression.Misfit.TheVariants.{Expected, TooDeep}
+use Rattle.statement_syntax.specs.declared.expression.Misfit.TheVariants.{TooDeep}
 use Rattle.statement_syntax.specs.Steps.{◌>>=◌, run}
 use Rattle.statement_syntax.specs.Grammar.{no_sign, lead_plus, lead_minus, Sign, plus, minus, Expr, Product, factors, one, beside, plain, Prime, name, identity, bracket, sign_token, name_token, expr_tokens, ExprFits}
 use Rattle.statement_syntax.proofs.Machine.{Head, led, after, Part, nothing, scaled, product, Focus, outside, square, named, Level, State, fresh, add, whole_term, with_term, Stepped, step_literal, sign_after, step_sign, step_quote, close_after, step_outside, step_square, step_named, step_by, step, whole, end_by, state_tokens, head_tokens, part_tokens}
-use Rattle.statement_syntax.proofs.StateReads.{with_term-tokens, whole_term-tokens, run_reads, step_reads}
+use Rattle.statement_syntax.proofs.StateReads.{with_term-tokens, whole_term-tokens, run_reads}
 use Rattle.statement_syntax.proofs.Run.{Upto, before_it, upto_ok, run_front}
-use Rattle.statement_syntax.proofs.Runs.{at_outside, end_state, expr_run, end-whole}
+use Rattle.statement_syntax.proofs.Runs.{at_outside, end_state, expr_run}
 
 abbrev pub somewhere : Spot
 somewhere = record { line = 1; column = 1 }

@@ -1,5 +1,5 @@
 -- The grammar: a production is a constructor, with the places of its words and signs. The tokens that it is written as.
-use Rattle.std.specs.Prelude.{◌≡◌, ℕ, zero, suc, List, [], ◌∷◌, ◌++◌, map, Option, Some, None, pos, codes}
+use Rattle.std.specs.Prelude.{ℕ, zero, suc, List, [], ◌∷◌, ◌++◌, map, Option, Some, None, pos, codes}
 use Rattle.std.specs.List.{flat_map}
 use Rattle.statement_syntax.specs.declared.place.Spot.{Spot}
 use Rattle.statement_syntax.specs.declared.line.ListWord.{ListWord}

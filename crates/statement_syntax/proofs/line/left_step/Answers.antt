@@ -1,7 +1,6 @@
-use Rattle.std.proofs.Common.{◌≡◌, ap, ◌∙◌, None, Ok}
+use Rattle.std.proofs.Common.{ap, ◌∙◌, None, Ok}
 use Rattle.statement_syntax.specs.declared.line.Line.TheVariants as line
 use Rattle.statement_syntax.specs.Steps.{◌>>=◌}
-use Rattle.statement_syntax.specs.Lines.{Lined}
 use Rattle.statement_syntax.proofs.Choices.{not_equals}
 use Rattle.statement_syntax.proofs.line.left_step.Goals as goal
 

@@ -1,4 +1,4 @@
-use Rattle.std.proofs.Common.{◌≡◌, rules, Ok}
+use Rattle.std.proofs.Common.{rules}
 use Rattle.statement_syntax.specs.Steps.{run}
 use Rattle.statement_syntax.proofs.Stopping.{goes_on, stops_at}
 use Rattle.statement_syntax.proofs.read.statements.Goals as goal

@@ -1,8 +1,5 @@
-use Rattle.std.proofs.Common.{◌≡◌, ◌≤◌, ◌+◌, ◌++◌, ◌∷◌, [], ℕ, List, Ok, Err, arith, rules, sym, subst, ap, ◌∙◌, length}
-use Rattle.statement_syntax.specs.declared.place.Spot.{Spot}
-use Rattle.statement_syntax.specs.declared.token.Token.{Token}
-use Rattle.statement_syntax.specs.declared.scan.Item.TheVariants as item
-use Rattle.statement_syntax.specs.Token.{FailsItem, item_at, tokens_from, with_front, tokens_of, end_of, more_of}
+use Rattle.std.proofs.Common.{◌≡◌, ◌≤◌, ◌++◌, ◌∷◌, [], Ok, arith, rules, sym, subst, ap, ◌∙◌, length}
+use Rattle.statement_syntax.specs.Token.{FailsItem, item_at, end_of, more_of}
 use Rattle.statement_syntax.proofs.Scanning.{turn_new_line, turn_gap, turn_token, turn_fault, turn_end, rest_is, after_more, left, left-is, left-length, spot}
 use Rattle.statement_syntax.proofs.scan.tokens.Goals as goal
 

@@ -1,7 +1,5 @@
-use Rattle.std.proofs.Common.{◌≡◌, ℕ, ◌∷◌, ◌+◌, ◌-◌, ◌*◌, drop, get_or, arith, ap, sym, ◌∙◌}
-use Rattle.std.proofs.lemmas.List.{drop_more}
-use Rattle.statement_syntax.specs.Token.{value_from}
-use Rattle.statement_syntax.proofs.Values.{value_grows, digit_more}
+use Rattle.std.proofs.Common.{arith}
+use Rattle.statement_syntax.proofs.Values.{digit_more}
 use Rattle.statement_syntax.proofs.scan.value_of.Goals as goal
 
 pub returns-then-value : goal.returns-then-value

@@ -1,4 +1,4 @@
-use Rattle.std.proofs.Common.{◌≡◌, ◌∷◌, ◌≤◌, ◌<◌, ◌^◌, drop}
+use Rattle.std.proofs.Common.{◌≡◌, ◌∷◌, ◌<◌, ◌^◌, drop}
 use Rattle.statement_syntax.specs.Token.{value_from}
 use Rattle.statement_syntax.proofs.scan.value_of.Given as goal
 

@@ -1,6 +1,6 @@
 use Rattle.std.proofs.Common.{◌≡◌, ◌++◌, true, drop, take}
 use Rattle.std.specs.List.{flat_map}
-use Rattle.statement_syntax.specs.Written.{factor_kinds, literal_kinds, sign_kinds}
+use Rattle.statement_syntax.specs.Written.{factor_kinds}
 use Rattle.statement_syntax.proofs.TreeKinds.{terms_of}
 use Rattle.statement_syntax.proofs.write.+kinds.Given as goal
 
