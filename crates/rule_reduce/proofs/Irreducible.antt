@@ -1,0 +1,64 @@
+-- Where no term can be chosen, no leading word occurs in a word.
+use Rattle.std.proofs.Common.{◌≡◌, ℕ, suc, List, [], ◌∷◌, Option, Some, None, MatchOption, refl, sym, ap, ◌∙◌, subst}
+use Rattle.std.specs.List.{All, AllByRecursion}
+use Rattle.std.proofs.lemmas.List.Elements.{All-from_recursion}
+use Rattle.std.specs.declared.cmp.Ordering.{Ordering}
+use Rattle.std.specs.declared.cmp.Ordering.TheVariants.{Less, Equal, Greater}
+use Rattle.definitions.specs.Poly.{Term}
+use Rattle.nc_polynomial.specs.Terms.{by_order}
+use Rattle.word_core.specs.Occurrence.{OccursNowhere, IsFirstPlace}
+use Rattle.word_orders.specs.Admissible.{Compare}
+use Rattle.rule_index.specs.Matches.{match_or, match_of, place_in}
+use Rattle.rule_index.proofs.PlacesOfWords.{place_in-tells}
+use Rattle.rule_reduce.specs.declared.rule.Rule.{Rule}
+use Rattle.rule_reduce.specs.declared.state.State.{State}
+use Rattle.rule_reduce.specs.declared.state.Choice.{Choice}
+use Rattle.rule_reduce.specs.RuleLists.{entries_from, entries_of}
+use Rattle.rule_reduce.specs.Choices.{choice_or, better_choice, choice_from, choice_of}
+use Rattle.rule_reduce.specs.NormalForms.{start_of}
+use Rattle.rule_reduce.specs.Laws.{IsIrreducible, RestsAreIrreducible}
+use Rattle.rule_reduce.proofs.Runs.{reduction_keeps}
+
+-- no entry of a rule occurs where there is no match
+no_match : (n : ℕ) (rules : List Rule) (w : List ℕ) → match_of (entries_from n rules) w ≡ None → AllByRecursion (λ g. OccursNowhere w g.lead) rules
+no_match n [] w none = tt
+no_match n (g ∷ rules) w none = go (place_in w g.lead) (place_in-tells w g.lead) none (no_match (suc n) rules w)
+  where
+    go : (p : Option ℕ) → MatchOption p (OccursNowhere w g.lead) (IsFirstPlace w g.lead) → match_or n p (match_of (entries_from (suc n) rules) w) ≡ None
+        → (match_of (entries_from (suc n) rules) w ≡ None → AllByRecursion (λ g. OccursNowhere w g.lead) rules) → OccursNowhere w g.lead × AllByRecursion (λ g. OccursNowhere w g.lead) rules
+    go None nowhere k more = (nowhere, more k)
+    go (Some place) first k more = absurd (cc)
+
+module _ (compare : Compare) (entries : List (List ℕ × ℕ)) where
+  -- a choice is never given up
+  stays : (p : List Term) (best : Choice) → choice_from compare entries (Some best) p ≡ None → ⊥
+  stays [] best none = cc
+  stays (t ∷ p) best none = go (compare t.1 best.word) (match_of entries t.1) none (stays p)
+    where
+      go : (o : Ordering) (m : Option (ℕ × ℕ)) → choice_from compare entries (by_order o (Some best) (Some best) (choice_or t m (Some best))) p ≡ None
+          → ((b : Choice) → choice_from compare entries (Some b) p ≡ None → ⊥) → ⊥
+      go Less m k more = more best k
+      go Equal m k more = more best k
+      go Greater None k more = more best k
+      go Greater (Some m) k more = more (record { coefficient = t.0; word = t.1; number = m.0; place = m.1 }) k
+
+  none_matches : (p : List Term) → choice_from compare entries None p ≡ None → AllByRecursion (λ t. match_of entries t.1 ≡ None) p
+  none_matches [] none = tt
+  none_matches (t ∷ p) none = go (match_of entries t.1) refl none (none_matches p)
+    where
+      go : (m : Option (ℕ × ℕ)) → match_of entries t.1 ≡ m → choice_from compare entries (choice_or t m None) p ≡ None
+          → (choice_from compare entries None p ≡ None → AllByRecursion (λ u. match_of entries u.1 ≡ None) p) → (match_of entries t.1 ≡ None) × AllByRecursion (λ u. match_of entries u.1 ≡ None) p
+      go None is k more = (is, more k)
+      go (Some m) is k more = absurd (stays p (record { coefficient = t.0; word = t.1; number = m.0; place = m.1 }) k)
+
+pub irreducible_where_none : (compare : Compare) (rules : List Rule) (p : List Term) → choice_of compare (entries_of rules) p ≡ None → IsIrreducible rules p
+irreducible_where_none compare rules p none = All-from_recursion _ p (each p (none_matches compare (entries_of rules) p none))
+  where
+    each : (q : List Term) → AllByRecursion (λ t. match_of (entries_of rules) t.1 ≡ None) q → AllByRecursion (λ t. All (λ g. OccursNowhere t.1 g.lead) rules) q
+    each [] h = tt
+    each (t ∷ q) h = (All-from_recursion (λ g. OccursNowhere t.1 g.lead) rules (no_match 1 rules t.1 h.0), each q h.1)
+
+-- the law
+pub rests_are_irreducible : RestsAreIrreducible
+rests_are_irreducible compare rules p steps s ends =
+    irreducible_where_none compare rules s.rest (reduction_keeps (λ t. Unit {0}) compare rules (λ c g t chosen has kept. tt) steps steps (start_of p) s ends tt).none_left

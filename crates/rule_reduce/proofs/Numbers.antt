@@ -1,0 +1,64 @@
+-- Rules by their numbers.
+use Rattle.std.proofs.Common.{◌≡◌, ℕ, zero, suc, ◌+◌, ◌-◌, ◌<◌, ◌≤◌, List, [], ◌∷◌, ◌++◌, length, get_or, slice_get, Option, Some, None, refl, sym, ap, ◌∙◌, arith, subst}
+use Rattle.std.specs.List.{All, AllByRecursion}
+use Rattle.std.proofs.lemmas.List.Elements.{All-from_recursion, recursion_from_All}
+use Rattle.definitions.specs.Poly.{Term}
+use Rattle.definitions.specs.Combination.{generator_at}
+use Rattle.rule_reduce.specs.declared.rule.Rule.{Rule}
+use Rattle.rule_reduce.specs.RuleLists.{rule_at, polynomials_of, entries_from, entries_of}
+
+-- a number that is not 0
+pub rule_at-positive : (rules : List Rule) (n : ℕ) → 0 < n → rule_at rules n ≡ slice_get rules (n - 1)
+rule_at-positive rules zero positive = absurd (omega arith)
+rule_at-positive rules (suc n) positive = let same : n ≡ suc n - 1 = omega arith in ap (slice_get rules) same
+
+-- a number that is too large
+slice_get-past : (rules : List Rule) (n : ℕ) → length rules ≤ n → slice_get rules n ≡ None
+slice_get-past [] n past = refl
+slice_get-past (g ∷ rules) zero past = absurd (omega arith)
+slice_get-past (g ∷ rules) (suc n) past = slice_get-past rules n (omega arith)
+
+pub rule_at-past : (rules : List Rule) (n : ℕ) → length rules < n → rule_at rules n ≡ None
+rule_at-past rules zero past = refl
+rule_at-past rules (suc n) past = slice_get-past rules n (omega arith)
+
+-- the polynomial of the rule with a number
+slice_get-polynomial : (rules : List Rule) (n : ℕ) (g : Rule) → slice_get rules n ≡ Some g → get_or (polynomials_of rules) n [] ≡ g.poly.terms
+slice_get-polynomial [] n g is = absurd (cc)
+slice_get-polynomial (f ∷ rules) zero g is = ap (λ r. r.poly.terms) (same f g is)
+  where
+    same : (x y : Rule) → ◌≡◌ {A = Option Rule} (Some x) (Some y) → x ≡ y
+    same x y k = cc
+slice_get-polynomial (f ∷ rules) (suc n) g is = slice_get-polynomial rules n g is
+
+pub rule_at-polynomial : (rules : List Rule) (n : ℕ) (g : Rule) → rule_at rules n ≡ Some g → generator_at (polynomials_of rules) n ≡ g.poly.terms
+rule_at-polynomial rules zero g is = absurd (cc)
+rule_at-polynomial rules (suc n) g is = slice_get-polynomial rules n g is
+
+-- a rule more has the next number
+pub entries_from-push : (n : ℕ) (rules : List Rule) (g : Rule) → entries_from n (rules ++ g ∷ []) ≡ entries_from n rules ++ (g.lead, n + length rules) ∷ []
+entries_from-push n [] g = let same : n ≡ n + 0 = omega arith in ap (λ m. (g.lead, m) ∷ []) same
+entries_from-push n (f ∷ rules) g =
+    let same : suc n + length rules ≡ n + suc (length rules) = omega arith in
+    ap (λ es. (f.lead, n) ∷ es) (entries_from-push (suc n) rules g ∙ ap (λ m. entries_from (suc n) rules ++ (g.lead, m) ∷ []) same)
+
+-- all numbers are below that one
+below_from : (n : ℕ) (rules : List Rule) (m : ℕ) → n + length rules ≤ m → AllByRecursion (λ e. e.1 < m) (entries_from n rules)
+below_from n [] m enough = tt
+below_from n (f ∷ rules) m enough = (omega arith, below_from (suc n) rules m (omega arith))
+
+pub entries_of-below : (rules : List Rule) (m : ℕ) → length rules < m → All (λ e. e.1 < m) (entries_of rules)
+entries_of-below rules m enough = All-from_recursion (λ e. e.1 < m) (entries_of rules) (below_from 1 rules m (omega arith))
+
+-- what holds of each rule holds of the one with a number
+slice_get-all : (P : Rule → Type 0) (rules : List Rule) (n : ℕ) (g : Rule) → slice_get rules n ≡ Some g → AllByRecursion P rules → P g
+slice_get-all P [] n g is each = absurd (cc)
+slice_get-all P (f ∷ rules) zero g is each = subst P (same f g is) each.0
+  where
+    same : (x y : Rule) → ◌≡◌ {A = Option Rule} (Some x) (Some y) → x ≡ y
+    same x y k = cc
+slice_get-all P (f ∷ rules) (suc n) g is each = slice_get-all P rules n g is each.1
+
+pub rule_at-all : (P : Rule → Type 0) (rules : List Rule) (n : ℕ) (g : Rule) → rule_at rules n ≡ Some g → All P rules → P g
+rule_at-all P rules zero g is each = absurd (cc)
+rule_at-all P rules (suc n) g is each = slice_get-all P rules n g is (recursion_from_All P rules each)

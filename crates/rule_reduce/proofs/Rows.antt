@@ -1,0 +1,37 @@
+-- rows that stand before what a call returns
+use Rattle.std.proofs.Common.{◌≡◌, ℤ, ◌*ℤ◌, List, [], ◌∷◌, ◌++◌, map, Option, Some, None, Result, Ok, Err, refl, sym, ap, ◌∙◌, subst, append_assoc}
+use Rattle.std.specs.List.{All, AllByRecursion}
+use Rattle.std.specs.Prelude.{option_to_list}
+use Rattle.std.proofs.lemmas.List.Elements.{All-tail, All-from_recursion, recursion_from_All}
+use Rattle.coef_int.specs.declared.Overflow.{Overflow}
+use Rattle.coef_int.specs.Range.{IsCoefficient}
+use Rattle.nc_polynomial.specs.declared.fault.PolyFault.{PolyFault}
+use Rattle.coef_int.specs.Operations.{product_of, first_overflow}
+use Rattle.nc_polynomial.specs.Faults.{checked, unless_overflow}
+use Rattle.nc_polynomial.proofs.Checked.{checked-fits}
+use Rattle.cofactor_trace.specs.declared.Row.{Row}
+use Rattle.rule_reduce.specs.Steps.{row_operations, multiplied_row}
+
+abbrev pub join_rows : List Row → Result (List Row) PolyFault → Result (List Row) PolyFault
+join_rows out (Ok xs) = Ok (out ++ xs)
+join_rows out (Err e) = Err e
+
+pub all_rest : {X : Type 0} (P : X → Type 0) (xs ys : List X) (o : Option X) → xs ≡ option_to_list o ++ ys → All P xs → All P ys
+all_rest P xs ys None e h = subst (All P) e h
+all_rest P xs ys (Some x) e h = All-tail P x ys (subst (All P) e h)
+
+pub row-fits : (row : Row) (rest out : List Row) (by : ℤ) → IsCoefficient (row.coef *ℤ by)
+    → join_rows out (checked (row_operations (row ∷ rest) by) (map (multiplied_row by) (row ∷ rest))) ≡ join_rows (out ++ multiplied_row by row ∷ []) (checked (row_operations rest by) (map (multiplied_row by) rest))
+row-fits row rest out by h =
+    ap (join_rows out) (checked-fits (product_of row.coef by) (row_operations rest by) (multiplied_row by row ∷ map (multiplied_row by) rest) h) ∙ go (first_overflow (row_operations rest by))
+  where
+    go : (o : Option Overflow) → join_rows out (unless_overflow o (Ok (multiplied_row by row ∷ map (multiplied_row by) rest))) ≡ join_rows (out ++ multiplied_row by row ∷ []) (unless_overflow o (Ok (map (multiplied_row by) rest)))
+    go None = ap Ok (sym (append_assoc out (multiplied_row by row ∷ []) (map (multiplied_row by) rest)))
+    go (Some o) = refl
+
+pub all_push : {X : Type 0} (P : X → Type 0) (xs ys : List X) (x : X) → All P xs → P x → ys ≡ xs ++ x ∷ [] → All P ys
+all_push {X = X} P xs ys x h k e = subst (All P) (sym e) (All-from_recursion P (xs ++ x ∷ []) (go xs (recursion_from_All P xs h)))
+  where
+    go : (zs : List X) → AllByRecursion P zs → AllByRecursion P (zs ++ x ∷ [])
+    go [] m = (k, tt)
+    go (z ∷ zs) m = (m.0, go zs m.1)

@@ -1,0 +1,25 @@
+-- The term that is reduced next, by which rule, and at which place.
+use Rattle.std.specs.Prelude.{ℤ, ℕ, List, [], ◌∷◌, Option, Some, None}
+use Rattle.word_orders.specs.Admissible.{Compare}
+use Rattle.definitions.specs.Poly.{Term}
+use Rattle.nc_polynomial.specs.Terms.{by_order}
+use Rattle.rule_index.specs.Matches.{match_of}
+use Rattle.rule_reduce.specs.declared.state.Choice.{Choice}
+
+-- a term with the least number whose word occurs in it, or else the choice so far
+abbrev pub choice_or : Term → Option (ℕ × ℕ) → Option Choice → Option Choice
+choice_or t None best = best
+choice_or t (Some m) best = Some (record { coefficient = t.0; word = t.1; number = m.0; place = m.1 })
+
+-- of the choice so far and a term the one with the greater word, where the term has a word that occurs in it
+abbrev pub better_choice : Compare → List (List ℕ × ℕ) → Option Choice → Term → Option Choice
+better_choice compare entries None t = choice_or t (match_of entries t.1) None
+better_choice compare entries (Some best) t = by_order (compare t.1 best.word) (Some best) (Some best) (choice_or t (match_of entries t.1) (Some best))
+
+abbrev pub choice_from : Compare → List (List ℕ × ℕ) → Option Choice → List Term → Option Choice
+choice_from compare entries best [] = best
+choice_from compare entries best (t ∷ p) = choice_from compare entries (better_choice compare entries best t) p
+
+-- The greatest word in which a leading word occurs, the least number of a rule whose leading word does, and its leftmost place.
+abbrev pub choice_of : Compare → List (List ℕ × ℕ) → List Term → Option Choice
+choice_of compare entries p = choice_from compare entries None p

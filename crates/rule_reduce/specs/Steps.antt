@@ -1,0 +1,80 @@
+-- One step of a reduction, and its arithmetic in order.
+use Rattle.std.specs.Prelude.{ℕ, ◌+◌, ℤ, pos, ◌*ℤ◌, List, [], ◌∷◌, ◌++◌, map, length, take, drop, int_div, Option, Some, None, Result, Ok, Err}
+use Rattle.coef_int.specs.declared.Overflow.{Overflow}
+use Rattle.coef_int.specs.Operations.{product_of, first_overflow}
+use Rattle.definitions.specs.Poly.{Term}
+use Rattle.nc_polynomial.specs.declared.fault.PolyFault.{PolyFault}
+use Rattle.nc_polynomial.specs.Terms.{multiplied, multiplications, negated, shifted, products, added, sums}
+use Rattle.nc_polynomial.specs.Faults.{unless_overflow, sized}
+use Rattle.cofactor_trace.specs.declared.Origin.TheVariants as origin
+use Rattle.cofactor_trace.specs.declared.Row.{Row}
+use Rattle.rule_reduce.specs.declared.rule.Rule.{Rule}
+use Rattle.rule_reduce.specs.declared.state.State.{State}
+use Rattle.rule_reduce.specs.declared.state.Choice.{Choice}
+use Rattle.rule_reduce.specs.Divisor.{gcd_of}
+use Rattle.rule_reduce.specs.RuleLists.{rule_at}
+
+-- what a step multiplies by, and the multiple of a rule that it takes away
+pub record Move : Type 0 where
+  pub by : ℤ
+  pub times : ℤ
+  pub left : List ℕ
+  pub rule : List Term
+  pub number : ℕ
+  pub right : List ℕ
+
+-- the row of the multiple that is taken away
+abbrev pub move_row : Move → Row
+move_row m = record { coef = m.times; left = m.left; from = origin.Rule m.number; right = m.right }
+
+abbrev pub multiplied_row : ℤ → Row → Row
+multiplied_row by row = record row { coef = row.coef *ℤ by }
+
+-- everything times the one factor, less the multiple of the rule, whose row is the last one
+abbrev pub moved : Move → State → State
+moved m s = record {
+  multiplier = s.multiplier *ℤ m.by;
+  rest = added (multiplied s.rest m.by) (negated (shifted m.times m.left m.rule m.right));
+  rows = map (multiplied_row m.by) s.rows ++ move_row m ∷ [];
+  used = s.used + 1;
+}
+
+abbrev pub row_operations : List Row → ℤ → List Overflow
+row_operations rows by = map (λ row. product_of row.coef by) rows
+
+-- the multiplier, the polynomial, the earlier rows, the rule, the differences
+abbrev pub move_operations : Move → State → List Overflow
+move_operations m s =
+    product_of s.multiplier m.by
+    ∷ (multiplications s.rest m.by
+    ++ (row_operations s.rows m.by
+    ++ (products m.times m.rule
+    ++ sums (multiplied s.rest m.by) (negated (shifted m.times m.left m.rule m.right)))))
+
+-- a value, unless a polynomial is too large
+abbrev pub if_sized : {A : Type 0} → Result (List Term) PolyFault → A → Result A PolyFault
+if_sized (Ok p) x = Ok x
+if_sized (Err e) x = Err e
+
+-- the first overflow, else the limit that the new polynomial passes, else the state after the move
+abbrev pub move_result : Move → State → Result State PolyFault
+move_result m s = unless_overflow (first_overflow (move_operations m s)) (if_sized (sized (moved m s).rest) (moved m s))
+
+-- Both coefficients are divided by their greatest common divisor. The words on either side of the leading word stay.
+abbrev pub move_of : Choice → Rule → Move
+move_of c g = record {
+  by = int_div g.leading (gcd_of c.coefficient g.leading);
+  times = int_div c.coefficient (gcd_of c.coefficient g.leading);
+  left = take c.place c.word;
+  rule = g.poly.terms;
+  number = c.number;
+  right = drop (c.place + length g.lead) c.word;
+}
+
+-- the step with this rule; a choice has the number of one
+abbrev pub step_by : Option Rule → Choice → State → Result State PolyFault
+step_by None c s = Ok s
+step_by (Some g) c s = move_result (move_of c g) s
+
+abbrev pub step_result : List Rule → Choice → State → Result State PolyFault
+step_result rules c s = step_by (rule_at rules c.number) c s

@@ -1,0 +1,16 @@
+//! Rules, and normal forms of polynomials by them, with the rows that say what was taken away.
+#![tactic(auto)]
+
+mod choosing;
+mod fault;
+mod laws;
+mod parts;
+mod rule;
+mod rules;
+mod state;
+mod stepping;
+
+pub use fault::ReduceFault;
+pub use laws::{reductions_balance, rests_are_irreducible};
+pub use rule::Rule;
+pub use rules::{Reduced, Rules};

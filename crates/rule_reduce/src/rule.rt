@@ -1,0 +1,54 @@
+ghost use Rattle.std.specs.Prelude.{◌≡◌, ◌<◌, length, slice_get, get_or};
+ghost use Rattle.std.specs.List.{All};
+ghost use Rattle.word_core.specs.Letters.{IsOver};
+ghost use Rattle.definitions.specs.Poly.{Term};
+ghost use Rattle.rule_reduce.specs.Leading.{greater_term, leading_term};
+
+use nc_polynomial::Poly;
+use std::cmp::Ordering;
+use word_core::Word;
+use word_orders::WordOrder;
+
+/// A polynomial with its leading term in an order of words.
+#[derive(Drop)]
+pub struct Rule {
+    /// The coefficient of the leading word.
+    pub leading: i128,
+    /// The leading word, which is the greatest one.
+    pub lead: Word,
+    /// The polynomial.
+    pub poly: Poly,
+}
+
+// The place of the leading term.
+pub(crate) fn leading_place<O: WordOrder>(order: &O, terms: &[(i128, Word)]) -> usize
+    requires nonzero { 0 < length terms.now }
+    requires over { All (λ t. IsOver (O.letters order.now) t.1) terms.now }
+    ensures in_range { result < length terms.now }
+    ensures leading { leading_term (O.compare order.now) terms.now ≡ slice_get terms.now result }
+{
+    let mut best = 0;
+    for place in 1..terms.len() {
+        best = greater_place(order, terms, best, place);
+    }
+    best
+}
+
+// Of two places the one with the greater word.
+fn greater_place<O: WordOrder>(
+    order: &O,
+    terms: &[(i128, Word)],
+    best: usize,
+    place: usize,
+) -> usize
+    requires best_in { best < length terms.now }
+    requires place_in { place < length terms.now }
+    requires over { All (λ t. IsOver (O.letters order.now) t.1) terms.now }
+    ensures in_range { result < length terms.now }
+    ensures greater { (d : Term) → get_or terms.now result d ≡ greater_term (O.compare order.now) (get_or terms.now best d) (get_or terms.now place d) }
+{
+    match order.cmp(&terms[place].1, &terms[best].1) {
+        Ordering::Greater => place,
+        _ => best,
+    }
+}

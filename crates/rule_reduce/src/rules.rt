@@ -1,0 +1,186 @@
+ghost use Rattle.std.specs.Prelude.{◌≡◌, ◌<◌, ◌^◌, length};
+ghost use Rattle.std.specs.List.{All};
+ghost use Rattle.rule_reduce.specs.RuleLists.{IsRule, entries_of};
+
+use crate::choosing::choose;
+use crate::fault::halt;
+use crate::rule::leading_place;
+use crate::state::State;
+use crate::stepping::take_step;
+use crate::{ReduceFault, Rule};
+use cofactor_trace::Row;
+use lists::{Duplicate, Listing};
+use nc_polynomial::Poly;
+use rule_index::Index;
+use std::alloc::{AllocError, Global};
+use word_core::Word;
+use word_orders::WordOrder;
+
+/// A normal form: the multiplier times the polynomial is the rest plus the sum of the rows.
+#[derive(Drop)]
+pub struct Reduced {
+    /// By what the polynomial is multiplied.
+    pub multiplier: i128,
+    /// What is left. No word of it has a leading word in it.
+    pub rest: Poly,
+    /// The multiples of rules that were taken away, in the order of the steps.
+    pub rows: Listing<Row>,
+    /// The number of steps.
+    pub used: u32,
+}
+
+/// Rules with the numbers 1, 2 and so on, in the order in which they were pushed, and the order of words.
+#[derive(Drop)]
+pub struct Rules<O: WordOrder> {
+    /// The order of words.
+    pub order: O,
+    /// The rules.
+    pub rules: Listing<Rule>,
+    /// Their leading words with their numbers.
+    pub index: Index,
+    pub ghost each: { All (IsRule (O.letters order) (O.compare order)) rules },
+    pub ghost indexed: { index ≡ entries_of rules },
+    pub ghost few: { length rules < 2 ^ 32 },
+}
+
+impl<O: WordOrder + Drop> Rules<O> {
+    ghost use Rattle.std.specs.Prelude.{◌≡◌, ◌<◌, ◌≤◌, ◌+◌, ◌++◌, ◌^◌, ◌<ℤ◌, suc, pos, [], length, MatchResult, IfOk, OnOk, OnErr, IsSomeAnd, Ok, Some, option_to_list};
+    ghost use Rattle.std.specs.Option.{option_map};
+    ghost use Rattle.coef_int.specs.Range.{IsCoefficient};
+    ghost use Rattle.word_core.specs.Letters.{IsOver};
+    ghost use Rattle.nc_polynomial.specs.Content.{IsContent};
+    ghost use Rattle.nc_polynomial.specs.Shape.{IsCanonical};
+    ghost use Rattle.rule_reduce.specs.Leading.{leading_term};
+    ghost use Rattle.rule_reduce.specs.RuleLists.{rule_at, rule_from};
+    ghost use Rattle.rule_reduce.specs.NormalForms.{normal_form_of, reduction, start_of, ExplainsHalt};
+
+    /// No rules, with an order of words.
+    pub fn new(alloc: Global, order: O) -> Result<Rules<O>, AllocError>
+        ensures rules { IfOk result (λ r. r.rules ≡ []) }
+        ensures order { IfOk result (λ r. r.order ≡ order) }
+    {
+        Ok(Rules {
+            order,
+            rules: Listing::new(alloc),
+            index: Index::new(alloc)?,
+        })
+    }
+
+    /// One rule more, whose number is returned; where memory is short, the rules as they were. The polynomial is
+    /// primitive, which is to say that its content is 1, and has a positive coefficient at its leading word.
+    pub fn push(&mut self, poly: Poly) -> Result<u32, AllocError>
+        requires primitive { IsContent poly.terms (pos 1) }
+        requires positive { IsSomeAnd (leading_term (O.compare self.old.order) poly.terms) (λ t. pos 0 <ℤ t.0) }
+        requires nonempty { All (λ t. 0 < length t.1) poly.terms }
+        requires over { All (λ t. IsOver (O.letters self.old.order) t.1) poly.terms }
+        requires few { length self.old.rules + 1 < 2 ^ 32 }
+        ensures order { self.new.order ≡ self.old.order }
+        ensures ok { OnOk result (self.new.rules ≡ self.old.rules ++ option_to_list (rule_from (O.compare self.old.order) poly)) }
+        ensures number { IfOk result (λ n. n ≡ suc (length self.old.rules)) }
+        ensures err { OnErr result (self.new.rules ≡ self.old.rules) }
+    {
+        let place = leading_place(&self.order, poly.terms.as_slice());
+        let (leading, lead) = poly.term(place);
+        let lead = lead.copy()?;
+        let count = self.rules.len();
+        let number = count as u32 + 1;
+        self.rules.push(Rule {
+            leading,
+            lead: lead.copy()?,
+            poly,
+        })?;
+        match self.index.insert(&lead, number) {
+            Ok(()) => Ok(number),
+            Err(failed) => {
+                self.rules.truncate(count);
+                Err(failed)
+            }
+        }
+    }
+
+    /// The number of rules.
+    pub fn len(&self) -> u32
+        ensures { result ≡ length self.now.rules }
+    {
+        self.rules.len() as u32
+    }
+
+    /// The polynomial of the rule with this number.
+    pub fn poly(&self, number: u32) -> &Poly
+        requires first { 0 < number }
+        requires last { number ≤ length self.now.rules }
+        ensures { option_map (λ g. g.poly) (rule_at self.now.rules number) ≡ Some result.now }
+    {
+        &self.rules.at(number as usize - 1).poly
+    }
+
+    /// The coefficient and the word of the leading term of the rule with this number.
+    pub fn lead(&self, number: u32) -> (i128, &Word)
+        requires first { 0 < number }
+        requires last { number ≤ length self.now.rules }
+        ensures { IsSomeAnd (rule_at self.now.rules number) (λ g. leading_term (O.compare self.now.order) g.poly.terms ≡ Some (result.0, result.1.now)) }
+    {
+        let rule = self.rules.at(number as usize - 1);
+        (rule.leading, &rule.lead)
+    }
+
+    /// The normal form of the polynomial by the rules. Each step takes the greatest word in which a leading word occurs,
+    /// the least number of a rule whose leading word does, and its leftmost place. `Steps` comes exactly where as many
+    /// steps as `steps` says were made and a word can still be reduced, `Overflow` and `Size` exactly where a step
+    /// meets them.
+    pub fn normal_form(&self, poly: &Poly, steps: u32) -> Result<Reduced, ReduceFault>
+        requires over { All (λ t. IsOver (O.letters self.now.order) t.1) poly.now.terms }
+        ensures {
+            MatchResult result
+                (λ r. normal_form_of (O.compare self.now.order) self.now.rules poly.now.terms steps
+                    ≡ Ok (record { multiplier = r.multiplier; rest = r.rest.terms; rows = r.rows; used = r.used }))
+                (ExplainsHalt (normal_form_of (O.compare self.now.order) self.now.rules poly.now.terms steps))
+        }
+    {
+        let start = State {
+            multiplier: 1,
+            rest: poly.terms.duplicate()?,
+            rows: Listing::new(self.rules.allocator()),
+            used: 0,
+        };
+        let end = self.reduce(start, steps)?;
+        Ok(Reduced {
+            multiplier: end.multiplier,
+            rest: Poly { terms: end.rest },
+            rows: end.rows,
+            used: end.used,
+        })
+    }
+
+    // Steps until no word can be reduced.
+    fn reduce(&self, start: State, steps: u32) -> Result<State, ReduceFault>
+        requires over { All (λ t. IsOver (O.letters self.now.order) t.1) start.rest }
+        requires multiplier_in { IsCoefficient start.multiplier }
+        requires canonical { IsCanonical start.rest }
+        requires rows_in { All (λ row. IsCoefficient row.coef) start.rows }
+        requires unused { start.used ≡ 0 }
+        ensures canonical { IfOk result (λ t. IsCanonical t.rest) }
+        ensures exact { MatchResult result (λ t. reduction steps (O.compare self.now.order) self.now.rules steps start ≡ Ok t) (ExplainsHalt (reduction steps (O.compare self.now.order) self.now.rules steps start)) }
+    {
+        let mut state = start;
+        for _ in 0..steps {
+            let choice = match choose(&self.order, &self.index, state.rest.as_slice())? {
+                Some(choice) => choice,
+                None => return Ok(state),
+            };
+            state = match take_step(
+                self.rules.allocator(),
+                self.rules.as_slice(),
+                choice,
+                state,
+            ) {
+                Ok(next) => next,
+                Err(fault) => return Err(halt(fault)),
+            };
+        }
+        match choose(&self.order, &self.index, state.rest.as_slice())? {
+            Some(_) => Err(ReduceFault::Steps { limit: steps }),
+            None => Ok(state),
+        }
+    }
+}

@@ -1,0 +1,21 @@
+use cofactor_trace::Row;
+use lists::Listing;
+use word_core::Word;
+
+/// How far a reduction has come: the multiplier, the polynomial that is left, the rows and the number of steps.
+#[derive(Drop)]
+pub struct State {
+    pub multiplier: i128,
+    pub rest: Listing<(i128, Word)>,
+    pub rows: Listing<Row>,
+    pub used: u32,
+}
+
+/// A term that can be reduced, with the number of a rule and the place of its leading word.
+#[derive(Drop)]
+pub struct Choice {
+    pub coefficient: i128,
+    pub word: Word,
+    pub number: u32,
+    pub place: usize,
+}

@@ -1,0 +1,142 @@
+ghost use Rattle.std.specs.Prelude.{◌≡◌, ◌<◌, ◌<ℤ◌, ◌+◌, ◌^◌, ℕ, pos, map, MatchResult, MatchOption, IfOk, Ok, Some, None};
+ghost use Rattle.std.specs.List.{All};
+ghost use Rattle.coef_int.specs.Range.{IsCoefficient};
+ghost use Rattle.word_core.specs.Letters.{IsOver};
+ghost use Rattle.nc_polynomial.specs.Shape.{IsCanonical};
+ghost use Rattle.nc_polynomial.specs.Faults.{checked, Explains};
+ghost use Rattle.rule_reduce.specs.RuleLists.{rule_at};
+ghost use Rattle.rule_reduce.specs.Steps.{move_result, multiplied_row, row_operations, step_result};
+
+use crate::Rule;
+use crate::parts::{back, divisor, front, quotient};
+use crate::state::{Choice, State};
+use cofactor_trace::{Origin, Row};
+use lists::Listing;
+use nc_polynomial::{Poly, PolyFault, merge_terms, multiply_terms, negate_terms, shift_terms};
+use std::alloc::Global;
+use std::collections::VecDeque;
+use word_core::Word;
+
+// The rows with their coefficients times a number, which is the right operand of each product.
+fn multiply_rows(alloc: Global, rows: Listing<Row>, by: i128) -> Result<Listing<Row>, PolyFault>
+    requires factor_in { IsCoefficient by }
+    requires in_range { All (λ row. IsCoefficient row.coef) rows }
+    ensures in_range { IfOk result (All (λ row. IsCoefficient row.coef)) }
+    ensures exact { MatchResult result (λ v. checked (row_operations rows by) (map (multiplied_row by) rows) ≡ Ok v) (Explains (checked (row_operations rows by) (map (multiplied_row by) rows))) }
+{
+    let mut multiplied = Listing::new(alloc);
+    let mut rest = VecDeque::from_vec(rows.into_vec());
+    while let Some(row) = rest.pop_front() {
+        let Row {
+            coef,
+            left,
+            from,
+            right,
+        } = row;
+        let product = match coef_int::times(coef, by) {
+            Ok(product) => product,
+            Err(fault) => return Err(PolyFault::Overflow(fault)),
+        };
+        multiplied.push(Row {
+            coef: product,
+            left,
+            from,
+            right,
+        })?;
+    }
+    Ok(multiplied)
+}
+
+// One step: the state times a number, less a multiple of a rule.
+fn take_away(
+    alloc: Global,
+    by: i128,
+    times: i128,
+    left: Word,
+    rule: &Poly,
+    number: u32,
+    right: Word,
+    state: State,
+) -> Result<State, PolyFault>
+    requires by_in { IsCoefficient by }
+    requires times_in { IsCoefficient times }
+    requires multiplier_in { IsCoefficient state.multiplier }
+    requires canonical { IsCanonical state.rest }
+    requires rows_in { All (λ row. IsCoefficient row.coef) state.rows }
+    requires steps { state.used + 1 < 2 ^ 32 }
+    ensures multiplier_in { IfOk result (λ t. IsCoefficient t.multiplier) }
+    ensures canonical { IfOk result (λ t. IsCanonical t.rest) }
+    ensures rows_in { IfOk result (λ t. All (λ row. IsCoefficient row.coef) t.rows) }
+    ensures exact { MatchResult result (λ t. move_result (record { by = by; times = times; left = left; rule = rule.now.terms; number = number; right = right }) state ≡ Ok t) (Explains (move_result (record { by = by; times = times; left = left; rule = rule.now.terms; number = number; right = right }) state)) }
+{
+    let State {
+        multiplier,
+        rest,
+        rows,
+        used,
+    } = state;
+    let multiplier = match coef_int::times(multiplier, by) {
+        Ok(product) => product,
+        Err(fault) => return Err(PolyFault::Overflow(fault)),
+    };
+    let rest = multiply_terms(alloc, rest, by)?;
+    let mut rows = multiply_rows(alloc, rows, by)?;
+    let taken = shift_terms(alloc, times, &left, rule.terms.as_slice(), &right)?;
+    let taken = negate_terms(alloc, taken)?;
+    let rest = Poly::from_descending(merge_terms(alloc, rest, taken)?)?;
+    rows.push(Row {
+        coef: times,
+        left,
+        from: Origin::Rule(number),
+        right,
+    })?;
+    Ok(State {
+        multiplier,
+        rest: rest.terms,
+        rows,
+        used: used + 1,
+    })
+}
+
+// The rule with this number.
+fn find_rule(rules: &[Rule], number: u32) -> Option<&Rule>
+    ensures { MatchOption result (rule_at rules.now number ≡ None) (λ g. rule_at rules.now number ≡ Some g.now) }
+{
+    let count = number as usize;
+    if count == 0 || count > rules.len() {
+        return None;
+    }
+    Some(&rules[count - 1])
+}
+
+// The step with this choice.
+pub(crate) fn take_step(
+    alloc: Global,
+    rules: &[Rule],
+    choice: Choice,
+    state: State,
+) -> Result<State, PolyFault>
+    requires leading_in { All (λ g. IsCoefficient g.leading) rules.now }
+    requires positive { All (λ g. pos 0 <ℤ g.leading) rules.now }
+    requires choice_in { IsCoefficient choice.coefficient }
+    requires multiplier_in { IsCoefficient state.multiplier }
+    requires canonical { IsCanonical state.rest }
+    requires rows_in { All (λ row. IsCoefficient row.coef) state.rows }
+    requires steps { state.used + 1 < 2 ^ 32 }
+    ensures multiplier_in { IfOk result (λ t. IsCoefficient t.multiplier) }
+    ensures canonical { IfOk result (λ t. IsCanonical t.rest) }
+    ensures rows_in { IfOk result (λ t. All (λ row. IsCoefficient row.coef) t.rows) }
+    ensures letters { IfOk result (λ t. (n : ℕ) → All (λ g. All (λ u. IsOver n u.1) g.poly.terms) rules.now → IsOver n choice.word → All (λ u. IsOver n u.1) state.rest → All (λ u. IsOver n u.1) t.rest) }
+    ensures exact { MatchResult result (λ t. step_result rules.now choice state ≡ Ok t) (Explains (step_result rules.now choice state)) }
+{
+    let rule = match find_rule(rules, choice.number) {
+        Some(rule) => rule,
+        None => return Ok(state),
+    };
+    let shared = divisor(choice.coefficient, rule.leading);
+    let by = quotient(rule.leading, shared);
+    let times = quotient(choice.coefficient, shared);
+    let left = front(&choice.word, choice.place)?;
+    let right = back(&choice.word, choice.place, rule.lead.len())?;
+    take_away(alloc, by, times, left, &rule.poly, choice.number, right, state)
+}
