@@ -1,4 +1,4 @@
-ghost use Rattle.std.specs.Prelude.{◌≡◌, ◌<◌, ◌<ℤ◌, ◌+◌, ◌^◌, ℕ, pos, map, MatchResult, MatchOption, IfOk, Ok, Some, None};
+ghost use Rattle.std.specs.Prelude.{◌≡◌, ◌<◌, ◌≤◌, ◌<ℤ◌, ◌+◌, ◌^◌, ℕ, pos, map, MatchResult, MatchOption, IfOk, Ok, Some, None};
 ghost use Rattle.std.specs.List.{All};
 ghost use Rattle.coef_int.specs.Range.{IsCoefficient};
 ghost use Rattle.word_core.specs.Letters.{IsOver};
@@ -67,6 +67,7 @@ fn take_away(
     ensures multiplier_in { IfOk result (λ t. IsCoefficient t.multiplier) }
     ensures canonical { IfOk result (λ t. IsCanonical t.rest) }
     ensures rows_in { IfOk result (λ t. All (λ row. IsCoefficient row.coef) t.rows) }
+    ensures steps { IfOk result (λ t. t.used ≤ state.used + 1) }
     ensures exact { MatchResult result (λ t. move_result (record { by = by; times = times; left = left; rule = rule.now.terms; number = number; right = right }) state ≡ Ok t) (Explains (move_result (record { by = by; times = times; left = left; rule = rule.now.terms; number = number; right = right }) state)) }
 {
     let State {
@@ -126,6 +127,7 @@ pub(crate) fn take_step(
     ensures multiplier_in { IfOk result (λ t. IsCoefficient t.multiplier) }
     ensures canonical { IfOk result (λ t. IsCanonical t.rest) }
     ensures rows_in { IfOk result (λ t. All (λ row. IsCoefficient row.coef) t.rows) }
+    ensures steps { IfOk result (λ t. t.used ≤ state.used + 1) }
     ensures letters { IfOk result (λ t. (n : ℕ) → All (λ g. All (λ u. IsOver n u.1) g.poly.terms) rules.now → IsOver n choice.word → All (λ u. IsOver n u.1) state.rest → All (λ u. IsOver n u.1) t.rest) }
     ensures exact { MatchResult result (λ t. step_result rules.now choice state ≡ Ok t) (Explains (step_result rules.now choice state)) }
 {

@@ -9,9 +9,11 @@ use Rattle.rule_reduce.proofs.rules.Rules.reduce.Given as goal
 -- the steps that are left give the normal form
 abbrev pub invariant-loop : goal.invariant-loop
 invariant-loop g l = record {
+  within : l.counter ≤ l.steps;
+  used : l.state.used ≤ l.counter;
   multiplier_in : IsCoefficient l.state.multiplier;
   canonical : IsCanonical l.state.rest;
   rows_in : All (λ row. IsCoefficient row.coef) l.state.rows;
   over : All (λ t. IsOver (g.O.WordOrder.letters l.self.order) t.1) l.state.rest;
-  same : reduction l.steps (g.O.WordOrder.compare l.self.order) l.self.rules (l.steps - l.state.used) l.state ≡ reduction l.steps (g.O.WordOrder.compare l.self.order) l.self.rules l.steps l.fn.start;
+  same : reduction l.steps (g.O.WordOrder.compare l.self.order) l.self.rules (l.steps - l.counter) l.state ≡ reduction l.steps (g.O.WordOrder.compare l.self.order) l.self.rules l.steps l.fn.start;
 }

@@ -1,0 +1,80 @@
+use Rattle.std.proofs.Common.{rules, ◌≡◌, ◌+◌, ◌-◌, suc, zero, List, Some, None, Ok, Result, arith, sym, ap, ◌∙◌, subst}
+use Rattle.std.specs.List.{All}
+use Rattle.word_core.specs.Letters.{IsOver}
+use Rattle.nc_polynomial.specs.Faults.{Explains}
+use Rattle.rule_reduce.specs.declared.rule.Rule.{Rule}
+use Rattle.rule_reduce.specs.declared.state.State.{State}
+use Rattle.rule_reduce.specs.declared.fault.ReduceFault.{ReduceFault}
+use Rattle.rule_reduce.specs.RuleLists.{entries_of}
+use Rattle.rule_reduce.specs.Choices.{choice_of}
+use Rattle.rule_reduce.specs.Steps.{step_result}
+use Rattle.rule_reduce.specs.NormalForms.{halt_of, reduction, ExplainsHalt}
+use Rattle.rule_reduce.proofs.Rounds.{stops, goes_on, explains_fault, runs_out}
+use Rattle.rule_reduce.proofs.rules.Rules.reduce.Goals as goal
+
+pub returns-in-Err-clause-exact : goal.returns-in-Err-clause-exact
+returns-in-Err-clause-exact g c =
+    let compare = g.O.WordOrder.compare c.args.self.now.order in
+    let all = c.args.self.now.rules in
+    let limit = c.args.steps in
+    let s = c.loop.state in
+    let choice = c.in-Some.choice in
+    let e = c.in-Err.fault in
+    let left = limit - c.loop.counter - 1 in
+    let found : choice_of compare c.args.self.now.index s.rest ≡ Some choice = search rules in
+    let pick = subst (λ es. choice_of compare es s.rest ≡ Some choice) c.args.self.now.indexed found in
+    let why : Explains (step_result all choice s) e = search rules in
+    let more : suc left ≡ limit - c.loop.counter = omega arith in
+    let same = ap (λ n. reduction limit compare all n s) more ∙ c.loop.invariant.same in
+    let halted : c.halt.result ≡ halt_of e = search rules in
+    rw halted (subst (λ (r : Result State ReduceFault). ExplainsHalt r (halt_of e)) same (explains_fault limit compare all s left choice e pick why))
+
+pub loop-preserved : goal.loop-preserved
+loop-preserved g c =
+    let compare = g.O.WordOrder.compare c.args.self.now.order in
+    let letters = g.O.WordOrder.letters c.args.self.now.order in
+    let all = c.args.self.now.rules in
+    let limit = c.args.steps in
+    let s = c.loop.state in
+    let choice = c.in-Some.choice in
+    let next = c.in-Ok.next in
+    let left = limit - c.loop.counter - 1 in
+    let found : choice_of compare c.args.self.now.index s.rest ≡ Some choice = search rules in
+    let pick = subst (λ es. choice_of compare es s.rest ≡ Some choice) c.args.self.now.indexed found in
+    let same_rules : c.as_slice-in-loop.result.now ≡ all = search rules in
+    let stepped : step_result all choice s ≡ Ok next = search rules in
+    let more : suc left ≡ limit - c.loop.counter = omega arith in
+    let fewer : limit - (c.loop.counter + 1) ≡ left = omega arith in
+    let rules_over : All (λ f. All (λ u. IsOver letters u.1) f.poly.terms) all = λ k d inside. (c.args.self.now.each k d inside).over in
+    let word_over : IsOver letters choice.word = search rules in
+    record {
+      within = omega arith;
+      used = search rules;
+      multiplier_in = search rules;
+      canonical = search rules;
+      rows_in = search rules;
+      over = c.in-Ok.ensures.letters letters (subst (λ (rs : List Rule). All (λ f. All (λ u. IsOver letters u.1) f.poly.terms) rs) (sym same_rules) rules_over) word_over c.loop.invariant.over;
+      same = ap (λ n. reduction limit compare all n next) fewer ∙ sym (goes_on limit compare all s left choice next pick stepped) ∙ ap (λ n. reduction limit compare all n s) more ∙ c.loop.invariant.same;
+    }
+
+pub returns-in-Some-2-clause-exact : goal.returns-in-Some-2-clause-exact
+returns-in-Some-2-clause-exact g c =
+    let compare = g.O.WordOrder.compare c.args.self.now.order in
+    let all = c.args.self.now.rules in
+    let limit = c.args.steps in
+    let s = c.loop.state in
+    let choice = c.in-Some-2.field-0 in
+    let found : choice_of compare c.args.self.now.index s.rest ≡ Some choice = search rules in
+    let pick = subst (λ es. choice_of compare es s.rest ≡ Some choice) c.args.self.now.indexed found in
+    let none_left : limit - c.loop.counter ≡ zero = omega arith in
+    sym c.loop.invariant.same ∙ ap (λ n. reduction limit compare all n s) none_left ∙ runs_out limit compare all s choice pick
+
+pub returns-in-None-2-clause-exact : goal.returns-in-None-2-clause-exact
+returns-in-None-2-clause-exact g c =
+    let compare = g.O.WordOrder.compare c.args.self.now.order in
+    let all = c.args.self.now.rules in
+    let limit = c.args.steps in
+    let s = c.loop.state in
+    let found : choice_of compare c.args.self.now.index s.rest ≡ None = search rules in
+    let pick = subst (λ es. choice_of compare es s.rest ≡ None) c.args.self.now.indexed found in
+    sym c.loop.invariant.same ∙ stops limit compare all s (limit - c.loop.counter) pick
