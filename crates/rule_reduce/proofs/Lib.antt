@@ -9,3 +9,4 @@ pub mod Balance
 pub mod Irreducible
 pub mod LettersKept
 pub mod LeadingPlaces
+pub mod MadeRules

@@ -4,6 +4,7 @@
 mod choosing;
 mod fault;
 mod laws;
+mod making;
 mod parts;
 mod rule;
 mod rules;

@@ -4,7 +4,7 @@ ghost use Rattle.rule_reduce.specs.RuleLists.{IsRule, entries_of};
 
 use crate::choosing::choose;
 use crate::fault::halt;
-use crate::rule::leading_place;
+use crate::making::make_rule;
 use crate::state::State;
 use crate::stepping::take_step;
 use crate::{ReduceFault, Rule};
@@ -79,16 +79,11 @@ impl<O: WordOrder + Drop> Rules<O> {
         ensures number { IfOk result (λ n. n ≡ suc (length self.old.rules)) }
         ensures err { OnErr result (self.new.rules ≡ self.old.rules) }
     {
-        let place = leading_place(&self.order, poly.terms.as_slice());
-        let (leading, lead) = poly.term(place);
-        let lead = lead.copy()?;
+        let rule = make_rule(&self.order, poly)?;
+        let lead = rule.lead.copy()?;
         let count = self.rules.len();
         let number = count as u32 + 1;
-        self.rules.push(Rule {
-            leading,
-            lead: lead.copy()?,
-            poly,
-        })?;
+        self.rules.push(rule)?;
         match self.index.insert(&lead, number) {
             Ok(()) => Ok(number),
             Err(failed) => {

@@ -1,0 +1,44 @@
+use Rattle.std.proofs.Common.{rules, ◌≡◌, ◌<◌, ◌<ℤ◌, pos, length, slice_get, Some, sym, ap, ◌∙◌, subst}
+use Rattle.std.specs.Option.{option_map}
+use Rattle.rule_reduce.specs.Leading.{leading_term}
+use Rattle.rule_reduce.specs.RuleLists.{IsRule, rule_from}
+use Rattle.rule_reduce.proofs.MadeRules.{has_terms, all_at, rule_is}
+use Rattle.rule_reduce.proofs.making.make_rule.Goals as goal
+
+pub leading_place-place-requires-clause-nonzero : goal.leading_place-place-requires-clause-nonzero
+leading_place-place-requires-clause-nonzero g c =
+    let same : c.as_slice.result.now ≡ c.args.poly.terms = search rules in
+    rw same (has_terms (g.O.WordOrder.compare c.args.order.now) c.args.poly.terms (λ t. pos 0 <ℤ t.0) c.requires.positive)
+
+pub returns-clause-rule : goal.returns-clause-rule
+returns-clause-rule g c =
+    let compare = g.O.WordOrder.compare c.args.order.now in
+    let poly = c.args.poly in
+    let n = c.leading_place-place.result in
+    let leading = c.term-leading.result.0 in
+    let lead = c.in_ok-lead.lead in
+    let best : leading_term compare poly.terms ≡ slice_get poly.terms n = search rules in
+    let here : slice_get poly.terms n ≡ Some (leading, lead) = search rules in
+    let whole = rule_is (g.O.WordOrder.letters c.args.order.now) compare poly n leading lead best here c.requires.positive c.requires.nonempty c.requires.over in
+    search (rules, whole)
+
+pub returns-clause-exact : goal.returns-clause-exact
+returns-clause-exact g c =
+    let compare = g.O.WordOrder.compare c.args.order.now in
+    let poly = c.args.poly in
+    let n = c.leading_place-place.result in
+    let leading = c.term-leading.result.0 in
+    let lead = c.in_ok-lead.lead in
+    let best : leading_term compare poly.terms ≡ slice_get poly.terms n = search rules in
+    let here : slice_get poly.terms n ≡ Some (leading, lead) = search rules in
+    let whole : rule_from compare poly ≡ Some (record { leading = leading; lead = lead; poly = poly }) = ap (option_map (λ t. record { leading = t.0; lead = t.1; poly = poly })) (best ∙ here) in
+    search (rules, whole)
+
+pub returns-clause-lead : goal.returns-clause-lead
+returns-clause-lead g c =
+    let poly = c.args.poly in
+    let n = c.leading_place-place.result in
+    let leading = c.term-leading.result.0 in
+    let lead = c.in_ok-lead.lead in
+    let here : slice_get poly.terms n ≡ Some (leading, lead) = search rules in
+    all_at (λ t. 0 < length t.1) poly.terms n (leading, lead) here c.requires.nonempty
