@@ -125,12 +125,10 @@ impl<O: WordOrder + Drop> Rules<O> {
     /// meets them.
     pub fn normal_form(&self, poly: &Poly, steps: u32) -> Result<Reduced, ReduceFault>
         requires over { All (λ t. IsOver (O.letters self.now.order) t.1) poly.now.terms }
-        ensures {
-            MatchResult result
-                (λ r. normal_form_of (O.compare self.now.order) self.now.rules poly.now.terms steps
-                    ≡ Ok (record { multiplier = r.multiplier; rest = r.rest.terms; rows = r.rows; used = r.used }))
-                (ExplainsHalt (normal_form_of (O.compare self.now.order) self.now.rules poly.now.terms steps))
-        }
+        ensures { MatchResult result
+            (λ r. normal_form_of (O.compare self.now.order) self.now.rules poly.now.terms steps
+            ≡ Ok (record { multiplier = r.multiplier; rest = r.rest.terms; rows = r.rows; used = r.used }))
+            (ExplainsHalt (normal_form_of (O.compare self.now.order) self.now.rules poly.now.terms steps)) }
     {
         let start = State {
             multiplier: 1,
@@ -163,12 +161,7 @@ impl<O: WordOrder + Drop> Rules<O> {
                 Some(choice) => choice,
                 None => return Ok(state),
             };
-            state = match take_step(
-                self.rules.allocator(),
-                self.rules.as_slice(),
-                choice,
-                state,
-            ) {
+            state = match take_step(self.rules.allocator(), self.rules.as_slice(), choice, state) {
                 Ok(next) => next,
                 Err(fault) => return Err(halt(fault)),
             };

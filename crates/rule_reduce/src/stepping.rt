@@ -140,5 +140,14 @@ pub(crate) fn take_step(
     let times = quotient(choice.coefficient, shared);
     let left = front(&choice.word, choice.place)?;
     let right = back(&choice.word, choice.place, rule.lead.len())?;
-    take_away(alloc, by, times, left, &rule.poly, choice.number, right, state)
+    take_away(
+        alloc,
+        by,
+        times,
+        left,
+        &rule.poly,
+        choice.number,
+        right,
+        state,
+    )
 }
