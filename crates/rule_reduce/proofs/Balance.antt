@@ -1,33 +1,21 @@
 -- Each step keeps the multiplier times the polynomial equal to the rest plus the sum of the rows.
-use Rattle.std.proofs.Common.{◌≡◌, ℕ, zero, suc, ◌-◌, ℤ, pos, ◌+ℤ◌, ◌*ℤ◌, neg_ℤ, Bool, true, false, cond, List, [], ◌∷◌, ◌++◌, map, get_or, slice_get, Option, Some, None, Result, Ok, Err, sym, refl, ap, ap₂, ◌∙◌, arith, subst}
+use Rattle.std.proofs.Common.{◌≡◌, ℕ, ℤ, pos, ◌+ℤ◌, ◌*ℤ◌, neg_ℤ, Bool, true, false, cond, List, [], ◌∷◌, ◌++◌, map, sym, refl, ap, ap₂, ◌∙◌, arith}
 use Rattle.std.proofs.lemmas.Int.{ints}
 use Rattle.std.proofs.Math.IntN.{*ℤ_comm, *ℤ-zero, +ℤ_idl, +ℤ_idr, +ℤ_assoc}
-use Rattle.coef_int.specs.declared.Overflow.{Overflow}
-use Rattle.coef_int.specs.Operations.{first_overflow}
-use Rattle.definitions.specs.Poly.{Term, SamePolynomial, word_eq, coefficient_of, poly_multiple, poly_between}
+use Rattle.definitions.specs.Poly.{Term, word_eq, coefficient_of, poly_multiple, poly_between}
 use Rattle.definitions.specs.Combination.{generator_at}
 use Rattle.definitions.proofs.Integers.{*ℤ_assoc, +ℤ-*ℤ}
 use Rattle.definitions.proofs.Coefficients.{coefficient_of-append, coefficient_of-multiple}
-use Rattle.nc_polynomial.specs.declared.fault.PolyFault.{PolyFault}
-use Rattle.nc_polynomial.specs.declared.fault.PolyFault.TheVariants as fault
-use Rattle.nc_polynomial.specs.Terms.{multiplied, negated, shifted, scaled}
-use Rattle.nc_polynomial.specs.Faults.{unless_overflow, sized}
+use Rattle.nc_polynomial.specs.Terms.{multiplied, negated, shifted}
 use Rattle.nc_polynomial.proofs.CoefficientLaws.{coefficient_of-keep, coefficient_of-added, coefficient_of-scaled}
 use Rattle.nc_polynomial.proofs.Products.{scaled-between}
-use Rattle.cofactor_trace.specs.declared.Origin.{Origin}
-use Rattle.cofactor_trace.specs.declared.Origin.TheVariants as origin
 use Rattle.cofactor_trace.specs.declared.Row.{Row}
 use Rattle.cofactor_trace.specs.Traces.{origin_poly, traced_poly, traced_sum}
-use Rattle.word_orders.specs.Admissible.{Compare}
 use Rattle.rule_reduce.specs.declared.rule.Rule.{Rule}
-use Rattle.rule_reduce.specs.declared.state.Choice.{Choice}
 use Rattle.rule_reduce.specs.declared.state.State.{State}
-use Rattle.rule_reduce.specs.declared.fault.ReduceFault.{ReduceFault}
-use Rattle.rule_reduce.specs.declared.fault.ReduceFault.TheVariants as halt
-use Rattle.rule_reduce.specs.RuleLists.{rule_at, polynomials_of, entries_of}
-use Rattle.rule_reduce.specs.Choices.{choice_of}
-use Rattle.rule_reduce.specs.Steps.{Move, move_row, multiplied_row, moved, move_operations, if_sized, move_result, move_of, step_by, step_result}
-use Rattle.rule_reduce.specs.NormalForms.{halt_of, then_next, at_limit, one_step, reduction, start_of}
+use Rattle.rule_reduce.specs.RuleLists.{polynomials_of}
+use Rattle.rule_reduce.specs.Steps.{Move, move_row, multiplied_row, moved, move_of}
+use Rattle.rule_reduce.specs.NormalForms.{start_of}
 use Rattle.rule_reduce.specs.Laws.{ReductionsBalance}
 use Rattle.rule_reduce.proofs.Numbers.{rule_at-polynomial}
 use Rattle.rule_reduce.proofs.Runs.{reduction_keeps}

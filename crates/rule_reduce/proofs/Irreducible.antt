@@ -1,5 +1,5 @@
 -- Where no term can be chosen, no leading word occurs in a word.
-use Rattle.std.proofs.Common.{◌≡◌, ℕ, suc, List, [], ◌∷◌, Option, Some, None, MatchOption, refl, sym, ap, ◌∙◌, subst}
+use Rattle.std.proofs.Common.{◌≡◌, ℕ, suc, List, [], ◌∷◌, Option, Some, None, MatchOption, refl}
 use Rattle.std.specs.List.{All, AllByRecursion}
 use Rattle.std.proofs.lemmas.List.Elements.{All-from_recursion}
 use Rattle.std.specs.declared.cmp.Ordering.{Ordering}
@@ -11,10 +11,9 @@ use Rattle.word_orders.specs.Admissible.{Compare}
 use Rattle.rule_index.specs.Matches.{match_or, match_of, place_in}
 use Rattle.rule_index.proofs.PlacesOfWords.{place_in-tells}
 use Rattle.rule_reduce.specs.declared.rule.Rule.{Rule}
-use Rattle.rule_reduce.specs.declared.state.State.{State}
 use Rattle.rule_reduce.specs.declared.state.Choice.{Choice}
 use Rattle.rule_reduce.specs.RuleLists.{entries_from, entries_of}
-use Rattle.rule_reduce.specs.Choices.{choice_or, better_choice, choice_from, choice_of}
+use Rattle.rule_reduce.specs.Choices.{choice_or, choice_from, choice_of}
 use Rattle.rule_reduce.specs.NormalForms.{start_of}
 use Rattle.rule_reduce.specs.Laws.{IsIrreducible, RestsAreIrreducible}
 use Rattle.rule_reduce.proofs.Runs.{reduction_keeps}

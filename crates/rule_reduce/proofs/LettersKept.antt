@@ -3,7 +3,7 @@ use Rattle.std.proofs.Common.{◌≡◌, ◌<◌, ℕ, ◌+◌, ℤ, ◌*ℤ◌,
 use Rattle.std.specs.List.{All, AllByRecursion}
 use Rattle.std.proofs.lemmas.List.Elements.{All-from_recursion, recursion_from_All, All-append, All-take, All-drop}
 use Rattle.definitions.specs.Poly.{Term}
-use Rattle.nc_polynomial.specs.Terms.{multiplied, negated, shifted, added, aligned}
+use Rattle.nc_polynomial.specs.Terms.{multiplied, negated, shifted, aligned}
 use Rattle.nc_polynomial.proofs.Shapes.{all-keep, all-totals, all-aligned}
 use Rattle.word_core.specs.Letters.{IsOver}
 use Rattle.rule_reduce.specs.declared.rule.Rule.{Rule}

@@ -10,3 +10,4 @@ pub mod Irreducible
 pub mod LettersKept
 pub mod LeadingPlaces
 pub mod MadeRules
+mod Examples

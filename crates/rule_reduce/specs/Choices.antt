@@ -1,5 +1,5 @@
 -- The term that is reduced next, by which rule, and at which place.
-use Rattle.std.specs.Prelude.{ℤ, ℕ, List, [], ◌∷◌, Option, Some, None}
+use Rattle.std.specs.Prelude.{ℕ, List, [], ◌∷◌, Option, Some, None}
 use Rattle.word_orders.specs.Admissible.{Compare}
 use Rattle.definitions.specs.Poly.{Term}
 use Rattle.nc_polynomial.specs.Terms.{by_order}

@@ -1,5 +1,5 @@
 -- What a reduction that ends gives.
-use Rattle.std.specs.Prelude.{◌≡◌, ℕ, ℤ, List, [], Ok}
+use Rattle.std.specs.Prelude.{◌≡◌, ℕ, List, [], Ok}
 use Rattle.std.specs.List.{All}
 use Rattle.definitions.specs.Poly.{Term, SamePolynomial, poly_sum, poly_multiple}
 use Rattle.word_core.specs.Occurrence.{OccursNowhere}

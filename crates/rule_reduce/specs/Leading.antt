@@ -1,5 +1,5 @@
 -- The leading term of a polynomial in an order of words.
-use Rattle.std.specs.Prelude.{ℤ, ℕ, List, [], ◌∷◌, Option, Some, None}
+use Rattle.std.specs.Prelude.{List, [], ◌∷◌, Option, Some, None}
 use Rattle.word_orders.specs.Admissible.{Compare}
 use Rattle.definitions.specs.Poly.{Term}
 use Rattle.nc_polynomial.specs.Terms.{by_order}

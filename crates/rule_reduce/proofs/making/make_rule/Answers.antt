@@ -1,7 +1,7 @@
-use Rattle.std.proofs.Common.{rules, ◌≡◌, ◌<◌, ◌<ℤ◌, pos, length, slice_get, Some, sym, ap, ◌∙◌, subst}
+use Rattle.std.proofs.Common.{rules, ◌≡◌, ◌<◌, ◌<ℤ◌, pos, length, slice_get, Some, ap, ◌∙◌}
 use Rattle.std.specs.Option.{option_map}
 use Rattle.rule_reduce.specs.Leading.{leading_term}
-use Rattle.rule_reduce.specs.RuleLists.{IsRule, rule_from}
+use Rattle.rule_reduce.specs.RuleLists.{rule_from}
 use Rattle.rule_reduce.proofs.MadeRules.{has_terms, all_at, rule_is}
 use Rattle.rule_reduce.proofs.making.make_rule.Goals as goal
 

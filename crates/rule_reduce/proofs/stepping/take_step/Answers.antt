@@ -1,6 +1,4 @@
-use Rattle.std.proofs.Common.{rules, ◌≡◌, ◌+◌, ℕ, int_div, length, take, drop, Some, Ok, Result, MatchResult, refl, sym, ap, ◌∙◌, subst}
-use Rattle.std.specs.List.{All}
-use Rattle.word_core.specs.Letters.{IsOver}
+use Rattle.std.proofs.Common.{rules, ◌≡◌, ◌+◌, int_div, length, take, drop, Some, Ok, Result, MatchResult, refl, sym, ap, ◌∙◌, subst}
 use Rattle.nc_polynomial.specs.declared.fault.PolyFault.{PolyFault}
 use Rattle.nc_polynomial.specs.Faults.{Explains}
 use Rattle.nc_polynomial.proofs.Results.{ok_part}

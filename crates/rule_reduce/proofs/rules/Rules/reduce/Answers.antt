@@ -5,7 +5,6 @@ use Rattle.nc_polynomial.specs.Faults.{Explains}
 use Rattle.rule_reduce.specs.declared.rule.Rule.{Rule}
 use Rattle.rule_reduce.specs.declared.state.State.{State}
 use Rattle.rule_reduce.specs.declared.fault.ReduceFault.{ReduceFault}
-use Rattle.rule_reduce.specs.RuleLists.{entries_of}
 use Rattle.rule_reduce.specs.Choices.{choice_of}
 use Rattle.rule_reduce.specs.Steps.{step_result}
 use Rattle.rule_reduce.specs.NormalForms.{halt_of, reduction, ExplainsHalt}
