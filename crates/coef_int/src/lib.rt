@@ -9,8 +9,11 @@ ghost use Rattle.coef_int.specs.Range.{IsCoefficient};
 #[cfg(test)]
 mod tests;
 
+use thiserror::Error;
+
 /// A product or sum that is no coefficient, with both its operands.
-#[derive(Clone, Copy, Debug, PartialEq, Eq)]
+#[derive(Clone, Copy, Debug, PartialEq, Eq, Error)]
+#[error("{left} {} {right} is no coefficient", if *product { "times" } else { "plus" })]
 pub struct Overflow {
     /// The operand on the left of the sign.
     pub left: i128,

@@ -19,6 +19,7 @@ use compare::{least_difference, overflow_of_multiple};
 use nc_polynomial::Poly;
 use rows::{add_rows, numbered};
 use std::alloc::{AllocError, Global};
+use thiserror::Error;
 use word_core::Word;
 
 /// What an accepted certificate says: the denominator times the claim is a sum of rows.
@@ -31,23 +32,30 @@ pub struct Accepted {
 }
 
 /// The first test that a certificate fails.
-#[derive(Drop)]
+#[derive(Debug, Drop, Error)]
 pub enum Refusal {
     /// The certificate names no claim.
+    #[error("the certificate names no claim")]
     NoSuchClaim,
     /// The row with this number, counted from 1, names no generator.
+    #[error("row {row} names no generator")]
     NoSuchGenerator { row: u32 },
     /// The denominator is below 1.
+    #[error("the denominator is below 1")]
     ZeroDenominator,
     /// A product or a sum leaves the range of coefficients: in the row with this number, or, for the
     /// number 0, in the denominator times the claim.
+    #[error("row {row}: {overflow}")]
     Overflow { row: u32, overflow: Overflow },
     /// The sum of the rows up to this one has more than 200,000 terms.
+    #[error("the sum has more than 200,000 terms at row {row}")]
     Size { row: u32 },
     /// The least word, in the canonical order, at which the sum isn't the denominator times the claim, with
     /// the coefficient of the multiple and that of the sum.
+    #[error("the sum has the coefficient {got} where {want} is wanted")]
     Differs { word: Word, want: i128, got: i128 },
     /// Memory is short.
+    #[error(transparent)]
     Memory(AllocError),
 }
 

@@ -71,7 +71,7 @@ pub(crate) fn add_row(
             Ok(product) => product,
             Err(overflow) => return Err(SumFault::Overflow(overflow)),
         };
-        let word = row.left.concat(&term.1.concat(&row.right)?)?;
+        let word = term.1.between(&row.left, &row.right)?;
         add_term(sum, word, product)?;
     }
     Ok(())

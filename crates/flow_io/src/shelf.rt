@@ -3,18 +3,22 @@ ghost use Rattle.flow_io.specs.Shelf.{LoadAnswers};
 ghost use Rattle.flow_io.specs.Told.{Told};
 
 use std::alloc::{AllocError, Global};
+use thiserror::Error;
 
 /// Why a load gave no file.
-#[derive(Debug, Drop)]
+#[derive(Debug, Drop, Error)]
 pub enum ShelfFault {
     /// The file isn't there, or couldn't be read. The name's count of faults rose in the call.
+    #[error("the file isn't there or can't be read")]
     Failed,
     /// The file has more bytes than the load was to read at most.
+    #[error("{got} bytes are more than may be read")]
     TooLong {
         /// The number of bytes that were read, one more than the limit.
         got: usize,
     },
     /// Memory ran out.
+    #[error(transparent)]
     Memory(AllocError),
 }
 

@@ -3,17 +3,21 @@ ghost use Rattle.std.specs.Io.KnownBytes.{Appends, Keeps, WriteAppends};
 ghost use Rattle.flow_io.specs.Causes.{Rose};
 ghost use Rattle.flow_io.specs.Sink.{written_of};
 
+use thiserror::Error;
+
 /// Why a put or a finish failed.
-#[derive(Clone, Copy, Debug, PartialEq, Eq)]
+#[derive(Clone, Copy, Debug, PartialEq, Eq, Error)]
 pub enum SinkFault {
     /// The sink's count of faults rose in the call.
+    #[error("the sink failed")]
     Failed,
 }
 
 /// Why not all bytes were put.
-#[derive(Clone, Copy, Debug, PartialEq, Eq)]
+#[derive(Clone, Copy, Debug, PartialEq, Eq, Error)]
 pub enum PutFault {
     /// A put failed, and the sink's count of faults rose.
+    #[error("the sink failed behind {written} bytes")]
     Failed {
         /// How many of the bytes were written, the first of them.
         written: usize,

@@ -2,22 +2,27 @@ ghost use Rattle.nc_polynomial.specs.Faults.{IsMemory};
 
 use coef_int::Overflow;
 use std::alloc::{AllocError, AllocFailed};
+use thiserror::Error;
 
 /// A limit on the size of a polynomial that is passed.
-#[derive(Clone, Copy, Debug, PartialEq, Eq)]
+#[derive(Clone, Copy, Debug, PartialEq, Eq, Error)]
+#[error("{}", if *letters { "a word has more than 500 letters" } else { "there are more than 20,000 terms" })]
 pub struct SizeFault {
     /// Whether a word has more than 500 letters, and not the polynomial more than 20,000 terms.
     pub letters: bool,
 }
 
 /// What can go wrong in the arithmetic of polynomials. An overflow comes before a size.
-#[derive(Debug, Drop)]
+#[derive(Debug, Drop, Error)]
 pub enum PolyFault {
     /// The first product or sum that is no coefficient.
+    #[error(transparent)]
     Overflow(Overflow),
     /// A word of the result is too long, or the result has too many terms.
+    #[error(transparent)]
     Size(SizeFault),
     /// Memory is short.
+    #[error(transparent)]
     Memory(AllocError),
 }
 

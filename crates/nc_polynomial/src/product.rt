@@ -6,7 +6,6 @@ ghost use Rattle.nc_polynomial.specs.Faults.{sized, Explains};
 ghost use Rattle.nc_polynomial.specs.Product.{moved_result, product_step, product_result};
 
 use crate::size::check_moved;
-use crate::terms::surrounded;
 use crate::{Poly, PolyFault, merge_terms, shift_terms};
 use lists::Listing;
 use std::alloc::{AllocError, Global};
@@ -64,7 +63,7 @@ fn move_terms(
 {
     let mut moved = Listing::new(alloc);
     for term in terms {
-        moved.push((term.0, surrounded(left, &term.1, right)?))?;
+        moved.push((term.0, term.1.between(left, right)?))?;
     }
     Ok(moved)
 }

@@ -95,19 +95,9 @@ pub fn shift_terms(
             Ok(product) => product,
             Err(fault) => return Err(PolyFault::Overflow(fault)),
         };
-        push_nonzero(&mut shifted, product, surrounded(left, &term.1, right)?)?;
+        push_nonzero(&mut shifted, product, term.1.between(left, right)?)?;
     }
     Ok(shifted)
-}
-
-// The word with others on its left and on its right.
-pub(crate) fn surrounded(left: &Word, word: &Word, right: &Word) -> Result<Word, AllocError>
-    ensures { IfOk result (λ w. w ≡ left.now ++ (word.now ++ right.now)) }
-{
-    if right.len() == 0 {
-        return left.concat(word);
-    }
-    left.concat(&word.concat(right)?)
 }
 
 /// The terms with the sign of each coefficient turned.

@@ -36,6 +36,7 @@ fn parts_and_joins(rt: HostRuntime) -> Result<(), Fail> {
     assert!(rt; text.slice(0, 4)? == text);
     assert!(rt; text.concat(&other)? == word(rt.alloc(), &[4, 5, 6, 7, 9])?);
     assert!(rt; other.concat(&text)? == word(rt.alloc(), &[9, 4, 5, 6, 7])?);
+    assert!(rt; other.between(&text, &other)? == word(rt.alloc(), &[4, 5, 6, 7, 9, 9])?);
     assert!(rt; text.copy()? == text);
     assert!(rt; text.duplicate()? == text);
     Ok(())

@@ -16,7 +16,7 @@ use std::cmp::Ordering;
 use std::marker::Model;
 
 /// A word: a list of letter numbers, of which the last is applied first.
-#[derive(Drop)]
+#[derive(Debug, Drop)]
 pub struct Word {
     letters: Vec<u16>,
 }
@@ -90,7 +90,22 @@ impl Word {
     pub fn concat(&self, right: &Word) -> Result<Word, AllocError>
         ensures { IfOk result (λ w. w ≡ self.now ++ right.now) }
     {
-        let mut letters = self.letters.clone()?;
+        let alloc = *self.letters.allocator();
+        let mut letters = Vec::with_capacity(alloc, self.letters.len() + right.letters.len())?;
+        letters.extend_from_slice(self.letters.as_slice())?;
+        letters.extend_from_slice(right.letters.as_slice())?;
+        Ok(Word { letters })
+    }
+
+    /// The letters of `left`, then those of this word, and then those of `right`.
+    pub fn between(&self, left: &Word, right: &Word) -> Result<Word, AllocError>
+        ensures { IfOk result (λ w. w ≡ left.now ++ (self.now ++ right.now)) }
+    {
+        let alloc = *self.letters.allocator();
+        let outer = left.letters.len() + right.letters.len();
+        let mut letters = Vec::with_capacity(alloc, outer.saturating_add(self.letters.len()))?;
+        letters.extend_from_slice(left.letters.as_slice())?;
+        letters.extend_from_slice(self.letters.as_slice())?;
         letters.extend_from_slice(right.letters.as_slice())?;
         Ok(Word { letters })
     }
