@@ -58,9 +58,14 @@ impl Ending {
     pub fn too_long(alloc: Global, name: &str, limit: usize) -> Result<Ending, AllocError>
         ensures { IfOk result (λ ending. ending ≡ too_long name.now limit) }
     {
+        let mut digits = Buffer::new();
+        let report = format!(in alloc;
+            "# too long {name} limit {}\n",
+            digits.format(limit)
+        )?;
         Ok(Ending {
             status: 4,
-            report: format!(in alloc; "# too long {name} limit {limit}\n")?.into_bytes(),
+            report: report.into_bytes(),
         })
     }
 
