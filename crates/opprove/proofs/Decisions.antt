@@ -1,21 +1,30 @@
 -- What follows of what two texts decide.
-use Rattle.std.proofs.Common.{◌≡◌, ℕ, ℤ, List, [], ◌∷◌, Option, Some, None, refl, sym, ap, subst, arith, ◌∙◌}
-use Rattle.definitions.specs.Category.{Structure}
-use Rattle.definitions.specs.Combination.{generator_at, IsCombination}
-use Rattle.definitions.specs.Soundness.{IsSound}
+use Rattle.std.proofs.Common.{◌≡◌, ℕ, ◌+◌, ℤ, List, [], ◌∷◌, ◌++◌, Option, Some, None, Result, Ok, Err, refl, sym, ap, subst, arith, ◌∙◌}
+use Rattle.std.specs.List.{AllByRecursion}
+use Rattle.statement_syntax.specs.declared.tree.Statement.{Statement}
+use Rattle.statement_syntax.specs.Fault.{code_of}
 use Rattle.cofactor_trace.specs.declared.Certificate.{Certificate}
-use Rattle.cofactor_trace.specs.Rows.{rows_of}
 use Rattle.cofactor_checker.specs.declared.Refusal.{Refusal}
 use Rattle.cofactor_checker.specs.declared.Refusal.TheVariants as refusal
-use Rattle.cofactor_checker.specs.Acceptance.{Accepts, IsMemory, claim_of, Refuses}
-use Rattle.cofactor_checker.proofs.Outcomes.{combination_from_accepts, accepted_is_not_refused}
+use Rattle.cofactor_checker.specs.Acceptance.{Accepts, IsMemory, Refuses}
+use Rattle.cofactor_checker.proofs.Outcomes.{accepted_is_not_refused}
 use Rattle.cofactor_checker.proofs.Unique.{refusal_is_unique}
-use Rattle.quiver.specs.Declarations.{Declaration, quiver_of}
-use Rattle.first_form.specs.Statement.{Stated, statement_of, IsTypedStatement}
-use Rattle.opprove.specs.Ending.{Ending, accepted, refused}
-use Rattle.opprove.specs.Refusals.{refusal_text}
-use Rattle.opprove.specs.Decides.{claims_of, evidence_of, Judges, accepts, refuses, DecidesBy, DecidesOver, Decides}
-use Rattle.opprove.specs.Headline.{Proved}
+use Rattle.quiver.specs.Declarations.{Declaration}
+use Rattle.adjoint_rules.specs.declared.problem.Problem.{Problem}
+use Rattle.signature_typing.specs.declared.fault.TypeFault.{TypeFault}
+use Rattle.signature_typing.specs.Typing.{fault_of, IsProblemOf}
+use Rattle.certificate_text.specs.Evidence.{certificates_of, EvidenceFault}
+use Rattle.opprove.specs.Ending.{Ending, line, refused_statement, refused_evidence}
+use Rattle.opprove.specs.Texts.{statement_fault, evidence_fault}
+use Rattle.opprove.specs.Refusals.{accepted_text, cause_text, refused_text}
+use Rattle.opprove.specs.Decides.{IsStated, typing_text, IsRefusedStatement, no_tree, no_problem, Question, question_of, IsAccepted, JudgesBlock, accepts, refuses, Judges, accepted_lines, DecidesOver, no_evidence, judged, Decides, no_statement, over}
+use Rattle.opprove.proofs.Syntax.{tree_once, no_fault, fault_once}
+use Rattle.opprove.proofs.Problems.{same_question}
+
+-- over a problem the status is 0 or 7
+pub data OverStatus (status : ℕ) : Type 0 where
+  over_accepted : status ≡ 0 → OverStatus status
+  over_refused : status ≡ 7 → OverStatus status
 
 -- the status is 0, 3 or 7
 pub data DecisionStatus (status : ℕ) : Type 0 where
@@ -26,102 +35,138 @@ pub data DecisionStatus (status : ℕ) : Type 0 where
 status_is : {ending end : Ending} → ending ≡ end → ending.status ≡ end.status
 status_is same = ap (λ (e : Ending). e.status) same
 
-judged_status : {stated : Stated} {evidence : Certificate} {ending : Ending} → Judges stated evidence ending → DecisionStatus ending.status
-judged_status (accepts _ is) = is_accepted (status_is is)
-judged_status (refuses _ text _ _ is) = is_refused (status_is is)
+-- ---- the blocks
 
-by_status : (stated : Stated) (evidence : Option Certificate) (ending : Ending) → DecidesBy stated evidence ending → DecisionStatus ending.status
-by_status stated None ending is = is_refused (status_is is)
-by_status stated (Some evidence) ending judged = judged_status judged
+-- the status of blocks is 0 or 7
+judged_status : (question : Question) (block : ℕ) (cs : List Certificate) (lines : List ℕ) (status : ℕ) → Judges question block cs lines status → OverStatus status
+judged_status question block [] lines status judges = over_accepted judges.1
+judged_status question block (c ∷ cs) lines status (accepts _ rest next _) = judged_status question (block + 1) cs rest status next
+judged_status question block (c ∷ cs) lines status (refuses _ _ _ _ _ seven) = over_refused seven
 
-over_status : (stated : Option Stated) (certificate : List ℕ) (ending : Ending) → DecidesOver stated certificate ending → DecisionStatus ending.status
-over_status None certificate ending is = is_no_statement (status_is is)
-over_status (Some stated) certificate ending decided = by_status stated (evidence_of stated certificate) ending decided
+-- status 0: each block is accepted
+pub all_accepted : (question : Question) (block : ℕ) (cs : List Certificate) (lines : List ℕ) (status : ℕ) → Judges question block cs lines status → status ≡ 0 → AllByRecursion (IsAccepted question) cs
+all_accepted question block [] lines status judges zero = tt
+all_accepted question block (c ∷ cs) lines status (accepts holds rest next _) zero = (holds, all_accepted question (block + 1) cs rest status next zero)
+all_accepted question block (c ∷ cs) lines status (refuses _ _ _ _ _ seven) zero = absurd (omega arith)
 
-pub decision_status : {statement certificate : List ℕ} {ending : Ending} → Decides statement certificate ending → DecisionStatus ending.status
-decision_status {statement} {certificate} {ending} decides = over_status (statement_of statement) certificate ending decides.by
+-- blocks that are all accepted are told so
+pub accepted_judged : (question : Question) (block : ℕ) (cs : List Certificate) → AllByRecursion (IsAccepted question) cs → Judges question block cs (accepted_lines block cs) 0
+accepted_judged question block [] all = (refl, refl)
+accepted_judged question block (c ∷ cs) all = accepts all.0 (accepted_lines (block + 1) cs) (accepted_judged question (block + 1) cs all.1) refl
 
--- the texts that are read are the ones that are spelled
-pub judged_from : {statement certificate : List ℕ} {ending : Ending} (stated : Stated) (evidence : Certificate) → statement_of statement ≡ Some stated → evidence_of stated certificate ≡ Some evidence
-    → Decides statement certificate ending → Judges stated evidence ending
-judged_from {statement} {certificate} {ending} stated evidence statement_is certificate_is decides =
-    let over : DecidesBy stated (evidence_of stated certificate) ending = subst (λ (s : Option Stated). DecidesOver s certificate ending) statement_is decides.by in
-    subst (λ (e : Option Certificate). DecidesBy stated e ending) certificate_is over
+-- a refusal that has a line is no want of memory
+told : (ds : List Declaration) (r : Refusal) (cause : List ℕ) → cause_text ds r ≡ Some cause → IsMemory r → ⊥
+told ds (refusal.Memory failed) cause is memory = absurd (cc)
+told ds refusal.NoSuchClaim cause is memory = memory
+told ds (refusal.NoSuchGenerator row) cause is memory = memory
+told ds refusal.ZeroDenominator cause is memory = memory
+told ds (refusal.Overflow row o) cause is memory = memory
+told ds (refusal.Size row) cause is memory = memory
+told ds (refusal.Differs word want got) cause is memory = memory
 
--- a refusal that has a text is no want of memory
-told : (ds : List Declaration) (r : Refusal) (text : List ℕ) → refusal_text ds r ≡ Some text → IsMemory r → ⊥
-told ds (refusal.Memory failed) text is memory = absurd (cc)
-told ds refusal.NoSuchClaim text is memory = memory
-told ds (refusal.NoSuchGenerator row) text is memory = memory
-told ds refusal.ZeroDenominator text is memory = memory
-told ds (refusal.Overflow row o) text is memory = memory
-told ds (refusal.Size row) text is memory = memory
-told ds (refusal.Differs word want got) text is memory = memory
+-- what is told of blocks: their lines and the status
+pub record Same (lines lines' : List ℕ) (status status' : ℕ) : Type 0 where
+  pub lines_same : lines ≡ lines'
+  pub status_same : status ≡ status'
 
--- what is accepted ends so
-pub accepted_ending : {stated : Stated} {evidence : Certificate} {ending : Ending} → Accepts (claims_of stated) stated.assumptions evidence → Judges stated evidence ending → ending ≡ accepted evidence.denominator
-accepted_ending {stated} {evidence} holds (accepts _ is) = is
-accepted_ending {stated} {evidence} holds (refuses r text refused told_as _) = absurd (told stated.declared r text told_as (accepted_is_not_refused (claims_of stated) stated.assumptions evidence holds r refused))
+module _ (question : Question) where
+  not_both : (c : Certificate) (r : Refusal) (cause : List ℕ) → IsAccepted question c → Refuses question.claims question.generators c r → cause_text question.declared r ≡ Some cause → ⊥
+  not_both c r cause holds because is = told question.declared r cause is (accepted_is_not_refused question.claims question.generators c holds r because)
 
--- ---- two endings that the same texts decide are one
-module _ (stated : Stated) (evidence : Certificate) where
-  same_text : (r r' : Refusal) (text text' : List ℕ) → Refuses (claims_of stated) stated.assumptions evidence r → Refuses (claims_of stated) stated.assumptions evidence r'
-      → refusal_text stated.declared r ≡ Some text → refusal_text stated.declared r' ≡ Some text' → text ≡ text'
-  same_text r r' text text' because because' told_as told_as' =
-      let one : r ≡ r' = refusal_is_unique (claims_of stated) stated.assumptions evidence r r' because because' (told stated.declared r text told_as) (told stated.declared r' text' told_as') in
-      let both : Some text ≡ Some text' = sym told_as ∙ ap (refusal_text stated.declared) one ∙ told_as' in
+  same_cause : (c : Certificate) (r r' : Refusal) (cause cause' : List ℕ) → Refuses question.claims question.generators c r → Refuses question.claims question.generators c r'
+      → cause_text question.declared r ≡ Some cause → cause_text question.declared r' ≡ Some cause' → cause ≡ cause'
+  same_cause c r r' cause cause' because because' is is' =
+      let one : r ≡ r' = refusal_is_unique question.claims question.generators c r r' because because' (told question.declared r cause is) (told question.declared r' cause' is') in
+      let both : Some cause ≡ Some cause' = sym is ∙ ap (cause_text question.declared) one ∙ is' in
       cc
 
-  judged_once : (ending ending' : Ending) → Judges stated evidence ending → Judges stated evidence ending' → ending ≡ ending'
-  judged_once ending ending' (accepts holds is) judged = is ∙ sym (accepted_ending holds judged)
-  judged_once ending ending' (refuses r text because told_as is) (accepts holds is') = accepted_ending holds (refuses r text because told_as is) ∙ sym is'
-  judged_once ending ending' (refuses r text because told_as is) (refuses r' text' because' told_as' is') = is ∙ ap refused (same_text r r' text text' because because' told_as told_as') ∙ sym is'
+  pub judged_once : (block : ℕ) (cs : List Certificate) (lines lines' : List ℕ) (status status' : ℕ) → Judges question block cs lines status → Judges question block cs lines' status' → Same lines lines' status status'
+  judged_once block [] lines lines' status status' one other = record { lines_same = one.0 ∙ sym other.0; status_same = one.1 ∙ sym other.1 }
+  judged_once block (c ∷ cs) lines lines' status status' (accepts holds rest next is) (accepts holds' rest' next' is') =
+      let same = judged_once (block + 1) cs rest rest' status status' next next' in
+      record { lines_same = is ∙ ap (λ x. line (accepted_text block c.claim c.denominator) ++ x) same.lines_same ∙ sym is'; status_same = same.status_same }
+  judged_once block (c ∷ cs) lines lines' status status' (accepts holds rest next is) (refuses r cause because told_as _ _) = absurd (not_both c r cause holds because told_as)
+  judged_once block (c ∷ cs) lines lines' status status' (refuses r cause because told_as _ _) (accepts holds rest next is) = absurd (not_both c r cause holds because told_as)
+  judged_once block (c ∷ cs) lines lines' status status' (refuses r cause because told_as is seven) (refuses r' cause' because' told_as' is' seven') = record {
+    lines_same = is ∙ ap (λ x. line (refused_text block x)) (same_cause c r r' cause cause' because because' told_as told_as') ∙ sym is';
+    status_same = seven ∙ sym seven';
+  }
 
-by_once : (stated : Stated) (evidence : Option Certificate) (ending ending' : Ending) → DecidesBy stated evidence ending → DecidesBy stated evidence ending' → ending ≡ ending'
-by_once stated None ending ending' is is' = is ∙ sym is'
-by_once stated (Some evidence) ending ending' judged judged' = judged_once stated evidence ending ending' judged judged'
+-- ---- the statement
 
-over_once : (stated : Option Stated) (certificate : List ℕ) (ending ending' : Ending) → DecidesOver stated certificate ending → DecidesOver stated certificate ending' → ending ≡ ending'
-over_once None certificate ending ending' is is' = is ∙ sym is'
-over_once (Some stated) certificate ending ending' decided decided' = by_once stated (evidence_of stated certificate) ending ending' decided decided'
+-- a statement that has a problem is not refused
+stated_not_refused : (bytes text : List ℕ) (problem : Problem) → IsStated bytes problem → IsRefusedStatement bytes text → ⊥
+stated_not_refused bytes text problem stated (no_tree fault at first is) = no_fault bytes stated.statements fault at stated.tree first
+stated_not_refused bytes text problem stated (no_problem statements fault tree found is) =
+    let same = tree_once bytes stated.statements statements stated.tree tree in
+    let both : (let o : Option TypeFault = None in o) ≡ Some fault = sym stated.problem.no_fault ∙ ap fault_of same ∙ found in
+    absurd cc
 
-pub decided_once : {statement certificate : List ℕ} {ending ending' : Ending} → Decides statement certificate ending → Decides statement certificate ending' → ending ≡ ending'
-decided_once {statement} {certificate} {ending} {ending'} decides decides' = over_once (statement_of statement) certificate ending ending' decides.by decides'.by
+refused_once : (bytes text text' : List ℕ) → IsRefusedStatement bytes text → IsRefusedStatement bytes text' → text ≡ text'
+refused_once bytes text text' (no_tree fault at first is) (no_tree fault' at' first' is') =
+    let same = fault_once bytes fault fault' at at' first first' in
+    is ∙ (λ i. statement_fault (code_of (same.0 i)) (same.1 i).line (same.1 i).column 0 None None) ∙ sym is'
+refused_once bytes text text' (no_tree fault at first is) (no_problem statements other tree found is') = absurd (no_fault bytes statements fault at tree first)
+refused_once bytes text text' (no_problem statements fault tree found is) (no_tree other at first is') = absurd (no_fault bytes statements other at tree first)
+refused_once bytes text text' (no_problem statements fault tree found is) (no_problem statements' fault' tree' found' is') =
+    let same = tree_once bytes statements statements' tree tree' in
+    let both : Some fault ≡ Some fault' = sym found ∙ ap fault_of same ∙ found' in
+    let one : fault ≡ fault' = cc in
+    let texts : Some text ≡ Some text' = sym is ∙ ap typing_text one ∙ is' in
+    cc
 
--- the one claim is meant
-first_claim : (claim : List (ℤ × List ℕ)) (evidence : Certificate) → evidence.claim ≡ 1 → claim_of (claim ∷ []) evidence ≡ claim
-first_claim claim evidence one = let P : ℕ → Type 0 = λ n. generator_at (claim ∷ []) n ≡ claim in subst P (sym one) refl
+-- ---- two endings that the same texts decide are one
 
-module _ {Object Arrow : Type 0} (s : Structure Object Arrow) (sound : IsSound s) where
-  judged_meaning : {certificate : List ℕ} {ending : Ending} (statement : List ℕ) (stated : Stated) (evidence : Certificate) → statement_of statement ≡ Some stated → evidence_of stated certificate ≡ Some evidence
-      → IsTypedStatement stated → Judges stated evidence ending → ending.status ≡ 0 → Proved s statement certificate
-  judged_meaning statement stated evidence statement_is certificate_is typed (refuses _ text _ _ is) zero = let seven = status_is is in absurd (omega arith)
-  judged_meaning statement stated evidence statement_is certificate_is typed (accepts holds is) zero =
-      let claim = holds.adds_up.begins.posed.claim in
-      let one : evidence.claim ≡ 1 = omega (arith, claim.least, claim.most) in
-      let sum : IsCombination stated.assumptions (rows_of evidence.rows) evidence.denominator stated.claim =
-      subst (IsCombination stated.assumptions (rows_of evidence.rows) evidence.denominator) (first_claim stated.claim evidence one) (combination_from_accepts (claims_of stated) stated.assumptions evidence holds) in
-      record {
-        stated = stated;
-        evidence = evidence;
-        statement_is = statement_is;
-        certificate_is = certificate_is;
-        accepted = holds;
-        sum = sum;
-        zero = sound.certificate (quiver_of stated.declared) stated.assumptions (rows_of evidence.rows) evidence.denominator stated.claim typed.quiver typed.assumptions sum;
-      }
+stated_once : (bytes : List ℕ) (problem problem' : Problem) → IsStated bytes problem → IsStated bytes problem' → question_of problem ≡ question_of problem'
+stated_once bytes problem problem' one other =
+    same_question one.statements problem problem' one.problem (subst (λ (s : List Statement). IsProblemOf s problem') (tree_once bytes other.statements one.statements other.tree one.tree) other.problem)
 
-  by_meaning : {certificate : List ℕ} (ending : Ending) (statement : List ℕ) (stated : Stated) (evidence : Option Certificate) → statement_of statement ≡ Some stated → evidence_of stated certificate ≡ evidence
-      → IsTypedStatement stated → DecidesBy stated evidence ending → ending.status ≡ 0 → Proved s statement certificate
-  by_meaning ending statement stated None statement_is certificate_is typed is zero = let seven = status_is is in absurd (omega arith)
-  by_meaning ending statement stated (Some evidence) statement_is certificate_is typed judged zero = judged_meaning statement stated evidence statement_is certificate_is typed judged zero
+Read : Type 0
+Read = Result (List Certificate) EvidenceFault
 
-  over_meaning : {certificate : List ℕ} (ending : Ending) (statement : List ℕ) (stated : Option Stated) → statement_of statement ≡ stated → ((x : Stated) → stated ≡ Some x → IsTypedStatement x)
-      → DecidesOver stated certificate ending → ending.status ≡ 0 → Proved s statement certificate
-  over_meaning ending statement None statement_is typed is zero = let three = status_is is in absurd (omega arith)
-  over_meaning {certificate} ending statement (Some stated) statement_is typed decided zero = by_meaning ending statement stated (evidence_of stated certificate) statement_is refl (typed stated refl) decided zero
+-- over two problems of one statement
+over_once : (problem problem' : Problem) (evidence : List ℕ) (ending ending' : Ending) → question_of problem ≡ question_of problem'
+    → DecidesOver problem evidence ending → DecidesOver problem' evidence ending' → ending ≡ ending'
+over_once problem problem' evidence ending ending' asked one other = by one other
+  where
+    reads : certificates_of problem.parts.quiver evidence ≡ certificates_of problem'.parts.quiver evidence
+    reads = ap (λ (q : Question). certificates_of q.declared evidence) asked
 
-  -- status 0 has its meaning in the category
-  pub decided_meaning : {statement certificate : List ℕ} {ending : Ending} → ((bytes : List ℕ) (x : Stated) → statement_of bytes ≡ Some x → IsTypedStatement x)
-      → Decides statement certificate ending → ending.status ≡ 0 → Proved s statement certificate
-  decided_meaning {statement} {certificate} {ending} typed decides zero = over_meaning ending statement (statement_of statement) refl (typed statement) decides.by zero
+    by : DecidesOver problem evidence ending → DecidesOver problem' evidence ending' → ending ≡ ending'
+    by (no_evidence code line limit read is) (no_evidence code' line' limit' read' is') =
+        let both : (let r : Read = Err (record { code = code; line = line; limit = limit }) in r) ≡ Err (record { code = code'; line = line'; limit = limit' }) = sym read ∙ reads ∙ read' in
+        let same : (let f : EvidenceFault = record { code = code; line = line; limit = limit } in f) ≡ record { code = code'; line = line'; limit = limit' } = cc in
+        is ∙ ap (λ (f : EvidenceFault). refused_evidence (evidence_fault f.code f.line f.limit)) same ∙ sym is'
+    by (no_evidence code line limit read is) (judged cs read' judges) =
+        let both : (let r : Read = Err (record { code = code; line = line; limit = limit }) in r) ≡ Ok cs = sym read ∙ reads ∙ read' in
+        absurd cc
+    by (judged cs read judges) (no_evidence code line limit read' is) =
+        let both : (let r : Read = Ok cs in r) ≡ Err (record { code = code; line = line; limit = limit }) = sym read ∙ reads ∙ read' in
+        absurd cc
+    by (judged cs read judges) (judged cs' read' judges') =
+        let both : (let r : Read = Ok cs in r) ≡ Ok cs' = sym read ∙ reads ∙ read' in
+        let same_certificates : cs' ≡ cs = cc in
+        let moved : Judges (question_of problem) 1 cs ending'.report ending'.status =
+        subst (λ (q : Question). Judges q 1 cs ending'.report ending'.status) (sym asked)
+        (subst (λ (x : List Certificate). Judges (question_of problem') 1 x ending'.report ending'.status) same_certificates judges') in
+        let same = judged_once (question_of problem) 1 cs ending.report ending'.report ending.status ending'.status judges moved in
+        λ i. record { status = same.status_same i; report = same.lines_same i }
+
+pub decided_once : {statement evidence : List ℕ} {ending ending' : Ending} → Decides statement evidence ending → Decides statement evidence ending' → ending ≡ ending'
+decided_once {statement} (no_statement text refused is) (no_statement text' refused' is') = is ∙ ap refused_statement (refused_once statement text text' refused refused') ∙ sym is'
+decided_once {statement} (no_statement text refused is) (over problem stated decided) = absurd (stated_not_refused statement text problem stated refused)
+decided_once {statement} (over problem stated decided) (no_statement text refused is) = absurd (stated_not_refused statement text problem stated refused)
+decided_once {statement} {evidence} {ending} {ending'} (over problem stated decided) (over problem' stated' decided') =
+    over_once problem problem' evidence ending ending' (stated_once statement problem problem' stated stated') decided decided'
+
+pub over_status : (problem : Problem) (evidence : List ℕ) (ending : Ending) → DecidesOver problem evidence ending → OverStatus ending.status
+over_status problem evidence ending (no_evidence code line limit read is) = over_refused (status_is is)
+over_status problem evidence ending (judged cs read judges) = judged_status (question_of problem) 1 cs ending.report ending.status judges
+
+of_over : {status : ℕ} → OverStatus status → DecisionStatus status
+of_over (over_accepted is) = is_accepted is
+of_over (over_refused is) = is_refused is
+
+pub decision_status : {statement evidence : List ℕ} {ending : Ending} → Decides statement evidence ending → DecisionStatus ending.status
+decision_status (no_statement text refused is) = is_no_statement (status_is is)
+decision_status {statement} {evidence} {ending} (over problem stated decided) = of_over (over_status problem evidence ending decided)

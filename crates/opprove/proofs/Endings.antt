@@ -1,17 +1,18 @@
 -- What follows of an ending that is allowed, once it is put.
-use Rattle.std.proofs.Common.{◌≡◌, ◌≢◌, ◌⊎◌, inl, inr, ⊎_elim, ℕ, List, Option, Some, None, refl, sym, ◌∙◌, ap, subst, arith, length, ◌<◌, ◌≤◌, String, Global}
+use Rattle.std.proofs.Common.{◌≡◌, ◌≢◌, ◌⊎◌, inl, inr, ⊎_elim, ℕ, List, Option, Some, None, refl, sym, ◌∙◌, ap, subst, arith, length, ◌<◌, ◌≤◌, Ok, String, Global}
+use Rattle.std.specs.List.{AllByRecursion}
 use Rattle.std.specs.Io.KnownBytes.{Appends}
 use Rattle.flow_io.specs.Told.{Told, Absent, Holds, MayExceed}
 use Rattle.opprove.specs.Words.{Named, files_named}
 use Rattle.cofactor_trace.specs.declared.Certificate.{Certificate}
-use Rattle.cofactor_checker.specs.Acceptance.{Accepts}
-use Rattle.first_form.specs.Statement.{Stated, statement_of}
-use Rattle.opprove.specs.Ending.{Ending, usage, load_failed, too_long, accepted}
-use Rattle.opprove.specs.Decides.{Decides, claims_of, evidence_of}
+use Rattle.adjoint_rules.specs.declared.problem.Problem.{Problem}
+use Rattle.certificate_text.specs.Evidence.{certificates_of}
+use Rattle.opprove.specs.Ending.{Ending, usage, load_failed, too_long, refused_statement}
+use Rattle.opprove.specs.Decides.{IsStated, IsRefusedStatement, question_of, IsAccepted, accepted_lines, judged, Decides, no_statement, over}
 use Rattle.opprove.specs.Ends.{AreLoaded, AfterFiles, MayEndBy, MayEnd, statement_limit, certificate_limit}
 use Rattle.opprove.specs.Put.{IsPut}
 use Rattle.opprove.specs.Status.{SaysLoadFailed, SaysTooLong, IsMissing, IsFirstTooLong, AreHeld, WereLoaded}
-use Rattle.opprove.proofs.Decisions.{DecisionStatus, is_accepted, is_no_statement, is_refused, decision_status, decided_once, judged_from, accepted_ending}
+use Rattle.opprove.proofs.Decisions.{OverStatus, over_accepted, over_refused, over_status, DecisionStatus, is_accepted, is_no_statement, is_refused, decision_status, decided_once, accepted_judged}
 
 -- The kinds of endings that two named files lead to.
 pub data Kind (told : List ℕ → Told) (rose : List ℕ → Type 0) (files : Named) (ending : Ending) : Type 0 where
@@ -157,23 +158,25 @@ module _ {words : List (String Global)} {told : List ℕ → Told} {rose : List 
 
   -- every other status says that both files were loaded, and is decided by their bytes
   pub loaded : status ≢ 2 → status ≢ 4 → status ≢ 5
-      → (files : Named) × (files_named words ≡ Some files) × ((statement : List ℕ) × ((certificate : List ℕ) × WereLoaded told files statement certificate × (Decides statement certificate ending × (status ≡ ending.status))))
+      → (files : Named) × (files_named words ≡ Some files)
+      × ((statement : List ℕ) × ((certificate : List ℕ) × WereLoaded told files statement certificate × (Decides statement certificate ending × (status ≡ ending.status) × Appends old new ending.report)))
   loaded not_two not_four not_five = by_words (files_named words) refl
     where
-      status_of : (end : Ending) → ending ≡ end → status ≡ end.status
-      status_of end is = ⊎_elim (λ whole. whole.0) (λ part. absurd (not_five part.0)) (said end is)
+      whole_of : (end : Ending) → ending ≡ end → (status ≡ end.status) × Appends old new end.report
+      whole_of end is = ⊎_elim (λ whole. (whole.0, whole.1)) (λ part. absurd (not_five part.0)) (said end is)
 
       cases : (files : Named) → Kind told rose files ending
-          → (statement : List ℕ) × ((certificate : List ℕ) × WereLoaded told files statement certificate × (Decides statement certificate ending × (status ≡ ending.status)))
-      cases files (first_failed cause end) = absurd (not_four (status_of _ end))
-      cases files (second_failed statement before cause end) = absurd (not_four (status_of _ end))
-      cases files (first_long long end) = absurd (not_four (status_of _ end))
-      cases files (second_long statement before long end) = absurd (not_four (status_of _ end))
-      cases files (both statement certificate were decides) = (statement, (certificate, were, (decides, status_of ending refl)))
+          → (statement : List ℕ) × ((certificate : List ℕ) × WereLoaded told files statement certificate × (Decides statement certificate ending × (status ≡ ending.status) × Appends old new ending.report))
+      cases files (first_failed cause end) = absurd (not_four (whole_of _ end).0)
+      cases files (second_failed statement before cause end) = absurd (not_four (whole_of _ end).0)
+      cases files (first_long long end) = absurd (not_four (whole_of _ end).0)
+      cases files (second_long statement before long end) = absurd (not_four (whole_of _ end).0)
+      cases files (both statement certificate were decides) = (statement, (certificate, were, (decides, whole_of ending refl)))
 
       by_words : (p : Option Named) → files_named words ≡ p
-          → (files : Named) × (p ≡ Some files) × ((statement : List ℕ) × ((certificate : List ℕ) × WereLoaded told files statement certificate × (Decides statement certificate ending × (status ≡ ending.status))))
-      by_words None is = absurd (not_two (status_of usage (let P : Option Named → Type 0 = λ q. MayEndBy q told rose ending in subst P is may.by)))
+          → (files : Named) × (p ≡ Some files)
+          × ((statement : List ℕ) × ((certificate : List ℕ) × WereLoaded told files statement certificate × (Decides statement certificate ending × (status ≡ ending.status) × Appends old new ending.report)))
+      by_words None is = absurd (not_two (whole_of usage (let P : Option Named → Type 0 = λ q. MayEndBy q told rose ending in subst P is may.by)).0)
       by_words (Some files) is = (files, refl, cases files (at_files files is))
 
   -- an ending has none of the two statuses of a run that is cut short
@@ -235,11 +238,27 @@ module _ {words : List (String Global)} {told : List ℕ → Told} {rose : List 
       let P : Ending → Type 0 = λ e. (status ≡ e.status) × Appends old new e.report × finished in
       subst P (decided_once done.0 decides) (done.1, done.2, done.3)
 
-  -- both files are held, and their certificate is accepted
-  pub held_accepted : (files : Named) (statement certificate : List ℕ) (given : Stated) (evidence : Certificate) → files_named words ≡ Some files → AreHeld told rose files statement certificate → (sink_rose → ⊥)
-      → statement_of statement ≡ Some given → evidence_of given certificate ≡ Some evidence → Accepts (claims_of given) given.assumptions evidence → (status ≡ 0) × Appends old new (accepted evidence.denominator).report
-  held_accepted files statement certificate given evidence is held steady statement_is certificate_is holds =
-      let done = complete files statement certificate is held steady in
-      let end = accepted_ending holds (judged_from given evidence statement_is certificate_is done.0) in
-      let P : Ending → Type 0 = λ e. (status ≡ e.status) × Appends old new e.report in
-      subst P end (done.1, done.2)
+  -- both files are held, and each block is accepted
+  pub held_accepted : (files : Named) (statement evidence : List ℕ) (problem : Problem) (cs : List Certificate) → files_named words ≡ Some files → AreHeld told rose files statement evidence → (sink_rose → ⊥)
+      → IsStated statement problem → certificates_of problem.parts.quiver evidence ≡ Ok cs → AllByRecursion (IsAccepted (question_of problem)) cs → (status ≡ 0) × Appends old new (accepted_lines 1 cs)
+  held_accepted files statement evidence problem cs is held steady stated read all =
+      let end : Ending = record { status = 0; report = accepted_lines 1 cs } in
+      let done = completed files statement evidence end is held steady (over problem stated (judged cs read (accepted_judged (question_of problem) 1 cs all))) in
+      (done.0, done.1)
+
+  -- both files are held, and the statement is refused
+  pub held_refused : (files : Named) (statement evidence text : List ℕ) → files_named words ≡ Some files → AreHeld told rose files statement evidence → (sink_rose → ⊥)
+      → IsRefusedStatement statement text → (status ≡ 3) × Appends old new (refused_statement text).report
+  held_refused files statement evidence text is held steady refused =
+      let done = completed files statement evidence (refused_statement text) is held steady (no_statement text refused refl) in
+      (done.0, done.1)
+
+-- status 3: the statement is refused, and the report says why
+pub refused_by : {statement evidence : List ℕ} {ending : Ending} {old new : Option (List ℕ)} → Decides statement evidence ending → ending.status ≡ 3 → Appends old new ending.report
+    → (text : List ℕ) × IsRefusedStatement statement text × Appends old new (refused_statement text).report
+refused_by {old} {new} (no_statement text refused is) three put = (text, refused, subst (λ (e : Ending). Appends old new e.report) is put)
+refused_by {evidence} {ending} (over problem stated decided) three put = absurd (not_three (over_status problem evidence ending decided))
+  where
+    not_three : OverStatus ending.status → ⊥
+    not_three (over_accepted is) = omega arith
+    not_three (over_refused is) = omega arith

@@ -1,29 +1,35 @@
--- The lines of a report that say why a certificate is refused.
-use Rattle.std.specs.Prelude.{ℕ, Bool, List, [], ◌∷◌, ◌++◌, nat_lt, codes, decimal, if◌then◌else◌, Option, Some, None}
+-- The lines of a report on the blocks of an evidence text.
+use Rattle.std.specs.Prelude.{ℕ, ℤ, Bool, List, [], ◌∷◌, ◌++◌, nat_lt, codes, decimal, if◌then◌else◌, Option, Some, None}
 use Rattle.std.specs.List.{flat_map}
 use Rattle.std.specs.Fmt.{signed_decimal}
-use Rattle.quiver.specs.Declarations.{Declaration, letter_count, letter_name}
+use Rattle.quiver.specs.Declarations.{Declaration, letter_count}
 use Rattle.cofactor_checker.specs.declared.Refusal.{Refusal}
 use Rattle.cofactor_checker.specs.declared.Refusal.TheVariants as refusal
-
--- the name of a letter: in the first form each is a declared map
-abbrev pub letter_text : List Declaration → ℕ → List ℕ
-letter_text ds a = if nat_lt a (letter_count ds) then letter_name ds a else []
+use Rattle.certificate_text.specs.Written.{letter_text}
 
 -- the letters of a word, a blank before each
-abbrev pub word_text : List Declaration → List ℕ → List ℕ
-word_text ds w = flat_map (λ a. 32 ∷ letter_text ds a) w
+abbrev pub letters_text : List Declaration → List ℕ → List ℕ
+letters_text ds w = flat_map (λ a. 32 ∷ (if nat_lt a (letter_count ds) then letter_text ds a else [])) w
 
 abbrev pub operation_text : Bool → List ℕ
 operation_text product = if product then codes " times " else codes " plus "
 
-abbrev pub refusal_text : List Declaration → Refusal → Option (List ℕ)
-refusal_text ds refusal.NoSuchClaim = Some (codes "# block 1 refused C1")
-refusal_text ds (refusal.NoSuchGenerator row) = Some (codes "# block 1 refused C2 row " ++ decimal row)
-refusal_text ds refusal.ZeroDenominator = Some (codes "# block 1 refused C3")
-refusal_text ds (refusal.Overflow row o) =
-    Some (codes "# block 1 refused C4 row " ++ (decimal row ++ (codes " " ++ (signed_decimal o.left ++ (operation_text o.product ++ signed_decimal o.right)))))
-refusal_text ds (refusal.Size row) = Some (codes "# block 1 refused C5 row " ++ (decimal row ++ codes " limit 200000"))
-refusal_text ds (refusal.Differs word want got) =
-    Some (codes "# block 1 refused C6 word" ++ (word_text ds word ++ (codes " want " ++ (signed_decimal want ++ (codes " got " ++ signed_decimal got)))))
-refusal_text ds (refusal.Memory failed) = None
+-- the block with this number is accepted
+abbrev pub accepted_text : ℕ → ℕ → ℤ → List ℕ
+accepted_text block claim denominator = codes "# block " ++ (decimal block ++ (codes " accepted claim " ++ (decimal claim ++ (codes " denominator " ++ signed_decimal denominator))))
+
+-- why a block is refused; want of memory is told by no line
+abbrev pub cause_text : List Declaration → Refusal → Option (List ℕ)
+cause_text ds refusal.NoSuchClaim = Some (codes "C1")
+cause_text ds (refusal.NoSuchGenerator row) = Some (codes "C2 row " ++ decimal row)
+cause_text ds refusal.ZeroDenominator = Some (codes "C3")
+cause_text ds (refusal.Overflow row o) =
+    Some (codes "C4 row " ++ (decimal row ++ (codes " " ++ (signed_decimal o.left ++ (operation_text o.product ++ signed_decimal o.right)))))
+cause_text ds (refusal.Size row) = Some (codes "C5 row " ++ (decimal row ++ codes " limit 200000"))
+cause_text ds (refusal.Differs word want got) =
+    Some (codes "C6 word" ++ (letters_text ds word ++ (codes " want " ++ (signed_decimal want ++ (codes " got " ++ signed_decimal got)))))
+cause_text ds (refusal.Memory failed) = None
+
+-- the block with this number is refused for this cause
+abbrev pub refused_text : ℕ → List ℕ → List ℕ
+refused_text block cause = codes "# block " ++ (decimal block ++ (codes " refused " ++ cause))

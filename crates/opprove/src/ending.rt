@@ -1,6 +1,6 @@
 // Statuses and reports.
-ghost use Rattle.std.specs.Prelude.{◌≡◌, IfOk};
-ghost use Rattle.opprove.specs.Ending.{usage, load_failed, too_long, refused_form, accepted, refused};
+ghost use Rattle.std.specs.Prelude.{◌≡◌, IfOk, string_bytes};
+ghost use Rattle.opprove.specs.Ending.{usage, load_failed, too_long, refused_statement, refused_evidence};
 
 use itoa::Buffer;
 use std::alloc::{AllocError, Global};
@@ -69,38 +69,43 @@ impl Ending {
         })
     }
 
-    /// A statement (status 3) or a certificate (status 7) that isn't of its form.
-    pub fn refused_form(alloc: Global, status: u8) -> Result<Ending, AllocError>
-        ensures { IfOk result (λ ending. ending ≡ refused_form status) }
+    /// The statement is refused, for what the text says.
+    pub fn refused_statement(alloc: Global, text: &str) -> Result<Ending, AllocError>
+        ensures { IfOk result (λ ending. ending ≡ refused_statement text.now) }
     {
         Ok(Ending {
-            status,
-            report: b"# refused form\n".to_vec(alloc)?,
+            status: 3,
+            report: format!(in alloc; "{text}\n")?.into_bytes(),
         })
     }
 
-    /// The certificate is accepted.
-    pub fn accepted(alloc: Global, denominator: i128) -> Result<Ending, AllocError>
-        ensures { IfOk result (λ ending. ending ≡ accepted denominator) }
-    {
-        let mut digits = Buffer::new();
-        let report = format!(in alloc;
-            "# block 1 accepted claim 1 denominator {}\n",
-            digits.format(denominator)
-        )?;
-        Ok(Ending {
-            status: 0,
-            report: report.into_bytes(),
-        })
-    }
-
-    /// The certificate is refused, for what the text says.
-    pub fn refused(alloc: Global, text: &str) -> Result<Ending, AllocError>
-        ensures { IfOk result (λ ending. ending ≡ refused text.now) }
+    /// The evidence text is refused, for what the text says.
+    pub fn refused_evidence(alloc: Global, text: &str) -> Result<Ending, AllocError>
+        ensures { IfOk result (λ ending. ending ≡ refused_evidence text.now) }
     {
         Ok(Ending {
             status: 7,
             report: format!(in alloc; "{text}\n")?.into_bytes(),
         })
+    }
+
+    /// Each block is accepted, as the lines say.
+    pub fn accepted(lines: String) -> Ending
+        ensures { result ≡ record { status = 0; report = string_bytes lines } }
+    {
+        Ending {
+            status: 0,
+            report: lines.into_bytes(),
+        }
+    }
+
+    /// A block is refused, as the last of the lines says.
+    pub fn refused_block(lines: String) -> Ending
+        ensures { result ≡ record { status = 7; report = string_bytes lines } }
+    {
+        Ending {
+            status: 7,
+            report: lines.into_bytes(),
+        }
     }
 }

@@ -1,14 +1,15 @@
 // The top call.
-ghost use Rattle.std.specs.Prelude.{◌≡◌, ◌≢◌, ◌⊎◌, ◌≤◌, ℕ, List, Some, None, IfOk, IsTrue, take};
+ghost use Rattle.std.specs.Prelude.{◌≡◌, ◌≢◌, ◌⊎◌, ◌≤◌, ℕ, List, Some, None, Ok, IfOk, IsTrue, take};
+ghost use Rattle.std.specs.List.{AllByRecursion};
 ghost use Rattle.std.specs.Io.KnownBytes.{Appends};
 ghost use Rattle.flow_io.specs.Causes.{Rose};
 ghost use Rattle.opprove.specs.Words.{Named, files_named};
-ghost use Rattle.opprove.specs.Ending.{Ending as End, accepted, too_long};
+ghost use Rattle.adjoint_rules.specs.declared.problem.Problem.{Problem};
+ghost use Rattle.certificate_text.specs.Evidence.{certificates_of};
 ghost use Rattle.cofactor_trace.specs.declared.Certificate.{Certificate};
-ghost use Rattle.cofactor_checker.specs.Acceptance.{Accepts};
-ghost use Rattle.first_form.specs.Statement.{Stated, statement_of};
-ghost use Rattle.opprove.specs.Decides.{Decides, claims_of, evidence_of};
-ghost use Rattle.opprove.specs.Headline.{Proved};
+ghost use Rattle.opprove.specs.Ending.{Ending as End, refused_statement, too_long};
+ghost use Rattle.opprove.specs.Decides.{Decides, IsAccepted, IsRefusedStatement, IsStated, accepted_lines, question_of};
+ghost use Rattle.opprove.specs.Headline.{Means, MeansByStar, Proved};
 ghost use Rattle.opprove.specs.Ends.{MayEnd, AfterFiles, RoseAt};
 ghost use Rattle.opprove.specs.Put.{IsPut};
 ghost use Rattle.opprove.specs.Status.{SaysLoadFailed, SaysTooLong, IsMissing, IsFirstTooLong, AreHeld, WereLoaded};
@@ -18,7 +19,6 @@ use crate::ending::Ending;
 use crate::load::{Load, load_file};
 use crate::words::named;
 use category_laws::Preadditive;
-use first_form::statements_are_typed;
 use flow_io::{Shelf, Sink, put_all};
 use representations::sound;
 use std::alloc::{AllocError, Global};
@@ -108,30 +108,41 @@ pub fn run<C: Preadditive, L: Shelf, K: Sink>(
         → IsFirstTooLong (L.file shelf.old) (RoseAt (L.faults shelf.old) (L.faults shelf.new)) files name limit → result ≢ 6
         → ((result ≡ 4) × Appends (K.written sink.old) (K.written sink.new) (too_long name limit).report) ⊎ (result ≡ 5) }
 
-    // Every other status: both files were loaded whole, and it is what their bytes decide.
+    // Every other status: both files were loaded whole, and it is what their bytes decide, with their report.
     ensures decided { result ≢ 2 → result ≢ 4 → result ≢ 5 → result ≢ 6 → (files : Named) × (files_named words.now ≡ Some files)
-        × ((statement : List ℕ) × ((certificate : List ℕ) × WereLoaded (L.file shelf.old) files statement certificate
-        × ((ending : End) × Decides statement certificate ending × (result ≡ ending.status)))) }
+        × ((statement : List ℕ) × ((evidence : List ℕ) × WereLoaded (L.file shelf.old) files statement evidence
+        × ((ending : End) × Decides statement evidence ending × (result ≡ ending.status) × Appends (K.written sink.old) (K.written sink.new) ending.report))) }
 
     // Where the files are held within their limits and no count rose, what their bytes decide is the status, and its report is put whole.
-    ensures complete { (files : Named) (statement certificate : List ℕ) (ending : End) → files_named words.now ≡ Some files
-        → AreHeld (L.file shelf.old) (RoseAt (L.faults shelf.old) (L.faults shelf.new)) files statement certificate
-        → (Rose (K.faults sink.old) (K.faults sink.new) → ⊥) → result ≢ 6 → Decides statement certificate ending
+    ensures complete { (files : Named) (statement evidence : List ℕ) (ending : End) → files_named words.now ≡ Some files
+        → AreHeld (L.file shelf.old) (RoseAt (L.faults shelf.old) (L.faults shelf.new)) files statement evidence
+        → (Rose (K.faults sink.old) (K.faults sink.new) → ⊥) → result ≢ 6 → Decides statement evidence ending
         → (result ≡ ending.status) × Appends (K.written sink.old) (K.written sink.new) ending.report × IsTrue (K.is_finished sink.new) }
 
-    // The certificate that is accepted is answered by 0.
-    ensures accepted { (files : Named) (statement certificate : List ℕ) (given : Stated) (evidence : Certificate) → files_named words.now ≡ Some files
-        → AreHeld (L.file shelf.old) (RoseAt (L.faults shelf.old) (L.faults shelf.new)) files statement certificate
-        → (Rose (K.faults sink.old) (K.faults sink.new) → ⊥) → result ≢ 6
-        → statement_of statement ≡ Some given → evidence_of given certificate ≡ Some evidence → Accepts (claims_of given) given.assumptions evidence
-        → (result ≡ 0) × Appends (K.written sink.old) (K.written sink.new) (accepted evidence.denominator).report }
+    // 3: the statement that was loaded has a first fault, and the report tells it; each statement with a fault is answered so.
+    ensures refused_statement { result ≡ 3 → (files : Named) × (files_named words.now ≡ Some files)
+        × ((statement : List ℕ) × ((evidence : List ℕ) × WereLoaded (L.file shelf.old) files statement evidence
+        × ((text : List ℕ) × IsRefusedStatement statement text × Appends (K.written sink.old) (K.written sink.new) (refused_statement text).report))) }
+    ensures refuses_statement { (files : Named) (statement evidence text : List ℕ) → files_named words.now ≡ Some files
+        → AreHeld (L.file shelf.old) (RoseAt (L.faults shelf.old) (L.faults shelf.new)) files statement evidence
+        → (Rose (K.faults sink.old) (K.faults sink.new) → ⊥) → result ≢ 6 → IsRefusedStatement statement text
+        → (result ≡ 3) × Appends (K.written sink.old) (K.written sink.new) (refused_statement text).report }
 
-    // 0: what was loaded is a statement with a certificate of it, and the certificate has its meaning in the category that is handed in.
+    // Certificates that are all accepted are answered by 0.
+    ensures accepted { (files : Named) (statement evidence : List ℕ) (problem : Problem) (certificates : List Certificate) → files_named words.now ≡ Some files
+        → AreHeld (L.file shelf.old) (RoseAt (L.faults shelf.old) (L.faults shelf.new)) files statement evidence
+        → (Rose (K.faults sink.old) (K.faults sink.new) → ⊥) → result ≢ 6
+        → IsStated statement problem → certificates_of problem.parts.quiver evidence ≡ Ok certificates → AllByRecursion (IsAccepted (question_of problem)) certificates
+        → (result ≡ 0) × Appends (K.written sink.old) (K.written sink.new) (accepted_lines 1 certificates) }
+
+    // 0: what was loaded is a statement with certificates of it, and each has its meaning in the category that is handed in,
     ensures meaning { result ≡ 0 → (files : Named) × (files_named words.now ≡ Some files)
-        × ((statement : List ℕ) × ((certificate : List ℕ) × WereLoaded (L.file shelf.old) files statement certificate × Proved (C.structure category.now) statement certificate)) }
+        × ((statement : List ℕ) × ((evidence : List ℕ) × WereLoaded (L.file shelf.old) files statement evidence × Proved statement evidence (Means (C.structure category.now)))) }
+    // where in star representations the assumptions of the statement alone suffice.
+    ensures meaning_by_star { result ≡ 0 → (files : Named) × (files_named words.now ≡ Some files)
+        × ((statement : List ℕ) × ((evidence : List ℕ) × WereLoaded (L.file shelf.old) files statement evidence × Proved statement evidence (MeansByStar (C.structure category.now)))) }
 {
     sound(category);
-    statements_are_typed();
     match ending_of(alloc, words, shelf) {
         Ok(ending) => put_ending(sink, &ending),
         Err(AllocError) => OUT_OF_MEMORY,

@@ -1,0 +1,140 @@
+-- A text has one tree or one first fault, and not both.
+use Rattle.std.proofs.Common.{◌≡◌, ◌⊎◌, inl, inr, ⊎_elim, ℕ, List, [], ◌∷◌, ◌++◌, Ok, Err, Result, refl, sym, ap, ◌∙◌, subst}
+use Rattle.std.proofs.lemmas.List.{append_assoc}
+use Rattle.std.specs.Str.{IsUtf8, chars}
+use Rattle.statement_syntax.specs.declared.token.Token.{Token}
+use Rattle.statement_syntax.specs.declared.place.Spot.{Spot}
+use Rattle.statement_syntax.specs.declared.tree.Statement.{Statement}
+use Rattle.statement_syntax.specs.declared.read.Progress.{Progress}
+use Rattle.statement_syntax.specs.declared.scan.Placed.{Placed}
+use Rattle.statement_syntax.specs.declared.scan.ScanFault.{ScanFault}
+use Rattle.statement_syntax.specs.declared.scan.ScanFault.TheVariants as scan
+use Rattle.statement_syntax.specs.declared.fault.Fault.{Fault}
+use Rattle.statement_syntax.specs.declared.fault.Fault.TheVariants as fault
+use Rattle.statement_syntax.specs.Steps.{run}
+use Rattle.statement_syntax.specs.Lines.{beginning, file_step}
+use Rattle.statement_syntax.specs.Token.{tokens_of}
+use Rattle.statement_syntax.specs.Grammar.{StatedLine, file_tokens, FileFits}
+use Rattle.statement_syntax.specs.Tree.{file_tree}
+use Rattle.statement_syntax.specs.Fault.{IsStatements, IsTreeOf, GoesOn, GoesOnWithin, IsMisfit, IsFirstFault}
+use Rattle.statement_syntax.proofs.FileReads.{all_run}
+use Rattle.statement_syntax.proofs.Run.{Upto, upto_ok}
+
+-- what is read with the tokens of statements within the limit
+ran : (bytes : List ℕ) (lines : List StatedLine) → IsStatements bytes lines → (p : Progress) × (run file_step beginning (file_tokens lines) ≡ Ok p) × (p.statements ≡ file_tree lines)
+ran bytes lines is = by (all_run lines)
+  where
+    by : Upto (FileFits lines) (run file_step beginning (file_tokens lines)) (Ok (record { statements = file_tree lines; line = beginning.line })) → (p : Progress) × (run file_step beginning (file_tokens lines) ≡ Ok p) × (p.statements ≡ file_tree lines)
+    by (inl fits) = (_, fits.1, refl)
+    by (inr deep) = absurd (deep.0 is.fits)
+
+same_tokens : (bytes : List ℕ) (ts us : List Token) → tokens_of (chars bytes) ≡ Ok ts → tokens_of (chars bytes) ≡ Ok us → ts ≡ us
+same_tokens bytes ts us one other = let both : (let r : Result (List Token) Placed = Ok ts in r) ≡ Ok us = sym one ∙ other in cc
+
+pub tree_once : (bytes : List ℕ) (statements others : List Statement) → IsTreeOf bytes statements → IsTreeOf bytes others → statements ≡ others
+tree_once bytes statements others one other =
+    let first = ran bytes one.0 one.1 in
+    let second = ran bytes other.0 other.1 in
+    let tokens : file_tokens one.0 ≡ file_tokens other.0 = same_tokens bytes _ _ one.1.tokens other.1.tokens in
+    let both : (let r : Result Progress _ = Ok first.0 in r) ≡ Ok second.0 = sym first.1 ∙ ap (run file_step beginning) tokens ∙ second.1 in
+    let same : first.0 ≡ second.0 = cc in
+    one.2 ∙ sym first.2 ∙ ap (λ (p : Progress). p.statements) same ∙ second.2 ∙ sym other.2
+
+-- ---- the first misfit
+
+-- the second split is that of the first, or comes after it
+data Behind (front : List Token) (t : Token) (front' : List Token) (t' : Token) : Type 0 where
+  same : front ≡ front' → t ≡ t' → Behind front t front' t'
+  later : (more : List Token) → front' ≡ front ++ t ∷ more → Behind front t front' t'
+  earlier : (more : List Token) → front ≡ front' ++ t' ∷ more → Behind front t front' t'
+
+pushed : (x : Token) (front : List Token) (t : Token) (front' : List Token) (t' : Token) → Behind front t front' t' → Behind (x ∷ front) t (x ∷ front') t'
+pushed x front t front' t' (same p q) = same (ap (λ l. x ∷ l) p) q
+pushed x front t front' t' (later more p) = later more (ap (λ l. x ∷ l) p)
+pushed x front t front' t' (earlier more p) = earlier more (ap (λ l. x ∷ l) p)
+
+splits : (front : List Token) (t : Token) (rest front' : List Token) (t' : Token) (rest' : List Token) → front ++ t ∷ rest ≡ front' ++ t' ∷ rest' → Behind front t front' t'
+splits [] t rest [] t' rest' is = same refl cc
+splits [] t rest (y ∷ front') t' rest' is = let head : t ≡ y = cc in later front' (ap (λ z. z ∷ front') (sym head))
+splits (x ∷ front) t rest [] t' rest' is = let head : x ≡ t' = cc in earlier front (ap (λ z. z ∷ front) head)
+splits (x ∷ front) t rest (y ∷ front') t' rest' is =
+    let head : x ≡ y = cc in
+    let tail : front ++ t ∷ rest ≡ front' ++ t' ∷ rest' = cc in
+    subst (λ z. Behind (x ∷ front) t (z ∷ front') t') head (pushed x front t front' t' (splits front t rest front' t' rest' tail))
+
+-- what goes on goes on at each of its tokens
+goes_before : (front : List Token) (t : Token) (more whole : List Token) → whole ≡ front ++ t ∷ more → GoesOnWithin whole → GoesOnWithin (front ++ t ∷ [])
+goes_before front t more whole is on =
+    (more ++ on.0, on.1, on.2, append_assoc front (t ∷ []) (more ++ on.0) ∙ sym (append_assoc front (t ∷ more) on.0) ∙ ap (λ l. l ++ on.0) (sym is) ∙ on.3)
+
+record Same (bytes : List ℕ) (at at' : Spot) (m : IsMisfit bytes at) (m' : IsMisfit bytes at') : Type 0 where
+  place : at ≡ at'
+  came : m.front ++ m.token ∷ [] ≡ m'.front ++ m'.token ∷ []
+
+misfit_once : (bytes : List ℕ) (at at' : Spot) (m : IsMisfit bytes at) (m' : IsMisfit bytes at') → Same bytes at at' m m'
+misfit_once bytes at at' m m' = by (splits m.front m.token m.rest m'.front m'.token m'.rest (same_tokens bytes _ _ m.tokens m'.tokens))
+  where
+    by : Behind m.front m.token m'.front m'.token → Same bytes at at' m m'
+    by (same front token) = record { place = sym m.place ∙ ap (λ (t : Token). t.at) token ∙ m'.place; came = ap (λ l. l ++ m.token ∷ []) front ∙ ap (λ t. m'.front ++ t ∷ []) token }
+    by (later more is) = absurd (m.there (goes_before m.front m.token more m'.front is m'.before))
+    by (earlier more is) = absurd (m'.there (goes_before m'.front m'.token more m.front is m.before))
+
+not_both : (bytes : List ℕ) (ts : List Token) (p : Placed) → tokens_of (chars bytes) ≡ Ok ts → tokens_of (chars bytes) ≡ Err p → ⊥
+not_both bytes ts p one other = let both : (let r : Result (List Token) Placed = Ok ts in r) ≡ Err p = sym one ∙ other in absurd cc
+
+same_fault : (bytes : List ℕ) (p q : Placed) → tokens_of (chars bytes) ≡ Err p → tokens_of (chars bytes) ≡ Err q → p ≡ q
+same_fault bytes p q one other = let both : (let r : Result (List Token) Placed = Err p in r) ≡ Err q = sym one ∙ other in cc
+
+not_scanned : (bytes : List ℕ) (f : ScanFault) (at at' : Spot) → IsMisfit bytes at → tokens_of (chars bytes) ≡ Err (record { fault = f; at = at' }) → ⊥
+not_scanned bytes f at at' m fails = not_both bytes (m.front ++ m.token ∷ m.rest) _ m.tokens fails
+
+misfit_in : (bytes : List ℕ) (statements : List Statement) (at : Spot) → IsTreeOf bytes statements → IsMisfit bytes at → ⊥
+misfit_in bytes statements at tree m =
+    m.there (m.rest, tree.0, tree.1.fits, append_assoc m.front (m.token ∷ []) m.rest ∙ same_tokens bytes _ _ m.tokens tree.1.tokens)
+
+-- of all five kinds: what a fault says first
+pub no_fault : (bytes : List ℕ) (statements : List Statement) (f : Fault) (at : Spot) → IsTreeOf bytes statements → IsFirstFault bytes f at → ⊥
+no_fault bytes statements fault.NotUtf8 at tree first = first.0 tree.1.utf8
+no_fault bytes statements fault.BadToken at tree first = not_both bytes _ _ tree.1.tokens first.1
+no_fault bytes statements fault.LiteralTooLarge at tree first = not_both bytes _ _ tree.1.tokens first.1
+no_fault bytes statements fault.Expected at tree first = misfit_in bytes statements at tree first.0
+no_fault bytes statements fault.TooDeep at tree first = misfit_in bytes statements at tree first.0
+
+-- the fault and its place
+abbrev pub SameFault : Fault → Spot → Fault → Spot → Type 0
+SameFault f at f' at' = (f ≡ f') × (at ≡ at')
+
+placed_once : (bytes : List ℕ) (f f' : ScanFault) (at at' : Spot) → tokens_of (chars bytes) ≡ Err (record { fault = f; at = at }) → tokens_of (chars bytes) ≡ Err (record { fault = f'; at = at' }) → (f ≡ f') × (at ≡ at')
+placed_once bytes f f' at at' one other =
+    let same = same_fault bytes (record { fault = f; at = at }) (record { fault = f'; at = at' }) one other in
+    (ap (λ (p : Placed). p.fault) same, ap (λ (p : Placed). p.at) same)
+
+scans_differ : (let f : ScanFault = scan.BadToken in f) ≡ scan.LiteralTooLarge → ⊥
+scans_differ is = absurd cc
+
+pub fault_once : (bytes : List ℕ) (f f' : Fault) (at at' : Spot) → IsFirstFault bytes f at → IsFirstFault bytes f' at' → SameFault f at f' at'
+fault_once bytes fault.NotUtf8 fault.NotUtf8 at at' one other = (refl, one.1 ∙ sym other.1)
+fault_once bytes fault.NotUtf8 fault.BadToken at at' one other = absurd (one.0 other.0)
+fault_once bytes fault.NotUtf8 fault.LiteralTooLarge at at' one other = absurd (one.0 other.0)
+fault_once bytes fault.NotUtf8 fault.Expected at at' one other = absurd (one.0 other.0.utf8)
+fault_once bytes fault.NotUtf8 fault.TooDeep at at' one other = absurd (one.0 other.0.utf8)
+fault_once bytes fault.BadToken fault.NotUtf8 at at' one other = absurd (other.0 one.0)
+fault_once bytes fault.BadToken fault.BadToken at at' one other = (refl, (placed_once bytes _ _ at at' one.1 other.1).1)
+fault_once bytes fault.BadToken fault.LiteralTooLarge at at' one other = absurd (scans_differ (placed_once bytes _ _ at at' one.1 other.1).0)
+fault_once bytes fault.BadToken fault.Expected at at' one other = absurd (not_scanned bytes _ at' at other.0 one.1)
+fault_once bytes fault.BadToken fault.TooDeep at at' one other = absurd (not_scanned bytes _ at' at other.0 one.1)
+fault_once bytes fault.LiteralTooLarge fault.NotUtf8 at at' one other = absurd (other.0 one.0)
+fault_once bytes fault.LiteralTooLarge fault.BadToken at at' one other = absurd (scans_differ (sym (placed_once bytes _ _ at at' one.1 other.1).0))
+fault_once bytes fault.LiteralTooLarge fault.LiteralTooLarge at at' one other = (refl, (placed_once bytes _ _ at at' one.1 other.1).1)
+fault_once bytes fault.LiteralTooLarge fault.Expected at at' one other = absurd (not_scanned bytes _ at' at other.0 one.1)
+fault_once bytes fault.LiteralTooLarge fault.TooDeep at at' one other = absurd (not_scanned bytes _ at' at other.0 one.1)
+fault_once bytes fault.Expected fault.NotUtf8 at at' one other = absurd (other.0 one.0.utf8)
+fault_once bytes fault.Expected fault.BadToken at at' one other = absurd (not_scanned bytes _ at at' one.0 other.1)
+fault_once bytes fault.Expected fault.LiteralTooLarge at at' one other = absurd (not_scanned bytes _ at at' one.0 other.1)
+fault_once bytes fault.Expected fault.Expected at at' one other = (refl, (misfit_once bytes at at' one.0 other.0).place)
+fault_once bytes fault.Expected fault.TooDeep at at' one other = absurd (one.1 (subst GoesOn (sym (misfit_once bytes at at' one.0 other.0).came) other.1))
+fault_once bytes fault.TooDeep fault.NotUtf8 at at' one other = absurd (other.0 one.0.utf8)
+fault_once bytes fault.TooDeep fault.BadToken at at' one other = absurd (not_scanned bytes _ at at' one.0 other.1)
+fault_once bytes fault.TooDeep fault.LiteralTooLarge at at' one other = absurd (not_scanned bytes _ at at' one.0 other.1)
+fault_once bytes fault.TooDeep fault.Expected at at' one other = absurd (other.1 (subst GoesOn (misfit_once bytes at at' one.0 other.0).came one.1))
+fault_once bytes fault.TooDeep fault.TooDeep at at' one other = (refl, (misfit_once bytes at at' one.0 other.0).place)
