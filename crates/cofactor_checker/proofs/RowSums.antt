@@ -18,7 +18,7 @@ use Rattle.nc_polynomial.specs.declared.poly.Poly.{Poly}
 use Rattle.cofactor_trace.specs.declared.CertRow.{CertRow}
 use Rattle.cofactor_trace.specs.Rows.{row_of, rows_of}
 use Rattle.nc_polynomial.specs.Collected.{coefficient_in}
-use Rattle.cofactor_checker.specs.Acceptance.{polynomials}
+use Rattle.adjoint_rules.specs.Problem.{polynomials}
 use Rattle.cofactor_checker.specs.Operations.{adding_operations, row_operations}
 use Rattle.cofactor_checker.specs.Rows.{IsNumberUpTo, RowPasses, RowsPass, Reaches, LacksGenerator, Overflows, Outgrows}
 use Rattle.cofactor_checker.specs.Running.{IsRunning, IsSumOf, Adds}

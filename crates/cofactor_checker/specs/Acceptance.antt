@@ -2,7 +2,6 @@
 use Rattle.std.specs.Prelude.{◌≡◌, ◌⊎◌, ℕ, ℤ, pos, ◌≤ℤ◌, ◌<ℤ◌, List, map, length, Some, None, ⊤}
 use Rattle.coef_int.specs.declared.Overflow.{Overflow}
 use Rattle.coef_int.specs.Operations.{first_overflow}
-use Rattle.nc_polynomial.specs.declared.poly.Poly.{Poly}
 use Rattle.nc_polynomial.specs.Terms.{products}
 use Rattle.cofactor_trace.specs.declared.Certificate.{Certificate}
 use Rattle.cofactor_trace.specs.Rows.{rows_of}
@@ -12,10 +11,6 @@ use Rattle.cofactor_checker.specs.Rows.{IsNumberUpTo, RowsPass, LacksGenerator, 
 use Rattle.cofactor_checker.specs.Difference.{IsLeastDifference}
 use Rattle.cofactor_checker.specs.declared.Refusal.{Refusal}
 use Rattle.cofactor_checker.specs.declared.Refusal.TheVariants as refusal
-
--- the lists of terms
-abbrev pub polynomials : List Poly → List (List (ℤ × List ℕ))
-polynomials ps = map (λ p. p.terms) ps
 
 -- the claim that the certificate names, counted from 1 like the generators
 abbrev pub claim_of : List (List (ℤ × List ℕ)) → Certificate → List (ℤ × List ℕ)

@@ -2,8 +2,9 @@
 #![tactic(auto)]
 
 ghost use Rattle.std.specs.Prelude.{◌≡◌, ◌≤◌, length, All, IfOk, IfErr, OnOk};
+ghost use Rattle.adjoint_rules.specs.Problem.{polynomials};
 ghost use Rattle.coef_int.specs.Range.{IsCoefficient};
-ghost use Rattle.cofactor_checker.specs.Acceptance.{polynomials, claim_of, Accepts, Refuses, IsMemory, RefusalIsUnique};
+ghost use Rattle.cofactor_checker.specs.Acceptance.{claim_of, Accepts, Refuses, IsMemory, RefusalIsUnique};
 ghost use Rattle.cofactor_trace.specs.Rows.{rows_of};
 ghost use Rattle.definitions.specs.Combination.{IsCombination};
 
@@ -13,6 +14,7 @@ mod sum;
 #[cfg(test)]
 mod tests;
 
+use adjoint_rules::Problem;
 use coef_int::Overflow;
 use cofactor_trace::Certificate;
 use compare::{least_difference, overflow_of_multiple};
@@ -59,9 +61,32 @@ pub enum Refusal {
     Memory(AllocError),
 }
 
-/// Whether the rows add up to the denominator times the claim, over the generators. The rows may be of any
-/// words. Each refusal comes exactly where its test is the first that fails.
+/// Whether the rows of a certificate add up to the denominator times its claim, over the generators of the problem.
+/// The rows may be of any words. Each refusal comes exactly where its test is the first that fails.
 pub fn check(
+    alloc: Global,
+    problem: &Problem,
+    certificate: &Certificate,
+) -> Result<Accepted, Refusal>
+    requires rows { length certificate.now.rows ≤ 4294967295 }
+    requires denominator { IsCoefficient certificate.now.denominator }
+    requires coefficients { All (λ r. IsCoefficient r.coef) certificate.now.rows }
+    ensures accepted { let c = certificate.now in
+        IfOk result (λ accepted. accepted ≡ record { claim = c.claim; denominator = c.denominator }) }
+    ensures accepts { OnOk result (Accepts (polynomials problem.now.parts.claims) (polynomials problem.now.generators) certificate.now) }
+    ensures combination { let c = certificate.now in
+        let claim = claim_of (polynomials problem.now.parts.claims) c in
+        OnOk result (IsCombination (polynomials problem.now.generators) (rows_of c.rows) c.denominator claim) }
+    ensures refuses { IfErr result (Refuses (polynomials problem.now.parts.claims) (polynomials problem.now.generators) certificate.now) }
+    ensures complete { Accepts (polynomials problem.now.parts.claims) (polynomials problem.now.generators) certificate.now → IfErr result IsMemory }
+{
+    let claims = problem.parts.claims.as_slice();
+    check_over(alloc, claims, problem.generators.as_slice(), certificate)
+}
+
+/// The same over lists of claims and generators. The rows may be of any
+/// words. Each refusal comes exactly where its test is the first that fails.
+pub fn check_over(
     alloc: Global,
     claims: &[Poly],
     generators: &[Poly],

@@ -2,7 +2,7 @@ ghost use Rattle.std.specs.Prelude.{◌≡◌, ◌≤◌, ◌-◌, length, All, 
 ghost use Rattle.coef_int.specs.Range.{IsCoefficient};
 ghost use Rattle.cofactor_trace.specs.Rows.{rows_of};
 ghost use Rattle.definitions.specs.Combination.{row_sum};
-ghost use Rattle.cofactor_checker.specs.Acceptance.{polynomials};
+ghost use Rattle.adjoint_rules.specs.Problem.{polynomials};
 ghost use Rattle.cofactor_checker.specs.Rows.{IsNumberUpTo, RowsPass};
 ghost use Rattle.cofactor_checker.specs.Running.{IsRunning, IsSumOf};
 ghost use Rattle.cofactor_checker.specs.RowRefusals.{RefusesRow};

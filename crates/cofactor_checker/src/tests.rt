@@ -1,7 +1,7 @@
 ghost use Rattle.std.specs.Prelude.{◌≡◌, ◌≤◌, All, IfOk, length};
 ghost use Rattle.coef_int.specs.Range.{IsCoefficient};
 
-use crate::{Accepted, Refusal, check, refusal_is_unique};
+use crate::{Accepted, Refusal, check_over, refusal_is_unique};
 use cofactor_trace::{CertRow, Certificate};
 use lists::Listing;
 use nc_polynomial::Poly;
@@ -161,7 +161,7 @@ fn the_first_test_that_fails_is_told(rt: HostRuntime) -> Result<(), Fail> {
     ];
     for (claim, denominator, rows, want) in cases {
         let certificate = certificate(&rt, alloc, claim, i128::from(denominator), rows)?;
-        let outcome = check(alloc, &claims, &generators, &certificate);
+        let outcome = check_over(alloc, &claims, &generators, &certificate);
         assert_eq!(rt; described(alloc, &outcome)?.as_str(), want);
     }
     Ok(())
@@ -199,7 +199,7 @@ fn the_operands_of_an_overflow_are_told(rt: HostRuntime) -> Result<(), Fail> {
     for (denominator, rows, want) in cases {
         assert!(rt; denominator != i128::MIN);
         let certificate = certificate(&rt, alloc, 1, denominator, rows)?;
-        let outcome = check(alloc, &polys, &polys, &certificate);
+        let outcome = check_over(alloc, &polys, &polys, &certificate);
         assert_eq!(rt; described(alloc, &outcome)?.as_str(), want);
     }
     refusal_is_unique();

@@ -6,7 +6,7 @@ use Rattle.definitions.specs.Poly.{poly_multiple, poly_between}
 use Rattle.definitions.specs.Combination.{generator_at}
 use Rattle.cofactor_trace.specs.Rows.{row_of, rows_of}
 use Rattle.nc_polynomial.specs.Collected.{coefficient_in}
-use Rattle.cofactor_checker.specs.Acceptance.{polynomials}
+use Rattle.adjoint_rules.specs.Problem.{polynomials}
 use Rattle.cofactor_checker.specs.Operations.{adding_operations}
 use Rattle.cofactor_checker.specs.Rows.{IsNumberUpTo, Overflows}
 use Rattle.cofactor_checker.specs.Running.{IsRunning, Adds}

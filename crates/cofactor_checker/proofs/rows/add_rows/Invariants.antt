@@ -1,6 +1,6 @@
 use Rattle.std.proofs.Common.{◌≡◌}
 use Rattle.cofactor_trace.specs.Rows.{rows_of}
-use Rattle.cofactor_checker.specs.Acceptance.{polynomials}
+use Rattle.adjoint_rules.specs.Problem.{polynomials}
 use Rattle.cofactor_checker.proofs.RowSums.{SumsUpTo}
 use Rattle.cofactor_checker.proofs.rows.add_rows.Given as goal
 

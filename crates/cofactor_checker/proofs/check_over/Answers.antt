@@ -6,7 +6,8 @@ use Rattle.definitions.specs.Combination.{row_sum}
 use Rattle.nc_polynomial.specs.Collected.{coefficient_in}
 use Rattle.nc_polynomial.specs.Terms.{products}
 use Rattle.cofactor_trace.specs.Rows.{rows_of}
-use Rattle.cofactor_checker.specs.Acceptance.{polynomials, claim_of, IsPosed, Begins, AddsUp, Refuses}
+use Rattle.adjoint_rules.specs.Problem.{polynomials}
+use Rattle.cofactor_checker.specs.Acceptance.{claim_of, IsPosed, Begins, AddsUp, Refuses}
 use Rattle.cofactor_checker.specs.Difference.{IsLeastDifference}
 use Rattle.cofactor_checker.specs.RowRefusals.{RefusesRow}
 use Rattle.cofactor_checker.specs.declared.Refusal.TheVariants as refusal
@@ -14,7 +15,7 @@ use Rattle.cofactor_checker.specs.Rows.{IsNumberUpTo, RowsPass}
 use Rattle.cofactor_checker.specs.Running.{IsSumOf}
 use Rattle.cofactor_checker.proofs.Outcomes.{refuses_from_row, accepts, differs, combination_from_accepts, accepted_is_not_refused}
 use Rattle.cofactor_checker.proofs.RowSums.{length-polynomials, generator_at-numbered}
-use Rattle.cofactor_checker.proofs.check.Goals as goal
+use Rattle.cofactor_checker.proofs.check_over.Goals as goal
 
 pub returns-in-Some-overflow_of_multiple : goal.returns-in-Some-overflow_of_multiple
 returns-in-Some-overflow_of_multiple c =
