@@ -1,0 +1,36 @@
+-- The tokens of a line. Blanks and tabs separate, ( ) ; = are tokens of their own, and every other run of characters is one.
+use Rattle.std.specs.Prelude.{ℕ, ◌==◌, ◌||◌, Bool, true, false, not, List, [], ◌∷◌, if◌then◌else◌}
+use Rattle.std.specs.List.{onto_first}
+
+-- a blank or a tab
+abbrev pub is_gap : ℕ → Bool
+is_gap c = (c == 32) || (c == 9)
+
+-- ( ) ; =
+abbrev pub is_sign : ℕ → Bool
+is_sign c = (c == 40) || (c == 41) || (c == 59) || (c == 61)
+
+abbrev pub is_plain : ℕ → Bool
+is_plain c = not (is_gap c || is_sign c)
+
+-- whether a run goes on with the text
+abbrev pub goes_on : List ℕ → Bool
+goes_on [] = false
+goes_on (c ∷ cs) = is_plain c
+
+abbrev pub tokens_of : List ℕ → List (List ℕ)
+tokens_of [] = []
+tokens_of (c ∷ cs) =
+    if is_gap c then tokens_of cs
+    else if is_sign c || not (goes_on cs) then (c ∷ []) ∷ tokens_of cs
+    else onto_first c (tokens_of cs)
+
+-- whether the first character is #
+abbrev pub begins_comment : List ℕ → Bool
+begins_comment [] = false
+begins_comment (c ∷ cs) = c == 35
+
+-- whether the line is blank or a comment
+abbrev pub is_skipped : List (List ℕ) → Bool
+is_skipped [] = true
+is_skipped (token ∷ tokens) = begins_comment token

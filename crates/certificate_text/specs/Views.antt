@@ -1,0 +1,17 @@
+-- The program's values as the definitions see them.
+use Rattle.std.specs.Prelude.{ℕ, List, map}
+use Rattle.std.specs.Borrow.{Bor}
+use Rattle.certificate_text.specs.declared.letter.Spelled as code_letter
+use Rattle.certificate_text.specs.declared.line.RowTokens as code_line
+use Rattle.certificate_text.specs.Letters.{Spelled}
+use Rattle.certificate_text.specs.Lines.{RowTokens}
+
+-- the tokens that are pointed to
+abbrev pub texts : List (Bor (List ℕ)) → List (List ℕ)
+texts tokens = map (λ token. token.now) tokens
+
+abbrev pub spelled : code_letter.Spelled → Spelled
+spelled s = record { name = s.name.now; identity = s.identity; adjoint = s.adjoint }
+
+abbrev pub row_tokens : code_line.RowTokens → RowTokens
+row_tokens r = record { coefficient = r.coefficient.now; left = texts r.left.now; generator = r.generator.now; right = texts r.right.now }

@@ -1,0 +1,92 @@
+//! Bytes to lines, and lines to tokens.
+
+ghost use Rattle.std.specs.Prelude.{◌≡◌, ◌∷◌, ◌<◌, ◌≤◌, length, IfOk};
+ghost use Rattle.std.specs.List.{prefix_len};
+ghost use Rattle.std.specs.Str.Lines.{lines, strip_carriage_return};
+ghost use Rattle.certificate_text.specs.Tokens.{is_gap, is_sign, is_plain, tokens_of, begins_comment, is_skipped};
+ghost use Rattle.certificate_text.specs.Views.{texts};
+
+use std::alloc::{AllocError, Global};
+
+/// The first line of a text that has one, and what stands behind it.
+pub fn first_line(text: &[u8]) -> (&[u8], &[u8])
+    requires some { 0 < length text.now }
+    ensures lines { lines text.now ≡ result.0.now ∷ lines result.1.now }
+    ensures shorter { length result.1.now < length text.now }
+{
+    match text.iter().position(|byte| *byte == b'\n') {
+        Some(end) => (ended_line(&text[..end]), &text[end + 1..]),
+        None => (text, &[]),
+    }
+}
+
+// A line before its LF, without the CR in front of that.
+fn ended_line(line: &[u8]) -> &[u8]
+    ensures { result.now ≡ strip_carriage_return line.now }
+{
+    match line {
+        [front @ .., b'\r'] => front,
+        _ => line,
+    }
+}
+
+fn is_gap(byte: u8) -> bool
+    ensures { result ≡ is_gap byte }
+{
+    byte == b' ' || byte == b'\t'
+}
+
+fn is_sign(byte: u8) -> bool
+    ensures { result ≡ is_sign byte }
+{
+    byte == b'(' || byte == b')' || byte == b';' || byte == b'='
+}
+
+// How many characters the run at the front of the text has.
+fn run_len(text: &[u8]) -> usize
+    ensures exact { result ≡ prefix_len is_plain text.now }
+    ensures within { result ≤ length text.now }
+{
+    let mut count = 0;
+    while count < text.len() && !is_gap(text[count]) && !is_sign(text[count]) {
+        count += 1;
+    }
+    count
+}
+
+/// The tokens of a line.
+pub fn tokens_of(alloc: Global, line: &[u8]) -> Result<Vec<&[u8]>, AllocError>
+    ensures { IfOk result (λ tokens. texts tokens.items ≡ tokens_of line.now) }
+{
+    let mut tokens = Vec::new(alloc);
+    let mut rest = line;
+    while let [first, behind @ ..] = rest {
+        if is_gap(*first) {
+            rest = behind;
+            continue;
+        }
+        let length = if is_sign(*first) { 1 } else { run_len(rest) };
+        tokens.push(&rest[..length])?;
+        rest = &rest[length..];
+    }
+    Ok(tokens)
+}
+
+fn begins_comment(token: &[u8]) -> bool
+    ensures { result ≡ begins_comment token.now }
+{
+    match token {
+        [first, ..] => *first == b'#',
+        [] => false,
+    }
+}
+
+/// Whether the line is blank or a comment.
+pub fn is_skipped(line: &[&[u8]]) -> bool
+    ensures { result ≡ is_skipped (texts line.now) }
+{
+    match line {
+        [first, ..] => begins_comment(first),
+        [] => true,
+    }
+}

@@ -1,0 +1,149 @@
+//! Words, polynomials and certificates as bytes.
+
+ghost use Rattle.std.specs.Prelude.{◌≡◌, ◌<◌, ◌++◌, codes, decimal, IfOk, OnOk};
+ghost use Rattle.std.specs.Fmt.{signed_decimal};
+ghost use Rattle.std.specs.List.{All};
+ghost use Rattle.quiver.specs.Declarations.{letter_count};
+ghost use Rattle.word_core.specs.Letters.{IsOver};
+ghost use Rattle.certificate_text.specs.Evidence.{IsRowOver};
+ghost use Rattle.certificate_text.specs.Written.{letter_text, word_text, factor_text, term_text, first_text, later_text, poly_text, row_text, certificate_text};
+
+use cofactor_trace::{CertRow, Certificate};
+use itoa::Buffer;
+use nc_polynomial::Poly;
+use quiver::{Named, Quiver};
+use std::alloc::{AllocError, Global};
+use word_core::{Letter, Word};
+
+fn put(out: &mut Vec<u8>, text: &str) -> Result<(), AllocError>
+    ensures { OnOk result (out.new.items ≡ out.old.items ++ text.now) }
+{
+    out.extend_from_slice(text.as_bytes())
+}
+
+fn put_number(out: &mut Vec<u8>, number: u128) -> Result<(), AllocError>
+    ensures { OnOk result (out.new.items ≡ out.old.items ++ decimal number) }
+{
+    let mut buffer = Buffer::new();
+    put(out, buffer.format(number))
+}
+
+fn put_integer(out: &mut Vec<u8>, integer: i128) -> Result<(), AllocError>
+    ensures { OnOk result (out.new.items ≡ out.old.items ++ signed_decimal integer) }
+{
+    let mut buffer = Buffer::new();
+    put(out, buffer.format(integer))
+}
+
+fn put_letter(out: &mut Vec<u8>, quiver: &Quiver, letter: Letter) -> Result<(), AllocError>
+    requires { letter.0 < letter_count quiver.now }
+    ensures { OnOk result (out.new.items ≡ out.old.items ++ letter_text quiver.now letter.0) }
+{
+    let name = quiver.letter_name(letter);
+    match quiver.find(name) {
+        Some(Named::Object(_)) => {
+            put(out, "[")?;
+            put(out, name)?;
+            put(out, "]")
+        }
+        Some(Named::Map(map)) if map.0 == letter.0 => put(out, name),
+        Some(Named::Map(_)) => {
+            put(out, name)?;
+            put(out, "'")
+        }
+        None => Ok(()),
+    }
+}
+
+fn put_word(out: &mut Vec<u8>, quiver: &Quiver, word: &Word) -> Result<(), AllocError>
+    requires { IsOver (letter_count quiver.now) word.now }
+    ensures { OnOk result (out.new.items ≡ out.old.items ++ word_text quiver.now word.now) }
+{
+    for place in 0..word.len() {
+        if place > 0 {
+            put(out, " ")?;
+        }
+        put_letter(out, quiver, word.letter(place))?;
+    }
+    Ok(())
+}
+
+fn put_term(out: &mut Vec<u8>, quiver: &Quiver, term: &(i128, Word)) -> Result<(), AllocError>
+    requires { IsOver (letter_count quiver.now) term.now.1 }
+    ensures { OnOk result (out.new.items ≡ out.old.items ++ term_text quiver.now term.now) }
+{
+    let value = term.0.unsigned_abs();
+    if value != 1 {
+        put_number(out, value)?;
+        put(out, " ")?;
+    }
+    put_word(out, quiver, &term.1)
+}
+
+fn put_row(out: &mut Vec<u8>, quiver: &Quiver, row: &CertRow) -> Result<(), AllocError>
+    requires { IsRowOver quiver.now row.now }
+    ensures { OnOk result (out.new.items ≡ out.old.items ++ row_text quiver.now row.now) }
+{
+    put(out, "row ")?;
+    put_integer(out, row.coef)?;
+    put(out, " (")?;
+    put_word(out, quiver, &row.left)?;
+    put(out, ") ")?;
+    put_number(out, u128::from(row.generator))?;
+    put(out, " (")?;
+    put_word(out, quiver, &row.right)?;
+    put(out, ")\n")
+}
+
+/// The letters of a word with one blank between them.
+pub fn write_word(alloc: Global, quiver: &Quiver, word: &Word) -> Result<Vec<u8>, AllocError>
+    requires { IsOver (letter_count quiver.now) word.now }
+    ensures { IfOk result (λ text. text.items ≡ word_text quiver.now word.now) }
+{
+    let mut out = Vec::new(alloc);
+    put_word(&mut out, quiver, word)?;
+    Ok(out)
+}
+
+/// The terms of a polynomial, descending, with their signs, and 0 where there are none.
+pub fn write_poly(alloc: Global, quiver: &Quiver, poly: &Poly) -> Result<Vec<u8>, AllocError>
+    requires { All (λ t. IsOver (letter_count quiver.now) t.1) poly.now.terms }
+    ensures { IfOk result (λ text. text.items ≡ poly_text quiver.now poly.now.terms) }
+{
+    let mut out = Vec::new(alloc);
+    let [first, rest @ ..] = poly.terms.as_slice() else {
+        put(&mut out, "0")?;
+        return Ok(out);
+    };
+    if first.0 < 0 {
+        put(&mut out, "- ")?;
+    }
+    put_term(&mut out, quiver, first)?;
+    for term in rest {
+        put(&mut out, if term.0 < 0 { " - " } else { " + " })?;
+        put_term(&mut out, quiver, term)?;
+    }
+    Ok(out)
+}
+
+/// A certificate as a block of evidence text, a line for each row.
+pub fn write_certificate(
+    alloc: Global,
+    quiver: &Quiver,
+    certificate: &Certificate,
+) -> Result<Vec<u8>, AllocError>
+    requires { All (IsRowOver quiver.now) certificate.now.rows }
+    ensures { IfOk result (λ text. text.items ≡ certificate_text quiver.now certificate.now) }
+{
+    let mut out = Vec::new(alloc);
+    put(&mut out, "certificate 1\nclaim ")?;
+    put_number(&mut out, u128::from(certificate.claim))?;
+    put(&mut out, "\ndenominator ")?;
+    put_integer(&mut out, certificate.denominator)?;
+    put(&mut out, "\n")?;
+    for row in certificate.rows.as_slice() {
+        put_row(&mut out, quiver, row)?;
+    }
+    put(&mut out, "end\n")?;
+    Ok(out)
+}
