@@ -13,7 +13,8 @@ use Rattle.quiver.specs.Declarations.{Declaration}
 use Rattle.adjoint_rules.specs.declared.problem.Problem.{Problem}
 use Rattle.signature_typing.specs.declared.fault.TypeFault.{TypeFault}
 use Rattle.signature_typing.specs.Typing.{fault_of, IsProblemOf}
-use Rattle.certificate_text.specs.Evidence.{certificates_of, EvidenceFault}
+use Rattle.certificate_text.specs.Evidence.{certificates_of}
+use Rattle.certificate_text.specs.Fault.{Fault}
 use Rattle.opprove.specs.Ending.{Ending, line, refused_statement, refused_evidence}
 use Rattle.opprove.specs.Texts.{statement_fault, evidence_fault}
 use Rattle.opprove.specs.Refusals.{accepted_text, cause_text, refused_text}
@@ -122,7 +123,7 @@ stated_once bytes problem problem' one other =
     same_question one.statements problem problem' one.problem (subst (λ (s : List Statement). IsProblemOf s problem') (tree_once bytes other.statements one.statements other.tree one.tree) other.problem)
 
 Read : Type 0
-Read = Result (List Certificate) EvidenceFault
+Read = Result (List Certificate) Fault
 
 -- over two problems of one statement
 over_once : (problem problem' : Problem) (evidence : List ℕ) (ending ending' : Ending) → question_of problem ≡ question_of problem'
@@ -135,8 +136,8 @@ over_once problem problem' evidence ending ending' asked one other = by one othe
     by : DecidesOver problem evidence ending → DecidesOver problem' evidence ending' → ending ≡ ending'
     by (no_evidence code line limit read is) (no_evidence code' line' limit' read' is') =
         let both : (let r : Read = Err (record { code = code; line = line; limit = limit }) in r) ≡ Err (record { code = code'; line = line'; limit = limit' }) = sym read ∙ reads ∙ read' in
-        let same : (let f : EvidenceFault = record { code = code; line = line; limit = limit } in f) ≡ record { code = code'; line = line'; limit = limit' } = cc in
-        is ∙ ap (λ (f : EvidenceFault). refused_evidence (evidence_fault f.code f.line f.limit)) same ∙ sym is'
+        let same : (let f : Fault = record { code = code; line = line; limit = limit } in f) ≡ record { code = code'; line = line'; limit = limit' } = cc in
+        is ∙ ap (λ (f : Fault). refused_evidence (evidence_fault f.code f.line f.limit)) same ∙ sym is'
     by (no_evidence code line limit read is) (judged cs read' judges) =
         let both : (let r : Read = Err (record { code = code; line = line; limit = limit }) in r) ≡ Ok cs = sym read ∙ reads ∙ read' in
         absurd cc

@@ -1,5 +1,6 @@
 pub mod Words
 pub mod Ending
+pub mod Texts
 pub mod Refusals
 pub mod Decides
 pub mod Ends

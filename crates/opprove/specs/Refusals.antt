@@ -1,15 +1,11 @@
 -- The lines of a report on the blocks of an evidence text.
-use Rattle.std.specs.Prelude.{ℕ, ℤ, Bool, List, [], ◌∷◌, ◌++◌, nat_lt, codes, decimal, if◌then◌else◌, Option, Some, None}
-use Rattle.std.specs.List.{flat_map}
+use Rattle.std.specs.Prelude.{ℕ, ℤ, ⊤, Bool, List, ◌++◌, codes, decimal, if◌then◌else◌, Option, Some, None}
 use Rattle.std.specs.Fmt.{signed_decimal}
+use Rattle.word_core.specs.Letters.{IsOver}
 use Rattle.quiver.specs.Declarations.{Declaration, letter_count}
 use Rattle.cofactor_checker.specs.declared.Refusal.{Refusal}
 use Rattle.cofactor_checker.specs.declared.Refusal.TheVariants as refusal
-use Rattle.certificate_text.specs.Written.{letter_text}
-
--- the letters of a word, a blank before each
-abbrev pub letters_text : List Declaration → List ℕ → List ℕ
-letters_text ds w = flat_map (λ a. 32 ∷ (if nat_lt a (letter_count ds) then letter_text ds a else [])) w
+use Rattle.certificate_text.specs.Written.{word_text}
 
 abbrev pub operation_text : Bool → List ℕ
 operation_text product = if product then codes " times " else codes " plus "
@@ -27,9 +23,19 @@ cause_text ds (refusal.Overflow row o) =
     Some (codes "C4 row " ++ (decimal row ++ (codes " " ++ (signed_decimal o.left ++ (operation_text o.product ++ signed_decimal o.right)))))
 cause_text ds (refusal.Size row) = Some (codes "C5 row " ++ (decimal row ++ codes " limit 200000"))
 cause_text ds (refusal.Differs word want got) =
-    Some (codes "C6 word" ++ (letters_text ds word ++ (codes " want " ++ (signed_decimal want ++ (codes " got " ++ signed_decimal got)))))
+    Some (codes "C6 word " ++ (word_text ds word ++ (codes " want " ++ (signed_decimal want ++ (codes " got " ++ signed_decimal got)))))
 cause_text ds (refusal.Memory failed) = None
 
 -- the block with this number is refused for this cause
 abbrev pub refused_text : ℕ → List ℕ → List ℕ
 refused_text block cause = codes "# block " ++ (decimal block ++ (codes " refused " ++ cause))
+
+-- the letters that the text of a refusal names are letters of the quiver
+abbrev pub HasLetters : List Declaration → Refusal → Type 0
+HasLetters ds refusal.NoSuchClaim = ⊤
+HasLetters ds (refusal.NoSuchGenerator row) = ⊤
+HasLetters ds refusal.ZeroDenominator = ⊤
+HasLetters ds (refusal.Overflow row o) = ⊤
+HasLetters ds (refusal.Size row) = ⊤
+HasLetters ds (refusal.Differs word want got) = IsOver (letter_count ds) word
+HasLetters ds (refusal.Memory failed) = ⊤

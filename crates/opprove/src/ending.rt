@@ -1,5 +1,5 @@
 // Statuses and reports.
-ghost use Rattle.std.specs.Prelude.{◌≡◌, IfOk, string_bytes};
+ghost use Rattle.std.specs.Prelude.{◌≡◌, IfOk};
 ghost use Rattle.opprove.specs.Ending.{usage, load_failed, too_long, refused_statement, refused_evidence};
 
 use itoa::Buffer;
@@ -90,22 +90,22 @@ impl Ending {
     }
 
     /// Each block is accepted, as the lines say.
-    pub fn accepted(lines: String) -> Ending
-        ensures { result ≡ record { status = 0; report = string_bytes lines } }
+    pub fn accepted(lines: Vec<u8>) -> Ending
+        ensures { result ≡ record { status = 0; report = lines.items } }
     {
         Ending {
             status: 0,
-            report: lines.into_bytes(),
+            report: lines,
         }
     }
 
     /// A block is refused, as the last of the lines says.
-    pub fn refused_block(lines: String) -> Ending
-        ensures { result ≡ record { status = 7; report = string_bytes lines } }
+    pub fn refused_block(lines: Vec<u8>) -> Ending
+        ensures { result ≡ record { status = 7; report = lines.items } }
     {
         Ending {
             status: 7,
-            report: lines.into_bytes(),
+            report: lines,
         }
     }
 }

@@ -1,7 +1,8 @@
 // The blocks of an evidence text, judged one after another.
-ghost use Rattle.std.specs.Prelude.{◌≡◌, ◌≤◌, ◌×◌, ◌++◌, ℕ, List, All, IfOk, OnOk, length, string_bytes, Some};
+ghost use Rattle.std.specs.Prelude.{◌≡◌, ◌++◌, All, IfOk, OnOk};
+ghost use Rattle.certificate_text.specs.Evidence.{IsCheckable};
 ghost use Rattle.opprove.specs.Ending.{line};
-ghost use Rattle.opprove.specs.Refusals.{accepted_text, refused_text, cause_text};
+ghost use Rattle.opprove.specs.Refusals.{accepted_text, refused_text};
 ghost use Rattle.opprove.specs.Decides.{question_of, Judges};
 
 use crate::ending::Ending;
@@ -12,24 +13,23 @@ use cofactor_trace::Certificate;
 use itoa::Buffer;
 use std::alloc::{AllocError, Global};
 
-/// How a run ends over a problem and its certificates: one line on each block, up to the first that is refused.
+/// How a run ends over a problem and its certificates: a line on each block, up to the first that is refused.
 pub fn judge(
     alloc: Global,
     problem: &Problem,
     certificates: &[Certificate],
 ) -> Result<Ending, AllocError>
-    requires few { length certificates.now ≤ 100 }
-    requires checkable { All IsCheckable certificates.now }
+    requires { All (IsCheckable problem.now.parts.quiver) certificates.now }
     ensures { IfOk result (λ ending. Judges (question_of problem.now) 1 certificates.now ending.report ending.status) }
 {
-    let mut report = String::new(alloc);
+    let mut report = Vec::new(alloc);
     for (place, certificate) in certificates.iter().enumerate() {
-        let block = place as u32 + 1;
+        let block = place + 1;
         match check(alloc, problem, certificate) {
-            Ok(accepted) => push_accepted(&mut report, block, &accepted)?,
+            Ok(accepted) => push_accepted(alloc, &mut report, block, &accepted)?,
             Err(refusal) => {
                 let cause = cause_text(alloc, &problem.parts.quiver, &refusal)?;
-                push_refused(&mut report, block, cause.as_str())?;
+                push_refused(alloc, &mut report, block, &cause)?;
                 return Ok(Ending::refused_block(report));
             }
         }
@@ -37,26 +37,38 @@ pub fn judge(
     Ok(Ending::accepted(report))
 }
 
-fn push_accepted(report: &mut String, block: u32, accepted: &Accepted) -> Result<(), AllocError>
-    ensures { OnOk result (string_bytes report.new ≡ string_bytes report.old ++ line (accepted_text block accepted.now.claim accepted.now.denominator)) }
+fn push_accepted(
+    alloc: Global,
+    report: &mut Vec<u8>,
+    block: usize,
+    accepted: &Accepted,
+) -> Result<(), AllocError>
+    ensures { OnOk result (report.new.items ≡ report.old.items ++ line (accepted_text block accepted.now.claim accepted.now.denominator)) }
 {
-    let mut digits = Buffer::new();
-    report.push_str("# block ")?;
-    report.push_str(digits.format(block))?;
-    report.push_str(" accepted claim ")?;
-    report.push_str(digits.format(accepted.claim))?;
-    report.push_str(" denominator ")?;
-    report.push_str(digits.format(accepted.denominator))?;
-    report.push_str("\n")
+    let mut number = Buffer::new();
+    let mut claim = Buffer::new();
+    let mut denominator = Buffer::new();
+    let text = format!(in alloc;
+        "# block {} accepted claim {} denominator {}\n",
+        number.format(block),
+        claim.format(accepted.claim),
+        denominator.format(accepted.denominator)
+    )?;
+    report.extend_from_slice(text.as_bytes())
 }
 
-fn push_refused(report: &mut String, block: u32, cause: &str) -> Result<(), AllocError>
-    ensures { OnOk result (string_bytes report.new ≡ string_bytes report.old ++ line (refused_text block cause.now)) }
+fn push_refused(
+    alloc: Global,
+    report: &mut Vec<u8>,
+    block: usize,
+    cause: &[u8],
+) -> Result<(), AllocError>
+    ensures { OnOk result (report.new.items ≡ report.old.items ++ line (refused_text block cause.now)) }
 {
-    let mut digits = Buffer::new();
-    report.push_str("# block ")?;
-    report.push_str(digits.format(block))?;
-    report.push_str(" refused ")?;
-    report.push_str(cause)?;
-    report.push_str("\n")
+    let mut number = Buffer::new();
+    let text = format!(in alloc; "# block {} refused ", number.format(block))?;
+    report.extend_from_slice(text.as_bytes())?;
+    report.extend_from_slice(cause)?;
+    report.push(b'\n')?;
+    Ok(())
 }

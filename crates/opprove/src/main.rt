@@ -3,6 +3,8 @@
 
 mod decide;
 mod ending;
+mod fault;
+mod judge;
 mod load;
 mod refusal;
 mod run;

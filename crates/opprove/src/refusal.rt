@@ -1,41 +1,43 @@
-// What the lines on refused blocks say.
+// Why a block is refused.
 ghost use Rattle.std.specs.Prelude.{◌≡◌, ◌++◌, Some, IfOk, codes, decimal, string_bytes};
 ghost use Rattle.std.specs.Fmt.{signed_decimal};
-ghost use Rattle.opprove.specs.Refusals.{letters_text, operation_text, cause_text};
+ghost use Rattle.quiver.specs.Declarations.{letter_count};
+ghost use Rattle.word_core.specs.Letters.{IsOver};
+ghost use Rattle.certificate_text.specs.Written.{word_text};
+ghost use Rattle.opprove.specs.Refusals.{operation_text, cause_text, HasLetters};
 
+use certificate_text::write_word;
 use coef_int::Overflow;
 use cofactor_checker::Refusal;
 use itoa::Buffer;
 use quiver::Quiver;
 use std::alloc::{AllocError, Global};
-use word_core::{Letter, Word};
+use word_core::Word;
 
 /// Why a block is refused. Want of memory has no text.
-pub fn cause_text(alloc: Global, quiver: &Quiver, refusal: &Refusal) -> Result<String, AllocError>
-    ensures { IfOk result (λ text. cause_text quiver.now refusal.now ≡ Some (string_bytes text)) }
+pub fn cause_text(alloc: Global, quiver: &Quiver, refusal: &Refusal) -> Result<Vec<u8>, AllocError>
+    requires { HasLetters quiver.now refusal.now }
+    ensures { IfOk result (λ text. cause_text quiver.now refusal.now ≡ Some text.items) }
 {
     match refusal {
-        Refusal::NoSuchClaim => String::from_str(alloc, "C1"),
+        Refusal::NoSuchClaim => b"C1".to_vec(alloc),
         Refusal::NoSuchGenerator { row } => {
             let mut digits = Buffer::new();
-            format!(in alloc; "C2 row {}", digits.format(*row))
+            Ok(format!(in alloc; "C2 row {}", digits.format(*row))?.into_bytes())
         }
-        Refusal::ZeroDenominator => String::from_str(alloc, "C3"),
+        Refusal::ZeroDenominator => b"C3".to_vec(alloc),
         Refusal::Overflow { row, overflow } => overflow_text(alloc, *row, overflow),
         Refusal::Size { row } => {
             let mut digits = Buffer::new();
-            format!(in alloc;
-                "C5 row {} limit 200000",
-                digits.format(*row)
-            )
+            Ok(format!(in alloc; "C5 row {} limit 200000", digits.format(*row))?.into_bytes())
         }
         Refusal::Differs { word, want, got } => difference_text(alloc, quiver, word, *want, *got),
         Refusal::Memory(_) => Err(AllocError),
     }
 }
 
-fn overflow_text(alloc: Global, row: u32, overflow: &Overflow) -> Result<String, AllocError>
-    ensures { IfOk result (λ text. string_bytes text ≡ codes "C4 row " ++ (decimal row ++ (codes " " ++ (signed_decimal overflow.now.left ++ (operation_text overflow.now.product ++ signed_decimal overflow.now.right))))) }
+fn overflow_text(alloc: Global, row: u32, overflow: &Overflow) -> Result<Vec<u8>, AllocError>
+    ensures { IfOk result (λ text. text.items ≡ codes "C4 row " ++ (decimal row ++ (codes " " ++ (signed_decimal overflow.now.left ++ (operation_text overflow.now.product ++ signed_decimal overflow.now.right))))) }
 {
     let mut digits = Buffer::new();
     let mut left = Buffer::new();
@@ -45,13 +47,14 @@ fn overflow_text(alloc: Global, row: u32, overflow: &Overflow) -> Result<String,
     } else {
         " plus "
     };
-    format!(in alloc;
+    let text = format!(in alloc;
         "C4 row {} {}{}{}",
         digits.format(row),
         left.format(overflow.left),
         sign,
         right.format(overflow.right)
-    )
+    )?;
+    Ok(text.into_bytes())
 }
 
 fn difference_text(
@@ -60,38 +63,20 @@ fn difference_text(
     word: &Word,
     want: i128,
     got: i128,
-) -> Result<String, AllocError>
-    ensures { IfOk result (λ text. string_bytes text ≡ codes "C6 word" ++ (letters_text quiver.now word.now ++ (codes " want " ++ (signed_decimal want ++ (codes " got " ++ signed_decimal got))))) }
+) -> Result<Vec<u8>, AllocError>
+    requires { IsOver (letter_count quiver.now) word.now }
+    ensures { IfOk result (λ text. text.items ≡ codes "C6 word " ++ (word_text quiver.now word.now ++ (codes " want " ++ (signed_decimal want ++ (codes " got " ++ signed_decimal got))))) }
 {
-    let letters = letters_text(alloc, quiver, word)?;
+    let letters = write_word(alloc, quiver, word)?;
     let mut wanted = Buffer::new();
     let mut found = Buffer::new();
-    format!(in alloc;
-        "C6 word{} want {} got {}",
-        letters,
+    let numbers = format!(in alloc;
+        " want {} got {}",
         wanted.format(want),
         found.format(got)
-    )
-}
-
-// The letters of the word, a blank before each.
-fn letters_text(alloc: Global, quiver: &Quiver, word: &Word) -> Result<String, AllocError>
-    ensures { IfOk result (λ text. string_bytes text ≡ letters_text quiver.now word.now) }
-{
-    let mut text = String::new(alloc);
-    for place in 0..word.len() {
-        text.push(' ')?;
-        text.push_str(letter_text(quiver, word.letter(place)))?;
-    }
+    )?;
+    let mut text = b"C6 word ".to_vec(alloc)?;
+    text.extend_from_slice(&letters)?;
+    text.extend_from_slice(numbers.as_bytes())?;
     Ok(text)
-}
-
-fn letter_text(quiver: &Quiver, letter: Letter) -> &str
-    ensures { result.now ≡ letter_text quiver.now letter.0 }
-{
-    if u32::from(letter.0) < quiver.letters() {
-        quiver.letter_name(letter)
-    } else {
-        ""
-    }
 }
