@@ -1,0 +1,4 @@
+pub mod Stars
+pub mod NewAdjoints
+pub mod Ranges
+pub mod Counted
