@@ -2,3 +2,5 @@ pub mod Stars
 pub mod NewAdjoints
 pub mod Ranges
 pub mod Counted
+pub mod Laws
+mod Examples
