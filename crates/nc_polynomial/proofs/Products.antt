@@ -18,6 +18,7 @@ use Rattle.nc_polynomial.specs.Faults.{checked, unless_overflow, finished, sized
 use Rattle.nc_polynomial.specs.Arithmetic.{combined}
 use Rattle.nc_polynomial.specs.Product.{and_then, product_step, product_from}
 use Rattle.nc_polynomial.proofs.Around.{shaped-between}
+use Rattle.nc_polynomial.proofs.Checked.{keep-nonzero}
 use Rattle.nc_polynomial.proofs.Chains.{first-append, first-fits, or_first, no_error, none_overflows, value_is, sized-value}
 use Rattle.nc_polynomial.proofs.CoefficientLaws.{coefficient_of-added, coefficient_of-scaled}
 use Rattle.nc_polynomial.proofs.Shapes.{shaped-scaled}
@@ -30,11 +31,6 @@ one-*ℤ (pos n) =
 one-*ℤ (negsuc n) =
     let once : 1 * suc n ≡ suc n = omega arith in
     pos-*ℤ-negsuc 1 n ∙ ap (λ m. neg_ℤ (pos m)) once
-
-keep-nonzero : (z : ℤ) (w : List ℕ) (p : List Term) → z ≢ pos 0 → keep z w p ≡ (z, w) ∷ p
-keep-nonzero (pos zero) w p h = absurd (h refl)
-keep-nonzero (pos (suc n)) w p h = refl
-keep-nonzero (negsuc n) w p h = refl
 
 scaled-one : (p : List Term) → AllByRecursion (λ t. t.0 ≢ pos 0) p → scaled (pos 1) p ≡ p
 scaled-one [] h = refl

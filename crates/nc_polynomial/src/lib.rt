@@ -7,6 +7,7 @@ mod combine;
 mod content;
 mod fault;
 mod laws;
+mod multiples;
 mod poly;
 mod product;
 mod size;

@@ -8,6 +8,7 @@ ghost use Rattle.nc_polynomial.specs.Faults.{checked, Explains};
 ghost use Rattle.nc_polynomial.specs.Sides.{side_of};
 
 use crate::PolyFault;
+use crate::multiples::push_copy;
 use lists::Listing;
 use std::alloc::{AllocError, Global};
 use std::cmp::Ordering;
@@ -46,7 +47,7 @@ pub fn scale_terms(
             Ok(product) => product,
             Err(fault) => return Err(PolyFault::Overflow(fault)),
         };
-        push_nonzero(&mut scaled, product, term.1.copy()?)?;
+        push_copy(&mut scaled, product, &term.1)?;
     }
     Ok(scaled)
 }
