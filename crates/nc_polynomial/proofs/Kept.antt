@@ -1,5 +1,5 @@
 -- The terms of which a multiple is made: none for the factor zero, else all.
-use Rattle.std.proofs.Common.{◌≡◌, ◌≢◌, ℕ, zero, suc, ℤ, pos, negsuc, ◌*ℤ◌, List, [], ◌∷◌, sym, refl, ap, ap₂, ◌∙◌, mul-pos, arith}
+use Rattle.std.proofs.Common.{◌≡◌, ◌≢◌, ℤ, pos, ◌*ℤ◌, List, [], ◌∷◌, sym, refl, ap, ap₂, ◌∙◌, mul-pos, arith}
 use Rattle.std.proofs.lemmas.Int.{unsigned_abs-mul}
 use Rattle.std.proofs.lemmas.List.Elements.{recursion_from_All}
 use Rattle.std.proofs.Math.IntN.{zero-*ℤ}

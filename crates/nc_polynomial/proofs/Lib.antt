@@ -12,6 +12,7 @@ pub mod Tables
 pub mod CollectedTerms
 pub mod Divisors
 pub mod Kept
+pub mod Units
 pub mod AlignedMultiples
 pub mod Around
 pub mod Products

@@ -10,6 +10,7 @@ mod laws;
 mod multiples;
 mod poly;
 mod product;
+mod push;
 mod size;
 mod terms;
 #[cfg(test)]

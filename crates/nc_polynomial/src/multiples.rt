@@ -9,24 +9,11 @@ ghost use Rattle.nc_polynomial.specs.Faults.{checked, Explains};
 ghost use Rattle.nc_polynomial.specs.Sides.{side_of};
 
 use crate::PolyFault;
+use crate::push::push_copy;
 use lists::Listing;
 use std::alloc::{AllocError, Global};
 use std::cmp::Ordering;
 use word_core::Word;
-
-// The list with a term at its end, whose word is copied, unless the coefficient is zero.
-pub(crate) fn push_copy(
-    terms: &mut Listing<(i128, Word)>,
-    coefficient: i128,
-    word: &Word,
-) -> Result<(), AllocError>
-    ensures { OnOk result (terms.new ≡ terms.old ++ keep coefficient word.now []) }
-{
-    if coefficient != 0 {
-        terms.push((coefficient, word.copy()?))?;
-    }
-    Ok(())
-}
 
 // The terms of which the multiple by the number is made, where no product overflows: all, or for zero none.
 pub(crate) fn kept_terms<'a>(

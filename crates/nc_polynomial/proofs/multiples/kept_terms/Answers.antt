@@ -3,7 +3,7 @@ use Rattle.std.proofs.lemmas.List.{drop_all}
 use Rattle.coef_int.specs.Operations.{first_overflow}
 use Rattle.definitions.specs.Poly.{poly_multiple}
 use Rattle.nc_polynomial.specs.Terms.{scaled, products}
-use Rattle.nc_polynomial.specs.Faults.{checked, unless_overflow}
+use Rattle.nc_polynomial.specs.Faults.{unless_overflow}
 use Rattle.nc_polynomial.proofs.Chains.{ranged_scale}
 use Rattle.nc_polynomial.proofs.multiples.kept_terms.Goals as goal
 
