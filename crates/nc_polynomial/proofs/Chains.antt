@@ -1,5 +1,5 @@
 -- Operations in several parts: a fault of an earlier part is that of the whole.
-use Rattle.std.proofs.Common.{◌≡◌, ℕ, ℤ, Bool, true, false, List, [], ◌∷◌, ◌++◌, length, nat_lt, Option, Some, None, Result, Ok, Err, sym, refl, ap, subst, ◌∙◌, cond}
+use Rattle.std.proofs.Common.{◌≡◌, ℕ, ℤ, Bool, true, false, List, [], ◌∷◌, ◌++◌, length, nat_lt, Option, Some, None, Result, Ok, Err, sym, refl, ap, ap₂, subst, ◌∙◌, cond}
 use Rattle.std.specs.List.{All, list_any}
 use Rattle.coef_int.specs.Range.{IsCoefficient, is_coefficient}
 use Rattle.std.proofs.Common.{arith}
@@ -12,7 +12,7 @@ use Rattle.coef_int.specs.Operations.{exact_value, first_overflow}
 use Rattle.nc_polynomial.specs.Terms.{scaled, products, multiplied, multiplications, shifted, added, sums}
 use Rattle.definitions.specs.Poly.{Term}
 use Rattle.nc_polynomial.specs.Faults.{checked, unless_overflow, sized, size_fault, finished, Explains}
-use Rattle.nc_polynomial.specs.Arithmetic.{combined}
+use Rattle.nc_polynomial.specs.Arithmetic.{combined, sum_result}
 use Rattle.nc_polynomial.specs.Shape.{IsShaped}
 use Rattle.nc_polynomial.proofs.Shapes.{shaped-scaled, shaped-added, in_range-scaled, in_range-multiplied, in_range-shifted, in_range-added}
 
@@ -54,6 +54,11 @@ value_is os x v h = go (first_overflow os) h
 pub passes : {A B : Type 0} (os more : List Overflow) (x v : A) (r : Result B PolyFault) → checked os x ≡ Ok v → unless_overflow (first_overflow (os ++ more)) r ≡ unless_overflow (first_overflow more) r
 passes os more x v r h = ap (λ f. unless_overflow f r) (first-append os more ∙ ap (λ f. or_first f (first_overflow more)) (none_overflows os x v h))
 
+pub explains-itself : {A : Type 0} (r : Result A PolyFault) (e : PolyFault) → r ≡ Err e → Explains r e
+explains-itself r (fault.Overflow o) h = h
+explains-itself r (fault.Size s) h = h
+explains-itself r (fault.Memory m) h = tt
+
 -- a fault of the first part is that of the whole
 pub explains-first : {A B : Type 0} (os more : List Overflow) (x : A) (r : Result B PolyFault) (e : PolyFault) → Explains (checked os x) e → Explains (unless_overflow (first_overflow (os ++ more)) r) e
 explains-first os more x r (fault.Overflow o) h = ap (λ f. unless_overflow f r) (first-append os more) ∙ go (first_overflow os) h
@@ -86,6 +91,9 @@ passed a p b q l r h k =
     passes (products a p) (products b q ++ sums (scaled a p) (scaled b q)) (scaled a p) l (sized (added (scaled a p) (scaled b q))) h
     ∙ passes (products b q) (sums (scaled a p) (scaled b q)) (scaled b q) r (sized (added (scaled a p) (scaled b q))) k
 
+pub passed_sum : (a : ℤ) (p : List Term) (b : ℤ) (q l r : List Term) → checked (products a p) (scaled a p) ≡ Ok l → checked (products b q) (scaled b q) ≡ Ok r → combined a p b q ≡ sum_result l r
+passed_sum a p b q l r h k = passed a p b q l r h k ∙ ap₂ sum_result (value_is (products a p) (scaled a p) l h) (value_is (products b q) (scaled b q) r k)
+
 -- a polynomial within the limits is handed back
 pub sized-value : (x v : List Term) → sized x ≡ Ok v → x ≡ v
 sized-value x v h = go (list_any (λ t. nat_lt 500 (length t.1)) x) (nat_lt 20000 (length x)) h
@@ -94,6 +102,13 @@ sized-value x v h = go (list_any (λ t. nat_lt 500 (length t.1)) x) (nat_lt 2000
     go true many k = absurd (no_error v (size_fault true) (sym k))
     go false true k = absurd (no_error v (size_fault false) (sym k))
     go false false k = cc
+
+pub finished-value : (os : List Overflow) (x v : List Term) → finished os x ≡ Ok v → x ≡ v
+finished-value os x v h = go (first_overflow os) h
+  where
+    go : (o : Option Overflow) → unless_overflow o (sized x) ≡ Ok v → x ≡ v
+    go None k = sized-value x v k
+    go (Some o) k = absurd (no_error v (fault.Overflow o) (sym k))
 
 pub ranged_multiply : (p : List Term) (k : ℤ) (v : List Term) → checked (multiplications p k) (multiplied p k) ≡ Ok v → All (λ t. IsCoefficient t.0) v
 ranged_multiply p k v e = subst (All (λ t. IsCoefficient t.0)) (value_is (multiplications p k) (multiplied p k) v e) (in_range-multiplied p k (none_overflows (multiplications p k) (multiplied p k) v e))

@@ -1,5 +1,5 @@
 -- Operations one by one, and the terms that they make.
-use Rattle.std.proofs.Common.{◌≡◌, ℕ, zero, suc, ℤ, pos, negsuc, List, [], ◌∷◌, ◌++◌, Option, Some, None, Result, Ok, Err, refl, sym, ap, ◌∙◌, arith, append_assoc}
+use Rattle.std.proofs.Common.{◌≡◌, ◌≢◌, ℕ, zero, suc, ℤ, pos, negsuc, List, [], ◌∷◌, ◌++◌, Option, Some, None, Result, Ok, Err, refl, sym, ap, ◌∙◌, arith, append_assoc}
 use Rattle.std.proofs.lemmas.Bool.Decides.{nat_tests}
 use Rattle.coef_int.specs.declared.Overflow.{Overflow}
 use Rattle.coef_int.specs.Range.{IsCoefficient}
@@ -22,6 +22,11 @@ pub keep-append : (z : ℤ) (w : List ℕ) (xs : List Term) → keep z w xs ≡ 
 keep-append (pos zero) w xs = refl
 keep-append (pos (suc n)) w xs = refl
 keep-append (negsuc n) w xs = refl
+
+pub keep-nonzero : (z : ℤ) (w : List ℕ) (p : List Term) → z ≢ pos 0 → keep z w p ≡ (z, w) ∷ p
+keep-nonzero (pos zero) w p h = absurd (h refl)
+keep-nonzero (pos (suc n)) w p h = refl
+keep-nonzero (negsuc n) w p h = refl
 
 pub checked-fits : {A : Type 0} (o : Overflow) (os : List Overflow) (xs : A) → IsCoefficient (exact_value o) → checked (o ∷ os) xs ≡ checked os xs
 checked-fits o os xs h = grind (arith, nat_tests)

@@ -55,7 +55,7 @@ content-zero [] g nonzero content = (λ e. refl, λ e. abs_zero g (eq-zero_of_ze
 content-zero (t ∷ p) g nonzero content = (λ e. absurd (nonzero.0 (abs_zero t.0 (eq-zero_of_zero-dvd (subst (λ n. n ∣ unsigned_abs t.0) (ap unsigned_abs e) (content.divides 0 t (omega arith)))))), λ e. cc)
 
 -- ---- the quotient
-abs_positive : (k : ℤ) → k ≢ pos 0 → 0 < unsigned_abs k
+pub abs_positive : (k : ℤ) → k ≢ pos 0 → 0 < unsigned_abs k
 abs_positive (pos zero) h = absurd (h refl)
 abs_positive (pos (suc n)) h = omega arith
 abs_positive (negsuc n) h = omega arith

@@ -1,5 +1,5 @@
 -- The definitions at small examples that were worked out by hand.
-use Rattle.std.proofs.Common.{◌≡◌, ◌-◌, ◌^◌, ℕ, ℤ, pos, negsuc, List, [], ◌∷◌, Ok, Err, refl}
+use Rattle.std.proofs.Common.{◌≡◌, ◌-◌, ◌^◌, ℤ, pos, negsuc, List, [], ◌∷◌, Ok, Err, refl}
 use Rattle.coef_int.specs.Operations.{product_of, sum_of}
 use Rattle.definitions.specs.Poly.{Term}
 use Rattle.nc_polynomial.specs.declared.fault.PolyFault.TheVariants as fault

@@ -11,6 +11,9 @@ pub mod Distinct
 pub mod Tables
 pub mod CollectedTerms
 pub mod Divisors
+pub mod Kept
+pub mod Units
+pub mod AlignedMultiples
 pub mod Around
 pub mod Products
 pub mod Adjoints

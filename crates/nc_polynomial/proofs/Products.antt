@@ -1,51 +1,26 @@
 -- Products of polynomials.
-use Rattle.std.proofs.Common.{◌≡◌, ◌≢◌, ℕ, zero, suc, ◌*◌, ◌≤◌, ℤ, pos, negsuc, neg_ℤ, ◌+ℤ◌, ◌*ℤ◌, Bool, true, false, cond, ◌||◌, nat_lt, List, [], ◌∷◌, ◌++◌, length, map, Option, Some, None, Result, Ok, Err, sym, refl, ap, ap₂, subst, ◌∙◌, arith}
+use Rattle.std.proofs.Common.{◌≡◌, ℕ, ◌≤◌, ℤ, pos, ◌+ℤ◌, ◌*ℤ◌, Bool, true, false, cond, ◌||◌, nat_lt, List, [], ◌∷◌, ◌++◌, length, map, None, Result, Ok, Err, sym, refl, ap, ap₂, subst, ◌∙◌, arith}
 use Rattle.std.proofs.lemmas.Bool.Decides.{nat_tests}
-use Rattle.std.proofs.Math.IntN.{pos-*ℤ-pos, pos-*ℤ-negsuc, +ℤ_idl, +ℤ_idr, +ℤ_assoc}
+use Rattle.std.proofs.Math.IntN.{+ℤ_idl, +ℤ_idr, +ℤ_assoc}
 use Rattle.std.proofs.lemmas.List.{append-nil}
-use Rattle.std.proofs.lemmas.List.Elements.{All-from_recursion, recursion_from_All}
+use Rattle.std.proofs.lemmas.List.Elements.{All-from_recursion}
 use Rattle.std.specs.List.{AllByRecursion}
-use Rattle.coef_int.specs.declared.Overflow.{Overflow}
-use Rattle.coef_int.specs.Range.{IsCoefficient}
 use Rattle.coef_int.specs.Operations.{product_of, first_overflow}
 use Rattle.definitions.specs.Poly.{Term, SamePolynomial, coefficient_of, poly_multiple, poly_between, poly_product}
 use Rattle.definitions.proofs.Coefficients.{coefficient_of-append, coefficient_of-multiple}
 use Rattle.nc_polynomial.specs.declared.fault.PolyFault.{PolyFault}
-use Rattle.nc_polynomial.specs.declared.fault.PolyFault.TheVariants as fault
 use Rattle.nc_polynomial.specs.Terms.{keep, scaled, products, shifted, added, sums}
 use Rattle.nc_polynomial.specs.Shape.{IsShaped, IsCanonical}
 use Rattle.nc_polynomial.specs.Faults.{checked, unless_overflow, finished, sized, size_fault, has_long_word}
 use Rattle.nc_polynomial.specs.Arithmetic.{combined}
 use Rattle.nc_polynomial.specs.Product.{and_then, product_step, product_from}
 use Rattle.nc_polynomial.proofs.Around.{shaped-between}
-use Rattle.nc_polynomial.proofs.Chains.{first-append, first-fits, or_first, no_error, none_overflows, value_is, sized-value}
+use Rattle.nc_polynomial.proofs.Chains.{first-append, or_first, no_error, none_overflows, value_is, sized-value, finished-value}
 use Rattle.nc_polynomial.proofs.CoefficientLaws.{coefficient_of-added, coefficient_of-scaled}
 use Rattle.nc_polynomial.proofs.Shapes.{shaped-scaled}
+use Rattle.nc_polynomial.proofs.Units.{one-*ℤ, once_fits}
 
 -- ---- one step
-one-*ℤ : (z : ℤ) → pos 1 *ℤ z ≡ z
-one-*ℤ (pos n) =
-    let once : 1 * n ≡ n = omega arith in
-    pos-*ℤ-pos 1 n ∙ ap pos once
-one-*ℤ (negsuc n) =
-    let once : 1 * suc n ≡ suc n = omega arith in
-    pos-*ℤ-negsuc 1 n ∙ ap (λ m. neg_ℤ (pos m)) once
-
-keep-nonzero : (z : ℤ) (w : List ℕ) (p : List Term) → z ≢ pos 0 → keep z w p ≡ (z, w) ∷ p
-keep-nonzero (pos zero) w p h = absurd (h refl)
-keep-nonzero (pos (suc n)) w p h = refl
-keep-nonzero (negsuc n) w p h = refl
-
-scaled-one : (p : List Term) → AllByRecursion (λ t. t.0 ≢ pos 0) p → scaled (pos 1) p ≡ p
-scaled-one [] h = refl
-scaled-one (t ∷ p) h =
-    ap₂ (λ z rest. keep z t.1 rest) (one-*ℤ t.0) (scaled-one p h.1) ∙ keep-nonzero t.0 t.1 p h.0
-
-products-one : (p : List Term) → AllByRecursion (λ t. IsCoefficient t.0) p → first_overflow (products (pos 1) p) ≡ None
-products-one [] h = refl
-products-one (t ∷ p) h =
-    first-fits (product_of (pos 1) t.0) (products (pos 1) p) (subst IsCoefficient (sym (one-*ℤ t.0)) h.0) ∙ products-one p h.1
-
 pub scaled-between : (k : ℤ) (l : List ℕ) (p : List Term) (r : List ℕ) → scaled k (poly_between l p r) ≡ shifted k l p r
 scaled-between k l [] r = refl
 scaled-between k l (t ∷ p) r = ap (keep (k *ℤ t.0) (l ++ (t.1 ++ r))) (scaled-between k l p r)
@@ -63,8 +38,8 @@ shaped_shift k l p r v h e =
 -- 1 times the sum so far changes nothing and always fits
 pub combined-one : (sum : List Term) (k : ℤ) (w : List ℕ) (q : List Term) → IsShaped sum → combined (pos 1) sum k (poly_between w q []) ≡ finished (products k q ++ sums sum (shifted k w q [])) (added sum (shifted k w q []))
 combined-one sum k w q h =
-    let itself : scaled (pos 1) sum ≡ sum = scaled-one sum (recursion_from_All (λ (t : Term). t.0 ≢ pos 0) sum h.nonzero) in
-    let fits : first_overflow (products (pos 1) sum) ≡ None = products-one sum (recursion_from_All (λ (t : Term). IsCoefficient t.0) sum h.in_range) in
+    let itself = value_is (products (pos 1) sum) (scaled (pos 1) sum) sum (once_fits sum h) in
+    let fits = none_overflows (products (pos 1) sum) (scaled (pos 1) sum) sum (once_fits sum h) in
     let moved = poly_between w q [] in
     ap (λ o. unless_overflow o (sized (added (scaled (pos 1) sum) (scaled k moved)))) (first-append (products (pos 1) sum) (products k moved ++ sums (scaled (pos 1) sum) (scaled k moved)) ∙ ap (λ o. or_first o (first_overflow (products k moved ++ sums (scaled (pos 1) sum) (scaled k moved)))) fits)
     ∙ ap₂ (λ os (parts : List Term × List Term). finished (os ++ sums parts.0 parts.1) (added parts.0 parts.1)) (products-between k w q []) (λ i. (itself i, scaled-between k w q [] i))
@@ -105,13 +80,6 @@ moved-row t (u ∷ q) = ap₂ (λ v (rest : List Term). (t.0 *ℤ u.0, t.1 ++ v)
 
 same_value : (p r : List Term) → ◌≡◌ {A = Result (List Term) PolyFault} (Ok p) (Ok r) → p ≡ r
 same_value p r h = cc
-
-finished-value : (os : List Overflow) (x v : List Term) → finished os x ≡ Ok v → x ≡ v
-finished-value os x v h = go (first_overflow os) h
-  where
-    go : (o : Option Overflow) → unless_overflow o (sized x) ≡ Ok v → x ≡ v
-    go None k = sized-value x v k
-    go (Some o) k = absurd (no_error v (fault.Overflow o) (sym k))
 
 combined-coefficient : (a : ℤ) (p : List Term) (b : ℤ) (q r : List Term) → combined a p b q ≡ Ok r → (w : List ℕ) → coefficient_of r w ≡ a *ℤ coefficient_of p w +ℤ b *ℤ coefficient_of q w
 combined-coefficient a p b q r h w =

@@ -9,7 +9,7 @@ ghost use Rattle.nc_polynomial.specs.Faults.{Explains, checked};
 ghost use Rattle.nc_polynomial.specs.Collected.{collection_result, coefficient_in};
 ghost use Rattle.nc_polynomial.specs.Ascending.{reversed};
 
-use crate::terms::push_nonzero;
+use crate::push::push_nonzero;
 use crate::{Poly, PolyFault};
 use lists::Listing;
 use std::alloc::{AllocError, Global};

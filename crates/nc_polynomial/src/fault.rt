@@ -6,7 +6,7 @@ use thiserror::Error;
 
 /// A limit on the size of a polynomial that is passed.
 #[derive(Clone, Copy, Debug, PartialEq, Eq, Error)]
-#[error("{}", if *letters { "a word has more than 500 letters" } else { "there are more than 20,000 terms" })]
+#[error("{}", if *letters {"a word has more than 500 letters"} else {"there are more than 20,000 terms"})]
 pub struct SizeFault {
     /// Whether a word has more than 500 letters, and not the polynomial more than 20,000 terms.
     pub letters: bool,

@@ -7,8 +7,10 @@ mod combine;
 mod content;
 mod fault;
 mod laws;
+mod multiples;
 mod poly;
 mod product;
+mod push;
 mod size;
 mod terms;
 #[cfg(test)]

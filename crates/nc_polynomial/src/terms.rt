@@ -8,25 +8,12 @@ ghost use Rattle.nc_polynomial.specs.Faults.{checked, Explains};
 ghost use Rattle.nc_polynomial.specs.Sides.{side_of};
 
 use crate::PolyFault;
+use crate::push::{push_between, push_copy, push_nonzero};
 use lists::Listing;
 use std::alloc::{AllocError, Global};
 use std::cmp::Ordering;
 use std::collections::VecDeque;
 use word_core::Word;
-
-// The list with a term at its end, unless the coefficient is zero.
-pub(crate) fn push_nonzero(
-    terms: &mut Listing<(i128, Word)>,
-    coefficient: i128,
-    word: Word,
-) -> Result<(), AllocError>
-    ensures { OnOk result (terms.new ≡ terms.old ++ keep coefficient word []) }
-{
-    if coefficient != 0 {
-        terms.push((coefficient, word))?;
-    }
-    Ok(())
-}
 
 /// The terms times a number, which is the left operand of each product. `Overflow` is the first product
 /// that is no coefficient.
@@ -46,7 +33,7 @@ pub fn scale_terms(
             Ok(product) => product,
             Err(fault) => return Err(PolyFault::Overflow(fault)),
         };
-        push_nonzero(&mut scaled, product, term.1.copy()?)?;
+        push_copy(&mut scaled, product, &term.1)?;
     }
     Ok(scaled)
 }
@@ -95,7 +82,7 @@ pub fn shift_terms(
             Ok(product) => product,
             Err(fault) => return Err(PolyFault::Overflow(fault)),
         };
-        push_nonzero(&mut shifted, product, term.1.between(left, right)?)?;
+        push_between(&mut shifted, product, left, &term.1, right)?;
     }
     Ok(shifted)
 }

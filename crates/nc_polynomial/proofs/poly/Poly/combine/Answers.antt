@@ -1,10 +1,11 @@
-use Rattle.std.proofs.Common.{rules, ◌≡◌, ◌++◌, Ok, Err, sym, ap₂, ◌∙◌, subst}
+use Rattle.std.proofs.Common.{rules, ◌≡◌, ◌++◌, Ok, Err, sym, ◌∙◌, subst}
+use Rattle.definitions.specs.Poly.{poly_multiple}
 use Rattle.nc_polynomial.specs.Terms.{scaled, products, added, sums}
 use Rattle.nc_polynomial.specs.Faults.{sized, checked, Explains}
-use Rattle.nc_polynomial.specs.Arithmetic.{combined, sum_result}
-use Rattle.nc_polynomial.proofs.Chains.{passes, passed, explains-first, shaped_scale, value_is}
-use Rattle.nc_polynomial.proofs.Values.{combination_value}
-use Rattle.std.proofs.lemmas.Result.{IfOk-weaker}
+use Rattle.nc_polynomial.specs.Arithmetic.{combined}
+use Rattle.nc_polynomial.proofs.Chains.{passes, passed_sum, explains-first, explains-last, explains-itself, ends, shaped_scale, shaped_add}
+use Rattle.nc_polynomial.proofs.Results.{ok_part}
+use Rattle.nc_polynomial.proofs.Values.{combination_value, merged_value}
 use Rattle.nc_polynomial.proofs.poly.Poly.combine.Goals as goal
 
 pub returns-in_err-left-clause-exact : goal.returns-in_err-left-clause-exact
@@ -14,9 +15,9 @@ returns-in_err-left-clause-exact c =
     let p = c.args.p.now.terms in
     let q = c.args.q.now.terms in
     let e = c.in_err-left.field-0.0 in
-    let why : Explains (checked (products a p) (scaled a p)) e = search rules in
+    let fails : checked (products a p) (scaled a p) ≡ Err e = search rules in
     let back : c.from_residual.result ≡ Err e = search rules in
-    rw back (explains-first (products a p) (products b q ++ sums (scaled a p) (scaled b q)) (scaled a p) (sized (added (scaled a p) (scaled b q))) e why)
+    rw back (explains-first (products a p) (products b q ++ sums (scaled a p) (scaled b q)) (scaled a p) (sized (added (scaled a p) (scaled b q))) e (explains-itself _ e fails))
 
 pub returns-in_err-right-clause-exact : goal.returns-in_err-right-clause-exact
 returns-in_err-right-clause-exact c =
@@ -26,21 +27,39 @@ returns-in_err-right-clause-exact c =
     let q = c.args.q.now.terms in
     let sum = sized (added (scaled a p) (scaled b q)) in
     let e = c.in_err-right.field-0.0 in
-    let left : checked (products a p) (scaled a p) ≡ Ok c.in_ok-left.left = search rules in
-    let why : Explains (checked (products b q) (scaled b q)) e = search rules in
+    let left : checked (products a p) (scaled a p) ≡ Ok (poly_multiple a c.in_ok-left.left.now) = search rules in
+    let fails : checked (products b q) (scaled b q) ≡ Err e = search rules in
     let back : c.from_residual-in_err-right.result ≡ Err e = search rules in
-    rw back (subst (λ r. Explains r e) (sym (passes (products a p) (products b q ++ sums (scaled a p) (scaled b q)) (scaled a p) c.in_ok-left.left sum left))
-    (explains-first (products b q) (sums (scaled a p) (scaled b q)) (scaled b q) sum e why))
+    rw back (subst (λ r. Explains r e) (sym (passes (products a p) (products b q ++ sums (scaled a p) (scaled b q)) (scaled a p) (poly_multiple a c.in_ok-left.left.now) sum left))
+    (explains-first (products b q) (sums (scaled a p) (scaled b q)) (scaled b q) sum e (explains-itself _ e fails)))
 
-pub sum_of_parts-requires-clause-left_shaped : goal.sum_of_parts-requires-clause-left_shaped
-sum_of_parts-requires-clause-left_shaped c =
-    let left : checked (products c.args.a c.args.p.now.terms) (scaled c.args.a c.args.p.now.terms) ≡ Ok c.in_ok-left.left = search rules in
-    shaped_scale c.args.a c.args.p.now.terms c.in_ok-left.left c.args.p.now.canonical.shaped left
+pub returns-in_err-merge_multiples-clause-exact : goal.returns-in_err-merge_multiples-clause-exact
+returns-in_err-merge_multiples-clause-exact c =
+    let a = c.args.a in
+    let b = c.args.b in
+    let p = c.args.p.now.terms in
+    let q = c.args.q.now.terms in
+    let l = poly_multiple a c.in_ok-left.left.now in
+    let r = poly_multiple b c.in_ok-right.right.now in
+    let e = c.in_err-merge_multiples.field-0.0 in
+    let left : checked (products a p) (scaled a p) ≡ Ok l = search rules in
+    let right : checked (products b q) (scaled b q) ≡ Ok r = search rules in
+    let why : Explains (checked (sums l r) (added l r)) e = search rules in
+    let back : c.from_residual-in_err-merge_multiples.result ≡ Err e = search rules in
+    rw (back, passed_sum a p b q l r left right) (explains-last (sums l r) (added l r) (sized (added l r)) e why)
 
-pub sum_of_parts-requires-clause-right_shaped : goal.sum_of_parts-requires-clause-right_shaped
-sum_of_parts-requires-clause-right_shaped c =
-    let right : checked (products c.args.b c.args.q.now.terms) (scaled c.args.b c.args.q.now.terms) ≡ Ok c.in_ok-right.right = search rules in
-    shaped_scale c.args.b c.args.q.now.terms c.in_ok-right.right c.args.q.now.canonical.shaped right
+pub from_descending-requires : goal.from_descending-requires
+from_descending-requires c =
+    let a = c.args.a in
+    let b = c.args.b in
+    let p = c.args.p.now in
+    let q = c.args.q.now in
+    let l = poly_multiple a c.in_ok-left.left.now in
+    let r = poly_multiple b c.in_ok-right.right.now in
+    let left : checked (products a p.terms) (scaled a p.terms) ≡ Ok l = search rules in
+    let right : checked (products b q.terms) (scaled b q.terms) ≡ Ok r = search rules in
+    let merged : checked (sums l r) (added l r) ≡ Ok c.in_ok-merge_multiples.field-0 = search rules in
+    shaped_add l r c.in_ok-merge_multiples.field-0 (shaped_scale a p.terms l p.canonical.shaped left) (shaped_scale b q.terms r q.canonical.shaped right) merged
 
 pub returns-clause-exact : goal.returns-clause-exact
 returns-clause-exact c =
@@ -48,13 +67,13 @@ returns-clause-exact c =
     let b = c.args.b in
     let p = c.args.p.now.terms in
     let q = c.args.q.now.terms in
-    let l = c.in_ok-left.left in
-    let r = c.in_ok-right.right in
+    let l = poly_multiple a c.in_ok-left.left.now in
+    let r = poly_multiple b c.in_ok-right.right.now in
     let left : checked (products a p) (scaled a p) ≡ Ok l = search rules in
     let right : checked (products b q) (scaled b q) ≡ Ok r = search rules in
-    let last : combined a p b q ≡ sum_result l r =
-    passed a p b q l r left right ∙ ap₂ sum_result (value_is (products a p) (scaled a p) l left) (value_is (products b q) (scaled b q) r right) in
-    rw last c.sum_of_parts.ensures.exact
+    let merged : checked (sums l r) (added l r) ≡ Ok c.in_ok-merge_multiples.field-0 = search rules in
+    let last : combined a p b q ≡ sized c.in_ok-merge_multiples.field-0 = passed_sum a p b q l r left right ∙ ends (sums l r) (added l r) c.in_ok-merge_multiples.field-0 merged in
+    rw last c.from_descending.ensures
 
 pub returns-clause-combination : goal.returns-clause-combination
 returns-clause-combination c =
@@ -62,6 +81,10 @@ returns-clause-combination c =
     let b = c.args.b in
     let p = c.args.p.now.terms in
     let q = c.args.q.now.terms in
-    let left : checked (products a p) (scaled a p) ≡ Ok c.in_ok-left.left = search rules in
-    let right : checked (products b q) (scaled b q) ≡ Ok c.in_ok-right.right = search rules in
-    IfOk-weaker c.sum_of_parts.result _ _ (λ v sum. combination_value a p b q c.in_ok-left.left c.in_ok-right.right v.terms left right sum) c.sum_of_parts.ensures.sum
+    let l = poly_multiple a c.in_ok-left.left.now in
+    let r = poly_multiple b c.in_ok-right.right.now in
+    let v = c.in_ok-merge_multiples.field-0 in
+    let left : checked (products a p) (scaled a p) ≡ Ok l = search rules in
+    let right : checked (products b q) (scaled b q) ≡ Ok r = search rules in
+    let merged : checked (sums l r) (added l r) ≡ Ok v = search rules in
+    ok_part c.from_descending.result _ (λ s limits. combination_value a p b q l r s.terms left right (merged_value l r v s.terms merged limits)) c.from_descending.ensures

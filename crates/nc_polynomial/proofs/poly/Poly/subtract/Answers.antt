@@ -1,10 +1,17 @@
-use Rattle.std.proofs.Common.{rules, ◌≡◌, sym, subst}
-use Rattle.nc_polynomial.specs.Terms.{negated}
-use Rattle.nc_polynomial.specs.Shape.{IsShaped}
-use Rattle.nc_polynomial.proofs.Shapes.{shaped-negated}
+use Rattle.std.proofs.Common.{sym, ◌∙◌}
+use Rattle.nc_polynomial.proofs.Results.{ok_part}
+use Rattle.nc_polynomial.proofs.Units.{difference_is, difference_value}
 use Rattle.nc_polynomial.proofs.poly.Poly.subtract.Goals as goal
 
-pub sum_of_parts-requires-clause-right_shaped : goal.sum_of_parts-requires-clause-right_shaped
-sum_of_parts-requires-clause-right_shaped c =
-    let negated_is : c.in_ok-right.right ≡ negated c.args.other.now.terms = search rules in
-    subst IsShaped (sym negated_is) (shaped-negated c.args.other.now.terms c.args.other.now.canonical.shaped)
+pub returns-clause-exact : goal.returns-clause-exact
+returns-clause-exact c =
+    let p = c.args.self.now in
+    let q = c.args.other.now in
+    rw (← difference_is p.terms q.terms p.canonical.shaped q.canonical.shaped) c.combine.ensures.exact
+
+pub returns-clause-difference : goal.returns-clause-difference
+returns-clause-difference c =
+    let p = c.args.self.now in
+    let q = c.args.other.now in
+    let difference = difference_is p.terms q.terms p.canonical.shaped q.canonical.shaped in
+    ok_part c.combine.result _ (λ r exact. difference_value p.terms q.terms r.terms (sym difference ∙ exact)) c.combine.ensures.exact

@@ -1,0 +1,7 @@
+use Rattle.std.proofs.Common.{◌≡◌, drop}
+use Rattle.coef_int.specs.Operations.{first_overflow}
+use Rattle.nc_polynomial.specs.Terms.{products}
+use Rattle.nc_polynomial.proofs.multiples.kept_terms.Given as goal
+
+abbrev pub invariant-loop-term : goal.invariant-loop-term
+invariant-loop-term l = first_overflow (products l.by (drop l.term-index l.terms)) ≡ first_overflow (products l.by l.terms)

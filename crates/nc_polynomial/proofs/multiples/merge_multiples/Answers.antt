@@ -1,0 +1,102 @@
+use Rattle.std.proofs.Common.{rules, ◌≡◌, ◌++◌, [], ◌∷◌, ◌+ℤ◌, ◌*ℤ◌, Ok, Err, sym, ap, ◌∙◌, subst, to_z, of_z}
+use mir.Syntax.{w128}
+use Rattle.std.proofs.lemmas.List.{append-nil}
+use Rattle.coef_int.specs.Range.{IsCoefficient}
+use Rattle.coef_int.specs.Operations.{sum_of}
+use Rattle.definitions.specs.Poly.{poly_multiple}
+use Rattle.nc_polynomial.specs.declared.fault.PolyFault.TheVariants as fault
+use Rattle.nc_polynomial.specs.Terms.{aligned, keep}
+use Rattle.nc_polynomial.proofs.Checked.{join, total_from}
+use Rattle.nc_polynomial.proofs.AlignedMultiples.{AreInRange, multiplied_pairs, aligned-multiples, in_range-aligned, next-in_range, next-fits, next-overflows}
+use Rattle.nc_polynomial.proofs.multiples.merge_multiples.Goals as goal
+
+pub loop-next-init : goal.loop-next-init
+loop-next-init c =
+    let a = c.args.a in
+    let b = c.args.b in
+    let p = c.args.p.now in
+    let q = c.args.q.now in
+    let a_is : to_z w128 (of_z w128 a) ≡ a = search rules in
+    let b_is : to_z w128 (of_z w128 b) ≡ b = search rules in
+    let in_range : AreInRange (multiplied_pairs a b (aligned p q)) =
+    subst AreInRange (aligned-multiples a b p q) (in_range-aligned (poly_multiple a p) (poly_multiple b q) c.requires.left_in c.requires.right_in) in
+    let same : join c.new-sum.result (total_from (multiplied_pairs a b (aligned p q))) ≡ total_from (multiplied_pairs a b (aligned p q)) = search rules in
+    rw (a_is, b_is) (record { in_range = in_range; same = same })
+
+pub overflow_mul-a : goal.overflow_mul-a
+overflow_mul-a c =
+    let a = c.args.a in
+    let b = c.args.b in
+    let n = c.in-Some.next in
+    let pairs = aligned c.loop-next.left.now c.loop-next.right.now in
+    let rest = aligned n.left_rest.now n.right_rest.now in
+    let next : pairs ≡ (n.left, n.right, n.word.now) ∷ rest = search rules in
+    let in_range : AreInRange (multiplied_pairs a b pairs) = search rules in
+    let fits : IsCoefficient (a *ℤ n.left) = (next-in_range a b pairs rest (n.left, n.right, n.word.now) next in_range).0.0 in
+    search rules
+
+pub overflow_mul-b : goal.overflow_mul-b
+overflow_mul-b c =
+    let a = c.args.a in
+    let b = c.args.b in
+    let n = c.in-Some.next in
+    let pairs = aligned c.loop-next.left.now c.loop-next.right.now in
+    let rest = aligned n.left_rest.now n.right_rest.now in
+    let next : pairs ≡ (n.left, n.right, n.word.now) ∷ rest = search rules in
+    let in_range : AreInRange (multiplied_pairs a b pairs) = search rules in
+    let fits : IsCoefficient (b *ℤ n.right) = (next-in_range a b pairs rest (n.left, n.right, n.word.now) next in_range).0.1 in
+    search rules
+
+pub returns-in-Err : goal.returns-in-Err
+returns-in-Err c =
+    let a = c.args.a in
+    let b = c.args.b in
+    let p = c.args.p.now in
+    let q = c.args.q.now in
+    let out = c.loop-next.sum in
+    let n = c.in-Some.next in
+    let pairs = aligned c.loop-next.left.now c.loop-next.right.now in
+    let rest = aligned n.left_rest.now n.right_rest.now in
+    let next : pairs ≡ (n.left, n.right, n.word.now) ∷ rest = search rules in
+    let same : join out (total_from (multiplied_pairs a b pairs)) ≡ total_from (multiplied_pairs a b (aligned p q)) = search rules in
+    let misses : IsCoefficient (a *ℤ n.left +ℤ b *ℤ n.right) → ⊥ = search rules in
+    let operands : c.in-Err.fault ≡ sum_of (a *ℤ n.left) (b *ℤ n.right) = search rules in
+    ap total_from (aligned-multiples a b p q) ∙ sym same ∙ next-overflows a b pairs rest (n.left, n.right, n.word.now) next out misses ∙ ap (λ o. Err (fault.Overflow o)) (sym operands)
+
+pub loop-next-preserved : goal.loop-next-preserved
+loop-next-preserved c =
+    let a = c.args.a in
+    let b = c.args.b in
+    let p = c.args.p.now in
+    let q = c.args.q.now in
+    let a_is : to_z w128 (of_z w128 a) ≡ a = search rules in
+    let b_is : to_z w128 (of_z w128 b) ≡ b = search rules in
+    let out = c.loop-next.sum in
+    let n = c.in-Some.next in
+    let pairs = aligned c.loop-next.left.now c.loop-next.right.now in
+    let rest = aligned n.left_rest.now n.right_rest.now in
+    let next : pairs ≡ (n.left, n.right, n.word.now) ∷ rest = search rules in
+    let in_range : AreInRange (multiplied_pairs a b pairs) = search rules in
+    let same : join out (total_from (multiplied_pairs a b pairs)) ≡ total_from (multiplied_pairs a b (aligned p q)) = search rules in
+    let total : c.in-Ok.total ≡ a *ℤ n.left +ℤ b *ℤ n.right = search rules in
+    let fits : IsCoefficient (a *ℤ n.left +ℤ b *ℤ n.right) = search rules in
+    let pushed : c.push_copy.new.terms ≡ out ++ keep c.in-Ok.total n.word.now [] = search rules in
+    rw (a_is, b_is) (record {
+      in_range = (next-in_range a b pairs rest (n.left, n.right, n.word.now) next in_range).1;
+      same =
+          ap (λ l. join l (total_from (multiplied_pairs a b rest))) (pushed ∙ ap (λ z. out ++ keep z n.word.now []) total)
+          ∙ next-fits a b pairs rest (n.left, n.right, n.word.now) next out fits
+          ∙ same;
+    })
+
+pub returns : goal.returns
+returns c =
+    let a = c.args.a in
+    let b = c.args.b in
+    let p = c.args.p.now in
+    let q = c.args.q.now in
+    let out = c.loop-next.sum in
+    let pairs = aligned c.loop-next.left.now c.loop-next.right.now in
+    let gone : pairs ≡ [] = search rules in
+    let same : join out (total_from (multiplied_pairs a b pairs)) ≡ total_from (multiplied_pairs a b (aligned p q)) = search rules in
+    ap total_from (aligned-multiples a b p q) ∙ sym same ∙ ap (λ l. join out (total_from (multiplied_pairs a b l))) gone ∙ ap Ok (append-nil out)
