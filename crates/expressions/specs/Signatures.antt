@@ -48,36 +48,37 @@ abbrev pub composed : Spot → Sig → Sig → Result (Option Sig) SignatureFaul
 composed at left right =
     if nat_eq left.source.0 right.target.0 then Ok (Some (from_to right.source.0 left.target.0)) else Err (NotComposable at left right)
 
--- the part so far, if any, with the next factor
-abbrev pub product_step : Option Sig → Spot → Option Sig → Result (Option Sig) SignatureFault
-product_step so_far at None = Err (OpenZero at)
-product_step None at (Some s) = Ok (Some s)
-product_step (Some left) at (Some right) = composed at left right
+-- the signature of the factors so far, if any, or the first fault, with the next factor
+abbrev pub product_step : Result (Option Sig) SignatureFault → Spot → Option Sig → Result (Option Sig) SignatureFault
+product_step (Err fault) at s = Err fault
+product_step (Ok so_far) at None = Err (OpenZero at)
+product_step (Ok None) at (Some s) = Ok (Some s)
+product_step (Ok (Some left)) at (Some right) = composed at left right
 
-abbrev pub product_from : Option Sig → List Part → Result (Option Sig) SignatureFault
-product_from so_far [] = Ok so_far
-product_from so_far (p ∷ parts) = product_step so_far p.0 p.1 >>= λ next. product_from next parts
+abbrev pub product_from : Result (Option Sig) SignatureFault → List Part → Result (Option Sig) SignatureFault
+product_from so_far [] = so_far
+product_from so_far (p ∷ parts) = product_from (product_step so_far p.0 p.1) parts
 
 -- a product of these factors; one factor alone may be open, and a term without factors is open
 abbrev pub product_signature : List Part → Result (Option Sig) SignatureFault
 product_signature [] = Ok None
 product_signature (p ∷ []) = Ok p.1
-product_signature (p ∷ r ∷ parts) = product_from None (p ∷ r ∷ parts)
+product_signature (p ∷ r ∷ parts) = product_from (Ok None) (p ∷ r ∷ parts)
 
--- two signatures of which the one at this place must be the one before it
+-- two signatures that must be the same, of which the second one is at this place
 abbrev pub matched : Spot → Sig → Sig → Result (Option Sig) SignatureFault
 matched at before s = if same_ends before s then Ok (Some before) else Err (SumMismatch at before s)
 
--- the signature of the terms so far, if any, with the next term
-abbrev pub sum_step : Option Sig → Spot → Option Sig → Result (Option Sig) SignatureFault
-sum_step so_far at None = Ok so_far
-sum_step None at (Some s) = Ok (Some s)
-sum_step (Some before) at (Some s) = matched at before s
+-- the signature of the terms so far, if any, or the first fault, with the next term
+abbrev pub sum_step : Result (Option Sig) SignatureFault → Spot → Option Sig → Result (Option Sig) SignatureFault
+sum_step (Err fault) at s = Err fault
+sum_step (Ok so_far) at None = Ok so_far
+sum_step (Ok None) at (Some s) = Ok (Some s)
+sum_step (Ok (Some before)) at (Some s) = matched at before s
 
--- a sum of these terms, after terms of this signature, if any
-abbrev pub sum_from : Option Sig → List Part → Result (Option Sig) SignatureFault
-sum_from so_far [] = Ok so_far
-sum_from so_far (p ∷ parts) = sum_step so_far p.0 p.1 >>= λ next. sum_from next parts
+abbrev pub sum_from : Result (Option Sig) SignatureFault → List Part → Result (Option Sig) SignatureFault
+sum_from so_far [] = so_far
+sum_from so_far (p ∷ parts) = sum_from (sum_step so_far p.0 p.1) parts
 
 abbrev pub sum_at : Sum → Spot
 sum_at (Sum' at shape terms) = at
@@ -88,7 +89,7 @@ term_at (Term' at negative literal shape factors) = at
 -- A product and a sum are one node each: all parts from the left, and then the node.
 abbrev mutual
   pub sum_signature : List Declaration → Sum → Result (Option Sig) SignatureFault
-  sum_signature ds (Sum' at shape terms) = terms_parts ds terms >>= sum_from None
+  sum_signature ds (Sum' at shape terms) = terms_parts ds terms >>= sum_from (Ok None)
 
   pub terms_parts : {m : _} → List Declaration → Row_of-Term m → Result (List Part) SignatureFault
   terms_parts ds end_of-Term = Ok []

@@ -1,6 +1,5 @@
 ghost use Rattle.std.specs.Prelude.{◌≡◌, ◌<◌, IfOk, IsTrue, option_map};
 ghost use Rattle.quiver.specs.Declarations.{object_count};
-ghost use Rattle.expressions.specs.Results.{◌>>=◌};
 ghost use Rattle.expressions.specs.Names.{AreNames, are_names_of_term, are_names_of_primary};
 ghost use Rattle.expressions.specs.Signatures.{HasObjects, turned, marked_signature, product_step, sum_step, sum_signature, term_signature, factor_signature, primary_signature, sides_signature, equation_signature};
 
@@ -59,13 +58,13 @@ fn sum_signature(quiver: &Quiver, sum: &Sum) -> Result<Option<Sig>, SignatureFau
     signature
 }
 
-// The signature of the terms so far, if any, with the next term, where there was no fault.
+// The signature of the terms so far, if any, or the first fault, with the next term.
 fn sum_step(
     so_far: Result<Option<Sig>, SignatureFault>,
     at: Spot,
     next: Option<Sig>,
 ) -> Result<Option<Sig>, SignatureFault>
-    ensures { result ≡ (so_far >>= λ s. sum_step s at next) }
+    ensures { result ≡ sum_step so_far at next }
 {
     match (so_far?, next) {
         (before, None) => Ok(before),
@@ -93,13 +92,13 @@ fn term_signature(quiver: &Quiver, term: &Term) -> Result<Option<Sig>, Signature
     signature
 }
 
-// The signature of the part so far, if any, with the next factor, where there was no fault.
+// The signature of the factors so far, if any, or the first fault, with the next factor.
 fn product_step(
     so_far: Result<Option<Sig>, SignatureFault>,
     at: Spot,
     next: Option<Sig>,
 ) -> Result<Option<Sig>, SignatureFault>
-    ensures { result ≡ (so_far >>= λ s. product_step s at next) }
+    ensures { result ≡ product_step so_far at next }
 {
     match (so_far?, next) {
         (_, None) => Err(SignatureFault::OpenZero { at }),
