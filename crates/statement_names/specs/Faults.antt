@@ -10,7 +10,7 @@ use Rattle.statement_names.specs.declared.fault.NameFault.TheVariants.{Unknown, 
 use Rattle.statement_names.specs.declared.kinds.Kind.{Kind}
 use Rattle.statement_names.specs.declared.kinds.Kind.TheVariants.{Object, Map}
 use Rattle.statement_names.specs.Uses.{Use}
-use Rattle.statement_names.specs.Occurrences.{Occurrence, declares_object, declares_map, uses, lists, weight, modulus, side, begins_order, begins_assumptions, begins_claim, begins_shape, occurrences_of}
+use Rattle.statement_names.specs.Occurrences.{Occurrence, declares_object, declares_map, uses, lists, counts, modulus, begins_order, begins_assumptions, begins_claim, begins_shape, occurrences_of}
 
 -- ---- what occurrences declare, and how much they begin
 
@@ -97,9 +97,8 @@ fault_behind kind before (lists front u) =
     if not (is_kind (kind u.name.text) u.kind) then Some (Unknown u.name.at)
     else if is_among front u.name.text then Some (Double u.name.at)
     else None
-fault_behind kind before (weight n) = if is_between 1 1000 (value_of n.value) then None else Some (BadNumber n.at)
+fault_behind kind before (counts most n) = if is_between 1 most (value_of n.value) then None else Some (BadNumber n.at)
 fault_behind kind before (modulus n) = if is_modulus (value_of n.value) then None else Some (BadNumber n.at)
-fault_behind kind before (side n) = if is_between 1 6 (value_of n.value) then None else Some (BadNumber n.at)
 fault_behind kind before (begins_order at) = if nat_lt 1 (sum_by orders_by before + 1) then Some (Double at) else None
 fault_behind kind before (begins_assumptions count at) = if nat_lt 500 (sum_by assumptions_by before + count) then Some (TooMany at 500) else None
 fault_behind kind before (begins_claim at) = if nat_lt 100 (sum_by claims_by before + 1) then Some (TooMany at 100) else None

@@ -5,3 +5,4 @@ pub mod Numbered
 pub mod Written
 pub mod Ordered
 pub mod Solved
+pub mod Survey
