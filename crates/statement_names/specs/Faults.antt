@@ -5,6 +5,7 @@ use Rattle.std.specs.Map.{lookup}
 use Rattle.std.specs.Option.{option_or}
 use Rattle.std.specs.Str.{bytes_eq}
 use Rattle.statement_syntax.specs.declared.tree.Statement.{Statement}
+use Rattle.adjoint_rules.specs.Problem.{moduli}
 use Rattle.statement_names.specs.declared.fault.NameFault.{NameFault}
 use Rattle.statement_names.specs.declared.fault.NameFault.TheVariants.{Unknown, Double, TooMany, NotSquare, BadNumber, Memory}
 use Rattle.statement_names.specs.declared.kinds.Kind.{Kind}
@@ -71,9 +72,6 @@ value_of (negsuc n) = 0
 
 abbrev pub is_between : ℕ → ℕ → ℕ → Bool
 is_between least most n = nat_le least n && nat_le n most
-
-abbrev pub moduli : List ℕ
-moduli = 2 ∷ 3 ∷ 5 ∷ 7 ∷ 101 ∷ 32003 ∷ 65537 ∷ []
 
 abbrev pub is_modulus : ℕ → Bool
 is_modulus n = list_any (nat_eq n) moduli
