@@ -100,7 +100,7 @@ stated_not_refused : (bytes text : List ℕ) (problem : Problem) → IsStated by
 stated_not_refused bytes text problem stated (no_tree fault at first is) = no_fault bytes stated.statements fault at stated.tree first
 stated_not_refused bytes text problem stated (no_problem statements fault tree found is) =
     let same = tree_once bytes stated.statements statements stated.tree tree in
-    let both : (let o : Option TypeFault = None in o) ≡ Some fault = sym stated.problem.no_fault ∙ ap fault_of same ∙ found in
+    let both : (let o : Option TypeFault = None in o) ≡ Some fault = sym stated.elaborated.no_fault ∙ ap fault_of same ∙ found in
     absurd cc
 
 refused_once : (bytes text text' : List ℕ) → IsRefusedStatement bytes text → IsRefusedStatement bytes text' → text ≡ text'
@@ -120,9 +120,9 @@ refused_once bytes text text' (no_problem statements fault tree found is) (no_pr
 
 stated_once : (bytes : List ℕ) (problem problem' : Problem) → IsStated bytes problem → IsStated bytes problem' → question_of problem ≡ question_of problem'
 stated_once bytes problem problem' one other =
-    same_question one.statements problem problem' one.problem (subst (λ (s : List Statement). IsProblemOf s problem') (tree_once bytes other.statements one.statements other.tree one.tree) other.problem)
+    same_question one.statements problem problem' one.elaborated (subst (λ (s : List Statement). IsProblemOf s problem') (tree_once bytes other.statements one.statements other.tree one.tree) other.elaborated)
 
-Read : Type 0
+abbrev Read : Type 0
 Read = Result (List Certificate) Fault
 
 -- over two problems of one statement
@@ -134,15 +134,15 @@ over_once problem problem' evidence ending ending' asked one other = by one othe
     reads = ap (λ (q : Question). certificates_of q.declared evidence) asked
 
     by : DecidesOver problem evidence ending → DecidesOver problem' evidence ending' → ending ≡ ending'
-    by (no_evidence code line limit read is) (no_evidence code' line' limit' read' is') =
-        let both : (let r : Read = Err (record { code = code; line = line; limit = limit }) in r) ≡ Err (record { code = code'; line = line'; limit = limit' }) = sym read ∙ reads ∙ read' in
-        let same : (let f : Fault = record { code = code; line = line; limit = limit } in f) ≡ record { code = code'; line = line'; limit = limit' } = cc in
+    by (no_evidence code at limit read is) (no_evidence code' at' limit' read' is') =
+        let both : (let r : Read = Err (record { code = code; line = at; limit = limit }) in r) ≡ Err (record { code = code'; line = at'; limit = limit' }) = sym read ∙ reads ∙ read' in
+        let same : (let f : Fault = record { code = code; line = at; limit = limit } in f) ≡ record { code = code'; line = at'; limit = limit' } = cc in
         is ∙ ap (λ (f : Fault). refused_evidence (evidence_fault f.code f.line f.limit)) same ∙ sym is'
-    by (no_evidence code line limit read is) (judged cs read' judges) =
-        let both : (let r : Read = Err (record { code = code; line = line; limit = limit }) in r) ≡ Ok cs = sym read ∙ reads ∙ read' in
+    by (no_evidence code at limit read is) (judged cs read' judges) =
+        let both : (let r : Read = Err (record { code = code; line = at; limit = limit }) in r) ≡ Ok cs = sym read ∙ reads ∙ read' in
         absurd cc
-    by (judged cs read judges) (no_evidence code line limit read' is) =
-        let both : (let r : Read = Ok cs in r) ≡ Err (record { code = code; line = line; limit = limit }) = sym read ∙ reads ∙ read' in
+    by (judged cs read judges) (no_evidence code at limit read' is) =
+        let both : (let r : Read = Ok cs in r) ≡ Err (record { code = code; line = at; limit = limit }) = sym read ∙ reads ∙ read' in
         absurd cc
     by (judged cs read judges) (judged cs' read' judges') =
         let both : (let r : Read = Ok cs in r) ≡ Ok cs' = sym read ∙ reads ∙ read' in
@@ -161,7 +161,7 @@ decided_once {statement} {evidence} {ending} {ending'} (over problem stated deci
     over_once problem problem' evidence ending ending' (stated_once statement problem problem' stated stated') decided decided'
 
 pub over_status : (problem : Problem) (evidence : List ℕ) (ending : Ending) → DecidesOver problem evidence ending → OverStatus ending.status
-over_status problem evidence ending (no_evidence code line limit read is) = over_refused (status_is is)
+over_status problem evidence ending (no_evidence code at limit read is) = over_refused (status_is is)
 over_status problem evidence ending (judged cs read judges) = judged_status (question_of problem) 1 cs ending.report ending.status judges
 
 of_over : {status : ℕ} → OverStatus status → DecisionStatus status

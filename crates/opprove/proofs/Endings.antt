@@ -1,5 +1,5 @@
 -- What follows of an ending that is allowed, once it is put.
-use Rattle.std.proofs.Common.{◌≡◌, ◌≢◌, ◌⊎◌, inl, inr, ⊎_elim, ℕ, List, Option, Some, None, refl, sym, ◌∙◌, ap, subst, arith, length, ◌<◌, ◌≤◌, Ok, String, Global}
+use Rattle.std.proofs.Common.{take, ◌≡◌, ◌≢◌, ◌⊎◌, inl, inr, ⊎_elim, ℕ, List, Option, Some, None, refl, sym, ◌∙◌, ap, subst, arith, length, ◌<◌, ◌≤◌, Ok, String, Global}
 use Rattle.std.specs.List.{AllByRecursion}
 use Rattle.std.specs.Io.KnownBytes.{Appends}
 use Rattle.flow_io.specs.Told.{Told, Absent, Holds, MayExceed}
@@ -171,7 +171,7 @@ module _ {words : List (String Global)} {told : List ℕ → Told} {rose : List 
       cases files (second_failed statement before cause end) = absurd (not_four (whole_of _ end).0)
       cases files (first_long long end) = absurd (not_four (whole_of _ end).0)
       cases files (second_long statement before long end) = absurd (not_four (whole_of _ end).0)
-      cases files (both statement certificate were decides) = (statement, (certificate, were, (decides, whole_of ending refl)))
+      cases files (both statement certificate were decides) = let whole = whole_of ending refl in (statement, (certificate, were, (decides, whole.0, whole.1)))
 
       by_words : (p : Option Named) → files_named words ≡ p
           → (files : Named) × (p ≡ Some files)
@@ -201,6 +201,9 @@ module _ {words : List (String Global)} {told : List ℕ → Told} {rose : List 
       by_words : (p : Option Named) → files_named words ≡ p → ⊥
       by_words None is = not_at usage (let P : Option Named → Type 0 = λ q. MayEndBy q told rose ending in subst P is may.by) (λ m e c. omega arith)
       by_words (Some files) is = cases files (at_files files is)
+
+  pub cut_short : status ≡ 5 → (end : Ending) × MayEnd words told rose end × ((n : ℕ) × Appends old new (take n end.report))
+  cut_short five = ⊎_elim (λ whole. absurd (not_cut 5 (inl refl) (sym whole.0 ∙ five))) (λ part. (ending, may, part.2)) put.how
 
   pub sink_failed : status ≡ 5 → sink_rose
   sink_failed five = ⊎_elim (λ whole. absurd (not_cut 5 (inl refl) (sym whole.0 ∙ five))) (λ part. part.1) put.how
@@ -254,10 +257,10 @@ module _ {words : List (String Global)} {told : List ℕ → Told} {rose : List 
       (done.0, done.1)
 
 -- status 3: the statement is refused, and the report says why
-pub refused_by : {statement evidence : List ℕ} {ending : Ending} {old new : Option (List ℕ)} → Decides statement evidence ending → ending.status ≡ 3 → Appends old new ending.report
+pub refused_by : {statement evidence : List ℕ} {ending : Ending} (old new : Option (List ℕ)) → Decides statement evidence ending → ending.status ≡ 3 → Appends old new ending.report
     → (text : List ℕ) × IsRefusedStatement statement text × Appends old new (refused_statement text).report
-refused_by {old} {new} (no_statement text refused is) three put = (text, refused, subst (λ (e : Ending). Appends old new e.report) is put)
-refused_by {evidence} {ending} (over problem stated decided) three put = absurd (not_three (over_status problem evidence ending decided))
+refused_by old new (no_statement text refused is) three put = (text, refused, subst (λ (e : Ending). Appends old new e.report) is put)
+refused_by {evidence} {ending} old new (over problem stated decided) three put = absurd (not_three (over_status problem evidence ending decided))
   where
     not_three : OverStatus ending.status → ⊥
     not_three (over_accepted is) = omega arith

@@ -1,15 +1,30 @@
 -- A word at which a sum of rows differs from a multiple of a claim has letters of the quiver alone.
-use Rattle.std.proofs.Common.{◌≡◌, ◌≢◌, ◌⊎◌, inl, inr, ℕ, zero, suc, ◌<◌, ℤ, pos, ◌+ℤ◌, ◌*ℤ◌, Bool, true, false, List, [], ◌∷◌, ◌++◌, refl, sym, ap, ap₂, subst, ◌∙◌, get_or, ltb}
+use Rattle.std.proofs.Common.{ltb-true, lt-ltb, ◌≡◌, ◌≢◌, ◌⊎◌, inl, inr, ℕ, zero, suc, ◌<◌, ℤ, pos, ◌+ℤ◌, ◌*ℤ◌, Bool, true, false, List, [], ◌∷◌, ◌++◌, refl, sym, ap, ap₂, subst, ◌∙◌, get_or, ltb}
 use Rattle.std.proofs.lemmas.Bool.{and_parts, and_from}
 use Rattle.std.proofs.lemmas.Bool.Decides.{Decides-int_eq}
 use Rattle.std.proofs.lemmas.List.Folds.{list_all-append}
 use Rattle.std.proofs.Math.IntN.{*ℤ-zero}
-use Rattle.std.specs.List.{AllByRecursion, list_all}
+use Rattle.std.specs.List.{All, AllByRecursion, list_all}
+use Rattle.std.proofs.lemmas.List.Elements.{recursion_from_All, All-from_recursion}
 use Rattle.std.specs.Ordering.{int_eq}
 use Rattle.definitions.specs.Poly.{word_eq, coefficient_of, poly_multiple, poly_between}
 use Rattle.definitions.specs.Quiver.{Quiver, letters, source, leads, is_path, IsTyped}
 use Rattle.definitions.specs.Combination.{Row, generator_at, row_poly, row_sum}
 use Rattle.definitions.specs.Soundness.{HasSignature}
+use Rattle.word_core.specs.Letters.{IsOver}
+use Rattle.quiver.specs.Declarations.{letter_count, quiver_of}
+use Rattle.quiver.proofs.Counts.{letters-quiver_of}
+use Rattle.cofactor_trace.specs.declared.CertRow.{CertRow}
+use Rattle.cofactor_trace.specs.declared.Certificate.{Certificate}
+use Rattle.cofactor_trace.specs.Rows.{rows_of}
+use Rattle.cofactor_checker.specs.declared.Refusal.{Refusal}
+use Rattle.cofactor_checker.specs.declared.Refusal.TheVariants as refusal
+use Rattle.cofactor_checker.specs.Acceptance.{Refuses}
+use Rattle.adjoint_rules.specs.declared.problem.Problem.{Problem}
+use Rattle.adjoint_rules.specs.Problem.{polynomials}
+use Rattle.adjoint_rules.proofs.Laws.{claims_have_signatures, generators_have_signatures}
+use Rattle.certificate_text.specs.Evidence.{IsRowOver, IsCheckable}
+use Rattle.opprove.specs.Refusals.{HasLetters}
 use Rattle.definitions.proofs.Coefficients.{coefficient_of-append, coefficient_of-multiple}
 use Rattle.definitions.proofs.Linear.{word_eq-true}
 use Rattle.definitions.proofs.Paths.{step}
@@ -101,3 +116,56 @@ module _ (q : Quiver) where
       go : (b : Bool) → is_over word ≡ b → b ≡ true
       go true is = refl
       go false is = absurd (differ (sym wanted ∙ multiple_stays d claim (typed_stays u v claim typed) word is ∙ sym (sum_stays generators rows all over word is) ∙ found))
+
+-- ---- the words that refusals name
+
+module _ (problem : Problem) (c : Certificate) (checkable : IsCheckable problem.parts.quiver c) where
+  over_from : (w : List ℕ) → AllByRecursion (λ a. a < letter_count problem.parts.quiver) w → is_over (quiver_of problem.parts.quiver) w ≡ true
+  over_from [] all = refl
+  over_from (a ∷ w) all =
+      let inside : a < letters (quiver_of problem.parts.quiver) = subst (λ n. a < n) (sym (letters-quiver_of problem.parts.quiver)) all.0 in
+      and_from (ltb a (letters (quiver_of problem.parts.quiver))) _ (lt-ltb a (letters (quiver_of problem.parts.quiver)) inside) (over_from w all.1)
+
+  over_to : (w : List ℕ) → is_over (quiver_of problem.parts.quiver) w ≡ true → AllByRecursion (λ a. a < letter_count problem.parts.quiver) w
+  over_to [] is = tt
+  over_to (a ∷ w) is =
+      let parts = and_parts (ltb a (letters (quiver_of problem.parts.quiver))) _ is in
+      (subst (λ n. a < n) (letters-quiver_of problem.parts.quiver) (ltb-true a (letters (quiver_of problem.parts.quiver)) parts.0), over_to w parts.1)
+
+  word_over : (w : List ℕ) → IsOver (letter_count problem.parts.quiver) w → is_over (quiver_of problem.parts.quiver) w ≡ true
+  word_over w over = over_from w (recursion_from_All (λ a. a < letter_count problem.parts.quiver) w over)
+
+  rows_over : (rows : List CertRow) → AllByRecursion (IsRowOver problem.parts.quiver) rows → AreOver (quiver_of problem.parts.quiver) (rows_of rows)
+  rows_over [] all = tt
+  rows_over (r ∷ rows) all = ((word_over r.left all.0.left, word_over r.right all.0.right), rows_over rows all.1)
+
+  difference : (word : List ℕ) (want got : ℤ) → Refuses (polynomials problem.parts.claims) (polynomials problem.generators) c (refusal.Differs word want got)
+      → (generator_at (polynomials problem.parts.claims) c.claim ≡ []) ⊎ HasSignature (quiver_of problem.parts.quiver) (generator_at (polynomials problem.parts.claims) c.claim) → IsOver (letter_count problem.parts.quiver) word
+  difference word want got differs claim = All-from_recursion (λ a. a < letter_count problem.parts.quiver) word (over_to word (by claim))
+    where
+      generators : AllByRecursion (HasSignature (quiver_of problem.parts.quiver)) (polynomials problem.generators)
+      generators = generators_have_signatures problem.parts problem.posed problem.generators problem.closed
+
+      rows : AreOver (quiver_of problem.parts.quiver) (rows_of c.rows)
+      rows = rows_over c.rows (recursion_from_All (IsRowOver problem.parts.quiver) c.rows checkable.letters)
+
+      at : (u v : ℕ) → IsTyped (quiver_of problem.parts.quiver) u v (generator_at (polynomials problem.parts.claims) c.claim) → is_over (quiver_of problem.parts.quiver) word ≡ true
+      at u v typed =
+          difference_is_over (quiver_of problem.parts.quiver) (polynomials problem.generators) (rows_of c.rows) c.denominator u v (generator_at (polynomials problem.parts.claims) c.claim) word want got
+          generators rows typed differs.difference.wanted_there differs.difference.found_there differs.difference.differ
+
+      by : (generator_at (polynomials problem.parts.claims) c.claim ≡ []) ⊎ HasSignature (quiver_of problem.parts.quiver) (generator_at (polynomials problem.parts.claims) c.claim)
+          → is_over (quiver_of problem.parts.quiver) word ≡ true
+      by (inl none) = at 0 0 (record { at = λ w there. absurd (there (ap (λ p. coefficient_of p w) none)) })
+      by (inr has) = at has.source has.target has.typed
+
+  -- each refusal names letters of the quiver alone
+  pub refused_letters : (r : Refusal) → Refuses (polynomials problem.parts.claims) (polynomials problem.generators) c r → HasLetters problem.parts.quiver r
+  refused_letters refusal.NoSuchClaim because = tt
+  refused_letters (refusal.NoSuchGenerator row) because = tt
+  refused_letters refusal.ZeroDenominator because = tt
+  refused_letters (refusal.Overflow row o) because = tt
+  refused_letters (refusal.Size row) because = tt
+  refused_letters (refusal.Differs word want got) because =
+      difference word want got because (has_signature (quiver_of problem.parts.quiver) (polynomials problem.parts.claims) c.claim (claims_have_signatures problem.parts problem.posed))
+  refused_letters (refusal.Memory failed) because = tt

@@ -1,7 +1,9 @@
+pub mod Joined
 pub mod Syntax
 pub mod Letters
 pub mod Problems
 pub mod Decisions
+pub mod Judging
 pub mod Endings
 pub mod Meaning
 pub mod Prefix

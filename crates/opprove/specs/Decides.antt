@@ -22,7 +22,7 @@ use Rattle.opprove.specs.Refusals.{accepted_text, cause_text, refused_text}
 pub record IsStated (bytes : List ℕ) (problem : Problem) : Type 0 where
   pub statements : List Statement
   pub tree : IsTreeOf bytes statements
-  pub problem : IsProblemOf statements problem
+  pub elaborated : IsProblemOf statements problem
 
 -- what the line of a fault of names and types says; want of memory is told by no line
 abbrev pub typing_text : TypeFault → Option (List ℕ)

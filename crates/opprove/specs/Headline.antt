@@ -1,9 +1,8 @@
 -- The main theorem: what it means that certificates are accepted.
-use Rattle.std.specs.Prelude.{ℕ, ℤ, ◌≡◌, List, Ok, map}
+use Rattle.std.specs.Prelude.{ℕ, ℤ, ◌≡◌, List, Ok}
 use Rattle.std.specs.List.{AllByRecursion}
 use Rattle.definitions.specs.Category.{Structure, InvolutionLaws}
 use Rattle.definitions.specs.Combination.{IsCombination}
-use Rattle.definitions.specs.Generators.{generators_of}
 use Rattle.definitions.specs.Quiver.{Quiver}
 use Rattle.definitions.specs.Representation.{Representation, StarRepresents, Cancels}
 use Rattle.definitions.specs.Soundness.{HasValueZero, MakesZero}
@@ -12,7 +11,7 @@ use Rattle.cofactor_trace.specs.declared.Certificate.{Certificate}
 use Rattle.cofactor_trace.specs.Rows.{rows_of}
 use Rattle.cofactor_checker.specs.Acceptance.{claim_of}
 use Rattle.adjoint_rules.specs.declared.problem.Problem.{Problem}
-use Rattle.adjoint_rules.specs.Problem.{polynomials}
+use Rattle.adjoint_rules.specs.Problem.{polynomials, generators_in}
 use Rattle.certificate_text.specs.Evidence.{certificates_of}
 use Rattle.opprove.specs.Decides.{IsStated, IsAccepted, question_of}
 
@@ -20,11 +19,6 @@ use Rattle.opprove.specs.Decides.{IsStated, IsAccepted, question_of}
 pub record MakesZeroByStar {Object Arrow : Type 0} (s : Structure Object Arrow) (q : Quiver) (assumptions : List (List (ℤ × List ℕ))) (d : ℤ) (claim : List (ℤ × List ℕ)) : Type 0 where
   pub zero : (adjoint : Arrow → Arrow) → InvolutionLaws s adjoint
       → (f : Representation Object Arrow) → StarRepresents s adjoint q f → Cancels s d → AllByRecursion (HasValueZero s q f) assumptions → HasValueZero s q f claim
-
--- the generators of the statement, by their definition
-abbrev pub stated_generators : Problem → List (List (ℤ × List ℕ))
-stated_generators problem =
-    generators_of (quiver_of problem.parts.quiver) problem.parts.starred (map (λ v. v.0) problem.parts.marked) (polynomials problem.parts.assumptions)
 
 -- the claim that the certificate names
 abbrev pub stated_claim : Problem → Certificate → List (ℤ × List ℕ)
@@ -35,7 +29,7 @@ stated_claim problem c = claim_of (polynomials problem.parts.claims) c
 pub record Means {Object Arrow : Type 0} (s : Structure Object Arrow) (problem : Problem) (c : Certificate) : Type 0 where
   pub accepted : IsAccepted (question_of problem) c
   pub sum : IsCombination (polynomials problem.generators) (rows_of c.rows) c.denominator (stated_claim problem c)
-  pub zero : MakesZero s (quiver_of problem.parts.quiver) (stated_generators problem) c.denominator (stated_claim problem c)
+  pub zero : MakesZero s (quiver_of problem.parts.quiver) (generators_in problem.parts) c.denominator (stated_claim problem c)
 
 -- In a star representation it is enough that the assumptions of the statement have the value zero.
 abbrev pub MeansByStar : {Object Arrow : Type 0} → Structure Object Arrow → Problem → Certificate → Type 0

@@ -26,10 +26,10 @@ pub fn judge(
     for (place, certificate) in certificates.iter().enumerate() {
         let block = place + 1;
         match check(alloc, problem, certificate) {
-            Ok(accepted) => push_accepted(alloc, &mut report, block, &accepted)?,
+            Ok(accepted) => push_accepted(&mut report, block, &accepted)?,
             Err(refusal) => {
                 let cause = cause_text(alloc, &problem.parts.quiver, &refusal)?;
-                push_refused(alloc, &mut report, block, &cause)?;
+                push_refused(&mut report, block, &cause)?;
                 return Ok(Ending::refused_block(report));
             }
         }
@@ -38,7 +38,6 @@ pub fn judge(
 }
 
 fn push_accepted(
-    alloc: Global,
     report: &mut Vec<u8>,
     block: usize,
     accepted: &Accepted,
@@ -48,26 +47,28 @@ fn push_accepted(
     let mut number = Buffer::new();
     let mut claim = Buffer::new();
     let mut denominator = Buffer::new();
-    let text = format!(in alloc;
-        "# block {} accepted claim {} denominator {}\n",
-        number.format(block),
-        claim.format(accepted.claim),
-        denominator.format(accepted.denominator)
-    )?;
+    push_field(report, "# block ", number.format(block))?;
+    push_field(report, " accepted claim ", claim.format(accepted.claim))?;
+    let digits = denominator.format(accepted.denominator);
+    push_field(report, " denominator ", digits)?;
+    report.push(b'\n')?;
+    Ok(())
+}
+
+// A word of the report and what stands behind it.
+fn push_field(report: &mut Vec<u8>, word: &str, text: &str) -> Result<(), AllocError>
+    ensures { OnOk result (report.new.items ≡ report.old.items ++ (word.now ++ text.now)) }
+{
+    report.extend_from_slice(word.as_bytes())?;
     report.extend_from_slice(text.as_bytes())
 }
 
-fn push_refused(
-    alloc: Global,
-    report: &mut Vec<u8>,
-    block: usize,
-    cause: &[u8],
-) -> Result<(), AllocError>
+fn push_refused(report: &mut Vec<u8>, block: usize, cause: &[u8]) -> Result<(), AllocError>
     ensures { OnOk result (report.new.items ≡ report.old.items ++ line (refused_text block cause.now)) }
 {
     let mut number = Buffer::new();
-    let text = format!(in alloc; "# block {} refused ", number.format(block))?;
-    report.extend_from_slice(text.as_bytes())?;
+    push_field(report, "# block ", number.format(block))?;
+    report.extend_from_slice(b" refused ")?;
     report.extend_from_slice(cause)?;
     report.push(b'\n')?;
     Ok(())
