@@ -1,17 +1,17 @@
 //! Sums of multiples of lists that are read and not given away: a word is copied only into the result.
-ghost use Rattle.std.specs.Prelude.{◌≡◌, ◌≢◌, ◌<◌, ◌+◌, [], ◌∷◌, ◌++◌, pos, length, MatchResult, MatchOption, IfOk, OnOk, IfSome, Ok, Err};
+ghost use Rattle.std.specs.Prelude.{◌≡◌, ◌≢◌, ◌<◌, ◌+◌, [], ◌∷◌, pos, length, MatchResult, MatchOption, IfOk, IfSome, Ok, Err};
 ghost use Rattle.std.specs.List.{All};
 ghost use Rattle.coef_int.specs.Range.{IsCoefficient};
 ghost use Rattle.definitions.specs.Poly.{poly_multiple};
 ghost use Rattle.nc_polynomial.specs.Shape.{IsShaped};
-ghost use Rattle.nc_polynomial.specs.Terms.{keep, scaled, products, aligned, added, sums};
+ghost use Rattle.nc_polynomial.specs.Terms.{scaled, products, aligned, added, sums};
 ghost use Rattle.nc_polynomial.specs.Faults.{checked, Explains};
 ghost use Rattle.nc_polynomial.specs.Sides.{side_of};
 
 use crate::PolyFault;
 use crate::push::push_copy;
 use lists::Listing;
-use std::alloc::{AllocError, Global};
+use std::alloc::Global;
 use std::cmp::Ordering;
 use word_core::Word;
 

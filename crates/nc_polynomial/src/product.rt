@@ -1,8 +1,7 @@
-ghost use Rattle.std.specs.Prelude.{◌≡◌, ◌++◌, [], pos, IfOk, MatchResult, Ok, Err};
-ghost use Rattle.std.specs.List.{All};
+ghost use Rattle.std.specs.Prelude.{◌≡◌, IfOk, MatchResult, Ok};
 ghost use Rattle.coef_int.specs.Range.{IsCoefficient};
 ghost use Rattle.definitions.specs.Poly.{SamePolynomial, poly_between, poly_product};
-ghost use Rattle.nc_polynomial.specs.Faults.{sized, Explains};
+ghost use Rattle.nc_polynomial.specs.Faults.{Explains};
 ghost use Rattle.nc_polynomial.specs.Product.{moved_result, product_step, product_result};
 
 use crate::size::check_moved;

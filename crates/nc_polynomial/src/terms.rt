@@ -1,9 +1,8 @@
 //! Lists of terms of any size, most of which are given away, so that no word is copied.
-ghost use Rattle.std.specs.Prelude.{◌≡◌, ◌≤◌, ◌+◌, ◌<◌, ◌++◌, [], ◌∷◌, pos, length, MatchResult, MatchOption, IfSome, IfOk, OnOk, Ok};
+ghost use Rattle.std.specs.Prelude.{◌≡◌, ◌+◌, ◌<◌, [], ◌∷◌, length, MatchResult, MatchOption, IfSome, IfOk, Ok};
 ghost use Rattle.std.specs.List.{All};
 ghost use Rattle.coef_int.specs.Range.{IsCoefficient};
-ghost use Rattle.coef_int.specs.Operations.{product_of, sum_of};
-ghost use Rattle.nc_polynomial.specs.Terms.{keep, scaled, products, multiplied, multiplications, shifted, negated, aligned, added, sums};
+ghost use Rattle.nc_polynomial.specs.Terms.{scaled, products, multiplied, multiplications, shifted, negated, aligned, added, sums};
 ghost use Rattle.nc_polynomial.specs.Faults.{checked, Explains};
 ghost use Rattle.nc_polynomial.specs.Sides.{side_of};
 
