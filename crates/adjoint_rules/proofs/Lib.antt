@@ -4,3 +4,4 @@ pub mod Ranges
 pub mod Counted
 pub mod Laws
 mod Examples
+mod LoopStatement
