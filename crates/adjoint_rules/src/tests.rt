@@ -79,7 +79,10 @@ fn is_difference(
     first: &[u16],
     second: &[u16],
 ) -> Result<bool, Fail> {
-    let want = Poly::from_terms(alloc, &[(1, word(alloc, first)?), (-1, word(alloc, second)?)])?;
+    let want = Poly::from_terms(
+        alloc,
+        &[(1, word(alloc, first)?), (-1, word(alloc, second)?)],
+    )?;
     match problem.generators.as_slice().get(place) {
         Some(generator) => Ok(generator.same(&want)),
         None => Ok(false),
@@ -87,7 +90,9 @@ fn is_difference(
 }
 
 #[test]
-fn a_starred_statement_has_adjoints_and_relations_of_identities(rt: HostRuntime) -> Result<(), Fail> {
+fn a_starred_statement_has_adjoints_and_relations_of_identities(
+    rt: HostRuntime,
+) -> Result<(), Fail> {
     let alloc = rt.alloc();
     let problem = close_problem(alloc, parts(alloc)?)?;
     let generators: [(&[u16], &[u16]); 7] = [
@@ -101,7 +106,10 @@ fn a_starred_statement_has_adjoints_and_relations_of_identities(rt: HostRuntime)
     ];
     assert_eq!(rt; problem.generators.len(), generators.len());
     for (place, (first, second)) in generators.iter().enumerate() {
-        assert!(rt; is_difference(alloc, &problem, place, first, second)?, "{place}");
+        assert!(rt;
+            is_difference(alloc, &problem, place, first, second)?,
+            "{place}"
+        );
     }
     Ok(())
 }
@@ -113,7 +121,10 @@ fn an_adjoint_reverses_words(rt: HostRuntime) -> Result<(), Fail> {
     let adjoint = adjoint_word(alloc, &quiver, &word(alloc, &[1, 2, 2])?)?;
     assert!(rt; adjoint == word(alloc, &[1, 1, 2])?);
     let square = adjoint_poly(alloc, &quiver, &idempotent(alloc)?)?;
-    let want = Poly::from_terms(alloc, &[(1, word(alloc, &[2, 2])?), (-1, word(alloc, &[2])?)])?;
+    let want = Poly::from_terms(
+        alloc,
+        &[(1, word(alloc, &[2, 2])?), (-1, word(alloc, &[2])?)],
+    )?;
     assert!(rt; square.same(&want));
     Ok(())
 }
