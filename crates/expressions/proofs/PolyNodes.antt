@@ -37,8 +37,7 @@ polys_of ps = map (λ p. p.terms) ps
 
 -- ---- a sum
 module _ (ds : List Declaration) (s : Sum) (terms : List Term) (whole : terms ≡ (out-Sum s).terms) (i : ℕ) (made : List (Bool × code.Poly))
-  (before : (each (summand ds) (drop i terms) >>= λ rest. Ok (summands_of made ++ rest)) ≡ each (summand ds) terms) where
-
+    (before : (each (summand ds) (drop i terms) >>= λ rest. Ok (summands_of made ++ rest)) ≡ each (summand ds) terms) where
   sum_is : sum_poly ds s ≡ (each (summand ds) terms >>= total)
   sum_is = poly-sum ds s ∙ ap (λ ts. each (summand ds) ts >>= total) (sym whole)
 
@@ -61,8 +60,7 @@ module _ (ds : List Declaration) (s : Sum) (terms : List Term) (whole : terms �
 
 -- ---- a product
 module _ (ds : List Declaration) (t : Term) (factors : List Factor) (whole : factors ≡ (out-Term t).factors) (i : ℕ) (made : List code.Poly)
-  (before : (each (factor_poly ds) (drop i factors) >>= λ rest. Ok (polys_of made ++ rest)) ≡ each (factor_poly ds) factors) where
-
+    (before : (each (factor_poly ds) (drop i factors) >>= λ rest. Ok (polys_of made ++ rest)) ≡ each (factor_poly ds) factors) where
   product_is : term_poly ds t ≡ ((each (factor_poly ds) factors >>= product_poly) >>= scaled_by (out-Term t).literal)
   product_is = poly-term ds t ∙ ap (λ fs. (each (factor_poly ds) fs >>= product_poly) >>= scaled_by (out-Term t).literal) (sym whole)
 
