@@ -10,6 +10,7 @@ use crate::token::{Token, TokenKind};
 use crate::tree::{Factor, Mark, Name, Number, Primary, Sum, Term};
 use lists::{Duplicate, Listing, Text};
 use std::alloc::{AllocError, AllocFailed, Global};
+use thiserror::Error;
 
 /// What stands before the term that is read: the place of the sum's first token, if there is one, and the sign.
 #[derive(Drop)]
@@ -57,15 +58,21 @@ pub struct Reading {
     pub focus: Focus,
 }
 
-#[derive(Clone, Copy, Debug, PartialEq, Eq)]
+/// Why a token does not fit.
+#[derive(Clone, Copy, Debug, PartialEq, Eq, Error)]
 pub enum Misfit {
+    #[error("another token is expected")]
     Expected,
+    #[error("the brackets are nested too deep")]
     TooDeep,
 }
 
-#[derive(Debug, Drop)]
+/// Why reading stops at a token.
+#[derive(Debug, Drop, Error)]
 pub enum ReadError {
+    #[error(transparent)]
     Misfit(Misfit),
+    #[error("memory is short")]
     Memory,
 }
 
