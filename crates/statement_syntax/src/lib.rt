@@ -4,10 +4,12 @@
 mod expected;
 mod expression;
 mod fault;
+mod kinds;
 mod line;
 mod named;
 mod numbered;
 mod opening;
+mod part;
 mod place;
 mod read;
 mod scan;

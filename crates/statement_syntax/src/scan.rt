@@ -234,13 +234,11 @@ pub fn tokens(alloc: Global, text: &[char]) -> Result<Vec<Token>, ScanError>
     let mut column = 1;
     let mut past = 0;
     while place < text.len() {
+        let at = Spot { line, column };
         let item = match item_at(alloc, text[place], &text[place + 1..]) {
             Ok(item) => item,
             Err(ItemError::Memory) => return Err(ScanError::Memory),
-            Err(ItemError::Fault(fault)) => {
-                let at = Spot { line, column };
-                return Err(ScanError::Fault(Placed { fault, at }));
-            }
+            Err(ItemError::Fault(fault)) => return Err(ScanError::Fault(Placed { fault, at })),
         };
         match item {
             Item::NewLine => {
@@ -255,10 +253,7 @@ pub fn tokens(alloc: Global, text: &[char]) -> Result<Vec<Token>, ScanError>
                 column += 1 + more as u32;
             }
             Item::Token(kind, more) => {
-                out.push(Token {
-                    at: Spot { line, column },
-                    kind,
-                })?;
+                out.push(Token { at, kind })?;
                 place += 1 + more;
                 column += 1 + more as u32;
                 past = column;
