@@ -1,15 +1,17 @@
 //! What has been read of an expression.
 
-ghost use Rattle.std.specs.Prelude.{◌≡◌, IfOk, IfErr, Some, None, Ok, Err};
-ghost use Rattle.statement_syntax.specs.Steps.{name_with, part_with, Gives, ended_part, sum_with, quote_step, sign_step, close_step, open_step, outside_step, outside, token_step, whole_sum};
+ghost use Rattle.std.specs.Prelude.{◌≡◌, IfOk};
+ghost use Rattle.statement_syntax.specs.Steps.{name_with, Gives, close_step, open_step, literal_step, outside_step, outside, token_step, whole_sum};
 ghost use Rattle.statement_syntax.specs.declared.expression.ReadError.TheVariants.{Memory};
 
+use crate::part::{ended_part, part_with, quote_step, sign_step, sum_with};
 use crate::place::Spot;
 use crate::stack::Stack;
 use crate::token::{Token, TokenKind};
-use crate::tree::{Factor, Mark, Name, Number, Primary, Sum, Term};
+use crate::tree::{Factor, Name, Number, Primary, Sum, Term};
 use lists::{Duplicate, Listing, Text};
 use std::alloc::{AllocError, AllocFailed, Global};
+use thiserror::Error;
 
 /// What stands before the term that is read: the place of the sum's first token, if there is one, and the sign.
 #[derive(Drop)]
@@ -57,15 +59,21 @@ pub struct Reading {
     pub focus: Focus,
 }
 
-#[derive(Clone, Copy, Debug, PartialEq, Eq)]
+/// Why a token does not fit.
+#[derive(Clone, Copy, Debug, PartialEq, Eq, Error)]
 pub enum Misfit {
+    #[error("another token is expected")]
     Expected,
+    #[error("the brackets are nested too deep")]
     TooDeep,
 }
 
-#[derive(Debug, Drop)]
+/// Why reading stops at a token.
+#[derive(Debug, Drop, Error)]
 pub enum ReadError {
+    #[error(transparent)]
     Misfit(Misfit),
+    #[error("memory is short")]
     Memory,
 }
 
@@ -82,141 +90,6 @@ impl<T: Drop> From<AllocFailed<T>> for ReadError {
 
     fn from(_failed: AllocFailed<T>) -> ReadError {
         ReadError::Memory
-    }
-}
-
-fn part_with(alloc: Global, part: Part, primary: Primary, at: Spot) -> Result<Part, AllocError>
-    ensures { IfOk result (λ p. p ≡ part_with part primary at) }
-{
-    let last = Factor {
-        at,
-        primary,
-        marks: Listing::new(alloc),
-    };
-    match part {
-        Part::Nothing => Ok(Part::Product {
-            at,
-            literal: None,
-            factors: Listing::new(alloc),
-            last,
-        }),
-        Part::Scaled(number) => Ok(Part::Product {
-            at: number.at,
-            literal: Some(number),
-            factors: Listing::new(alloc),
-            last,
-        }),
-        Part::Product {
-            at: first,
-            literal,
-            mut factors,
-            last: before,
-        } => {
-            factors.push(before)?;
-            Ok(Part::Product {
-                at: first,
-                literal,
-                factors,
-                last,
-            })
-        }
-    }
-}
-
-// The term, where it may end here. A literal alone is one only where its value is 0.
-fn ended_part(alloc: Global, part: Part, negative: bool) -> Result<Term, ReadError>
-    ensures { Gives result (ended_part part negative) }
-{
-    match part {
-        Part::Nothing => Err(ReadError::Misfit(Misfit::Expected)),
-        Part::Scaled(number) => {
-            if number.value != 0 {
-                return Err(ReadError::Misfit(Misfit::Expected));
-            }
-            Ok(Term {
-                at: number.at,
-                negative,
-                literal: Some(number),
-                factors: Listing::new(alloc),
-            })
-        }
-        Part::Product {
-            at,
-            literal,
-            mut factors,
-            last,
-        } => {
-            factors.push(last)?;
-            Ok(Term {
-                at,
-                negative,
-                literal,
-                factors,
-            })
-        }
-    }
-}
-
-fn sum_with(head: Head, term: Term) -> Result<Sum, AllocError>
-    ensures { IfOk result (λ s. s ≡ sum_with head term) }
-{
-    let at = match head.at {
-        Some(at) => at,
-        None => term.at,
-    };
-    let mut terms = head.terms;
-    terms.push(term)?;
-    Ok(Sum { at, terms })
-}
-
-fn quote_step(part: Part) -> Result<Part, ReadError>
-    ensures { Gives result (quote_step part) }
-{
-    match part {
-        Part::Product {
-            at,
-            literal,
-            factors,
-            mut last,
-        } => {
-            last.marks.push(Mark::Adjoint)?;
-            Ok(Part::Product {
-                at,
-                literal,
-                factors,
-                last,
-            })
-        }
-        _ => Err(ReadError::Misfit(Misfit::Expected)),
-    }
-}
-
-// A sign between terms, or a leading one.
-fn sign_step(
-    alloc: Global,
-    head: Head,
-    part: Part,
-    at: Spot,
-    negative: bool,
-) -> Result<Head, ReadError>
-    ensures { Gives result (sign_step head part at negative) }
-{
-    match (part, head.at) {
-        (Part::Nothing, None) => Ok(Head {
-            at: Some(at),
-            terms: head.terms,
-            negative,
-        }),
-        (Part::Nothing, Some(_)) => Err(ReadError::Misfit(Misfit::Expected)),
-        (part, _) => {
-            let term = ended_part(alloc, part, head.negative)?;
-            let sum = sum_with(head, term)?;
-            Ok(Head {
-                at: Some(sum.at),
-                terms: sum.terms,
-                negative,
-            })
-        }
     }
 }
 
@@ -278,6 +151,20 @@ fn name_of(text: &Text, at: Spot) -> Result<Name, AllocError>
     })
 }
 
+fn literal_step(
+    levels: Stack<Level>,
+    head: Head,
+    part: Part,
+    number: Number,
+) -> Result<Reading, ReadError>
+    ensures { Gives result (literal_step levels head part number) }
+{
+    match part {
+        Part::Nothing => Ok(outside(levels, head, Part::Scaled(number))),
+        _ => Err(ReadError::Misfit(Misfit::Expected)),
+    }
+}
+
 fn outside_step(
     alloc: Global,
     levels: Stack<Level>,
@@ -294,13 +181,10 @@ fn outside_step(
             let part = part_with(alloc, part, Primary::Letter(name), at)?;
             Ok(outside(levels, head, part))
         }
-        TokenKind::Literal(value) => match part {
-            Part::Nothing => {
-                let value = *value;
-                Ok(outside(levels, head, Part::Scaled(Number { value, at })))
-            }
-            _ => Err(ReadError::Misfit(Misfit::Expected)),
-        },
+        TokenKind::Literal(value) => {
+            let value = *value;
+            literal_step(levels, head, part, Number { value, at })
+        }
         TokenKind::Plus => {
             let head = sign_step(alloc, head, part, at, false)?;
             Ok(outside(levels, head, Part::Nothing))
@@ -317,10 +201,7 @@ fn outside_step(
             part,
             focus: Focus::Square(at),
         }),
-        TokenKind::Quote => {
-            let part = quote_step(part)?;
-            Ok(outside(levels, head, part))
-        }
+        TokenKind::Quote => Ok(outside(levels, head, quote_step(part)?)),
         _ => Err(ReadError::Misfit(Misfit::Expected)),
     }
 }

@@ -5,6 +5,7 @@ use crate::expression::Misfit;
 use crate::place::Spot;
 use crate::scan::ScanFault;
 use std::alloc::AllocError;
+use thiserror::Error;
 
 /// What can be wrong with a text. All that is not UTF-8 comes before all bad tokens and literals, and those before
 /// all tokens that do not fit the grammar.
@@ -23,11 +24,14 @@ pub enum Fault {
 }
 
 /// Why a text has no tree: its first fault with its place, or want of memory.
-#[derive(Debug, Drop)]
+#[derive(Debug, Drop, Error)]
 pub enum SyntaxFault {
     /// Lines and columns count from 1, and columns count characters. Where the bytes are not UTF-8 the line is 0, and
     /// the column is the number of valid bytes.
+    #[error("S{code} line {line} column {column}")]
     Fault { code: u32, line: u32, column: u32 },
+    /// Memory is short.
+    #[error(transparent)]
     Memory(AllocError),
 }
 

@@ -1,12 +1,19 @@
 //! The statement language: its text, read into a tree and written back.
 #![tactic(auto)]
 
+mod expected;
 mod expression;
 mod fault;
+mod kinds;
 mod line;
+mod named;
+mod numbered;
+mod opening;
+mod part;
 mod place;
 mod read;
 mod scan;
+mod sides;
 mod stack;
 mod token;
 mod tree;
@@ -19,5 +26,7 @@ pub use token::{Token, TokenKind};
 pub use tree::{Factor, Mark, Name, Number, Primary, Statement, StatementKind, Sum, Term, Tree};
 pub use write::write_tree;
 
+#[cfg(test)]
+mod test_rows;
 #[cfg(test)]
 mod tests;

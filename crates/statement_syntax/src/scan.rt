@@ -13,6 +13,7 @@ use crate::place::Spot;
 use crate::token::{Token, TokenKind};
 use lists::Text;
 use std::alloc::{AllocError, AllocFailed, Global};
+use thiserror::Error;
 
 /// What begins at a character, and how many more characters belong to it.
 #[derive(Drop)]
@@ -22,27 +23,39 @@ pub enum Item {
     Token(TokenKind, usize),
 }
 
-#[derive(Clone, Copy, Debug, PartialEq, Eq)]
+/// Why characters are no token.
+#[derive(Clone, Copy, Debug, PartialEq, Eq, Error)]
 pub enum ScanFault {
+    /// A character begins no token, or a name is too long.
+    #[error("the token is bad")]
     BadToken,
+    #[error("the literal is too large")]
     LiteralTooLarge,
 }
 
-#[derive(Clone, Copy, Debug, PartialEq, Eq)]
+/// A fault with the place of its first character.
+#[derive(Clone, Copy, Debug, PartialEq, Eq, Error)]
+#[error("{fault}")]
 pub struct Placed {
     pub fault: ScanFault,
     pub at: Spot,
 }
 
-#[derive(Debug, Drop)]
+/// Why there is no item at a character.
+#[derive(Debug, Drop, Error)]
 pub enum ItemError {
+    #[error(transparent)]
     Fault(ScanFault),
+    #[error("memory is short")]
     Memory,
 }
 
-#[derive(Debug, Drop)]
+/// Why a text has no tokens.
+#[derive(Debug, Drop, Error)]
 pub enum ScanError {
+    #[error(transparent)]
     Fault(Placed),
+    #[error("memory is short")]
     Memory,
 }
 
@@ -221,13 +234,11 @@ pub fn tokens(alloc: Global, text: &[char]) -> Result<Vec<Token>, ScanError>
     let mut column = 1;
     let mut past = 0;
     while place < text.len() {
+        let at = Spot { line, column };
         let item = match item_at(alloc, text[place], &text[place + 1..]) {
             Ok(item) => item,
             Err(ItemError::Memory) => return Err(ScanError::Memory),
-            Err(ItemError::Fault(fault)) => {
-                let at = Spot { line, column };
-                return Err(ScanError::Fault(Placed { fault, at }));
-            }
+            Err(ItemError::Fault(fault)) => return Err(ScanError::Fault(Placed { fault, at })),
         };
         match item {
             Item::NewLine => {
@@ -242,10 +253,7 @@ pub fn tokens(alloc: Global, text: &[char]) -> Result<Vec<Token>, ScanError>
                 column += 1 + more as u32;
             }
             Item::Token(kind, more) => {
-                out.push(Token {
-                    at: Spot { line, column },
-                    kind,
-                })?;
+                out.push(Token { at, kind })?;
                 place += 1 + more;
                 column += 1 + more as u32;
                 past = column;

@@ -1,7 +1,7 @@
 use Rattle.std.proofs.Common.{◌≡◌, ◌++◌, ◌∷◌, [], ◌+◌, ◌-◌, suc, arith, rules, ap, ◌∙◌, append_assoc}
 use Rattle.statement_syntax.specs.declared.token.TokenKind.TheVariants as kind
 use Rattle.statement_syntax.specs.Written.{quotes}
-use Rattle.statement_syntax.proofs.write.put_quotes.Goals as goal
+use Rattle.statement_syntax.proofs.kinds.put_quotes.Goals as goal
 
 pub loop-preserved : goal.loop-preserved
 loop-preserved c =

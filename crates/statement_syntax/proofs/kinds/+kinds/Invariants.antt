@@ -2,7 +2,7 @@ use Rattle.std.proofs.Common.{◌≡◌, ◌++◌, true, drop, take}
 use Rattle.std.specs.List.{flat_map}
 use Rattle.statement_syntax.specs.Written.{factor_kinds}
 use Rattle.statement_syntax.proofs.TreeKinds.{terms_of}
-use Rattle.statement_syntax.proofs.write.+kinds.Given as goal
+use Rattle.statement_syntax.proofs.kinds.+kinds.Given as goal
 
 abbrev pub invariant-put_sum-loop-term : goal.invariant-put_sum-loop-term
 invariant-put_sum-loop-term l = l.out ++ terms_of l.leading (drop l.term-index l.term-items) ≡ l.initial.out ++ terms_of true l.term-items

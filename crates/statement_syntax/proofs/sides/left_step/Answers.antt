@@ -2,7 +2,7 @@ use Rattle.std.proofs.Common.{ap, ◌∙◌, None, Ok}
 use Rattle.statement_syntax.specs.declared.line.Line.TheVariants as line
 use Rattle.statement_syntax.specs.Steps.{◌>>=◌}
 use Rattle.statement_syntax.proofs.Choices.{not_equals}
-use Rattle.statement_syntax.proofs.line.left_step.Goals as goal
+use Rattle.statement_syntax.proofs.sides.left_step.Goals as goal
 
 pub returns-in_ok-token_step-in_default : goal.returns-in_ok-token_step-in_default
 returns-in_ok-token_step-in_default c =

@@ -1,7 +1,7 @@
 use Rattle.std.proofs.Common.{arith}
 use Rattle.std.proofs.lemmas.Grind.{common_steps}
 use Rattle.statement_syntax.proofs.TreeKinds.{sum-flat, term-flat}
-use Rattle.statement_syntax.proofs.write.+kinds.Goals as goal
+use Rattle.statement_syntax.proofs.kinds.+kinds.Goals as goal
 
 pub put_sum-returns : goal.put_sum-returns
 put_sum-returns t c = grind (arith, common_steps, sum-flat)

@@ -1,0 +1,49 @@
+//! A token where one of its kind is expected.
+
+ghost use Rattle.std.specs.Prelude.{◌≡◌};
+ghost use Rattle.statement_syntax.specs.Steps.{Gives};
+ghost use Rattle.statement_syntax.specs.Lines.{name_in, number_in, is_word};
+
+use crate::expression::{Misfit, ReadError};
+use crate::token::{Token, TokenKind};
+use crate::tree::{Name, Number};
+use lists::Duplicate;
+
+/// The name.
+pub fn name_in(token: &Token) -> Result<Name, ReadError>
+    ensures { Gives result (name_in token.now.kind token.now.at) }
+{
+    match &token.kind {
+        TokenKind::Name(text) => Ok(Name {
+            text: text.duplicate()?,
+            at: token.at,
+        }),
+        _ => Err(ReadError::Misfit(Misfit::Expected)),
+    }
+}
+
+/// The literal.
+pub fn number_in(token: &Token) -> Result<Number, ReadError>
+    ensures { Gives result (number_in token.now.kind token.now.at) }
+{
+    match &token.kind {
+        TokenKind::Literal(value) => {
+            let value = *value;
+            Ok(Number {
+                value,
+                at: token.at,
+            })
+        }
+        _ => Err(ReadError::Misfit(Misfit::Expected)),
+    }
+}
+
+/// Whether it is this word.
+pub fn is_word(token: &Token, word: &str) -> bool
+    ensures { result ≡ is_word token.now.kind word.now }
+{
+    match &token.kind {
+        TokenKind::Name(text) => text.as_str() == word,
+        _ => false,
+    }
+}

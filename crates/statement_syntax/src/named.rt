@@ -1,0 +1,158 @@
+//! Statements that only names make: `object`, `solve`, `map`, `pinv`, `inverse`, `inner`, `projection`.
+
+ghost use Rattle.std.specs.Prelude.{◌≡◌};
+ghost use Rattle.statement_syntax.specs.Steps.{Gives};
+ghost use Rattle.statement_syntax.specs.Lines.{list_step, list_end, map_names_step, map_step, map_end, pair_step, projection_step};
+ghost use Rattle.statement_syntax.specs.Tree.{pair_kind};
+
+use crate::expected::{is_word, name_in};
+use crate::expression::{Misfit, ReadError};
+use crate::line::{Line, ListWord, MapRest, PairWord};
+use crate::place::Spot;
+use crate::token::{Token, TokenKind};
+use crate::tree::{Name, Statement, StatementKind};
+use lists::Listing;
+
+/// One more name of `object` or `solve`.
+pub fn list_step(
+    word: ListWord,
+    at: Spot,
+    names: Listing<Name>,
+    token: &Token,
+) -> Result<Line, ReadError>
+    ensures { Gives result (list_step word at names token.now.kind token.now.at) }
+{
+    let mut names = names;
+    names.push(name_in(token)?)?;
+    Ok(Line::List { word, at, names })
+}
+
+/// The statement, where there is a name.
+pub fn list_end(word: ListWord, names: Listing<Name>) -> Result<StatementKind, ReadError>
+    ensures { Gives result (list_end word names) }
+{
+    if names.len() == 0 {
+        return Err(ReadError::Misfit(Misfit::Expected));
+    }
+    match word {
+        ListWord::Object => Ok(StatementKind::Objects(names)),
+        ListWord::Solve => Ok(StatementKind::Solve(names)),
+    }
+}
+
+fn map_names_step(at: Spot, names: Listing<Name>, token: &Token) -> Result<Line, ReadError>
+    ensures { Gives result (map_names_step at names token.now.kind token.now.at) }
+{
+    match &token.kind {
+        TokenKind::Colon => {
+            if names.len() == 0 {
+                return Err(ReadError::Misfit(Misfit::Expected));
+            }
+            let rest = MapRest::Colon;
+            Ok(Line::Map { at, names, rest })
+        }
+        _ => {
+            let mut names = names;
+            names.push(name_in(token)?)?;
+            let rest = MapRest::Names;
+            Ok(Line::Map { at, names, rest })
+        }
+    }
+}
+
+/// One more token of `map`.
+pub fn map_step(
+    at: Spot,
+    names: Listing<Name>,
+    rest: MapRest,
+    token: &Token,
+) -> Result<Line, ReadError>
+    ensures { Gives result (map_step at names rest token.now.kind token.now.at) }
+{
+    match rest {
+        MapRest::Names => map_names_step(at, names, token),
+        MapRest::Colon => {
+            let rest = MapRest::Source(name_in(token)?);
+            Ok(Line::Map { at, names, rest })
+        }
+        MapRest::Source(source) => match &token.kind {
+            TokenKind::Arrow => {
+                let rest = MapRest::Arrow(source);
+                Ok(Line::Map { at, names, rest })
+            }
+            _ => Err(ReadError::Misfit(Misfit::Expected)),
+        },
+        MapRest::Arrow(source) => {
+            let rest = MapRest::Target(source, name_in(token)?);
+            Ok(Line::Map { at, names, rest })
+        }
+        MapRest::Target(source, target) => {
+            if !is_word(token, "self") {
+                return Err(ReadError::Misfit(Misfit::Expected));
+            }
+            let kind = StatementKind::Maps {
+                names,
+                source,
+                target,
+                selfmade: true,
+            };
+            Ok(Line::Whole(Statement { at, kind }))
+        }
+    }
+}
+
+/// The map without `self`, where its target is read.
+pub fn map_end(names: Listing<Name>, rest: MapRest) -> Result<StatementKind, ReadError>
+    ensures { Gives result (map_end names rest) }
+{
+    match rest {
+        MapRest::Target(source, target) => Ok(StatementKind::Maps {
+            names,
+            source,
+            target,
+            selfmade: false,
+        }),
+        _ => Err(ReadError::Misfit(Misfit::Expected)),
+    }
+}
+
+fn pair_kind(word: PairWord, first: Name, second: Name) -> StatementKind
+    ensures { result ≡ pair_kind word first second }
+{
+    match word {
+        PairWord::Pinv => StatementKind::Pinv(first, second),
+        PairWord::Inverse => StatementKind::Inverse(first, second),
+        PairWord::Inner => StatementKind::Inner(first, second),
+    }
+}
+
+/// One of the two names of `pinv`, `inverse` or `inner`.
+pub fn pair_step(
+    word: PairWord,
+    at: Spot,
+    first: Option<Name>,
+    token: &Token,
+) -> Result<Line, ReadError>
+    ensures { Gives result (pair_step word at first token.now.kind token.now.at) }
+{
+    let name = name_in(token)?;
+    match first {
+        None => Ok(Line::Pair {
+            word,
+            at,
+            first: Some(name),
+        }),
+        Some(first) => {
+            let kind = pair_kind(word, first, name);
+            Ok(Line::Whole(Statement { at, kind }))
+        }
+    }
+}
+
+/// The name of `projection`.
+pub fn projection_step(at: Spot, token: &Token) -> Result<Line, ReadError>
+    ensures { Gives result (projection_step at token.now.kind token.now.at) }
+{
+    let kind = StatementKind::Projection(name_in(token)?);
+    Ok(Line::Whole(Statement { at, kind }))
+}
