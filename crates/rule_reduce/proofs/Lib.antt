@@ -7,6 +7,8 @@ pub mod Rounds
 pub mod Runs
 pub mod Balance
 pub mod Irreducible
+pub mod Matched
+pub mod Chosen
 pub mod LettersKept
 pub mod LeadingPlaces
 pub mod MadeRules

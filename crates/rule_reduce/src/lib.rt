@@ -12,6 +12,6 @@ mod state;
 mod stepping;
 
 pub use fault::ReduceFault;
-pub use laws::{reductions_balance, rests_are_irreducible};
+pub use laws::{choices_are_exact, reductions_balance, rests_are_irreducible};
 pub use rule::Rule;
 pub use rules::{Reduced, Rules};
