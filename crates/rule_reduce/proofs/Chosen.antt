@@ -4,7 +4,6 @@ use Rattle.std.specs.List.{All, AllByRecursion, Contains}
 use Rattle.std.proofs.lemmas.List.{get_or_default}
 use Rattle.std.proofs.lemmas.List.Elements.{All-from_recursion, recursion_from_All, All-weaker, All-contains_itself, All-contains}
 use Rattle.std.proofs.lemmas.Option.{none-some, same_Some}
-use Rattle.std.proofs.lemmas.Cmp.{tied_itself}
 use Rattle.std.specs.Ordering.{ordering_reverse}
 use Rattle.std.specs.declared.cmp.Ordering.{Ordering}
 use Rattle.std.specs.declared.cmp.Ordering.TheVariants.{Less, Equal, Greater}
@@ -22,7 +21,8 @@ use Rattle.rule_reduce.specs.RuleLists.{rule_at, entries_of}
 use Rattle.rule_reduce.specs.Choices.{choice_or, better_choice, choice_from, choice_of, IsChoice, ChoicesAreExact}
 use Rattle.rule_reduce.proofs.Numbers.{rule_at-all}
 use Rattle.rule_reduce.proofs.Irreducible.{no_match, irreducible_where_none}
-use Rattle.rule_reduce.proofs.Matched.{matched}
+use Rattle.rule_reduce.proofs.Matched.{Matched, matched}
+use Rattle.rule_reduce.proofs.AtMost.{IsAtMost, turned, at_most-trans, at_most-greater}
 
 unlike : Equal ≡ Greater → ⊥
 unlike e = cc
@@ -67,17 +67,13 @@ module _ (compare : Compare) (entries : List (List ℕ × ℕ)) where
           go Greater = found (match_of entries t.1) refl (Some b) h
 
   module _ (letters : ℕ) (rank : List ℕ → List ℕ) (laws : IsAdmissible letters compare rank) where
-    abbrev IsAtMost : List ℕ → List ℕ → Type 0
-    IsAtMost u v = (u ≡ v) ⊎ (compare u v ≡ Less)
-
-    lower : (u v w : List ℕ) → compare u v ≡ Less → IsAtMost v w → IsAtMost u w
-    lower u v w less (inl same) = inr (subst (λ x. compare u x ≡ Less) same less)
-    lower u v w less (inr more) = inr (laws.total.trans u v w less more)
+    lower : (u v w : List ℕ) → compare u v ≡ Less → IsAtMost compare v w → IsAtMost compare u w
+    lower u v w less more = at_most-trans letters compare rank laws u v w (inr less) more
 
     -- the choice so far and each term that can be reduced are at most the choice that is made
     record AreAtMost (best : Option Choice) (p : List Term) (c : Choice) : Type 0 where
-      so_far : IfSome best (λ b. IsAtMost b.word c.word)
-      each : AllByRecursion (λ t. (m : ℕ × ℕ) → match_of entries t.1 ≡ Some m → IsAtMost t.1 c.word) p
+      so_far : IfSome best (λ b. IsAtMost compare b.word c.word)
+      each : AllByRecursion (λ t. (m : ℕ × ℕ) → match_of entries t.1 ≡ Some m → IsAtMost compare t.1 c.word) p
 
     at_most : (p : List Term) (best : Option Choice) (c : Choice) → choice_from compare entries best p ≡ Some c → AreAtMost best p c
     at_most [] None c is = absurd (cc)
@@ -95,50 +91,57 @@ module _ (compare : Compare) (entries : List (List ℕ × ℕ)) where
         go Less less m e k more = let rest = more (Some b) c k in record { so_far = rest.so_far; each = (λ n f. lower t.1 b.word c.word less rest.so_far, rest.each) }
         go Equal level m e k more =
             let rest = more (Some b) c k in
-            record { so_far = rest.so_far; each = (λ n f. subst (λ w. IsAtMost w c.word) (sym (laws.same t.1 b.word level)) rest.so_far, rest.each) }
+            record { so_far = rest.so_far; each = (λ n f. subst (λ w. IsAtMost compare w c.word) (sym (laws.same t.1 b.word level)) rest.so_far, rest.each) }
         go Greater greater None none k more =
             let rest = more (Some b) c k in
             record { so_far = rest.so_far; each = (λ n e. absurd (none-some n (sym none ∙ e)), rest.each) }
         go Greater greater (Some m) found k more =
             let rest = more (Some (made t m)) c k in
-            let less : compare b.word t.1 ≡ Less = laws.total.antisymm b.word t.1 ∙ ap ordering_reverse greater in
-            record { so_far = lower b.word t.1 c.word less rest.so_far; each = (λ n e. rest.so_far, rest.each) }
+            record { so_far = lower b.word t.1 c.word (turned letters compare rank laws t.1 b.word greater) rest.so_far; each = (λ n e. rest.so_far, rest.each) }
 
-    -- a word with a match is at most the chosen one
-    no_match_above : (t : Term) (c : Choice) → ((m : ℕ × ℕ) → match_of entries t.1 ≡ Some m → IsAtMost t.1 c.word) → compare t.1 c.word ≡ Greater → match_of entries t.1 ≡ None
+    -- a word above the chosen one has no match
+    no_match_above : (t : Term) (c : Choice) → ((m : ℕ × ℕ) → match_of entries t.1 ≡ Some m → IsAtMost compare t.1 c.word) → compare t.1 c.word ≡ Greater → match_of entries t.1 ≡ None
     no_match_above t c below greater = go (match_of entries t.1) refl
       where
-        clash : IsAtMost t.1 c.word → ⊥
-        clash (inl same) = unlike (sym (tied_itself laws.total c.word) ∙ ap (λ w. compare w c.word) (sym same) ∙ greater)
-        clash (inr less) = cc
-
         go : (m : Option (ℕ × ℕ)) → match_of entries t.1 ≡ m → match_of entries t.1 ≡ None
         go None e = e
-        go (Some m) e = absurd (clash (below m e))
+        go (Some m) e = absurd (at_most-greater letters compare rank laws t.1 c.word (below m e) greater)
 
 each_term : (P : Term → Type 0) → ((t : Term) → P t) → (p : List Term) → AllByRecursion P p
 each_term P all [] = tt
 each_term P all (t ∷ p) = (all t, each_term P all p)
 
+-- the term that is chosen, and the rule that matches it
+pub record Found (rules : List Rule) (p : List Term) (c : Choice) : Type 0 where
+  pub term : Contains p (c.coefficient, c.word)
+  pub match : Matched rules c.word c.number c.place
+
+pub found : (compare : Compare) (rules : List Rule) (p : List Term) (c : Choice) → choice_of compare (entries_of rules) p ≡ Some c → Found rules p c
+found compare rules p c is =
+    let entries = entries_of rules in
+    let listed = recursion_from_All (λ t. (m : ℕ × ℕ) → match_of entries t.1 ≡ Some m → Contains p t) p (All-weaker (Contains p) (λ t. (m : ℕ × ℕ) → match_of entries t.1 ≡ Some m → Contains p t) (λ t h. λ m e. h) p (All-contains_itself p)) in
+    let matches = each_term (λ t. (m : ℕ × ℕ) → match_of entries t.1 ≡ Some m → match_of entries t.1 ≡ Some m) (λ t m e. e) p in
+    record {
+      term = all-choice compare entries (λ b. Contains p (b.coefficient, b.word)) p None c listed tt is;
+      match = matched rules c.word c.number c.place (all-choice compare entries (λ b. match_of entries b.word ≡ Some (b.number, b.place)) p None c matches tt is);
+    }
+
 module _ (letters : ℕ) (compare : Compare) (rank : List ℕ → List ℕ) (laws : IsAdmissible letters compare rank) (rules : List Rule) (p : List Term) where
   -- what is computed is such a choice
   pub choice_tells : (c : Choice) → choice_of compare (entries_of rules) p ≡ Some c → IsChoice compare rules p c
   choice_tells c is =
-      let entries = entries_of rules in
-      let listed = recursion_from_All (λ t. (m : ℕ × ℕ) → match_of entries t.1 ≡ Some m → Contains p t) p (All-weaker (Contains p) (λ t. (m : ℕ × ℕ) → match_of entries t.1 ≡ Some m → Contains p t) (λ t h. λ m e. h) p (All-contains_itself p)) in
-      let matches = all-choice compare entries (λ b. match_of entries b.word ≡ Some (b.number, b.place)) p None c (each_term (λ t. (m : ℕ × ℕ) → match_of entries t.1 ≡ Some m → match_of entries t.1 ≡ Some m) (λ t m e. e) p) tt is in
-      let found = matched rules c.word c.number c.place matches in
-      let bounds = at_most compare entries letters rank laws p None c is in
+      let made = found compare rules p c is in
+      let bounds = at_most compare (entries_of rules) letters rank laws p None c is in
       record {
-        term = all-choice compare entries (λ b. Contains p (b.coefficient, b.word)) p None c listed tt is;
-        rule = found.rule;
-        numbered = found.numbered;
+        term = made.term;
+        rule = made.match.rule;
+        numbered = made.match.numbered;
         greatest = All-from_recursion (λ t. compare t.1 c.word ≡ Greater → All (λ g. OccursNowhere t.1 g.lead) rules) p (above c p bounds.each);
-        least = found.least;
-        leftmost = found.leftmost;
+        least = made.match.least;
+        leftmost = made.match.leftmost;
       }
     where
-      above : (c : Choice) (q : List Term) → AllByRecursion (λ t. (m : ℕ × ℕ) → match_of (entries_of rules) t.1 ≡ Some m → IsAtMost compare (entries_of rules) letters rank laws t.1 c.word) q
+      above : (c : Choice) (q : List Term) → AllByRecursion (λ t. (m : ℕ × ℕ) → match_of (entries_of rules) t.1 ≡ Some m → IsAtMost compare t.1 c.word) q
           → AllByRecursion (λ t. compare t.1 c.word ≡ Greater → All (λ g. OccursNowhere t.1 g.lead) rules) q
       above c [] below = tt
       above c (t ∷ q) below = (
@@ -174,9 +177,9 @@ module _ (letters : ℕ) (compare : Compare) (rank : List ℕ → List ℕ) (law
       let numbers : c.number ≡ d.number = omega (arith, below, above) in
       let same_rule : one.rule ≡ other.rule = same_Some one.rule other.rule (sym one.numbered ∙ ap (rule_at rules) numbers ∙ other.numbered) in
       let places : c.place ≡ d.place = same_Some c.place d.place (
-        place_in-is c.word one.rule.lead (Some c.place) one.leftmost
-        ∙ ap₂ (λ (w : List ℕ) (g : Rule). place_in w g.lead) words same_rule
-        ∙ sym (place_in-is d.word other.rule.lead (Some d.place) other.leftmost)) in
+      place_in-is c.word one.rule.lead (Some c.place) one.leftmost
+      ∙ ap₂ (λ (w : List ℕ) (g : Rule). place_in w g.lead) words same_rule
+      ∙ sym (place_in-is d.word other.rule.lead (Some d.place) other.leftmost)) in
       λ i. record { coefficient = coefficients i; word = words i; number = numbers i; place = places i }
 
   pub choice_is : (c : Choice) → IsDescending p → IsChoice compare rules p c → choice_of compare (entries_of rules) p ≡ Some c

@@ -6,9 +6,14 @@ pub mod Same
 pub mod Rounds
 pub mod Runs
 pub mod Balance
+pub mod Multipliers
+pub mod RowsByRules
 pub mod Irreducible
 pub mod Matched
+pub mod AtMost
 pub mod Chosen
+pub mod WordsKept
+pub mod KeptWordLaws
 pub mod LettersKept
 pub mod LeadingPlaces
 pub mod MadeRules
