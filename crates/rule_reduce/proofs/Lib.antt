@@ -2,7 +2,6 @@ pub mod Divisors
 pub mod Numbers
 pub mod Rows
 pub mod Exits
-pub mod Same
 pub mod Rounds
 pub mod Runs
 pub mod Balance

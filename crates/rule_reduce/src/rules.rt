@@ -46,12 +46,12 @@ pub struct Rules<O: WordOrder> {
 impl<O: WordOrder + Drop> Rules<O> {
     ghost use Rattle.std.specs.Prelude.{◌≡◌, ◌<◌, ◌≤◌, ◌+◌, ◌++◌, ◌^◌, ◌<ℤ◌, suc, pos, [], length, MatchResult, IfOk, OnOk, OnErr, IsSomeAnd, Ok, Some, option_to_list};
     ghost use Rattle.std.specs.Option.{option_map};
-    ghost use Rattle.coef_int.specs.Range.{IsCoefficient};
     ghost use Rattle.word_core.specs.Letters.{IsOver};
     ghost use Rattle.nc_polynomial.specs.Content.{IsContent};
     ghost use Rattle.nc_polynomial.specs.Shape.{IsCanonical};
     ghost use Rattle.rule_reduce.specs.Leading.{leading_term};
     ghost use Rattle.rule_reduce.specs.RuleLists.{rule_at, rule_from};
+    ghost use Rattle.rule_reduce.specs.Steps.{IsInRange};
     ghost use Rattle.rule_reduce.specs.NormalForms.{normal_form_of, reduction, start_of, ExplainsHalt};
 
     /// No rules, with an order of words.
@@ -148,9 +148,7 @@ impl<O: WordOrder + Drop> Rules<O> {
     // Steps until no word can be reduced.
     fn reduce(&self, start: State, steps: u32) -> Result<State, ReduceFault>
         requires over { All (λ t. IsOver (O.letters self.now.order) t.1) start.rest }
-        requires multiplier_in { IsCoefficient start.multiplier }
-        requires canonical { IsCanonical start.rest }
-        requires rows_in { All (λ row. IsCoefficient row.coef) start.rows }
+        requires in_range { IsInRange start }
         requires unused { start.used ≡ 0 }
         ensures canonical { IfOk result (λ t. IsCanonical t.rest) }
         ensures exact { MatchResult result (λ t. reduction steps (O.compare self.now.order) self.now.rules steps start ≡ Ok t) (ExplainsHalt (reduction steps (O.compare self.now.order) self.now.rules steps start)) }
