@@ -10,6 +10,8 @@ mod rule;
 mod rules;
 mod state;
 mod stepping;
+#[cfg(test)]
+mod tests;
 
 pub use fault::ReduceFault;
 pub use laws::{
