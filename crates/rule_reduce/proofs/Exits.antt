@@ -1,25 +1,26 @@
 -- Where the arithmetic of a step ends.
-use Rattle.std.proofs.Common.{ℕ, ◌+◌, ◌≡◌, ℤ, ◌*ℤ◌, List, [], ◌∷◌, ◌++◌, map, Result, Ok, Err, ◌≢◌, pos, refl, sym, ap, ap₂, ◌∙◌, subst, arith}
+use Rattle.std.proofs.Common.{ℕ, zero, suc, ◌+◌, ◌≡◌, ◌≤◌, ℤ, negsuc, ◌*ℤ◌, List, [], ◌∷◌, ◌++◌, length, map, Option, Some, None, Result, Ok, Err, IsErr, IsErrAnd, MatchResult, ◌≢◌, pos, refl, sym, ap, ap₂, ◌∙◌, subst, arith}
 use Rattle.std.specs.List.{All, AllByRecursion}
 use Rattle.std.proofs.lemmas.List.Elements.{All-from_recursion, recursion_from_All}
 use Rattle.std.proofs.lemmas.Int.{ints}
+use Rattle.std.proofs.Math.IntN.{*ℤ_comm}
 use Rattle.coef_int.specs.declared.Overflow.{Overflow}
 use Rattle.coef_int.specs.Range.{IsCoefficient}
-use Rattle.nc_polynomial.specs.declared.fault.PolyFault.TheVariants as fault
-use Rattle.nc_polynomial.proofs.Checked.{checked-fits}
-use Rattle.nc_polynomial.specs.declared.fault.PolyFault.{PolyFault}
 use Rattle.coef_int.specs.Operations.{product_of, first_overflow}
 use Rattle.definitions.specs.Poly.{Term}
+use Rattle.nc_polynomial.specs.declared.fault.PolyFault.{PolyFault}
+use Rattle.nc_polynomial.specs.declared.fault.PolyFault.TheVariants as fault
 use Rattle.nc_polynomial.specs.Terms.{IsDescending, keep, scaled, multiplied, multiplications, negated, shifted, products, added, sums}
-use Rattle.nc_polynomial.specs.Faults.{checked, unless_overflow, sized, Explains}
-use Rattle.std.proofs.Math.IntN.{*ℤ_comm}
-use Rattle.nc_polynomial.specs.Shape.{IsShaped}
+use Rattle.nc_polynomial.specs.Faults.{checked, unless_overflow, sized, finished, Explains, IsMemory}
+use Rattle.nc_polynomial.specs.Shape.{IsShaped, IsCanonical}
+use Rattle.nc_polynomial.proofs.Checked.{checked-fits}
 use Rattle.nc_polynomial.proofs.Shapes.{IsDescending-from_recursion, recursion_from_IsDescending, descending-scaled, nonzero-scaled, shaped-negated}
 use Rattle.nc_polynomial.proofs.Products.{shaped_shift}
-use Rattle.nc_polynomial.proofs.Chains.{shaped_add, ranged_multiply, passes, explains-first, explains-last, none_overflows, value_is}
+use Rattle.nc_polynomial.proofs.Chains.{shaped_add, ranged_multiply, first-fits, first-append, or_first, passes, explains-first, explains-last, none_overflows, value_is, ends, sized-value, no_error}
 use Rattle.cofactor_trace.specs.declared.Row.{Row}
 use Rattle.rule_reduce.specs.declared.state.State.{State}
-use Rattle.rule_reduce.specs.Steps.{Move, moved, move_row, move_result, row_operations, multiplied_row, if_sized}
+use Rattle.rule_reduce.specs.Steps.{Move, moved, move_row, move_result, row_operations, multiplied_row, multiplied_state, state_operations, less_multiple, less_operations, if_sized, IsInRange}
+use Rattle.rule_reduce.proofs.LettersKept.{each-multiplied}
 
 pub one_checked : (a b x : ℤ) → x ≡ a *ℤ b → IsCoefficient (a *ℤ b) → checked (product_of a b ∷ []) (a *ℤ b) ≡ Ok x
 one_checked a b x e h = checked-fits (product_of a b) [] (a *ℤ b) h ∙ ap Ok (sym e)
@@ -31,100 +32,179 @@ all_negated (t ∷ p) h = (omega (arith, ints, h.0), all_negated p h.1)
 pub all-negated : (p : List Term) → All (λ t. IsCoefficient t.0) p → All (λ t. IsCoefficient t.0) (negated p)
 all-negated p h = All-from_recursion (λ t. IsCoefficient t.0) (negated p) (all_negated p (recursion_from_All (λ t. IsCoefficient t.0) p h))
 
-pub explains-equal : {A : Type 0} (r : Result A PolyFault) (e : PolyFault) → r ≡ Err e → Explains r e
-explains-equal r (fault.Overflow o) h = h
-explains-equal r (fault.Size s) h = h
-explains-equal r (fault.Memory m) h = tt
+-- want of memory explains anything
+pub memory-explains : {A : Type 0} (r : Result A PolyFault) → IsErr r × IsErrAnd r IsMemory → (P : A → Type 0) (whole : Result A PolyFault) → MatchResult r P (Explains whole)
+memory-explains (Ok x) is P whole = absurd is.1
+memory-explains (Err e) is P whole = go e is.1
+  where
+    go : (e : PolyFault) → IsMemory e → Explains whole e
+    go (fault.Overflow o) is = absurd is
+    go (fault.Size s) is = absurd is
+    go (fault.Memory m) is = tt
 
--- a fault of the size is that of the step
-pub explains-sized : {A : Type 0} (r : Result (List Term) PolyFault) (x : A) (e : PolyFault) → Explains r e → Explains (if_sized r x) e
-explains-sized r x (fault.Overflow o) why = ap (λ q. if_sized q x) why
-explains-sized r x (fault.Size s) why = ap (λ q. if_sized q x) why
-explains-sized r x (fault.Memory m) why = tt
-
+-- ---- the state times a number
 -- multiplied from the right is multiplied from the left
 multiplied-scaled : (p : List Term) (k : ℤ) → multiplied p k ≡ scaled k p
 multiplied-scaled [] k = refl
 multiplied-scaled (t ∷ p) k = ap₂ (λ z rest. keep z t.1 rest) (*ℤ_comm t.0 k) (multiplied-scaled p k)
 
-shaped_multiply : (p : List Term) (k : ℤ) (v : List Term) → IsShaped p → checked (multiplications p k) (multiplied p k) ≡ Ok v → IsShaped v
-shaped_multiply p k v shaped fits =
-    let same : scaled k p ≡ v = sym (multiplied-scaled p k) ∙ value_is (multiplications p k) (multiplied p k) v fits in
+length-keep : (z : ℤ) (w : List ℕ) (p : List Term) → length (keep z w p) ≤ suc (length p)
+length-keep (pos zero) w p = omega arith
+length-keep (pos (suc n)) w p = omega arith
+length-keep (negsuc n) w p = omega arith
+
+length-multiplied : (p : List Term) (k : ℤ) → length (multiplied p k) ≤ length p
+length-multiplied [] k = omega arith
+length-multiplied (t ∷ p) k =
+    let rest = length-multiplied p k in
+    let one = length-keep (t.0 *ℤ k) t.1 (multiplied p k) in
+    omega arith
+
+pub canonical_multiply : (p : List Term) (k : ℤ) (v : List Term) → IsCanonical p → checked (multiplications p k) (multiplied p k) ≡ Ok v → IsCanonical v
+canonical_multiply p k v canonical fits =
+    let value = value_is (multiplications p k) (multiplied p k) v fits in
+    let same : scaled k p ≡ v = sym (multiplied-scaled p k) ∙ value in
+    let fewer = length-multiplied p k in
+    let few : length p ≤ 20000 = canonical.few in
     record {
-      descending = subst IsDescending same (IsDescending-from_recursion (scaled k p) (descending-scaled k p (recursion_from_IsDescending p shaped.descending)));
-      nonzero = subst (All (λ t. t.0 ≢ pos 0)) same (All-from_recursion (λ t. t.0 ≢ pos 0) (scaled k p) (nonzero-scaled k p));
-      in_range = ranged_multiply p k v fits;
+      shaped = record {
+        descending = subst IsDescending same (IsDescending-from_recursion (scaled k p) (descending-scaled k p (recursion_from_IsDescending p canonical.shaped.descending)));
+        nonzero = subst (All (λ t. t.0 ≢ pos 0)) same (All-from_recursion (λ t. t.0 ≢ pos 0) (scaled k p) (nonzero-scaled k p));
+        in_range = ranged_multiply p k v fits;
+      };
+      short = subst (All (λ t. length t.1 ≤ 500)) value (All-from_recursion (λ t. length t.1 ≤ 500) (multiplied p k) (each-multiplied (λ w. length w ≤ 500) p k (recursion_from_All (λ t. length t.1 ≤ 500) p canonical.short)));
+      few = subst (λ q. length q ≤ 20000) value (omega arith);
     }
 
--- the new polynomial is shaped like the old one and the rule
-pub shaped_difference : (p : List Term) (by : ℤ) (times : ℤ) (l : List ℕ) (g : List Term) (r : List ℕ) (a b v : List Term) → IsShaped p → IsShaped g
-    → checked (multiplications p by) (multiplied p by) ≡ Ok a → checked (products times g) (shifted times l g r) ≡ Ok b → checked (sums a (negated b)) (added a (negated b)) ≡ Ok v → IsShaped v
-shaped_difference p by times l g r a b v p_shaped g_shaped left_fits right_fits total =
-    shaped_add a (negated b) v (shaped_multiply p by a p_shaped left_fits) (shaped-negated b (shaped_shift times l g r b g_shaped right_fits)) total
+-- times 1 everything stays, and nothing overflows
+times-one : (z : ℤ) → z *ℤ pos 1 ≡ z
+times-one z = omega (arith, ints)
+
+multiplied-one : (p : List Term) → AllByRecursion (λ t. t.0 ≢ pos 0) p → multiplied p (pos 1) ≡ p
+multiplied-one [] nonzero = refl
+multiplied-one (t ∷ p) nonzero = ap₂ (λ z rest. keep z t.1 rest) (times-one t.0) (multiplied-one p nonzero.1) ∙ kept t.0 nonzero.0
+  where
+    kept : (z : ℤ) → z ≢ pos 0 → keep z t.1 p ≡ (z, t.1) ∷ p
+    kept (pos zero) n = absurd (n refl)
+    kept (pos (suc m)) n = refl
+    kept (negsuc m) n = refl
+
+fits-times-one : (z : ℤ) → IsCoefficient z → IsCoefficient (z *ℤ pos 1)
+fits-times-one z fits = subst IsCoefficient (sym (times-one z)) fits
+
+multiplications-one : (p : List Term) → AllByRecursion (λ t. IsCoefficient t.0) p → first_overflow (multiplications p (pos 1)) ≡ None
+multiplications-one [] in_range = refl
+multiplications-one (t ∷ p) in_range = first-fits (product_of t.0 (pos 1)) (multiplications p (pos 1)) (fits-times-one t.0 in_range.0) ∙ multiplications-one p in_range.1
+
+rows-one : (rows : List Row) → map (multiplied_row (pos 1)) rows ≡ rows
+rows-one [] = refl
+rows-one (row ∷ rows) = ap₂ (λ (z : ℤ) rest. record row { coef = z } ∷ rest) (times-one row.coef) (rows-one rows)
+
+row_operations-one : (rows : List Row) → AllByRecursion (λ row. IsCoefficient row.coef) rows → first_overflow (row_operations rows (pos 1)) ≡ None
+row_operations-one [] in_range = refl
+row_operations-one (row ∷ rows) in_range = first-fits (product_of row.coef (pos 1)) (row_operations rows (pos 1)) (fits-times-one row.coef in_range.0) ∙ row_operations-one rows in_range.1
+
+pub state-times-one : (s : State) → IsInRange s → checked (state_operations (pos 1) s) (multiplied_state (pos 1) s) ≡ Ok s
+state-times-one s in_range =
+    let shaped = in_range.rest.shaped in
+    let first = first-fits (product_of s.multiplier (pos 1)) (multiplications s.rest (pos 1) ++ row_operations s.rows (pos 1)) (fits-times-one s.multiplier in_range.multiplier) in
+    let second = multiplications-one s.rest (recursion_from_All (λ (t : Term). IsCoefficient t.0) s.rest shaped.in_range) in
+    let third = row_operations-one s.rows (recursion_from_All (λ (row : Row). IsCoefficient row.coef) s.rows in_range.rows) in
+    let none : first_overflow (state_operations (pos 1) s) ≡ None =
+    first ∙ first-append (multiplications s.rest (pos 1)) (row_operations s.rows (pos 1)) ∙ ap₂ or_first second third in
+    let multiplier = times-one s.multiplier in
+    let rest = multiplied-one s.rest (recursion_from_All (λ (t : Term). t.0 ≢ pos 0) s.rest shaped.nonzero) in
+    let rows = rows-one s.rows in
+    ap (λ o. unless_overflow o (Ok (multiplied_state (pos 1) s))) none ∙ ap Ok (λ i. record s { multiplier = multiplier i; rest = rest i; rows = rows i })
+
+module _ (by : ℤ) (s : State) (x : ℤ) (first_is : checked (product_of s.multiplier by ∷ []) (s.multiplier *ℤ by) ≡ Ok x) where
+  abbrev all : Result State PolyFault
+  all = checked (state_operations by s) (multiplied_state by s)
+
+  after_multiplier : all ≡ unless_overflow (first_overflow (multiplications s.rest by ++ row_operations s.rows by)) (Ok (multiplied_state by s))
+  after_multiplier = passes (product_of s.multiplier by ∷ []) (multiplications s.rest by ++ row_operations s.rows by) (s.multiplier *ℤ by) x (Ok (multiplied_state by s)) first_is
+
+  pub exit_rest : (e : PolyFault) → Explains (checked (multiplications s.rest by) (multiplied s.rest by)) e → Explains all e
+  exit_rest e why = subst (λ r. Explains r e) (sym after_multiplier) (explains-first (multiplications s.rest by) (row_operations s.rows by) (multiplied s.rest by) (Ok (multiplied_state by s)) e why)
+
+  module _ (p : List Term) (rest_is : checked (multiplications s.rest by) (multiplied s.rest by) ≡ Ok p) where
+    after_rest : all ≡ unless_overflow (first_overflow (row_operations s.rows by)) (Ok (multiplied_state by s))
+    after_rest = after_multiplier ∙ passes (multiplications s.rest by) (row_operations s.rows by) (multiplied s.rest by) p (Ok (multiplied_state by s)) rest_is
+
+    pub exit_rows : (e : PolyFault) → Explains (checked (row_operations s.rows by) (map (multiplied_row by) s.rows)) e → Explains all e
+    exit_rows e why = subst (λ r. Explains r e) (sym after_rest) (explains-last (row_operations s.rows by) (map (multiplied_row by) s.rows) (Ok (multiplied_state by s)) e why)
+
+    pub all_multiplied : (rows : List Row) → checked (row_operations s.rows by) (map (multiplied_row by) s.rows) ≡ Ok rows → all ≡ Ok (record { multiplier = x; rest = p; rows = rows; used = s.used })
+    all_multiplied rows rows_is =
+        let multiplier = value_is (product_of s.multiplier by ∷ []) (s.multiplier *ℤ by) x first_is in
+        let rest = value_is (multiplications s.rest by) (multiplied s.rest by) p rest_is in
+        let rows_are = value_is (row_operations s.rows by) (map (multiplied_row by) s.rows) rows rows_is in
+        after_rest
+        ∙ ap (λ o. unless_overflow o (Ok (multiplied_state by s))) (none_overflows (row_operations s.rows by) (map (multiplied_row by) s.rows) rows rows_is)
+        ∙ ap Ok (λ i. record s { multiplier = multiplier i; rest = rest i; rows = rows_are i })
+
+-- ---- a polynomial less a multiple of a rule
+module _ (k : ℤ) (l : List ℕ) (g : List Term) (r : List ℕ) (p : List Term) where
+  abbrev pub less : Result (List Term) PolyFault
+  less = finished (less_operations k l g r p) (less_multiple k l g r p)
+
+  pub exit_shifted : (e : PolyFault) → Explains (checked (products k g) (shifted k l g r)) e → Explains less e
+  exit_shifted e why = explains-first (products k g) (sums p (negated (shifted k l g r))) (shifted k l g r) (sized (less_multiple k l g r p)) e why
+
+  module _ (q : List Term) (shifted_is : checked (products k g) (shifted k l g r) ≡ Ok q) where
+    pub after_shifted : less ≡ finished (sums p (negated q)) (added p (negated q))
+    after_shifted =
+        passes (products k g) (sums p (negated (shifted k l g r))) (shifted k l g r) q (sized (less_multiple k l g r p)) shifted_is
+        ∙ ap (λ t. finished (sums p (negated t)) (added p (negated t))) (value_is (products k g) (shifted k l g r) q shifted_is)
+
+    pub exit_merged : (e : PolyFault) → Explains (checked (sums p (negated q)) (added p (negated q))) e → Explains less e
+    exit_merged e why = subst (λ t. Explains t e) (sym after_shifted) (explains-last (sums p (negated q)) (added p (negated q)) (sized (added p (negated q))) e why)
+
+    pub all_subtracted : (v : List Term) → checked (sums p (negated q)) (added p (negated q)) ≡ Ok v → less ≡ sized v
+    all_subtracted v merged_is = after_shifted ∙ ends (sums p (negated q)) (added p (negated q)) v merged_is
+
+    pub shaped_less : (v : List Term) → IsShaped p → IsShaped g → checked (sums p (negated q)) (added p (negated q)) ≡ Ok v → IsShaped v
+    shaped_less v p_shaped g_shaped merged_is = shaped_add p (negated q) v p_shaped (shaped-negated q (shaped_shift k l g r q g_shaped shifted_is)) merged_is
+
+finished_is : (os : List Overflow) (x v : List Term) → finished os x ≡ Ok v → x ≡ v
+finished_is os x v h = go (first_overflow os) h
+  where
+    go : (o : Option Overflow) → unless_overflow o (sized x) ≡ Ok v → x ≡ v
+    go None k = sized-value x v k
+    go (Some o) k = absurd (no_error v (fault.Overflow o) (sym k))
+
+-- ---- both
+if_sized-after : {A : Type 0} (o : Option Overflow) (r : Result (List Term) PolyFault) (x : A) → unless_overflow o (if_sized r x) ≡ if_sized (unless_overflow o r) x
+if_sized-after None r x = refl
+if_sized-after (Some o) r x = refl
+
+explains-sized : {A : Type 0} (r : Result (List Term) PolyFault) (x : A) (e : PolyFault) → Explains r e → Explains (if_sized r x) e
+explains-sized r x (fault.Overflow o) why = ap (λ q. if_sized q x) why
+explains-sized r x (fault.Size s) why = ap (λ q. if_sized q x) why
+explains-sized r x (fault.Memory m) why = tt
 
 module _ (m : Move) (s : State) where
-  abbrev first : List Overflow
-  first = product_of s.multiplier m.by ∷ []
-
-  abbrev second : List Overflow
-  second = multiplications s.rest m.by
-
-  abbrev third : List Overflow
-  third = row_operations s.rows m.by
-
-  abbrev fourth : List Overflow
-  fourth = products m.times m.rule
-
-  abbrev fifth : List Overflow
-  fifth = sums (multiplied s.rest m.by) (negated (shifted m.times m.left m.rule m.right))
-
   abbrev end : Result State PolyFault
   end = if_sized (sized (moved m s).rest) (moved m s)
 
-  pub exit_first : (e : PolyFault) → Explains (checked first (s.multiplier *ℤ m.by)) e → Explains (move_result m s) e
-  exit_first e h = explains-first first (second ++ (third ++ (fourth ++ fifth))) (s.multiplier *ℤ m.by) end e h
+  pub exit_multiplied : (e : PolyFault) → Explains (checked (state_operations m.by s) (multiplied_state m.by s)) e → Explains (move_result m s) e
+  exit_multiplied e why = explains-first (state_operations m.by s) (less_operations m.times m.left m.rule m.right (multiplied s.rest m.by)) (multiplied_state m.by s) end e why
 
-  module _ (x : ℤ) (first_is : checked first (s.multiplier *ℤ m.by) ≡ Ok x) where
-    after_first : move_result m s ≡ unless_overflow (first_overflow (second ++ (third ++ (fourth ++ fifth)))) end
-    after_first = passes first (second ++ (third ++ (fourth ++ fifth))) (s.multiplier *ℤ m.by) x end first_is
+  module _ (t : State) (multiplied_is : checked (state_operations m.by s) (multiplied_state m.by s) ≡ Ok t) where
+    after_multiplied : move_result m s ≡ if_sized (less m.times m.left m.rule m.right t.rest) (moved m s)
+    after_multiplied =
+        let rest = ap (λ (u : State). u.rest) (value_is (state_operations m.by s) (multiplied_state m.by s) t multiplied_is) in
+        passes (state_operations m.by s) (less_operations m.times m.left m.rule m.right (multiplied s.rest m.by)) (multiplied_state m.by s) t end multiplied_is
+        ∙ if_sized-after (first_overflow (less_operations m.times m.left m.rule m.right (multiplied s.rest m.by))) (sized (moved m s).rest) (moved m s)
+        ∙ ap (λ p. if_sized (less m.times m.left m.rule m.right p) (moved m s)) rest
 
-    pub exit_second : (e : PolyFault) → Explains (checked second (multiplied s.rest m.by)) e → Explains (move_result m s) e
-    exit_second e h = subst (λ r. Explains r e) (sym after_first) (explains-first second (third ++ (fourth ++ fifth)) (multiplied s.rest m.by) end e h)
+    pub exit_subtracted : (e : PolyFault) → Explains (less m.times m.left m.rule m.right t.rest) e → Explains (move_result m s) e
+    exit_subtracted e why = subst (λ r. Explains r e) (sym after_multiplied) (explains-sized (less m.times m.left m.rule m.right t.rest) (moved m s) e why)
 
-    module _ (p : List Term) (second_is : checked second (multiplied s.rest m.by) ≡ Ok p) where
-      after_second : move_result m s ≡ unless_overflow (first_overflow (third ++ (fourth ++ fifth))) end
-      after_second = after_first ∙ passes second (third ++ (fourth ++ fifth)) (multiplied s.rest m.by) p end second_is
-
-      pub exit_third : (e : PolyFault) → Explains (checked third (map (multiplied_row m.by) s.rows)) e → Explains (move_result m s) e
-      exit_third e h = subst (λ r. Explains r e) (sym after_second) (explains-first third (fourth ++ fifth) (map (multiplied_row m.by) s.rows) end e h)
-
-      module _ (rows : List Row) (third_is : checked third (map (multiplied_row m.by) s.rows) ≡ Ok rows) where
-        after_third : move_result m s ≡ unless_overflow (first_overflow (fourth ++ fifth)) end
-        after_third = after_second ∙ passes third (fourth ++ fifth) (map (multiplied_row m.by) s.rows) rows end third_is
-
-        pub exit_fourth : (e : PolyFault) → Explains (checked fourth (shifted m.times m.left m.rule m.right)) e → Explains (move_result m s) e
-        exit_fourth e h = subst (λ r. Explains r e) (sym after_third) (explains-first fourth fifth (shifted m.times m.left m.rule m.right) end e h)
-
-        module _ (g : List Term) (fourth_is : checked fourth (shifted m.times m.left m.rule m.right) ≡ Ok g) where
-          after_fourth : move_result m s ≡ unless_overflow (first_overflow fifth) end
-          after_fourth = after_third ∙ passes fourth fifth (shifted m.times m.left m.rule m.right) g end fourth_is
-
-          pub exit_fifth : (e : PolyFault) → Explains (checked (sums p (negated g)) (added p (negated g))) e → Explains (move_result m s) e
-          exit_fifth e h =
-              let same_p = value_is second (multiplied s.rest m.by) p second_is in
-              let same_g = value_is fourth (shifted m.times m.left m.rule m.right) g fourth_is in
-              let there : Explains (checked fifth (added (multiplied s.rest m.by) (negated (shifted m.times m.left m.rule m.right)))) e = rw (same_p, same_g) h in
-              subst (λ r. Explains r e) (sym after_fourth) (explains-last fifth (added (multiplied s.rest m.by) (negated (shifted m.times m.left m.rule m.right))) end e there)
-
-          pub exit_last : (v : List Term) → checked (sums p (negated g)) (added p (negated g)) ≡ Ok v
-              → move_result m s ≡ if_sized (sized v) (record { multiplier = x; rest = v; rows = rows ++ move_row m ∷ []; used = s.used + 1 })
-          exit_last v h =
-              let same_p = value_is second (multiplied s.rest m.by) p second_is in
-              let same_g = value_is fourth (shifted m.times m.left m.rule m.right) g fourth_is in
-              let same_x = value_is first (s.multiplier *ℤ m.by) x first_is in
-              let same_rows = value_is third (map (multiplied_row m.by) s.rows) rows third_is in
-              let fine : checked fifth (added (multiplied s.rest m.by) (negated (shifted m.times m.left m.rule m.right))) ≡ Ok v = rw (same_p, same_g) h in
-              let same_v = value_is fifth (added (multiplied s.rest m.by) (negated (shifted m.times m.left m.rule m.right))) v fine in
-              after_fourth
-              ∙ ap (λ o. unless_overflow o end) (none_overflows fifth (added (multiplied s.rest m.by) (negated (shifted m.times m.left m.rule m.right))) v fine)
-              ∙ rw (same_v, same_x, same_rows) refl
+    pub step_ends : (p : List Term) → less m.times m.left m.rule m.right t.rest ≡ Ok p → move_result m s ≡ Ok (record { multiplier = t.multiplier; rest = p; rows = t.rows ++ move_row m ∷ []; used = t.used + 1 })
+    step_ends p less_is =
+        let state = value_is (state_operations m.by s) (multiplied_state m.by s) t multiplied_is in
+        let rest : (moved m s).rest ≡ p =
+        ap (λ (u : State). less_multiple m.times m.left m.rule m.right u.rest) state ∙ finished_is (less_operations m.times m.left m.rule m.right t.rest) (less_multiple m.times m.left m.rule m.right t.rest) p less_is in
+        after_multiplied ∙ ap (λ r. if_sized r (moved m s)) less_is
+        ∙ ap Ok (λ i. record { multiplier = (state i).multiplier; rest = rest i; rows = (state i).rows ++ move_row m ∷ []; used = (state i).used + 1 })

@@ -19,7 +19,7 @@ use Rattle.rule_reduce.specs.Laws.{IsIrreducible, RestsAreIrreducible}
 use Rattle.rule_reduce.proofs.Runs.{reduction_keeps}
 
 -- no entry of a rule occurs where there is no match
-no_match : (n : ℕ) (rules : List Rule) (w : List ℕ) → match_of (entries_from n rules) w ≡ None → AllByRecursion (λ g. OccursNowhere w g.lead) rules
+pub no_match : (n : ℕ) (rules : List Rule) (w : List ℕ) → match_of (entries_from n rules) w ≡ None → AllByRecursion (λ g. OccursNowhere w g.lead) rules
 no_match n [] w none = tt
 no_match n (g ∷ rules) w none = go (place_in w g.lead) (place_in-tells w g.lead) none (no_match (suc n) rules w)
   where

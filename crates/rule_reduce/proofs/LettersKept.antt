@@ -16,7 +16,7 @@ use Rattle.rule_reduce.proofs.Runs.{step_keeps}
 
 -- what holds of each word holds of each word of a multiple, of the negative, of a sum
 module _ (P : List ℕ → Type 0) where
-  each-multiplied : (p : List Term) (k : ℤ) → AllByRecursion (λ t. P t.1) p → AllByRecursion (λ t. P t.1) (multiplied p k)
+  pub each-multiplied : (p : List Term) (k : ℤ) → AllByRecursion (λ t. P t.1) p → AllByRecursion (λ t. P t.1) (multiplied p k)
   each-multiplied [] k each = tt
   each-multiplied (t ∷ p) k each = all-keep P (t.0 *ℤ k) t.1 (multiplied p k) each.0 (each-multiplied p k each.1)
 

@@ -3,6 +3,11 @@ use Rattle.std.proofs.Common.{◌≡◌, ℕ, zero, suc, ℤ, pos, ◌<◌, ◌<
 use Rattle.std.specs.List.{All, AllByRecursion}
 use Rattle.std.proofs.lemmas.List.Elements.{recursion_from_All}
 use Rattle.definitions.specs.Poly.{Term}
+use Rattle.std.specs.Int.{IsNonNegative}
+use Rattle.std.specs.Int.RustNames.{unsigned_abs}
+use Rattle.std.proofs.lemmas.Int.{ints}
+use Rattle.std.proofs.lemmas.Nat.Gcd.{dvd_antisymm}
+use Rattle.nc_polynomial.specs.Content.{IsContent}
 use Rattle.coef_int.specs.Range.{IsCoefficient}
 use Rattle.word_core.specs.Letters.{IsOver}
 use Rattle.word_orders.specs.Admissible.{Compare}
@@ -37,3 +42,10 @@ rule_is letters compare poly n leading lead best here positive nonempty over = r
   nonempty = nonempty;
   over = over;
 }
+
+-- a polynomial has one content
+pub one_content : (p : List Term) (g h : ℤ) → IsContent p g → IsContent p h → g ≡ h
+one_content p g h one other = same g h one.nonnegative other.nonnegative (dvd_antisymm (other.greatest (unsigned_abs g) one.divides) (one.greatest (unsigned_abs h) other.divides))
+  where
+    same : (a b : ℤ) → IsNonNegative a → IsNonNegative b → unsigned_abs a ≡ unsigned_abs b → a ≡ b
+    same a b a_sign b_sign e = omega (arith, ints, a_sign, b_sign)

@@ -35,3 +35,9 @@ all_push {X = X} P xs ys x h k e = subst (All P) (sym e) (All-from_recursion P (
     go : (zs : List X) → AllByRecursion P zs → AllByRecursion P (zs ++ x ∷ [])
     go [] m = (k, tt)
     go (z ∷ zs) m = (m.0, go zs m.1)
+
+-- what multiplying a row keeps is kept by the rows of a step
+pub all-multiplied : (P : Row → Type 0) → ((by : ℤ) (row : Row) → P row → P (multiplied_row by row)) → (by : ℤ) (rows : List Row) (last : Row) → AllByRecursion P rows → P last
+    → AllByRecursion P (map (multiplied_row by) rows ++ last ∷ [])
+all-multiplied P kept by [] last each held = (held, tt)
+all-multiplied P kept by (row ∷ rows) last each held = (kept by row each.0, all-multiplied P kept by rows last each.1 held)

@@ -1,10 +1,27 @@
 -- The term that is reduced next, by which rule, and at which place.
-use Rattle.std.specs.Prelude.{ℕ, List, [], ◌∷◌, Option, Some, None}
-use Rattle.word_orders.specs.Admissible.{Compare}
+use Rattle.std.specs.Prelude.{◌≡◌, ◌<◌, ◌↔◌, ℕ, List, [], ◌∷◌, Option, Some, None, Contains}
+use Rattle.std.specs.List.{All}
+use Rattle.std.specs.declared.cmp.Ordering.TheVariants.{Greater}
+use Rattle.word_core.specs.Occurrence.{IsFirstPlace, OccursNowhere}
+use Rattle.word_orders.specs.Admissible.{Compare, IsAdmissible}
 use Rattle.definitions.specs.Poly.{Term}
-use Rattle.nc_polynomial.specs.Terms.{by_order}
+use Rattle.nc_polynomial.specs.Terms.{IsDescending, by_order}
 use Rattle.rule_index.specs.Matches.{match_of}
+use Rattle.rule_reduce.specs.declared.rule.Rule.{Rule}
 use Rattle.rule_reduce.specs.declared.state.Choice.{Choice}
+use Rattle.rule_reduce.specs.RuleLists.{rule_at, entries_of}
+
+-- The greatest word of the polynomial in which a leading word occurs, the least number of a rule whose leading word does,
+-- and its leftmost place.
+pub record IsChoice (compare : Compare) (rules : List Rule) (p : List Term) (c : Choice) : Type 0 where
+  pub term : Contains p (c.coefficient, c.word)
+  pub rule : Rule
+  pub numbered : rule_at rules c.number ≡ Some rule
+  -- no leading word occurs in a greater word
+  pub greatest : All (λ t. compare t.1 c.word ≡ Greater → All (λ g. OccursNowhere t.1 g.lead) rules) p
+  -- that of no rule with a lesser number occurs in this one
+  pub least : (n : ℕ) (g : Rule) → rule_at rules n ≡ Some g → n < c.number → OccursNowhere c.word g.lead
+  pub leftmost : IsFirstPlace c.word rule.lead c.place
 
 -- a term with the least number whose word occurs in it, or else the choice so far
 abbrev pub choice_or : Term → Option (ℕ × ℕ) → Option Choice → Option Choice
@@ -23,3 +40,8 @@ choice_from compare entries best (t ∷ p) = choice_from compare entries (better
 -- The greatest word in which a leading word occurs, the least number of a rule whose leading word does, and its leftmost place.
 abbrev pub choice_of : Compare → List (List ℕ × ℕ) → List Term → Option Choice
 choice_of compare entries p = choice_from compare entries None p
+
+-- In an admissible order, the choice that this computes is the one that there is.
+abbrev pub ChoicesAreExact : Type 0
+ChoicesAreExact = (letters : ℕ) (compare : Compare) (rank : List ℕ → List ℕ) (rules : List Rule) (p : List Term) (c : Choice)
+    → IsAdmissible letters compare rank → IsDescending p → (choice_of compare (entries_of rules) p ≡ Some c) ↔ IsChoice compare rules p c

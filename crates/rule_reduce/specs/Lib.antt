@@ -18,3 +18,4 @@ pub mod Divisor
 pub mod Steps
 pub mod NormalForms
 pub mod Laws
+pub mod KeptWords

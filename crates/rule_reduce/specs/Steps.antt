@@ -1,11 +1,14 @@
 -- One step of a reduction, and its arithmetic in order.
 use Rattle.std.specs.Prelude.{ℕ, ◌+◌, ℤ, ◌*ℤ◌, List, [], ◌∷◌, ◌++◌, map, length, take, drop, int_div, Option, Some, None, Result, Ok, Err}
+use Rattle.std.specs.List.{All}
 use Rattle.coef_int.specs.declared.Overflow.{Overflow}
+use Rattle.coef_int.specs.Range.{IsCoefficient}
 use Rattle.coef_int.specs.Operations.{product_of, first_overflow}
 use Rattle.definitions.specs.Poly.{Term}
 use Rattle.nc_polynomial.specs.declared.fault.PolyFault.{PolyFault}
 use Rattle.nc_polynomial.specs.Terms.{multiplied, multiplications, negated, shifted, products, added, sums}
 use Rattle.nc_polynomial.specs.Faults.{unless_overflow, sized}
+use Rattle.nc_polynomial.specs.Shape.{IsCanonical}
 use Rattle.cofactor_trace.specs.declared.Origin.TheVariants as origin
 use Rattle.cofactor_trace.specs.declared.Row.{Row}
 use Rattle.rule_reduce.specs.declared.rule.Rule.{Rule}
@@ -30,26 +33,34 @@ move_row m = record { coef = m.times; left = m.left; from = origin.Rule m.number
 abbrev pub multiplied_row : ℤ → Row → Row
 multiplied_row by row = record row { coef = row.coef *ℤ by }
 
+abbrev pub row_operations : List Row → ℤ → List Overflow
+row_operations rows by = map (λ row. product_of row.coef by) rows
+
+-- everything times a number, and its products: of the multiplier, of the polynomial, of the rows
+abbrev pub multiplied_state : ℤ → State → State
+multiplied_state by s = record s { multiplier = s.multiplier *ℤ by; rest = multiplied s.rest by; rows = map (multiplied_row by) s.rows }
+
+abbrev pub state_operations : ℤ → State → List Overflow
+state_operations by s = product_of s.multiplier by ∷ (multiplications s.rest by ++ row_operations s.rows by)
+
+-- p - k l g r, and its products and sums
+abbrev pub less_multiple : ℤ → List ℕ → List Term → List ℕ → List Term → List Term
+less_multiple k l g r p = added p (negated (shifted k l g r))
+
+abbrev pub less_operations : ℤ → List ℕ → List Term → List ℕ → List Term → List Overflow
+less_operations k l g r p = products k g ++ sums p (negated (shifted k l g r))
+
 -- everything times the one factor, less the multiple of the rule, whose row is the last one
 abbrev pub moved : Move → State → State
 moved m s = record {
   multiplier = s.multiplier *ℤ m.by;
-  rest = added (multiplied s.rest m.by) (negated (shifted m.times m.left m.rule m.right));
+  rest = less_multiple m.times m.left m.rule m.right (multiplied s.rest m.by);
   rows = map (multiplied_row m.by) s.rows ++ move_row m ∷ [];
   used = s.used + 1;
 }
 
-abbrev pub row_operations : List Row → ℤ → List Overflow
-row_operations rows by = map (λ row. product_of row.coef by) rows
-
--- the multiplier, the polynomial, the earlier rows, the rule, the differences
 abbrev pub move_operations : Move → State → List Overflow
-move_operations m s =
-    product_of s.multiplier m.by
-    ∷ (multiplications s.rest m.by
-    ++ (row_operations s.rows m.by
-    ++ (products m.times m.rule
-    ++ sums (multiplied s.rest m.by) (negated (shifted m.times m.left m.rule m.right)))))
+move_operations m s = state_operations m.by s ++ less_operations m.times m.left m.rule m.right (multiplied s.rest m.by)
 
 -- a value, unless a polynomial is too large
 abbrev pub if_sized : {A : Type 0} → Result (List Term) PolyFault → A → Result A PolyFault
@@ -78,3 +89,9 @@ step_by (Some g) c s = move_result (move_of c g) s
 
 abbrev pub step_result : List Rule → Choice → State → Result State PolyFault
 step_result rules c s = step_by (rule_at rules c.number) c s
+
+-- the multiplier and the coefficients of the rows are in range, and the polynomial is canonical
+pub record IsInRange (s : State) : Type 0 where
+  pub multiplier : IsCoefficient s.multiplier
+  pub rest : IsCanonical s.rest
+  pub rows : All (λ row. IsCoefficient row.coef) s.rows

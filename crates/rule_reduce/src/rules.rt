@@ -4,7 +4,7 @@ ghost use Rattle.rule_reduce.specs.RuleLists.{IsRule, entries_of};
 
 use crate::choosing::choose;
 use crate::fault::halt;
-use crate::making::make_rule;
+use crate::making::{has_no_empty_word, is_led_by_positive, is_primitive, make_rule};
 use crate::state::State;
 use crate::stepping::take_step;
 use crate::{ReduceFault, Rule};
@@ -44,14 +44,14 @@ pub struct Rules<O: WordOrder> {
 }
 
 impl<O: WordOrder + Drop> Rules<O> {
-    ghost use Rattle.std.specs.Prelude.{◌≡◌, ◌<◌, ◌≤◌, ◌+◌, ◌++◌, ◌^◌, ◌<ℤ◌, suc, pos, [], length, MatchResult, IfOk, OnOk, OnErr, IsSomeAnd, Ok, Some, option_to_list};
+    ghost use Rattle.std.specs.Prelude.{◌≡◌, ◌↔◌, ◌<◌, ◌≤◌, ◌+◌, ◌++◌, ◌^◌, ◌<ℤ◌, suc, pos, [], length, MatchResult, IfOk, OnOk, OnErr, IsSomeAnd, IsTrue, Ok, Some, option_to_list};
     ghost use Rattle.std.specs.Option.{option_map};
-    ghost use Rattle.coef_int.specs.Range.{IsCoefficient};
     ghost use Rattle.word_core.specs.Letters.{IsOver};
     ghost use Rattle.nc_polynomial.specs.Content.{IsContent};
     ghost use Rattle.nc_polynomial.specs.Shape.{IsCanonical};
     ghost use Rattle.rule_reduce.specs.Leading.{leading_term};
     ghost use Rattle.rule_reduce.specs.RuleLists.{rule_at, rule_from};
+    ghost use Rattle.rule_reduce.specs.Steps.{IsInRange};
     ghost use Rattle.rule_reduce.specs.NormalForms.{normal_form_of, reduction, start_of, ExplainsHalt};
 
     /// No rules, with an order of words.
@@ -91,6 +91,22 @@ impl<O: WordOrder + Drop> Rules<O> {
                 Err(failed)
             }
         }
+    }
+
+    /// Whether the polynomial may be pushed: it is primitive, the coefficient of its leading word is positive, no word of
+    /// it is empty, and there is a number for it.
+    pub fn may_push(&self, poly: &Poly) -> bool
+        requires { All (λ t. IsOver (O.letters self.now.order) t.1) poly.now.terms }
+        ensures { IsTrue result ↔ (IsContent poly.now.terms (pos 1)
+            × IsSomeAnd (leading_term (O.compare self.now.order) poly.now.terms) (λ t. pos 0 <ℤ t.0)
+            × All (λ t. 0 < length t.1) poly.now.terms
+            × (length self.now.rules + 1 < 2 ^ 32)) }
+    {
+        let terms = poly.terms.as_slice();
+        is_primitive(poly)
+            && is_led_by_positive(&self.order, terms)
+            && has_no_empty_word(terms)
+            && self.rules.len() < u32::MAX as usize
     }
 
     /// The number of rules.
@@ -148,9 +164,7 @@ impl<O: WordOrder + Drop> Rules<O> {
     // Steps until no word can be reduced.
     fn reduce(&self, start: State, steps: u32) -> Result<State, ReduceFault>
         requires over { All (λ t. IsOver (O.letters self.now.order) t.1) start.rest }
-        requires multiplier_in { IsCoefficient start.multiplier }
-        requires canonical { IsCanonical start.rest }
-        requires rows_in { All (λ row. IsCoefficient row.coef) start.rows }
+        requires in_range { IsInRange start }
         requires unused { start.used ≡ 0 }
         ensures canonical { IfOk result (λ t. IsCanonical t.rest) }
         ensures exact { MatchResult result (λ t. reduction steps (O.compare self.now.order) self.now.rules steps start ≡ Ok t) (ExplainsHalt (reduction steps (O.compare self.now.order) self.now.rules steps start)) }

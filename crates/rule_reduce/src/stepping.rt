@@ -2,10 +2,10 @@ ghost use Rattle.std.specs.Prelude.{◌≡◌, ◌<◌, ◌≤◌, ◌<ℤ◌, �
 ghost use Rattle.std.specs.List.{All};
 ghost use Rattle.coef_int.specs.Range.{IsCoefficient};
 ghost use Rattle.word_core.specs.Letters.{IsOver};
-ghost use Rattle.nc_polynomial.specs.Shape.{IsCanonical};
-ghost use Rattle.nc_polynomial.specs.Faults.{checked, Explains};
+ghost use Rattle.nc_polynomial.specs.Shape.{IsShaped};
+ghost use Rattle.nc_polynomial.specs.Faults.{checked, finished, Explains};
 ghost use Rattle.rule_reduce.specs.RuleLists.{rule_at};
-ghost use Rattle.rule_reduce.specs.Steps.{move_result, multiplied_row, row_operations, step_result};
+ghost use Rattle.rule_reduce.specs.Steps.{multiplied_row, row_operations, multiplied_state, state_operations, less_multiple, less_operations, move_of, move_result, step_result, IsInRange};
 
 use crate::Rule;
 use crate::parts::{back, divisor, front, quotient};
@@ -47,29 +47,17 @@ fn multiply_rows(alloc: Global, rows: Listing<Row>, by: i128) -> Result<Listing<
     Ok(multiplied)
 }
 
-// One step: the state times a number, less a multiple of a rule.
-fn take_away(
-    alloc: Global,
-    by: i128,
-    times: i128,
-    left: Word,
-    rule: &Poly,
-    number: u32,
-    right: Word,
-    state: State,
-) -> Result<State, PolyFault>
-    requires by_in { IsCoefficient by }
-    requires times_in { IsCoefficient times }
-    requires multiplier_in { IsCoefficient state.multiplier }
-    requires canonical { IsCanonical state.rest }
-    requires rows_in { All (λ row. IsCoefficient row.coef) state.rows }
-    requires steps { state.used + 1 < 2 ^ 32 }
-    ensures multiplier_in { IfOk result (λ t. IsCoefficient t.multiplier) }
-    ensures canonical { IfOk result (λ t. IsCanonical t.rest) }
-    ensures rows_in { IfOk result (λ t. All (λ row. IsCoefficient row.coef) t.rows) }
-    ensures steps { IfOk result (λ t. t.used ≤ state.used + 1) }
-    ensures exact { MatchResult result (λ t. move_result (record { by = by; times = times; left = left; rule = rule.now.terms; number = number; right = right }) state ≡ Ok t) (Explains (move_result (record { by = by; times = times; left = left; rule = rule.now.terms; number = number; right = right }) state)) }
+// Everything times a number. Where it is 1, everything stays.
+fn multiply_state(alloc: Global, state: State, by: i128) -> Result<State, PolyFault>
+    requires factor_in { IsCoefficient by }
+    requires in_range { IsInRange state }
+    ensures in_range { IfOk result IsInRange }
+    ensures used { IfOk result (λ t. t.used ≡ state.used) }
+    ensures exact { MatchResult result (λ t. checked (state_operations by state) (multiplied_state by state) ≡ Ok t) (Explains (checked (state_operations by state) (multiplied_state by state))) }
 {
+    if by == 1 {
+        return Ok(state);
+    }
     let State {
         multiplier,
         rest,
@@ -81,22 +69,60 @@ fn take_away(
         Err(fault) => return Err(PolyFault::Overflow(fault)),
     };
     let rest = multiply_terms(alloc, rest, by)?;
-    let mut rows = multiply_rows(alloc, rows, by)?;
-    let taken = shift_terms(alloc, times, &left, rule.terms.as_slice(), &right)?;
-    let taken = negate_terms(alloc, taken)?;
-    let rest = Poly::from_descending(merge_terms(alloc, rest, taken)?)?;
-    rows.push(Row {
-        coef: times,
-        left,
-        from: Origin::Rule(number),
-        right,
-    })?;
+    let rows = multiply_rows(alloc, rows, by)?;
     Ok(State {
         multiplier,
-        rest: rest.terms,
+        rest,
         rows,
-        used: used + 1,
+        used,
     })
+}
+
+// A polynomial less a multiple of a rule.
+fn subtract_multiple(
+    alloc: Global,
+    rest: Listing<(i128, Word)>,
+    times: i128,
+    left: &Word,
+    rule: &Poly,
+    right: &Word,
+) -> Result<Poly, PolyFault>
+    requires times_in { IsCoefficient times }
+    requires shaped { IsShaped rest }
+    ensures { MatchResult result (λ p. finished (less_operations times left.now rule.now.terms right.now rest) (less_multiple times left.now rule.now.terms right.now rest) ≡ Ok p.terms)
+        (Explains (finished (less_operations times left.now rule.now.terms right.now rest) (less_multiple times left.now rule.now.terms right.now rest))) }
+{
+    let taken = shift_terms(alloc, times, left, rule.terms.as_slice(), right)?;
+    let taken = negate_terms(alloc, taken)?;
+    Poly::from_descending(merge_terms(alloc, rest, taken)?)
+}
+
+// The step with this choice by its rule.
+fn take_away(alloc: Global, rule: &Rule, choice: Choice, state: State) -> Result<State, PolyFault>
+    requires leading_in { IsCoefficient rule.now.leading }
+    requires positive { pos 0 <ℤ rule.now.leading }
+    requires choice_in { IsCoefficient choice.coefficient }
+    requires in_range { IsInRange state }
+    requires steps { state.used + 1 < 2 ^ 32 }
+    ensures in_range { IfOk result IsInRange }
+    ensures steps { IfOk result (λ t. t.used ≤ state.used + 1) }
+    ensures exact { MatchResult result (λ t. move_result (move_of choice rule.now) state ≡ Ok t) (Explains (move_result (move_of choice rule.now) state)) }
+{
+    let shared = divisor(choice.coefficient, rule.leading);
+    let by = quotient(rule.leading, shared);
+    let times = quotient(choice.coefficient, shared);
+    let left = front(&choice.word, choice.place)?;
+    let right = back(&choice.word, choice.place, rule.lead.len())?;
+    let mut next = multiply_state(alloc, state, by)?;
+    next.rest = subtract_multiple(alloc, next.rest, times, &left, &rule.poly, &right)?.terms;
+    next.rows.push(Row {
+        coef: times,
+        left,
+        from: Origin::Rule(choice.number),
+        right,
+    })?;
+    next.used += 1;
+    Ok(next)
 }
 
 // The rule with this number.
@@ -120,34 +146,15 @@ pub(crate) fn take_step(
     requires leading_in { All (λ g. IsCoefficient g.leading) rules.now }
     requires positive { All (λ g. pos 0 <ℤ g.leading) rules.now }
     requires choice_in { IsCoefficient choice.coefficient }
-    requires multiplier_in { IsCoefficient state.multiplier }
-    requires canonical { IsCanonical state.rest }
-    requires rows_in { All (λ row. IsCoefficient row.coef) state.rows }
+    requires in_range { IsInRange state }
     requires steps { state.used + 1 < 2 ^ 32 }
-    ensures multiplier_in { IfOk result (λ t. IsCoefficient t.multiplier) }
-    ensures canonical { IfOk result (λ t. IsCanonical t.rest) }
-    ensures rows_in { IfOk result (λ t. All (λ row. IsCoefficient row.coef) t.rows) }
+    ensures in_range { IfOk result IsInRange }
     ensures steps { IfOk result (λ t. t.used ≤ state.used + 1) }
     ensures letters { IfOk result (λ t. (n : ℕ) → All (λ g. All (λ u. IsOver n u.1) g.poly.terms) rules.now → IsOver n choice.word → All (λ u. IsOver n u.1) state.rest → All (λ u. IsOver n u.1) t.rest) }
     ensures exact { MatchResult result (λ t. step_result rules.now choice state ≡ Ok t) (Explains (step_result rules.now choice state)) }
 {
-    let rule = match find_rule(rules, choice.number) {
-        Some(rule) => rule,
-        None => return Ok(state),
-    };
-    let shared = divisor(choice.coefficient, rule.leading);
-    let by = quotient(rule.leading, shared);
-    let times = quotient(choice.coefficient, shared);
-    let left = front(&choice.word, choice.place)?;
-    let right = back(&choice.word, choice.place, rule.lead.len())?;
-    take_away(
-        alloc,
-        by,
-        times,
-        left,
-        &rule.poly,
-        choice.number,
-        right,
-        state,
-    )
+    match find_rule(rules, choice.number) {
+        Some(rule) => take_away(alloc, rule, choice, state),
+        None => Ok(state),
+    }
 }

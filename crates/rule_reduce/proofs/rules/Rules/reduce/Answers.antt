@@ -49,9 +49,7 @@ loop-preserved g c =
     record {
       within = omega arith;
       used = search rules;
-      multiplier_in = search rules;
-      canonical = search rules;
-      rows_in = search rules;
+      in_range = search rules;
       over = c.in-Ok.ensures.letters letters (subst (λ (rs : List Rule). All (λ f. All (λ u. IsOver letters u.1) f.poly.terms) rs) (sym same_rules) rules_over) word_over c.loop.invariant.over;
       same = ap (λ n. reduction limit compare all n next) fewer ∙ sym (goes_on limit compare all s left choice next pick stepped) ∙ ap (λ n. reduction limit compare all n s) more ∙ c.loop.invariant.same;
     }

@@ -1,8 +1,7 @@
 use Rattle.std.proofs.Common.{◌≡◌, ◌≤◌, ◌-◌}
 use Rattle.std.specs.List.{All}
-use Rattle.coef_int.specs.Range.{IsCoefficient}
 use Rattle.word_core.specs.Letters.{IsOver}
-use Rattle.nc_polynomial.specs.Shape.{IsCanonical}
+use Rattle.rule_reduce.specs.Steps.{IsInRange}
 use Rattle.rule_reduce.specs.NormalForms.{reduction}
 use Rattle.rule_reduce.proofs.rules.Rules.reduce.Given as goal
 
@@ -11,9 +10,7 @@ abbrev pub invariant-loop : goal.invariant-loop
 invariant-loop g l = record {
   within : l.counter ≤ l.steps;
   used : l.state.used ≤ l.counter;
-  multiplier_in : IsCoefficient l.state.multiplier;
-  canonical : IsCanonical l.state.rest;
-  rows_in : All (λ row. IsCoefficient row.coef) l.state.rows;
+  in_range : IsInRange l.state;
   over : All (λ t. IsOver (g.O.WordOrder.letters l.self.order) t.1) l.state.rest;
   same : reduction l.steps (g.O.WordOrder.compare l.self.order) l.self.rules (l.steps - l.counter) l.state ≡ reduction l.steps (g.O.WordOrder.compare l.self.order) l.self.rules l.steps l.fn.start;
 }

@@ -1,0 +1,64 @@
+use Rattle.std.proofs.Common.{rules, ◌≡◌, ◌*ℤ◌, pos, [], ◌∷◌, map, Ok, Err, sym, ap, ◌∙◌, subst}
+use Rattle.coef_int.specs.Range.{IsCoefficient}
+use Rattle.coef_int.specs.Operations.{product_of}
+use Rattle.nc_polynomial.specs.Terms.{multiplied, multiplications}
+use Rattle.nc_polynomial.specs.Faults.{checked, Explains}
+use Rattle.rule_reduce.specs.declared.state.State.{State}
+use Rattle.rule_reduce.specs.Steps.{multiplied_row, row_operations, multiplied_state, state_operations, IsInRange}
+use Rattle.rule_reduce.proofs.Exits.{one_checked, state-times-one, exit_rest, exit_rows, all_multiplied, canonical_multiply}
+use Rattle.rule_reduce.proofs.stepping.multiply_state.Goals as goal
+
+pub returns-then-by-eq1-clause-exact : goal.returns-then-by-eq1-clause-exact
+returns-then-by-eq1-clause-exact c =
+    let s = c.args.state in
+    let one : c.args.by ≡ pos 1 = search rules in
+    ap (λ k. checked (state_operations k s) (multiplied_state k s)) one ∙ state-times-one s c.requires.in_range
+
+pub returns-in_err-rest-clause-exact : goal.returns-in_err-rest-clause-exact
+returns-in_err-rest-clause-exact c =
+    let by = c.args.by in
+    let s = c.args.state in
+    let x = c.in-Ok.product in
+    let first = one_checked s.multiplier by x (search rules) (search rules) in
+    let e = c.in_err-rest.field-0.0 in
+    let why : Explains (checked (multiplications s.rest by) (multiplied s.rest by)) e = search rules in
+    let back : c.from_residual.result ≡ Err e = search rules in
+    rw back (exit_rest by s x first e why)
+
+pub returns-in_err-rows-clause-exact : goal.returns-in_err-rows-clause-exact
+returns-in_err-rows-clause-exact c =
+    let by = c.args.by in
+    let s = c.args.state in
+    let x = c.in-Ok.product in
+    let first = one_checked s.multiplier by x (search rules) (search rules) in
+    let p = c.in_ok-rest.rest in
+    let second : checked (multiplications s.rest by) (multiplied s.rest by) ≡ Ok p = search rules in
+    let e = c.in_err-rows.field-0.0 in
+    let why : Explains (checked (row_operations s.rows by) (map (multiplied_row by) s.rows)) e = search rules in
+    let back : c.from_residual-in_err-rows.result ≡ Err e = search rules in
+    rw back (exit_rows by s x first p second e why)
+
+pub returns-clause-in_range : goal.returns-clause-in_range
+returns-clause-in_range c =
+    let by = c.args.by in
+    let s = c.args.state in
+    let same : c.in-Ok.product ≡ s.multiplier *ℤ by = search rules in
+    let fits : IsCoefficient (s.multiplier *ℤ by) = search rules in
+    let p = c.in_ok-rest.rest in
+    let second : checked (multiplications s.rest by) (multiplied s.rest by) ≡ Ok p = search rules in
+    let whole : IsInRange (record { multiplier = c.in-Ok.product; rest = p; rows = c.in_ok-rows.rows; used = s.used }) =
+    record { multiplier = subst IsCoefficient (sym same) fits; rest = canonical_multiply s.rest by p c.requires.in_range.rest second; rows = search rules } in
+    search (rules, whole)
+
+pub returns-clause-exact : goal.returns-clause-exact
+returns-clause-exact c =
+    let by = c.args.by in
+    let s = c.args.state in
+    let x = c.in-Ok.product in
+    let first = one_checked s.multiplier by x (search rules) (search rules) in
+    let p = c.in_ok-rest.rest in
+    let second : checked (multiplications s.rest by) (multiplied s.rest by) ≡ Ok p = search rules in
+    let rows = c.in_ok-rows.rows in
+    let third : checked (row_operations s.rows by) (map (multiplied_row by) s.rows) ≡ Ok rows = search rules in
+    let whole : checked (state_operations by s) (multiplied_state by s) ≡ Ok (record { multiplier = x; rest = p; rows = rows; used = s.used }) = all_multiplied by s x first p second rows third in
+    search (rules, whole)
