@@ -1,1 +1,15 @@
 pub mod Keys
+pub mod Runs
+pub mod Flat
+pub mod Listed
+pub mod KindsFound
+pub mod Quiet
+pub mod Bridge
+pub mod Each
+pub mod Apart
+pub mod Clean
+pub mod NamedKinds
+pub mod Fresh
+pub mod Items
+pub mod FileDeclared
+pub mod Tally
