@@ -1,0 +1,5 @@
+pub mod Closing
+pub mod Cuts
+pub mod Numbers
+pub mod Fronts
+pub mod Reading
