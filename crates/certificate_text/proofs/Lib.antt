@@ -3,3 +3,4 @@ pub mod Cuts
 pub mod Numbers
 pub mod Fronts
 pub mod Reading
+pub mod Joins

@@ -117,8 +117,7 @@ fn letter_named(quiver: &Quiver, name: &str, identity: bool) -> Option<Letter>
 
 /// The letter of the quiver that the token spells.
 pub fn letter_of(quiver: &Quiver, token: &[u8]) -> Option<Letter>
-    ensures exact { option_map (λ a. a.0) result ≡ letter_of quiver.now token.now }
-    ensures in_range { IfSome result (λ a. a.0 < letter_count quiver.now) }
+    ensures { option_map (λ a. a.0) result ≡ letter_of quiver.now token.now }
 {
     let spelled = spelled_by(token)?;
     let letter = letter_named(quiver, spelled.name, spelled.identity)?;

@@ -1,6 +1,6 @@
 //! The lines of a certificate.
 
-ghost use Rattle.std.specs.Prelude.{◌≡◌, ◌<◌, ◌≤◌, length, position, IsTrue, IfSome};
+ghost use Rattle.std.specs.Prelude.{◌≡◌, ◌<◌, length, position, IsTrue, IfSome};
 ghost use Rattle.std.specs.List.{list_all};
 ghost use Rattle.std.specs.Option.{option_copied, option_map};
 ghost use Rattle.certificate_text.specs.declared.fault.Flaw.TheVariants as flaw;
@@ -203,7 +203,7 @@ fn word_of(alloc: Global, quiver: &Quiver, tokens: &[&[u8]]) -> Result<Word, Lin
 
 /// The row that the line is.
 pub fn row_of(alloc: Global, quiver: &Quiver, line: &[&[u8]]) -> Result<CertRow, LineFault>
-    ensures exact { Reads (λ row. row) result (row_of quiver.now (texts line.now)) }
+    ensures { Reads (λ row. row) result (row_of quiver.now (texts line.now)) }
 {
     let Some(tokens) = row_parts(line) else {
         return Err(LineFault::Flaw(Flaw::BadLine));
