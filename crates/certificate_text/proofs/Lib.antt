@@ -4,3 +4,6 @@ pub mod Numbers
 pub mod Fronts
 pub mod Reading
 pub mod Joins
+pub mod Results
+pub mod Stars
+pub mod Checkable
