@@ -1,5 +1,5 @@
 -- Evidence text: the certificates that bytes are, or the first thing that is wrong with them.
-use Rattle.std.specs.Prelude.{◌≤◌, ℕ, ◌+◌, List, [], ◌∷◌, ◌++◌, length, nat_le, pos, Result, Ok, Err, if◌then◌else◌}
+use Rattle.std.specs.Prelude.{◌≤◌, ℕ, ◌+◌, List, [], ◌∷◌, ◌++◌, length, nat_le, ℤ, Result, Ok, Err, if◌then◌else◌}
 use Rattle.std.specs.List.{All}
 use Rattle.std.specs.Str.{is_utf8}
 use Rattle.std.specs.Str.Lines.{lines}
@@ -15,7 +15,7 @@ use Rattle.certificate_text.specs.declared.place.Place.TheVariants.{Outside, Ski
 use Rattle.certificate_text.specs.declared.place.Progress.{Progress}
 use Rattle.certificate_text.specs.Fault.{Fault, ◌>>=◌, at_line, not_utf8, truncated, no_block}
 use Rattle.certificate_text.specs.Tokens.{tokens_of, is_skipped}
-use Rattle.certificate_text.specs.Lines.{block_limit, is_head, is_other_head, is_end, claim_of, denominator_of, row_of, letters_in, with_row}
+use Rattle.certificate_text.specs.Lines.{block_limit, is_head, is_other_head, is_end, claim_of, denominator_of, row_of, with_row}
 
 -- the certificates that were read, and where the next line stands
 abbrev pub progress : List Certificate → Place → Progress
@@ -28,19 +28,23 @@ outside done line =
     else if is_other_head line then Ok (progress done Skipped)
     else Err BadLine
 
+-- the certificate with these rows, of so many letters
+abbrev pub rows_of : ℕ → ℤ → List CertRow × ℕ → Place
+rows_of claim denominator rows = Rows (record { claim = claim; denominator = denominator; rows = rows.0 }) rows.1
+
 -- a row more, or the end
 abbrev pub in_rows : List Declaration → List Certificate → Certificate → ℕ → List (List ℕ) → Result Progress Flaw
 in_rows ds done certificate letters line =
     if is_end line then Ok (progress (done ++ certificate ∷ []) Outside)
     else row_of ds line >>= λ row. (with_row certificate.rows letters row >>= λ rows.
-    Ok (progress done (Rows (record { claim = certificate.claim; denominator = certificate.denominator; rows = rows }) (letters + letters_in row))))
+    Ok (progress done (rows_of certificate.claim certificate.denominator rows)))
 
 -- what a line comes to at its place
 abbrev pub step : List Declaration → List Certificate → Place → List (List ℕ) → Result Progress Flaw
 step ds done Outside line = outside done line
 step ds done Skipped line = Ok (progress done (if is_end line then Outside else Skipped))
 step ds done Headed line = claim_of line >>= λ n. Ok (progress done (Claimed n))
-step ds done (Claimed n) line = denominator_of line >>= λ d. Ok (progress done (Rows (record { claim = n; denominator = pos d; rows = [] }) 0))
+step ds done (Claimed n) line = denominator_of line >>= λ d. Ok (progress done (rows_of n d ([], 0)))
 step ds done (Rows certificate letters) line = in_rows ds done certificate letters line
 
 -- blank lines and comments are skipped everywhere

@@ -16,14 +16,13 @@ use Rattle.quiver.specs.Declarations.{Declaration, named_in, identity_in, quiver
 abbrev pub starts_name : ℕ → Bool
 starts_name c = is_xid_start c || (c == 95)
 
--- a character that starts a name, and characters that go on with it
-abbrev pub is_identifier : List ℕ → Bool
-is_identifier [] = false
-is_identifier (c ∷ cs) = starts_name c && list_all is_xid_continue cs
+abbrev pub begins_name : List ℕ → Bool
+begins_name [] = false
+begins_name (c ∷ cs) = starts_name c
 
--- a name has at most 32 bytes
+-- at most 32 bytes, of a character that starts a name and characters that go on with it
 abbrev pub is_name : List ℕ → Bool
-is_name token = nat_le (length token) 32 && (is_utf8 token && is_identifier (chars token))
+is_name token = nat_le (length token) 32 && (is_utf8 token && (begins_name (chars token) && list_all is_xid_continue (drop 1 (chars token))))
 
 -- the token, if it is a name
 abbrev pub name_in : List ℕ → Option (List ℕ)

@@ -1,6 +1,6 @@
 -- The lines of a certificate.
 use Rattle.std.specs.Prelude.{ℕ, ◌+◌, ◌-◌, ◌^◌, ◌&&◌, ◌||◌, Bool, false, List, [], ◌∷◌, ◌++◌, length, nat_le, nat_lt, ℤ, pos, Option, Some, None, Result, Ok, Err, if◌then◌else◌, codes}
-use Rattle.std.specs.List.{list_all, list_any, before_first, after_first}
+use Rattle.std.specs.List.{list_all}
 use Rattle.std.specs.Option.{option_map, option_and_then}
 use Rattle.std.specs.Str.{bytes_eq}
 use Rattle.quiver.specs.Declarations.{Declaration}
@@ -73,8 +73,8 @@ number_behind word (a ∷ b ∷ c ∷ tokens) = None
 abbrev pub claim_of : List (List ℕ) → Result ℕ Flaw
 claim_of line = asked BadLine (number_behind (codes "claim") line) >>= λ digits. asked NumberTooLarge (number_within number_limit digits)
 
-abbrev pub denominator_of : List (List ℕ) → Result ℕ Flaw
-denominator_of line = asked BadLine (number_behind (codes "denominator") line) >>= λ digits. asked NumberTooLarge (number_within integer_limit digits)
+abbrev pub denominator_of : List (List ℕ) → Result ℤ Flaw
+denominator_of line = asked BadLine (number_behind (codes "denominator") line) >>= λ digits. asked NumberTooLarge (option_map pos (number_within integer_limit digits))
 
 -- ---- `row C (LETTERS) G (LETTERS)`
 
@@ -91,10 +91,15 @@ is_open = is (codes "(")
 abbrev pub is_close : List ℕ → Bool
 is_close = is (codes ")")
 
--- ( .. ) and what stands behind it
+-- what stands before the first ) and what stands behind it
+abbrev pub closed : List (List ℕ) → Option (List (List ℕ) × List (List ℕ))
+closed [] = None
+closed (token ∷ tokens) = if is_close token then Some ([], tokens) else option_map (λ parts. (token ∷ parts.0, parts.1)) (closed tokens)
+
+-- what stands in a ( .. ) and what stands behind it
 abbrev pub bracketed : List (List ℕ) → Option (List (List ℕ) × List (List ℕ))
 bracketed [] = None
-bracketed (token ∷ tokens) = if is_open token && list_any is_close tokens then Some (before_first is_close tokens, after_first is_close tokens) else None
+bracketed (token ∷ tokens) = if is_open token then closed tokens else None
 
 -- nothing stands behind the second bracket
 abbrev pub row_end : List ℕ → List (List ℕ) → List ℕ → List (List ℕ) → List (List ℕ) → Option RowTokens
@@ -138,10 +143,10 @@ row_of ds line =
 abbrev pub letters_in : CertRow → ℕ
 letters_in row = length row.left + length row.right
 
--- the rows of a block with one more, within the limits
-abbrev pub with_row : List CertRow → ℕ → CertRow → Result (List CertRow) Flaw
+-- the rows of a block and the number of letters in them, with one row more, within the limits
+abbrev pub with_row : List CertRow → ℕ → CertRow → Result (List CertRow × ℕ) Flaw
 with_row rows letters row =
     if nat_lt word_limit (length row.left) || nat_lt word_limit (length row.right) then Err (TooMany word_limit)
     else if nat_le row_limit (length rows) then Err (TooMany row_limit)
     else if nat_lt letter_limit (letters + letters_in row) then Err (TooMany letter_limit)
-    else Ok (rows ++ row ∷ [])
+    else Ok (rows ++ row ∷ [], letters + letters_in row)

@@ -1,10 +1,14 @@
 -- The tokens of a line. Blanks and tabs separate, ( ) ; = are tokens of their own, and every other run of characters is one.
 use Rattle.std.specs.Prelude.{ℕ, ◌==◌, ◌||◌, Bool, true, false, not, List, [], ◌∷◌, if◌then◌else◌}
-use Rattle.std.specs.List.{onto_first}
+use Rattle.std.specs.List.{onto_first, prefix_len}
 
 -- a blank or a tab
 abbrev pub is_gap : ℕ → Bool
 is_gap c = (c == 32) || (c == 9)
+
+-- the end of a line
+abbrev pub is_line_end : ℕ → Bool
+is_line_end c = c == 10
 
 -- ( ) ; =
 abbrev pub is_sign : ℕ → Bool
@@ -24,6 +28,11 @@ tokens_of (c ∷ cs) =
     if is_gap c then tokens_of cs
     else if is_sign c || not (goes_on cs) then (c ∷ []) ∷ tokens_of cs
     else onto_first c (tokens_of cs)
+
+-- how many characters the token at the front has, where there is one
+abbrev pub token_len : List ℕ → ℕ
+token_len [] = 0
+token_len (c ∷ cs) = if is_sign c then 1 else prefix_len is_plain (c ∷ cs)
 
 -- whether the first character is #
 abbrev pub begins_comment : List ℕ → Bool

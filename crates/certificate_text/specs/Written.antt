@@ -19,6 +19,10 @@ spelled_as name a None = []
 abbrev pub letter_text : List Declaration → ℕ → List ℕ
 letter_text ds a = spelled_as (letter_name ds a) a (named_in ds (letter_name ds a))
 
+-- the blank in front of the letter at a place
+abbrev pub gap_text : ℕ → List ℕ
+gap_text place = if place == 0 then [] else codes " "
+
 -- letters with one blank between them
 abbrev pub word_text : List Declaration → List ℕ → List ℕ
 word_text ds word = join_with_byte 32 (map (letter_text ds) word)

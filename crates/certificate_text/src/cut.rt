@@ -1,12 +1,19 @@
 //! Bytes to lines, and lines to tokens.
 
-ghost use Rattle.std.specs.Prelude.{◌≡◌, ◌∷◌, ◌<◌, ◌≤◌, length, IfOk};
+ghost use Rattle.std.specs.Prelude.{◌≡◌, ◌∷◌, ◌<◌, ◌≤◌, false, length, slice_index, position, IfOk, IfSome};
 ghost use Rattle.std.specs.List.{prefix_len};
 ghost use Rattle.std.specs.Str.Lines.{lines, strip_carriage_return};
-ghost use Rattle.certificate_text.specs.Tokens.{is_gap, is_sign, is_plain, tokens_of, begins_comment, is_skipped};
+ghost use Rattle.certificate_text.specs.Tokens.{is_line_end, is_gap, is_sign, is_plain, token_len, tokens_of, begins_comment, is_skipped};
 ghost use Rattle.certificate_text.specs.Views.{texts};
 
 use std::alloc::{AllocError, Global};
+
+fn line_end(text: &[u8]) -> Option<usize>
+    ensures first { result ≡ position is_line_end text.now }
+    ensures within { IfSome result (λ end. end < length text.now) }
+{
+    text.iter().position(|byte| *byte == b'\n')
+}
 
 /// The first line of a text that has one, and what stands behind it.
 pub fn first_line(text: &[u8]) -> (&[u8], &[u8])
@@ -14,7 +21,7 @@ pub fn first_line(text: &[u8]) -> (&[u8], &[u8])
     ensures lines { lines text.now ≡ result.0.now ∷ lines result.1.now }
     ensures shorter { length result.1.now < length text.now }
 {
-    match text.iter().position(|byte| *byte == b'\n') {
+    match line_end(text) {
         Some(end) => (ended_line(&text[..end]), &text[end + 1..]),
         None => (text, &[]),
     }
@@ -54,6 +61,28 @@ fn run_len(text: &[u8]) -> usize
     count
 }
 
+fn token_len(text: &[u8]) -> usize
+    ensures exact { result ≡ token_len text.now }
+    ensures within { result ≤ length text.now }
+{
+    match text {
+        [] => 0,
+        [first, ..] if is_sign(*first) => 1,
+        _ => run_len(text),
+    }
+}
+
+// The token at the front of a line, and what stands behind it.
+fn first_token(line: &[u8]) -> (&[u8], &[u8])
+    requires some { 0 < length line.now }
+    requires token { is_gap (slice_index line.now 0) ≡ false }
+    ensures tokens { tokens_of line.now ≡ result.0.now ∷ tokens_of result.1.now }
+    ensures shorter { length result.1.now < length line.now }
+{
+    let length = token_len(line);
+    (&line[..length], &line[length..])
+}
+
 /// The tokens of a line.
 pub fn tokens_of(alloc: Global, line: &[u8]) -> Result<Vec<&[u8]>, AllocError>
     ensures { IfOk result (λ tokens. texts tokens.items ≡ tokens_of line.now) }
@@ -63,11 +92,11 @@ pub fn tokens_of(alloc: Global, line: &[u8]) -> Result<Vec<&[u8]>, AllocError>
     while let [first, behind @ ..] = rest {
         if is_gap(*first) {
             rest = behind;
-            continue;
+        } else {
+            let (token, behind) = first_token(rest);
+            tokens.push(token)?;
+            rest = behind;
         }
-        let length = if is_sign(*first) { 1 } else { run_len(rest) };
-        tokens.push(&rest[..length])?;
-        rest = &rest[length..];
     }
     Ok(tokens)
 }

@@ -1,14 +1,18 @@
 //! The tokens that spell letters.
 
-ghost use Rattle.std.specs.Prelude.{◌≡◌, ◌<◌, IfSome};
+ghost use Rattle.std.specs.Prelude.{◌≡◌, ◌<◌, true, false, drop, IfSome, MatchOption};
+ghost use Rattle.std.specs.List.{list_all};
 ghost use Rattle.std.specs.Option.{option_copied, option_map, option_and_then};
-ghost use Rattle.std.specs.Str.{chars};
+ghost use Rattle.std.specs.Str.{chars, is_utf8};
+ghost use Rattle.unicode_ident.specs.Ident.{is_xid_continue};
 ghost use Rattle.quiver.specs.Declarations.{letter_count, named_in};
-ghost use Rattle.certificate_text.specs.Letters.{starts_name, is_identifier, name_in, named_by, without_brackets, spelled_by, is_letter, letter_named, letter_of};
+ghost use Rattle.certificate_text.specs.Letters.{starts_name, begins_name, name_in, named_by, without_brackets, spelled_by, is_letter, letter_named, letter_of};
 ghost use Rattle.certificate_text.specs.Views.{spelled};
 
 use quiver::{Named, Quiver};
 use word_core::Letter;
+
+const NAME_LIMIT: usize = 32;
 
 // A name, whether it stands in square brackets, and whether a ' stands behind it.
 #[derive(Drop)]
@@ -24,31 +28,43 @@ fn starts_name(ch: char) -> bool
     unicode_ident::is_xid_start(ch) || ch == '_'
 }
 
-fn is_identifier(text: &str) -> bool
-    ensures { result ≡ is_identifier (chars text.now) }
+// Whether the first character starts a name.
+fn begins_name(text: &str) -> bool
+    ensures { result ≡ begins_name (chars text.now) }
 {
-    let mut place = 0;
-    for ch in text.chars() {
-        if place == 0 && !starts_name(ch) || place > 0 && !unicode_ident::is_xid_continue(ch) {
-            return false;
-        }
-        place += 1;
+    match text.chars().next() {
+        Some(first) => starts_name(first),
+        None => false,
     }
-    place > 0
+}
+
+// Whether a name goes on with all characters but the first.
+fn goes_on(text: &str) -> bool
+    ensures { result ≡ list_all is_xid_continue (drop 1 (chars text.now)) }
+{
+    text.chars().skip(1).all(unicode_ident::is_xid_continue)
+}
+
+// The bytes as a text, if they are UTF-8.
+fn text_in(bytes: &[u8]) -> Option<&str>
+    ensures { MatchOption result (is_utf8 bytes.now ≡ false) (λ text. (is_utf8 bytes.now ≡ true) × (text.now ≡ bytes.now)) }
+{
+    match std::str::from_utf8(bytes) {
+        Ok(text) => Some(text),
+        Err(_) => None,
+    }
 }
 
 // The token as a name, if it is one.
 fn name_in(token: &[u8]) -> Option<&str>
     ensures { option_copied result ≡ name_in token.now }
 {
-    if token.len() > 32 {
+    if token.len() > NAME_LIMIT {
         return None;
     }
-    let name = std::str::from_utf8(token).ok()?;
-    if is_identifier(name) {
-        Some(name)
-    } else {
-        None
+    match text_in(token) {
+        Some(text) if begins_name(text) && goes_on(text) => Some(text),
+        _ => None,
     }
 }
 
@@ -101,8 +117,7 @@ fn letter_named(quiver: &Quiver, name: &str, identity: bool) -> Option<Letter>
 
 /// The letter of the quiver that the token spells.
 pub fn letter_of(quiver: &Quiver, token: &[u8]) -> Option<Letter>
-    ensures exact { option_map (λ a. a.0) result ≡ letter_of quiver.now token.now }
-    ensures in_range { IfSome result (λ a. a.0 < letter_count quiver.now) }
+    ensures { option_map (λ a. a.0) result ≡ letter_of quiver.now token.now }
 {
     let spelled = spelled_by(token)?;
     let letter = letter_named(quiver, spelled.name, spelled.identity)?;

@@ -1,13 +1,12 @@
 //! The lines of a certificate.
 
-ghost use Rattle.std.specs.Prelude.{◌≡◌, ◌≤◌, IsTrue, IfSome};
-ghost use Rattle.std.specs.Int.RustNames.{unsigned_abs};
+ghost use Rattle.std.specs.Prelude.{◌≡◌, ◌<◌, length, position, IsTrue, IfSome};
 ghost use Rattle.std.specs.List.{list_all};
 ghost use Rattle.std.specs.Option.{option_copied, option_map};
 ghost use Rattle.certificate_text.specs.declared.fault.Flaw.TheVariants as flaw;
 ghost use Rattle.certificate_text.specs.Fault.{Reads, asked};
 ghost use Rattle.certificate_text.specs.Letters.{is_letter, is_number};
-ghost use Rattle.certificate_text.specs.Lines.{is, is_head, is_other_head, is_end, number_behind, claim_of, denominator_of, bracketed, generator_part, row_parts, is_row, word_of, row_of, with_row};
+ghost use Rattle.certificate_text.specs.Lines.{is, is_head, is_other_head, is_end, number_behind, claim_of, denominator_of, is_close, closed, bracketed, generator_part, row_parts, is_row, word_of, row_of, with_row};
 ghost use Rattle.certificate_text.specs.Views.{texts, row_tokens};
 
 use crate::fault::{Flaw, LineFault};
@@ -101,7 +100,7 @@ pub fn claim_of(line: &[&[u8]]) -> Result<u32, LineFault>
 
 /// The number of `denominator D`.
 pub fn denominator_of(line: &[&[u8]]) -> Result<i128, LineFault>
-    ensures { Reads unsigned_abs result (denominator_of (texts line.now)) }
+    ensures { Reads (λ d. d) result (denominator_of (texts line.now)) }
 {
     let Some(digits) = number_behind("denominator", line) else {
         return Err(LineFault::Flaw(Flaw::BadLine));
@@ -112,18 +111,31 @@ pub fn denominator_of(line: &[&[u8]]) -> Result<i128, LineFault>
     }
 }
 
-// What stands in the first brackets of the line, which begin it, and what stands behind them.
+fn close_place(line: &[&[u8]]) -> Option<usize>
+    ensures first { result ≡ position (λ token. is_close token.now) line.now }
+    ensures within { IfSome result (λ place. place < length line.now) }
+{
+    line.iter().position(|token| is(")", token))
+}
+
+// What stands before the first `)` and what stands behind it.
+fn closed<'a, 'b>(line: &'b [&'a [u8]]) -> Option<(&'b [&'a [u8]], &'b [&'a [u8]])>
+    ensures { option_map (λ parts. (texts parts.0.now, texts parts.1.now)) result ≡ closed (texts line.now) }
+{
+    match close_place(line) {
+        Some(place) => Some((&line[..place], &line[place + 1..])),
+        None => None,
+    }
+}
+
+// What stands in a `( .. )` that begins the line and what stands behind it.
 fn bracketed<'a, 'b>(line: &'b [&'a [u8]]) -> Option<(&'b [&'a [u8]], &'b [&'a [u8]])>
     ensures { option_map (λ parts. (texts parts.0.now, texts parts.1.now)) result ≡ bracketed (texts line.now) }
 {
-    let [first, rest @ ..] = line else {
-        return None;
-    };
-    if !is("(", first) {
-        return None;
+    match line {
+        [first, rest @ ..] if is("(", first) => closed(rest),
+        _ => None,
     }
-    let end = rest.iter().position(|token| is(")", token))?;
-    Some((&rest[..end], &rest[end + 1..]))
 }
 
 fn generator_part<'a, 'b>(
@@ -191,7 +203,7 @@ fn word_of(alloc: Global, quiver: &Quiver, tokens: &[&[u8]]) -> Result<Word, Lin
 
 /// The row that the line is.
 pub fn row_of(alloc: Global, quiver: &Quiver, line: &[&[u8]]) -> Result<CertRow, LineFault>
-    ensures exact { Reads (λ row. row) result (row_of quiver.now (texts line.now)) }
+    ensures { Reads (λ row. row) result (row_of quiver.now (texts line.now)) }
 {
     let Some(tokens) = row_parts(line) else {
         return Err(LineFault::Flaw(Flaw::BadLine));
@@ -215,24 +227,25 @@ pub fn row_of(alloc: Global, quiver: &Quiver, line: &[&[u8]]) -> Result<CertRow,
     })
 }
 
-/// The rows with one more, within the limits of a block of so many letters.
+/// The rows of a block and the number of letters in them, with one row more, within the limits.
 pub fn with_row(
     mut rows: Listing<CertRow>,
     letters: u32,
     row: CertRow,
-) -> Result<Listing<CertRow>, LineFault>
-    requires few { letters ≤ 1000000 }
+) -> Result<(Listing<CertRow>, u32), LineFault>
     ensures { Reads (λ rows. rows) result (with_row rows letters row) }
 {
-    if row.left.len() > WORD_LIMIT as usize || row.right.len() > WORD_LIMIT as usize {
+    let (left, right) = (row.left.len(), row.right.len());
+    if left > WORD_LIMIT as usize || right > WORD_LIMIT as usize {
         return Err(LineFault::Flaw(Flaw::TooMany(WORD_LIMIT)));
     }
     if rows.len() >= ROW_LIMIT as usize {
         return Err(LineFault::Flaw(Flaw::TooMany(ROW_LIMIT)));
     }
-    if letters as usize + row.left.len() + row.right.len() > LETTER_LIMIT as usize {
+    let letters = letters as usize + left + right;
+    if letters > LETTER_LIMIT as usize {
         return Err(LineFault::Flaw(Flaw::TooMany(LETTER_LIMIT)));
     }
     rows.push(row)?;
-    Ok(rows)
+    Ok((rows, letters as u32))
 }

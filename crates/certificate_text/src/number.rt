@@ -1,15 +1,23 @@
 //! The tokens that spell numbers.
 
 ghost use Rattle.std.specs.Prelude.{◌≡◌, ◌<◌, ◌^◌, IsTrue};
+ghost use Rattle.std.specs.Char.{is_ascii_digit};
+ghost use Rattle.std.specs.List.{list_all};
 ghost use Rattle.certificate_text.specs.Letters.{is_number, number_within, is_negative, digits_of, is_integer, integer_within};
 
 const LARGEST: u128 = 170141183460469231731687303715884105727;
+
+fn are_digits(bytes: &[u8]) -> bool
+    ensures { result ≡ list_all is_ascii_digit bytes.now }
+{
+    bytes.iter().all(|byte| byte.is_ascii_digit())
+}
 
 /// Whether the token is one or more decimal digits.
 pub fn is_number(token: &[u8]) -> bool
     ensures { result ≡ is_number token.now }
 {
-    !token.is_empty() && token.iter().all(|byte| byte.is_ascii_digit())
+    !token.is_empty() && are_digits(token)
 }
 
 /// The value of digits, if it is at most the limit.

@@ -1,11 +1,14 @@
 //! The certificates of evidence text, block by block.
 
-ghost use Rattle.std.specs.Prelude.{◌≡◌, ◌≤◌, ◌<◌, Ok, IfOk, MatchResult, length};
+ghost use Rattle.std.specs.Prelude.{◌≡◌, ◌<◌, ◌++◌, ◌∷◌, [], Ok, IfOk, MatchResult, length};
 ghost use Rattle.std.specs.List.{All};
 ghost use Rattle.certificate_text.specs.Fault.{Reads, ReadsText, Explains};
-ghost use Rattle.certificate_text.specs.Evidence.{certificates_of, step, outside, in_rows, read_tokens, read_lines, beginning, IsCheckable};
+ghost use Rattle.certificate_text.specs.Evidence.{certificates_of, blocks_of, ended, one_or_more, step, outside, in_rows, read_tokens, read_lines, beginning, IsCheckable};
 ghost use Rattle.certificate_text.specs.Tokens.{tokens_of};
 ghost use Rattle.certificate_text.specs.Views.{texts};
+ghost use Rattle.certificate_text.specs.declared.fault.CertFault.TheVariants as fault;
+ghost use Rattle.certificate_text.specs.declared.place.Place.TheVariants as place;
+ghost use Rattle.std.specs.Str.{is_utf8};
 ghost use Rattle.std.specs.Str.Lines.{lines};
 
 use crate::CertFault;
@@ -39,45 +42,104 @@ fn outside(certificates: Listing<Certificate>, line: &[&[u8]]) -> Result<Progres
     })
 }
 
+fn headed(certificates: Listing<Certificate>, line: &[&[u8]]) -> Result<Progress, LineFault>
+    ensures { Reads (λ p. p) result (step [] certificates place.Headed (texts line.now)) }
+{
+    let claim = claim_of(line)?;
+    let place = Place::Claimed { claim };
+    Ok(Progress {
+        certificates,
+        place,
+    })
+}
+
+fn claimed(
+    alloc: Global,
+    certificates: Listing<Certificate>,
+    claim: u32,
+    line: &[&[u8]],
+) -> Result<Progress, LineFault>
+    ensures { Reads (λ p. p) result (step [] certificates (place.Claimed claim) (texts line.now)) }
+{
+    let denominator = denominator_of(line)?;
+    let certificate = Certificate {
+        claim,
+        denominator,
+        rows: Listing::new(alloc),
+    };
+    let place = Place::Rows {
+        certificate,
+        letters: 0,
+    };
+    Ok(Progress {
+        certificates,
+        place,
+    })
+}
+
+fn skipped(certificates: Listing<Certificate>, line: &[&[u8]]) -> Progress
+    ensures { step [] certificates place.Skipped (texts line.now) ≡ Ok result }
+{
+    let place = if is_end(line) {
+        Place::Outside
+    } else {
+        Place::Skipped
+    };
+    Progress {
+        certificates,
+        place,
+    }
+}
+
+fn ended_block(
+    mut certificates: Listing<Certificate>,
+    certificate: Certificate,
+) -> Result<Progress, LineFault>
+    ensures { Reads (λ p. p) result (Ok (record { certificates = certificates ++ certificate ∷ []; place = place.Outside })) }
+{
+    certificates.push(certificate)?;
+    Ok(Progress {
+        certificates,
+        place: Place::Outside,
+    })
+}
+
 fn in_rows(
     alloc: Global,
     quiver: &Quiver,
-    mut certificates: Listing<Certificate>,
+    certificates: Listing<Certificate>,
     certificate: Certificate,
     letters: u32,
     line: &[&[u8]],
 ) -> Result<Progress, LineFault>
-    requires few { letters ≤ 1000000 }
     ensures { Reads (λ p. p) result (in_rows quiver.now certificates certificate letters (texts line.now)) }
 {
     if is_end(line) {
-        certificates.push(certificate)?;
-        return Ok(Progress {
-            certificates,
-            place: Place::Outside,
-        });
+        return ended_block(certificates, certificate);
     }
     let row = row_of(alloc, quiver, line)?;
-    let more = (row.left.len() + row.right.len()) as u32;
     let Certificate {
         claim,
         denominator,
         rows,
     } = certificate;
-    let rows = with_row(rows, letters, row)?;
+    let (rows, letters) = with_row(rows, letters, row)?;
+    let certificate = Certificate {
+        claim,
+        denominator,
+        rows,
+    };
+    let place = Place::Rows {
+        certificate,
+        letters,
+    };
     Ok(Progress {
         certificates,
-        place: Place::Rows {
-            certificate: Certificate {
-                claim,
-                denominator,
-                rows,
-            },
-            letters: letters + more,
-        },
+        place,
     })
 }
 
+// What the line comes to at its place.
 fn step(
     alloc: Global,
     quiver: &Quiver,
@@ -90,30 +152,16 @@ fn step(
         certificates,
         place,
     } = progress;
-    let place = match place {
-        Place::Outside => return outside(certificates, line),
-        Place::Skipped if is_end(line) => Place::Outside,
-        Place::Skipped => Place::Skipped,
-        Place::Headed => Place::Claimed {
-            claim: claim_of(line)?,
-        },
-        Place::Claimed { claim } => Place::Rows {
-            certificate: Certificate {
-                claim,
-                denominator: denominator_of(line)?,
-                rows: Listing::new(alloc),
-            },
-            letters: 0,
-        },
+    match place {
+        Place::Outside => outside(certificates, line),
+        Place::Skipped => Ok(skipped(certificates, line)),
+        Place::Headed => headed(certificates, line),
+        Place::Claimed { claim } => claimed(alloc, certificates, claim, line),
         Place::Rows {
             certificate,
             letters,
-        } => return in_rows(alloc, quiver, certificates, certificate, letters, line),
-    };
-    Ok(Progress {
-        certificates,
-        place,
-    })
+        } => in_rows(alloc, quiver, certificates, certificate, letters, line),
+    }
 }
 
 fn read_line(
@@ -153,6 +201,58 @@ fn read_lines(alloc: Global, quiver: &Quiver, text: &[u8]) -> Result<Progress, C
     Ok(progress)
 }
 
+fn of_text(code: u32) -> CertFault
+    ensures { result ≡ fault.Fault code 0 0 }
+{
+    CertFault::Fault {
+        code,
+        line: 0,
+        limit: 0,
+    }
+}
+
+fn is_utf8(bytes: &[u8]) -> bool
+    ensures { result ≡ is_utf8 bytes.now }
+{
+    match std::str::from_utf8(bytes) {
+        Ok(_) => true,
+        Err(_) => false,
+    }
+}
+
+// The text may end outside of blocks alone.
+fn ended(progress: Progress) -> Result<Listing<Certificate>, CertFault>
+    ensures { ReadsText (λ cs. cs) result (ended progress.certificates progress.place) }
+{
+    match progress.place {
+        Place::Outside => Ok(progress.certificates),
+        _ => Err(of_text(6)),
+    }
+}
+
+fn blocks_of(
+    alloc: Global,
+    bytes: &[u8],
+    quiver: &Quiver,
+) -> Result<Listing<Certificate>, CertFault>
+    requires { length bytes.now < 4294967295 }
+    ensures { ReadsText (λ cs. cs) result (blocks_of quiver.now bytes.now) }
+{
+    if !is_utf8(bytes) {
+        return Err(of_text(1));
+    }
+    ended(read_lines(alloc, quiver, bytes)?)
+}
+
+fn one_or_more(certificates: Listing<Certificate>) -> Result<Listing<Certificate>, CertFault>
+    ensures { ReadsText (λ cs. cs) result (one_or_more certificates) }
+{
+    match certificates.as_slice() {
+        [] => Err(of_text(7)),
+        _ => Ok(certificates),
+    }
+}
+
 /// The certificates of the text, over the letters of the quiver, or the first thing that is wrong with it. Blocks of other
 /// kinds are skipped. Want of memory is told where there is no room, whatever the text is.
 pub fn read_certificates(
@@ -166,27 +266,5 @@ pub fn read_certificates(
     // Each can be checked.
     ensures checkable { IfOk result (All (IsCheckable quiver.now)) }
 {
-    if std::str::from_utf8(bytes).is_err() {
-        return Err(CertFault::Fault {
-            code: 1,
-            line: 0,
-            limit: 0,
-        });
-    }
-    let progress = read_lines(alloc, quiver, bytes)?;
-    let Place::Outside = progress.place else {
-        return Err(CertFault::Fault {
-            code: 6,
-            line: 0,
-            limit: 0,
-        });
-    };
-    if progress.certificates.len() == 0 {
-        return Err(CertFault::Fault {
-            code: 7,
-            line: 0,
-            limit: 0,
-        });
-    }
-    Ok(progress.certificates)
+    one_or_more(blocks_of(alloc, bytes, quiver)?)
 }

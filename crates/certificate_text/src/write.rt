@@ -2,11 +2,11 @@
 
 ghost use Rattle.std.specs.Prelude.{◌≡◌, ◌<◌, ◌++◌, codes, decimal, IfOk, OnOk};
 ghost use Rattle.std.specs.Fmt.{signed_decimal};
-ghost use Rattle.std.specs.List.{All};
+ghost use Rattle.std.specs.List.{All, flat_map};
 ghost use Rattle.quiver.specs.Declarations.{letter_count};
 ghost use Rattle.word_core.specs.Letters.{IsOver};
 ghost use Rattle.certificate_text.specs.Evidence.{IsRowOver};
-ghost use Rattle.certificate_text.specs.Written.{letter_text, word_text, factor_text, term_text, first_text, later_text, poly_text, row_text, certificate_text};
+ghost use Rattle.certificate_text.specs.Written.{letter_text, gap_text, word_text, factor_text, term_text, first_text, later_text, poly_text, row_text, certificate_text};
 
 use cofactor_trace::{CertRow, Certificate};
 use itoa::Buffer;
@@ -55,14 +55,19 @@ fn put_letter(out: &mut Vec<u8>, quiver: &Quiver, letter: Letter) -> Result<(), 
     }
 }
 
+// The blank in front of all letters but the first.
+fn put_gap(out: &mut Vec<u8>, place: usize) -> Result<(), AllocError>
+    ensures { OnOk result (out.new.items ≡ out.old.items ++ gap_text place) }
+{
+    if place == 0 { Ok(()) } else { put(out, " ") }
+}
+
 fn put_word(out: &mut Vec<u8>, quiver: &Quiver, word: &Word) -> Result<(), AllocError>
     requires { IsOver (letter_count quiver.now) word.now }
     ensures { OnOk result (out.new.items ≡ out.old.items ++ word_text quiver.now word.now) }
 {
     for place in 0..word.len() {
-        if place > 0 {
-            put(out, " ")?;
-        }
+        put_gap(out, place)?;
         put_letter(out, quiver, word.letter(place))?;
     }
     Ok(())
@@ -80,6 +85,51 @@ fn put_term(out: &mut Vec<u8>, quiver: &Quiver, term: &(i128, Word)) -> Result<(
     put_word(out, quiver, &term.1)
 }
 
+fn put_first_term(out: &mut Vec<u8>, quiver: &Quiver, term: &(i128, Word)) -> Result<(), AllocError>
+    requires { IsOver (letter_count quiver.now) term.now.1 }
+    ensures { OnOk result (out.new.items ≡ out.old.items ++ first_text quiver.now term.now) }
+{
+    if term.0 < 0 {
+        put(out, "- ")?;
+    }
+    put_term(out, quiver, term)
+}
+
+fn put_later_term(out: &mut Vec<u8>, quiver: &Quiver, term: &(i128, Word)) -> Result<(), AllocError>
+    requires { IsOver (letter_count quiver.now) term.now.1 }
+    ensures { OnOk result (out.new.items ≡ out.old.items ++ later_text quiver.now term.now) }
+{
+    put(out, if term.0 < 0 { " - " } else { " + " })?;
+    put_term(out, quiver, term)
+}
+
+fn put_later_terms(
+    out: &mut Vec<u8>,
+    quiver: &Quiver,
+    terms: &[(i128, Word)],
+) -> Result<(), AllocError>
+    requires { All (λ t. IsOver (letter_count quiver.now) t.1) terms.now }
+    ensures { OnOk result (out.new.items ≡ out.old.items ++ flat_map (later_text quiver.now) terms.now) }
+{
+    for term in terms {
+        put_later_term(out, quiver, term)?;
+    }
+    Ok(())
+}
+
+fn put_terms(out: &mut Vec<u8>, quiver: &Quiver, terms: &[(i128, Word)]) -> Result<(), AllocError>
+    requires { All (λ t. IsOver (letter_count quiver.now) t.1) terms.now }
+    ensures { OnOk result (out.new.items ≡ out.old.items ++ poly_text quiver.now terms.now) }
+{
+    match terms {
+        [] => put(out, "0"),
+        [first, rest @ ..] => {
+            put_first_term(out, quiver, first)?;
+            put_later_terms(out, quiver, rest)
+        }
+    }
+}
+
 fn put_row(out: &mut Vec<u8>, quiver: &Quiver, row: &CertRow) -> Result<(), AllocError>
     requires { IsRowOver quiver.now row.now }
     ensures { OnOk result (out.new.items ≡ out.old.items ++ row_text quiver.now row.now) }
@@ -93,6 +143,16 @@ fn put_row(out: &mut Vec<u8>, quiver: &Quiver, row: &CertRow) -> Result<(), Allo
     put(out, " (")?;
     put_word(out, quiver, &row.right)?;
     put(out, ")\n")
+}
+
+fn put_rows(out: &mut Vec<u8>, quiver: &Quiver, rows: &[CertRow]) -> Result<(), AllocError>
+    requires { All (IsRowOver quiver.now) rows.now }
+    ensures { OnOk result (out.new.items ≡ out.old.items ++ flat_map (row_text quiver.now) rows.now) }
+{
+    for row in rows {
+        put_row(out, quiver, row)?;
+    }
+    Ok(())
 }
 
 /// The letters of a word with one blank between them.
@@ -111,18 +171,7 @@ pub fn write_poly(alloc: Global, quiver: &Quiver, poly: &Poly) -> Result<Vec<u8>
     ensures { IfOk result (λ text. text.items ≡ poly_text quiver.now poly.now.terms) }
 {
     let mut out = Vec::new(alloc);
-    let [first, rest @ ..] = poly.terms.as_slice() else {
-        put(&mut out, "0")?;
-        return Ok(out);
-    };
-    if first.0 < 0 {
-        put(&mut out, "- ")?;
-    }
-    put_term(&mut out, quiver, first)?;
-    for term in rest {
-        put(&mut out, if term.0 < 0 { " - " } else { " + " })?;
-        put_term(&mut out, quiver, term)?;
-    }
+    put_terms(&mut out, quiver, poly.terms.as_slice())?;
     Ok(out)
 }
 
@@ -141,9 +190,7 @@ pub fn write_certificate(
     put(&mut out, "\ndenominator ")?;
     put_integer(&mut out, certificate.denominator)?;
     put(&mut out, "\n")?;
-    for row in certificate.rows.as_slice() {
-        put_row(&mut out, quiver, row)?;
-    }
+    put_rows(&mut out, quiver, certificate.rows.as_slice())?;
     put(&mut out, "end\n")?;
     Ok(out)
 }

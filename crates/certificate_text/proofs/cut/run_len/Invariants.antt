@@ -1,4 +1,4 @@
-use Rattle.std.proofs.Common.{◌≡◌, ◌+◌, ◌-◌, length, drop}
+use Rattle.std.proofs.Common.{◌≡◌, ◌+◌, ◌-◌, ◌≤◌, length, drop}
 use Rattle.std.specs.List.{prefix_len}
 use Rattle.certificate_text.specs.Tokens.{is_plain}
 use Rattle.certificate_text.proofs.cut.run_len.Given as goal
@@ -7,4 +7,7 @@ abbrev pub decreases-loop-count : goal.decreases-loop-count
 decreases-loop-count l = length l.text - l.count
 
 abbrev pub invariant-loop-count : goal.invariant-loop-count
-invariant-loop-count l = l.count + prefix_len is_plain (drop l.count l.text) ≡ prefix_len is_plain l.text
+invariant-loop-count l = record {
+  within : l.count ≤ length l.text;
+  same : l.count + prefix_len is_plain (drop l.count l.text) ≡ prefix_len is_plain l.text;
+}

@@ -1,0 +1,9 @@
+pub mod Closing
+pub mod Cuts
+pub mod Numbers
+pub mod Fronts
+pub mod Reading
+pub mod Joins
+pub mod Results
+pub mod Stars
+pub mod Checkable
