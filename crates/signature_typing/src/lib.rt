@@ -1,0 +1,6 @@
+//! From the tree of a statement to its problem, or its first fault.
+#![tactic(auto)]
+
+mod fault;
+
+pub use fault::TypeFault;
