@@ -1,0 +1,70 @@
+-- The names, literals and first words of a file that may be wrong, in reading order.
+use Rattle.std.specs.Prelude.{ℕ, Bool, List, [], ◌∷◌, ◌++◌, map}
+use Rattle.std.specs.List.{flat_map}
+use Rattle.statement_syntax.specs.declared.place.Spot.{Spot}
+use Rattle.statement_syntax.specs.declared.tree.Name.{Name}
+use Rattle.statement_syntax.specs.declared.tree.Number.{Number}
+use Rattle.statement_syntax.specs.declared.tree.Statement.{Statement}
+use Rattle.statement_syntax.specs.declared.tree.StatementKind.{StatementKind}
+use Rattle.statement_syntax.specs.declared.tree.StatementKind.TheVariants as statement
+use Rattle.statement_syntax.specs.declared.tree.Sum.{Sum}
+use Rattle.statement_names.specs.declared.kinds.Kind.{Kind}
+use Rattle.statement_names.specs.declared.kinds.Kind.TheVariants.{Object, Map}
+use Rattle.statement_names.specs.Uses.{Use, object_use, map_use, sum_uses}
+
+pub data Occurrence : Type 0 where
+  -- the name declares an object
+  declares_object : Name → Occurrence
+  -- it declares a map from the first object to the second, its own adjoint or not
+  declares_map : Name → List ℕ → List ℕ → Bool → Occurrence
+  -- a declared name is used
+  uses : Use → Occurrence
+  -- it is used in a list of names, behind these
+  lists : List (List ℕ) → Use → Occurrence
+  -- a literal
+  weight : Number → Occurrence
+  modulus : Number → Occurrence
+  side : Number → Occurrence
+  -- the first word of a statement: of an order, of so many assumptions, of a claim, of a shape
+  begins_order : Spot → Occurrence
+  begins_assumptions : ℕ → Spot → Occurrence
+  begins_claim : Spot → Occurrence
+  begins_shape : Spot → Occurrence
+
+abbrev pub use_of : Kind → Name → Use
+use_of kind name = record { kind = kind; name = name }
+
+-- a list of names behind others of the list
+abbrev pub names_behind : Kind → List (List ℕ) → List Name → List Occurrence
+names_behind kind front [] = []
+names_behind kind front (name ∷ names) = lists front (use_of kind name) ∷ names_behind kind (front ++ name.text ∷ []) names
+
+-- a list of names, each with a literal
+abbrev pub pairs_behind : Kind → (Number → Occurrence) → List (List ℕ) → List (Name × Number) → List Occurrence
+pairs_behind kind literal front [] = []
+pairs_behind kind literal front (pair ∷ pairs) =
+    lists front (use_of kind pair.0) ∷ literal pair.1 ∷ pairs_behind kind literal (front ++ pair.0.text ∷ []) pairs
+
+abbrev pub sides_occurrences : Sum → Sum → List Occurrence
+sides_occurrences left right = map (λ u. uses u) (sum_uses left) ++ map (λ u. uses u) (sum_uses right)
+
+abbrev pub kind_occurrences : Spot → StatementKind → List Occurrence
+kind_occurrences at (statement.Objects names) = map (λ name. declares_object name) names
+kind_occurrences at (statement.Maps names source target selfmade) =
+    map (λ name. declares_map name source.text target.text selfmade) names ++ uses (object_use source) ∷ uses (object_use target) ∷ []
+kind_occurrences at (statement.Assume left right) = begins_assumptions 1 at ∷ sides_occurrences left right
+kind_occurrences at (statement.Claim left right) = begins_claim at ∷ sides_occurrences left right
+kind_occurrences at (statement.Pinv first second) = begins_assumptions 4 at ∷ uses (map_use first) ∷ uses (map_use second) ∷ []
+kind_occurrences at (statement.Inverse first second) = begins_assumptions 2 at ∷ uses (map_use first) ∷ uses (map_use second) ∷ []
+kind_occurrences at (statement.Inner first second) = begins_assumptions 1 at ∷ uses (map_use first) ∷ uses (map_use second) ∷ []
+kind_occurrences at (statement.Projection name) = begins_assumptions 2 at ∷ uses (map_use name) ∷ []
+kind_occurrences at statement.Degree = begins_order at ∷ []
+kind_occurrences at (statement.Weight weights) = begins_order at ∷ pairs_behind Map (λ n. weight n) [] weights
+kind_occurrences at (statement.Solve names) = names_behind Map [] names
+kind_occurrences at (statement.Shape m sides) = begins_shape at ∷ modulus m ∷ pairs_behind Object (λ n. side n) [] sides
+
+abbrev pub statement_occurrences : Statement → List Occurrence
+statement_occurrences s = kind_occurrences s.at s.kind
+
+abbrev pub occurrences_of : List Statement → List Occurrence
+occurrences_of statements = flat_map statement_occurrences statements

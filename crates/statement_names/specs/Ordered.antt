@@ -1,0 +1,37 @@
+-- The order that a file asks for.
+use Rattle.std.specs.Prelude.{ℕ, nat_eq, if◌then◌else◌, List, [], ◌∷◌, map}
+use Rattle.std.specs.List.{flat_map}
+use Rattle.definitions.specs.Quiver.{star}
+use Rattle.quiver.specs.Declarations.{Declaration, quiver_of}
+use Rattle.statement_syntax.specs.declared.tree.Name.{Name}
+use Rattle.statement_syntax.specs.declared.tree.Number.{Number}
+use Rattle.statement_syntax.specs.declared.tree.Statement.{Statement}
+use Rattle.statement_syntax.specs.declared.tree.StatementKind.{StatementKind}
+use Rattle.statement_syntax.specs.declared.tree.StatementKind.TheVariants as statement
+use Rattle.word_core.specs.declared.letter.Letter.{Letter}
+use Rattle.word_orders.specs.declared.any.OrderSpec.{OrderSpec}
+use Rattle.word_orders.specs.declared.any.OrderSpec.TheVariants.{Degree, Weight}
+use Rattle.statement_names.specs.Faults.{value_of}
+use Rattle.statement_names.specs.Numbered.{letter_number}
+
+abbrev pub letter : ℕ → Letter
+letter a = record { 0 = a }
+
+-- a letter and its adjoint, once where it is its own
+abbrev pub with_star : List Declaration → ℕ → List Letter
+with_star ds a = let s = star (quiver_of ds) a in if nat_eq s a then letter a ∷ [] else letter a ∷ letter s ∷ []
+
+-- a map and its adjoint weigh what the literal says
+abbrev pub weights_of : List Declaration → Name × Number → List (Letter × ℕ)
+weights_of ds pair = map (λ l. (l, value_of pair.1.value)) (with_star ds (letter_number ds pair.0.text))
+
+-- the order of a statement, if it is one
+abbrev pub order_or : List Declaration → StatementKind → OrderSpec → OrderSpec
+order_or ds statement.Degree later = Degree
+order_or ds (statement.Weight pairs) later = Weight (flat_map (weights_of ds) pairs)
+order_or ds kind later = later
+
+-- the one order of the file, and the canonical one where it has none
+abbrev pub order_of : List Declaration → List Statement → OrderSpec
+order_of ds [] = Degree
+order_of ds (s ∷ statements) = order_or ds s.kind (order_of ds statements)

@@ -1,0 +1,93 @@
+-- The equations that a statement stands for, abbreviations written out.
+use Rattle.std.specs.Prelude.{ℕ, false, List, [], ◌∷◌, map, None}
+use Rattle.std.specs.List.{flat_map}
+use Rattle.statement_syntax.specs.declared.place.Spot.{Spot}
+use Rattle.statement_syntax.specs.declared.tree.Factor.{Factor}
+use Rattle.statement_syntax.specs.declared.tree.Mark.TheVariants.{Adjoint}
+use Rattle.statement_syntax.specs.declared.tree.Primary.{Letter, Identity, Bracket}
+use Rattle.statement_syntax.specs.declared.tree.Statement.{Statement}
+use Rattle.statement_syntax.specs.declared.tree.StatementKind.{StatementKind}
+use Rattle.statement_syntax.specs.declared.tree.StatementKind.TheVariants as statement
+use Rattle.statement_syntax.specs.declared.tree.Sum.{Sum}
+use Rattle.statement_syntax.specs.Steps.{name_with, factor_of, term_of, sum_of}
+use Rattle.definitions.specs.Quiver.{source, target}
+use Rattle.quiver.specs.Declarations.{Declaration, quiver_of, object_name}
+use Rattle.statement_names.specs.declared.written.Equation.{Equation}
+use Rattle.statement_names.specs.Numbered.{letter_number}
+
+-- ---- expressions, all of whose tokens are at one place
+
+abbrev pub letter_at : Spot → List ℕ → Factor
+letter_at at name = factor_of at (Letter (name_with name at)) []
+
+abbrev pub identity_at : Spot → List ℕ → Factor
+identity_at at name = factor_of at (Identity (name_with name at)) []
+
+abbrev pub product_at : Spot → List Factor → Sum
+product_at at factors = sum_of at (term_of at false None factors ∷ [])
+
+-- the product of some letters, and its adjoint
+abbrev pub word_at : Spot → List (List ℕ) → Sum
+word_at at names = product_at at (map (letter_at at) names)
+
+abbrev pub adjoint_at : Spot → List (List ℕ) → Sum
+adjoint_at at names = product_at at (factor_of at (Bracket (word_at at names)) (Adjoint ∷ []) ∷ [])
+
+-- ---- the abbreviations
+
+abbrev pub equation : Sum → Sum → Equation
+equation left right = record { left = left; right = right }
+
+-- a x a = a
+abbrev pub inner_equation : Spot → List ℕ → List ℕ → Equation
+inner_equation at a x = equation (word_at at (a ∷ x ∷ a ∷ [])) (word_at at (a ∷ []))
+
+-- (a x)' = a x
+abbrev pub adjoint_equation : Spot → List (List ℕ) → Equation
+adjoint_equation at names = equation (adjoint_at at names) (word_at at names)
+
+-- a x = [T]
+abbrev pub identity_equation : Spot → List (List ℕ) → List ℕ → Equation
+identity_equation at names v = equation (word_at at names) (product_at at (identity_at at v ∷ []))
+
+-- the names of the target and the source of a map
+abbrev pub target_name : List Declaration → List ℕ → List ℕ
+target_name ds a = object_name ds (target (quiver_of ds) (letter_number ds a))
+
+abbrev pub source_name : List Declaration → List ℕ → List ℕ
+source_name ds a = object_name ds (source (quiver_of ds) (letter_number ds a))
+
+abbrev pub abbreviation_of : List Declaration → Spot → StatementKind → List Equation
+-- a x a = a, x a x = x, (a x)' = a x, (x a)' = x a
+abbreviation_of ds at (statement.Pinv a x) =
+    inner_equation at a.text x.text ∷ inner_equation at x.text a.text
+    ∷ adjoint_equation at (a.text ∷ x.text ∷ []) ∷ adjoint_equation at (x.text ∷ a.text ∷ []) ∷ []
+-- a x = [T], x a = [S], from the source S to the target T of a
+abbreviation_of ds at (statement.Inverse a x) =
+    identity_equation at (a.text ∷ x.text ∷ []) (target_name ds a.text) ∷ identity_equation at (x.text ∷ a.text ∷ []) (source_name ds a.text) ∷ []
+-- a x a = a
+abbreviation_of ds at (statement.Inner a x) = inner_equation at a.text x.text ∷ []
+-- p p = p, p' = p
+abbreviation_of ds at (statement.Projection p) =
+    equation (word_at at (p.text ∷ p.text ∷ [])) (word_at at (p.text ∷ []))
+    ∷ equation (product_at at (factor_of at (Letter (name_with p.text at)) (Adjoint ∷ []) ∷ [])) (word_at at (p.text ∷ [])) ∷ []
+abbreviation_of ds at kind = []
+
+-- the assumptions of a statement, and of a file
+abbrev pub equations_in : List Declaration → Spot → StatementKind → List Equation
+equations_in ds at (statement.Assume left right) = equation left right ∷ []
+equations_in ds at kind = abbreviation_of ds at kind
+
+abbrev pub equations_of : List Declaration → Statement → List Equation
+equations_of ds s = equations_in ds s.at s.kind
+
+abbrev pub assumptions_of : List Declaration → List Statement → List Equation
+assumptions_of ds statements = flat_map (equations_of ds) statements
+
+-- the claims
+abbrev pub claims_in : StatementKind → List Equation
+claims_in (statement.Claim left right) = equation left right ∷ []
+claims_in kind = []
+
+abbrev pub claims_of : List Statement → List Equation
+claims_of statements = flat_map (λ s. claims_in s.kind) statements

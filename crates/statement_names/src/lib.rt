@@ -1,0 +1,11 @@
+//! The names of a statement file: what it declares, its order, its shapes, and the first thing that is wrong with them.
+#![tactic(auto)]
+
+mod fault;
+mod kinds;
+mod names;
+mod written;
+
+pub use fault::NameFault;
+pub use names::{Names, read_names};
+pub use written::{Equation, abbreviation};

