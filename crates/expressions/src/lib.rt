@@ -1,0 +1,15 @@
+//! Expressions over a quiver: their signatures, their polynomials, and what occurs in them.
+#![tactic(auto)]
+
+mod fault;
+mod laws;
+mod names;
+mod occurrence;
+mod polynomial;
+mod signature;
+
+pub use fault::SignatureFault;
+pub use laws::{equations_are_typed, letters_are_written};
+pub use occurrence::{has_identity, has_mark};
+pub use polynomial::equation_poly;
+pub use signature::equation_signature;

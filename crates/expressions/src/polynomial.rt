@@ -1,0 +1,195 @@
+ghost use Rattle.std.specs.Prelude.{◌≡◌, ◌<◌, [], map, MatchResult, Ok, IfOk, IsTrue};
+ghost use Rattle.std.specs.List.{All};
+ghost use Rattle.definitions.specs.Generators.{adjoint_word, adjoint_poly};
+ghost use Rattle.word_core.specs.Letters.{IsOver};
+ghost use Rattle.nc_polynomial.specs.Arithmetic.{multiple_result};
+ghost use Rattle.nc_polynomial.specs.Collected.{collection_result};
+ghost use Rattle.nc_polynomial.specs.Faults.{Explains};
+ghost use Rattle.quiver.specs.Declarations.{letter_count, quiver_of, identity_in, IsDeclared};
+ghost use Rattle.expressions.specs.Names.{AreNames, are_names_of_term, are_names_of_primary, letter_of, object_of};
+ghost use Rattle.expressions.specs.Polynomials.{letter_poly, marked_poly, product_poly, scaled_by, started, sum_step, total, sum_poly, term_poly, factor_poly, primary_poly, equation_poly};
+
+use crate::names::{letter_of, object_of};
+use coef_int::Overflow;
+use lists::Listing;
+use nc_polynomial::{Poly, PolyFault, merge_terms, negate_terms};
+use quiver::Quiver;
+use statement_syntax::{Factor, Mark, Number, Primary, Sum, Term};
+use std::alloc::{AllocError, Global};
+use std::collections::VecDeque;
+use word_core::{Letter, Word};
+
+/// The left side of an equation minus the right side, or the first fault of the arithmetic: an inner expression comes
+/// before the outer one and the left before the right; of a product or a sum all parts come first, and then its own
+/// operations from the left.
+pub fn equation_poly(
+    alloc: Global,
+    quiver: &Quiver,
+    left: &Sum,
+    right: &Sum,
+) -> Result<Poly, PolyFault>
+    requires left_names { AreNames quiver.now left.now }
+    requires right_names { AreNames quiver.now right.now }
+    ensures exact { MatchResult result (λ p. equation_poly quiver.now left.now right.now ≡ Ok p.terms) (Explains (equation_poly quiver.now left.now right.now)) }
+{
+    let _objects = quiver.objects();
+    let minuend = sum_poly(alloc, quiver, left)?;
+    let subtrahend = sum_poly(alloc, quiver, right)?;
+    add_summand(alloc, minuend, true, subtrahend)
+}
+
+#[cycle(polys)]
+fn sum_poly(alloc: Global, quiver: &Quiver, sum: &Sum) -> Result<Poly, PolyFault>
+    requires declared { IsDeclared quiver.now }
+    requires names { AreNames quiver.now sum.now }
+    ensures { MatchResult result (λ p. sum_poly quiver.now sum.now ≡ Ok p.terms) (Explains (sum_poly quiver.now sum.now)) }
+{
+    let mut summands = VecDeque::new(alloc);
+    for term in sum.terms.as_slice() {
+        let poly = term_poly(alloc, quiver, term)?;
+        summands.push_back((term.negative, poly))?;
+    }
+    total(alloc, summands)
+}
+
+// The first summand, and then the others added or subtracted from the left.
+fn total(alloc: Global, mut summands: VecDeque<(bool, Poly)>) -> Result<Poly, PolyFault>
+    ensures { MatchResult result (λ p. total (map (λ s. (s.0, s.1.terms)) summands.items) ≡ Ok p.terms) (Explains (total (map (λ s. (s.0, s.1.terms)) summands.items))) }
+{
+    let Some((negative, first)) = summands.pop_front() else {
+        return Ok(Poly::zero(alloc));
+    };
+    let mut sum = started(alloc, negative, first)?;
+    while let Some((negative, poly)) = summands.pop_front() {
+        sum = add_summand(alloc, sum, negative, poly)?;
+    }
+    Ok(sum)
+}
+
+// The first summand, negated where it is subtracted.
+fn started(alloc: Global, negative: bool, poly: Poly) -> Result<Poly, AllocError>
+    ensures { IfOk result (λ p. p.terms ≡ started (negative, poly.terms)) }
+{
+    if !negative {
+        return Ok(poly);
+    }
+    Ok(Poly {
+        terms: negate_terms(alloc, poly.terms)?,
+    })
+}
+
+// The sum so far and a summand, which is added or subtracted. Both are given away.
+fn add_summand(alloc: Global, sum: Poly, negative: bool, poly: Poly) -> Result<Poly, PolyFault>
+    ensures { MatchResult result (λ p. sum_step sum.terms (negative, poly.terms) ≡ Ok p.terms) (Explains (sum_step sum.terms (negative, poly.terms))) }
+{
+    let terms = if negative {
+        negate_terms(alloc, poly.terms)?
+    } else {
+        poly.terms
+    };
+    Poly::from_descending(merge_terms(alloc, sum.terms, terms)?)
+}
+
+#[cycle(polys)]
+fn term_poly(alloc: Global, quiver: &Quiver, term: &Term) -> Result<Poly, PolyFault>
+    requires declared { IsDeclared quiver.now }
+    requires names { IsTrue (are_names_of_term quiver.now term.now) }
+    ensures { MatchResult result (λ p. term_poly quiver.now term.now ≡ Ok p.terms) (Explains (term_poly quiver.now term.now)) }
+{
+    let mut polys = VecDeque::new(alloc);
+    for factor in term.factors.as_slice() {
+        polys.push_back(factor_poly(alloc, quiver, factor)?)?;
+    }
+    let product = product(alloc, polys)?;
+    match term.literal {
+        None => Ok(product),
+        Some(number) => scale(product, number.value),
+    }
+}
+
+// The product from the left.
+fn product(alloc: Global, mut polys: VecDeque<Poly>) -> Result<Poly, PolyFault>
+    ensures { MatchResult result (λ p. product_poly (map (λ f. f.terms) polys.items) ≡ Ok p.terms) (Explains (product_poly (map (λ f. f.terms) polys.items))) }
+{
+    let Some(mut product) = polys.pop_front() else {
+        return Ok(Poly::zero(alloc));
+    };
+    while let Some(next) = polys.pop_front() {
+        product = product.product(&next)?;
+    }
+    Ok(product)
+}
+
+// The multiple by a number. The least number is no coefficient, and so is none of its products but with zero.
+fn scale(poly: Poly, by: i128) -> Result<Poly, PolyFault>
+    ensures { MatchResult result (λ p. multiple_result by poly.terms ≡ Ok p.terms) (Explains (multiple_result by poly.terms)) }
+{
+    if by != i128::MIN {
+        return poly.scale(by);
+    }
+    if poly.terms() == 0 {
+        return Ok(poly);
+    }
+    Err(PolyFault::Overflow(Overflow {
+        left: by,
+        right: poly.term(0).0,
+        product: true,
+    }))
+}
+
+#[cycle(polys)]
+fn factor_poly(alloc: Global, quiver: &Quiver, factor: &Factor) -> Result<Poly, PolyFault>
+    requires declared { IsDeclared quiver.now }
+    requires names { IsTrue (are_names_of_primary quiver.now factor.now.primary) }
+    ensures { MatchResult result (λ p. factor_poly quiver.now factor.now ≡ Ok p.terms) (Explains (factor_poly quiver.now factor.now)) }
+{
+    let mut poly = match &factor.primary {
+        Primary::Letter(name) => letter_poly(alloc, letter_of(quiver, name))?,
+        Primary::Identity(name) => {
+            letter_poly(alloc, quiver.identity_of(object_of(quiver, name)))?
+        }
+        Primary::Bracket(sum) => sum_poly(alloc, quiver, sum)?,
+    };
+    for mark in factor.marks.as_slice() {
+        match mark {
+            Mark::Adjoint => poly = adjoint(alloc, quiver, &poly)?,
+        }
+    }
+    Ok(poly)
+}
+
+fn letter_poly(alloc: Global, letter: Letter) -> Result<Poly, PolyFault>
+    ensures { IfOk result (λ p. p.terms ≡ letter_poly letter.0) }
+{
+    let mut word = Word::new(alloc);
+    word.push(letter)?;
+    let mut terms = Listing::new(alloc);
+    terms.push((1, word))?;
+    Ok(Poly { terms })
+}
+
+// Each word reversed, with the adjoints of its letters.
+fn adjoint(alloc: Global, quiver: &Quiver, poly: &Poly) -> Result<Poly, PolyFault>
+    requires { All (λ t. IsOver (letter_count quiver.now) t.1) poly.now.terms }
+    ensures { MatchResult result (λ p. collection_result (adjoint_poly (quiver_of quiver.now) poly.now.terms) ≡ Ok p.terms) (Explains (collection_result (adjoint_poly (quiver_of quiver.now) poly.now.terms))) }
+{
+    let mut terms = Vec::new(alloc);
+    for term in poly.terms.as_slice() {
+        terms.push((term.0, adjoint_word(alloc, quiver, &term.1)?))?;
+    }
+    Poly::from_terms(alloc, terms.as_slice())
+}
+
+// The adjoints of the letters, in reverse.
+fn adjoint_word(alloc: Global, quiver: &Quiver, word: &Word) -> Result<Word, AllocError>
+    requires { IsOver (letter_count quiver.now) word.now }
+    ensures { IfOk result (λ w. w ≡ adjoint_word (quiver_of quiver.now) word.now) }
+{
+    let mut adjoint = Word::new(alloc);
+    let mut place = word.len();
+    while place > 0 {
+        place -= 1;
+        adjoint.push(quiver.star_of(word.letter(place)))?;
+    }
+    Ok(adjoint)
+}

@@ -1,0 +1,157 @@
+ghost use Rattle.std.specs.Prelude.{◌≡◌, ◌<◌, IfOk, IsTrue, option_map};
+ghost use Rattle.quiver.specs.Declarations.{object_count};
+ghost use Rattle.expressions.specs.Names.{AreNames, are_names_of_term, are_names_of_primary};
+ghost use Rattle.expressions.specs.Signatures.{HasObjects, turned, marked_signature, product_step, sum_step, sum_signature, term_signature, factor_signature, primary_signature, sides_signature, equation_signature};
+
+use crate::SignatureFault;
+use crate::names::{letter_of, object_of};
+use quiver::{Quiver, Sig};
+use statement_syntax::{Factor, Mark, Primary, Spot, Sum, Term};
+
+/// The signature of the two sides of an equation, of which an open one takes that of the other, or the first fault: an
+/// inner expression comes before the outer one and the left before the right; of a product or a sum all parts come
+/// first, and then its own faults from the left.
+pub fn equation_signature(quiver: &Quiver, left: &Sum, right: &Sum) -> Result<Sig, SignatureFault>
+    requires left_names { AreNames quiver.now left.now }
+    requires right_names { AreNames quiver.now right.now }
+    ensures exact { result ≡ equation_signature quiver.now left.now right.now }
+    ensures source_in_range { IfOk result (λ s. s.source.0 < object_count quiver.now) }
+    ensures target_in_range { IfOk result (λ s. s.target.0 < object_count quiver.now) }
+{
+    let signature = sum_signature(quiver, left)?;
+    let other = sum_signature(quiver, right)?;
+    sides_signature(left.at, right.at, signature, other)
+}
+
+fn sides_signature(
+    left_at: Spot,
+    right_at: Spot,
+    left: Option<Sig>,
+    right: Option<Sig>,
+) -> Result<Sig, SignatureFault>
+    ensures { result ≡ sides_signature left_at right_at left right }
+{
+    match (left, right) {
+        (None, None) => Err(SignatureFault::OpenZero { at: left_at }),
+        (None, Some(s)) => Ok(s),
+        (Some(s), None) => Ok(s),
+        (Some(s), Some(t)) if s == t => Ok(s),
+        (Some(s), Some(t)) => Err(SignatureFault::SumMismatch {
+            at: right_at,
+            left: s,
+            right: t,
+        }),
+    }
+}
+
+#[cycle(signatures)]
+fn sum_signature(quiver: &Quiver, sum: &Sum) -> Result<Option<Sig>, SignatureFault>
+    requires { AreNames quiver.now sum.now }
+    ensures exact { result ≡ sum_signature quiver.now sum.now }
+    ensures in_range { IfOk result (HasObjects (object_count quiver.now)) }
+{
+    let mut signature = Ok(None);
+    for term in sum.terms.as_slice() {
+        let next = term_signature(quiver, term)?;
+        signature = sum_step(signature, term.at, next);
+    }
+    signature
+}
+
+// The signature of the terms so far, if any, or the first fault, with the next term.
+fn sum_step(
+    so_far: Result<Option<Sig>, SignatureFault>,
+    at: Spot,
+    next: Option<Sig>,
+) -> Result<Option<Sig>, SignatureFault>
+    ensures { result ≡ sum_step so_far at next }
+{
+    match (so_far?, next) {
+        (before, None) => Ok(before),
+        (None, Some(s)) => Ok(Some(s)),
+        (Some(before), Some(s)) if before == s => Ok(Some(before)),
+        (Some(left), Some(right)) => Err(SignatureFault::SumMismatch { at, left, right }),
+    }
+}
+
+#[cycle(signatures)]
+fn term_signature(quiver: &Quiver, term: &Term) -> Result<Option<Sig>, SignatureFault>
+    requires { IsTrue (are_names_of_term quiver.now term.now) }
+    ensures exact { result ≡ term_signature quiver.now term.now }
+    ensures in_range { IfOk result (HasObjects (object_count quiver.now)) }
+{
+    let alone = term.factors.len() == 1;
+    let mut signature = Ok(None);
+    for factor in term.factors.as_slice() {
+        let next = factor_signature(quiver, factor)?;
+        if alone {
+            return Ok(next);
+        }
+        signature = product_step(signature, factor.at, next);
+    }
+    signature
+}
+
+// The signature of the factors so far, if any, or the first fault, with the next factor.
+fn product_step(
+    so_far: Result<Option<Sig>, SignatureFault>,
+    at: Spot,
+    next: Option<Sig>,
+) -> Result<Option<Sig>, SignatureFault>
+    ensures { result ≡ product_step so_far at next }
+{
+    match (so_far?, next) {
+        (_, None) => Err(SignatureFault::OpenZero { at }),
+        (None, Some(s)) => Ok(Some(s)),
+        (Some(left), Some(right)) if left.source == right.target => Ok(Some(Sig {
+            source: right.source,
+            target: left.target,
+        })),
+        (Some(left), Some(right)) => Err(SignatureFault::NotComposable { at, left, right }),
+    }
+}
+
+#[cycle(signatures)]
+fn factor_signature(quiver: &Quiver, factor: &Factor) -> Result<Option<Sig>, SignatureFault>
+    requires { IsTrue (are_names_of_primary quiver.now factor.now.primary) }
+    ensures exact { result ≡ factor_signature quiver.now factor.now }
+    ensures in_range { IfOk result (HasObjects (object_count quiver.now)) }
+{
+    let signature = match &factor.primary {
+        Primary::Letter(name) => Some(quiver.signature_of(letter_of(quiver, name))),
+        Primary::Identity(name) => {
+            let object = object_of(quiver, name);
+            Some(Sig {
+                source: object,
+                target: object,
+            })
+        }
+        Primary::Bracket(sum) => sum_signature(quiver, sum)?,
+    };
+    Ok(marked_signature(signature, factor.marks.as_slice()))
+}
+
+// Each mark exchanges the ends.
+fn marked_signature(signature: Option<Sig>, marks: &[Mark]) -> Option<Sig>
+    ensures { result ≡ marked_signature marks.now signature }
+{
+    let mut marked = signature;
+    for mark in marks {
+        match mark {
+            Mark::Adjoint => marked = turned(marked),
+        }
+    }
+    marked
+}
+
+fn turned(signature: Option<Sig>) -> Option<Sig>
+    ensures { result ≡ option_map turned signature }
+{
+    match signature {
+        None => None,
+        Some(s) => Some(Sig {
+            source: s.target,
+            target: s.source,
+        }),
+    }
+}
