@@ -1,0 +1,42 @@
+ghost use Rattle.std.specs.Prelude.{◌≤◌, length};
+ghost use Rattle.adjoint_rules.specs.Problem.{IsPosed, IsClosed};
+ghost use Rattle.adjoint_rules.specs.Props.{props};
+
+use crate::Parts;
+use crate::adjoint::push_adjoints;
+use crate::units::push_units;
+use lists::{Duplicate, Listing};
+use nc_polynomial::Poly;
+use std::alloc::{AllocError, Global};
+
+/// The parts of a statement with its generators: the assumptions; where the statement is starred, the adjoints of those that
+/// have another one than plus or minus themselves; and the relations of the marked identities.
+#[derive(Drop)]
+pub struct Problem {
+    /// What the statement says.
+    pub parts: Parts,
+    /// The generators, which the claims are to follow from. They are numbered from 1.
+    pub generators: Listing<Poly>,
+    pub ghost posed: { IsPosed parts } by { Prim.hlevel props },
+    pub ghost closed: { IsClosed parts generators } by { Prim.hlevel props },
+    pub ghost few: { length generators ≤ 1864 },
+}
+
+ghost use Rattle.std.specs.Prelude.{◌≡◌, IfOk};
+
+/// The problem of the parts.
+pub fn close_problem(alloc: Global, parts: Parts) -> Result<Problem, AllocError>
+    requires { IsPosed parts }
+    ensures parts { IfOk result (λ problem. problem.parts ≡ parts) }
+    ensures closed { IfOk result (λ problem. IsClosed problem.parts problem.generators) }
+    ensures few { IfOk result (λ problem. length problem.generators ≤ 1864) }
+{
+    let mut generators = parts.assumptions.duplicate()?;
+    if parts.starred {
+        push_adjoints(alloc, &mut generators, &parts.quiver, parts.assumptions.as_slice())?;
+    }
+    for object in parts.marked.as_slice() {
+        push_units(alloc, &mut generators, &parts.quiver, parts.starred, *object)?;
+    }
+    Ok(Problem { parts, generators })
+}
