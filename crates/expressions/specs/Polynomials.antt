@@ -22,10 +22,13 @@ use Rattle.expressions.specs.Names.{letter_of, object_of}
 abbrev pub letter_poly : ℕ → Poly
 letter_poly a = (pos 1, a ∷ []) ∷ []
 
--- each mark reverses the words and takes the adjoints of the letters
+-- a mark reverses the words and takes the adjoints of their letters
+abbrev pub adjoint_by : Quiver → Mark → Poly → Result Poly PolyFault
+adjoint_by q Adjoint p = collection_result (adjoint_poly q p)
+
 abbrev pub marked_poly : Quiver → List Mark → Poly → Result Poly PolyFault
 marked_poly q [] p = Ok p
-marked_poly q (Adjoint ∷ marks) p = collection_result (adjoint_poly q p) >>= marked_poly q marks
+marked_poly q (m ∷ marks) p = adjoint_by q m p >>= marked_poly q marks
 
 -- factors from the left, after this part
 abbrev pub product_from : Poly → List Poly → Result Poly PolyFault
@@ -74,9 +77,9 @@ abbrev mutual
   pub summands : {m : _} → List Declaration → Row_of-Term m → Result (List Summand) PolyFault
   summands ds end_of-Term = Ok []
   summands ds (more_of-Term t rest) = do
-    p ← term_poly ds t
+    summand ← term_poly ds t >>= λ p. Ok (is_negative t, p)
     others ← summands ds rest
-    Ok ((is_negative t, p) ∷ others)
+    Ok (summand ∷ others)
 
   pub term_poly : List Declaration → Term → Result Poly PolyFault
   term_poly ds (Term' at negative literal shape factors) = (factor_polys ds factors >>= product_poly) >>= scaled_by literal

@@ -1,13 +1,13 @@
-ghost use Rattle.std.specs.Prelude.{◌≡◌, ◌<◌, [], map, MatchResult, Ok, IfOk, IsTrue};
+ghost use Rattle.std.specs.Prelude.{◌≡◌, ◌<◌, [], map, MatchResult, Ok, IfOk, IfErr, IsTrue};
 ghost use Rattle.std.specs.List.{All};
 ghost use Rattle.definitions.specs.Generators.{adjoint_word, adjoint_poly};
 ghost use Rattle.word_core.specs.Letters.{IsOver};
 ghost use Rattle.nc_polynomial.specs.Arithmetic.{multiple_result};
 ghost use Rattle.nc_polynomial.specs.Collected.{collection_result};
-ghost use Rattle.nc_polynomial.specs.Faults.{Explains};
+ghost use Rattle.nc_polynomial.specs.Faults.{Explains, IsMemory};
 ghost use Rattle.quiver.specs.Declarations.{letter_count, quiver_of, identity_in, IsDeclared};
 ghost use Rattle.expressions.specs.Names.{AreNames, are_names_of_term, are_names_of_primary, letter_of, object_of};
-ghost use Rattle.expressions.specs.Polynomials.{letter_poly, marked_poly, product_poly, scaled_by, started, sum_step, total, sum_poly, term_poly, factor_poly, primary_poly, equation_poly};
+ghost use Rattle.expressions.specs.Polynomials.{letter_poly, adjoint_by, marked_poly, product_poly, scaled_by, started, sum_step, total, sum_poly, term_poly, factor_poly, primary_poly, equation_poly};
 
 use crate::names::{letter_of, object_of};
 use coef_int::Overflow;
@@ -143,23 +143,32 @@ fn factor_poly(alloc: Global, quiver: &Quiver, factor: &Factor) -> Result<Poly, 
     requires names { IsTrue (are_names_of_primary quiver.now factor.now.primary) }
     ensures { MatchResult result (λ p. factor_poly quiver.now factor.now ≡ Ok p.terms) (Explains (factor_poly quiver.now factor.now)) }
 {
-    let mut poly = match &factor.primary {
-        Primary::Letter(name) => letter_poly(alloc, letter_of(quiver, name))?,
-        Primary::Identity(name) => {
-            letter_poly(alloc, quiver.identity_of(object_of(quiver, name)))?
-        }
-        Primary::Bracket(sum) => sum_poly(alloc, quiver, sum)?,
-    };
+    let mut poly = primary_poly(alloc, quiver, &factor.primary)?;
     for mark in factor.marks.as_slice() {
-        match mark {
-            Mark::Adjoint => poly = adjoint(alloc, quiver, &poly)?,
-        }
+        poly = adjoint_by(alloc, quiver, mark, &poly)?;
     }
     Ok(poly)
 }
 
+#[cycle(polys)]
+fn primary_poly(alloc: Global, quiver: &Quiver, primary: &Primary) -> Result<Poly, PolyFault>
+    requires declared { IsDeclared quiver.now }
+    requires names { IsTrue (are_names_of_primary quiver.now primary.now) }
+    ensures { MatchResult result (λ p. primary_poly quiver.now primary.now ≡ Ok p.terms) (Explains (primary_poly quiver.now primary.now)) }
+{
+    match primary {
+        Primary::Letter(name) => letter_poly(alloc, letter_of(quiver, name)),
+        Primary::Identity(name) => {
+            let object = object_of(quiver, name);
+            letter_poly(alloc, quiver.identity_of(object))
+        }
+        Primary::Bracket(sum) => sum_poly(alloc, quiver, sum),
+    }
+}
+
 fn letter_poly(alloc: Global, letter: Letter) -> Result<Poly, PolyFault>
-    ensures { IfOk result (λ p. p.terms ≡ letter_poly letter.0) }
+    ensures ok { IfOk result (λ p. p.terms ≡ letter_poly letter.0) }
+    ensures err { IfErr result IsMemory }
 {
     let mut word = Word::new(alloc);
     word.push(letter)?;
@@ -168,7 +177,16 @@ fn letter_poly(alloc: Global, letter: Letter) -> Result<Poly, PolyFault>
     Ok(Poly { terms })
 }
 
-// Each word reversed, with the adjoints of its letters.
+// A mark reverses the words and takes the adjoints of their letters.
+fn adjoint_by(alloc: Global, quiver: &Quiver, mark: &Mark, poly: &Poly) -> Result<Poly, PolyFault>
+    requires { All (λ t. IsOver (letter_count quiver.now) t.1) poly.now.terms }
+    ensures { MatchResult result (λ p. adjoint_by (quiver_of quiver.now) mark.now poly.now.terms ≡ Ok p.terms) (Explains (adjoint_by (quiver_of quiver.now) mark.now poly.now.terms)) }
+{
+    match mark {
+        Mark::Adjoint => adjoint(alloc, quiver, poly),
+    }
+}
+
 fn adjoint(alloc: Global, quiver: &Quiver, poly: &Poly) -> Result<Poly, PolyFault>
     requires { All (λ t. IsOver (letter_count quiver.now) t.1) poly.now.terms }
     ensures { MatchResult result (λ p. collection_result (adjoint_poly (quiver_of quiver.now) poly.now.terms) ≡ Ok p.terms) (Explains (collection_result (adjoint_poly (quiver_of quiver.now) poly.now.terms))) }

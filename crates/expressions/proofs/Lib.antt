@@ -1,0 +1,4 @@
+pub mod Trees
+pub mod Results
+pub mod Ends
+pub mod Nodes
