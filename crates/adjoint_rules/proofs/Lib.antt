@@ -1,0 +1,6 @@
+pub mod Stars
+pub mod NewAdjoints
+pub mod Ranges
+pub mod Counted
+pub mod Laws
+mod Examples

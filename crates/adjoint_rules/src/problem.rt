@@ -4,7 +4,7 @@ ghost use Rattle.adjoint_rules.specs.Props.{props};
 
 use crate::Parts;
 use crate::adjoint::push_adjoints;
-use crate::units::push_units;
+use crate::units::push_all_units;
 use lists::{Duplicate, Listing};
 use nc_polynomial::Poly;
 use std::alloc::{AllocError, Global};
@@ -32,11 +32,7 @@ pub fn close_problem(alloc: Global, parts: Parts) -> Result<Problem, AllocError>
     ensures few { IfOk result (λ problem. length problem.generators ≤ 1864) }
 {
     let mut generators = parts.assumptions.duplicate()?;
-    if parts.starred {
-        push_adjoints(alloc, &mut generators, &parts.quiver, parts.assumptions.as_slice())?;
-    }
-    for object in parts.marked.as_slice() {
-        push_units(alloc, &mut generators, &parts.quiver, parts.starred, *object)?;
-    }
+    push_adjoints(alloc, &mut generators, &parts)?;
+    push_all_units(alloc, &mut generators, &parts)?;
     Ok(Problem { parts, generators })
 }

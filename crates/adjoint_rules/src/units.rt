@@ -1,16 +1,33 @@
 ghost use Rattle.std.specs.Prelude.{◌≡◌, ◌<◌, IfOk, OnOk, [], ◌∷◌, ◌++◌, pos, negsuc};
 ghost use Rattle.definitions.specs.Generators.{units, letter_units};
 ghost use Rattle.quiver.specs.Declarations.{letter_count, object_count, quiver_of, ObjectsFirst};
-ghost use Rattle.adjoint_rules.specs.Problem.{polynomials};
+ghost use Rattle.adjoint_rules.specs.Problem.{polynomials, IsPosed};
+ghost use Rattle.adjoint_rules.specs.Parts.{units_in};
 
+use crate::Parts;
 use lists::Listing;
 use nc_polynomial::Poly;
 use quiver::Quiver;
 use std::alloc::{AllocError, Global};
 use word_core::{Letter, Object, Word};
 
+// Appends the relations of the identities of the marked objects.
+pub(crate) fn push_all_units(
+    alloc: Global,
+    generators: &mut Listing<Poly>,
+    parts: &Parts,
+) -> Result<(), AllocError>
+    requires { IsPosed parts.now }
+    ensures { OnOk result (polynomials generators.new ≡ polynomials generators.old ++ units_in parts.now) }
+{
+    for object in parts.marked.as_slice() {
+        push_units(alloc, generators, &parts.quiver, parts.starred, *object)?;
+    }
+    Ok(())
+}
+
 // Appends the relations of the object's identity: with itself, and with each map and, where the statement is starred, each adjoint.
-pub(crate) fn push_units(
+fn push_units(
     alloc: Global,
     generators: &mut Listing<Poly>,
     quiver: &Quiver,
