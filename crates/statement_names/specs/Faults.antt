@@ -5,12 +5,13 @@ use Rattle.std.specs.Map.{lookup}
 use Rattle.std.specs.Option.{option_or}
 use Rattle.std.specs.Str.{bytes_eq}
 use Rattle.statement_syntax.specs.declared.tree.Statement.{Statement}
+use Rattle.adjoint_rules.specs.Problem.{moduli}
 use Rattle.statement_names.specs.declared.fault.NameFault.{NameFault}
 use Rattle.statement_names.specs.declared.fault.NameFault.TheVariants.{Unknown, Double, TooMany, NotSquare, BadNumber, Memory}
 use Rattle.statement_names.specs.declared.kinds.Kind.{Kind}
 use Rattle.statement_names.specs.declared.kinds.Kind.TheVariants.{Object, Map}
 use Rattle.statement_names.specs.Uses.{Use}
-use Rattle.statement_names.specs.Occurrences.{Occurrence, declares_object, declares_map, uses, lists, weight, modulus, side, begins_order, begins_assumptions, begins_claim, begins_shape, occurrences_of}
+use Rattle.statement_names.specs.Occurrences.{Occurrence, declares_object, declares_map, uses, lists, counts, modulus, begins_order, begins_assumptions, begins_claim, begins_shape, occurrences_of}
 
 -- ---- what occurrences declare, and how much they begin
 
@@ -72,9 +73,6 @@ value_of (negsuc n) = 0
 abbrev pub is_between : ℕ → ℕ → ℕ → Bool
 is_between least most n = nat_le least n && nat_le n most
 
-abbrev pub moduli : List ℕ
-moduli = 2 ∷ 3 ∷ 5 ∷ 7 ∷ 101 ∷ 32003 ∷ 65537 ∷ []
-
 abbrev pub is_modulus : ℕ → Bool
 is_modulus n = list_any (nat_eq n) moduli
 
@@ -97,9 +95,8 @@ fault_behind kind before (lists front u) =
     if not (is_kind (kind u.name.text) u.kind) then Some (Unknown u.name.at)
     else if is_among front u.name.text then Some (Double u.name.at)
     else None
-fault_behind kind before (weight n) = if is_between 1 1000 (value_of n.value) then None else Some (BadNumber n.at)
+fault_behind kind before (counts most n) = if is_between 1 most (value_of n.value) then None else Some (BadNumber n.at)
 fault_behind kind before (modulus n) = if is_modulus (value_of n.value) then None else Some (BadNumber n.at)
-fault_behind kind before (side n) = if is_between 1 6 (value_of n.value) then None else Some (BadNumber n.at)
 fault_behind kind before (begins_order at) = if nat_lt 1 (sum_by orders_by before + 1) then Some (Double at) else None
 fault_behind kind before (begins_assumptions count at) = if nat_lt 500 (sum_by assumptions_by before + count) then Some (TooMany at 500) else None
 fault_behind kind before (begins_claim at) = if nat_lt 100 (sum_by claims_by before + 1) then Some (TooMany at 100) else None

@@ -1,7 +1,11 @@
 pub mod Uses
 pub mod Occurrences
 pub mod Faults
+pub mod Survey
 pub mod Numbered
 pub mod Written
 pub mod Ordered
 pub mod Solved
+pub mod Marked
+pub mod Shapes
+pub mod Ready

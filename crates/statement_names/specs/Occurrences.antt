@@ -21,10 +21,9 @@ pub data Occurrence : Type 0 where
   uses : Use → Occurrence
   -- it is used in a list of names, behind these
   lists : List (List ℕ) → Use → Occurrence
-  -- a literal
-  weight : Number → Occurrence
+  -- a literal that is to be from 1 to so much, and one that is to be a modulus
+  counts : ℕ → Number → Occurrence
   modulus : Number → Occurrence
-  side : Number → Occurrence
   -- the first word of a statement: of an order, of so many assumptions, of a claim, of a shape
   begins_order : Spot → Occurrence
   begins_assumptions : ℕ → Spot → Occurrence
@@ -39,11 +38,11 @@ abbrev pub names_behind : Kind → List (List ℕ) → List Name → List Occurr
 names_behind kind front [] = []
 names_behind kind front (name ∷ names) = lists front (use_of kind name) ∷ names_behind kind (front ++ name.text ∷ []) names
 
--- a list of names, each with a literal
-abbrev pub pairs_behind : Kind → (Number → Occurrence) → List (List ℕ) → List (Name × Number) → List Occurrence
-pairs_behind kind literal front [] = []
-pairs_behind kind literal front (pair ∷ pairs) =
-    lists front (use_of kind pair.0) ∷ literal pair.1 ∷ pairs_behind kind literal (front ++ pair.0.text ∷ []) pairs
+-- a list of names, each with a literal from 1 to so much
+abbrev pub pairs_behind : Kind → ℕ → List (List ℕ) → List (Name × Number) → List Occurrence
+pairs_behind kind most front [] = []
+pairs_behind kind most front (pair ∷ pairs) =
+    lists front (use_of kind pair.0) ∷ counts most pair.1 ∷ pairs_behind kind most (front ++ pair.0.text ∷ []) pairs
 
 abbrev pub sides_occurrences : Sum → Sum → List Occurrence
 sides_occurrences left right = map (λ u. uses u) (sum_uses left) ++ map (λ u. uses u) (sum_uses right)
@@ -59,9 +58,9 @@ kind_occurrences at (statement.Inverse first second) = begins_assumptions 2 at �
 kind_occurrences at (statement.Inner first second) = begins_assumptions 1 at ∷ uses (map_use first) ∷ uses (map_use second) ∷ []
 kind_occurrences at (statement.Projection name) = begins_assumptions 2 at ∷ uses (map_use name) ∷ []
 kind_occurrences at statement.Degree = begins_order at ∷ []
-kind_occurrences at (statement.Weight weights) = begins_order at ∷ pairs_behind Map (λ n. weight n) [] weights
+kind_occurrences at (statement.Weight weights) = begins_order at ∷ pairs_behind Map 1000 [] weights
 kind_occurrences at (statement.Solve names) = names_behind Map [] names
-kind_occurrences at (statement.Shape m sides) = begins_shape at ∷ modulus m ∷ pairs_behind Object (λ n. side n) [] sides
+kind_occurrences at (statement.Shape m sides) = begins_shape at ∷ modulus m ∷ pairs_behind Object 6 [] sides
 
 abbrev pub statement_occurrences : Statement → List Occurrence
 statement_occurrences s = kind_occurrences s.at s.kind

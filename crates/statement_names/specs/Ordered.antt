@@ -8,11 +8,11 @@ use Rattle.statement_syntax.specs.declared.tree.Number.{Number}
 use Rattle.statement_syntax.specs.declared.tree.Statement.{Statement}
 use Rattle.statement_syntax.specs.declared.tree.StatementKind.{StatementKind}
 use Rattle.statement_syntax.specs.declared.tree.StatementKind.TheVariants as statement
+use Rattle.expressions.specs.Names.{letter_of}
 use Rattle.word_core.specs.declared.letter.Letter.{Letter}
 use Rattle.word_orders.specs.declared.any.OrderSpec.{OrderSpec}
 use Rattle.word_orders.specs.declared.any.OrderSpec.TheVariants.{Degree, Weight}
 use Rattle.statement_names.specs.Faults.{value_of}
-use Rattle.statement_names.specs.Numbered.{letter_number}
 
 abbrev pub letter : ℕ → Letter
 letter a = record { 0 = a }
@@ -23,7 +23,7 @@ with_star ds a = let s = star (quiver_of ds) a in if nat_eq s a then letter a �
 
 -- a map and its adjoint weigh what the literal says
 abbrev pub weights_of : List Declaration → Name × Number → List (Letter × ℕ)
-weights_of ds pair = map (λ l. (l, value_of pair.1.value)) (with_star ds (letter_number ds pair.0.text))
+weights_of ds pair = map (λ l. (l, value_of pair.1.value)) (with_star ds (letter_of ds pair.0))
 
 -- the order of a statement, if it is one
 abbrev pub order_or : List Declaration → StatementKind → OrderSpec → OrderSpec

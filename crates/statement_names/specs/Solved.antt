@@ -2,11 +2,12 @@
 use Rattle.std.specs.Prelude.{ℕ, Bool, nat_eq, List, [], ◌∷◌, map, filter}
 use Rattle.std.specs.List.{flat_map, list_any, range_with_len}
 use Rattle.quiver.specs.Declarations.{Declaration, letter_count}
+use Rattle.statement_syntax.specs.declared.tree.Name.{Name}
 use Rattle.statement_syntax.specs.declared.tree.Statement.{Statement}
 use Rattle.statement_syntax.specs.declared.tree.StatementKind.{StatementKind}
 use Rattle.statement_syntax.specs.declared.tree.StatementKind.TheVariants as statement
+use Rattle.expressions.specs.Names.{letter_of}
 use Rattle.word_core.specs.declared.letter.Letter.{Letter}
-use Rattle.statement_names.specs.Numbered.{letter_number}
 use Rattle.statement_names.specs.Ordered.{letter}
 
 -- the numbers below the first that pass the test, ascending
@@ -14,18 +15,18 @@ abbrev pub numbers_that : ℕ → (ℕ → Bool) → List ℕ
 numbers_that count test = filter test (range_with_len 0 count)
 
 -- the maps that a statement solves for: those that `solve` lists, and the second of an abbreviation
-abbrev pub solved_in : StatementKind → List (List ℕ)
-solved_in (statement.Pinv a x) = x.text ∷ []
-solved_in (statement.Inverse a x) = x.text ∷ []
-solved_in (statement.Inner a x) = x.text ∷ []
-solved_in (statement.Solve names) = map (λ n. n.text) names
+abbrev pub solved_in : StatementKind → List Name
+solved_in (statement.Pinv a x) = x ∷ []
+solved_in (statement.Inverse a x) = x ∷ []
+solved_in (statement.Inner a x) = x ∷ []
+solved_in (statement.Solve names) = names
 solved_in kind = []
 
-abbrev pub solved_names : List Statement → List (List ℕ)
+abbrev pub solved_names : List Statement → List Name
 solved_names statements = flat_map (λ s. solved_in s.kind) statements
 
 abbrev pub is_solved : List Declaration → List Statement → ℕ → Bool
-is_solved ds statements a = list_any (λ name. nat_eq (letter_number ds name) a) (solved_names statements)
+is_solved ds statements a = list_any (λ name. nat_eq (letter_of ds name) a) (solved_names statements)
 
 -- their letters, each once, ascending
 abbrev pub solved_of : List Declaration → List Statement → List Letter

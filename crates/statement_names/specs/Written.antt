@@ -4,6 +4,7 @@ use Rattle.std.specs.List.{flat_map}
 use Rattle.statement_syntax.specs.declared.place.Spot.{Spot}
 use Rattle.statement_syntax.specs.declared.tree.Factor.{Factor}
 use Rattle.statement_syntax.specs.declared.tree.Mark.TheVariants.{Adjoint}
+use Rattle.statement_syntax.specs.declared.tree.Name.{Name}
 use Rattle.statement_syntax.specs.declared.tree.Primary.{Letter, Identity, Bracket}
 use Rattle.statement_syntax.specs.declared.tree.Statement.{Statement}
 use Rattle.statement_syntax.specs.declared.tree.StatementKind.{StatementKind}
@@ -13,7 +14,7 @@ use Rattle.statement_syntax.specs.Steps.{name_with, factor_of, term_of, sum_of}
 use Rattle.definitions.specs.Quiver.{source, target}
 use Rattle.quiver.specs.Declarations.{Declaration, quiver_of, object_name}
 use Rattle.statement_names.specs.declared.written.Equation.{Equation}
-use Rattle.statement_names.specs.Numbered.{letter_number}
+use Rattle.expressions.specs.Names.{letter_of}
 
 -- ---- expressions, all of whose tokens are at one place
 
@@ -51,11 +52,11 @@ abbrev pub identity_equation : Spot → List (List ℕ) → List ℕ → Equatio
 identity_equation at names v = equation (word_at at names) (product_at at (identity_at at v ∷ []))
 
 -- the names of the target and the source of a map
-abbrev pub target_name : List Declaration → List ℕ → List ℕ
-target_name ds a = object_name ds (target (quiver_of ds) (letter_number ds a))
+abbrev pub target_name : List Declaration → Name → List ℕ
+target_name ds a = object_name ds (target (quiver_of ds) (letter_of ds a))
 
-abbrev pub source_name : List Declaration → List ℕ → List ℕ
-source_name ds a = object_name ds (source (quiver_of ds) (letter_number ds a))
+abbrev pub source_name : List Declaration → Name → List ℕ
+source_name ds a = object_name ds (source (quiver_of ds) (letter_of ds a))
 
 abbrev pub abbreviation_of : List Declaration → Spot → StatementKind → List Equation
 -- a x a = a, x a x = x, (a x)' = a x, (x a)' = x a
@@ -64,7 +65,7 @@ abbreviation_of ds at (statement.Pinv a x) =
     ∷ adjoint_equation at (a.text ∷ x.text ∷ []) ∷ adjoint_equation at (x.text ∷ a.text ∷ []) ∷ []
 -- a x = [T], x a = [S], from the source S to the target T of a
 abbreviation_of ds at (statement.Inverse a x) =
-    identity_equation at (a.text ∷ x.text ∷ []) (target_name ds a.text) ∷ identity_equation at (x.text ∷ a.text ∷ []) (source_name ds a.text) ∷ []
+    identity_equation at (a.text ∷ x.text ∷ []) (target_name ds a) ∷ identity_equation at (x.text ∷ a.text ∷ []) (source_name ds a) ∷ []
 -- a x a = a
 abbreviation_of ds at (statement.Inner a x) = inner_equation at a.text x.text ∷ []
 -- p p = p, p' = p

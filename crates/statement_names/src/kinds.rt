@@ -1,6 +1,59 @@
+ghost use Rattle.std.specs.Prelude.{◌≡◌, [], OnOk};
+ghost use Rattle.statement_names.specs.Faults.{kind_in};
+ghost use Rattle.statement_names.specs.Survey.{with_kind};
+
+use indexmap::IndexMap;
+use std::alloc::{AllocError, Global};
+use std::marker::Model;
+
 /// What a name is declared as.
 #[derive(Clone, Copy, Debug, PartialEq, Eq)]
 pub enum Kind {
     Object,
     Map,
+}
+
+/// What each of some names is declared as, in the order of their first declarations.
+#[derive(Drop)]
+pub struct Kinds {
+    kinds: IndexMap<String, Kind>,
+}
+
+impl Model for Kinds {
+    ghost use Rattle.std.specs.Prelude.{List, ℕ, map, string_bytes};
+    ghost use Rattle.statement_names.specs.declared.kinds.Kind.{Kind};
+
+    ghost Value = { List (List ℕ × Kind) };
+
+    ghost view = { λ k. map (λ e. (string_bytes e.0, e.1)) k.kinds.entries };
+}
+
+impl Kinds {
+    /// No names.
+    pub fn new(alloc: Global) -> Kinds
+        ensures { result ≡ [] }
+    {
+        Kinds {
+            kinds: IndexMap::new(alloc),
+        }
+    }
+
+    /// What the name is declared as.
+    pub fn kind_of(&self, name: &str) -> Option<Kind>
+        ensures { result ≡ kind_in self.now name.now }
+    {
+        self.kinds.get(name).copied()
+    }
+
+    /// Declares the name, unless it is declared already.
+    pub fn declare(&mut self, name: &str, kind: Kind) -> Result<(), AllocError>
+        ensures ok { OnOk result (self.new ≡ with_kind self.old name.now kind) }
+    {
+        if self.kind_of(name).is_some() {
+            return Ok(());
+        }
+        let key = String::from_str(*self.kinds.allocator(), name)?;
+        self.kinds.insert(key, kind)?;
+        Ok(())
+    }
 }

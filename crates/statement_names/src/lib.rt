@@ -4,6 +4,7 @@
 mod fault;
 mod kinds;
 mod names;
+mod survey;
 mod written;
 
 pub use fault::NameFault;

@@ -3,8 +3,12 @@ ghost use Rattle.statement_names.specs.Faults.{name_fault_of, Explains};
 ghost use Rattle.statement_names.specs.Numbered.{declarations_of};
 ghost use Rattle.statement_names.specs.Ordered.{order_of};
 ghost use Rattle.statement_names.specs.Solved.{solved_of};
+ghost use Rattle.statement_names.specs.Marked.{is_starred, marked_of};
+ghost use Rattle.statement_names.specs.Shapes.{shapes_of};
+ghost use Rattle.statement_names.specs.Ready.{IsReady};
 
 use crate::fault::NameFault;
+use adjoint_rules::Shape;
 use lists::Listing;
 use quiver::Quiver;
 use statement_syntax::Tree;
@@ -23,6 +27,8 @@ pub struct Names {
     pub starred: bool,
     /// The objects whose identities occur, ascending.
     pub marked: Listing<Object>,
+    /// The shapes of models that are looked for.
+    pub shapes: Listing<Shape>,
     /// The maps that are to be solved for, ascending.
     pub solved: Listing<Letter>,
 }
@@ -33,7 +39,12 @@ pub fn read_names(alloc: Global, tree: &Tree) -> Result<Names, NameFault>
     ensures fault { IfErr result (Explains (name_fault_of tree.now.statements)) }
     ensures quiver { IfOk result (λ names. names.quiver ≡ declarations_of tree.now.statements) }
     ensures order { IfOk result (λ names. names.order ≡ order_of names.quiver tree.now.statements) }
+    ensures starred { IfOk result (λ names. names.starred ≡ is_starred tree.now.statements) }
+    ensures marked { IfOk result (λ names. names.marked ≡ marked_of names.quiver tree.now.statements) }
+    ensures shapes { IfOk result (λ names. names.shapes ≡ shapes_of tree.now.statements) }
     ensures solved { IfOk result (λ names. names.solved ≡ solved_of names.quiver tree.now.statements) }
+    // What later stages rest on.
+    ensures ready { IfOk result (λ names. IsReady names.quiver tree.now.statements) }
 {
     let _ = tree;
     let _ = alloc;

@@ -1,0 +1,35 @@
+-- The names of a map are the bytes of its keys.
+use Rattle.std.proofs.Common.{◌≡◌, Option, ap₂, sym, false, is_some, if◌then◌else◌, List, [], ◌∷◌, ◌++◌, map, None, Some, cond, refl, ap, ◌∙◌, ℕ, string_bytes, Global, String}
+use Rattle.std.specs.Map.{lookup}
+use Rattle.std.specs.Str.{bytes_eq}
+use Rattle.std.specs.String.{string_eq}
+use Rattle.std.proofs.lemmas.List.{map-append}
+use Rattle.indexmap.specs.IndexMap.{insert_entry}
+use Rattle.indexmap.proofs.CallerLemmas.{insert_entry-new}
+use Rattle.statement_names.specs.declared.kinds.Kind.{Kind}
+use Rattle.statement_names.specs.declared.kinds.Kinds.TheInside.{Inside}
+use Rattle.statement_names.specs.Faults.{kind_in}
+use Rattle.statement_names.specs.Survey.{with_kind}
+
+abbrev pub bytes_of : List (String Global × Kind) → List (List ℕ × Kind)
+bytes_of entries = map (λ e. (string_bytes e.0, e.1)) entries
+
+-- a look-up by a key's bytes is one in the list of bytes
+pub lookup-bytes : (name : List ℕ) (entries : List (String Global × Kind)) → lookup (λ k. bytes_eq name (string_bytes k)) entries ≡ lookup (bytes_eq name) (bytes_of entries)
+lookup-bytes name [] = refl
+lookup-bytes name (e ∷ entries) = ap (cond (bytes_eq name (string_bytes e.0)) (Some e.1)) (lookup-bytes name entries)
+
+-- a name that isn't there goes last
+pub bytes-inserted : (q : Inside) (new : List (String Global × Kind)) (kinds : List (List ℕ × Kind)) (key : String Global) (name : List ℕ) (kind : Kind) → string_bytes key ≡ name
+    → new ≡ insert_entry string_eq q.kinds.entries key kind → bytes_of q.kinds.entries ≡ kinds → is_some (kind_in kinds name) ≡ false → bytes_of new ≡ with_kind kinds name kind
+bytes-inserted q new kinds key name kind key_is new_is view_is fresh =
+    let absent : lookup (λ k. bytes_eq (string_bytes key) (string_bytes k)) q.kinds.entries ≡ None =
+    lookup-bytes (string_bytes key) q.kinds.entries ∙ ap₂ (λ n ks. lookup (bytes_eq n) ks) key_is view_is ∙ absent_from (kind_in kinds name) fresh in
+    ap bytes_of (new_is ∙ insert_entry-new string_eq q.kinds key kind absent)
+    ∙ map-append (λ e. (string_bytes e.0, e.1)) q.kinds.entries ((key, kind) ∷ [])
+    ∙ ap₂ (λ ks n. ks ++ (n, kind) ∷ []) view_is key_is
+    ∙ ap (λ b. if b then kinds else kinds ++ (name, kind) ∷ []) (sym fresh)
+  where
+    absent_from : (found : Option Kind) → is_some found ≡ false → found ≡ None
+    absent_from None e = refl
+    absent_from (Some k) e = absurd (cc)
