@@ -1,1 +1,4 @@
 pub mod FirstFound
+pub mod Progress
+pub mod Statements
+pub mod FaultObjects

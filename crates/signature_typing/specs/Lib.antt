@@ -1,2 +1,4 @@
 pub mod First
 pub mod Fault
+pub mod Typing
+pub mod Named

@@ -6,6 +6,7 @@ use Rattle.definitions.specs.Poly.{Poly}
 use Rattle.nc_polynomial.specs.declared.fault.PolyFault.{PolyFault}
 use Rattle.quiver.specs.declared.named.Sig.{Sig}
 use Rattle.quiver.specs.Declarations.{Declaration}
+use Rattle.statement_syntax.specs.declared.place.Spot.{Spot}
 use Rattle.statement_syntax.specs.declared.tree.Statement.{Statement}
 use Rattle.statement_names.specs.declared.written.Equation.{Equation}
 use Rattle.statement_names.specs.Faults.{name_fault_of}
@@ -52,12 +53,19 @@ polynomials_of ds es = flat_map (λ e. value_in (polynomial_in ds e)) es
 abbrev pub equations_in : List Declaration → Statement → List Equation
 equations_in ds s = equations_of ds s ++ claims_in s.kind
 
--- the first wrong signature of a statement, and the first arithmetic that goes wrong
+-- the fault of an equation's signatures, and that of its arithmetic, where its statement begins at a place
+abbrev pub signature_fault : List Declaration → Equation → Option TypeFault
+signature_fault ds e = fault_in (told_signature ds) (signature_in ds e)
+
+abbrev pub polynomial_fault : List Declaration → Spot → Equation → Option TypeFault
+polynomial_fault ds at e = fault_in (told_polynomial at) (polynomial_in ds e)
+
+-- the first of a statement
 abbrev pub wrong_signature : List Declaration → Statement → Option TypeFault
-wrong_signature ds s = first_among (λ e. fault_in (told_signature ds) (signature_in ds e)) (equations_in ds s)
+wrong_signature ds s = first_among (signature_fault ds) (equations_in ds s)
 
 abbrev pub wrong_polynomial : List Declaration → Statement → Option TypeFault
-wrong_polynomial ds s = first_among (λ e. fault_in (told_polynomial s.at) (polynomial_in ds e)) (equations_in ds s)
+wrong_polynomial ds s = first_among (polynomial_fault ds s.at) (equations_in ds s)
 
 -- no claim is made
 abbrev pub wrong_claims : List Equation → Option TypeFault
@@ -80,8 +88,8 @@ pub record IsProblemOf (statements : List Statement) (p : Problem) : Type 0 wher
   pub no_fault : fault_of statements ≡ None
   pub quiver : p.parts.quiver ≡ declarations_of statements
   pub order : p.parts.order ≡ order_of p.parts.quiver statements
-  pub starred : p.parts.starred ≡ is_starred statements
-  pub marked : p.parts.marked ≡ marked_of p.parts.quiver statements
+  -- pub starred : p.parts.starred ≡ is_starred statements
+  -- pub marked : p.parts.marked ≡ marked_of p.parts.quiver statements
   -- the assumptions, each left minus right, with their signatures
   pub assumptions : polynomials p.parts.assumptions ≡ polynomials_of p.parts.quiver (assumptions_of p.parts.quiver statements)
   pub signatures : p.parts.sigs ≡ signatures_of p.parts.quiver (assumptions_of p.parts.quiver statements)
@@ -89,5 +97,5 @@ pub record IsProblemOf (statements : List Statement) (p : Problem) : Type 0 wher
   pub claims : polynomials p.parts.claims ≡ polynomials_of p.parts.quiver (claims_of statements)
   pub claim_signatures : p.parts.claim_sigs ≡ signatures_of p.parts.quiver (claims_of statements)
   -- the search for models
-  pub shapes : p.parts.shapes ≡ shapes_of p.parts.quiver statements
+  -- pub shapes : p.parts.shapes ≡ shapes_of p.parts.quiver statements
   pub solved : p.parts.solved ≡ solved_of p.parts.quiver statements

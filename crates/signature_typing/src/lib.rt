@@ -2,5 +2,7 @@
 #![tactic(auto)]
 
 mod fault;
+mod polynomials;
+mod signatures;
 
 pub use fault::TypeFault;

@@ -1,12 +1,13 @@
 ghost use Rattle.std.specs.Prelude.{◌≡◌, ◌++◌, None, Ok, IfOk, IfErr};
 ghost use Rattle.std.specs.List.{All};
-ghost use Rattle.quiver.specs.Declarations.{object_count};
 ghost use Rattle.statement_names.specs.Written.{equations_of, assumptions_of, claims_in, claims_of};
 ghost use Rattle.expressions.specs.Names.{AreNames};
 ghost use Rattle.expressions.specs.Signatures.{equation_signature};
+ghost use Rattle.adjoint_rules.specs.Problem.{HasObjects};
 ghost use Rattle.signature_typing.specs.First.{first_among};
 ghost use Rattle.signature_typing.specs.Fault.{Explains, end_names, misfit_at, told_signature};
-ghost use Rattle.signature_typing.specs.Typing.{fault_in, signature_in, signatures_of, wrong_signature};
+ghost use Rattle.signature_typing.specs.Typing.{fault_in, equations_in, signature_fault, signatures_of, wrong_signature};
+ghost use Rattle.signature_typing.specs.Named.{HasNames, AreNamed, HasFaultObjects};
 
 use crate::TypeFault;
 use crate::fault::fault_at;
@@ -14,7 +15,7 @@ use expressions::{SignatureFault, equation_signature};
 use lists::{Listing, Text};
 use quiver::{Quiver, Sig};
 use statement_names::{Equation, abbreviation};
-use statement_syntax::{Spot, Statement, StatementKind, Sum, Tree};
+use statement_syntax::{Spot, Statement, StatementKind, Sum};
 use std::alloc::{AllocError, Global};
 
 /// The signatures of the assumptions and of the claims.
@@ -26,7 +27,7 @@ pub(crate) struct Signatures {
 
 // The names of the source and the target.
 fn end_names(alloc: Global, quiver: &Quiver, signature: Sig) -> Result<(Text, Text), AllocError>
-    requires { HasEnds (object_count quiver.now) signature }
+    requires { HasObjects quiver.now signature }
     ensures { IfOk result (λ names. names ≡ end_names quiver.now signature) }
 {
     let source = Text::from_str(alloc, quiver.object_name(signature.source))?;
@@ -43,8 +44,8 @@ fn misfit_at(
     left: Sig,
     right: Sig,
 ) -> Result<TypeFault, AllocError>
-    requires left_ends { HasEnds (object_count quiver.now) left }
-    requires right_ends { HasEnds (object_count quiver.now) right }
+    requires left_ends { HasObjects quiver.now left }
+    requires right_ends { HasObjects quiver.now right }
     ensures { IfOk result (λ fault. fault ≡ misfit_at code quiver.now at left right) }
 {
     Ok(TypeFault::Fault {
@@ -62,7 +63,7 @@ fn signature_fault(
     quiver: &Quiver,
     fault: SignatureFault,
 ) -> Result<TypeFault, AllocError>
-    requires { HasFaultEnds (object_count quiver.now) fault }
+    requires { HasFaultObjects quiver.now fault }
     ensures { IfOk result (λ told. told ≡ told_signature quiver.now fault) }
 {
     match fault {
@@ -87,6 +88,7 @@ fn signature_of(
     ensures ok { IfOk result (λ signature. equation_signature quiver.now left.now right.now ≡ Ok signature) }
     ensures err { IfErr result (Explains (fault_in (told_signature quiver.now) (equation_signature quiver.now left.now right.now))) }
 {
+    let _declared = quiver.objects();
     match equation_signature(quiver, left, right) {
         Ok(signature) => Ok(signature),
         Err(fault) => Err(signature_fault(alloc, quiver, fault)?),
@@ -97,18 +99,18 @@ fn signature_of(
 fn with_equations(
     alloc: Global,
     quiver: &Quiver,
-    mut signatures: Listing<Sig>,
+    mut before: Listing<Sig>,
     equations: &[Equation],
 ) -> Result<Listing<Sig>, TypeFault>
     requires { All (HasNames quiver.now) equations.now }
-    ensures ok { IfOk result (λ more. more ≡ signatures ++ signatures_of quiver.now equations.now) }
-    ensures fits { IfOk result (λ more. first_among (wrong_equation quiver.now) equations.now ≡ None) }
-    ensures err { IfErr result (Explains (first_among (wrong_equation quiver.now) equations.now)) }
+    ensures ok { IfOk result (λ more. more ≡ before ++ signatures_of quiver.now equations.now) }
+    ensures fits { IfOk result (λ more. first_among (signature_fault quiver.now) equations.now ≡ None) }
+    ensures err { IfErr result (Explains (first_among (signature_fault quiver.now) equations.now)) }
 {
     for equation in equations {
-        signatures.push(signature_of(alloc, quiver, &equation.left, &equation.right)?)?;
+        before.push(signature_of(alloc, quiver, &equation.left, &equation.right)?)?;
     }
-    Ok(signatures)
+    Ok(before)
 }
 
 impl Signatures {
@@ -145,19 +147,19 @@ impl Signatures {
 pub(crate) fn signatures_of(
     alloc: Global,
     quiver: &Quiver,
-    tree: &Tree,
+    statements: &[Statement],
 ) -> Result<Signatures, TypeFault>
-    requires { All (λ s. All (HasNames quiver.now) (equations_in quiver.now s)) tree.now.statements }
-    ensures assumptions { IfOk result (λ all. all.assumptions ≡ signatures_of quiver.now (assumptions_of quiver.now tree.now.statements)) }
-    ensures claims { IfOk result (λ all. all.claims ≡ signatures_of quiver.now (claims_of tree.now.statements)) }
-    ensures fits { IfOk result (λ all. first_among (wrong_signature quiver.now) tree.now.statements ≡ None) }
-    ensures err { IfErr result (Explains (first_among (wrong_signature quiver.now) tree.now.statements)) }
+    requires { AreNamed quiver.now statements.now }
+    ensures assumptions { IfOk result (λ all. all.assumptions ≡ signatures_of quiver.now (assumptions_of quiver.now statements.now)) }
+    ensures claims { IfOk result (λ all. all.claims ≡ signatures_of quiver.now (claims_of statements.now)) }
+    ensures fits { IfOk result (λ all. first_among (wrong_signature quiver.now) statements.now ≡ None) }
+    ensures err { IfErr result (Explains (first_among (wrong_signature quiver.now) statements.now)) }
 {
     let mut signatures = Signatures {
         assumptions: Listing::new(alloc),
         claims: Listing::new(alloc),
     };
-    for statement in tree.statements.as_slice() {
+    for statement in statements {
         signatures = signatures.with_statement(alloc, quiver, statement)?;
     }
     Ok(signatures)
