@@ -7,8 +7,8 @@ use Rattle.statement_syntax.specs.declared.tree.Sum.{Sum}
 use Rattle.statement_syntax.specs.declared.tree.Statement.{Statement}
 use Rattle.statement_syntax.specs.declared.tree.StatementKind.TheVariants as statement
 use Rattle.statement_names.specs.Written.{equation}
+use Rattle.statement_names.specs.Ready.{HasNames}
 use Rattle.signature_typing.specs.Typing.{equations_in}
-use Rattle.signature_typing.specs.Named.{HasNames}
 
 pub named_assumption : (ds : List Declaration) (s : Statement) (left right : Sum) → s.kind ≡ statement.Assume left right → All (HasNames ds) (equations_in ds s) → HasNames ds (equation left right)
 named_assumption ds s left right is named =

@@ -3,19 +3,13 @@ use Rattle.std.specs.Prelude.{List}
 use Rattle.std.specs.List.{All}
 use Rattle.quiver.specs.Declarations.{Declaration}
 use Rattle.statement_syntax.specs.declared.tree.Statement.{Statement}
-use Rattle.statement_names.specs.declared.written.Equation.{Equation}
+use Rattle.statement_names.specs.Ready.{HasNames}
 use Rattle.expressions.specs.declared.fault.SignatureFault.{SignatureFault}
 use Rattle.expressions.specs.declared.fault.SignatureFault.TheVariants.{NotComposable, SumMismatch, OpenZero}
-use Rattle.expressions.specs.Names.{AreNames}
 use Rattle.adjoint_rules.specs.Problem.{HasObjects}
 use Rattle.signature_typing.specs.Typing.{equations_in}
 
--- those on both sides of an equation
-pub record HasNames (ds : List Declaration) (e : Equation) : Type 0 where
-  pub left : AreNames ds e.left
-  pub right : AreNames ds e.right
-
--- those of all equations of all statements
+-- the names in all equations of all statements
 abbrev pub AreNamed : List Declaration → List Statement → Type 0
 AreNamed ds statements = All (λ s. All (HasNames ds) (equations_in ds s)) statements
 

@@ -13,6 +13,8 @@ use Rattle.statement_names.specs.Faults.{name_fault_of}
 use Rattle.statement_names.specs.Numbered.{declarations_of}
 use Rattle.statement_names.specs.Written.{equations_of, assumptions_of, claims_in, claims_of}
 use Rattle.statement_names.specs.Ordered.{order_of}
+use Rattle.statement_names.specs.Marked.{is_starred, marked_of}
+use Rattle.statement_names.specs.Shapes.{shapes_of}
 use Rattle.statement_names.specs.Solved.{solved_of}
 use Rattle.expressions.specs.declared.fault.SignatureFault.{SignatureFault}
 use Rattle.expressions.specs.Signatures.{equation_signature}
@@ -88,8 +90,8 @@ pub record IsProblemOf (statements : List Statement) (p : Problem) : Type 0 wher
   pub no_fault : fault_of statements ≡ None
   pub quiver : p.parts.quiver ≡ declarations_of statements
   pub order : p.parts.order ≡ order_of p.parts.quiver statements
-  -- pub starred : p.parts.starred ≡ is_starred statements
-  -- pub marked : p.parts.marked ≡ marked_of p.parts.quiver statements
+  pub starred : p.parts.starred ≡ is_starred statements
+  pub marked : p.parts.marked ≡ marked_of p.parts.quiver statements
   -- the assumptions, each left minus right, with their signatures
   pub assumptions : polynomials p.parts.assumptions ≡ polynomials_of p.parts.quiver (assumptions_of p.parts.quiver statements)
   pub signatures : p.parts.sigs ≡ signatures_of p.parts.quiver (assumptions_of p.parts.quiver statements)
@@ -97,5 +99,5 @@ pub record IsProblemOf (statements : List Statement) (p : Problem) : Type 0 wher
   pub claims : polynomials p.parts.claims ≡ polynomials_of p.parts.quiver (claims_of statements)
   pub claim_signatures : p.parts.claim_sigs ≡ signatures_of p.parts.quiver (claims_of statements)
   -- the search for models
-  -- pub shapes : p.parts.shapes ≡ shapes_of p.parts.quiver statements
+  pub shapes : p.parts.shapes ≡ shapes_of statements
   pub solved : p.parts.solved ≡ solved_of p.parts.quiver statements

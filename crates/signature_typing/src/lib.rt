@@ -4,5 +4,7 @@
 mod fault;
 mod polynomials;
 mod signatures;
+mod stages;
 
 pub use fault::TypeFault;
+pub use stages::elaborate;

@@ -1,13 +1,14 @@
 ghost use Rattle.std.specs.Prelude.{◌≡◌, ◌++◌, None, Ok, IfOk, IfErr};
 ghost use Rattle.std.specs.List.{All};
 ghost use Rattle.statement_names.specs.Written.{equations_of, assumptions_of, claims_in, claims_of};
+ghost use Rattle.statement_names.specs.Ready.{HasNames};
 ghost use Rattle.expressions.specs.Names.{AreNames};
 ghost use Rattle.expressions.specs.Polynomials.{equation_poly};
 ghost use Rattle.adjoint_rules.specs.Problem.{polynomials};
 ghost use Rattle.signature_typing.specs.First.{first_among};
 ghost use Rattle.signature_typing.specs.Fault.{Explains, told_polynomial};
 ghost use Rattle.signature_typing.specs.Typing.{equations_in, fault_in, polynomial_fault, polynomials_of, wrong_polynomial};
-ghost use Rattle.signature_typing.specs.Named.{HasNames, AreNamed};
+ghost use Rattle.signature_typing.specs.Named.{AreNamed};
 
 use crate::TypeFault;
 use crate::fault::polynomial_fault;

@@ -1,13 +1,14 @@
 ghost use Rattle.std.specs.Prelude.{◌≡◌, ◌++◌, None, Ok, IfOk, IfErr};
 ghost use Rattle.std.specs.List.{All};
 ghost use Rattle.statement_names.specs.Written.{equations_of, assumptions_of, claims_in, claims_of};
+ghost use Rattle.statement_names.specs.Ready.{HasNames};
 ghost use Rattle.expressions.specs.Names.{AreNames};
 ghost use Rattle.expressions.specs.Signatures.{equation_signature};
 ghost use Rattle.adjoint_rules.specs.Problem.{HasObjects};
 ghost use Rattle.signature_typing.specs.First.{first_among};
 ghost use Rattle.signature_typing.specs.Fault.{Explains, end_names, misfit_at, told_signature};
 ghost use Rattle.signature_typing.specs.Typing.{fault_in, equations_in, signature_fault, signatures_of, wrong_signature};
-ghost use Rattle.signature_typing.specs.Named.{HasNames, AreNamed, HasFaultObjects};
+ghost use Rattle.signature_typing.specs.Named.{AreNamed, HasFaultObjects};
 
 use crate::TypeFault;
 use crate::fault::fault_at;
