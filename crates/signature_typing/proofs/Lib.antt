@@ -1,4 +1,4 @@
 pub mod FirstFound
 pub mod Progress
 pub mod Statements
-pub mod FaultObjects
+pub mod Ends
