@@ -2,3 +2,9 @@ pub mod Trees
 pub mod Results
 pub mod Ends
 pub mod Nodes
+pub mod Words
+pub mod Canonical
+pub mod Multiples
+pub mod Letters
+pub mod Range
+pub mod PolyNodes

@@ -18,8 +18,7 @@ placed at s = Ok (at, s)
 
 -- ---- a sum
 module _ (ds : List Declaration) (s : Sum) (terms : List Term) (whole : terms ≡ (out-Sum s).terms) (i : ℕ) (so_far : Result (Option Sig) SignatureFault)
-  (rest : (each (term_part ds) (drop i terms) >>= sum_from so_far) ≡ (each (term_part ds) terms >>= sum_from (Ok None))) where
-
+    (rest : (each (term_part ds) (drop i terms) >>= sum_from so_far) ≡ (each (term_part ds) terms >>= sum_from (Ok None))) where
   sum_is : sum_signature ds s ≡ (each (term_part ds) (drop i terms) >>= sum_from so_far)
   sum_is = signature-sum ds s ∙ ap (λ ts. each (term_part ds) ts >>= sum_from (Ok None)) (sym whole) ∙ sym rest
 
@@ -72,8 +71,7 @@ only-factor ds t factors whole one f item = sym (signature-term ds t ∙ ap (λ 
     go (g ∷ h ∷ fs) n e = absurd (omega arith)
 
 module _ (ds : List Declaration) (t : Term) (factors : List Factor) (whole : factors ≡ (out-Term t).factors) (several : length factors ≢ 1) (i : ℕ) (so_far : Result (Option Sig) SignatureFault)
-  (rest : (each (factor_part ds) (drop i factors) >>= product_from so_far) ≡ (each (factor_part ds) factors >>= product_from (Ok None))) where
-
+    (rest : (each (factor_part ds) (drop i factors) >>= product_from so_far) ≡ (each (factor_part ds) factors >>= product_from (Ok None))) where
   product_is : term_signature ds t ≡ (each (factor_part ds) (drop i factors) >>= product_from so_far)
   product_is = signature-term ds t ∙ ap (λ fs. each (factor_part ds) fs >>= product_signature) (sym whole) ∙ several-factors (factor_part ds) factors several ∙ sym rest
 

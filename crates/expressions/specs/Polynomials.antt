@@ -49,9 +49,9 @@ abbrev pub Summand : Type 0
 Summand = Bool × Poly
 
 -- the first term
-abbrev pub started : Summand → Poly
-started (false, p) = p
-started (true, p) = negated p
+abbrev pub signed : Summand → Poly
+signed (false, p) = p
+signed (true, p) = negated p
 
 abbrev pub sum_step : Poly → Summand → Result Poly PolyFault
 sum_step so_far (false, p) = sum_result so_far p
@@ -64,7 +64,7 @@ sum_from so_far (s ∷ summands) = sum_step so_far s >>= λ next. sum_from next 
 -- a sum of these terms from the left
 abbrev pub total : List Summand → Result Poly PolyFault
 total [] = Ok []
-total (s ∷ summands) = sum_from (started s) summands
+total (s ∷ summands) = sum_from (signed s) summands
 
 abbrev pub is_negative : Term → Bool
 is_negative (Term' at negative literal shape factors) = negative
