@@ -1,1 +1,7 @@
 pub mod Keys
+pub mod Runs
+pub mod Flat
+pub mod Listed
+pub mod KindsFound
+pub mod Quiet
+pub mod Bridge

@@ -44,8 +44,11 @@ pairs_behind kind most front [] = []
 pairs_behind kind most front (pair ∷ pairs) =
     lists front (use_of kind pair.0) ∷ counts most pair.1 ∷ pairs_behind kind most (front ++ pair.0.text ∷ []) pairs
 
+abbrev pub used_names : List Use → List Occurrence
+used_names us = map (λ u. uses u) us
+
 abbrev pub sides_occurrences : Sum → Sum → List Occurrence
-sides_occurrences left right = map (λ u. uses u) (sum_uses left) ++ map (λ u. uses u) (sum_uses right)
+sides_occurrences left right = used_names (sum_uses left) ++ used_names (sum_uses right)
 
 abbrev pub kind_occurrences : Spot → StatementKind → List Occurrence
 kind_occurrences at (statement.Objects names) = map (λ name. declares_object name) names

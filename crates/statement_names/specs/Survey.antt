@@ -7,8 +7,23 @@ use Rattle.statement_names.specs.declared.kinds.Kind.TheVariants.{Object, Map}
 use Rattle.statement_names.specs.declared.survey.Survey.{Survey}
 use Rattle.statement_names.specs.Occurrences.{Occurrence, declares_object, declares_map, uses, lists, counts, modulus, begins_order, begins_assumptions, begins_claim, begins_shape}
 use Rattle.statement_syntax.specs.declared.tree.Name.{Name}
+use Rattle.statement_syntax.specs.declared.tree.StatementKind.{StatementKind}
+use Rattle.statement_syntax.specs.declared.tree.StatementKind.TheVariants as statement
 use Rattle.statement_names.specs.Uses.{Use}
 use Rattle.statement_names.specs.Faults.{kind_in, is_kind, are_two_objects, is_among, value_of, is_between, is_modulus}
+
+-- what a statement declares
+abbrev pub kinded : Kind → List Name → List (List ℕ × Kind)
+kinded kind names = map (λ n. (n.text, kind)) names
+
+abbrev pub kinds_by : StatementKind → List (List ℕ × Kind)
+kinds_by (statement.Objects names) = kinded Object names
+kinds_by (statement.Maps names source target selfmade) = kinded Map names
+kinds_by kind = []
+
+-- the same is found for each name
+abbrev pub SameKinds : List (List ℕ × Kind) → List (List ℕ × Kind) → Type 0
+SameKinds declared others = (name : List ℕ) → kind_in declared name ≡ kind_in others name
 
 -- a name with what it is declared as, unless it is declared already
 abbrev pub with_kind : List (List ℕ × Kind) → List ℕ → Kind → List (List ℕ × Kind)

@@ -1,22 +1,20 @@
 //! The search for the first fault: each name, literal and first word of the file, in reading order.
 
-ghost use Rattle.std.specs.Prelude.{◌≡◌, ◌-◌, ◌<◌, ◌↔◌, ◌∷◌, [], ◌++◌, map, None, Some, Ok, Err, OnOk, IfOk, IfErr, IsTrue};
-ghost use Rattle.statement_names.specs.Faults.{Explains, kind_in, is_kind, are_two_objects, is_between, is_modulus, value_of};
-ghost use Rattle.statement_names.specs.Occurrences.{use_of, declares_object, declares_map, uses, lists, counts, modulus, begins_order, begins_assumptions, begins_claim, begins_shape, names_behind, pairs_behind, sides_occurrences, statement_occurrences};
-ghost use Rattle.statement_names.specs.Survey.{fault_at, behind, run, fault_in, short_of, declared_fault, used_fault, number_fault, names_in, with_kind};
+ghost use Rattle.std.specs.Prelude.{ℕ, List, ◌≡◌, ◌-◌, ◌<◌, ◌↔◌, ◌∷◌, [], ◌++◌, map, None, Some, Ok, Err, OnOk, IfOk, IfErr, IsTrue};
+ghost use Rattle.statement_names.specs.Faults.{name_fault_of, declared_in, Explains, kind_in, is_kind, are_two_objects, is_between, is_modulus, value_of};
+ghost use Rattle.statement_names.specs.Occurrences.{use_of, declares_object, declares_map, uses, lists, counts, modulus, begins_order, begins_assumptions, begins_claim, begins_shape, names_behind, pairs_behind, used_names, sides_occurrences, statement_occurrences, occurrences_of};
+ghost use Rattle.statement_names.specs.Survey.{fault_at, behind, run, fault_in, short_of, declared_fault, used_fault, number_fault, names_in, with_kind, kinded, kinds_by, SameKinds};
 ghost use Rattle.statement_names.specs.Uses.{object_use, map_use, primary_uses, factor_uses, term_uses, sum_uses};
 
 use crate::fault::NameFault;
 use crate::kinds::{Kind, Kinds};
 use lists::Listing;
-use statement_syntax::{Factor, Name, Number, Primary, Spot, Statement, StatementKind, Sum, Term};
+use statement_syntax::{Name, Number, Primary, Spot, Statement, StatementKind, Sum, Term};
 use std::alloc::{AllocError, Global};
 
 const OBJECT_LIMIT: u32 = 64;
 
 const MAP_LIMIT: u32 = 200;
-
-const ORDER_LIMIT: u32 = 1;
 
 const ASSUMPTION_LIMIT: u32 = 500;
 
@@ -171,4 +169,287 @@ impl Survey {
         }
         Ok(())
     }
+
+    // A name of a list, behind those that are listed.
+    fn listed(&self, listed: &mut Kinds, name: &Name, kind: Kind) -> Result<(), NameFault>
+        ensures ok { OnOk result (fault_at self.now (lists (names_in listed.old) (use_of kind name.now)) ≡ None) }
+        ensures after { OnOk result (names_in listed.new ≡ names_in listed.old ++ name.now.text ∷ []) }
+        ensures err { IfErr result (Explains (fault_at self.now (lists (names_in listed.old) (use_of kind name.now)))) }
+    {
+        self.name(name, kind)?;
+        let text = name.text.as_str();
+        if listed.kind_of(text).is_some() {
+            return Err(NameFault::Double { at: name.at });
+        }
+        listed.declare(text, kind)?;
+        Ok(())
+    }
+
+    // A list of names of maps.
+    fn names(&self, alloc: Global, names: &[Name]) -> Result<(), NameFault>
+        ensures ok { OnOk result (run self.now (names_behind Kind.Map [] names.now) ≡ Ok self.now) }
+        ensures err { IfErr result (Explains (fault_in (run self.now (names_behind Kind.Map [] names.now)))) }
+    {
+        let mut listed = Kinds::new(alloc);
+        for name in names {
+            self.listed(&mut listed, name, Kind::Map)?;
+        }
+        Ok(())
+    }
+
+    // A list of names of this kind, each with a literal from 1 to so much.
+    fn pairs(
+        &self,
+        alloc: Global,
+        pairs: &[(Name, Number)],
+        kind: Kind,
+        most: u32,
+    ) -> Result<(), NameFault>
+        ensures ok { OnOk result (run self.now (pairs_behind kind most [] pairs.now) ≡ Ok self.now) }
+        ensures err { IfErr result (Explains (fault_in (run self.now (pairs_behind kind most [] pairs.now)))) }
+    {
+        let mut listed = Kinds::new(alloc);
+        for pair in pairs {
+            self.listed(&mut listed, &pair.0, kind)?;
+            check_count(most, &pair.1)?;
+        }
+        Ok(())
+    }
+
+    // The names in an expression.
+    #[cycle(expressions)]
+    fn sum(&self, sum: &Sum) -> Result<(), NameFault>
+        ensures ok { OnOk result (run self.now (used_names (sum_uses sum.now)) ≡ Ok self.now) }
+        ensures err { IfErr result (Explains (fault_in (run self.now (used_names (sum_uses sum.now))))) }
+    {
+        for term in sum.terms.as_slice() {
+            self.term(term)?;
+        }
+        Ok(())
+    }
+
+    #[cycle(expressions)]
+    fn term(&self, term: &Term) -> Result<(), NameFault>
+        ensures ok { OnOk result (run self.now (used_names (term_uses term.now)) ≡ Ok self.now) }
+        ensures err { IfErr result (Explains (fault_in (run self.now (used_names (term_uses term.now))))) }
+    {
+        for factor in term.factors.as_slice() {
+            self.primary(&factor.primary)?;
+        }
+        Ok(())
+    }
+
+    #[cycle(expressions)]
+    fn primary(&self, primary: &Primary) -> Result<(), NameFault>
+        ensures ok { OnOk result (run self.now (used_names (primary_uses primary.now)) ≡ Ok self.now) }
+        ensures err { IfErr result (Explains (fault_in (run self.now (used_names (primary_uses primary.now))))) }
+    {
+        match primary {
+            Primary::Letter(name) => self.name(name, Kind::Map),
+            Primary::Identity(name) => self.name(name, Kind::Object),
+            Primary::Bracket(sum) => self.sum(sum),
+        }
+    }
+
+    // Both sides of an equation.
+    fn sides(&self, left: &Sum, right: &Sum) -> Result<(), NameFault>
+        ensures ok { OnOk result (run self.now (sides_occurrences left.now right.now) ≡ Ok self.now) }
+        ensures err { IfErr result (Explains (fault_in (run self.now (sides_occurrences left.now right.now)))) }
+    {
+        self.sum(left)?;
+        self.sum(right)
+    }
+
+    // Objects that are declared.
+    fn objects(&mut self, names: &[Name]) -> Result<(), NameFault>
+        ensures ok { OnOk result (run self.old (map (λ name. declares_object name) names.now) ≡ Ok self.new) }
+        ensures err { IfErr result (Explains (fault_in (run self.old (map (λ name. declares_object name) names.now)))) }
+    {
+        for name in names {
+            self.object(name)?;
+        }
+        Ok(())
+    }
+
+    // Maps that are declared between two objects.
+    fn maps(
+        &mut self,
+        names: &[Name],
+        source: &Name,
+        target: &Name,
+        selfmade: bool,
+    ) -> Result<(), NameFault>
+        ensures ok { OnOk result (run self.old (map (λ name. declares_map name source.now.text target.now.text selfmade) names.now) ≡ Ok self.new) }
+        ensures err { IfErr result (Explains (fault_in (run self.old (map (λ name. declares_map name source.now.text target.now.text selfmade) names.now)))) }
+    {
+        for name in names {
+            self.map(name, source, target, selfmade)?;
+        }
+        Ok(())
+    }
+
+    // Two names that are used.
+    fn two(&self, first: &Name, second: &Name, kind: Kind) -> Result<(), NameFault>
+        ensures ok { OnOk result (run self.now (used_names (use_of kind first.now ∷ use_of kind second.now ∷ [])) ≡ Ok self.now) }
+        ensures err { IfErr result (Explains (fault_in (run self.now (used_names (use_of kind first.now ∷ use_of kind second.now ∷ []))))) }
+    {
+        self.name(first, kind)?;
+        self.name(second, kind)
+    }
+
+    // The first word of a statement with so many assumptions.
+    fn assumptions(&mut self, count: u32, at: Spot) -> Result<(), NameFault>
+        ensures ok { OnOk result (fault_at self.old (begins_assumptions count at) ≡ None) }
+        ensures after { OnOk result (self.new ≡ behind self.old (begins_assumptions count at)) }
+        ensures err { IfErr result (Explains (fault_at self.old (begins_assumptions count at))) }
+    {
+        let full = NameFault::TooMany {
+            at,
+            limit: ASSUMPTION_LIMIT,
+        };
+        take_room(&mut self.assumptions, count, full)
+    }
+
+    // The first word of a claim.
+    fn claim(&mut self, at: Spot) -> Result<(), NameFault>
+        ensures ok { OnOk result (fault_at self.old (begins_claim at) ≡ None) }
+        ensures after { OnOk result (self.new ≡ behind self.old (begins_claim at)) }
+        ensures err { IfErr result (Explains (fault_at self.old (begins_claim at))) }
+    {
+        let full = NameFault::TooMany {
+            at,
+            limit: CLAIM_LIMIT,
+        };
+        take_room(&mut self.claims, 1, full)
+    }
+
+    // The first word of a shape.
+    fn shape(&mut self, at: Spot) -> Result<(), NameFault>
+        ensures ok { OnOk result (fault_at self.old (begins_shape at) ≡ None) }
+        ensures after { OnOk result (self.new ≡ behind self.old (begins_shape at)) }
+        ensures err { IfErr result (Explains (fault_at self.old (begins_shape at))) }
+    {
+        let full = NameFault::TooMany {
+            at,
+            limit: SHAPE_LIMIT,
+        };
+        take_room(&mut self.shapes, 1, full)
+    }
+
+    // The first word of an order.
+    fn order(&mut self, at: Spot) -> Result<(), NameFault>
+        ensures ok { OnOk result (fault_at self.old (begins_order at) ≡ None) }
+        ensures after { OnOk result (self.new ≡ behind self.old (begins_order at)) }
+        ensures err { IfErr result (Explains (fault_at self.old (begins_order at))) }
+    {
+        take_room(&mut self.orders, 1, NameFault::Double { at })
+    }
+
+    // All names, literals and first words of a statement.
+    fn statement(&mut self, alloc: Global, statement: &Statement) -> Result<(), NameFault>
+        ensures ok { OnOk result (run self.old (statement_occurrences statement.now) ≡ Ok self.new) }
+        ensures err { IfErr result (Explains (fault_in (run self.old (statement_occurrences statement.now)))) }
+    {
+        let at = statement.at;
+        match &statement.kind {
+            StatementKind::Objects(names) => self.objects(names.as_slice()),
+            StatementKind::Maps {
+                names,
+                source,
+                target,
+                selfmade,
+            } => {
+                self.maps(names.as_slice(), source, target, *selfmade)?;
+                self.two(source, target, Kind::Object)
+            }
+            StatementKind::Assume(left, right) => {
+                self.assumptions(1, at)?;
+                self.sides(left, right)
+            }
+            StatementKind::Claim(left, right) => {
+                self.claim(at)?;
+                self.sides(left, right)
+            }
+            StatementKind::Pinv(first, second) => {
+                self.assumptions(4, at)?;
+                self.two(first, second, Kind::Map)
+            }
+            StatementKind::Inverse(first, second) => {
+                self.assumptions(2, at)?;
+                self.two(first, second, Kind::Map)
+            }
+            StatementKind::Inner(first, second) => {
+                self.assumptions(1, at)?;
+                self.two(first, second, Kind::Map)
+            }
+            StatementKind::Projection(name) => {
+                self.assumptions(2, at)?;
+                self.name(name, Kind::Map)
+            }
+            StatementKind::Degree => self.order(at),
+            StatementKind::Weight(weights) => {
+                self.order(at)?;
+                self.pairs(alloc, weights.as_slice(), Kind::Map, GREATEST_WEIGHT)
+            }
+            StatementKind::Solve(names) => self.names(alloc, names.as_slice()),
+            StatementKind::Shape { modulus, sides } => {
+                self.shape(at)?;
+                check_modulus(modulus)?;
+                self.pairs(alloc, sides.as_slice(), Kind::Object, GREATEST_SIDE)
+            }
+        }
+    }
+}
+
+// What each name of the file is declared as.
+fn kinds_of(alloc: Global, statements: &[Statement]) -> Result<Kinds, AllocError>
+    ensures { IfOk result (λ kinds. SameKinds kinds (declared_in (occurrences_of statements.now))) }
+{
+    let mut kinds = Kinds::new(alloc);
+    for statement in statements {
+        put_statement(&mut kinds, &statement.kind)?;
+    }
+    Ok(kinds)
+}
+
+// Declares what the statement declares.
+fn put_statement(kinds: &mut Kinds, statement: &StatementKind) -> Result<(), AllocError>
+    ensures { OnOk result (SameKinds kinds.new (kinds.old ++ kinds_by statement.now)) }
+{
+    match statement {
+        StatementKind::Objects(names) => put_names(kinds, names.as_slice(), Kind::Object),
+        StatementKind::Maps { names, .. } => put_names(kinds, names.as_slice(), Kind::Map),
+        _ => Ok(()),
+    }
+}
+
+// Declares names as objects or as maps.
+fn put_names(kinds: &mut Kinds, names: &[Name], kind: Kind) -> Result<(), AllocError>
+    ensures { OnOk result (SameKinds kinds.new (kinds.old ++ kinded kind names.now)) }
+{
+    for name in names {
+        kinds.declare(name.text.as_str(), kind)?;
+    }
+    Ok(())
+}
+
+/// Looks for the first thing that is wrong with the names, the literals and the numbers of statements.
+pub fn check_names(alloc: Global, statements: &[Statement]) -> Result<(), NameFault>
+    ensures ok { OnOk result (name_fault_of statements.now ≡ None) }
+    ensures err { IfErr result (Explains (name_fault_of statements.now)) }
+{
+    let mut survey = Survey {
+        kinds: kinds_of(alloc, statements)?,
+        declared: Kinds::new(alloc),
+        objects: OBJECT_LIMIT,
+        maps: MAP_LIMIT,
+        orders: 1,
+        assumptions: ASSUMPTION_LIMIT,
+        claims: CLAIM_LIMIT,
+        shapes: SHAPE_LIMIT,
+    };
+    for statement in statements {
+        survey.statement(alloc, statement)?;
+    }
+    Ok(())
 }

@@ -1,0 +1,212 @@
+-- The search by what room is left finds what is defined by what stands before.
+use Rattle.std.proofs.Common.{◌≡◌, ℕ, ◌+◌, ◌-◌, ◌<◌, ◌≤◌, Bool, true, false, ◌&&◌, not, nat_lt, if◌then◌else◌, is_some, List, [], ◌∷◌, ◌++◌, Option, Some, None, Result, Ok, Err, refl, ap, ap₂, sym, ◌∙◌, arith, rules}
+use Rattle.std.specs.List.{sum_by}
+use Rattle.std.specs.Option.{option_or}
+use Rattle.std.specs.Str.{bytes_eq}
+use Rattle.std.proofs.lemmas.Bool.{ltb-false}
+use Rattle.std.proofs.lemmas.Bool.Decides.{nat_tests}
+use Rattle.std.proofs.lemmas.Grind.{flat_map-append}
+use Rattle.std.proofs.lemmas.List.{append-nil}
+use Rattle.std.proofs.lemmas.List.Sums.{sum_by_push}
+use Rattle.statement_names.specs.declared.fault.NameFault.{NameFault}
+use Rattle.statement_names.specs.declared.fault.NameFault.TheVariants.{Unknown, Double, TooMany, NotSquare, BadNumber}
+use Rattle.statement_names.specs.declared.kinds.Kind.{Kind}
+use Rattle.statement_names.specs.declared.kinds.Kind.TheVariants.{Object, Map}
+use Rattle.statement_names.specs.declared.survey.Survey.{Survey}
+use Rattle.statement_names.specs.Occurrences.{Occurrence, declares_object, declares_map, uses, lists, counts, modulus, begins_order, begins_assumptions, begins_claim, begins_shape}
+use Rattle.statement_names.specs.Faults.{declared_by, objects_by, maps_by, orders_by, assumptions_by, claims_by, shapes_by, declared_in, kind_in, is_kind, are_two_objects, is_among, fault_behind, first_fault}
+use Rattle.statement_names.specs.Survey.{short_of, declared_fault, or_else, fault_at, behind, goes_on, run, fault_in}
+
+-- ---- room that is left, and what has used it
+below_room : (room used more limit : ℕ) → room + used ≡ limit → nat_lt room more ≡ nat_lt limit (used + more)
+below_room room used more limit whole = grind (arith, nat_tests)
+
+room_left : (room used more limit : ℕ) → room + used ≡ limit → nat_lt room more ≡ false → (room - more) + (used + more) ≡ limit
+room_left room used more limit whole enough = let fits : more ≤ room = ltb-false room more enough in omega arith
+
+short_same : (room used more limit : ℕ) (fault : NameFault) → room + used ≡ limit → short_of room more fault ≡ (if nat_lt limit (used + more) then Some fault else None)
+short_same room used more limit fault whole = ap (λ b. if b then Some fault else None) (below_room room used more limit whole)
+
+-- there is room where no fault is
+not_short : (room more : ℕ) (fault : NameFault) → short_of room more fault ≡ None → nat_lt room more ≡ false
+not_short room more fault none = go (nat_lt room more) none
+  where
+    go : (b : Bool) → (if b then Some fault else None) ≡ None → b ≡ false
+    go false e = refl
+    go true e = absurd (cc)
+
+-- ---- tests one after another
+first_of_three : (a b c : Bool) (x y z : NameFault) → or_else (if a then Some x else if b then Some y else None) c z ≡ (if a then Some x else if b then Some y else if c then Some z else None)
+first_of_three true b c x y z = refl
+first_of_three false true c x y z = refl
+first_of_three false false c x y z = refl
+
+first_of_two : (good b : Bool) (x y : NameFault) → or_else (if good then None else Some x) b y ≡ (if not good then Some x else if b then Some y else None)
+first_of_two true b x y = refl
+first_of_two false b x y = refl
+
+or_else_none : (found : Option NameFault) (wrong : Bool) (later : NameFault) → or_else found wrong later ≡ None → found ≡ None
+or_else_none None wrong later e = refl
+or_else_none (Some fault) wrong later e = e
+
+new_then_room : (a : Bool) (x : NameFault) (rest : Option NameFault) → (if a then Some x else rest) ≡ None → rest ≡ None
+new_then_room true x rest e = absurd (cc)
+new_then_room false x rest e = e
+
+-- ---- a survey of what stands before
+pub record Agrees (kind : List ℕ → Option Kind) (before : List Occurrence) (s : Survey) : Type 0 where
+  pub kinds : (name : List ℕ) → kind_in s.kinds name ≡ kind name
+  pub declared : s.declared ≡ declared_in before
+  pub objects : s.objects + sum_by objects_by before ≡ 64
+  pub maps : s.maps + sum_by maps_by before ≡ 200
+  pub orders : s.orders + sum_by orders_by before ≡ 1
+  pub assumptions : s.assumptions + sum_by assumptions_by before ≡ 500
+  pub claims : s.claims + sum_by claims_by before ≡ 100
+  pub shapes : s.shapes + sum_by shapes_by before ≡ 16
+
+module _ (kind : List ℕ → Option Kind) (before : List Occurrence) (s : Survey) (agrees : Agrees kind before s) where
+  two_same : (u v : List ℕ) → are_two_objects (kind_in s.kinds) u v ≡ are_two_objects kind u v
+  two_same u v = ap₂ (λ x y. is_kind x Object && (is_kind y Object && not (bytes_eq u v))) (agrees.kinds u) (agrees.kinds v)
+
+  is_declared_same : (name : List ℕ) → is_some (kind_in s.declared name) ≡ is_some (kind_in (declared_in before) name)
+  is_declared_same name = ap (λ ds. is_some (kind_in ds name)) agrees.declared
+
+  fault_same : (o : Occurrence) → fault_at s o ≡ fault_behind kind before o
+  fault_same (declares_object n) =
+      ap₂ (λ b rest. if b then Some (Double n.at) else rest) (is_declared_same n.text) (short_same s.objects (sum_by objects_by before) 1 64 (TooMany n.at 64) agrees.objects)
+  fault_same (declares_map n u v selfmade) =
+      first_of_three (is_some (kind_in s.declared n.text)) (nat_lt s.maps 1) (selfmade && are_two_objects (kind_in s.kinds) u v) (Double n.at) (TooMany n.at 200) (NotSquare n.at)
+      ∙ ap (λ b. if b then Some (Double n.at) else if nat_lt s.maps 1 then Some (TooMany n.at 200) else if selfmade && are_two_objects (kind_in s.kinds) u v then Some (NotSquare n.at) else None) (is_declared_same n.text)
+      ∙ ap₂ (λ b c. if is_some (kind_in (declared_in before) n.text) then Some (Double n.at) else if b then Some (TooMany n.at 200) else if selfmade && c then Some (NotSquare n.at) else None)
+      (below_room s.maps (sum_by maps_by before) 1 200 agrees.maps) (two_same u v)
+  fault_same (uses u) = ap (λ found. if is_kind found u.kind then None else Some (Unknown u.name.at)) (agrees.kinds u.name.text)
+  fault_same (lists front u) =
+      first_of_two (is_kind (kind_in s.kinds u.name.text) u.kind) (is_among front u.name.text) (Unknown u.name.at) (Double u.name.at)
+      ∙ ap (λ found. if not (is_kind found u.kind) then Some (Unknown u.name.at) else if is_among front u.name.text then Some (Double u.name.at) else None) (agrees.kinds u.name.text)
+  fault_same (counts most n) = refl
+  fault_same (modulus n) = refl
+  fault_same (begins_order at) = short_same s.orders (sum_by orders_by before) 1 1 (Double at) agrees.orders
+  fault_same (begins_assumptions count at) = short_same s.assumptions (sum_by assumptions_by before) count 500 (TooMany at 500) agrees.assumptions
+  fault_same (begins_claim at) = short_same s.claims (sum_by claims_by before) 1 100 (TooMany at 100) agrees.claims
+  fault_same (begins_shape at) = short_same s.shapes (sum_by shapes_by before) 1 16 (TooMany at 16) agrees.shapes
+
+  -- ---- one occurrence further
+  same_count : (by : Occurrence → ℕ) (o : Occurrence) (room limit : ℕ) → by o ≡ 0 → room + sum_by by before ≡ limit → room + sum_by by (before ++ o ∷ []) ≡ limit
+  same_count by o room limit none whole = ap (λ n. room + n) (sum_by_push by before o ∙ ap (λ n. sum_by by before + n) none) ∙ (let more : room + (sum_by by before + 0) ≡ limit = omega arith in more)
+
+  less_room : (by : Occurrence → ℕ) (o : Occurrence) (room limit : ℕ) → room + sum_by by before ≡ limit → nat_lt room (by o) ≡ false → (room - by o) + sum_by by (before ++ o ∷ []) ≡ limit
+  less_room by o room limit whole enough = ap (λ n. (room - by o) + n) (sum_by_push by before o) ∙ room_left room (sum_by by before) (by o) limit whole enough
+
+  declared_push : (o : Occurrence) → declared_in (before ++ o ∷ []) ≡ declared_in before ++ declared_by o
+  declared_push o = flat_map-append declared_by before (o ∷ []) ∙ ap (λ ds. declared_in before ++ ds) (append-nil (declared_by o))
+
+  -- an occurrence that neither declares nor begins anything
+  still : (o : Occurrence) → declared_by o ≡ [] → objects_by o ≡ 0 → maps_by o ≡ 0 → orders_by o ≡ 0 → assumptions_by o ≡ 0 → claims_by o ≡ 0 → shapes_by o ≡ 0 → Agrees kind (before ++ o ∷ []) s
+  still o d no_object no_map no_order no_assumption no_claim no_shape = record {
+    kinds = agrees.kinds;
+    declared = agrees.declared ∙ sym (declared_push o ∙ ap (λ ds. declared_in before ++ ds) d ∙ append-nil (declared_in before));
+    objects = same_count objects_by o s.objects 64 no_object agrees.objects;
+    maps = same_count maps_by o s.maps 200 no_map agrees.maps;
+    orders = same_count orders_by o s.orders 1 no_order agrees.orders;
+    assumptions = same_count assumptions_by o s.assumptions 500 no_assumption agrees.assumptions;
+    claims = same_count claims_by o s.claims 100 no_claim agrees.claims;
+    shapes = same_count shapes_by o s.shapes 16 no_shape agrees.shapes;
+  }
+
+  -- and one that begins something, but declares nothing
+  declared_still : (o : Occurrence) → declared_by o ≡ [] → s.declared ≡ declared_in (before ++ o ∷ [])
+  declared_still o d = agrees.declared ∙ sym (declared_push o ∙ ap (λ ds. declared_in before ++ ds) d ∙ append-nil (declared_in before))
+
+  behind_agrees : (o : Occurrence) → fault_at s o ≡ None → Agrees kind (before ++ o ∷ []) (behind s o)
+  behind_agrees (declares_object n) good =
+      let o = declares_object n in
+      let room : nat_lt s.objects 1 ≡ false = not_short s.objects 1 (TooMany n.at 64) (new_then_room (is_some (kind_in s.declared n.text)) (Double n.at) _ good) in
+      record {
+        kinds = agrees.kinds;
+        declared = ap (λ ds. ds ++ (n.text, Object) ∷ []) agrees.declared ∙ sym (declared_push o);
+        objects = less_room objects_by o s.objects 64 agrees.objects room;
+        maps = same_count maps_by o s.maps 200 refl agrees.maps;
+        orders = same_count orders_by o s.orders 1 refl agrees.orders;
+        assumptions = same_count assumptions_by o s.assumptions 500 refl agrees.assumptions;
+        claims = same_count claims_by o s.claims 100 refl agrees.claims;
+        shapes = same_count shapes_by o s.shapes 16 refl agrees.shapes;
+      }
+  behind_agrees (declares_map n u v selfmade) good =
+      let o = declares_map n u v selfmade in
+      let room : nat_lt s.maps 1 ≡ false =
+          not_short s.maps 1 (TooMany n.at 200) (new_then_room (is_some (kind_in s.declared n.text)) (Double n.at) _
+          (or_else_none (declared_fault s.declared s.maps 200 n) (selfmade && are_two_objects (kind_in s.kinds) u v) (NotSquare n.at) good)) in
+      record {
+        kinds = agrees.kinds;
+        declared = ap (λ ds. ds ++ (n.text, Map) ∷ []) agrees.declared ∙ sym (declared_push o);
+        objects = same_count objects_by o s.objects 64 refl agrees.objects;
+        maps = less_room maps_by o s.maps 200 agrees.maps room;
+        orders = same_count orders_by o s.orders 1 refl agrees.orders;
+        assumptions = same_count assumptions_by o s.assumptions 500 refl agrees.assumptions;
+        claims = same_count claims_by o s.claims 100 refl agrees.claims;
+        shapes = same_count shapes_by o s.shapes 16 refl agrees.shapes;
+      }
+  behind_agrees (uses u) good = still (uses u) refl refl refl refl refl refl refl
+  behind_agrees (lists front u) good = still (lists front u) refl refl refl refl refl refl refl
+  behind_agrees (counts most n) good = still (counts most n) refl refl refl refl refl refl refl
+  behind_agrees (modulus n) good = still (modulus n) refl refl refl refl refl refl refl
+  behind_agrees (begins_order at) good =
+      let o = begins_order at in
+      record {
+        kinds = agrees.kinds;
+        declared = declared_still o refl;
+        objects = same_count objects_by o s.objects 64 refl agrees.objects;
+        maps = same_count maps_by o s.maps 200 refl agrees.maps;
+        orders = less_room orders_by o s.orders 1 agrees.orders (not_short s.orders 1 (Double at) good);
+        assumptions = same_count assumptions_by o s.assumptions 500 refl agrees.assumptions;
+        claims = same_count claims_by o s.claims 100 refl agrees.claims;
+        shapes = same_count shapes_by o s.shapes 16 refl agrees.shapes;
+      }
+  behind_agrees (begins_assumptions count at) good =
+      let o = begins_assumptions count at in
+      record {
+        kinds = agrees.kinds;
+        declared = declared_still o refl;
+        objects = same_count objects_by o s.objects 64 refl agrees.objects;
+        maps = same_count maps_by o s.maps 200 refl agrees.maps;
+        orders = same_count orders_by o s.orders 1 refl agrees.orders;
+        assumptions = less_room assumptions_by o s.assumptions 500 agrees.assumptions (not_short s.assumptions count (TooMany at 500) good);
+        claims = same_count claims_by o s.claims 100 refl agrees.claims;
+        shapes = same_count shapes_by o s.shapes 16 refl agrees.shapes;
+      }
+  behind_agrees (begins_claim at) good =
+      let o = begins_claim at in
+      record {
+        kinds = agrees.kinds;
+        declared = declared_still o refl;
+        objects = same_count objects_by o s.objects 64 refl agrees.objects;
+        maps = same_count maps_by o s.maps 200 refl agrees.maps;
+        orders = same_count orders_by o s.orders 1 refl agrees.orders;
+        assumptions = same_count assumptions_by o s.assumptions 500 refl agrees.assumptions;
+        claims = less_room claims_by o s.claims 100 agrees.claims (not_short s.claims 1 (TooMany at 100) good);
+        shapes = same_count shapes_by o s.shapes 16 refl agrees.shapes;
+      }
+  behind_agrees (begins_shape at) good =
+      let o = begins_shape at in
+      record {
+        kinds = agrees.kinds;
+        declared = declared_still o refl;
+        objects = same_count objects_by o s.objects 64 refl agrees.objects;
+        maps = same_count maps_by o s.maps 200 refl agrees.maps;
+        orders = same_count orders_by o s.orders 1 refl agrees.orders;
+        assumptions = same_count assumptions_by o s.assumptions 500 refl agrees.assumptions;
+        claims = same_count claims_by o s.claims 100 refl agrees.claims;
+        shapes = less_room shapes_by o s.shapes 16 agrees.shapes (not_short s.shapes 1 (TooMany at 16) good);
+      }
+
+-- the first fault is the one that the search finds
+pub first_same : (kind : List ℕ → Option Kind) (before : List Occurrence) (s : Survey) → Agrees kind before s → (os : List Occurrence) → first_fault kind before os ≡ fault_in (run s os)
+first_same kind before s agrees [] = refl
+first_same kind before s agrees (o ∷ os) =
+    ap (λ found. option_or found (first_fault kind (before ++ o ∷ []) os)) (sym (fault_same kind before s agrees o))
+    ∙ go (fault_at s o) refl (λ good. first_same kind (before ++ o ∷ []) (behind s o) (behind_agrees kind before s agrees o good) os)
+  where
+    go : (found : Option NameFault) → fault_at s o ≡ found → (fault_at s o ≡ None → first_fault kind (before ++ o ∷ []) os ≡ fault_in (run (behind s o) os))
+        → option_or found (first_fault kind (before ++ o ∷ []) os) ≡ fault_in (goes_on found (run (behind s o) os))
+    go (Some fault) is rest = refl
+    go None is rest = rest is

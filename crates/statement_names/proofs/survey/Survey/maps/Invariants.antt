@@ -1,0 +1,9 @@
+use Rattle.std.proofs.Common.{◌≡◌, map, drop}
+use Rattle.statement_names.specs.Occurrences.{declares_map}
+use Rattle.statement_names.specs.Survey.{run}
+use Rattle.statement_names.proofs.survey.Survey.maps.Given as goal
+
+abbrev pub invariant-loop-name : goal.invariant-loop-name
+invariant-loop-name l =
+    run l.self (map (λ name. declares_map name l.source.text l.target.text l.selfmade) (drop l.name-index l.names))
+    ≡ run l.initial.self (map (λ name. declares_map name l.source.text l.target.text l.selfmade) l.names)
