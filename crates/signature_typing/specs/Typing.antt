@@ -19,6 +19,7 @@ use Rattle.statement_names.specs.Solved.{solved_of}
 use Rattle.expressions.specs.declared.fault.SignatureFault.{SignatureFault}
 use Rattle.expressions.specs.Signatures.{equation_signature}
 use Rattle.expressions.specs.Polynomials.{equation_poly}
+use Rattle.adjoint_rules.specs.declared.parts.Parts.{Parts}
 use Rattle.adjoint_rules.specs.declared.problem.Problem.{Problem}
 use Rattle.adjoint_rules.specs.Problem.{polynomials}
 use Rattle.signature_typing.specs.declared.fault.TypeFault.{TypeFault}
@@ -85,19 +86,23 @@ fault_of statements =
 
 -- ---- the problem
 
--- A file without a fault stands for the problem.
+-- What the file says, where no name, signature or coefficient of it is wrong.
+pub record ArePartsOf (statements : List Statement) (p : Parts) : Type 0 where
+  pub quiver : p.quiver ≡ declarations_of statements
+  pub order : p.order ≡ order_of p.quiver statements
+  pub starred : p.starred ≡ is_starred statements
+  pub marked : p.marked ≡ marked_of p.quiver statements
+  -- the assumptions, each left minus right, with their signatures
+  pub assumptions : polynomials p.assumptions ≡ polynomials_of p.quiver (assumptions_of p.quiver statements)
+  pub signatures : p.sigs ≡ signatures_of p.quiver (assumptions_of p.quiver statements)
+  -- the claims
+  pub claims : polynomials p.claims ≡ polynomials_of p.quiver (claims_of statements)
+  pub claim_signatures : p.claim_sigs ≡ signatures_of p.quiver (claims_of statements)
+  -- the models that are looked for
+  pub shapes : p.shapes ≡ shapes_of statements
+  pub solved : p.solved ≡ solved_of p.quiver statements
+
+-- A file without a fault stands for the problem with these parts.
 pub record IsProblemOf (statements : List Statement) (p : Problem) : Type 0 where
   pub no_fault : fault_of statements ≡ None
-  pub quiver : p.parts.quiver ≡ declarations_of statements
-  pub order : p.parts.order ≡ order_of p.parts.quiver statements
-  pub starred : p.parts.starred ≡ is_starred statements
-  pub marked : p.parts.marked ≡ marked_of p.parts.quiver statements
-  -- the assumptions, each left minus right, with their signatures
-  pub assumptions : polynomials p.parts.assumptions ≡ polynomials_of p.parts.quiver (assumptions_of p.parts.quiver statements)
-  pub signatures : p.parts.sigs ≡ signatures_of p.parts.quiver (assumptions_of p.parts.quiver statements)
-  -- the claims
-  pub claims : polynomials p.parts.claims ≡ polynomials_of p.parts.quiver (claims_of statements)
-  pub claim_signatures : p.parts.claim_sigs ≡ signatures_of p.parts.quiver (claims_of statements)
-  -- the search for models
-  pub shapes : p.parts.shapes ≡ shapes_of statements
-  pub solved : p.parts.solved ≡ solved_of p.parts.quiver statements
+  pub parts : ArePartsOf statements p.parts
