@@ -1,8 +1,9 @@
 -- What holds of all letters that an expression writes holds of all letters of its polynomial.
 use Rattle.std.proofs.Common.{◌≡◌, ◌<◌, ℕ, Bool, true, false, ◌&&◌, ◌||◌, nat_eq, List, [], ◌∷◌, ◌++◌, Option, Some, None, Result, Ok, Err, refl, sym, ap, subst, ◌∙◌, eq-eqb}
 use Rattle.std.proofs.lemmas.Bool.{and_parts}
-use Rattle.std.specs.List.{AllByRecursion, list_any}
-use Rattle.definitions.specs.Poly.{Poly}
+use Rattle.std.proofs.lemmas.List.Elements.{All-from_recursion, recursion_from_All}
+use Rattle.std.specs.List.{All, AllByRecursion, list_any}
+use Rattle.definitions.specs.Poly.{Poly, Term as term}
 use Rattle.definitions.specs.Quiver.{star}
 use Rattle.definitions.specs.Generators.{adjoint_word, adjoint_poly}
 use Rattle.definitions.proofs.StarSound.{all-append}
@@ -26,13 +27,28 @@ use Rattle.expressions.specs.Polynomials.{letter_poly, adjoint_by, marked_poly, 
 use Rattle.expressions.proofs.Results.{bound, same_value}
 use Rattle.expressions.proofs.Words.{Words, words-negated, words-sum, words-difference, words-multiple, words-collection, words-adjoint, words-product}
 
+-- the same of the letters of all words, by recursion and by places
+pub letters_by_places : (L : ℕ → Type 0) (p : Poly) → Words (AllByRecursion L) p → All (λ t. All L t.1) p
+letters_by_places L p h = All-from_recursion (λ (t : term). All L t.1) p (go p h)
+  where
+    go : (p : Poly) → Words (AllByRecursion L) p → AllByRecursion (λ t. All L t.1) p
+    go [] k = tt
+    go (t ∷ p) k = (All-from_recursion L t.1 k.0, go p k.1)
+
+pub letters_by_recursion : (L : ℕ → Type 0) (p : Poly) → All (λ t. All L t.1) p → Words (AllByRecursion L) p
+letters_by_recursion L p h = go p (recursion_from_All (λ (t : term). All L t.1) p h)
+  where
+    go : (p : Poly) → AllByRecursion (λ t. All L t.1) p → Words (AllByRecursion L) p
+    go [] k = tt
+    go (t ∷ p) k = (recursion_from_All L t.1 k.0, go p k.1)
+
 -- ---- sums, multiples and products
 module _ (P : List ℕ → Type 0) where
-  words-signed : (s : Summand) → Words P s.1 → Words P (signed s)
+  pub words-signed : (s : Summand) → Words P s.1 → Words P (signed s)
   words-signed (false, p) h = h
   words-signed (true, p) h = words-negated P p h
 
-  words-sum_step : (p : Poly) (s : Summand) (r : Poly) → Words P p → Words P s.1 → sum_step p s ≡ Ok r → Words P r
+  pub words-sum_step : (p : Poly) (s : Summand) (r : Poly) → Words P p → Words P s.1 → sum_step p s ≡ Ok r → Words P r
   words-sum_step p (false, q) r h k e = words-sum P p q r h k e
   words-sum_step p (true, q) r h k e = words-difference P p q r h k e
 
@@ -62,11 +78,11 @@ module _ (P : List ℕ → Type 0) where
     words-product_poly (p ∷ ps) r h e = words-product_from p ps r h.0 h.1 e
 
 -- ---- where a part occurs in the whole
-left_of : (a b : Bool) → a ≡ true → (a || b) ≡ true
+pub left_of : (a b : Bool) → a ≡ true → (a || b) ≡ true
 left_of true b h = refl
 left_of false b h = absurd (cc)
 
-right_of : (a b : Bool) → b ≡ true → (a || b) ≡ true
+pub right_of : (a b : Bool) → b ≡ true → (a || b) ≡ true
 right_of true b h = refl
 right_of false b h = h
 

@@ -8,3 +8,7 @@ pub mod Multiples
 pub mod Letters
 pub mod Range
 pub mod PolyNodes
+pub mod Maps
+pub mod Written
+pub mod TypedParts
+pub mod Typed

@@ -16,7 +16,7 @@ use Rattle.statement_syntax.specs.declared.tree.Primary.{Primary}
 use Rattle.expressions.specs.Names.{are_names_of_primary}
 use Rattle.expressions.specs.Polynomials.{adjoint_by, primary_poly}
 use Rattle.expressions.proofs.Words.{Words}
-use Rattle.expressions.proofs.Letters.{Over, over-primary, over-adjoint_by}
+use Rattle.expressions.proofs.Letters.{letters_by_places, letters_by_recursion, over-primary, over-adjoint_by}
 
 module _ (ds : List Declaration) (declared : IsDeclared ds) where
   pub star_in_range : (a : ℕ) → a < letter_count ds → star (quiver_of ds) a < letter_count ds
@@ -33,22 +33,9 @@ module _ (ds : List Declaration) (declared : IsDeclared ds) where
   maps_in_range : (name : List ℕ) (a : Letter) → named_in ds name ≡ Some (Map a) → IsLetter a.0
   maps_in_range name a e = (is_named ds name (Map a) e).0
 
-  from_recursion : (p : Poly) → Words (AllByRecursion IsLetter) p → AllOver p
-  from_recursion p h = All-from_recursion (λ (t : Term). IsOver (letter_count ds) t.1) p (go p h)
-    where
-      go : (p : Poly) → Words (AllByRecursion IsLetter) p → AllByRecursion (λ t. IsOver (letter_count ds) t.1) p
-      go [] k = tt
-      go (t ∷ p) k = (All-from_recursion IsLetter t.1 k.0, go p k.1)
-
-  to_recursion : (p : Poly) → AllOver p → Words (AllByRecursion IsLetter) p
-  to_recursion p h = go p (recursion_from_All (λ (t : Term). IsOver (letter_count ds) t.1) p h)
-    where
-      go : (p : Poly) → AllByRecursion (λ t. IsOver (letter_count ds) t.1) p → Words (AllByRecursion IsLetter) p
-      go [] k = tt
-      go (t ∷ p) k = (recursion_from_All IsLetter t.1 k.0, go p k.1)
-
   pub in_range-primary : (x : Primary) (p : Poly) → are_names_of_primary ds x ≡ true → primary_poly ds x ≡ Ok p → AllOver p
-  in_range-primary x p known e = from_recursion p (over-primary ds IsLetter maps_in_range x known (λ v below h. identity_in_range ds v below) (λ h. star_in_range) p e)
+  in_range-primary x p known e = letters_by_places IsLetter p (over-primary ds IsLetter maps_in_range x known (λ v below h. identity_in_range ds v below) (λ h. star_in_range) p e)
 
   pub in_range-adjoint_by : (m : Mark) (p r : Poly) → AllOver p → adjoint_by (quiver_of ds) m p ≡ Ok r → AllOver r
-  in_range-adjoint_by m p r h e = from_recursion r (over-adjoint_by ds IsLetter maps_in_range m star_in_range p r (to_recursion p h) e)
+  in_range-adjoint_by m p r h e =
+      letters_by_places IsLetter r (over-adjoint_by ds IsLetter maps_in_range m star_in_range p r (letters_by_recursion IsLetter p h) e)
