@@ -94,22 +94,35 @@ module _ (q : Quiver) (starred : Bool) where
   -- a letter ends at one object and starts at one
   few_of_letter : (a : ℕ) (vs : List ℕ) → Ascends vs → sum_by (λ v. length (letter_units q starred v a)) vs ≤ 2
   few_of_letter a vs up =
-      omega (arith, sum_le (λ v. length (letter_units q starred v a)) (λ v. bit (eqb (target q a) v)) (λ v. bit (eqb (source q a) v)) (few_each a) vs,
-      hits_once (target q a) vs up, hits_once (source q a) vs up)
+      omega (
+        arith,
+        sum_le (λ v. length (letter_units q starred v a)) (λ v. bit (eqb (target q a) v)) (λ v. bit (eqb (source q a) v)) (few_each a) vs,
+        hits_once (target q a) vs up,
+        hits_once (source q a) vs up,
+      )
 
   few_of_letters : (ns vs : List ℕ) → Ascends vs → sum_by (λ v. length (flat_map (letter_units q starred v) ns)) vs ≤ 2 * length ns
   few_of_letters [] vs up = omega (arith, sum_of_none vs)
   few_of_letters (a ∷ ns) vs up =
-      omega (arith, sum_le (λ v. length (flat_map (letter_units q starred v) (a ∷ ns))) (λ v. length (letter_units q starred v a)) (λ v. length (flat_map (letter_units q starred v) ns))
-      (λ v. omega (arith, length-append (letter_units q starred v a) (flat_map (letter_units q starred v) ns))) vs,
-      few_of_letter a vs up, few_of_letters ns vs up)
+      omega (
+        arith,
+        sum_le (λ v. length (flat_map (letter_units q starred v) (a ∷ ns))) (λ v. length (letter_units q starred v a)) (λ v. length (flat_map (letter_units q starred v) ns))
+            (λ v. omega (arith, length-append (letter_units q starred v a) (flat_map (letter_units q starred v) ns))) vs,
+        few_of_letter a vs up,
+        few_of_letters ns vs up,
+      )
 
   few_units : (vs : List ℕ) → Ascends vs → length (flat_map (units q starred) vs) ≤ length vs + 2 * (letters q - q.objects)
   few_units vs up =
       let ns = range_with_len q.objects (letters q - q.objects) in
-      omega (arith, length-flat_map (units q starred) vs,
-      sum_le (λ v. length (units q starred v)) (λ v. 1) (λ v. length (flat_map (letter_units q starred v) ns)) (λ v. omega arith) vs,
-      sum_of_ones vs, few_of_letters ns vs up, length-range_with_len q.objects (letters q - q.objects))
+      omega (
+        arith,
+        length-flat_map (units q starred) vs,
+        sum_le (λ v. length (units q starred v)) (λ v. 1) (λ v. length (flat_map (letter_units q starred v) ns)) (λ v. omega arith) vs,
+        sum_of_ones vs,
+        few_of_letters ns vs up,
+        length-range_with_len q.objects (letters q - q.objects),
+      )
 
   few_adjoints : (ps : List (List Term)) → length (flat_map (new_adjoint q) ps) ≤ length ps
   few_adjoints [] = omega arith
@@ -126,9 +139,20 @@ few_generators p posed =
     let vs = numbers p.marked in
     let up = ascends_from_pairs p.marked posed.marked_ascending in
     let below = recursion_from_All (λ v. v.0 < object_count p.quiver) p.marked posed.marked_objects in
-    omega (arith, length-append ps (adjoints_in p ++ units_in p), length-append (adjoints_in p) (units_in p), adjoints p.starred, few_units q p.starred vs up,
-    length_ascending 0 (object_count p.quiver) vs up (least vs) (below_all p.marked below), letters-quiver_of p.quiver, few_letters p.quiver,
-    posed.declared.few_objects, posed.declared.few_maps, posed.few_assumptions, length-map p.assumptions (λ f. f.terms))
+    omega (
+      arith,
+      length-append ps (adjoints_in p ++ units_in p),
+      length-append (adjoints_in p) (units_in p),
+      adjoints p.starred,
+      few_units q p.starred vs up,
+      length_ascending 0 (object_count p.quiver) vs up (least vs) (below_all p.marked below),
+      letters-quiver_of p.quiver,
+      few_letters p.quiver,
+      posed.declared.few_objects,
+      posed.declared.few_maps,
+      posed.few_assumptions,
+      length-map p.assumptions (λ f. f.terms),
+    )
   where
     adjoints : (b : Bool) → length (cond b (flat_map (new_adjoint (quiver_of p.quiver)) (polynomials p.assumptions)) []) ≤ length (polynomials p.assumptions)
     adjoints true = few_adjoints (quiver_of p.quiver) true (polynomials p.assumptions)

@@ -2,5 +2,6 @@ pub mod Stars
 pub mod NewAdjoints
 pub mod Ranges
 pub mod Counted
-pub mod Laws
+pub mod Generators
 mod Examples
+mod LoopStatement

@@ -1,4 +1,4 @@
-ghost use Rattle.std.specs.Prelude.{◌≤◌, length};
+ghost use Rattle.std.specs.Prelude.{◌≡◌, ◌≤◌, length, IfOk};
 ghost use Rattle.adjoint_rules.specs.Problem.{IsPosed, IsClosed};
 ghost use Rattle.adjoint_rules.specs.Props.{props};
 
@@ -21,8 +21,6 @@ pub struct Problem {
     pub ghost closed: { IsClosed parts generators } by { Prim.hlevel props },
     pub ghost few: { length generators ≤ 1864 },
 }
-
-ghost use Rattle.std.specs.Prelude.{◌≡◌, IfOk};
 
 /// The problem of the parts.
 pub fn close_problem(alloc: Global, parts: Parts) -> Result<Problem, AllocError>

@@ -41,7 +41,14 @@ fn push_units(
     let identity = quiver.identity_of(object);
     generators.push(product_less_letter(alloc, identity, identity, identity)?)?;
     for number in quiver.objects()..quiver.letters() {
-        push_letter_units(alloc, generators, quiver, starred, object, Letter(number as u16))?;
+        push_letter_units(
+            alloc,
+            generators,
+            quiver,
+            starred,
+            object,
+            Letter(number as u16),
+        )?;
     }
     Ok(())
 }
@@ -60,16 +67,16 @@ fn push_letter_units(
     requires letter { letter.0 < letter_count quiver.now }
     ensures { OnOk result (polynomials generators.new ≡ polynomials generators.old ++ letter_units (quiver_of quiver.now) starred object.0 letter.0) }
 {
-    let identity = quiver.identity_of(object);
+    let unit = quiver.identity_of(object);
     let ends = quiver.signature_of(letter);
     if !starred && letter > quiver.star_of(letter) {
         return Ok(());
     }
     if ends.target == object {
-        generators.push(product_less_letter(alloc, identity, letter, letter)?)?;
+        generators.push(product_less_letter(alloc, unit, letter, letter)?)?;
     }
     if ends.source == object {
-        generators.push(product_less_letter(alloc, letter, identity, letter)?)?;
+        generators.push(product_less_letter(alloc, letter, unit, letter)?)?;
     }
     Ok(())
 }

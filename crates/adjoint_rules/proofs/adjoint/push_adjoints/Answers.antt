@@ -20,8 +20,8 @@ loop-assumption-preserved c =
     let adjoint : AllZip SamePolynomial (polynomials (option_to_list c.in_ok-adjoint.field-0)) (new_adjoint q p.terms) = c.in_ok-adjoint.ensures q (search rules) in
     let whole : c.match-branch-3.generators ≡ old ++ option_to_list c.in_ok-adjoint.field-0 =
     elim c.match-branch-3.branch [
-      in-Some+in_ok-push w ↦ w.generators-is ∙ w.in_ok-push.ensures.ok ∙ ap (λ r. old ++ option_to_list r) (sym w.in-Some.is)
-    | in_default w ↦ w.generators-is ∙ sym (append-nil old) ∙ ap (λ r. old ++ option_to_list r) (sym w.in_default.is)
+      | in-Some+in_ok-push w ↦ w.generators-is ∙ w.in_ok-push.ensures.ok ∙ ap (λ r. old ++ option_to_list r) (sym w.in-Some.is)
+      | in_default w ↦ w.generators-is ∙ sym (append-nil old) ∙ ap (λ r. old ++ option_to_list r) (sym w.in_default.is)
     ] in
     let appended : polynomials c.match-branch-3.generators ≡ polynomials old ++ polynomials (option_to_list c.in_ok-adjoint.field-0) =
     ap polynomials whole ∙ map-append (λ (f : Poly). f.terms) old (option_to_list c.in_ok-adjoint.field-0) in

@@ -1,5 +1,5 @@
 -- What the generators of a problem mean: they are typed, star representations make them zero, and they say the same as those of the definition.
-use Rattle.std.proofs.Common.{◌≡◌, ◌≢◌, ℕ, ◌<◌, ℤ, pos, List, [], ◌∷◌, sym, subst, ap, ◌∙◌}
+use Rattle.std.proofs.Common.{◌≡◌, ◌≢◌, ℕ, ◌<◌, ℤ, pos, List, [], ◌∷◌, sym, refl, subst, ap, ap₂, ◌∙◌}
 use Rattle.std.specs.List.{AllByRecursion, AllZip}
 use Rattle.std.proofs.lemmas.List.Elements.{recursion_from_All}
 use Rattle.definitions.specs.Category.{Structure, PreadditiveLaws}
@@ -7,17 +7,18 @@ use Rattle.definitions.specs.Poly.{SamePolynomial}
 use Rattle.definitions.specs.Quiver.{Quiver, IsQuiver, IsTyped}
 use Rattle.definitions.specs.Representation.{Representation, Represents, StarRepresents}
 use Rattle.definitions.specs.Soundness.{HasSignature, HasValueZero, MakesZero, IsStarSound}
-use Rattle.definitions.proofs.Coefficients.{Same_sym}
+use Rattle.definitions.proofs.Coefficients.{Same_sym, Same_trans}
 use Rattle.definitions.proofs.Linear.{linear_same}
 use Rattle.definitions.proofs.Values.{group_at, value_at-linear, word_at, word_at_is_arrow}
 use Rattle.definitions.proofs.Typed.{generators_typed}
 use Rattle.word_core.specs.declared.letter.Object.{Object}
 use Rattle.nc_polynomial.specs.declared.poly.Poly.{Poly}
+use Rattle.nc_polynomial.proofs.Unique.{canonical_unique}
 use Rattle.quiver.specs.declared.named.Sig.{Sig}
 use Rattle.quiver.specs.Declarations.{Declaration, object_count, quiver_of}
 use Rattle.quiver.proofs.Identities.{is_quiver}
 use Rattle.adjoint_rules.specs.declared.parts.Parts.{Parts}
-use Rattle.adjoint_rules.specs.Problem.{polynomials, numbers, IsTypedOf, HasObjects, IsPosed, IsClosed, generators_in}
+use Rattle.adjoint_rules.specs.Problem.{polynomials, numbers, IsTypedOf, HasObjects, IsPosed, IsClosed, generators_in, GeneratorsAreUnique}
 
 -- what holds of each polynomial holds of each of others that are the same
 along : (P : List (ℤ × List ℕ) → Type 0) → ((r p : List (ℤ × List ℕ)) → SamePolynomial r p → P p → P r) → (rs ps : List (List (ℤ × List ℕ))) → AllZip SamePolynomial rs ps → AllByRecursion P ps → AllByRecursion P rs
@@ -101,3 +102,16 @@ module _ {Object Arrow : Type 0} {s : Structure Object Arrow} (laws : Preadditiv
     zero = λ f rep cancels vanish. makes.zero f rep cancels
         (zero_along laws (quiver_of p.quiver) f rep (polynomials generators) (generators_in p) closed.same vanish);
   }
+
+-- ---- the generators are fixed
+pub generators_are_unique : GeneratorsAreUnique
+generators_are_unique p generators others closed other = go generators others (generators_in p) closed.same other.same
+  where
+    go : (gs hs : List Poly) (ps : List (List (ℤ × List ℕ))) → AllZip SamePolynomial (polynomials gs) ps → AllZip SamePolynomial (polynomials hs) ps → polynomials gs ≡ polynomials hs
+    go [] [] [] h k = refl
+    go [] (b ∷ hs) [] h k = absurd k
+    go (a ∷ gs) hs [] h k = absurd h
+    go [] hs (p ∷ ps) h k = absurd h
+    go (a ∷ gs) [] (p ∷ ps) h k = absurd k
+    go (a ∷ gs) (b ∷ hs) (p ∷ ps) h k =
+        ap₂ ◌∷◌ (canonical_unique a.terms b.terms a.canonical b.canonical (Same_trans a.terms p b.terms h.0 (Same_sym b.terms p k.0))) (go gs hs ps h.1 k.1)
