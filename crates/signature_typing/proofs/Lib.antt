@@ -6,3 +6,4 @@ pub mod Each
 pub mod Values
 pub mod InPlay
 pub mod Posed
+pub mod Unique

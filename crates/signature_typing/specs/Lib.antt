@@ -2,3 +2,4 @@ pub mod First
 pub mod Fault
 pub mod Typing
 pub mod Named
+pub mod Unique

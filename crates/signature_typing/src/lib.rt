@@ -2,9 +2,11 @@
 #![tactic(auto)]
 
 mod fault;
+mod laws;
 mod polynomials;
 mod signatures;
 mod stages;
 
 pub use fault::TypeFault;
+pub use laws::problem_is_unique;
 pub use stages::elaborate;

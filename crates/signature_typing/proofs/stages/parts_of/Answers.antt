@@ -1,5 +1,6 @@
 use Rattle.std.proofs.Common.{◌≡◌, ◌≢◌, None, Some, length, sym, ap, ◌∙◌, arith}
-use Rattle.expressions.proofs.Stubbed.{equations_typed, letters_written}
+use Rattle.expressions.proofs.Typed.{equations_are_typed}
+use Rattle.expressions.proofs.Written.{letters_are_written}
 use Rattle.adjoint_rules.specs.declared.parts.Parts.{Parts}
 use Rattle.signature_typing.specs.First.{first_among}
 use Rattle.statement_names.specs.Written.{claims_of}
@@ -49,7 +50,7 @@ returns c =
     let some : length (claims_of statements) ≢ 0 = λ none. c.if-len-eq0.false (c.len.ensures ∙ count ∙ none) in
     record {
       parts = parts;
-      posed = posed equations_typed letters_written statements given parts c.in_ok-names.ensures.ready no_signature no_polynomial;
+      posed = posed equations_are_typed letters_are_written statements given parts c.in_ok-names.ensures.ready no_signature no_polynomial;
       fits = fault_of_claims statements names.quiver parts.quiver c.in_ok-names.ensures.sound no_signature no_polynomial ∙ some_claims (claims_of statements) some;
       refused = tt;
     }
