@@ -1,0 +1,149 @@
+-- The signature of an equation is between objects, and so is each that its fault tells.
+use Rattle.std.proofs.Common.{◌≡◌, ◌<◌, ℕ, Bool, true, false, cond, nat_eq, ◌&&◌, List, [], ◌∷◌, Option, Some, None, Result, Ok, Err, refl, subst, MatchResult}
+use Rattle.std.specs.Option.{IfSome}
+use Rattle.std.proofs.lemmas.Bool.{and_parts}
+use Rattle.definitions.specs.Quiver.{source, target}
+use Rattle.quiver.specs.declared.named.Named.{Named}
+use Rattle.quiver.specs.declared.named.Named.TheVariants.{Object, Map}
+use Rattle.quiver.specs.declared.named.Sig.{Sig}
+use Rattle.quiver.specs.Declarations.{Declaration, IsDeclared, named_in, object_count, letter_count, quiver_of}
+use Rattle.quiver.proofs.Found.{is_named}
+use Rattle.quiver.proofs.Letters.{letter_is, source-quiver_of, target-quiver_of}
+use Rattle.statement_syntax.specs.declared.place.Spot.{Spot}
+use Rattle.statement_syntax.specs.declared.tree.Mark.{Mark}
+use Rattle.statement_syntax.specs.declared.tree.Mark.TheVariants.{Adjoint}
+use Rattle.statement_syntax.specs.declared.tree.Primary.{Primary, Letter, Identity, Bracket}
+use Rattle.statement_syntax.specs.declared.tree.Term.{Term, Term', Row_of-Factor, end_of-Factor, more_of-Factor}
+use Rattle.statement_syntax.specs.declared.tree.Sum.{Sum, Sum', Row_of-Term, end_of-Term, more_of-Term}
+use Rattle.expressions.specs.declared.fault.SignatureFault.{SignatureFault}
+use Rattle.expressions.specs.declared.fault.SignatureFault.TheVariants.{NotComposable, SumMismatch, OpenZero}
+use Rattle.expressions.specs.Results.{◌>>=◌}
+use Rattle.expressions.specs.Names.{AreNames, is_map, is_object, letter_number, object_number, are_names_of_terms, are_names_of_term, are_names_of_factors, are_names_of_primary}
+use Rattle.expressions.specs.Signatures.{Part, from_to, letter_signature, same_ends, turned_by, marked_signature, composed, product_step, product_from, product_signature, matched, sum_step, sum_from, term_at, sum_at, sum_signature, terms_parts, term_signature, factors_parts, primary_signature, sides_signature, equation_signature}
+use Rattle.adjoint_rules.specs.Problem.{HasObjects}
+use Rattle.signature_typing.specs.Named.{HasFaultObjects}
+
+module _ (ds : List Declaration) (declared : IsDeclared ds) where
+  -- a value that is good, or a fault whose signatures are between objects
+  abbrev IsFine : {A : Type 0} → (A → Type 0) → Result A SignatureFault → Type 0
+  IsFine good r = MatchResult r good (HasFaultObjects ds)
+
+  and_then : {A B : Type 0} (P : A → Type 0) (Q : B → Type 0) (r : Result A SignatureFault) (k : A → Result B SignatureFault) → IsFine P r → ((x : A) → P x → IsFine Q (k x)) → IsFine Q (r >>= k)
+  and_then P Q (Ok x) k fine next = next x fine
+  and_then P Q (Err fault) k fine next = fine
+
+  -- an expression is open or has a signature between objects
+  abbrev IsBetween : Option Sig → Type 0
+  IsBetween s = IfSome s (HasObjects ds)
+
+  abbrev AreBetween : List Part → Type 0
+  AreBetween [] = Unit {0}
+  AreBetween (p ∷ parts) = IsBetween p.1 × AreBetween parts
+
+  -- ---- marks
+  turned_between : (m : Mark) (s : Option Sig) → IsBetween s → IsBetween (turned_by m s)
+  turned_between Adjoint None between = tt
+  turned_between Adjoint (Some s) between = record { source = between.target; target = between.source }
+
+  marked_between : (marks : List Mark) (s : Option Sig) → IsBetween s → IsBetween (marked_signature marks s)
+  marked_between [] s between = between
+  marked_between (m ∷ marks) s between = marked_between marks (turned_by m s) (turned_between m s between)
+
+  -- ---- products
+  product_step_fine : (so_far : Result (Option Sig) SignatureFault) (at : Spot) (next : Option Sig) → IsFine IsBetween so_far → IsBetween next → IsFine IsBetween (product_step so_far at next)
+  product_step_fine (Err fault) at next fine between = fine
+  product_step_fine (Ok so_far) at None fine between = tt
+  product_step_fine (Ok None) at (Some s) fine between = between
+  product_step_fine (Ok (Some left)) at (Some right) fine between = go (nat_eq left.source.0 right.target.0)
+    where
+      go : (fits : Bool) → IsFine IsBetween (cond fits (Ok (Some (from_to right.source.0 left.target.0))) (Err (NotComposable at left right)))
+      go true = record { source = between.source; target = fine.target }
+      go false = (fine, between)
+
+  product_from_fine : (so_far : Result (Option Sig) SignatureFault) (parts : List Part) → IsFine IsBetween so_far → AreBetween parts → IsFine IsBetween (product_from so_far parts)
+  product_from_fine so_far [] fine between = fine
+  product_from_fine so_far (p ∷ parts) fine between = product_from_fine (product_step so_far p.0 p.1) parts (product_step_fine so_far p.0 p.1 fine between.0) between.1
+
+  product_fine : (parts : List Part) → AreBetween parts → IsFine IsBetween (product_signature parts)
+  product_fine [] between = tt
+  product_fine (p ∷ []) between = between.0
+  product_fine (p ∷ r ∷ parts) between = product_from_fine (Ok None) (p ∷ r ∷ parts) tt between
+
+  -- ---- sums
+  sum_step_fine : (so_far : Result (Option Sig) SignatureFault) (at : Spot) (next : Option Sig) → IsFine IsBetween so_far → IsBetween next → IsFine IsBetween (sum_step so_far at next)
+  sum_step_fine (Err fault) at next fine between = fine
+  sum_step_fine (Ok so_far) at None fine between = fine
+  sum_step_fine (Ok None) at (Some s) fine between = between
+  sum_step_fine (Ok (Some before)) at (Some s) fine between = go (same_ends before s)
+    where
+      go : (fits : Bool) → IsFine IsBetween (cond fits (Ok (Some before)) (Err (SumMismatch at before s)))
+      go true = fine
+      go false = (fine, between)
+
+  sum_from_fine : (so_far : Result (Option Sig) SignatureFault) (parts : List Part) → IsFine IsBetween so_far → AreBetween parts → IsFine IsBetween (sum_from so_far parts)
+  sum_from_fine so_far [] fine between = fine
+  sum_from_fine so_far (p ∷ parts) fine between = sum_from_fine (sum_step so_far p.0 p.1) parts (sum_step_fine so_far p.0 p.1 fine between.0) between.1
+
+  sides_fine : (at_left at_right : Spot) (s t : Option Sig) → IsBetween s → IsBetween t → IsFine (HasObjects ds) (sides_signature at_left at_right s t)
+  sides_fine at_left at_right None None left right = tt
+  sides_fine at_left at_right None (Some t) left right = right
+  sides_fine at_left at_right (Some s) None left right = left
+  sides_fine at_left at_right (Some s) (Some t) left right = go (same_ends s t)
+    where
+      go : (fits : Bool) → IsFine (HasObjects ds) (cond fits (Ok s) (Err (SumMismatch at_right s t)))
+      go true = left
+      go false = (left, right)
+
+  -- ---- names
+  letter_between : (name : List ℕ) (found : Option Named) → named_in ds name ≡ found → is_map found ≡ true → HasObjects ds (letter_signature (quiver_of ds) (letter_number found))
+  letter_between name None is kind = absurd cc
+  letter_between name (Some (Object v)) is kind = absurd cc
+  letter_between name (Some (Map a)) is kind =
+      let letter = letter_is ds declared a.0 (is_named ds name (Map a) is).0 in
+      record { source = rw (source-quiver_of ds a.0) letter.source_is_object; target = rw (target-quiver_of ds a.0) letter.target_is_object }
+
+  object_between : (name : List ℕ) (found : Option Named) → named_in ds name ≡ found → is_object found ≡ true → HasObjects ds (from_to (object_number found) (object_number found))
+  object_between name None is kind = absurd cc
+  object_between name (Some (Object v)) is kind = let in_range = (is_named ds name (Object v) is).0 in record { source = in_range; target = in_range }
+  object_between name (Some (Map a)) is kind = absurd cc
+
+  -- ---- expressions
+  mutual
+    sum_fine : (s : Sum) → AreNames ds s → IsFine IsBetween (sum_signature ds s)
+    sum_fine (Sum' at shape terms) names = and_then AreBetween IsBetween (terms_parts ds terms) (sum_from (Ok None)) (terms_fine _ terms names) (λ parts between. sum_from_fine (Ok None) parts tt between)
+
+    terms_fine : (m : _) (terms : Row_of-Term m) → are_names_of_terms ds terms ≡ true → IsFine AreBetween (terms_parts ds terms)
+    terms_fine m end_of-Term names = tt
+    terms_fine m (more_of-Term t rest) names =
+        let both = and_parts (are_names_of_term ds t) (are_names_of_terms ds rest) names in
+        and_then (λ p. IsBetween p.1) AreBetween (term_signature ds t >>= λ s. Ok (term_at t, s)) _
+        (and_then IsBetween (λ p. IsBetween p.1) (term_signature ds t) _ (term_fine t both.0) (λ s between. between))
+        (λ p between. and_then AreBetween AreBetween (terms_parts ds rest) _ (terms_fine _ rest both.1) (λ parts others. (between, others)))
+
+    term_fine : (t : Term) → are_names_of_term ds t ≡ true → IsFine IsBetween (term_signature ds t)
+    term_fine (Term' at negative literal shape factors) names = and_then AreBetween IsBetween (factors_parts ds factors) product_signature (factors_fine _ factors names) product_fine
+
+    factors_fine : (m : _) (factors : Row_of-Factor m) → are_names_of_factors ds factors ≡ true → IsFine AreBetween (factors_parts ds factors)
+    factors_fine m end_of-Factor names = tt
+    factors_fine m (more_of-Factor at primary marks rest) names =
+        let both = and_parts (are_names_of_primary ds primary) (are_names_of_factors ds rest) names in
+        and_then (λ p. IsBetween p.1) AreBetween (primary_signature ds primary >>= λ s. Ok (at, marked_signature marks s)) _
+        (and_then IsBetween (λ p. IsBetween p.1) (primary_signature ds primary) _ (primary_fine primary both.0) (λ s between. marked_between marks s between))
+        (λ p between. and_then AreBetween AreBetween (factors_parts ds rest) _ (factors_fine _ rest both.1) (λ parts others. (between, others)))
+
+    primary_fine : (p : Primary) → are_names_of_primary ds p ≡ true → IsFine IsBetween (primary_signature ds p)
+    primary_fine (Letter n) names = letter_between n.text (named_in ds n.text) refl names
+    primary_fine (Identity n) names = object_between n.text (named_in ds n.text) refl names
+    primary_fine (Bracket s) names = sum_fine s names
+
+  equation_fine : (left right : Sum) → AreNames ds left → AreNames ds right → IsFine (HasObjects ds) (equation_signature ds left right)
+  equation_fine left right named_left named_right =
+      and_then IsBetween (HasObjects ds) (sum_signature ds left) _ (sum_fine left named_left)
+      (λ s at_left. and_then IsBetween (HasObjects ds) (sum_signature ds right) _ (sum_fine right named_right)
+      (λ t at_right. sides_fine (sum_at left) (sum_at right) s t at_left at_right))
+
+  pub signature_has_objects : (left right : Sum) (s : Sig) → AreNames ds left → AreNames ds right → equation_signature ds left right ≡ Ok s → HasObjects ds s
+  signature_has_objects left right s named_left named_right is = subst (IsFine (HasObjects ds)) is (equation_fine left right named_left named_right)
+
+  pub fault_has_objects : (left right : Sum) (f : SignatureFault) → AreNames ds left → AreNames ds right → equation_signature ds left right ≡ Err f → HasFaultObjects ds f
+  fault_has_objects left right f named_left named_right is = subst (IsFine (HasObjects ds)) is (equation_fine left right named_left named_right)

@@ -1,0 +1,45 @@
+-- The first thing that is found in a list, step by step.
+use Rattle.std.proofs.Common.{◌≡◌, ℕ, ◌+◌, ◌<◌, List, [], ◌∷◌, ◌++◌, length, get_or, take, drop, map, Option, Some, None, refl, sym, ◌∙◌, ap, subst}
+use Rattle.std.specs.Option.{option_or}
+use Rattle.std.specs.List.{All}
+use Rattle.std.proofs.lemmas.List.{take_more, drop_more, take-append-drop}
+use Rattle.signature_typing.specs.declared.fault.TypeFault.{TypeFault}
+use Rattle.signature_typing.specs.declared.fault.TypeFault.TheVariants.{Fault, Memory}
+use Rattle.signature_typing.specs.First.{first_among}
+use Rattle.signature_typing.specs.Fault.{Explains}
+
+pub option_or_assoc : {B : Type 0} (o p r : Option B) → option_or (option_or o p) r ≡ option_or o (option_or p r)
+option_or_assoc None p r = refl
+option_or_assoc (Some x) p r = refl
+
+pub option_or_none : {B : Type 0} (o : Option B) → option_or o None ≡ o
+option_or_none None = refl
+option_or_none (Some x) = refl
+
+pub first_among-append : {A B : Type 0} (f : A → Option B) (xs ys : List A) → first_among f (xs ++ ys) ≡ option_or (first_among f xs) (first_among f ys)
+first_among-append f [] ys = refl
+first_among-append f (x ∷ xs) ys = ap (option_or (f x)) (first_among-append f xs ys) ∙ sym (option_or_assoc (f x) (first_among f xs) (first_among f ys))
+
+-- nothing is found before an element, so what is found in the list is found from the element on
+pub first_among_behind : {A B : Type 0} (f : A → Option B) (xs ys : List A) → first_among f xs ≡ None → first_among f (xs ++ ys) ≡ first_among f ys
+first_among_behind f xs ys none = first_among-append f xs ys ∙ ap (λ o. option_or o (first_among f ys)) none
+
+-- one more element in which nothing is found
+pub first_among_none_more : {A B : Type 0} (f : A → Option B) (xs : List A) (i : ℕ) (x : A) → i < length xs → x ≡ get_or xs i x → first_among f (take i xs) ≡ None → f x ≡ None → first_among f (take (i + 1) xs) ≡ None
+first_among_none_more f xs i x lt is none here =
+    ap (first_among f) (take_more xs i x lt ∙ ap (λ y. take i xs ++ y ∷ []) (sym is)) ∙ first_among_behind f (take i xs) (x ∷ []) none ∙ option_or_none (f x) ∙ here
+
+-- what is found from an element on is found in the list
+pub first_among_from : {A B : Type 0} (f : A → Option B) (xs : List A) (i : ℕ) (x : A) → i < length xs → x ≡ get_or xs i x → first_among f (take i xs) ≡ None → first_among f xs ≡ option_or (f x) (first_among f (drop (i + 1) xs))
+first_among_from f xs i x lt is none =
+    ap (first_among f) (sym (take-append-drop i xs)) ∙ first_among_behind f (take i xs) (drop i xs) none
+    ∙ ap (first_among f) (drop_more xs i x lt ∙ ap (λ y. y ∷ drop (i + 1) xs) (sym is))
+
+explained_before : (o p : Option TypeFault) (e : TypeFault) → Explains o e → Explains (option_or o p) e
+explained_before o p (Fault code line column left right limit) is = ap (λ q. option_or q p) is
+explained_before o p (Memory e) is = tt
+
+-- the first fault in a list, where none was found before an element
+pub explained_at : {A : Type 0} (f : A → Option TypeFault) (xs : List A) (i : ℕ) (x : A) (e : TypeFault) → i < length xs → x ≡ get_or xs i x → first_among f (take i xs) ≡ None → Explains (f x) e → Explains (first_among f xs) e
+explained_at f xs i x e lt is none found =
+    subst (λ o. Explains o e) (sym (first_among_from f xs i x lt is none)) (explained_before (f x) (first_among f (drop (i + 1) xs)) e found)

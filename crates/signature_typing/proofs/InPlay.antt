@@ -1,0 +1,170 @@
+-- The letters of an equation of a file are in play.
+use Rattle.std.proofs.Common.{◌≡◌, ◌<◌, ◌≤◌, ◌+◌, ℕ, Bool, true, false, cond, ◌&&◌, ◌||◌, nat_eq, nat_lt, nat_le, List, [], ◌∷◌, ◌++◌, map, length, get_or, None, refl, zero-add, eq-eqb, eqb-true, ltb-true, sym, ap, subst, ◌∙◌, rules, tests, arith}
+use Rattle.std.specs.List.{AllByRecursion, flat_map, list_any, filter, range_with_len}
+use Rattle.std.proofs.lemmas.Bool.{or_right, lt-ltb}
+use Rattle.std.proofs.lemmas.List.Folds.{list_any-append, list_any_at}
+use Rattle.std.proofs.lemmas.List.FromFn.{length-range_with_len, get_or-range_with_len}
+use Rattle.std.proofs.lemmas.Map.Views.{any-filter_same}
+use Rattle.definitions.specs.Quiver.{star}
+use Rattle.quiver.specs.Declarations.{Declaration, object_count, letter_count, quiver_of}
+use Rattle.statement_syntax.specs.declared.place.Spot.{Spot}
+use Rattle.statement_syntax.specs.declared.tree.Statement.{Statement}
+use Rattle.statement_syntax.specs.declared.tree.StatementKind.{StatementKind}
+use Rattle.statement_syntax.specs.declared.tree.StatementKind.TheVariants as statement
+use Rattle.statement_syntax.specs.declared.tree.Factor.{Factor}
+use Rattle.statement_syntax.specs.declared.tree.Term.{out-roll-Term}
+use Rattle.statement_syntax.specs.declared.tree.Sum.{out-roll-Sum}
+use Rattle.statement_syntax.specs.Steps.{term_of}
+use Rattle.word_core.specs.declared.letter.Object.{Object}
+use Rattle.statement_names.specs.declared.written.Equation.{Equation}
+use Rattle.statement_names.specs.Marked.{is_starred_in, is_starred, all_equations, is_marked, an_object, marked_of}
+use Rattle.statement_names.specs.Solved.{numbers_that}
+use Rattle.statement_names.specs.Written.{product_at, equation, equations_in, equations_of, assumptions_of, claims_in, claims_of}
+use Rattle.expressions.specs.Occurrences.{has_mark, has_mark_in_term, has_identity}
+use Rattle.expressions.proofs.Trees.{has_mark_in_factor, mark-sum, mark-term}
+use Rattle.expressions.specs.Laws.{IsWritten}
+use Rattle.adjoint_rules.specs.Problem.{numbers, is_in_play, IsInPlay}
+use Rattle.signature_typing.proofs.Each.{each_weaker, each_of_both, each_with_both}
+
+-- whether a side has a mark, and whether a side has the identity of v
+abbrev pub is_starred_equation : Equation → Bool
+is_starred_equation e = has_mark e.left || has_mark e.right
+
+abbrev pub has_the_identity : List Declaration → ℕ → Equation → Bool
+has_the_identity ds v e = has_identity ds v e.left || has_identity ds v e.right
+
+-- The marks of the equation make the file starred, and the objects whose identities it writes are marked.
+pub record IsCounted (ds : List Declaration) (statements : List Statement) (e : Equation) : Type 0 where
+  pub starred : is_starred_equation e ≡ true → is_starred statements ≡ true
+  pub marked : (v : ℕ) → has_the_identity ds v e ≡ true → is_marked ds statements v ≡ true
+
+-- ---- marks
+or_left : (x y : Bool) → x ≡ true → (x || y) ≡ true
+or_left true y is = refl
+or_left false y is = absurd cc
+
+-- a product has a mark where a factor has one
+product_mark : (at : Spot) (factors : List Factor) → has_mark (product_at at factors) ≡ list_any has_mark_in_factor factors
+product_mark at factors =
+    let term = term_of at false None factors in
+    mark-sum (product_at at factors) ∙ ap (λ r. list_any has_mark_in_term r.terms) (out-roll-Sum (record { at = at; terms = term ∷ [] }))
+    ∙ or_false (has_mark_in_term term) ∙ mark-term term
+    ∙ ap (λ r. list_any has_mark_in_factor r.factors) (out-roll-Term (record { at = at; negative = false; literal = None; factors = factors }))
+  where
+    or_false : (b : Bool) → (b || false) ≡ b
+    or_false true = refl
+    or_false false = refl
+
+-- two products without marks
+unmarked : (at : Spot) (factors others : List Factor) → list_any has_mark_in_factor factors ≡ false → list_any has_mark_in_factor others ≡ false → is_starred_equation (equation (product_at at factors) (product_at at others)) ≡ false
+unmarked at factors others none no_other =
+    ap (λ b. b || has_mark (product_at at others)) (product_mark at factors ∙ none) ∙ product_mark at others ∙ no_other
+
+never : (b : Bool) {P : Type 0} → b ≡ false → b ≡ true → P
+never b none is = absurd cc
+
+-- the equations of a statement have no mark that it does not count
+abbrev AreStarred : StatementKind → List Equation → Type 0
+AreStarred kind es = AllByRecursion (λ e. is_starred_equation e ≡ true → is_starred_in kind ≡ true) es
+
+equations_starred : (ds : List Declaration) (at : Spot) (kind : StatementKind) → AreStarred kind (equations_in ds at kind)
+equations_starred ds at (statement.Objects names) = tt
+equations_starred ds at (statement.Maps names source target selfmade) = tt
+equations_starred ds at (statement.Assume left right) = (λ is. is, tt)
+equations_starred ds at (statement.Claim left right) = tt
+equations_starred ds at (statement.Pinv a x) = (λ _. refl, (λ _. refl, (λ _. refl, (λ _. refl, tt))))
+equations_starred ds at (statement.Inverse a x) = (never _ (unmarked at _ _ refl refl), (never _ (unmarked at _ _ refl refl), tt))
+equations_starred ds at (statement.Inner a x) = (never _ (unmarked at _ _ refl refl), tt)
+equations_starred ds at (statement.Projection p) = (λ _. refl, (λ _. refl, tt))
+equations_starred ds at statement.Degree = tt
+equations_starred ds at (statement.Weight pairs) = tt
+equations_starred ds at (statement.Solve names) = tt
+equations_starred ds at (statement.Shape modulus sides) = tt
+
+claims_starred : (kind : StatementKind) → AreStarred kind (claims_in kind)
+claims_starred (statement.Claim left right) = (λ is. is, tt)
+claims_starred (statement.Objects names) = tt
+claims_starred (statement.Maps names source target selfmade) = tt
+claims_starred (statement.Assume left right) = tt
+claims_starred (statement.Pinv a x) = tt
+claims_starred (statement.Inverse a x) = tt
+claims_starred (statement.Inner a x) = tt
+claims_starred (statement.Projection p) = tt
+claims_starred statement.Degree = tt
+claims_starred (statement.Weight pairs) = tt
+claims_starred (statement.Solve names) = tt
+claims_starred (statement.Shape modulus sides) = tt
+
+-- those of all statements
+all_starred : (part : Statement → List Equation) → ((s : Statement) → AreStarred s.kind (part s)) → (xs : List Statement)
+    → AllByRecursion (λ e. is_starred_equation e ≡ true → is_starred xs ≡ true) (flat_map part xs)
+all_starred part each [] = tt
+all_starred part each (x ∷ xs) =
+    each_of_both (λ e. is_starred_equation e ≡ true → is_starred (x ∷ xs) ≡ true) (part x) (flat_map part xs)
+    (each_weaker (λ e. is_starred_equation e ≡ true → is_starred_in x.kind ≡ true) (λ e. is_starred_equation e ≡ true → is_starred (x ∷ xs) ≡ true)
+      (λ e here mark. or_left (is_starred_in x.kind) (is_starred xs) (here mark)) (part x) (each x))
+    (each_weaker (λ e. is_starred_equation e ≡ true → is_starred xs ≡ true) (λ e. is_starred_equation e ≡ true → is_starred (x ∷ xs) ≡ true)
+      (λ e later mark. or_right (is_starred_in x.kind) (is_starred xs) (later mark)) (flat_map part xs) (all_starred part each xs))
+
+-- ---- identities
+-- a test of an element is a test of some element of the list
+each_found : {V A : Type 0} (test : V → A → Bool) (xs : List A) → AllByRecursion (λ x. (v : V) → test v x ≡ true → list_any (test v) xs ≡ true) xs
+each_found test [] = tt
+each_found test (x ∷ xs) = (
+  λ v is. or_left (test v x) (list_any (test v) xs) is,
+  each_weaker (λ y. (v : _) → test v y ≡ true → list_any (test v) xs ≡ true) (λ y. (v : _) → test v y ≡ true → list_any (test v) (x ∷ xs) ≡ true)
+    (λ y later v is. or_right (test v x) (list_any (test v) xs) (later v is)) xs (each_found test xs),
+)
+
+module _ (ds : List Declaration) (statements : List Statement) where
+  abbrev IsIdentified : Equation → Type 0
+  IsIdentified e = (v : ℕ) → has_the_identity ds v e ≡ true → is_marked ds statements v ≡ true
+
+  assumptions_identified : AllByRecursion IsIdentified (assumptions_of ds statements)
+  assumptions_identified =
+      each_weaker (λ e. (v : ℕ) → has_the_identity ds v e ≡ true → list_any (has_the_identity ds v) (assumptions_of ds statements) ≡ true) IsIdentified
+      (λ e found v is. list_any-append (has_the_identity ds v) (assumptions_of ds statements) (claims_of statements) ∙ or_left _ _ (found v is))
+      (assumptions_of ds statements) (each_found (has_the_identity ds) (assumptions_of ds statements))
+
+  claims_identified : AllByRecursion IsIdentified (claims_of statements)
+  claims_identified =
+      each_weaker (λ e. (v : ℕ) → has_the_identity ds v e ≡ true → list_any (has_the_identity ds v) (claims_of statements) ≡ true) IsIdentified
+      (λ e found v is. list_any-append (has_the_identity ds v) (assumptions_of ds statements) (claims_of statements) ∙ or_right _ _ (found v is))
+      (claims_of statements) (each_found (has_the_identity ds) (claims_of statements))
+
+  counted : (es : List Equation) → AllByRecursion (λ e. is_starred_equation e ≡ true → is_starred statements ≡ true) es → AllByRecursion IsIdentified es → AllByRecursion (IsCounted ds statements) es
+  counted [] starred identified = tt
+  counted (e ∷ es) starred identified = (record { starred = starred.0; marked = identified.0 }, counted es starred.1 identified.1)
+
+  pub assumptions_counted : AllByRecursion (IsCounted ds statements) (assumptions_of ds statements)
+  assumptions_counted = counted (assumptions_of ds statements) (all_starred (equations_of ds) (λ s. equations_starred ds s.at s.kind) statements) assumptions_identified
+
+  pub claims_counted : AllByRecursion (IsCounted ds statements) (claims_of statements)
+  claims_counted = counted (claims_of statements) (all_starred (λ s. claims_in s.kind) (λ s. claims_starred s.kind) statements) claims_identified
+
+  -- ---- letters
+  numbers_of_objects : (xs : List ℕ) → numbers (map an_object xs) ≡ xs
+  numbers_of_objects [] = refl
+  numbers_of_objects (x ∷ xs) = ap (λ ys. x ∷ ys) (numbers_of_objects xs)
+
+  -- a marked object is among the marked ones
+  marked_listed : (a : ℕ) → a < object_count ds → is_marked ds statements a ≡ true → list_any (nat_eq a) (numbers (marked_of ds statements)) ≡ true
+  marked_listed a in_range is =
+      let all = range_with_len 0 (object_count ds) in
+      let at_a : get_or all a 0 ≡ a = get_or-range_with_len 0 (object_count ds) a 0 in_range ∙ zero-add a in
+      ap (list_any (nat_eq a)) (numbers_of_objects (numbers_that (object_count ds) (is_marked ds statements)))
+      ∙ any-filter_same (nat_eq a) (is_marked ds statements) true (λ k same. subst (λ v. is_marked ds statements v ≡ true) (eqb-true a k same) is) all
+      ∙ list_any_at (nat_eq a) all a 0 (omega (arith, length-range_with_len 0 (object_count ds))) (ap (nat_eq a) at_a ∙ eq-eqb a a refl)
+
+  pub letter_in_play : (e : Equation) (a : ℕ) → IsCounted ds statements e → IsWritten ds e.left e.right a → IsInPlay ds (is_starred statements) (numbers (marked_of ds statements)) a
+  letter_in_play e a count written =
+      ap (λ b. b && cond (nat_lt a (object_count ds)) (list_any (nat_eq a) (numbers (marked_of ds statements))) (is_starred statements || nat_le a (star (quiver_of ds) a))) (lt-ltb a (letter_count ds) written.letter)
+      ∙ go (nat_lt a (object_count ds)) refl
+    where
+      adjoint : (c : Bool) → nat_le a (star (quiver_of ds) a) ≡ c → (is_starred statements || c) ≡ true
+      adjoint true is = or_right (is_starred statements) true refl
+      adjoint false is = or_left (is_starred statements) false (count.starred (written.adjoint (search (rules, tests))))
+
+      go : (b : Bool) → nat_lt a (object_count ds) ≡ b → cond b (list_any (nat_eq a) (numbers (marked_of ds statements))) (is_starred statements || nat_le a (star (quiver_of ds) a)) ≡ true
+      go true is = let in_range = ltb-true a (object_count ds) is in marked_listed a in_range (count.marked a (written.identity in_range))
+      go false is = adjoint (nat_le a (star (quiver_of ds) a)) refl

@@ -1,0 +1,136 @@
+-- What a file says, where nothing is wrong with it, can be made a problem.
+use Rattle.std.proofs.Common.{◌≡◌, ◌≢◌, ◌≤◌, ℕ, ℤ, List, [], ◌∷◌, ◌++◌, length, map, Option, Some, None, Result, Ok, Err, refl, sym, ap, subst, ◌∙◌, arith}
+use Rattle.std.specs.List.{All, AllByRecursion, AllZip, flat_map}
+use Rattle.std.specs.Option.{option_or, option_map}
+use Rattle.std.proofs.lemmas.List.{length-map}
+use Rattle.std.proofs.lemmas.List.Elements.{All-from_recursion, recursion_from_All, All-weaker}
+use Rattle.definitions.specs.Poly.{Poly}
+use Rattle.nc_polynomial.specs.declared.poly.Poly as made
+use Rattle.nc_polynomial.specs.declared.fault.PolyFault.{PolyFault}
+use Rattle.quiver.specs.declared.named.Sig.{Sig}
+use Rattle.quiver.specs.Declarations.{Declaration}
+use Rattle.statement_syntax.specs.declared.tree.Statement.{Statement}
+use Rattle.statement_names.specs.declared.written.Equation.{Equation}
+use Rattle.statement_names.specs.declared.fault.NameFault.{NameFault}
+use Rattle.statement_names.specs.Faults.{name_fault_of}
+use Rattle.statement_names.specs.Marked.{is_starred, marked_of}
+use Rattle.statement_names.specs.Numbered.{declarations_of}
+use Rattle.statement_names.specs.Ready.{HasNames, IsReady}
+use Rattle.statement_names.specs.Written.{equations_of, assumptions_of, claims_in, claims_of}
+use Rattle.expressions.specs.Laws.{EquationsAreTyped, LettersAreWritten, IsWritten}
+use Rattle.adjoint_rules.specs.declared.parts.Parts.{Parts}
+use Rattle.adjoint_rules.specs.Problem.{polynomials, numbers, IsInPlay, HasLettersInPlay, HasObjects, IsTypedOf, IsPosed}
+use Rattle.signature_typing.specs.declared.fault.TypeFault.{TypeFault}
+use Rattle.signature_typing.specs.First.{first_among}
+use Rattle.signature_typing.specs.Fault.{told_name, told_signature, told_polynomial, no_claim}
+use Rattle.signature_typing.specs.Typing.{signature_in, polynomial_in, signatures_of, polynomials_of, equations_in, wrong_signature, wrong_polynomial, wrong_claims, fault_of, ArePartsOf}
+use Rattle.signature_typing.specs.Named.{AreNamed}
+use Rattle.signature_typing.proofs.Each.{each_part, each_before_map, each_with_both}
+use Rattle.signature_typing.proofs.Ends.{signature_has_objects}
+use Rattle.signature_typing.proofs.InPlay.{IsCounted, assumptions_counted, claims_counted, letter_in_play}
+use Rattle.signature_typing.proofs.Values.{AreValues, values, all_values, length-values, each_value, zipped}
+
+-- the names in all equations of each statement
+pub named : (ds : List Declaration) (statements : List Statement) → IsReady ds statements → AreNamed ds statements
+named ds statements ready =
+    All-weaker (λ s. AllByRecursion (HasNames ds) (equations_in ds s)) (λ s. All (HasNames ds) (equations_in ds s)) (λ s each. All-from_recursion (HasNames ds) (equations_in ds s) each) statements
+    (All-from_recursion (λ s. AllByRecursion (HasNames ds) (equations_in ds s)) statements
+    (each_part (HasNames ds) (equations_of ds) (λ s. claims_in s.kind) statements
+    (recursion_from_All (HasNames ds) (assumptions_of ds statements) ready.assumptions) (recursion_from_All (HasNames ds) (claims_of statements) ready.claims)))
+
+-- ---- equations that have a signature and a polynomial
+module _ (typed : EquationsAreTyped) (written : LettersAreWritten) (ds : List Declaration) (statements : List Statement) (ready : IsReady ds statements) where
+  -- what is known of an equation of the file
+  abbrev IsKnown : Equation → Type 0
+  IsKnown e = HasNames ds e × IsCounted ds statements e
+
+  module _ (es : List Equation) (known : AllByRecursion IsKnown es) (have_signatures : AreValues (signature_in ds) es) (have_polynomials : AreValues (polynomial_in ds) es)
+    (ps : List made.Poly) (are : polynomials ps ≡ polynomials_of ds es) where
+    equations_typed : AllZip (IsTypedOf ds) ps (signatures_of ds es)
+    equations_typed =
+        zipped (polynomial_in ds) (signature_in ds) (λ p. p.terms) IsKnown (IsTypedOf ds)
+        (λ e p s is poly sig. typed ds e.left e.right s p.terms ready.declared ready.objects_first is.0.left is.0.right sig poly) es ps known have_polynomials have_signatures are
+
+    equation_ends : All (HasObjects ds) (signatures_of ds es)
+    equation_ends =
+        All-from_recursion (HasObjects ds) (signatures_of ds es) (each_value (signature_in ds) IsKnown (HasObjects ds)
+        (λ e s is sig. signature_has_objects ds ready.declared e.left e.right s is.0.left is.0.right sig) es known have_signatures)
+
+    -- the terms have letters in play
+    abbrev IsPlayed : Poly → Type 0
+    IsPlayed p = All (λ t. All (IsInPlay ds (is_starred statements) (numbers (marked_of ds statements))) t.1) p
+
+    equation_letters : All (HasLettersInPlay ds (is_starred statements) (numbers (marked_of ds statements))) ps
+    equation_letters =
+        All-from_recursion (HasLettersInPlay ds (is_starred statements) (numbers (marked_of ds statements))) ps (each_before_map IsPlayed (λ p. p.terms) ps
+        (subst (AllByRecursion IsPlayed) (sym are) (each_value (polynomial_in ds) IsKnown IsPlayed
+        (λ e p is poly. All-weaker (λ t. All (IsWritten ds e.left e.right) t.1) _
+          (λ t letters. All-weaker (IsWritten ds e.left e.right) _ (λ a wrote. letter_in_play ds statements e a is.1 wrote) t.1 letters) p
+          (written ds e.left e.right p ready.declared ready.objects_first is.0.left is.0.right poly)) es known have_polynomials)))
+
+    equation_count : length ps ≡ length es
+    equation_count = sym (length-map ps (λ p. p.terms)) ∙ ap length are ∙ length-values (polynomial_in ds) es have_polynomials
+
+-- ---- a file
+-- that the equations have signatures and polynomials
+module _ (ds : List Declaration) (statements : List Statement) (no_signature : first_among (wrong_signature ds) statements ≡ None) (no_polynomial : first_among (wrong_polynomial ds) statements ≡ None) where
+  have_signatures : AreValues (signature_in ds) (assumptions_of ds statements) × AreValues (signature_in ds) (claims_of statements)
+  have_signatures = all_values (signature_in ds) (λ s. told_signature ds) (equations_of ds) (λ s. claims_in s.kind) statements no_signature
+
+  have_polynomials : AreValues (polynomial_in ds) (assumptions_of ds statements) × AreValues (polynomial_in ds) (claims_of statements)
+  have_polynomials = all_values (polynomial_in ds) (λ s. told_polynomial s.at) (equations_of ds) (λ s. claims_in s.kind) statements no_polynomial
+
+  -- there are as many polynomials of claims as claims
+  pub claim_count : (ps : List made.Poly) → polynomials ps ≡ polynomials_of ds (claims_of statements) → length ps ≡ length (claims_of statements)
+  claim_count ps are = sym (length-map ps (λ p. p.terms)) ∙ ap length are ∙ length-values (polynomial_in ds) (claims_of statements) have_polynomials.1
+
+pub posed : EquationsAreTyped → LettersAreWritten → (statements : List Statement) (p : Parts) → ArePartsOf statements p → IsReady p.quiver statements
+    → first_among (wrong_signature p.quiver) statements ≡ None → first_among (wrong_polynomial p.quiver) statements ≡ None → IsPosed p
+posed typed written statements p parts ready no_signature no_polynomial =
+    let ds = p.quiver in
+    let signatures = have_signatures ds statements no_signature no_polynomial in
+    let polys = have_polynomials ds statements no_signature no_polynomial in
+    let assumed = assumptions_of ds statements in
+    let claimed = claims_of statements in
+    let known_assumed = each_with_both (HasNames ds) (IsCounted ds statements) assumed (recursion_from_All (HasNames ds) assumed ready.assumptions) (assumptions_counted ds statements) in
+    let known_claimed = each_with_both (HasNames ds) (IsCounted ds statements) claimed (recursion_from_All (HasNames ds) claimed ready.claims) (claims_counted ds statements) in
+    record {
+      declared = ready.declared;
+      objects_first = ready.objects_first;
+      order = rw parts.order ready.order;
+      marked_objects = rw parts.marked ready.marked_objects;
+      marked_ascending = rw parts.marked ready.marked_ascending;
+      few_assumptions = omega (arith, ready.few_assumptions, equation_count typed written ds statements ready assumed known_assumed signatures.0 polys.0 p.assumptions parts.assumptions);
+      assumptions_typed = rw parts.signatures (equations_typed typed written ds statements ready assumed known_assumed signatures.0 polys.0 p.assumptions parts.assumptions);
+      assumption_ends = rw parts.signatures (equation_ends typed written ds statements ready assumed known_assumed signatures.0 polys.0 p.assumptions parts.assumptions);
+      assumption_letters = rw (parts.starred, parts.marked) (equation_letters typed written ds statements ready assumed known_assumed signatures.0 polys.0 p.assumptions parts.assumptions);
+      few_claims = omega (arith, ready.few_claims, equation_count typed written ds statements ready claimed known_claimed signatures.1 polys.1 p.claims parts.claims);
+      claims_typed = rw parts.claim_signatures (equations_typed typed written ds statements ready claimed known_claimed signatures.1 polys.1 p.claims parts.claims);
+      claim_ends = rw parts.claim_signatures (equation_ends typed written ds statements ready claimed known_claimed signatures.1 polys.1 p.claims parts.claims);
+      claim_letters = rw (parts.starred, parts.marked) (equation_letters typed written ds statements ready claimed known_claimed signatures.1 polys.1 p.claims parts.claims);
+      some_shape = rw parts.shapes ready.some_shape;
+      few_shapes = rw parts.shapes ready.few_shapes;
+      shapes = rw parts.shapes ready.shapes;
+      solved_maps = rw parts.solved ready.solved_maps;
+      solved_ascending = rw parts.solved ready.solved_ascending;
+    }
+
+-- ---- its first fault
+last_fault : (names : Option NameFault) (signatures polys claims : Option TypeFault) → names ≡ None → signatures ≡ None → polys ≡ None
+    → option_or (option_map told_name names) (option_or signatures (option_or polys claims)) ≡ claims
+last_fault names signatures polys claims no_name no_signature no_polynomial = rw (no_name, no_signature, no_polynomial) refl
+
+-- where all stages but the last have none
+pub fault_of_claims : (statements : List Statement) (ds : List Declaration) → ds ≡ declarations_of statements → name_fault_of statements ≡ None
+    → first_among (wrong_signature ds) statements ≡ None → first_among (wrong_polynomial ds) statements ≡ None → fault_of statements ≡ wrong_claims (claims_of statements)
+fault_of_claims statements ds is no_name no_signature no_polynomial =
+    last_fault (name_fault_of statements) (first_among (wrong_signature (declarations_of statements)) statements) (first_among (wrong_polynomial (declarations_of statements)) statements) (wrong_claims (claims_of statements))
+    no_name (subst (λ es. first_among (wrong_signature es) statements ≡ None) is no_signature) (subst (λ es. first_among (wrong_polynomial es) statements ≡ None) is no_polynomial)
+
+pub some_claims : (es : List Equation) → length es ≢ 0 → wrong_claims es ≡ None
+some_claims [] some = absurd (some refl)
+some_claims (e ∷ es) some = refl
+
+pub no_claims : (es : List Equation) → length es ≡ 0 → wrong_claims es ≡ Some no_claim
+no_claims [] none = refl
+no_claims (e ∷ es) none = absurd (omega arith)

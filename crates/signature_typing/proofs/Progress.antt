@@ -1,0 +1,59 @@
+-- How far the lists of a stage are, before an element of a list.
+use Rattle.std.proofs.Common.{◌≡◌, ℕ, ◌+◌, ◌<◌, ◌≤◌, List, [], ◌∷◌, ◌++◌, length, get_or, take, Option, None, refl, sym, ◌∙◌, ap, append_assoc}
+use Rattle.std.specs.List.{flat_map}
+use Rattle.std.proofs.lemmas.List.{take_more, take_all, append-nil, map-append}
+use Rattle.std.proofs.lemmas.List.Concat.{flat_map-append}
+use Rattle.nc_polynomial.specs.declared.poly.Poly.{Poly}
+use Rattle.adjoint_rules.specs.Problem.{polynomials}
+use Rattle.signature_typing.specs.First.{first_among}
+use Rattle.signature_typing.proofs.FirstFound.{first_among_none_more}
+
+-- What the elements so far give stands behind what was there, and nothing is wrong with them.
+pub record IsSoFar {A B X : Type 0} (gives : A → List X) (wrong : A → Option B) (xs : List A) (i : ℕ) (before now : List X) : Type 0 where
+  pub listed : now ≡ before ++ flat_map gives (take i xs)
+  pub fits : first_among wrong (take i xs) ≡ None
+
+pub flat_map_taken : {A X : Type 0} (gives : A → List X) (xs : List A) (i : ℕ) (x : A) → i < length xs → x ≡ get_or xs i x → flat_map gives (take (i + 1) xs) ≡ flat_map gives (take i xs) ++ gives x
+flat_map_taken gives xs i x lt is =
+    ap (flat_map gives) (take_more xs i x lt ∙ ap (λ y. take i xs ++ y ∷ []) (sym is)) ∙ flat_map-append gives (take i xs) (x ∷ [])
+    ∙ ap (λ ys. flat_map gives (take i xs) ++ ys) (append-nil (gives x))
+
+flat_map_twice : {A B X : Type 0} (parts : A → List B) (gives : B → List X) (xs : List A) → flat_map (λ x. flat_map gives (parts x)) xs ≡ flat_map gives (flat_map parts xs)
+flat_map_twice parts gives [] = refl
+flat_map_twice parts gives (x ∷ xs) = ap (λ ys. flat_map gives (parts x) ++ ys) (flat_map_twice parts gives xs) ∙ sym (flat_map-append gives (parts x) (flat_map parts xs))
+
+pub one_more : {A B X : Type 0} (gives : A → List X) (wrong : A → Option B) (xs : List A) (i : ℕ) (before now then : List X) (x : A) → i < length xs → x ≡ get_or xs i x
+    → then ≡ now ++ gives x → wrong x ≡ None → IsSoFar gives wrong xs i before now → IsSoFar gives wrong xs (i + 1) before then
+one_more gives wrong xs i before now then x lt is more here so_far = record {
+  listed = more ∙ ap (λ ys. ys ++ gives x) so_far.listed ∙ append_assoc before (flat_map gives (take i xs)) (gives x)
+      ∙ ap (λ ys. before ++ ys) (sym (flat_map_taken gives xs i x lt is));
+  fits = first_among_none_more wrong xs i x lt is so_far.fits here;
+}
+
+-- what all of them give
+pub all_listed : {A B C X : Type 0} (parts : A → List B) (gives : B → List X) (wrong : A → Option C) (xs : List A) (i : ℕ) (now : List X) → length xs ≤ i
+    → IsSoFar (λ x. flat_map gives (parts x)) wrong xs i [] now → now ≡ flat_map gives (flat_map parts xs)
+all_listed parts gives wrong xs i now past so_far =
+    so_far.listed ∙ ap (flat_map (λ x. flat_map gives (parts x))) (take_all i xs past) ∙ flat_map_twice parts gives xs
+
+-- nothing is wrong with any
+pub all_fit : {A B X : Type 0} (gives : A → List X) (wrong : A → Option B) (xs : List A) (i : ℕ) (before now : List X) → length xs ≤ i
+    → IsSoFar gives wrong xs i before now → first_among wrong xs ≡ None
+all_fit gives wrong xs i before now past so_far = ap (first_among wrong) (sym (take_all i xs past)) ∙ so_far.fits
+
+-- What the statements so far assume and claim is listed, and nothing is wrong with them.
+pub record AreSoFar {A B X : Type 0} (assumed claimed : A → List X) (wrong : A → Option B) (xs : List A) (i : ℕ) (assumptions claims : List X) : Type 0 where
+  pub assumed_so_far : IsSoFar assumed wrong xs i [] assumptions
+  pub claimed_so_far : IsSoFar claimed wrong xs i [] claims
+
+pub one_more_statement : {A B X : Type 0} (assumed claimed : A → List X) (wrong : A → Option B) (xs : List A) (i : ℕ) (assumptions claims more_assumptions more_claims : List X) (x : A)
+    → i < length xs → x ≡ get_or xs i x → more_assumptions ≡ assumptions ++ assumed x → more_claims ≡ claims ++ claimed x → wrong x ≡ None
+    → AreSoFar assumed claimed wrong xs i assumptions claims → AreSoFar assumed claimed wrong xs (i + 1) more_assumptions more_claims
+one_more_statement assumed claimed wrong xs i assumptions claims more_assumptions more_claims x lt is more_assumed more_claimed here so_far = record {
+  assumed_so_far = one_more assumed wrong xs i [] assumptions more_assumptions x lt is more_assumed here so_far.assumed_so_far;
+  claimed_so_far = one_more claimed wrong xs i [] claims more_claims x lt is more_claimed here so_far.claimed_so_far;
+}
+
+-- one more polynomial
+pub polynomials_push : (ps : List Poly) (p : Poly) → polynomials (ps ++ p ∷ []) ≡ polynomials ps ++ p.terms ∷ []
+polynomials_push ps p = map-append (λ r. r.terms) ps (p ∷ [])

@@ -1,0 +1,5 @@
+pub mod First
+pub mod Fault
+pub mod Typing
+pub mod Named
+pub mod Unique

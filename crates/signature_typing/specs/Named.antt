@@ -1,0 +1,20 @@
+-- Names that stand for what they should, and signatures between objects.
+use Rattle.std.specs.Prelude.{List}
+use Rattle.std.specs.List.{All}
+use Rattle.quiver.specs.Declarations.{Declaration}
+use Rattle.statement_syntax.specs.declared.tree.Statement.{Statement}
+use Rattle.statement_names.specs.Ready.{HasNames}
+use Rattle.expressions.specs.declared.fault.SignatureFault.{SignatureFault}
+use Rattle.expressions.specs.declared.fault.SignatureFault.TheVariants.{NotComposable, SumMismatch, OpenZero}
+use Rattle.adjoint_rules.specs.Problem.{HasObjects}
+use Rattle.signature_typing.specs.Typing.{equations_in}
+
+-- the names in all equations of all statements
+abbrev pub AreNamed : List Declaration → List Statement → Type 0
+AreNamed ds statements = All (λ s. All (HasNames ds) (equations_in ds s)) statements
+
+-- the signatures that a fault tells
+abbrev pub HasFaultObjects : List Declaration → SignatureFault → Type 0
+HasFaultObjects ds (NotComposable at left right) = HasObjects ds left × HasObjects ds right
+HasFaultObjects ds (SumMismatch at left right) = HasObjects ds left × HasObjects ds right
+HasFaultObjects ds (OpenZero at) = Unit {0}

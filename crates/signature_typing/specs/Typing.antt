@@ -1,0 +1,108 @@
+-- The problem that a statement file stands for, and the first thing that is wrong with one.
+use Rattle.std.specs.Prelude.{◌≡◌, ℕ, ℤ, Bool, List, [], ◌∷◌, ◌++◌, Option, Some, None, Result, Ok, Err}
+use Rattle.std.specs.List.{flat_map}
+use Rattle.std.specs.Option.{option_or, option_map}
+use Rattle.definitions.specs.Poly.{Poly}
+use Rattle.nc_polynomial.specs.declared.fault.PolyFault.{PolyFault}
+use Rattle.quiver.specs.declared.named.Sig.{Sig}
+use Rattle.quiver.specs.Declarations.{Declaration}
+use Rattle.statement_syntax.specs.declared.place.Spot.{Spot}
+use Rattle.statement_syntax.specs.declared.tree.Statement.{Statement}
+use Rattle.statement_names.specs.declared.written.Equation.{Equation}
+use Rattle.statement_names.specs.Faults.{name_fault_of}
+use Rattle.statement_names.specs.Numbered.{declarations_of}
+use Rattle.statement_names.specs.Written.{equations_of, assumptions_of, claims_in, claims_of}
+use Rattle.statement_names.specs.Ordered.{order_of}
+use Rattle.statement_names.specs.Marked.{is_starred, marked_of}
+use Rattle.statement_names.specs.Shapes.{shapes_of}
+use Rattle.statement_names.specs.Solved.{solved_of}
+use Rattle.expressions.specs.declared.fault.SignatureFault.{SignatureFault}
+use Rattle.expressions.specs.Signatures.{equation_signature}
+use Rattle.expressions.specs.Polynomials.{equation_poly}
+use Rattle.adjoint_rules.specs.declared.parts.Parts.{Parts}
+use Rattle.adjoint_rules.specs.declared.problem.Problem.{Problem}
+use Rattle.adjoint_rules.specs.Problem.{polynomials}
+use Rattle.signature_typing.specs.declared.fault.TypeFault.{TypeFault}
+use Rattle.signature_typing.specs.First.{first_among}
+use Rattle.signature_typing.specs.Fault.{told_name, told_signature, told_polynomial, no_claim}
+
+-- ---- equations
+
+abbrev pub signature_in : List Declaration → Equation → Result Sig SignatureFault
+signature_in ds e = equation_signature ds e.left e.right
+
+abbrev pub polynomial_in : List Declaration → Equation → Result Poly PolyFault
+polynomial_in ds e = equation_poly ds e.left e.right
+
+-- the fault of a result, as it is told, and the value
+abbrev pub fault_in : {A E : Type 0} → (E → TypeFault) → Result A E → Option TypeFault
+fault_in told (Ok x) = None
+fault_in told (Err e) = Some (told e)
+
+abbrev pub value_in : {A E : Type 0} → Result A E → List A
+value_in (Ok x) = x ∷ []
+value_in (Err e) = []
+
+-- the signatures of equations, and their polynomials
+abbrev pub signatures_of : List Declaration → List Equation → List Sig
+signatures_of ds es = flat_map (λ e. value_in (signature_in ds e)) es
+
+abbrev pub polynomials_of : List Declaration → List Equation → List Poly
+polynomials_of ds es = flat_map (λ e. value_in (polynomial_in ds e)) es
+
+-- ---- the first fault
+
+-- what a statement assumes and claims
+abbrev pub equations_in : List Declaration → Statement → List Equation
+equations_in ds s = equations_of ds s ++ claims_in s.kind
+
+-- the fault of an equation's signatures, and that of its arithmetic, where its statement begins at a place
+abbrev pub signature_fault : List Declaration → Equation → Option TypeFault
+signature_fault ds e = fault_in (told_signature ds) (signature_in ds e)
+
+abbrev pub polynomial_fault : List Declaration → Spot → Equation → Option TypeFault
+polynomial_fault ds at e = fault_in (told_polynomial at) (polynomial_in ds e)
+
+-- the first of a statement
+abbrev pub wrong_signature : List Declaration → Statement → Option TypeFault
+wrong_signature ds s = first_among (signature_fault ds) (equations_in ds s)
+
+abbrev pub wrong_polynomial : List Declaration → Statement → Option TypeFault
+wrong_polynomial ds s = first_among (polynomial_fault ds s.at) (equations_in ds s)
+
+-- no claim is made
+abbrev pub wrong_claims : List Equation → Option TypeFault
+wrong_claims [] = Some no_claim
+wrong_claims (e ∷ es) = None
+
+-- Names come first, then signatures, then arithmetic, and then the number of claims.
+abbrev pub fault_of : List Statement → Option TypeFault
+fault_of statements =
+    let ds = declarations_of statements in
+    option_or (option_map told_name (name_fault_of statements))
+    (option_or (first_among (wrong_signature ds) statements)
+    (option_or (first_among (wrong_polynomial ds) statements)
+    (wrong_claims (claims_of statements))))
+
+-- ---- the problem
+
+-- What the file says, where no name, signature or coefficient of it is wrong.
+pub record ArePartsOf (statements : List Statement) (p : Parts) : Type 0 where
+  pub quiver : p.quiver ≡ declarations_of statements
+  pub order : p.order ≡ order_of p.quiver statements
+  pub starred : p.starred ≡ is_starred statements
+  pub marked : p.marked ≡ marked_of p.quiver statements
+  -- the assumptions, each left minus right, with their signatures
+  pub assumptions : polynomials p.assumptions ≡ polynomials_of p.quiver (assumptions_of p.quiver statements)
+  pub signatures : p.sigs ≡ signatures_of p.quiver (assumptions_of p.quiver statements)
+  -- the claims
+  pub claims : polynomials p.claims ≡ polynomials_of p.quiver (claims_of statements)
+  pub claim_signatures : p.claim_sigs ≡ signatures_of p.quiver (claims_of statements)
+  -- the models that are looked for
+  pub shapes : p.shapes ≡ shapes_of statements
+  pub solved : p.solved ≡ solved_of p.quiver statements
+
+-- A file without a fault stands for the problem with these parts.
+pub record IsProblemOf (statements : List Statement) (p : Problem) : Type 0 where
+  pub no_fault : fault_of statements ≡ None
+  pub parts : ArePartsOf statements p.parts

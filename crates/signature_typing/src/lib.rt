@@ -1,0 +1,12 @@
+//! From the tree of a statement to its problem, or its first fault.
+#![tactic(auto)]
+
+mod fault;
+mod laws;
+mod polynomials;
+mod signatures;
+mod stages;
+
+pub use fault::TypeFault;
+pub use laws::problem_is_unique;
+pub use stages::elaborate;

@@ -1,0 +1,121 @@
+ghost use Rattle.std.specs.Prelude.{◌≡◌, ◌++◌, None, Ok, IfOk, IfErr};
+ghost use Rattle.std.specs.List.{All};
+ghost use Rattle.statement_names.specs.Written.{equations_of, assumptions_of, claims_in, claims_of};
+ghost use Rattle.statement_names.specs.Ready.{HasNames};
+ghost use Rattle.expressions.specs.Names.{AreNames};
+ghost use Rattle.expressions.specs.Polynomials.{equation_poly};
+ghost use Rattle.adjoint_rules.specs.Problem.{polynomials};
+ghost use Rattle.signature_typing.specs.First.{first_among};
+ghost use Rattle.signature_typing.specs.Fault.{Explains, told_polynomial};
+ghost use Rattle.signature_typing.specs.Typing.{equations_in, fault_in, polynomial_fault, polynomials_of, wrong_polynomial};
+ghost use Rattle.signature_typing.specs.Named.{AreNamed};
+
+use crate::TypeFault;
+use crate::fault::polynomial_fault;
+use expressions::equation_poly;
+use lists::Listing;
+use nc_polynomial::Poly;
+use quiver::Quiver;
+use statement_names::{Equation, abbreviation};
+use statement_syntax::{Spot, Statement, StatementKind, Sum};
+use std::alloc::Global;
+
+/// The polynomials of the assumptions and of the claims.
+#[derive(Drop)]
+pub(crate) struct Polynomials {
+    pub assumptions: Listing<Poly>,
+    pub claims: Listing<Poly>,
+}
+
+// The polynomial of an equation, whose statement begins at this place.
+fn polynomial_of(
+    alloc: Global,
+    quiver: &Quiver,
+    at: Spot,
+    left: &Sum,
+    right: &Sum,
+) -> Result<Poly, TypeFault>
+    requires left_names { AreNames quiver.now left.now }
+    requires right_names { AreNames quiver.now right.now }
+    ensures ok { IfOk result (λ poly. equation_poly quiver.now left.now right.now ≡ Ok poly.terms) }
+    ensures err { IfErr result (Explains (fault_in (told_polynomial at) (equation_poly quiver.now left.now right.now))) }
+{
+    match equation_poly(alloc, quiver, left, right) {
+        Ok(poly) => Ok(poly),
+        Err(fault) => Err(polynomial_fault(at, fault)),
+    }
+}
+
+// The polynomials with those of the equations behind them, whose statement begins at this place.
+fn with_equations(
+    alloc: Global,
+    quiver: &Quiver,
+    at: Spot,
+    mut before: Listing<Poly>,
+    equations: &[Equation],
+) -> Result<Listing<Poly>, TypeFault>
+    requires { All (HasNames quiver.now) equations.now }
+    ensures ok { IfOk result (λ more. polynomials more ≡ polynomials before ++ polynomials_of quiver.now equations.now) }
+    ensures fits { IfOk result (λ more. first_among (polynomial_fault quiver.now at) equations.now ≡ None) }
+    ensures err { IfErr result (Explains (first_among (polynomial_fault quiver.now at) equations.now)) }
+{
+    for equation in equations {
+        let poly = polynomial_of(alloc, quiver, at, &equation.left, &equation.right)?;
+        before.push(poly)?;
+    }
+    Ok(before)
+}
+
+impl Polynomials {
+    // The polynomials with those of the statement behind them.
+    fn with_statement(
+        mut self,
+        alloc: Global,
+        quiver: &Quiver,
+        statement: &Statement,
+    ) -> Result<Polynomials, TypeFault>
+        requires { All (HasNames quiver.now) (equations_in quiver.now statement.now) }
+        ensures assumptions { IfOk result (λ more. polynomials more.assumptions ≡ polynomials self.assumptions ++ polynomials_of quiver.now (equations_of quiver.now statement.now)) }
+        ensures claims { IfOk result (λ more. polynomials more.claims ≡ polynomials self.claims ++ polynomials_of quiver.now (claims_in statement.now.kind)) }
+        ensures fits { IfOk result (λ more. wrong_polynomial quiver.now statement.now ≡ None) }
+        ensures err { IfErr result (Explains (wrong_polynomial quiver.now statement.now)) }
+    {
+        match &statement.kind {
+            StatementKind::Assume(left, right) => {
+                let poly = polynomial_of(alloc, quiver, statement.at, left, right)?;
+                self.assumptions.push(poly)?;
+            }
+            StatementKind::Claim(left, right) => {
+                let poly = polynomial_of(alloc, quiver, statement.at, left, right)?;
+                self.claims.push(poly)?;
+            }
+            _ => {
+                let equations = abbreviation(alloc, quiver, statement)?;
+                self.assumptions = with_equations(alloc, quiver, statement.at, self.assumptions, equations.as_slice())?;
+            }
+        }
+        Ok(self)
+    }
+}
+
+/// The polynomials of the equations of a file, each left minus right, or the first fault of the arithmetic of one.
+pub(crate) fn polynomials_of(
+    alloc: Global,
+    quiver: &Quiver,
+    statements: &[Statement],
+) -> Result<Polynomials, TypeFault>
+    requires { AreNamed quiver.now statements.now }
+    ensures assumptions { IfOk result (λ all. polynomials all.assumptions ≡ polynomials_of quiver.now (assumptions_of quiver.now statements.now)) }
+    ensures claims { IfOk result (λ all. polynomials all.claims ≡ polynomials_of quiver.now (claims_of statements.now)) }
+    ensures fits { IfOk result (λ all. first_among (wrong_polynomial quiver.now) statements.now ≡ None) }
+    ensures err { IfErr result (Explains (first_among (wrong_polynomial quiver.now) statements.now)) }
+{
+    let mut polynomials = Polynomials {
+        assumptions: Listing::new(alloc),
+        claims: Listing::new(alloc),
+    };
+    for statement in statements {
+        polynomials = polynomials.with_statement(alloc, quiver, statement)?;
+    }
+    Ok(polynomials)
+}
