@@ -1,5 +1,5 @@
 -- The loops over the terms of a sum, the factors of a term and the marks of a factor, which come to their polynomial.
-use Rattle.std.proofs.Common.{◌≡◌, ◌<◌, ◌≤◌, ◌+◌, ℕ, List, [], ◌∷◌, ◌++◌, length, map, drop, get_or, Bool, Option, Result, Ok, Err, MatchResult, refl, sym, ap, ap₂, subst, ◌∙◌}
+use Rattle.std.proofs.Common.{◌≡◌, ◌<◌, ◌≤◌, ◌+◌, ℕ, List, [], ◌∷◌, ◌++◌, length, map, drop, get_or, Bool, Result, Ok, Err, MatchResult, sym, ap, subst, ◌∙◌}
 use Rattle.std.proofs.lemmas.List.{map-append, drop_more}
 use Rattle.definitions.specs.Poly.{Poly}
 use Rattle.definitions.specs.Quiver.{Quiver}
@@ -9,14 +9,13 @@ use Rattle.nc_polynomial.specs.declared.poly.Poly as code
 use Rattle.nc_polynomial.specs.Faults.{Explains}
 use Rattle.quiver.specs.Declarations.{Declaration, quiver_of}
 use Rattle.statement_syntax.specs.declared.tree.Mark.{Mark}
-use Rattle.statement_syntax.specs.declared.tree.Number.{Number}
 use Rattle.statement_syntax.specs.declared.tree.Factor.{Factor}
 use Rattle.statement_syntax.specs.declared.tree.Term.{Term, out-Term}
 use Rattle.statement_syntax.specs.declared.tree.Sum.{Sum, out-Sum}
 use Rattle.expressions.specs.Results.{◌>>=◌}
 use Rattle.expressions.specs.Polynomials.{adjoint_by, marked_poly, product_poly, scaled_by, Summand, total, is_negative, sum_poly, term_poly, factor_poly, primary_poly}
 use Rattle.expressions.proofs.Trees.{each, summand, poly-sum, poly-term, sign-term}
-use Rattle.expressions.proofs.Results.{made-next, made-fault, made-end}
+use Rattle.expressions.proofs.Sequences.{made-next, made-fault, made-end}
 
 -- a fault that is passed on is explained by what it comes from
 pub explains-on : {A B : Type 0} (r : Result A PolyFault) (s : Result B PolyFault) (e : PolyFault) → ((f : PolyFault) → r ≡ Err f → s ≡ Err f) → Explains r e → Explains s e
