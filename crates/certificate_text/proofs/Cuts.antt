@@ -12,21 +12,21 @@ use Rattle.certificate_text.specs.Tokens.{is_line_end, is_gap, is_sign, is_plain
 -- ---- lines
 
 -- there is a first part
-record FirstPart (parts : List (List ℕ)) : Type 0 where
-  part : List ℕ
-  more : List (List ℕ)
-  is : parts ≡ part ∷ more
+pub record FirstPart (parts : List (List ℕ)) : Type 0 where
+  pub part : List ℕ
+  pub more : List (List ℕ)
+  pub is : parts ≡ part ∷ more
 
 first_part_by : (b : Bool) (x : ℕ) (parts : List (List ℕ)) → FirstPart parts → FirstPart (cond b ([] ∷ parts) (onto_first x parts))
 first_part_by true x parts rest = record { part = []; more = parts; is = refl }
 first_part_by false x parts rest = record { part = x ∷ rest.part; more = rest.more; is = ap (onto_first x) rest.is }
 
-first_part : (p : ℕ → Bool) (xs : List ℕ) → FirstPart (slice_split p xs)
+pub first_part : (p : ℕ → Bool) (xs : List ℕ) → FirstPart (slice_split p xs)
 first_part p [] = record { part = []; more = []; is = refl }
 first_part p (x ∷ xs) = first_part_by (p x) x (slice_split p xs) (first_part p xs)
 
 -- a part before an LF is a line
-part_is_line : (part rest : List ℕ) → lines_of_parts (part ∷ slice_split is_line_end rest) ≡ strip_carriage_return part ∷ lines rest
+pub part_is_line : (part rest : List ℕ) → lines_of_parts (part ∷ slice_split is_line_end rest) ≡ strip_carriage_return part ∷ lines rest
 part_is_line part rest = let more = first_part is_line_end rest in rw more.is refl
 
 pub line_before : (text : List ℕ) (end : ℕ) → position is_line_end text ≡ Some end → end < length text
@@ -57,10 +57,10 @@ last_line (c ∷ cs) none some = rw (none_passes is_line_end (c ∷ cs) (grind (
 pub tokens-gap : (c : ℕ) (cs : List ℕ) → is_gap c ≡ true → tokens_of (c ∷ cs) ≡ tokens_of cs
 tokens-gap c cs gap = rw gap refl
 
-tokens-alone : (c : ℕ) (cs : List ℕ) → is_gap c ≡ false → (is_sign c || not (goes_on cs)) ≡ true → tokens_of (c ∷ cs) ≡ (c ∷ []) ∷ tokens_of cs
+pub tokens-alone : (c : ℕ) (cs : List ℕ) → is_gap c ≡ false → (is_sign c || not (goes_on cs)) ≡ true → tokens_of (c ∷ cs) ≡ (c ∷ []) ∷ tokens_of cs
 tokens-alone c cs gap alone = rw (gap, alone) refl
 
-tokens-joined : (c : ℕ) (cs : List ℕ) → is_gap c ≡ false → (is_sign c || not (goes_on cs)) ≡ false → tokens_of (c ∷ cs) ≡ onto_first c (tokens_of cs)
+pub tokens-joined : (c : ℕ) (cs : List ℕ) → is_gap c ≡ false → (is_sign c || not (goes_on cs)) ≡ false → tokens_of (c ∷ cs) ≡ onto_first c (tokens_of cs)
 tokens-joined c cs gap alone = rw (gap, alone) refl
 
 plain_by : (c : ℕ) (g s : Bool) → is_gap c ≡ g → is_sign c ≡ s → is_plain c ≡ not (g || s)

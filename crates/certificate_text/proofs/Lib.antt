@@ -7,3 +7,14 @@ pub mod Joins
 pub mod Results
 pub mod Stars
 pub mod Checkable
+pub mod NameBytes
+pub mod TokensBack
+pub mod LinesBack
+pub mod NumbersBack
+pub mod LettersBack
+pub mod LetterNames
+pub mod TextsBack
+pub mod RowsBack
+pub mod BlocksBack
+pub mod Shifted
+pub mod ReadBack

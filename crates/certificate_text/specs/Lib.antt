@@ -5,3 +5,4 @@ pub mod Lines
 pub mod Evidence
 pub mod Written
 pub mod Views
+pub mod Back

@@ -3,6 +3,7 @@
 
 mod cut;
 mod fault;
+mod laws;
 mod letter;
 mod line;
 mod number;
@@ -13,5 +14,6 @@ mod tests;
 mod write;
 
 pub use fault::CertFault;
+pub use laws::certificates_are_read_back;
 pub use read::read_certificates;
 pub use write::{write_certificate, write_poly, write_word};
