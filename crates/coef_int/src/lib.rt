@@ -13,7 +13,7 @@ use thiserror::Error;
 
 /// A product or sum that is no coefficient, with both its operands.
 #[derive(Clone, Copy, Debug, PartialEq, Eq, Error)]
-#[error("{left} {} {right} is no coefficient", if *product { "times" } else { "plus" })]
+#[error("{left} {} {right} is no coefficient", if *product {"times"} else {"plus"})]
 pub struct Overflow {
     /// The operand on the left of the sign.
     pub left: i128,

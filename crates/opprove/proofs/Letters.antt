@@ -79,9 +79,9 @@ module _ (q : Quiver) where
     where
       other : (w : List ℕ) → coefficient_of p w ≢ pos 0 → word_eq (l ++ (w ++ r)) x ≡ false
       other w there = not_true (word_eq (l ++ (w ++ r)) x) (λ same.
-        let inner = list_all-append (λ a. ltb a (letters q)) w r ∙ and_from (is_over w) (is_over r) (typed_over u v p typed w there) right in
-        let whole = list_all-append (λ a. ltb a (letters q)) l (w ++ r) ∙ and_from (is_over l) (is_over (w ++ r)) left inner in
-        clash (is_over x) (ap is_over (sym (word_eq-true (l ++ (w ++ r)) x same)) ∙ whole) past)
+          let inner = list_all-append (λ a. ltb a (letters q)) w r ∙ and_from (is_over w) (is_over r) (typed_over u v p typed w there) right in
+          let whole = list_all-append (λ a. ltb a (letters q)) l (w ++ r) ∙ and_from (is_over l) (is_over (w ++ r)) left inner in
+          clash (is_over x) (ap is_over (sym (word_eq-true (l ++ (w ++ r)) x same)) ∙ whole) past)
 
   -- the words of each row are over the letters
   abbrev pub AreOver : List Row → Type 0

@@ -34,14 +34,16 @@ fn decide_tree(alloc: Global, tree: &Tree, evidence: &[u8]) -> Result<Ending, Al
 {
     match elaborate(alloc, tree) {
         Ok(problem) => decide_over(alloc, &problem, evidence),
-        Err(TypeFault::Fault {
-            code,
-            line,
-            column,
-            left,
-            right,
-            limit,
-        }) => {
+        Err(
+            TypeFault::Fault {
+                code,
+                line,
+                column,
+                left,
+                right,
+                limit,
+            },
+        ) => {
             let text = statement_fault(alloc, code, (line, column), limit, &left, &right)?;
             Ending::refused_statement(alloc, text.as_str())
         }

@@ -59,10 +59,7 @@ impl Ending {
         ensures { IfOk result (λ ending. ending ≡ too_long name.now limit) }
     {
         let mut digits = Buffer::new();
-        let report = format!(in alloc;
-            "# too long {name} limit {}\n",
-            digits.format(limit)
-        )?;
+        let report = format!(in alloc; "# too long {name} limit {}\n", digits.format(limit))?;
         Ok(Ending {
             status: 4,
             report: report.into_bytes(),

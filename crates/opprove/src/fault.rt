@@ -30,12 +30,7 @@ pub fn statement_fault(
 }
 
 /// The line of a fault of an evidence text, without the line feed.
-pub fn evidence_fault(
-    alloc: Global,
-    code: u32,
-    line: u32,
-    limit: u32,
-) -> Result<String, AllocError>
+pub fn evidence_fault(alloc: Global, code: u32, line: u32, limit: u32) -> Result<String, AllocError>
     ensures { IfOk result (λ text. string_bytes text ≡ evidence_fault code line limit) }
 {
     let mut text = String::from_str(alloc, "# refused K")?;

@@ -37,11 +37,7 @@ pub fn judge(
     Ok(Ending::accepted(report))
 }
 
-fn push_accepted(
-    report: &mut Vec<u8>,
-    block: usize,
-    accepted: &Accepted,
-) -> Result<(), AllocError>
+fn push_accepted(report: &mut Vec<u8>, block: usize, accepted: &Accepted) -> Result<(), AllocError>
     ensures { OnOk result (report.new.items ≡ report.old.items ++ line (accepted_text block accepted.now.claim accepted.now.denominator)) }
 {
     let mut number = Buffer::new();

@@ -70,11 +70,7 @@ fn difference_text(
     let letters = write_word(alloc, quiver, word)?;
     let mut wanted = Buffer::new();
     let mut found = Buffer::new();
-    let numbers = format!(in alloc;
-        " want {} got {}",
-        wanted.format(want),
-        found.format(got)
-    )?;
+    let numbers = format!(in alloc; " want {} got {}", wanted.format(want), found.format(got))?;
     let mut text = b"C6 word ".to_vec(alloc)?;
     text.extend_from_slice(&letters)?;
     text.extend_from_slice(numbers.as_bytes())?;

@@ -67,16 +67,8 @@ const OVER_MAPS: [Judged; 9] = [
         7,
         "# block 1 refused C2 row 1\n",
     ),
-    (
-        b"",
-        7,
-        "# refused K7\n",
-    ),
-    (
-        b"basis 1\nend\n",
-        7,
-        "# refused K7\n",
-    ),
+    (b"", 7, "# refused K7\n"),
+    (b"basis 1\nend\n", 7, "# refused K7\n"),
 ];
 
 const OVER_INVERSES: [Judged; 12] = [
@@ -155,23 +147,15 @@ const OVER_PSEUDOINVERSES: [Judged; 2] = [
     ),
 ];
 
-const OVER_DOUBLE: [Judged; 1] = [
-    (
-        b"certificate 1\nclaim 1\ndenominator 170141183460469231731687303715884105727\nend\n",
-        7,
-        "# block 1 refused C4 row 0 170141183460469231731687303715884105727 times 2\n",
-    ),
-];
+const OVER_DOUBLE: [Judged; 1] = [(
+    b"certificate 1\nclaim 1\ndenominator 170141183460469231731687303715884105727\nend\n",
+    7,
+    "# block 1 refused C4 row 0 170141183460469231731687303715884105727 times 2\n",
+)];
 
 const REFUSED: [Refused; 13] = [
-    (
-        b"object U\n",
-        "# refused S15\n",
-    ),
-    (
-        b"",
-        "# refused S15\n",
-    ),
+    (b"object U\n", "# refused S15\n"),
+    (b"", "# refused S15\n"),
     (
         b"object U V\nmap p : U -> V self\nclaim p = p\n",
         "# refused S9 line 2 column 5\n",
@@ -272,16 +256,28 @@ fn ends_so(
 fn each_evidence_text_has_its_report(rt: HostRuntime) -> Result<(), Fail> {
     let alloc = rt.alloc();
     for (certificate, status, report) in &OVER_MAPS {
-        assert!(rt; ends_so(alloc, CHECK, MAPS, certificate, *status, report)?, "{report}");
+        assert!(rt;
+            ends_so(alloc, CHECK, MAPS, certificate, *status, report)?,
+            "{report}"
+        );
     }
     for (certificate, status, report) in &OVER_INVERSES {
-        assert!(rt; ends_so(alloc, CHECK, INVERSES, certificate, *status, report)?, "{report}");
+        assert!(rt;
+            ends_so(alloc, CHECK, INVERSES, certificate, *status, report)?,
+            "{report}"
+        );
     }
     for (certificate, status, report) in &OVER_PSEUDOINVERSES {
-        assert!(rt; ends_so(alloc, CHECK, PSEUDOINVERSES, certificate, *status, report)?, "{report}");
+        assert!(rt;
+            ends_so(alloc, CHECK, PSEUDOINVERSES, certificate, *status, report)?,
+            "{report}"
+        );
     }
     for (certificate, status, report) in &OVER_DOUBLE {
-        assert!(rt; ends_so(alloc, CHECK, DOUBLE, certificate, *status, report)?, "{report}");
+        assert!(rt;
+            ends_so(alloc, CHECK, DOUBLE, certificate, *status, report)?,
+            "{report}"
+        );
     }
     Ok(())
 }
@@ -290,9 +286,21 @@ fn each_evidence_text_has_its_report(rt: HostRuntime) -> Result<(), Fail> {
 fn each_faulty_statement_has_its_report(rt: HostRuntime) -> Result<(), Fail> {
     let alloc = rt.alloc();
     for (statement, report) in &REFUSED {
-        assert!(rt; ends_so(alloc, CHECK, statement, b"", 3, report)?, "{report}");
+        assert!(rt;
+            ends_so(alloc, CHECK, statement, b"", 3, report)?,
+            "{report}"
+        );
     }
-    assert!(rt; ends_so(alloc, CHECK, b"object \xff\n", b"", 3, "# refused S1 byte 7\n")?);
+    assert!(rt;
+        ends_so(
+            alloc,
+            CHECK,
+            b"object \xff\n",
+            b"",
+            3,
+            "# refused S1 byte 7\n"
+        )?
+    );
     assert!(rt; ends_so(alloc, CHECK, MAPS, b"\xff", 7, "# refused K1\n")?);
     Ok(())
 }
@@ -301,7 +309,10 @@ fn each_faulty_statement_has_its_report(rt: HostRuntime) -> Result<(), Fail> {
 fn each_list_of_words_has_its_report(rt: HostRuntime) -> Result<(), Fail> {
     let alloc = rt.alloc();
     for (words, status, report) in &CALLS {
-        assert!(rt; ends_so(alloc, words, b"object U\n", ACCEPTED, *status, report)?, "{report}");
+        assert!(rt;
+            ends_so(alloc, words, b"object U\n", ACCEPTED, *status, report)?,
+            "{report}"
+        );
     }
     Ok(())
 }

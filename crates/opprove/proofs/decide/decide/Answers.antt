@@ -21,6 +21,6 @@ returns-in_ok-text-in-Err-Fault c =
     let same : c.as_str.result.now ≡ text = search rules in
     IfOk-weaker c.refused_statement.result _ _
     (λ ending is. no_statement text
-      (no_tree first.0 (record { line = f.line; column = f.column }) first.2 (told ∙ ap (λ n. statement_fault n f.line f.column 0 None None) first.1))
-      (is ∙ ap refused_statement same))
+    (no_tree first.0 (record { line = f.line; column = f.column }) first.2 (told ∙ ap (λ n. statement_fault n f.line f.column 0 None None) first.1))
+    (is ∙ ap refused_statement same))
     c.refused_statement.ensures

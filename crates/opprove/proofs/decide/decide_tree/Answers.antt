@@ -24,6 +24,6 @@ returns-in_ok-text-in-Err-Fault c =
     let same : c.as_str.result.now ≡ text = search rules in
     IfOk-weaker c.refused_statement.result _ _
     (λ ending is bytes tree. no_statement text
-      (no_problem c.args.tree.now.statements (typing.Fault f.code f.line f.column f.left f.right f.limit) tree found (ap (λ t. Some t) (sym told)))
-      (is ∙ ap refused_statement same))
+    (no_problem c.args.tree.now.statements (typing.Fault f.code f.line f.column f.left f.right f.limit) tree found (ap (λ t. Some t) (sym told)))
+    (is ∙ ap refused_statement same))
     c.refused_statement.ensures

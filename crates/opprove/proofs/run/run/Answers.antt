@@ -50,8 +50,7 @@ pub returns-in-Ok-clause-meaning : goal.returns-in-Ok-clause-meaning
 returns-in-Ok-clause-meaning g c zero =
     let both = loaded c.in-Ok.ensures c.put_ending.ensures (λ e. omega arith) (λ e. omega arith) (λ e. omega arith) in
     let decided = both.2.1.2 in
-    let category = c.args.category.now in
-    (
+    let category = c.args.category.now in (
       both.0,
       both.1,
       (
@@ -68,8 +67,7 @@ pub returns-in-Ok-clause-meaning_by_star : goal.returns-in-Ok-clause-meaning_by_
 returns-in-Ok-clause-meaning_by_star g c zero =
     let both = loaded c.in-Ok.ensures c.put_ending.ensures (λ e. omega arith) (λ e. omega arith) (λ e. omega arith) in
     let decided = both.2.1.2 in
-    let category = c.args.category.now in
-    (
+    let category = c.args.category.now in (
       both.0,
       both.1,
       (
