@@ -13,3 +13,5 @@ pub mod Fresh
 pub mod Items
 pub mod FileDeclared
 pub mod Tally
+pub mod MarkLemmas
+pub mod Found

@@ -41,7 +41,7 @@ pub fn read_names(alloc: Global, tree: &Tree) -> Result<Names, NameFault>
     ensures order { IfOk result (λ names. names.order ≡ order_of names.quiver tree.now.statements) }
     ensures starred { IfOk result (λ names. names.starred ≡ is_starred tree.now.statements) }
     ensures marked { IfOk result (λ names. names.marked ≡ marked_of names.quiver tree.now.statements) }
-    ensures shapes { IfOk result (λ names. names.shapes ≡ shapes_of tree.now.statements) }
+    ensures shapes { IfOk result (λ names. names.shapes ≡ shapes_of names.quiver tree.now.statements) }
     ensures solved { IfOk result (λ names. names.solved ≡ solved_of names.quiver tree.now.statements) }
     // What later stages rest on.
     ensures ready { IfOk result (λ names. IsReady names.quiver tree.now.statements) }
