@@ -15,3 +15,7 @@ pub mod FileDeclared
 pub mod Tally
 pub mod MarkLemmas
 pub mod Found
+pub mod Stated
+pub mod Sides
+pub mod SoundOrder
+pub mod WrittenNames
