@@ -193,14 +193,17 @@ pub record IsLetterOf (ds : List Declaration) (q : List ℕ) (a : ℕ) : Type 0 
 
 first_letters : (before : List Declaration) (q : List ℕ) (u v : ℕ) (own : Bool) (after : List Declaration) → Each (λ l. IsLetterOf (before ++ arrow q u v own ∷ after) q l.0) (letters_from_number own (letter_count before))
 first_letters before q u v true after =
-    let ds = before ++ arrow q u v true ∷ after in
-    (subst (IsLetterOf ds q) (sym (plus_zero (letter_count before)))
-    (record { in_range = letter_in_range before q u v after true 0 (omega arith); named = letter_name-split before q u v after true 0 (omega arith) }), tt)
+    let ds = before ++ arrow q u v true ∷ after in (
+      subst (IsLetterOf ds q) (sym (plus_zero (letter_count before)))
+          (record { in_range = letter_in_range before q u v after true 0 (omega arith); named = letter_name-split before q u v after true 0 (omega arith) }),
+      tt,
+    )
 first_letters before q u v false after =
-    let ds = before ++ arrow q u v false ∷ after in
-    (subst (IsLetterOf ds q) (sym (plus_zero (letter_count before)))
-    (record { in_range = letter_in_range before q u v after false 0 (omega arith); named = letter_name-split before q u v after false 0 (omega arith) }),
-    (record { in_range = letter_in_range before q u v after false 1 (omega arith); named = letter_name-split before q u v after false 1 (omega arith) }, tt))
+    let ds = before ++ arrow q u v false ∷ after in (
+      subst (IsLetterOf ds q) (sym (plus_zero (letter_count before)))
+          (record { in_range = letter_in_range before q u v after false 0 (omega arith); named = letter_name-split before q u v after false 0 (omega arith) }),
+      (record { in_range = letter_in_range before q u v after false 1 (omega arith); named = letter_name-split before q u v after false 1 (omega arith) }, tt),
+    )
 
 -- what the letter is that the name of a map stands for
 pub record HasLetters (ds : List Declaration) (q : List ℕ) (a : ℕ) : Type 0 where

@@ -19,3 +19,7 @@ pub mod Stated
 pub mod Sides
 pub mod SoundOrder
 pub mod WrittenNames
+pub mod Ascending
+pub mod SolvedMaps
+pub mod SoundShapes
+pub mod FileReady

@@ -48,9 +48,10 @@ earlier_differ : (pairs : List (Name × Number)) (i : ℕ) (p : Name × Number) 
 earlier_differ [] i p once below at = absurd (omega arith)
 earlier_differ (x ∷ pairs) zero p once below at = tt
 earlier_differ (x ∷ pairs) (suc i) p once below at =
-    let in_range : i < length pairs = omega arith in
-    (λ same. pairs_head (λ q r. q.0.text ≢ r.0.text) x pairs once i p in_range (sym same ∙ ap (λ q. q.0.text) at),
-    earlier_differ pairs i p (pairs_tail (λ q r. q.0.text ≢ r.0.text) x pairs once) in_range at)
+    let in_range : i < length pairs = omega arith in (
+      λ same. pairs_head (λ q r. q.0.text ≢ r.0.text) x pairs once i p in_range (sym same ∙ ap (λ q. q.0.text) at),
+      earlier_differ pairs i p (pairs_tail (λ q r. q.0.text ≢ r.0.text) x pairs once) in_range at,
+    )
 
 absent_side : (pairs : List (Name × Number)) (q : List ℕ) → Each (λ p. q ≢ p.0.text) pairs → lookup (bytes_eq q) (map given_side pairs) ≡ None
 absent_side [] q differ = refl
@@ -91,7 +92,7 @@ module _ (ds : List Declaration) (declared : IsDeclared ds) (pairs : List (Name 
           let here : v ≡ object_of ds p.0 = only_name v in_range text in
           let fits : object_of ds p.0 < length sides = subst (λ n. object_of ds p.0 < n) (sym size) (subst (λ n. n < object_count ds) here in_range) in
           let new : lookup (bytes_eq (object_name ds v)) (map given_side (take i pairs)) ≡ None =
-              ap (λ q. lookup (bytes_eq q) (map given_side (take i pairs))) text ∙ absent_side (take i pairs) p.0.text (earlier_differ pairs i p once below at) in
+          ap (λ q. lookup (bytes_eq q) (map given_side (take i pairs))) text ∙ absent_side (take i pairs) p.0.text (earlier_differ pairs i p once below at) in
           ap (λ w. get_or (set sides (object_of ds p.0) (value_of p.1.value)) w 1) here
           ∙ get_or-set_same sides (object_of ds p.0) (value_of p.1.value) 1 fits
           ∙ sym (side_next (object_name ds v) ∙ ap₂ (λ found b. unwrap_or (option_or found (cond b (Some (value_of p.1.value)) None)) 1) new named)

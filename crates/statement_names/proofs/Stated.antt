@@ -77,7 +77,7 @@ module _ (kind : List ℕ → Option Kind) (k : Kind) (most : ℕ) where
   put_in_front : (front : List (List ℕ)) (name : List ℕ) → IsInFront (front ++ name ∷ []) name
   put_in_front front name q absent same =
       let there : is_among (front ++ name ∷ []) q ≡ true =
-          list_any-append (bytes_eq q) front (name ∷ []) ∙ ap (λ n. is_among front q || (bytes_eq q n || false)) same ∙ ap (λ b. is_among front q || (b || false)) (own_bytes q) ∙ or_true (is_among front q) in
+      list_any-append (bytes_eq q) front (name ∷ []) ∙ ap (λ n. is_among front q || (bytes_eq q n || false)) same ∙ ap (λ b. is_among front q || (b || false)) (own_bytes q) ∙ or_true (is_among front q) in
       cc
     where
       or_true : (b : Bool) → (b || true) ≡ true

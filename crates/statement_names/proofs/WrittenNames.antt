@@ -91,7 +91,7 @@ module _ (ds : List Declaration) where
     product_named factors named =
         let t = term_of at false None factors in
         let term : are_names_of_term ds t ≡ true =
-            term-factors t ∙ ap (λ r. list_all (λ f. are_names_of_primary ds f.primary) r.factors) (out-roll-Term (record { at = at; negative = false; literal = None; factors = factors })) ∙ named in
+        term-factors t ∙ ap (λ r. list_all (λ f. are_names_of_primary ds f.primary) r.factors) (out-roll-Term (record { at = at; negative = false; literal = None; factors = factors })) ∙ named in
         sum-terms (product_at at factors) ∙ ap (λ r. list_all (are_names_of_term ds) r.terms) (out-roll-Sum (record { at = at; terms = t ∷ [] })) ∙ ap (λ b. b && true) term
 
     letters_named : (names : List (List ℕ)) → Each (λ q. IsTrue (is_map (named_in ds q))) names → list_all (λ f. are_names_of_primary ds f.primary) (map (letter_at at) names) ≡ true
@@ -122,9 +122,10 @@ module _ (ds : List Declaration) where
       identity_equation_named v is = record { left = word_named (a ∷ x ∷ []) (first, (second, tt)); right = identity_named v is }
 
     projection_named : (p : List ℕ) → IsTrue (is_map (named_in ds p)) → Each (HasNames ds) (projection_equations at p)
-    projection_named p is =
-        (record { left = word_named (p ∷ p ∷ []) (is, (is, tt)); right = word_named (p ∷ []) (is, tt) },
-        (record { left = marked_named p is; right = word_named (p ∷ []) (is, tt) }, tt))
+    projection_named p is = (
+      record { left = word_named (p ∷ p ∷ []) (is, (is, tt)); right = word_named (p ∷ []) (is, tt) },
+      (record { left = marked_named p is; right = word_named (p ∷ []) (is, tt) }, tt),
+    )
 
   -- the ends of a map are objects of the quiver, whose names stand for them
   end_named : IsDeclared ds → (end : ℕ → ℕ) → ((a : ℕ) → a < letter_count ds → end a < object_count ds) → (q : List ℕ) → IsTrue (is_map (named_in ds q)) → IsTrue (is_object (named_in ds (end_name ds end (named_in ds q))))
@@ -163,14 +164,19 @@ module _ (statements : List Statement) (clean : name_fault_of statements ≡ Non
   equations_named at (statement.Assume left right) good = (sides_named left right good.1, tt)
   equations_named at (statement.Pinv a x) good =
       let first = map_named statements clean a.text good.1.0 in
-      let second = map_named statements clean x.text good.1.1.0 in
-      (inner_named all at a.text x.text first second, (inner_named all at x.text a.text second first,
-      (adjoint_equation_named all at a.text x.text first second, (adjoint_equation_named all at x.text a.text second first, tt))))
+      let second = map_named statements clean x.text good.1.1.0 in (
+        inner_named all at a.text x.text first second,
+        (
+          inner_named all at x.text a.text second first,
+          (adjoint_equation_named all at a.text x.text first second, (adjoint_equation_named all at x.text a.text second first, tt)),
+        ),
+      )
   equations_named at (statement.Inverse a x) good =
       let first = map_named statements clean a.text good.1.0 in
-      let second = map_named statements clean x.text good.1.1.0 in
-      (identity_equation_named all at a.text x.text first second (target_name all a) (end_named all (file_declared statements clean) (target (quiver_of all)) target_in a.text first),
-      (identity_equation_named all at x.text a.text second first (source_name all a) (end_named all (file_declared statements clean) (source (quiver_of all)) source_in a.text first), tt))
+      let second = map_named statements clean x.text good.1.1.0 in (
+        identity_equation_named all at a.text x.text first second (target_name all a) (end_named all (file_declared statements clean) (target (quiver_of all)) target_in a.text first),
+        (identity_equation_named all at x.text a.text second first (source_name all a) (end_named all (file_declared statements clean) (source (quiver_of all)) source_in a.text first), tt),
+      )
   equations_named at (statement.Inner a x) good = (inner_named all at a.text x.text (map_named statements clean a.text good.1.0) (map_named statements clean x.text good.1.1.0), tt)
   equations_named at (statement.Projection p) good = projection_named all at p.text (map_named statements clean p.text good.1.0)
   equations_named at k good = tt

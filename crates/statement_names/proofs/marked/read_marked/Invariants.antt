@@ -8,5 +8,5 @@ use Rattle.statement_names.proofs.marked.read_marked.Given as goal
 abbrev pub invariant-loop-statement : goal.invariant-loop-statement
 invariant-loop-statement l = record {
   size : length l.marks.items ≡ object_count l.quiver;
-  marked : Marks (replicate (object_count l.quiver) false) l.marks.items (λ v. list_any (writes_identity l.quiver v) (all_equations l.quiver (take l.statement-index l.statements)))
+  marked : Marks (replicate (object_count l.quiver) false) l.marks.items (λ v. list_any (writes_identity l.quiver v) (all_equations l.quiver (take l.statement-index l.statements)));
 }

@@ -26,6 +26,6 @@ sides_of-requires-clause-once c =
 pub overflow_cast-modulus : goal.overflow_cast-modulus
 overflow_cast-modulus c =
     let small : value_of c.in-Shape.modulus.value ≤ 65537 =
-        modulus_small (value_of c.in-Shape.modulus.value)
-        (modulus_is c.args.statements.now c.requires.sound c.loop-statement.statement-index c.statement-item.result c.loop-statement-test.true c.statement-item.is c.in-Shape.modulus c.in-Shape.sides c.in-Shape.is) in
+    modulus_small (value_of c.in-Shape.modulus.value)
+    (modulus_is c.args.statements.now c.requires.sound c.loop-statement.statement-index c.statement-item.result c.loop-statement-test.true c.statement-item.is c.in-Shape.modulus c.in-Shape.sides c.in-Shape.is) in
     omega (arith, c.value_of-modulus.ensures)
