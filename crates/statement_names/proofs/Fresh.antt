@@ -66,7 +66,7 @@ no_object_fault xs name ys declared =
     let free : nat_le 64 (object_count xs) ≡ false = grind (arith, nat_tests) in
     ap₂ (λ b c. if b then Some DoubleName else if c then Some (TooMany 64) else None) (ap is_some fresh) free
 
-all_right : {A : Type 0} (test : A → Bool) (xs ys : List A) → list_all test (xs ++ ys) ≡ true → list_all test ys ≡ true
+pub all_right : {A : Type 0} (test : A → Bool) (xs ys : List A) → list_all test (xs ++ ys) ≡ true → list_all test ys ≡ true
 all_right test [] ys h = h
 all_right test (x ∷ xs) ys h = go (test x) h (all_right test xs ys)
   where

@@ -13,3 +13,13 @@ pub mod Fresh
 pub mod Items
 pub mod FileDeclared
 pub mod Tally
+pub mod MarkLemmas
+pub mod Found
+pub mod Stated
+pub mod Sides
+pub mod SoundOrder
+pub mod WrittenNames
+pub mod Ascending
+pub mod SolvedMaps
+pub mod SoundShapes
+pub mod FileReady

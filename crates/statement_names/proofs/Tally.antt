@@ -139,10 +139,10 @@ claims_same at (statement.Objects names) = sym (no_maps claims_by (λ n. refl) n
 claims_same at (statement.Maps names source target selfmade) = sym (no_objects source.text target.text selfmade claims_by (λ n. refl) names)
 claims_same at k = refl
 
-shapes_same : (objects : List (List ℕ)) (at : Spot) (k : StatementKind) → length (shapes_in objects k) ≡ tally shapes_by at k
-shapes_same objects at (statement.Objects names) = sym (no_maps shapes_by (λ n. refl) names)
-shapes_same objects at (statement.Maps names source target selfmade) = sym (no_objects source.text target.text selfmade shapes_by (λ n. refl) names)
-shapes_same objects at k = refl
+shapes_same : (ds : List Declaration) (at : Spot) (k : StatementKind) → length (shapes_in ds k) ≡ tally shapes_by at k
+shapes_same ds at (statement.Objects names) = sym (no_maps shapes_by (λ n. refl) names)
+shapes_same ds at (statement.Maps names source target selfmade) = sym (no_objects source.text target.text selfmade shapes_by (λ n. refl) names)
+shapes_same ds at k = refl
 
 pub object_count-statements : (statements : List Statement) → object_count (declared_objects statements) ≡ sum_by objects_by (occurrences_of statements)
 object_count-statements statements =
@@ -164,7 +164,7 @@ length-claims statements =
     tally-statements claims_by claims_out (λ at k. length (claims_in k)) claims_same (λ ss. length (claims_of ss)) refl
     (λ s ss. length-append (claims_in s.kind) (claims_of ss)) statements
 
-pub length-shapes : (objects : List (List ℕ)) (statements : List Statement) → length (flat_map (λ s. shapes_in objects s.kind) statements) ≡ sum_by shapes_by (occurrences_of statements)
-length-shapes objects statements =
-    tally-statements shapes_by shapes_out (λ at k. length (shapes_in objects k)) (shapes_same objects) (λ ss. length (flat_map (λ s. shapes_in objects s.kind) ss)) refl
-    (λ s ss. length-append (shapes_in objects s.kind) (flat_map (λ t. shapes_in objects t.kind) ss)) statements
+pub length-shapes : (ds : List Declaration) (statements : List Statement) → length (flat_map (λ s. shapes_in ds s.kind) statements) ≡ sum_by shapes_by (occurrences_of statements)
+length-shapes ds statements =
+    tally-statements shapes_by shapes_out (λ at k. length (shapes_in ds k)) (shapes_same ds) (λ ss. length (flat_map (λ s. shapes_in ds s.kind) ss)) refl
+    (λ s ss. length-append (shapes_in ds s.kind) (flat_map (λ t. shapes_in ds t.kind) ss)) statements

@@ -4,7 +4,7 @@ use Rattle.std.specs.List.{flat_map}
 use Rattle.statement_syntax.specs.declared.tree.Statement.{Statement}
 use Rattle.statement_syntax.specs.declared.tree.StatementKind.{StatementKind}
 use Rattle.statement_syntax.specs.declared.tree.StatementKind.TheVariants as statement
-use Rattle.quiver.specs.Declarations.{Declaration, object, arrow, name_of, named_in}
+use Rattle.quiver.specs.Declarations.{Declaration, object, arrow, named_in}
 use Rattle.expressions.specs.Names.{is_object, object_of}
 
 -- the objects of a statement
@@ -32,7 +32,3 @@ declared_maps objects statements = flat_map (λ s. maps_in objects s.kind) state
 
 abbrev pub declarations_of : List Statement → List Declaration
 declarations_of statements = declared_objects statements ++ declared_maps (declared_objects statements) statements
-
--- the names of the objects, in their order
-abbrev pub object_names : List Statement → List (List ℕ)
-object_names statements = map name_of (declared_objects statements)

@@ -1,16 +1,15 @@
 //! The quiver of a file: all its objects, and then all its maps.
 
-ghost use Rattle.std.specs.Prelude.{◌≡◌, ◌<◌, ◌++◌, None, IfOk, OnOk, IsTrue};
-ghost use Rattle.quiver.specs.Declarations.{named_in, object_count, IsDeclared};
+ghost use Rattle.std.specs.Prelude.{◌≡◌, ◌++◌, None, IfOk, OnOk};
+ghost use Rattle.quiver.specs.Declarations.{IsDeclared};
 ghost use Rattle.quiver.specs.Refusals.{IsMemory};
-ghost use Rattle.expressions.specs.Names.{is_object, object_of};
 ghost use Rattle.statement_names.specs.Faults.{name_fault_of};
 ghost use Rattle.statement_names.specs.Numbered.{objects_in, maps_in, declarations_of, HasEnds};
 
-use quiver::{Named, Quiver, QuiverFault};
-use statement_syntax::{Name, Statement, StatementKind};
+use crate::named::object_named;
+use quiver::{Quiver, QuiverFault};
+use statement_syntax::{Statement, StatementKind};
 use std::alloc::{AllocError, Global};
-use word_core::Object;
 
 /// The quiver that statements declare, in whose names nothing is wrong.
 pub fn declare_all(alloc: Global, statements: &[Statement]) -> Result<Quiver, AllocError>
@@ -66,18 +65,6 @@ fn add_maps(quiver: &mut Quiver, statement: &StatementKind) -> Result<(), AllocE
         }
     }
     Ok(())
-}
-
-// The object with this name.
-fn object_named(quiver: &Quiver, name: &Name) -> Object
-    requires { IsTrue (is_object (named_in quiver.now name.now.text)) }
-    ensures number { result.0 ≡ object_of quiver.now name.now }
-    ensures in_range { result.0 < object_count quiver.now }
-{
-    match quiver.find(name.text.as_str()) {
-        Some(Named::Object(object)) => object,
-        _ => unreachable!(),
-    }
 }
 
 // The want of memory, where nothing else is wrong with a declaration.

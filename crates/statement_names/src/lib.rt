@@ -4,7 +4,12 @@
 mod declarations;
 mod fault;
 mod kinds;
+mod marked;
+mod named;
 mod names;
+mod order;
+mod shapes;
+mod solved;
 mod starred;
 mod survey;
 mod written;
