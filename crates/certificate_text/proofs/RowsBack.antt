@@ -94,16 +94,27 @@ pub record IsWrittenRow (ds : List Declaration) (row : CertRow) : Type 0 where
 module _ (ds : List Declaration) (row : CertRow) (written : IsWrittenRow ds row) where
   parts_read : row_parts (line_tokens ds row) ≡ Some (parts_of ds row)
   parts_read =
-      rw (closed_behind (spelled ds row.left) (decimal row.generator ∷ codes "(" ∷ (spelled ds row.right ++ one (codes ")"))) written.left.unclosed,
-      closed_behind (spelled ds row.right) [] written.right.unclosed) refl
+      rw (
+        closed_behind (spelled ds row.left) (decimal row.generator ∷ codes "(" ∷ (spelled ds row.right ++ one (codes ")"))) written.left.unclosed,
+        closed_behind (spelled ds row.right) [] written.right.unclosed,
+      ) refl
 
   small : row.generator < 10 ^ 64
   small = omega (arith, written.generator)
 
   row_read : row_of ds (line_tokens ds row) ≡ Ok row
   row_read =
-      rw (parts_read, written.coefficient.number, written.left.letters, decimal_number row.generator small, written.right.letters, written.left.read, written.right.read,
-      written.coefficient.value, decimal_within number_limit row.generator (omega (arith, written.generator)) small) refl
+      rw (
+        parts_read,
+        written.coefficient.number,
+        written.left.letters,
+        decimal_number row.generator small,
+        written.right.letters,
+        written.left.read,
+        written.right.read,
+        written.coefficient.value,
+        decimal_within number_limit row.generator (omega (arith, written.generator)) small,
+      ) refl
 
   row_put : (rows : List CertRow) (letters : ℕ) → length rows < 200000 → letters + letters_in row ≤ 1000000 → with_row rows letters row ≡ Ok (rows ++ row ∷ [], letters + letters_in row)
   row_put rows letters few fit =

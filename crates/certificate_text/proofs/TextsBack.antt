@@ -107,7 +107,7 @@ text_by ds a name (Some (Object v)) known comes =
     let text = name_text name known in
     record {
       plain = plain_append (91 ∷ name) (mark 93) (plain_append (mark 91) name (record { line = record { utf8 = ascii (mark 91) refl; inside = refl }; plain = refl }) (plain_name name text))
-        (record { line = record { utf8 = ascii (mark 93) refl; inside = refl }; plain = refl });
+          (record { line = record { utf8 = ascii (mark 93) refl; inside = refl }; plain = refl });
       some = omega arith;
       letter = rw (spelled_identity name known) refl;
     }
