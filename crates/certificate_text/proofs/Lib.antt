@@ -18,3 +18,4 @@ pub mod RowsBack
 pub mod BlocksBack
 pub mod Shifted
 pub mod ReadBack
+mod Examples

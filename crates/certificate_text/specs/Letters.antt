@@ -13,6 +13,7 @@ use Rattle.quiver.specs.Declarations.{Declaration, named_in, identity_in, quiver
 
 -- ---- names
 
+-- whether a name may start with the character, and whether the text starts with such a one
 abbrev pub starts_name : ℕ → Bool
 starts_name c = is_xid_start c || (c == 95)
 
@@ -37,19 +38,23 @@ pub record Spelled : Type 0 where
   -- whether a ' stands behind it
   pub adjoint : Bool
 
+-- a name that stood in square brackets or not, before a ' or not
 abbrev pub named_by : Bool → Bool → List ℕ → Option Spelled
 named_by identity adjoint token = option_map (λ name. record { name = name; identity = identity; adjoint = adjoint }) (name_in token)
 
+-- the brackets are taken off
 abbrev pub without_brackets : Bool → List ℕ → Option Spelled
 without_brackets adjoint token =
     if starts_with nat_eq token (codes "[") && ends_with nat_eq token (codes "]") then named_by true adjoint (take (length token - 2) (drop 1 token))
     else named_by false adjoint token
 
+-- the ' is taken off
 abbrev pub spelled_by : List ℕ → Option Spelled
 spelled_by token =
     if ends_with nat_eq token (codes "'") then without_brackets true (take (length token - 1) token)
     else without_brackets false token
 
+-- whether the token spells a letter of some quiver
 abbrev pub is_letter : List ℕ → Bool
 is_letter token = is_some (spelled_by token)
 
@@ -60,6 +65,7 @@ letter_named ds false (Object v) = None
 letter_named ds true (Map a) = None
 letter_named ds false (Map a) = Some a.0
 
+-- the adjoint of the letter, or the letter
 abbrev pub starred : List Declaration → Bool → ℕ → ℕ
 starred ds adjoint a = if adjoint then star (quiver_of ds) a else a
 

@@ -2,7 +2,10 @@ ghost use Rattle.std.specs.Prelude.{IsTrue, ◌<◌, length};
 ghost use Rattle.std.specs.List.{All};
 ghost use Rattle.word_core.specs.Letters.{IsOver};
 
-use crate::{CertFault, read_certificates, write_certificate, write_poly, write_word};
+use crate::{
+    CertFault, certificates_are_read_back, read_certificates, write_certificate, write_poly,
+    write_word,
+};
 use nc_polynomial::{Poly, PolyFault};
 use quiver::{Quiver, QuiverFault};
 use std::alloc::{AllocError, Global};
@@ -56,6 +59,7 @@ fn fault_of(alloc: Global, quiver: &Quiver, text: &[u8]) -> Result<(u32, u32, u3
 
 #[test]
 fn certificates_are_read_and_written(rt: HostRuntime) -> Result<(), Fail> {
+    certificates_are_read_back();
     let quiver = small(rt.alloc())?;
     let rows =
         "certificate 1\nclaim 1\ndenominator 1\nrow 1 () 1 (r)\nrow -1 (l) 2 ()\nrow 1 () 6 ()\nrow -1 () 8 ()\nend\n";
@@ -265,6 +269,73 @@ fn limits_of_words_rows_letters_and_blocks(rt: HostRuntime) -> Result<(), Fail> 
         if text.len() < 1000000000 {
             let found = fault_of(rt.alloc(), &quiver, text.as_bytes())?;
             assert_eq!(rt; found, want, "{count} times {piece}");
+        }
+    }
+    Ok(())
+}
+
+fn word(alloc: Global, letters: &[u16]) -> Result<Word, AllocError> {
+    let mut word = Word::new(alloc);
+    for letter in letters {
+        word.push(Letter(*letter))?;
+    }
+    Ok(word)
+}
+
+fn is_over(word: &Word, letters: u32) -> bool
+    ensures { IsTrue result → IsOver letters word.now }
+{
+    for place in 0..word.len() {
+        if u32::from(word.letter(place).0) >= letters {
+            return false;
+        }
+    }
+    true
+}
+
+fn all_over(poly: &Poly, letters: u32) -> bool
+    ensures { IsTrue result → All (λ t. IsOver letters t.1) poly.now.terms }
+{
+    for place in 0..poly.terms() {
+        if !is_over(poly.term(place).1, letters) {
+            return false;
+        }
+    }
+    true
+}
+
+// 5 a a' l - a' - 2 [V] + p
+fn mixed(alloc: Global) -> Result<Poly, PolyFault> {
+    let long = Poly::from_terms(alloc, &[(5, word(alloc, &[2, 3, 4])?)])?;
+    let short = Poly::from_terms(
+        alloc,
+        &[
+            (-2, word(alloc, &[1])?),
+            (1, word(alloc, &[8])?),
+            (-1, word(alloc, &[3])?),
+        ],
+    )?;
+    long.add(&short)
+}
+
+#[test]
+fn words_and_polynomials_are_written(rt: HostRuntime) -> Result<(), Fail> {
+    let quiver = small(rt.alloc())?;
+    let letters = quiver.letters();
+    let long = word(rt.alloc(), &[0, 1, 2, 3, 8, 9, 10])?;
+    if is_over(&long, letters) {
+        let text = write_word(rt.alloc(), &quiver, &long)?;
+        assert!(rt; text.as_slice() == "[U] [V] a a' p жар_2 жар_2'".as_bytes());
+    }
+    let cases = [
+        (Poly::zero(rt.alloc()), "0"),
+        (mixed(rt.alloc())?, "5 a a' l + p - a' - 2 [V]"),
+    ];
+    for (poly, want) in &cases {
+        assert!(rt; all_over(poly, letters), "{want}");
+        if all_over(poly, letters) {
+            let text = write_poly(rt.alloc(), &quiver, poly)?;
+            assert!(rt; text.as_slice() == want.as_bytes(), "{want}");
         }
     }
     Ok(())

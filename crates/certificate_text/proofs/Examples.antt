@@ -1,0 +1,65 @@
+-- Worked texts, over the objects U and V and a map a : U -> V.
+use lib.Utf8.{encode}
+use Rattle.std.proofs.Common.{◌≡◌, ℕ, ℤ, pos, negsuc, false, List, [], ◌∷◌, Result, Ok, Err, arith, refl, codes}
+use Rattle.std.proofs.lemmas.Fmt.{decimal_digit}
+use Rattle.std.specs.Str.{is_utf8, chars}
+use Rattle.std.specs.Str.Lines.{lines}
+use Rattle.quiver.specs.Declarations.{Declaration, object, arrow}
+use Rattle.cofactor_trace.specs.declared.Certificate.{Certificate}
+use Rattle.certificate_text.specs.Fault.{Fault, truncated, no_block}
+use Rattle.certificate_text.specs.Tokens.{tokens_of}
+use Rattle.certificate_text.specs.Evidence.{certificates_of}
+use Rattle.certificate_text.specs.Written.{word_text, poly_text, certificate_text}
+
+abbrev declared : List Declaration
+declared = object (codes "U") ∷ object (codes "V") ∷ arrow (codes "a") 0 1 false ∷ []
+
+-- ---- lines and tokens
+
+-- CR LF, a CR that is not before LF, and a last line that is not ended
+line_ends : lines (codes "a\r\n\rb\n\nc\r") ≡ codes "a" ∷ codes "\rb" ∷ [] ∷ codes "c\r" ∷ []
+line_ends = refl
+
+tight : tokens_of (codes "row -1(a [U]')\t2()=;") ≡ codes "row" ∷ codes "-1" ∷ codes "(" ∷ codes "a" ∷ codes "[U]'" ∷ codes ")" ∷ codes "2" ∷ codes "(" ∷ codes ")" ∷ codes "=" ∷ codes ";" ∷ []
+tight = refl
+
+-- ---- reading
+
+abbrev answer : Result (List Certificate) Fault → Type 0
+answer found = certificates_of declared (codes "certificate 1\nclaim 07\ndenominator 0\n# rows\nrow -3 () 2 ()\nend\nbasis 1\nrest ( x\nend\n") ≡ found
+
+read : answer (Ok (record { claim = 7; denominator = pos 0; rows = record { coef = negsuc 2; left = []; generator = 2; right = [] } ∷ [] } ∷ []))
+unfolding is_utf8 chars encode
+read = refl
+
+-- a minus at a denominator, after a comment
+bad_line : certificates_of declared (codes "#\ncertificate 1\nclaim 1\ndenominator -1\n") ≡ Err (record { code = 2; line = 4; limit = 0 })
+unfolding is_utf8 chars encode
+bad_line = refl
+
+too_large : certificates_of declared (codes "certificate 1\nclaim 4294967296\nend\n") ≡ Err (record { code = 4; line = 2; limit = 0 })
+unfolding is_utf8 chars encode
+too_large = refl
+
+-- a skipped block that is not ended, and no certificate
+not_ended : certificates_of declared (codes "model 1\nend 1\n") ≡ Err truncated
+unfolding is_utf8 chars encode
+not_ended = refl
+
+none : certificates_of declared (codes "model 1\nend\n") ≡ Err no_block
+unfolding is_utf8 chars encode
+none = refl
+
+-- ---- writing
+
+word : word_text declared (0 ∷ 2 ∷ 3 ∷ []) ≡ codes "[U] a a'"
+word = refl
+
+poly : poly_text declared ((negsuc 1, 3 ∷ 2 ∷ []) ∷ (pos 1, 0 ∷ []) ∷ (negsuc 0, 1 ∷ []) ∷ []) ≡ codes "- 2 a' a + [U] - [V]"
+poly = rw (decimal_digit 2 (omega arith)) refl
+
+zero_poly : poly_text declared [] ≡ codes "0"
+zero_poly = refl
+
+written : certificate_text declared (record { claim = 7; denominator = pos 1; rows = record { coef = negsuc 2; left = []; generator = 2; right = 2 ∷ [] } ∷ [] }) ≡ codes "certificate 1\nclaim 7\ndenominator 1\nrow -3 () 2 (a)\nend\n"
+written = rw (decimal_digit 7 (omega arith), decimal_digit 1 (omega arith), decimal_digit 3 (omega arith), decimal_digit 2 (omega arith)) refl
