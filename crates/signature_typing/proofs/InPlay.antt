@@ -102,9 +102,9 @@ all_starred part each [] = tt
 all_starred part each (x ∷ xs) =
     each_of_both (λ e. is_starred_equation e ≡ true → is_starred (x ∷ xs) ≡ true) (part x) (flat_map part xs)
     (each_weaker (λ e. is_starred_equation e ≡ true → is_starred_in x.kind ≡ true) (λ e. is_starred_equation e ≡ true → is_starred (x ∷ xs) ≡ true)
-      (λ e here mark. or_left (is_starred_in x.kind) (is_starred xs) (here mark)) (part x) (each x))
+    (λ e here mark. or_left (is_starred_in x.kind) (is_starred xs) (here mark)) (part x) (each x))
     (each_weaker (λ e. is_starred_equation e ≡ true → is_starred xs ≡ true) (λ e. is_starred_equation e ≡ true → is_starred (x ∷ xs) ≡ true)
-      (λ e later mark. or_right (is_starred_in x.kind) (is_starred xs) (later mark)) (flat_map part xs) (all_starred part each xs))
+    (λ e later mark. or_right (is_starred_in x.kind) (is_starred xs) (later mark)) (flat_map part xs) (all_starred part each xs))
 
 -- ---- identities
 -- a test of an element is a test of some element of the list
@@ -113,7 +113,7 @@ each_found test [] = tt
 each_found test (x ∷ xs) = (
   λ v is. or_left (test v x) (list_any (test v) xs) is,
   each_weaker (λ y. (v : _) → test v y ≡ true → list_any (test v) xs ≡ true) (λ y. (v : _) → test v y ≡ true → list_any (test v) (x ∷ xs) ≡ true)
-    (λ y later v is. or_right (test v x) (list_any (test v) xs) (later v is)) xs (each_found test xs),
+      (λ y later v is. or_right (test v x) (list_any (test v) xs) (later v is)) xs (each_found test xs),
 )
 
 module _ (ds : List Declaration) (statements : List Statement) where

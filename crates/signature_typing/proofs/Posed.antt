@@ -45,7 +45,7 @@ module _ (typed : EquationsAreTyped) (written : LettersAreWritten) (ds : List De
   IsKnown e = HasNames ds e × IsCounted ds statements e
 
   module _ (es : List Equation) (known : AllByRecursion IsKnown es) (have_signatures : AreValues (signature_in ds) es) (have_polynomials : AreValues (polynomial_in ds) es)
-    (ps : List made.Poly) (are : polynomials ps ≡ polynomials_of ds es) where
+      (ps : List made.Poly) (are : polynomials ps ≡ polynomials_of ds es) where
     equations_typed : AllZip (IsTypedOf ds) ps (signatures_of ds es)
     equations_typed =
         zipped (polynomial_in ds) (signature_in ds) (λ p. p.terms) IsKnown (IsTypedOf ds)
@@ -65,8 +65,8 @@ module _ (typed : EquationsAreTyped) (written : LettersAreWritten) (ds : List De
         All-from_recursion (HasLettersInPlay ds (is_starred statements) (numbers (marked_of ds statements))) ps (each_before_map IsPlayed (λ p. p.terms) ps
         (subst (AllByRecursion IsPlayed) (sym are) (each_value (polynomial_in ds) IsKnown IsPlayed
         (λ e p is poly. All-weaker (λ t. All (IsWritten ds e.left e.right) t.1) _
-          (λ t letters. All-weaker (IsWritten ds e.left e.right) _ (λ a wrote. letter_in_play ds statements e a is.1 wrote) t.1 letters) p
-          (written ds e.left e.right p ready.declared ready.objects_first is.0.left is.0.right poly)) es known have_polynomials)))
+        (λ t letters. All-weaker (IsWritten ds e.left e.right) _ (λ a wrote. letter_in_play ds statements e a is.1 wrote) t.1 letters) p
+        (written ds e.left e.right p ready.declared ready.objects_first is.0.left is.0.right poly)) es known have_polynomials)))
 
     equation_count : length ps ≡ length es
     equation_count = sym (length-map ps (λ p. p.terms)) ∙ ap length are ∙ length-values (polynomial_in ds) es have_polynomials

@@ -70,7 +70,7 @@ module _ {A X E : Type 0} (f : A → Result X E) where
 
 -- what holds of the values of two functions at each element, where the first ones are those of other things
 module _ {A P X Y E F : Type 0} (f : A → Result X E) (g : A → Result Y F) (view : P → X) (H : A → Type 0) (R : P → Y → Type 0)
-  (gives : (e : A) (p : P) (y : Y) → H e → f e ≡ Ok (view p) → g e ≡ Ok y → R p y) where
+    (gives : (e : A) (p : P) (y : Y) → H e → f e ≡ Ok (view p) → g e ≡ Ok y → R p y) where
   pub zipped : (es : List A) (ps : List P) → AllByRecursion H es → AreValues f es → AreValues g es → map view ps ≡ values f es → AllZip R ps (values g es)
   zipped [] [] each fine_f fine_g are = tt
   zipped [] (p ∷ ps) each fine_f fine_g are = absurd cc

@@ -91,7 +91,13 @@ impl Polynomials {
             }
             _ => {
                 let equations = abbreviation(alloc, quiver, statement)?;
-                self.assumptions = with_equations(alloc, quiver, statement.at, self.assumptions, equations.as_slice())?;
+                self.assumptions = with_equations(
+                    alloc,
+                    quiver,
+                    statement.at,
+                    self.assumptions,
+                    equations.as_slice(),
+                )?;
             }
         }
         Ok(self)

@@ -78,12 +78,7 @@ fn signature_fault(
     }
 }
 
-fn signature_of(
-    alloc: Global,
-    quiver: &Quiver,
-    left: &Sum,
-    right: &Sum,
-) -> Result<Sig, TypeFault>
+fn signature_of(alloc: Global, quiver: &Quiver, left: &Sum, right: &Sum) -> Result<Sig, TypeFault>
     requires left_names { AreNames quiver.now left.now }
     requires right_names { AreNames quiver.now right.now }
     ensures ok { IfOk result (λ signature. equation_signature quiver.now left.now right.now ≡ Ok signature) }
@@ -130,14 +125,20 @@ impl Signatures {
     {
         match &statement.kind {
             StatementKind::Assume(left, right) => {
-                self.assumptions.push(signature_of(alloc, quiver, left, right)?)?;
+                self.assumptions
+                    .push(signature_of(alloc, quiver, left, right)?)?;
             }
             StatementKind::Claim(left, right) => {
                 self.claims.push(signature_of(alloc, quiver, left, right)?)?;
             }
             _ => {
                 let equations = abbreviation(alloc, quiver, statement)?;
-                self.assumptions = with_equations(alloc, quiver, self.assumptions, equations.as_slice())?;
+                self.assumptions = with_equations(
+                    alloc,
+                    quiver,
+                    self.assumptions,
+                    equations.as_slice(),
+                )?;
             }
         }
         Ok(self)

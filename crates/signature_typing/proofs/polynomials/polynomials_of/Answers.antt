@@ -16,7 +16,7 @@ pub loop-statement-preserved : goal.loop-statement-preserved
 loop-statement-preserved c =
     let ds = c.args.quiver.now in
     one_more_statement (λ s. polynomials_of ds (equations_of ds s)) (λ s. polynomials_of ds (claims_in s.kind)) (wrong_polynomial ds) c.args.statements.now c.loop-statement.statement-index
-        _ _ _ _ c.statement-item.result (omega arith) c.statement-item.is c.in_ok-polynomials.ensures.assumptions c.in_ok-polynomials.ensures.claims c.in_ok-polynomials.ensures.fits c.loop-statement.invariant
+    _ _ _ _ c.statement-item.result (omega arith) c.statement-item.is c.in_ok-polynomials.ensures.assumptions c.in_ok-polynomials.ensures.claims c.in_ok-polynomials.ensures.fits c.loop-statement.invariant
 
 pub returns-clause-assumptions : goal.returns-clause-assumptions
 returns-clause-assumptions c =

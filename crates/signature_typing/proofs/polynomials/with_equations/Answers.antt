@@ -18,4 +18,4 @@ loop-equation-preserved c =
     let given : c.in_ok-poly.poly.terms ∷ [] ≡ value_in (polynomial_in ds e) = rw c.in_ok-poly.ensures.ok refl in
     let fits : polynomial_fault ds c.args.at e ≡ None = rw c.in_ok-poly.ensures.ok refl in
     one_more (λ x. value_in (polynomial_in ds x)) (polynomial_fault ds c.args.at) c.args.equations.now c.loop-equation.equation-index (polynomials c.args.before) (polynomials c.loop-equation.before) (polynomials c.push.new.self) e (omega arith) c.equation-item.is
-        (ap polynomials c.in_ok-push.ensures.ok ∙ polynomials_push c.loop-equation.before c.in_ok-poly.poly ∙ ap (λ ys. polynomials c.loop-equation.before ++ ys) given) fits c.loop-equation.invariant
+    (ap polynomials c.in_ok-push.ensures.ok ∙ polynomials_push c.loop-equation.before c.in_ok-poly.poly ∙ ap (λ ys. polynomials c.loop-equation.before ++ ys) given) fits c.loop-equation.invariant

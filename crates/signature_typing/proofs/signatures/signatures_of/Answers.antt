@@ -15,7 +15,7 @@ pub loop-statement-preserved : goal.loop-statement-preserved
 loop-statement-preserved c =
     let ds = c.args.quiver.now in
     one_more_statement (λ s. signatures_of ds (equations_of ds s)) (λ s. signatures_of ds (claims_in s.kind)) (wrong_signature ds) c.args.statements.now c.loop-statement.statement-index
-        _ _ _ _ c.statement-item.result (omega arith) c.statement-item.is c.in_ok-signatures.ensures.assumptions c.in_ok-signatures.ensures.claims c.in_ok-signatures.ensures.fits c.loop-statement.invariant
+    _ _ _ _ c.statement-item.result (omega arith) c.statement-item.is c.in_ok-signatures.ensures.assumptions c.in_ok-signatures.ensures.claims c.in_ok-signatures.ensures.fits c.loop-statement.invariant
 
 pub returns-clause-assumptions : goal.returns-clause-assumptions
 returns-clause-assumptions c =

@@ -17,4 +17,4 @@ loop-equation-preserved c =
     let given : c.in_ok-signature_of.field-0 ∷ [] ≡ value_in (signature_in ds e) = rw c.in_ok-signature_of.ensures.ok refl in
     let fits : signature_fault ds e ≡ None = rw c.in_ok-signature_of.ensures.ok refl in
     one_more (λ x. value_in (signature_in ds x)) (signature_fault ds) c.args.equations.now c.loop-equation.equation-index c.args.before c.loop-equation.before c.push.new.self e (omega arith) c.equation-item.is
-        (c.in_ok-push.ensures.ok ∙ ap (λ ys. c.loop-equation.before ++ ys) given) fits c.loop-equation.invariant
+    (c.in_ok-push.ensures.ok ∙ ap (λ ys. c.loop-equation.before ++ ys) given) fits c.loop-equation.invariant

@@ -33,18 +33,30 @@ returns c =
     let polys = c.in_ok-polynomials.polynomials in
     let statements = c.args.tree.now.statements in
     let given : Parts = record {
-      quiver = names.quiver; order = names.order; starred = names.starred; marked = names.marked; assumptions = polys.assumptions; sigs = signatures.assumptions;
-      claims = polys.claims; claim_sigs = signatures.claims; shapes = names.shapes; solved = names.solved;
+      quiver = names.quiver;
+      order = names.order;
+      starred = names.starred;
+      marked = names.marked;
+      assumptions = polys.assumptions;
+      sigs = signatures.assumptions;
+      claims = polys.claims;
+      claim_sigs = signatures.claims;
+      shapes = names.shapes;
+      solved = names.solved;
     } in
     let no_signature : first_among (wrong_signature names.quiver) statements ≡ None = rw (← c.as_slice-statements.ensures) c.in_ok-signatures.ensures.fits in
     let no_polynomial : first_among (wrong_polynomial names.quiver) statements ≡ None = rw (← c.as_slice-statements.ensures) c.in_ok-polynomials.ensures.fits in
     let parts : ArePartsOf statements given = record {
-      quiver = c.in_ok-names.ensures.quiver; order = c.in_ok-names.ensures.order; starred = c.in_ok-names.ensures.starred; marked = c.in_ok-names.ensures.marked;
+      quiver = c.in_ok-names.ensures.quiver;
+      order = c.in_ok-names.ensures.order;
+      starred = c.in_ok-names.ensures.starred;
+      marked = c.in_ok-names.ensures.marked;
       assumptions = rw (← c.as_slice-statements.ensures) c.in_ok-polynomials.ensures.assumptions;
       signatures = rw (← c.as_slice-statements.ensures) c.in_ok-signatures.ensures.assumptions;
       claims = rw (← c.as_slice-statements.ensures) c.in_ok-polynomials.ensures.claims;
       claim_signatures = rw (← c.as_slice-statements.ensures) c.in_ok-signatures.ensures.claims;
-      shapes = c.in_ok-names.ensures.shapes; solved = c.in_ok-names.ensures.solved;
+      shapes = c.in_ok-names.ensures.shapes;
+      solved = c.in_ok-names.ensures.solved;
     } in
     let count = claim_count names.quiver statements no_signature no_polynomial polys.claims parts.claims in
     let some : length (claims_of statements) ≢ 0 = λ none. c.if-len-eq0.false (c.len.ensures ∙ count ∙ none) in
