@@ -1,12 +1,12 @@
 -- The polynomials that the code makes itself are within the limits.
-use Rattle.std.proofs.Common.{◌≡◌, ◌≤◌, ◌<◌, ◌*◌, ◌^◌, ℕ, zero, suc, ℤ, pos, negsuc, ◌*ℤ◌, Bool, true, false, cond, List, [], ◌∷◌, length, map, Option, Some, None, Result, Ok, Err, sym, refl, ap, subst, ◌∙◌, arith}
+use Rattle.std.proofs.Common.{◌≡◌, ◌≤◌, [], ◌∷◌, length, arith}
 use Rattle.std.proofs.lemmas.List.{length-map}
 use Rattle.std.proofs.lemmas.List.Elements.{All-from_recursion, recursion_from_All}
 use Rattle.std.specs.List.{All, AllByRecursion}
 use Rattle.coef_int.specs.Range.{IsCoefficient}
 use Rattle.definitions.specs.Poly.{Poly, Term}
 use Rattle.definitions.specs.Quiver.{Quiver}
-use Rattle.definitions.specs.Generators.{adjoint_word, adjoint_poly}
+use Rattle.definitions.specs.Generators.{adjoint_poly}
 use Rattle.nc_polynomial.specs.Terms.{negated}
 use Rattle.nc_polynomial.specs.Shape.{IsCanonical}
 use Rattle.nc_polynomial.proofs.Shapes.{shaped-negated}

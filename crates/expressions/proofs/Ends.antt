@@ -1,12 +1,12 @@
 -- The ends of signatures are objects of the quiver.
-use Rattle.std.proofs.Common.{◌≡◌, ◌<◌, ℕ, Bool, true, false, cond, nat_eq, List, [], ◌∷◌, Option, Some, None, Result, Ok, Err, IfOk, refl}
+use Rattle.std.proofs.Common.{ℕ, Bool, true, false, cond, nat_eq, List, [], ◌∷◌, Option, Some, None, Result, Ok, Err, IfOk}
 use Rattle.quiver.specs.declared.named.Sig.{Sig}
 use Rattle.statement_syntax.specs.declared.place.Spot.{Spot}
 use Rattle.statement_syntax.specs.declared.tree.Mark.{Mark}
 use Rattle.statement_syntax.specs.declared.tree.Mark.TheVariants.{Adjoint}
 use Rattle.expressions.specs.declared.fault.SignatureFault.{SignatureFault}
 use Rattle.expressions.specs.declared.fault.SignatureFault.TheVariants.{NotComposable, SumMismatch}
-use Rattle.expressions.specs.Signatures.{HasObjects, from_to, same_ends, turned_by, marked_signature, composed, product_step, matched, sum_step, sides_signature}
+use Rattle.expressions.specs.Signatures.{HasObjects, from_to, same_ends, turned_by, marked_signature, product_step, sum_step}
 
 module _ (n : ℕ) where
   objects-turned_by : (m : Mark) (s : Option Sig) → HasObjects n s → HasObjects n (turned_by m s)
@@ -34,15 +34,5 @@ module _ (n : ℕ) where
   objects-sum_step (Ok (Some before)) at (Some s) h k = go (same_ends before s)
     where
       go : (b : Bool) → IfOk {E = SignatureFault} (cond b (Ok (Some before)) (Err (SumMismatch at before s))) (HasObjects n)
-      go true = h
-      go false = tt
-
-  pub objects-sides_signature : (l r : Spot) (s t : Option Sig) → HasObjects n s → HasObjects n t → IfOk (sides_signature l r s t) (λ e. (e.source.0 < n) × (e.target.0 < n))
-  objects-sides_signature l r None None h k = tt
-  objects-sides_signature l r None (Some t) h k = k
-  objects-sides_signature l r (Some s) None h k = h
-  objects-sides_signature l r (Some s) (Some t) h k = go (same_ends s t)
-    where
-      go : (b : Bool) → IfOk {E = SignatureFault} (cond b (Ok s) (Err (SumMismatch r s t))) (λ e. (e.source.0 < n) × (e.target.0 < n))
       go true = h
       go false = tt

@@ -1,5 +1,5 @@
 -- What holds of all letters that an expression writes holds of all letters of its polynomial.
-use Rattle.std.proofs.Common.{◌≡◌, ◌<◌, ℕ, Bool, true, false, ◌&&◌, ◌||◌, nat_eq, List, [], ◌∷◌, ◌++◌, Option, Some, None, Result, Ok, Err, refl, sym, ap, subst, ◌∙◌, eq-eqb}
+use Rattle.std.proofs.Common.{◌≡◌, ◌<◌, ℕ, Bool, true, false, ◌||◌, List, [], ◌∷◌, ◌++◌, Option, Some, None, Ok, refl, subst, eq-eqb}
 use Rattle.std.proofs.lemmas.Bool.{and_parts}
 use Rattle.std.proofs.lemmas.List.Elements.{All-from_recursion, recursion_from_All}
 use Rattle.std.specs.List.{All, AllByRecursion, list_any}
@@ -7,7 +7,6 @@ use Rattle.definitions.specs.Poly.{Poly, Term as term}
 use Rattle.definitions.specs.Quiver.{star}
 use Rattle.definitions.specs.Generators.{adjoint_word, adjoint_poly}
 use Rattle.definitions.proofs.StarSound.{all-append}
-use Rattle.nc_polynomial.specs.declared.fault.PolyFault.{PolyFault}
 use Rattle.word_core.specs.declared.letter.Letter.{Letter}
 use Rattle.quiver.specs.declared.named.Named.{Named}
 use Rattle.quiver.specs.declared.named.Named.TheVariants.{Object, Map}
@@ -15,16 +14,15 @@ use Rattle.quiver.specs.Declarations.{Declaration, named_in, object_count, quive
 use Rattle.quiver.proofs.Found.{is_named}
 use Rattle.statement_syntax.specs.declared.tree.Mark.{Mark}
 use Rattle.statement_syntax.specs.declared.tree.Mark.TheVariants.{Adjoint}
-use Rattle.statement_syntax.specs.declared.tree.Name.{Name}
 use Rattle.statement_syntax.specs.declared.tree.Number.{Number}
 use Rattle.statement_syntax.specs.declared.tree.Primary.{Primary, Letter as letter, Identity, Bracket}
 use Rattle.statement_syntax.specs.declared.tree.Term.{Term, Term', Row_of-Factor, end_of-Factor, more_of-Factor}
 use Rattle.statement_syntax.specs.declared.tree.Sum.{Sum, Sum', Row_of-Term, end_of-Term, more_of-Term}
 use Rattle.expressions.specs.Results.{◌>>=◌}
-use Rattle.expressions.specs.Names.{is_map, is_object, letter_number, object_number, letter_of, object_of, are_names, are_names_of_terms, are_names_of_term, are_names_of_factors, are_names_of_primary}
+use Rattle.expressions.specs.Names.{is_map, is_object, letter_number, object_number, are_names, are_names_of_terms, are_names_of_term, are_names_of_factors, are_names_of_primary}
 use Rattle.expressions.specs.Occurrences.{is_adjoint, has_mark, has_mark_in_terms, has_mark_in_term, has_mark_in_factors, has_mark_in_primary, is_the_object, has_identity, has_identity_in_terms, has_identity_in_term, has_identity_in_factors, has_identity_in_primary}
-use Rattle.expressions.specs.Polynomials.{letter_poly, adjoint_by, marked_poly, product_from, product_poly, scaled_by, Summand, signed, sum_step, sum_from, total, is_negative, sum_poly, summands, term_poly, factor_polys, primary_poly}
-use Rattle.expressions.proofs.Results.{bound, same_value}
+use Rattle.expressions.specs.Polynomials.{letter_poly, adjoint_by, marked_poly, product_from, product_poly, scaled_by, Summand, signed, sum_step, sum_from, total, sum_poly, summands, term_poly, factor_polys, primary_poly}
+use Rattle.expressions.proofs.Sequences.{bound, same_value}
 use Rattle.expressions.proofs.Words.{Words, words-negated, words-sum, words-difference, words-multiple, words-collection, words-adjoint, words-product}
 
 -- the same of the letters of all words, by recursion and by places

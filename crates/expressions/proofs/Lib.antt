@@ -1,13 +1,14 @@
+mod Examples
 pub mod Trees
-pub mod Results
+pub mod Sequences
 pub mod Ends
-pub mod Nodes
+pub mod SignatureLoops
 pub mod Words
 pub mod Canonical
 pub mod Multiples
 pub mod Letters
 pub mod Range
-pub mod PolyNodes
+pub mod PolynomialLoops
 pub mod Maps
 pub mod Written
 pub mod TypedParts

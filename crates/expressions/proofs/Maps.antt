@@ -1,6 +1,5 @@
 -- The letters of the declared maps come after the identities, and each before its adjoint.
 use Rattle.std.proofs.Common.{◌≡◌, ℕ, ◌+◌, ◌≤◌, Bool, true, false, cond, List, [], ◌∷◌, ◌++◌, length, Option, Some, sym, refl, ap, subst, ◌∙◌, arith}
-use Rattle.std.proofs.lemmas.Bool.{and_parts}
 use Rattle.std.proofs.lemmas.List.{append_assoc}
 use Rattle.std.specs.List.{list_all}
 use Rattle.std.specs.Map.{lookup}
@@ -9,7 +8,7 @@ use Rattle.definitions.specs.Quiver.{star}
 use Rattle.word_core.specs.declared.letter.Letter.{Letter}
 use Rattle.quiver.specs.declared.named.Named.{Named}
 use Rattle.quiver.specs.declared.named.Named.TheVariants.{Object, Map}
-use Rattle.quiver.specs.Declarations.{Declaration, object, arrow, letters_of, object_count, LetterEntry, letter_table, letter_at, named_in, quiver_of, is_arrow, objects_first, ObjectsFirst}
+use Rattle.quiver.specs.Declarations.{Declaration, object, arrow, letters_of, object_count, LetterEntry, letter_table, named_in, quiver_of, is_arrow, objects_first, ObjectsFirst}
 use Rattle.quiver.specs.Tables.{letter_in}
 use Rattle.quiver.proofs.Found.{is_named}
 use Rattle.quiver.proofs.Growth.{letters_from, names_from, letter_in_seam, longer}

@@ -1,8 +1,7 @@
 -- The letters of a polynomial are letters of the quiver.
-use Rattle.std.proofs.Common.{◌≡◌, ◌<◌, ℕ, true, List, [], ◌∷◌, Ok, Some, sym, subst}
-use Rattle.std.proofs.lemmas.List.Elements.{All-from_recursion, recursion_from_All}
-use Rattle.std.specs.List.{All, AllByRecursion}
-use Rattle.definitions.specs.Poly.{Poly, Term}
+use Rattle.std.proofs.Common.{◌≡◌, ◌<◌, ℕ, true, List, Ok, Some, sym, subst}
+use Rattle.std.specs.List.{All}
+use Rattle.definitions.specs.Poly.{Poly}
 use Rattle.definitions.specs.Quiver.{star}
 use Rattle.word_core.specs.declared.letter.Letter.{Letter}
 use Rattle.word_core.specs.Letters.{IsOver}
@@ -15,7 +14,6 @@ use Rattle.statement_syntax.specs.declared.tree.Mark.{Mark}
 use Rattle.statement_syntax.specs.declared.tree.Primary.{Primary}
 use Rattle.expressions.specs.Names.{are_names_of_primary}
 use Rattle.expressions.specs.Polynomials.{adjoint_by, primary_poly}
-use Rattle.expressions.proofs.Words.{Words}
 use Rattle.expressions.proofs.Letters.{letters_by_places, letters_by_recursion, over-primary, over-adjoint_by}
 
 module _ (ds : List Declaration) (declared : IsDeclared ds) where

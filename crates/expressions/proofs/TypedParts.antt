@@ -1,40 +1,25 @@
 -- The words of sums, products and adjoints are paths of their signatures.
-use Rattle.std.proofs.Common.{◌≡◌, ◌<◌, ℕ, Bool, true, false, cond, nat_eq, ◌&&◌, List, [], ◌∷◌, ◌++◌, Option, Some, None, option_map, Result, Ok, Err, refl, sym, ap, ap₂, subst, ◌∙◌, eqb-true, eq-eqb, lt-ltb}
+use Rattle.std.proofs.Common.{◌≡◌, ◌<◌, ℕ, Bool, true, false, cond, nat_eq, List, [], ◌∷◌, ◌++◌, Option, Some, None, Result, Ok, Err, refl, sym, ap, ap₂, subst, ◌∙◌, eqb-true, eq-eqb, lt-ltb}
 use Rattle.std.proofs.lemmas.Bool.{and_parts, and_from}
-use Rattle.std.specs.List.{AllByRecursion}
 use Rattle.definitions.specs.Poly.{Poly}
-use Rattle.definitions.specs.Quiver.{Quiver, IsQuiver, letters, source, target, leads, is_path, IsTyped}
+use Rattle.definitions.specs.Quiver.{Quiver, IsQuiver, letters, source, target, is_path}
 use Rattle.definitions.specs.Generators.{adjoint_word, adjoint_poly}
 use Rattle.definitions.proofs.Adjoints.{is_path-adjoint_word}
 use Rattle.definitions.proofs.Paths.{leads-append}
-use Rattle.definitions.proofs.Typed.{typed_from_terms}
-use Rattle.nc_polynomial.specs.declared.fault.PolyFault.{PolyFault}
 use Rattle.nc_polynomial.specs.Product.{product_result}
 use Rattle.quiver.specs.declared.named.Sig.{Sig}
-use Rattle.quiver.specs.declared.named.Named.{Named}
-use Rattle.quiver.specs.declared.named.Named.TheVariants.{Object, Map}
-use Rattle.quiver.specs.Declarations.{Declaration, named_in, object_count, letter_count, quiver_of, identity_in, ObjectsFirst, IsDeclared}
-use Rattle.quiver.proofs.Counts.{letters-quiver_of}
-use Rattle.quiver.proofs.Found.{is_named}
-use Rattle.quiver.proofs.Identities.{identity_is, is_quiver}
 use Rattle.statement_syntax.specs.declared.place.Spot.{Spot}
 use Rattle.statement_syntax.specs.declared.tree.Mark.{Mark}
 use Rattle.statement_syntax.specs.declared.tree.Mark.TheVariants.{Adjoint}
-use Rattle.statement_syntax.specs.declared.tree.Primary.{Primary, Letter, Identity, Bracket}
-use Rattle.statement_syntax.specs.declared.tree.Term.{Term, Term', Row_of-Factor, end_of-Factor, more_of-Factor}
-use Rattle.statement_syntax.specs.declared.tree.Sum.{Sum, Sum', Row_of-Term, end_of-Term, more_of-Term}
 use Rattle.expressions.specs.declared.fault.SignatureFault.{SignatureFault}
-use Rattle.expressions.specs.declared.fault.SignatureFault.TheVariants.{NotComposable, SumMismatch, OpenZero}
-use Rattle.expressions.specs.Results.{◌>>=◌}
-use Rattle.expressions.specs.Names.{is_map, is_object, letter_number, object_number, letter_of, object_of, are_names, are_names_of_terms, are_names_of_term, are_names_of_factors, are_names_of_primary}
+use Rattle.expressions.specs.declared.fault.SignatureFault.TheVariants.{NotComposable, SumMismatch}
 use Rattle.expressions.specs.Signatures as signatures
 use Rattle.expressions.specs.Signatures.{Part, from_to, letter_signature, same_ends, turned_by, marked_signature, sides_signature, equation_signature, sum_at}
 use Rattle.expressions.specs.Polynomials as polynomials
 use Rattle.expressions.specs.Polynomials.{letter_poly, adjoint_by, marked_poly, scaled_by, Summand, signed, equation_poly}
-use Rattle.expressions.specs.Laws.{EquationsAreTyped}
-use Rattle.expressions.proofs.Results.{bound, same_value}
-use Rattle.expressions.proofs.Words.{Words, weaker, words-difference, words-collection, words-adjoint, words-product}
-use Rattle.expressions.proofs.Letters.{words-signed, words-sum_step, words-scaled_by}
+use Rattle.expressions.proofs.Sequences.{bound, same_value}
+use Rattle.expressions.proofs.Words.{Words, weaker, words-collection, words-adjoint, words-product}
+use Rattle.expressions.proofs.Letters.{words-signed, words-sum_step}
 
 pub no_fault : {A : Type 0} (x : A) (f : SignatureFault) → ◌≡◌ {A = Result A SignatureFault} (Err f) (Ok x) → ⊥
 no_fault x f h = cc

@@ -1,8 +1,8 @@
 -- The letters of an equation's polynomial are those that the equation writes.
-use Rattle.std.proofs.Common.{◌≡◌, ◌<◌, ◌≤◌, ℕ, Bool, true, false, ◌||◌, List, Ok, Some, refl, sym, ap, subst, ◌∙◌, arith}
+use Rattle.std.proofs.Common.{◌≡◌, ◌<◌, ℕ, true, ◌||◌, List, Ok, Some, sym, subst, ◌∙◌, arith}
 use Rattle.std.specs.List.{All, AllByRecursion}
 use Rattle.definitions.specs.Poly.{Poly}
-use Rattle.definitions.specs.Quiver.{star, letters, IsQuiver}
+use Rattle.definitions.specs.Quiver.{star, letters}
 use Rattle.nc_polynomial.specs.Arithmetic.{difference_result}
 use Rattle.word_core.specs.declared.letter.Letter.{Letter}
 use Rattle.quiver.specs.declared.named.Named.TheVariants.{Map}
@@ -16,7 +16,7 @@ use Rattle.expressions.specs.Names.{are_names}
 use Rattle.expressions.specs.Occurrences.{has_mark, has_identity}
 use Rattle.expressions.specs.Polynomials.{sum_poly, equation_poly}
 use Rattle.expressions.specs.Laws.{IsWritten, LettersAreWritten}
-use Rattle.expressions.proofs.Results.{bound}
+use Rattle.expressions.proofs.Sequences.{bound}
 use Rattle.expressions.proofs.Words.{words-difference}
 use Rattle.expressions.proofs.Letters.{left_of, right_of, over-sum, letters_by_places}
 use Rattle.expressions.proofs.Maps.{map_after_objects, map_before_adjoint}

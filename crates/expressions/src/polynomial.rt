@@ -32,7 +32,8 @@ pub fn equation_poly(
     requires right_names { AreNames quiver.now right.now }
     ensures exact { MatchResult result (λ p. equation_poly quiver.now left.now right.now ≡ Ok p.terms) (Explains (equation_poly quiver.now left.now right.now)) }
 {
-    let _objects = quiver.objects();
+    // A quiver is made of declarations, so the adjoints of its letters are letters.
+    prove!(quiver.objects() <= 64);
     let minuend = sum_poly(alloc, quiver, left)?;
     let subtrahend = sum_poly(alloc, quiver, right)?;
     add_summand(alloc, minuend, true, subtrahend)

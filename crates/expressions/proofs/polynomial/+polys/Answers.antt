@@ -1,11 +1,11 @@
-use Rattle.std.proofs.Common.{◌≡◌, ◌≤◌, length, ◌++◌, ◌∷◌, [], Ok, Err, rules, sym, ap, ◌∙◌, arith}
+use Rattle.std.proofs.Common.{◌≡◌, Ok, Err, rules, ◌∙◌}
 use Rattle.statement_syntax.specs.declared.tree.Sum.{the_lemmas}
 use Rattle.nc_polynomial.specs.Faults.{Explains}
 use Rattle.quiver.specs.Declarations.{quiver_of}
 use Rattle.expressions.specs.Polynomials.{term_poly, factor_poly, primary_poly, product_poly}
 use Rattle.expressions.proofs.Trees.{names_of_the_term, names_of_the_factor}
 use Rattle.expressions.proofs.Range.{in_range-primary, in_range-adjoint_by}
-use Rattle.expressions.proofs.PolyNodes.{polys_of, sum-end, sum-fault, sum-next, product-end, product-end_fault, product-fault, product-next, factor-first, factor-next}
+use Rattle.expressions.proofs.PolynomialLoops.{polys_of, sum-end, sum-fault, sum-next, product-end, product-end_fault, product-fault, product-next, factor-first, factor-next}
 use Rattle.expressions.proofs.polynomial.+polys.Goals as goal
 
 -- ---- a factor

@@ -1,5 +1,5 @@
 -- The loops over the terms of a sum, the factors of a term and the marks of a factor, which come to their polynomial.
-use Rattle.std.proofs.Common.{◌≡◌, ◌<◌, ◌≤◌, ◌+◌, ℕ, List, [], ◌∷◌, ◌++◌, length, map, drop, get_or, Bool, Option, Result, Ok, Err, MatchResult, refl, sym, ap, ap₂, subst, ◌∙◌}
+use Rattle.std.proofs.Common.{◌≡◌, ◌<◌, ◌≤◌, ◌+◌, ℕ, List, [], ◌∷◌, ◌++◌, length, map, drop, get_or, Bool, Result, Ok, Err, MatchResult, sym, ap, subst, ◌∙◌}
 use Rattle.std.proofs.lemmas.List.{map-append, drop_more}
 use Rattle.definitions.specs.Poly.{Poly}
 use Rattle.definitions.specs.Quiver.{Quiver}
@@ -9,14 +9,13 @@ use Rattle.nc_polynomial.specs.declared.poly.Poly as code
 use Rattle.nc_polynomial.specs.Faults.{Explains}
 use Rattle.quiver.specs.Declarations.{Declaration, quiver_of}
 use Rattle.statement_syntax.specs.declared.tree.Mark.{Mark}
-use Rattle.statement_syntax.specs.declared.tree.Number.{Number}
 use Rattle.statement_syntax.specs.declared.tree.Factor.{Factor}
 use Rattle.statement_syntax.specs.declared.tree.Term.{Term, out-Term}
 use Rattle.statement_syntax.specs.declared.tree.Sum.{Sum, out-Sum}
 use Rattle.expressions.specs.Results.{◌>>=◌}
 use Rattle.expressions.specs.Polynomials.{adjoint_by, marked_poly, product_poly, scaled_by, Summand, total, is_negative, sum_poly, term_poly, factor_poly, primary_poly}
 use Rattle.expressions.proofs.Trees.{each, summand, poly-sum, poly-term, sign-term}
-use Rattle.expressions.proofs.Results.{made-next, made-fault, made-end}
+use Rattle.expressions.proofs.Sequences.{made-next, made-fault, made-end}
 
 -- a fault that is passed on is explained by what it comes from
 pub explains-on : {A B : Type 0} (r : Result A PolyFault) (s : Result B PolyFault) (e : PolyFault) → ((f : PolyFault) → r ≡ Err f → s ≡ Err f) → Explains r e → Explains s e
@@ -37,8 +36,7 @@ polys_of ps = map (λ p. p.terms) ps
 
 -- ---- a sum
 module _ (ds : List Declaration) (s : Sum) (terms : List Term) (whole : terms ≡ (out-Sum s).terms) (i : ℕ) (made : List (Bool × code.Poly))
-  (before : (each (summand ds) (drop i terms) >>= λ rest. Ok (summands_of made ++ rest)) ≡ each (summand ds) terms) where
-
+    (before : (each (summand ds) (drop i terms) >>= λ rest. Ok (summands_of made ++ rest)) ≡ each (summand ds) terms) where
   sum_is : sum_poly ds s ≡ (each (summand ds) terms >>= total)
   sum_is = poly-sum ds s ∙ ap (λ ts. each (summand ds) ts >>= total) (sym whole)
 
@@ -61,8 +59,7 @@ module _ (ds : List Declaration) (s : Sum) (terms : List Term) (whole : terms �
 
 -- ---- a product
 module _ (ds : List Declaration) (t : Term) (factors : List Factor) (whole : factors ≡ (out-Term t).factors) (i : ℕ) (made : List code.Poly)
-  (before : (each (factor_poly ds) (drop i factors) >>= λ rest. Ok (polys_of made ++ rest)) ≡ each (factor_poly ds) factors) where
-
+    (before : (each (factor_poly ds) (drop i factors) >>= λ rest. Ok (polys_of made ++ rest)) ≡ each (factor_poly ds) factors) where
   product_is : term_poly ds t ≡ ((each (factor_poly ds) factors >>= product_poly) >>= scaled_by (out-Term t).literal)
   product_is = poly-term ds t ∙ ap (λ fs. (each (factor_poly ds) fs >>= product_poly) >>= scaled_by (out-Term t).literal) (sym whole)
 

@@ -1,5 +1,5 @@
 -- The loops over the terms of a sum and the factors of a term, which come to their signature.
-use Rattle.std.proofs.Common.{◌≡◌, ◌≢◌, ◌<◌, ◌≤◌, ◌+◌, ℕ, zero, suc, List, [], ◌∷◌, length, drop, get_or, Option, None, Result, Ok, Err, refl, sym, ap, ap₂, ◌∙◌, arith}
+use Rattle.std.proofs.Common.{◌≡◌, ◌≢◌, ◌<◌, ◌≤◌, ◌+◌, ℕ, List, [], ◌∷◌, length, drop, get_or, Option, None, Result, Ok, Err, refl, sym, ap, ◌∙◌, arith}
 use Rattle.quiver.specs.declared.named.Sig.{Sig}
 use Rattle.quiver.specs.Declarations.{Declaration}
 use Rattle.statement_syntax.specs.declared.place.Spot.{Spot}
@@ -10,7 +10,7 @@ use Rattle.expressions.specs.declared.fault.SignatureFault.{SignatureFault}
 use Rattle.expressions.specs.Results.{◌>>=◌}
 use Rattle.expressions.specs.Signatures.{Part, product_from, product_signature, product_step, sum_from, sum_step, sum_signature, term_signature, term_at, factor_signature, marked_signature, primary_signature}
 use Rattle.expressions.proofs.Trees.{each, factor_part, term_part, signature-sum, signature-term, place-term}
-use Rattle.expressions.proofs.Results.{loop-next, loop-fault, loop-end}
+use Rattle.expressions.proofs.Sequences.{loop-next, loop-fault, loop-end}
 
 -- a part at this place
 abbrev placed : Spot → Option Sig → Result Part SignatureFault

@@ -1,5 +1,5 @@
 -- One result after another, and the results for all items of a list.
-use Rattle.std.proofs.Common.{◌≡◌, ◌≢◌, ◌<◌, ◌≤◌, ◌+◌, ℕ, List, [], ◌∷◌, ◌++◌, length, drop, get_or, Result, Ok, Err, refl, sym, ap, ◌∙◌, append_assoc}
+use Rattle.std.proofs.Common.{◌≡◌, ◌<◌, ◌≤◌, ◌+◌, ℕ, List, [], ◌∷◌, ◌++◌, length, drop, get_or, Result, Ok, Err, refl, sym, ap, ◌∙◌, append_assoc}
 use Rattle.nc_polynomial.proofs.Steps.{drop_next}
 use Rattle.std.proofs.lemmas.List.{append-nil, drop_all}
 use Rattle.expressions.specs.Results.{◌>>=◌}
