@@ -1,12 +1,12 @@
 -- The statement of the tests meets the conditions.
-use Rattle.std.proofs.Common.{◌≡◌, ◌≢◌, ℕ, zero, suc, ◌<◌, ℤ, pos, negsuc, true, false, List, [], ◌∷◌, length, get_or, map, refl, sym, ap, subst, arith}
+use Rattle.std.proofs.Common.{◌≡◌, ◌≢◌, ℕ, zero, suc, ◌<◌, ℤ, pos, negsuc, true, false, List, [], ◌∷◌, get_or, map, refl, sym, ap, subst, arith}
 use Rattle.std.specs.List.{All, AllPairs}
 use Rattle.std.proofs.lemmas.List.Elements.{All-nil, All-from_recursion}
 use Rattle.definitions.specs.Quiver.{IsTyped}
 use Rattle.definitions.proofs.Typed.{typed_from_terms}
 use Rattle.word_orders.specs.declared.any.OrderSpec.TheVariants.{Degree}
 use Rattle.nc_polynomial.specs.declared.poly.Poly.{Poly}
-use Rattle.quiver.specs.Declarations.{Declaration, object, arrow, name_of, quiver_of, IsDeclared}
+use Rattle.quiver.specs.Declarations.{Declaration, object, arrow, name_of, quiver_of}
 use Rattle.adjoint_rules.specs.declared.parts.Parts.{Parts}
 use Rattle.adjoint_rules.specs.Problem.{IsInPlay, IsSide, IsShape, HasObjects, HasLettersInPlay, IsPosed}
 

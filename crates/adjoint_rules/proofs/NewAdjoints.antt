@@ -1,5 +1,5 @@
 -- The adjoint of a polynomial, unless it is plus or minus the polynomial.
-use Rattle.std.proofs.Common.{◌≡◌, ℕ, ℤ, negsuc, neg_ℤ, ◌≤◌, Bool, true, false, cond, ◌||◌, ◌⊎◌, inl, inr, List, [], ◌∷◌, ◌++◌, length, map, sym, refl, ap, ap₂, subst, ◌∙◌}
+use Rattle.std.proofs.Common.{◌≡◌, negsuc, neg_ℤ, ◌≤◌, true, false, cond, ◌||◌, List, [], ◌∷◌, ◌++◌, length, sym, ap, ap₂, subst}
 use Rattle.std.proofs.lemmas.Bool.{or_left, or_right, false_from_ne_true}
 use Rattle.std.proofs.lemmas.List.{length-map}
 use Rattle.std.proofs.lemmas.List.Elements.{All-map}

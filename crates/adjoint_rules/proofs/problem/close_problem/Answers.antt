@@ -1,4 +1,4 @@
-use Rattle.std.proofs.Common.{◌≡◌, ◌++◌, sym, ap, subst, append_assoc}
+use Rattle.std.proofs.Common.{◌++◌, sym, subst, append_assoc}
 use Rattle.std.specs.List.{AllZip}
 use Rattle.definitions.specs.Poly.{SamePolynomial}
 use Rattle.adjoint_rules.specs.Problem.{polynomials, IsClosed, generators_in}

@@ -1,7 +1,6 @@
 use Rattle.std.proofs.Common.{◌≡◌, true, ℕ, List, [], ◌∷◌, ◌++◌, sym, ap, subst, ◌∙◌}
 use Rattle.word_orders.specs.declared.any.OrderSpec.TheVariants.{Degree}
 use Rattle.adjoint_rules.specs.declared.parts.Shape.{Shape}
-use Rattle.adjoint_rules.specs.declared.parts.Parts.{Parts}
 use Rattle.adjoint_rules.specs.Problem.{IsPosed}
 use Rattle.adjoint_rules.proofs.LoopStatement.{loop_parts, posed_loop}
 use Rattle.adjoint_rules.proofs.tests.parts.Goals as goal
