@@ -134,8 +134,8 @@ module _ (kind : List ℕ → Option Kind) (before : List Occurrence) (s : Surve
   behind_agrees (declares_map n u v selfmade) good =
       let o = declares_map n u v selfmade in
       let room : nat_lt s.maps 1 ≡ false =
-          not_short s.maps 1 (TooMany n.at 200) (new_then_room (is_some (kind_in s.declared n.text)) (Double n.at) _
-          (or_else_none (declared_fault s.declared s.maps 200 n) (selfmade && are_two_objects (kind_in s.kinds) u v) (NotSquare n.at) good)) in
+      not_short s.maps 1 (TooMany n.at 200) (new_then_room (is_some (kind_in s.declared n.text)) (Double n.at) _
+      (or_else_none (declared_fault s.declared s.maps 200 n) (selfmade && are_two_objects (kind_in s.kinds) u v) (NotSquare n.at) good)) in
       record {
         kinds = agrees.kinds;
         declared = ap (λ ds. ds ++ (n.text, Map) ∷ []) agrees.declared ∙ sym (declared_push o);

@@ -15,7 +15,7 @@ term_names t = used_names (term_uses t)
 abbrev pub factor_names : Factor → List Occurrence
 factor_names f = used_names (primary_uses f.primary)
 
-used_names-append : (us vs : List Use) → used_names (us ++ vs) ≡ used_names us ++ used_names vs
+pub used_names-append : (us vs : List Use) → used_names (us ++ vs) ≡ used_names us ++ used_names vs
 used_names-append us vs = map-append _ us vs
 
 names-factors : (n : _) (k : Row_of-Factor n) → used_names (factors_uses k) ≡ flat_map factor_names (items-the_row-Factor n k)

@@ -9,6 +9,7 @@ use Rattle.std.proofs.lemmas.List.{map-append, take_more, append-nil}
 use Rattle.std.proofs.lemmas.Slice.Eq.{bytes_eq-Decides}
 use Rattle.statement_names.specs.declared.kinds.Kind.{Kind}
 use Rattle.statement_names.specs.Faults.{kind_in}
+use Rattle.statement_names.proofs.Items.{map_next, flat_next}
 use Rattle.statement_syntax.specs.declared.tree.Name.{Name}
 use Rattle.statement_syntax.specs.declared.tree.Statement.{Statement}
 use Rattle.statement_names.specs.Survey.{with_kind, kinded, kinds_by, SameKinds}
@@ -41,6 +42,7 @@ kind_in-with_kind declared name kind q = by (is_some (kind_in declared name)) re
     over (Some k) b there = refl
     over None true there = absurd (let no = there refl in cc)
     over None false there = refl
+
     by : (there : Bool) → is_some (kind_in declared name) ≡ there → kind_in (if there then declared else declared ++ (name, kind) ∷ []) q ≡ kind_in (declared ++ (name, kind) ∷ []) q
     by false is = refl
     by true is =
@@ -51,28 +53,15 @@ kind_in-with_kind declared name kind q = by (is_some (kind_in declared name)) re
 pub same-append : (xs ys zs : List (List ℕ × Kind)) → SameKinds xs ys → SameKinds (xs ++ zs) (ys ++ zs)
 same-append xs ys zs same q = kind_in-append xs zs q ∙ ap (λ found. option_or found (kind_in zs q)) (same q) ∙ sym (kind_in-append ys zs q)
 
--- the next of some items behind others
-pub map-take_next : {A B : Type 0} (f : A → B) (front : List B) (items : List A) (i : ℕ) (x : A) → i < length items → x ≡ get_or items i x
-    → (front ++ map f (take i items)) ++ f x ∷ [] ≡ front ++ map f (take (i + 1) items)
-map-take_next f front items i x below at =
-    append_assoc front (map f (take i items)) (f x ∷ [])
-    ∙ ap (λ xs. front ++ xs) (sym (map-append f (take i items) (x ∷ [])) ∙ ap (λ y. map f (take i items ++ y ∷ [])) at ∙ ap (map f) (sym (take_more items i x below)))
-
-pub flat_map-take_next : {A B : Type 0} (f : A → List B) (items : List A) (i : ℕ) (x : A) → i < length items → x ≡ get_or items i x
-    → flat_map f (take (i + 1) items) ≡ flat_map f (take i items) ++ f x
-flat_map-take_next f items i x below at =
-    ap (flat_map f) (take_more items i x below) ∙ ap (λ y. flat_map f (take i items ++ y ∷ [])) (sym at)
-    ∙ flat_map-append f (take i items) (x ∷ []) ∙ ap (λ ys. flat_map f (take i items) ++ ys) (append-nil (f x))
-
 pub name_put : (kinds new front : List (List ℕ × Kind)) (kind : Kind) (names : List Name) (i : ℕ) (n : Name) → i < length names → n ≡ get_or names i n
     → SameKinds kinds (front ++ kinded kind (take i names)) → new ≡ with_kind kinds n.text kind → SameKinds new (front ++ kinded kind (take (i + 1) names))
 name_put kinds new front kind names i n below at so_far is q =
     ap (λ ks. kind_in ks q) is ∙ kind_in-with_kind kinds n.text kind q
     ∙ same-append kinds (front ++ kinded kind (take i names)) ((n.text, kind) ∷ []) so_far q
-    ∙ ap (λ ks. kind_in ks q) (map-take_next (λ n. (n.text, kind)) front names i n below at)
+    ∙ ap (λ ks. kind_in ks q) (map_next names i n below at (λ n. (n.text, kind)) front)
 
 pub statement_put : (kinds new : List (List ℕ × Kind)) (statements : List Statement) (i : ℕ) (s : Statement) → i < length statements → s ≡ get_or statements i s
     → SameKinds kinds (flat_map (λ s. kinds_by s.kind) (take i statements)) → SameKinds new (kinds ++ kinds_by s.kind) → SameKinds new (flat_map (λ s. kinds_by s.kind) (take (i + 1) statements))
 statement_put kinds new statements i s below at so_far is q =
     is q ∙ same-append kinds (flat_map (λ s. kinds_by s.kind) (take i statements)) (kinds_by s.kind) so_far q
-    ∙ ap (λ ks. kind_in ks q) (sym (flat_map-take_next (λ s. kinds_by s.kind) statements i s below at))
+    ∙ ap (λ ks. kind_in ks q) (sym (flat_next statements i s below at (λ s. kinds_by s.kind)))

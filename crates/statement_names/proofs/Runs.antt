@@ -6,6 +6,7 @@ use Rattle.statement_names.specs.declared.fault.NameFault.TheVariants.{Unknown, 
 use Rattle.statement_names.specs.declared.survey.Survey.{Survey}
 use Rattle.statement_names.specs.Occurrences.{Occurrence}
 use Rattle.statement_names.specs.Faults.{Explains}
+use Rattle.statement_names.proofs.Items.{rest_is}
 use Rattle.statement_names.specs.Survey.{fault_at, behind, goes_on, run, fault_in}
 
 -- ---- one fault for another
@@ -49,15 +50,12 @@ run_stops s xs ys = explained (fault_in (run s xs)) (fault_in (run s (xs ++ ys))
 
 -- ---- the occurrences of items, one after another
 module _ {A : Type 0} (of : A → List Occurrence) (items : List A) (i : ℕ) (x : A) (below : i < length items) (at : x ≡ get_or items i x) where
-  pub rest_is : drop i items ≡ x ∷ drop (i + 1) items
-  rest_is = drop-cons items i x below ∙ ap (λ n. get_or items i x ∷ drop n items) (sym (add-one i)) ∙ ap (λ y. y ∷ drop (i + 1) items) (sym at)
-
   pub items_on : (first s t : Survey) → run s (flat_map of (drop i items)) ≡ run first (flat_map of items) → run s (of x) ≡ Ok t
       → run t (flat_map of (drop (i + 1) items)) ≡ run first (flat_map of items)
-  items_on first s t so_far is = sym (run_on s t (of x) (flat_map of (drop (i + 1) items)) is) ∙ sym (ap (λ xs. run s (flat_map of xs)) rest_is) ∙ so_far
+  items_on first s t so_far is = sym (run_on s t (of x) (flat_map of (drop (i + 1) items)) is) ∙ sym (ap (λ xs. run s (flat_map of xs)) (rest_is items i x below at)) ∙ so_far
 
   pub items_stop : (first s : Survey) (fault : NameFault) → run s (flat_map of (drop i items)) ≡ run first (flat_map of items) → Explains (fault_in (run s (of x))) fault
       → Explains (fault_in (run first (flat_map of items))) fault
   items_stop first s fault so_far is =
-      subst (λ r. Explains (fault_in r) fault) (sym (ap (λ xs. run s (flat_map of xs)) rest_is) ∙ so_far)
+      subst (λ r. Explains (fault_in r) fault) (sym (ap (λ xs. run s (flat_map of xs)) (rest_is items i x below at)) ∙ so_far)
       (run_stops s (of x) (flat_map of (drop (i + 1) items)) fault is)

@@ -8,4 +8,5 @@ pub mod Ordered
 pub mod Solved
 pub mod Marked
 pub mod Shapes
+pub mod Marks
 pub mod Ready

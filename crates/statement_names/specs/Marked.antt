@@ -1,6 +1,6 @@
 -- Whether a file is starred, and which objects it marks.
 use Rattle.std.specs.Prelude.{ℕ, Bool, true, false, ◌||◌, List, ◌++◌, map}
-use Rattle.std.specs.List.{list_any}
+use Rattle.std.specs.List.{flat_map, list_any}
 use Rattle.quiver.specs.Declarations.{Declaration, object_count}
 use Rattle.expressions.specs.Occurrences.{has_mark, has_identity}
 use Rattle.statement_syntax.specs.declared.tree.Statement.{Statement}
@@ -9,7 +9,7 @@ use Rattle.statement_syntax.specs.declared.tree.StatementKind.TheVariants as sta
 use Rattle.word_core.specs.declared.letter.Object.{Object}
 use Rattle.statement_names.specs.declared.written.Equation.{Equation}
 use Rattle.statement_names.specs.Solved.{numbers_that}
-use Rattle.statement_names.specs.Written.{assumptions_of, claims_of}
+use Rattle.statement_names.specs.Written.{equations_of, claims_in}
 
 -- whether a mark or the word `self` stands in a statement, abbreviations written out
 abbrev pub is_starred_in : StatementKind → Bool
@@ -23,13 +23,19 @@ is_starred_in kind = false
 abbrev pub is_starred : List Statement → Bool
 is_starred statements = list_any (λ s. is_starred_in s.kind) statements
 
--- all equations of the file, those of its claims too
-abbrev pub all_equations : List Declaration → List Statement → List Equation
-all_equations ds statements = assumptions_of ds statements ++ claims_of statements
+-- the assumptions and claims of a statement, and of the file
+abbrev pub stated_by : List Declaration → Statement → List Equation
+stated_by ds s = equations_of ds s ++ claims_in s.kind
 
--- whether the identity of an object stands in one
+abbrev pub all_equations : List Declaration → List Statement → List Equation
+all_equations ds statements = flat_map (stated_by ds) statements
+
+-- whether the identity of an object stands in an equation
+abbrev pub writes_identity : List Declaration → ℕ → Equation → Bool
+writes_identity ds v e = has_identity ds v e.left || has_identity ds v e.right
+
 abbrev pub is_marked : List Declaration → List Statement → ℕ → Bool
-is_marked ds statements v = list_any (λ e. has_identity ds v e.left || has_identity ds v e.right) (all_equations ds statements)
+is_marked ds statements v = list_any (writes_identity ds v) (all_equations ds statements)
 
 abbrev pub an_object : ℕ → Object
 an_object v = record { 0 = v }

@@ -32,8 +32,8 @@ pub record IsReady (ds : List Declaration) (statements : List Statement) : Type 
   pub marked_objects : All (λ v. v.0 < object_count ds) (marked_of ds statements)
   pub marked_ascending : AllPairs (λ v w. v.0 < w.0) (marked_of ds statements)
   -- the models that are looked for
-  pub some_shape : 1 ≤ length (shapes_of statements)
-  pub few_shapes : length (shapes_of statements) ≤ 16
-  pub shapes : All (IsShape (object_count ds)) (shapes_of statements)
+  pub some_shape : 1 ≤ length (shapes_of ds statements)
+  pub few_shapes : length (shapes_of ds statements) ≤ 16
+  pub shapes : All (IsShape (object_count ds)) (shapes_of ds statements)
   pub solved_maps : All (IsDeclaredMap ds) (solved_of ds statements)
   pub solved_ascending : AllPairs (λ a b. a.0 < b.0) (solved_of ds statements)

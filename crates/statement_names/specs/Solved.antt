@@ -1,12 +1,13 @@
 -- The letters that a file solves for.
-use Rattle.std.specs.Prelude.{ℕ, Bool, nat_eq, List, [], ◌∷◌, map, filter}
+use Rattle.std.specs.Prelude.{ℕ, Bool, false, nat_eq, List, [], ◌∷◌, map, filter, Option, Some}
 use Rattle.std.specs.List.{flat_map, list_any, range_with_len}
-use Rattle.quiver.specs.Declarations.{Declaration, letter_count}
+use Rattle.quiver.specs.declared.named.Named.{Named}
+use Rattle.quiver.specs.declared.named.Named.TheVariants.{Map}
+use Rattle.quiver.specs.Declarations.{Declaration, letter_count, named_in}
 use Rattle.statement_syntax.specs.declared.tree.Name.{Name}
 use Rattle.statement_syntax.specs.declared.tree.Statement.{Statement}
 use Rattle.statement_syntax.specs.declared.tree.StatementKind.{StatementKind}
 use Rattle.statement_syntax.specs.declared.tree.StatementKind.TheVariants as statement
-use Rattle.expressions.specs.Names.{letter_of}
 use Rattle.word_core.specs.declared.letter.Letter.{Letter}
 use Rattle.statement_names.specs.Ordered.{letter}
 
@@ -25,8 +26,16 @@ solved_in kind = []
 abbrev pub solved_names : List Statement → List Name
 solved_names statements = flat_map (λ s. solved_in s.kind) statements
 
+-- whether the name stands for the letter
+abbrev pub is_the_letter : ℕ → Option Named → Bool
+is_the_letter a (Some (Map b)) = nat_eq b.0 a
+is_the_letter a found = false
+
+abbrev pub names_letter : List Declaration → ℕ → Name → Bool
+names_letter ds a name = is_the_letter a (named_in ds name.text)
+
 abbrev pub is_solved : List Declaration → List Statement → ℕ → Bool
-is_solved ds statements a = list_any (λ name. nat_eq (letter_of ds name) a) (solved_names statements)
+is_solved ds statements a = list_any (names_letter ds a) (solved_names statements)
 
 -- their letters, each once, ascending
 abbrev pub solved_of : List Declaration → List Statement → List Letter

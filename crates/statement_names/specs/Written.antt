@@ -1,5 +1,5 @@
 -- The equations that a statement stands for, abbreviations written out.
-use Rattle.std.specs.Prelude.{ℕ, false, List, [], ◌∷◌, map, None}
+use Rattle.std.specs.Prelude.{ℕ, false, List, [], ◌∷◌, map, Option, Some, None}
 use Rattle.std.specs.List.{flat_map}
 use Rattle.statement_syntax.specs.declared.place.Spot.{Spot}
 use Rattle.statement_syntax.specs.declared.tree.Factor.{Factor}
@@ -12,9 +12,10 @@ use Rattle.statement_syntax.specs.declared.tree.StatementKind.TheVariants as sta
 use Rattle.statement_syntax.specs.declared.tree.Sum.{Sum}
 use Rattle.statement_syntax.specs.Steps.{name_with, factor_of, term_of, sum_of}
 use Rattle.definitions.specs.Quiver.{source, target}
-use Rattle.quiver.specs.Declarations.{Declaration, quiver_of, object_name}
+use Rattle.quiver.specs.declared.named.Named.{Named}
+use Rattle.quiver.specs.declared.named.Named.TheVariants.{Map}
+use Rattle.quiver.specs.Declarations.{Declaration, quiver_of, named_in, object_name}
 use Rattle.statement_names.specs.declared.written.Equation.{Equation}
-use Rattle.expressions.specs.Names.{letter_of}
 
 -- ---- expressions, all of whose tokens are at one place
 
@@ -23,6 +24,9 @@ letter_at at name = factor_of at (Letter (name_with name at)) []
 
 abbrev pub identity_at : Spot → List ℕ → Factor
 identity_at at name = factor_of at (Identity (name_with name at)) []
+
+abbrev pub marked_letter : Spot → List ℕ → Factor
+marked_letter at name = factor_of at (Letter (name_with name at)) (Adjoint ∷ [])
 
 abbrev pub product_at : Spot → List Factor → Sum
 product_at at factors = sum_of at (term_of at false None factors ∷ [])
@@ -51,27 +55,36 @@ adjoint_equation at names = equation (adjoint_at at names) (word_at at names)
 abbrev pub identity_equation : Spot → List (List ℕ) → List ℕ → Equation
 identity_equation at names v = equation (word_at at names) (product_at at (identity_at at v ∷ []))
 
--- the names of the target and the source of a map
-abbrev pub target_name : List Declaration → Name → List ℕ
-target_name ds a = object_name ds (target (quiver_of ds) (letter_of ds a))
+-- the name of an end of a map; a name that stands for no map has none
+abbrev pub end_name : List Declaration → (ℕ → ℕ) → Option Named → List ℕ
+end_name ds end (Some (Map a)) = object_name ds (end a.0)
+end_name ds end found = []
 
 abbrev pub source_name : List Declaration → Name → List ℕ
-source_name ds a = object_name ds (source (quiver_of ds) (letter_of ds a))
+source_name ds a = end_name ds (source (quiver_of ds)) (named_in ds a.text)
+
+abbrev pub target_name : List Declaration → Name → List ℕ
+target_name ds a = end_name ds (target (quiver_of ds)) (named_in ds a.text)
+
+-- a x a = a, x a x = x, (a x)' = a x, (x a)' = x a
+abbrev pub pinv_equations : Spot → List ℕ → List ℕ → List Equation
+pinv_equations at a x =
+    inner_equation at a x ∷ inner_equation at x a ∷ adjoint_equation at (a ∷ x ∷ []) ∷ adjoint_equation at (x ∷ a ∷ []) ∷ []
+
+-- a x = [T], x a = [S], where a leads from S to T
+abbrev pub inverse_equations : Spot → List ℕ → List ℕ → List ℕ → List ℕ → List Equation
+inverse_equations at a x s t = identity_equation at (a ∷ x ∷ []) t ∷ identity_equation at (x ∷ a ∷ []) s ∷ []
+
+-- p p = p, p' = p
+abbrev pub projection_equations : Spot → List ℕ → List Equation
+projection_equations at p =
+    equation (word_at at (p ∷ p ∷ [])) (word_at at (p ∷ [])) ∷ equation (product_at at (marked_letter at p ∷ [])) (word_at at (p ∷ [])) ∷ []
 
 abbrev pub abbreviation_of : List Declaration → Spot → StatementKind → List Equation
--- a x a = a, x a x = x, (a x)' = a x, (x a)' = x a
-abbreviation_of ds at (statement.Pinv a x) =
-    inner_equation at a.text x.text ∷ inner_equation at x.text a.text
-    ∷ adjoint_equation at (a.text ∷ x.text ∷ []) ∷ adjoint_equation at (x.text ∷ a.text ∷ []) ∷ []
--- a x = [T], x a = [S], from the source S to the target T of a
-abbreviation_of ds at (statement.Inverse a x) =
-    identity_equation at (a.text ∷ x.text ∷ []) (target_name ds a) ∷ identity_equation at (x.text ∷ a.text ∷ []) (source_name ds a) ∷ []
--- a x a = a
+abbreviation_of ds at (statement.Pinv a x) = pinv_equations at a.text x.text
+abbreviation_of ds at (statement.Inverse a x) = inverse_equations at a.text x.text (source_name ds a) (target_name ds a)
 abbreviation_of ds at (statement.Inner a x) = inner_equation at a.text x.text ∷ []
--- p p = p, p' = p
-abbreviation_of ds at (statement.Projection p) =
-    equation (word_at at (p.text ∷ p.text ∷ [])) (word_at at (p.text ∷ []))
-    ∷ equation (product_at at (factor_of at (Letter (name_with p.text at)) (Adjoint ∷ []) ∷ [])) (word_at at (p.text ∷ [])) ∷ []
+abbreviation_of ds at (statement.Projection p) = projection_equations at p.text
 abbreviation_of ds at kind = []
 
 -- the assumptions of a statement, and of a file

@@ -7,12 +7,19 @@ ghost use Rattle.statement_names.specs.Marked.{is_starred, marked_of};
 ghost use Rattle.statement_names.specs.Shapes.{shapes_of};
 ghost use Rattle.statement_names.specs.Ready.{IsReady};
 
+use crate::declarations::declare_all;
 use crate::fault::NameFault;
+use crate::marked::read_marked;
+use crate::order::read_order;
+use crate::shapes::read_shapes;
+use crate::solved::read_solved;
+use crate::starred::is_starred;
+use crate::survey::check_names;
 use adjoint_rules::Shape;
 use lists::Listing;
 use quiver::Quiver;
 use statement_syntax::Tree;
-use std::alloc::{AllocError, Global};
+use std::alloc::Global;
 use word_core::{Letter, Object};
 use word_orders::OrderSpec;
 
@@ -41,12 +48,25 @@ pub fn read_names(alloc: Global, tree: &Tree) -> Result<Names, NameFault>
     ensures order { IfOk result (λ names. names.order ≡ order_of names.quiver tree.now.statements) }
     ensures starred { IfOk result (λ names. names.starred ≡ is_starred tree.now.statements) }
     ensures marked { IfOk result (λ names. names.marked ≡ marked_of names.quiver tree.now.statements) }
-    ensures shapes { IfOk result (λ names. names.shapes ≡ shapes_of tree.now.statements) }
+    ensures shapes { IfOk result (λ names. names.shapes ≡ shapes_of names.quiver tree.now.statements) }
     ensures solved { IfOk result (λ names. names.solved ≡ solved_of names.quiver tree.now.statements) }
     // What later stages rest on.
     ensures ready { IfOk result (λ names. IsReady names.quiver tree.now.statements) }
 {
-    let _ = tree;
-    let _ = alloc;
-    Err(NameFault::Memory(AllocError))
+    let statements = tree.statements.as_slice();
+    check_names(alloc, statements)?;
+    let quiver = declare_all(alloc, statements)?;
+    let order = read_order(alloc, &quiver, statements)?;
+    let starred = is_starred(statements);
+    let marked = read_marked(alloc, &quiver, statements)?;
+    let shapes = read_shapes(alloc, &quiver, statements)?;
+    let solved = read_solved(alloc, &quiver, statements)?;
+    Ok(Names {
+        quiver,
+        order,
+        starred,
+        marked,
+        shapes,
+        solved,
+    })
 }

@@ -1,9 +1,14 @@
-ghost use Rattle.std.specs.Prelude.{◌≡◌, [], IfOk};
-ghost use Rattle.statement_names.specs.Written.{abbreviation_of};
+//! The equations that abbreviations stand for, as expressions all of whose tokens are at one place.
 
-use lists::Listing;
-use quiver::Quiver;
-use statement_syntax::{Statement, Sum};
+ghost use Rattle.std.specs.Prelude.{◌≡◌, ◌∷◌, [], List, ℕ, map, IfOk};
+ghost use Rattle.statement_names.specs.Written.{letter_at, identity_at, product_at, word_at, adjoint_at, inner_equation, adjoint_equation, identity_equation, source_name, target_name, abbreviation_of, equation, pinv_equations, inverse_equations, projection_equations, marked_letter};
+ghost use Rattle.statement_syntax.specs.declared.tree.Mark.TheVariants.{Adjoint};
+ghost use Rattle.statement_syntax.specs.declared.tree.Primary.{Bracket};
+ghost use Rattle.statement_syntax.specs.Steps.{factor_of};
+
+use lists::{Listing, Text};
+use quiver::{Named, Quiver};
+use statement_syntax::{Factor, Mark, Name, Primary, Spot, Statement, StatementKind, Sum, Term};
 use std::alloc::{AllocError, Global};
 
 /// An equation of two expressions.
@@ -22,8 +27,199 @@ pub fn abbreviation(
 ) -> Result<Listing<Equation>, AllocError>
     ensures { IfOk result (λ equations. equations ≡ abbreviation_of quiver.now statement.now.at statement.now.kind) }
 {
-    let _ = quiver;
-    let _ = statement;
-    let _ = alloc;
-    Err(AllocError)
+    let at = statement.at;
+    match &statement.kind {
+        StatementKind::Pinv(a, x) => pinv(alloc, at, a.text.as_str(), x.text.as_str()),
+        StatementKind::Inverse(a, x) => {
+            let source = source_name(quiver, a);
+            let target = target_name(quiver, a);
+            inverse(alloc, at, a.text.as_str(), x.text.as_str(), source, target)
+        }
+        StatementKind::Inner(a, x) => inner(alloc, at, a.text.as_str(), x.text.as_str()),
+        StatementKind::Projection(p) => projection(alloc, at, p.text.as_str()),
+        _ => Ok(Listing::new(alloc)),
+    }
+}
+
+fn pinv(alloc: Global, at: Spot, a: &str, x: &str) -> Result<Listing<Equation>, AllocError>
+    ensures { IfOk result (λ equations. equations ≡ pinv_equations at a.now x.now) }
+{
+    let mut equations = Listing::new(alloc);
+    equations.push(inner_equation(alloc, at, a, x)?)?;
+    equations.push(inner_equation(alloc, at, x, a)?)?;
+    equations.push(adjoint_equation(alloc, at, &[a, x])?)?;
+    equations.push(adjoint_equation(alloc, at, &[x, a])?)?;
+    Ok(equations)
+}
+
+fn inverse(
+    alloc: Global,
+    at: Spot,
+    a: &str,
+    x: &str,
+    source: &str,
+    target: &str,
+) -> Result<Listing<Equation>, AllocError>
+    ensures { IfOk result (λ equations. equations ≡ inverse_equations at a.now x.now source.now target.now) }
+{
+    let mut equations = Listing::new(alloc);
+    equations.push(identity_equation(alloc, at, &[a, x], target)?)?;
+    equations.push(identity_equation(alloc, at, &[x, a], source)?)?;
+    Ok(equations)
+}
+
+fn inner(alloc: Global, at: Spot, a: &str, x: &str) -> Result<Listing<Equation>, AllocError>
+    ensures { IfOk result (λ equations. equations ≡ inner_equation at a.now x.now ∷ []) }
+{
+    let mut equations = Listing::new(alloc);
+    equations.push(inner_equation(alloc, at, a, x)?)?;
+    Ok(equations)
+}
+
+fn projection(alloc: Global, at: Spot, p: &str) -> Result<Listing<Equation>, AllocError>
+    ensures { IfOk result (λ equations. equations ≡ projection_equations at p.now) }
+{
+    let mut equations = Listing::new(alloc);
+    equations.push(Equation {
+        left: word_at(alloc, at, &[p, p])?,
+        right: word_at(alloc, at, &[p])?,
+    })?;
+    equations.push(Equation {
+        left: lone_at(alloc, at, marked_letter(alloc, at, p)?)?,
+        right: word_at(alloc, at, &[p])?,
+    })?;
+    Ok(equations)
+}
+
+// a x a = a
+fn inner_equation(alloc: Global, at: Spot, a: &str, x: &str) -> Result<Equation, AllocError>
+    ensures { IfOk result (λ e. e ≡ inner_equation at a.now x.now) }
+{
+    Ok(Equation {
+        left: word_at(alloc, at, &[a, x, a])?,
+        right: word_at(alloc, at, &[a])?,
+    })
+}
+
+// (a x)' = a x
+fn adjoint_equation(alloc: Global, at: Spot, names: &[&str]) -> Result<Equation, AllocError>
+    ensures { IfOk result (λ e. e ≡ adjoint_equation at (map (λ name. name.now) names.now)) }
+{
+    Ok(Equation {
+        left: lone_at(alloc, at, bracket_at(alloc, at, names)?)?,
+        right: word_at(alloc, at, names)?,
+    })
+}
+
+// a x = [T]
+fn identity_equation(
+    alloc: Global,
+    at: Spot,
+    names: &[&str],
+    object: &str,
+) -> Result<Equation, AllocError>
+    ensures { IfOk result (λ e. e ≡ identity_equation at (map (λ name. name.now) names.now) object.now) }
+{
+    Ok(Equation {
+        left: word_at(alloc, at, names)?,
+        right: lone_at(alloc, at, identity_at(alloc, at, object)?)?,
+    })
+}
+
+// The name of the source of a map.
+fn source_name<'a>(quiver: &'a Quiver, map: &Name) -> &'a str
+    ensures { result.now ≡ source_name quiver.now map.now }
+{
+    match quiver.find(map.text.as_str()) {
+        Some(Named::Map(letter)) => quiver.object_name(quiver.signature_of(letter).source),
+        _ => "",
+    }
+}
+
+// The name of the target of a map.
+fn target_name<'a>(quiver: &'a Quiver, map: &Name) -> &'a str
+    ensures { result.now ≡ target_name quiver.now map.now }
+{
+    match quiver.find(map.text.as_str()) {
+        Some(Named::Map(letter)) => quiver.object_name(quiver.signature_of(letter).target),
+        _ => "",
+    }
+}
+
+fn letter_at(alloc: Global, at: Spot, name: &str) -> Result<Factor, AllocError>
+    ensures { IfOk result (λ f. f ≡ letter_at at name.now) }
+{
+    let text = Text::from_str(alloc, name)?;
+    Ok(Factor {
+        at,
+        primary: Primary::Letter(Name { text, at }),
+        marks: Listing::new(alloc),
+    })
+}
+
+fn identity_at(alloc: Global, at: Spot, name: &str) -> Result<Factor, AllocError>
+    ensures { IfOk result (λ f. f ≡ identity_at at name.now) }
+{
+    let text = Text::from_str(alloc, name)?;
+    Ok(Factor {
+        at,
+        primary: Primary::Identity(Name { text, at }),
+        marks: Listing::new(alloc),
+    })
+}
+
+fn marked_letter(alloc: Global, at: Spot, name: &str) -> Result<Factor, AllocError>
+    ensures { IfOk result (λ f. f ≡ marked_letter at name.now) }
+{
+    let mut factor = letter_at(alloc, at, name)?;
+    factor.marks.push(Mark::Adjoint)?;
+    Ok(factor)
+}
+
+// The adjoint of a product of letters.
+fn bracket_at(alloc: Global, at: Spot, names: &[&str]) -> Result<Factor, AllocError>
+    ensures { IfOk result (λ f. f ≡ factor_of at (Bracket (word_at at (map (λ name. name.now) names.now))) (Adjoint ∷ [])) }
+{
+    let word = word_at(alloc, at, names)?;
+    let mut marks = Listing::new(alloc);
+    marks.push(Mark::Adjoint)?;
+    Ok(Factor {
+        at,
+        primary: Primary::Bracket(word),
+        marks,
+    })
+}
+
+// The product of some factors.
+fn product_at(alloc: Global, at: Spot, factors: Listing<Factor>) -> Result<Sum, AllocError>
+    ensures { IfOk result (λ s. s ≡ product_at at factors) }
+{
+    let mut terms = Listing::new(alloc);
+    terms.push(Term {
+        at,
+        negative: false,
+        literal: None,
+        factors,
+    })?;
+    Ok(Sum { at, terms })
+}
+
+// One factor.
+fn lone_at(alloc: Global, at: Spot, factor: Factor) -> Result<Sum, AllocError>
+    ensures { IfOk result (λ s. s ≡ product_at at (factor ∷ [])) }
+{
+    let mut factors = Listing::new(alloc);
+    factors.push(factor)?;
+    product_at(alloc, at, factors)
+}
+
+// The product of some letters.
+fn word_at(alloc: Global, at: Spot, names: &[&str]) -> Result<Sum, AllocError>
+    ensures { IfOk result (λ s. s ≡ word_at at (map (λ name. name.now) names.now)) }
+{
+    let mut factors = Listing::new(alloc);
+    for name in names {
+        factors.push(letter_at(alloc, at, name)?)?;
+    }
+    product_at(alloc, at, factors)
 }

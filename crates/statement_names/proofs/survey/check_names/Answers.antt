@@ -21,9 +21,9 @@ returns-in_err-statement-clause-err c =
     let agrees : Agrees kind [] first = record { kinds = c.in_ok-kinds_of.ensures; declared = c.new.ensures; objects = refl; maps = refl; orders = refl; assumptions = refl; claims = refl; shapes = refl } in
     let told : Explains (fault_in (run c.loop-statement.survey (statement_occurrences c.statement-item.result))) c.in_err-statement.field-0.0 = search rules in
     let whole : Explains (name_fault_of c.args.statements.now) c.in_err-statement.field-0.0 =
-        subst (λ found. Explains found c.in_err-statement.field-0.0) (sym (first_same kind [] first agrees (occurrences_of c.args.statements.now)))
-        (items_stop statement_occurrences c.args.statements.now c.loop-statement.statement-index c.statement-item.result c.loop-statement-test.true c.statement-item.is
-        first c.loop-statement.survey c.in_err-statement.field-0.0 c.loop-statement.invariant told) in
+    subst (λ found. Explains found c.in_err-statement.field-0.0) (sym (first_same kind [] first agrees (occurrences_of c.args.statements.now)))
+    (items_stop statement_occurrences c.args.statements.now c.loop-statement.statement-index c.statement-item.result c.loop-statement-test.true c.statement-item.is
+    first c.loop-statement.survey c.in_err-statement.field-0.0 c.loop-statement.invariant told) in
     search rules
 
 pub returns-clause-ok : goal.returns-clause-ok

@@ -1,0 +1,53 @@
+-- What holds of each item of a list, by the list's own recursion.
+use Rattle.std.proofs.Common.{◌≡◌, ℕ, zero, suc, ◌<◌, List, [], ◌∷◌, ◌++◌, length, take, get_or, map, All, arith, subst, sym}
+use Rattle.std.specs.List.{flat_map}
+
+abbrev pub Each : {A : Type 0} → (A → Type 0) → List A → Type 0
+Each P [] = Unit {0}
+Each P (x ∷ xs) = P x × Each P xs
+
+pub Each-left : {A : Type 0} (P : A → Type 0) (xs ys : List A) → Each P (xs ++ ys) → Each P xs
+Each-left P [] ys h = tt
+Each-left P (x ∷ xs) ys h = (h.0, Each-left P xs ys h.1)
+
+pub Each-right : {A : Type 0} (P : A → Type 0) (xs ys : List A) → Each P (xs ++ ys) → Each P ys
+Each-right P [] ys h = h
+Each-right P (x ∷ xs) ys h = Each-right P xs ys h.1
+
+pub Each-append : {A : Type 0} (P : A → Type 0) (xs ys : List A) → Each P xs → Each P ys → Each P (xs ++ ys)
+Each-append P [] ys h k = k
+Each-append P (x ∷ xs) ys h k = (h.0, Each-append P xs ys h.1 k)
+
+pub Each-weaker : {A : Type 0} (P Q : A → Type 0) (xs : List A) → ((x : A) → P x → Q x) → Each P xs → Each Q xs
+Each-weaker P Q [] f h = tt
+Each-weaker P Q (x ∷ xs) f h = (f x h.0, Each-weaker P Q xs f h.1)
+
+pub Each-map : {A B : Type 0} (P : B → Type 0) (f : A → B) (xs : List A) → Each (λ x. P (f x)) xs → Each P (map f xs)
+Each-map P f [] h = tt
+Each-map P f (x ∷ xs) h = (h.0, Each-map P f xs h.1)
+
+pub Each-unmap : {A B : Type 0} (P : B → Type 0) (f : A → B) (xs : List A) → Each P (map f xs) → Each (λ x. P (f x)) xs
+Each-unmap P f [] h = tt
+Each-unmap P f (x ∷ xs) h = (h.0, Each-unmap P f xs h.1)
+
+pub Each-flat_map : {A B : Type 0} (P : B → Type 0) (f : A → List B) (xs : List A) → Each (λ x. Each P (f x)) xs → Each P (flat_map f xs)
+Each-flat_map P f [] h = tt
+Each-flat_map P f (x ∷ xs) h = Each-append P (f x) (flat_map f xs) h.0 (Each-flat_map P f xs h.1)
+
+pub Each-of_flat_map : {A B : Type 0} (P : B → Type 0) (f : A → List B) (xs : List A) → Each P (flat_map f xs) → Each (λ x. Each P (f x)) xs
+Each-of_flat_map P f [] h = tt
+Each-of_flat_map P f (x ∷ xs) h = (Each-left P (f x) (flat_map f xs) h, Each-of_flat_map P f xs (Each-right P (f x) (flat_map f xs) h))
+
+pub Each-take : {A : Type 0} (P : A → Type 0) (n : ℕ) (xs : List A) → Each P xs → Each P (take n xs)
+Each-take P zero xs h = tt
+Each-take P (suc n) [] h = tt
+Each-take P (suc n) (x ∷ xs) h = (h.0, Each-take P n xs h.1)
+
+-- at a place
+pub Each-at : {A : Type 0} (P : A → Type 0) (xs : List A) → Each P xs → All P xs
+Each-at P [] h k d below = absurd (omega arith)
+Each-at P (x ∷ xs) h zero d below = h.0
+Each-at P (x ∷ xs) h (suc k) d below = let shorter : k < length xs = omega arith in Each-at P xs h.1 k d shorter
+
+pub Each-item : {A : Type 0} (P : A → Type 0) (xs : List A) → Each P xs → (i : ℕ) (x : A) → i < length xs → x ≡ get_or xs i x → P x
+Each-item P xs h i x below at = subst P (sym at) (Each-at P xs h i x below)

@@ -1,0 +1,104 @@
+-- The sides that pairs of names and literals give to objects.
+use Rattle.std.proofs.Common.{◌≡◌, ◌≢◌, ℕ, zero, suc, ◌+◌, ◌<◌, ◌≤◌, Bool, true, false, cond, IsTrue, List, [], ◌∷◌, ◌++◌, length, map, take, get_or, set, AllPairs, Option, Some, None, unwrap_or, refl, ap, ap₂, sym, subst, ◌∙◌, arith, get_or-set_same, get_or-set_other}
+use Rattle.std.specs.List.{range_with_len}
+use Rattle.std.specs.Map.{lookup}
+use Rattle.std.specs.Option.{option_or}
+use Rattle.std.specs.Str.{bytes_eq}
+use Rattle.std.proofs.lemmas.List.{map-append, take_all}
+use Rattle.quiver.specs.declared.named.Named.{Named}
+use Rattle.quiver.specs.declared.named.Named.TheVariants as named
+use Rattle.quiver.specs.Declarations.{Declaration, object_count, object_name, named_in, IsDeclared}
+use Rattle.quiver.proofs.Found.{is_named}
+use Rattle.expressions.specs.Names.{is_object, object_number, object_of}
+use Rattle.statement_syntax.specs.declared.tree.Name.{Name}
+use Rattle.statement_syntax.specs.declared.tree.Number.{Number}
+use Rattle.statement_names.specs.Faults.{value_of}
+use Rattle.statement_names.specs.Shapes.{side_in, sides_of}
+use Rattle.statement_names.proofs.Apart.{Apart, other_bytes, own_bytes}
+use Rattle.statement_names.proofs.Found.{named_object}
+use Rattle.statement_names.proofs.Fresh.{apart_of, pairs_head, pairs_tail}
+use Rattle.statement_names.proofs.Each.{Each}
+use Rattle.statement_names.proofs.Items.{take_next}
+use Rattle.statement_names.proofs.KindsFound.{same_bytes, lookup-append, option_or-nothing}
+use Rattle.statement_names.proofs.NamedKinds.{kinds}
+
+-- a list by what stands at its places
+from_places : {A : Type 0} (d : A) (f : ℕ → A) (a n : ℕ) (xs : List A) → length xs ≡ n → ((v : ℕ) → v < n → get_or xs v d ≡ f (a + v)) → xs ≡ map f (range_with_len a n)
+from_places d f a zero [] size at = refl
+from_places d f a zero (x ∷ xs) size at = absurd (omega arith)
+from_places d f a (suc n) [] size at = absurd (omega arith)
+from_places d f a (suc n) (x ∷ xs) size at =
+    let shorter : length xs ≡ n = omega arith in
+    let here : a + 0 ≡ a = omega arith in
+    ap₂ (λ y ys. y ∷ ys) (at 0 (omega arith) ∙ ap f here)
+    (from_places d f (a + 1) n xs shorter
+    (λ v below. let in_range : suc v < suc n = omega arith in let there : a + suc v ≡ a + 1 + v = omega arith in at (suc v) in_range ∙ ap f there))
+
+pub sides_from : (ds : List Declaration) (pairs : List (Name × Number)) (i : ℕ) (sides : List ℕ) → length pairs ≤ i → length sides ≡ object_count ds
+    → ((v : ℕ) → v < object_count ds → get_or sides v 1 ≡ side_in (take i pairs) (object_name ds v)) → sides ≡ sides_of ds pairs
+sides_from ds pairs i sides done size given =
+    from_places 1 (λ v. side_in pairs (object_name ds v)) 0 (object_count ds) sides size
+    (λ v below. let here : v ≡ 0 + v = omega arith in given v below ∙ ap (λ ps. side_in ps (object_name ds v)) (take_all i pairs done) ∙ ap (λ w. side_in pairs (object_name ds w)) here)
+
+-- ---- one pair more
+abbrev given_side : Name × Number → List ℕ × ℕ
+given_side p = (p.0.text, value_of p.1.value)
+
+earlier_differ : (pairs : List (Name × Number)) (i : ℕ) (p : Name × Number) → AllPairs (λ q r. q.0.text ≢ r.0.text) pairs → i < length pairs → p ≡ get_or pairs i p → Each (λ q. p.0.text ≢ q.0.text) (take i pairs)
+earlier_differ [] i p once below at = absurd (omega arith)
+earlier_differ (x ∷ pairs) zero p once below at = tt
+earlier_differ (x ∷ pairs) (suc i) p once below at =
+    let in_range : i < length pairs = omega arith in (
+      λ same. pairs_head (λ q r. q.0.text ≢ r.0.text) x pairs once i p in_range (sym same ∙ ap (λ q. q.0.text) at),
+      earlier_differ pairs i p (pairs_tail (λ q r. q.0.text ≢ r.0.text) x pairs once) in_range at,
+    )
+
+absent_side : (pairs : List (Name × Number)) (q : List ℕ) → Each (λ p. q ≢ p.0.text) pairs → lookup (bytes_eq q) (map given_side pairs) ≡ None
+absent_side [] q differ = refl
+absent_side (p ∷ pairs) q differ = ap₂ (λ b found. cond b (Some (value_of p.1.value)) found) (other_bytes q p.0.text differ.0) (absent_side pairs q differ.1)
+
+object_is : (found : Option Named) → IsTrue (is_object found) → found ≡ Some (named.Object (record { 0 = object_number found }))
+object_is (Some (named.Object v)) e = refl
+object_is (Some (named.Map a)) e = absurd (cc)
+object_is None e = absurd (cc)
+
+some_object : (v w : ℕ) → ◌≡◌ {A = Option Named} (Some (named.Object (record { 0 = v }))) (Some (named.Object (record { 0 = w }))) → v ≡ w
+some_object v w e = ap object_number e
+
+module _ (ds : List Declaration) (declared : IsDeclared ds) (pairs : List (Name × Number)) (i : ℕ) (p : Name × Number) (below : i < length pairs) (at : p ≡ get_or pairs i p)
+    (once : AllPairs (λ q r. q.0.text ≢ r.0.text) pairs) (is : IsTrue (is_object (named_in ds p.0.text))) where
+  -- the object that the pair names has the pair's name, and no other has
+  own_name : object_name ds (object_of ds p.0) ≡ p.0.text
+  own_name = (is_named ds p.0.text (named.Object (record { 0 = object_of ds p.0 })) (object_is (named_in ds p.0.text) is)).1
+
+  only_name : (v : ℕ) → v < object_count ds → object_name ds v ≡ p.0.text → v ≡ object_of ds p.0
+  only_name v in_range same =
+      some_object v (object_of ds p.0)
+      (sym (named_object ds (apart_of ds declared.distinct) v in_range) ∙ ap (named_in ds) same ∙ object_is (named_in ds p.0.text) is)
+
+  side_next : (q : List ℕ) → side_in (take (i + 1) pairs) q ≡ unwrap_or (option_or (lookup (bytes_eq q) (map given_side (take i pairs))) (cond (bytes_eq q p.0.text) (Some (value_of p.1.value)) None)) 1
+  side_next q =
+      ap (λ ps. side_in ps q) (take_next pairs i p below at)
+      ∙ ap (λ gs. unwrap_or (lookup (bytes_eq q) gs) 1) (map-append given_side (take i pairs) (p ∷ []))
+      ∙ ap (λ found. unwrap_or found 1) (lookup-append (bytes_eq q) (map given_side (take i pairs)) (given_side p ∷ []))
+
+  pub side_put : (sides : List ℕ) → length sides ≡ object_count ds → ((v : ℕ) → v < object_count ds → get_or sides v 1 ≡ side_in (take i pairs) (object_name ds v))
+      → (v : ℕ) → v < object_count ds → get_or (set sides (object_of ds p.0) (value_of p.1.value)) v 1 ≡ side_in (take (i + 1) pairs) (object_name ds v)
+  side_put sides size given v in_range = go (bytes_eq (object_name ds v) p.0.text) refl
+    where
+      go : (b : Bool) → bytes_eq (object_name ds v) p.0.text ≡ b → get_or (set sides (object_of ds p.0) (value_of p.1.value)) v 1 ≡ side_in (take (i + 1) pairs) (object_name ds v)
+      go true named =
+          let text : object_name ds v ≡ p.0.text = same_bytes (object_name ds v) p.0.text named in
+          let here : v ≡ object_of ds p.0 = only_name v in_range text in
+          let fits : object_of ds p.0 < length sides = subst (λ n. object_of ds p.0 < n) (sym size) (subst (λ n. n < object_count ds) here in_range) in
+          let new : lookup (bytes_eq (object_name ds v)) (map given_side (take i pairs)) ≡ None =
+          ap (λ q. lookup (bytes_eq q) (map given_side (take i pairs))) text ∙ absent_side (take i pairs) p.0.text (earlier_differ pairs i p once below at) in
+          ap (λ w. get_or (set sides (object_of ds p.0) (value_of p.1.value)) w 1) here
+          ∙ get_or-set_same sides (object_of ds p.0) (value_of p.1.value) 1 fits
+          ∙ sym (side_next (object_name ds v) ∙ ap₂ (λ found b. unwrap_or (option_or found (cond b (Some (value_of p.1.value)) None)) 1) new named)
+      go false other =
+          let apart : v ≢ object_of ds p.0 = λ here. let named : bytes_eq (object_name ds v) p.0.text ≡ true = ap (λ w. bytes_eq (object_name ds w) p.0.text) here ∙ ap (λ q. bytes_eq q p.0.text) own_name ∙ own_bytes p.0.text in cc in
+          get_or-set_other sides (object_of ds p.0) v (value_of p.1.value) 1 apart
+          ∙ given v in_range
+          ∙ sym (side_next (object_name ds v) ∙ ap (λ b. unwrap_or (option_or (lookup (bytes_eq (object_name ds v)) (map given_side (take i pairs))) (cond b (Some (value_of p.1.value)) None)) 1) other
+          ∙ ap (λ found. unwrap_or found 1) (option_or-nothing (lookup (bytes_eq (object_name ds v)) (map given_side (take i pairs)))))

@@ -1,0 +1,100 @@
+-- The shapes of a file in whose names nothing is wrong.
+use Rattle.std.proofs.Common.{◌≡◌, ℕ, zero, suc, ◌+◌, ◌<◌, ◌≤◌, Bool, true, false, cond, nat_eq, IsTrue, List, [], ◌∷◌, ◌++◌, length, map, replicate, get_or, All, Option, Some, None, unwrap_or, refl, ap, sym, subst, ◌∙◌, arith}
+use Rattle.std.specs.List.{flat_map, list_any, range_with_len}
+use Rattle.std.specs.Map.{lookup}
+use Rattle.std.specs.Str.{bytes_eq}
+use Rattle.std.proofs.lemmas.List.{length-replicate}
+use Rattle.std.proofs.lemmas.List.FromFn.{length-map-range_with_len}
+use Rattle.quiver.specs.Declarations.{Declaration, object_count, object_name}
+use Rattle.adjoint_rules.specs.Problem.{IsShape, IsSide, moduli}
+use Rattle.adjoint_rules.specs.declared.parts.Shape.{Shape}
+use Rattle.statement_syntax.specs.declared.place.Spot.{Spot}
+use Rattle.statement_syntax.specs.declared.tree.Name.{Name}
+use Rattle.statement_syntax.specs.declared.tree.Number.{Number}
+use Rattle.statement_syntax.specs.declared.tree.Statement.{Statement}
+use Rattle.statement_syntax.specs.declared.tree.StatementKind.{StatementKind}
+use Rattle.statement_syntax.specs.declared.tree.StatementKind.TheVariants as statement
+use Rattle.statement_names.specs.declared.kinds.Kind.{Kind}
+use Rattle.statement_names.specs.declared.kinds.Kind.TheVariants.{Object}
+use Rattle.statement_names.specs.Faults.{kind_in, declared_in, value_of, name_fault_of, shapes_by}
+use Rattle.statement_names.specs.Numbered.{declarations_of}
+use Rattle.statement_names.specs.Occurrences.{kind_occurrences, statement_occurrences, occurrences_of}
+use Rattle.statement_names.specs.Shapes.{shape, side_in, sides_of, shapes_in, default_shapes, or_shapes, shapes_of}
+use Rattle.statement_names.proofs.Clean.{IsGood, few_shapes}
+use Rattle.statement_names.proofs.Each.{Each, Each-at, Each-map, Each-weaker, Each-flat_map}
+use Rattle.statement_names.proofs.FileDeclared.{statements_good}
+use Rattle.statement_names.proofs.Stated.{IsPair, pairs_are}
+use Rattle.statement_names.proofs.Tally.{length-shapes}
+
+-- ---- sides
+one_side : IsSide 1
+one_side = record { least = omega arith; most = omega arith }
+
+two_side : IsSide 2
+two_side = record { least = omega arith; most = omega arith }
+
+side_is : (kind : List ℕ → Option Kind) (pairs : List (Name × Number)) → Each (IsPair kind Object 6) pairs → (q : List ℕ) → IsSide (side_in pairs q)
+side_is kind [] good q = one_side
+side_is kind (p ∷ pairs) good q = go (bytes_eq q p.0.text) (side_is kind pairs good.1 q)
+  where
+    go : (b : Bool) → IsSide (side_in pairs q) → IsSide (unwrap_or (cond b (Some (value_of p.1.value)) (lookup (bytes_eq q) (map (λ pair. (pair.0.text, value_of pair.1.value)) pairs))) 1)
+    go true rest = record { least = good.0.least; most = good.0.most_ }
+    go false rest = rest
+
+Each-range : (P : ℕ → Type 0) (a n : ℕ) → ((k : ℕ) → P k) → Each P (range_with_len a n)
+Each-range P a zero h = tt
+Each-range P a (suc n) h = (h a, Each-range P (a + 1) n h)
+
+Each-replicate : (P : ℕ → Type 0) (n x : ℕ) → P x → Each P (replicate n x)
+Each-replicate P zero x h = tt
+Each-replicate P (suc n) x h = (h, Each-replicate P n x h)
+
+even_shape : (n side : ℕ) → IsSide side → IsShape n (shape 2 (replicate n side))
+even_shape n side is = record { modulus = refl; side_of_each = length-replicate n side; sides = Each-at IsSide (replicate n side) (Each-replicate IsSide n side is) }
+
+-- ---- in a file in whose names nothing is wrong
+module _ (statements : List Statement) (clean : name_fault_of statements ≡ None) where
+  abbrev all : List Declaration
+  all = declarations_of statements
+
+  abbrev kind : List ℕ → Option Kind
+  kind = kind_in (declared_in (occurrences_of statements))
+
+  kind_shapes : (at : Spot) (k : StatementKind) → Each (IsGood kind) (kind_occurrences at k) → Each (IsShape (object_count all)) (shapes_in all k)
+  kind_shapes at (statement.Shape m sides) good = (
+    record {
+      modulus = good.1.0;
+      side_of_each = length-map-range_with_len (λ v. side_in sides (object_name all v)) 0 (object_count all);
+      sides =
+          Each-at IsSide (sides_of all sides)
+          (Each-map IsSide (λ v. side_in sides (object_name all v)) (range_with_len 0 (object_count all))
+          (Each-range (λ v. IsSide (side_in sides (object_name all v))) 0 (object_count all) (λ v. side_is kind sides (pairs_are kind Object 6 [] sides good.1.1) (object_name all v))));
+    },
+    tt,
+  )
+  kind_shapes at k good = tt
+
+  file_shapes : Each (IsShape (object_count all)) (flat_map (λ s. shapes_in all s.kind) statements)
+  file_shapes =
+      Each-flat_map (IsShape (object_count all)) (λ s. shapes_in all s.kind) statements
+      (Each-weaker (λ s. Each (IsGood kind) (statement_occurrences s)) (λ s. Each (IsShape (object_count all)) (shapes_in all s.kind)) statements (λ s good. kind_shapes s.at s.kind good) (statements_good statements clean))
+
+  -- what holds of the shapes that are given and of the default ones
+  pub record AreShapes (shapes : List Shape) : Type 0 where
+    pub some : 1 ≤ length shapes
+    pub few : length shapes ≤ 16
+    pub each_shape : All (IsShape (object_count (declarations_of statements))) shapes
+
+  or_default : (given : List Shape) → Each (IsShape (object_count all)) given → length given ≤ 16 → AreShapes (or_shapes given (default_shapes all))
+  or_default [] good few =
+      record {
+        some = omega arith;
+        few = omega arith;
+        each_shape = Each-at (IsShape (object_count all)) (default_shapes all) (even_shape (object_count all) 1 one_side, (even_shape (object_count all) 2 two_side, tt));
+      }
+  or_default (s ∷ given) good few = record { some = omega arith; few = few; each_shape = Each-at (IsShape (object_count all)) (s ∷ given) good }
+
+  pub shapes_sound : AreShapes (shapes_of (declarations_of statements) statements)
+  shapes_sound =
+      or_default (flat_map (λ s. shapes_in all s.kind) statements) file_shapes
+      (subst (λ n. n ≤ 16) (sym (length-shapes all statements)) (few_shapes kind (occurrences_of statements) clean))

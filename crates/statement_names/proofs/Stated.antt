@@ -1,0 +1,148 @@
+-- What the names and literals of a statement are, in a file in whose names nothing is wrong.
+use Rattle.std.proofs.Common.{◌≡◌, ◌≢◌, ℕ, ◌+◌, ◌<◌, ◌≤◌, Bool, true, false, ◌&&◌, ◌||◌, nat_eq, nat_le, IsTrue, List, [], ◌∷◌, ◌++◌, length, map, get_or, Option, None, All, AllPairs, refl, ap, sym, subst, ◌∙◌, arith}
+use Rattle.std.specs.List.{list_any, list_all}
+use Rattle.std.specs.Str.{bytes_eq}
+use Rattle.std.proofs.lemmas.Bool.{leb-true}
+use Rattle.std.proofs.lemmas.Bool.Decides.{Decides-eqb}
+use Rattle.std.proofs.lemmas.List.Folds.{list_any-append}
+use Rattle.std.proofs.lemmas.List.Kept.{AllPairs-cons}
+use Rattle.adjoint_rules.specs.Problem.{moduli}
+use Rattle.quiver.specs.Declarations.{named_in}
+use Rattle.expressions.specs.Names.{is_map, is_object}
+use Rattle.statement_syntax.specs.declared.place.Spot.{Spot}
+use Rattle.statement_syntax.specs.declared.tree.Name.{Name}
+use Rattle.statement_syntax.specs.declared.tree.Number.{Number}
+use Rattle.statement_syntax.specs.declared.tree.Statement.{Statement}
+use Rattle.statement_syntax.specs.declared.tree.StatementKind.{StatementKind}
+use Rattle.statement_syntax.specs.declared.tree.StatementKind.TheVariants as statement
+use Rattle.statement_names.specs.declared.kinds.Kind.{Kind}
+use Rattle.statement_names.specs.declared.kinds.Kind.TheVariants.{Object, Map}
+use Rattle.statement_names.specs.Faults.{kind_in, is_kind, is_among, is_between, is_modulus, value_of, declared_in, name_fault_of}
+use Rattle.statement_names.specs.Occurrences.{pairs_behind, kind_occurrences, statement_occurrences, occurrences_of}
+use Rattle.statement_names.specs.Numbered.{declarations_of}
+use Rattle.statement_names.proofs.Apart.{own_bytes}
+use Rattle.statement_names.proofs.Clean.{IsGood}
+use Rattle.statement_names.proofs.Each.{Each, Each-at, Each-item, Each-weaker}
+use Rattle.statement_names.proofs.FileDeclared.{statements_good}
+use Rattle.statement_names.proofs.NamedKinds.{map_named, object_named}
+
+-- ---- numbers
+both : (b c : Bool) → (b && c) ≡ true → (b ≡ true) × (c ≡ true)
+both true true e = (refl, refl)
+both true false e = absurd (cc)
+both false c e = absurd (cc)
+
+pub between : (least most n : ℕ) → is_between least most n ≡ true → (least ≤ n) × (n ≤ most)
+between least most n e = let parts = both (nat_le least n) (nat_le n most) e in (leb-true least n parts.0, leb-true n most parts.1)
+
+any_small : (n limit : ℕ) (ms : List ℕ) → list_any (nat_eq n) ms ≡ true → list_all (λ m. nat_le m limit) ms ≡ true → n ≤ limit
+any_small n limit [] e k = absurd (cc)
+any_small n limit (m ∷ ms) e k =
+    let parts = both (nat_le m limit) (list_all (λ l. nat_le l limit) ms) k in
+    go (nat_eq n m) refl e (leb-true m limit parts.0) (λ later. any_small n limit ms later parts.1)
+  where
+    go : (b : Bool) → nat_eq n m ≡ b → (b || list_any (nat_eq n) ms) ≡ true → m ≤ limit → (list_any (nat_eq n) ms ≡ true → n ≤ limit) → n ≤ limit
+    go true is e small rest = let same : n ≡ m = (Decides-eqb n m).0 is in omega arith
+    go false is e small rest = rest e
+
+pub modulus_small : (n : ℕ) → is_modulus n ≡ true → n ≤ 65537
+modulus_small n is = any_small n 65537 moduli is refl
+
+-- ---- names with literals
+-- each name once
+abbrev pub Once : List (Name × Number) → Type 0
+Once [] = Unit {0}
+Once (p ∷ pairs) = Each (λ q. p.0.text ≢ q.0.text) pairs × Once pairs
+
+pub pairs_once : (pairs : List (Name × Number)) → Once pairs → AllPairs (λ p q. p.0.text ≢ q.0.text) pairs
+pairs_once [] once = λ i j d less below. absurd (omega arith)
+pairs_once (p ∷ pairs) once = AllPairs-cons (λ p q. p.0.text ≢ q.0.text) p pairs (Each-at (λ q. p.0.text ≢ q.0.text) pairs once.0) (pairs_once pairs once.1)
+
+pub record IsPair (kind : List ℕ → Option Kind) (k : Kind) (most : ℕ) (p : Name × Number) : Type 0 where
+  pub of_kind : is_kind (kind p.0.text) k ≡ true
+  pub least : 1 ≤ value_of p.1.value
+  pub most_ : value_of p.1.value ≤ most
+
+module _ (kind : List ℕ → Option Kind) (k : Kind) (most : ℕ) where
+  pub pairs_are : (front : List (List ℕ)) (pairs : List (Name × Number)) → Each (IsGood kind) (pairs_behind k most front pairs) → Each (IsPair kind k most) pairs
+  pairs_are front [] good = tt
+  pairs_are front (p ∷ pairs) good =
+      let range = between 1 most (value_of p.1.value) good.1.0 in
+      (record { of_kind = good.0.0; least = range.0; most_ = range.1 }, pairs_are (front ++ p.0.text ∷ []) pairs good.1.1)
+
+  -- a name that stands in front isn't listed again
+  abbrev IsInFront : List (List ℕ) → List ℕ → Type 0
+  IsInFront front name = (q : List ℕ) → is_among front q ≡ false → name ≢ q
+
+  put_in_front : (front : List (List ℕ)) (name : List ℕ) → IsInFront (front ++ name ∷ []) name
+  put_in_front front name q absent same =
+      let there : is_among (front ++ name ∷ []) q ≡ true =
+      list_any-append (bytes_eq q) front (name ∷ []) ∙ ap (λ n. is_among front q || (bytes_eq q n || false)) same ∙ ap (λ b. is_among front q || (b || false)) (own_bytes q) ∙ or_true (is_among front q) in
+      cc
+    where
+      or_true : (b : Bool) → (b || true) ≡ true
+      or_true true = refl
+      or_true false = refl
+
+  stays_in_front : (front : List (List ℕ)) (name x : List ℕ) → IsInFront front name → IsInFront (front ++ x ∷ []) name
+  stays_in_front front name x there q absent = there q (first (is_among front q) (bytes_eq q x || false) (sym (list_any-append (bytes_eq q) front (x ∷ [])) ∙ absent))
+    where
+      first : (b c : Bool) → (b || c) ≡ false → b ≡ false
+      first false c e = refl
+      first true c e = absurd (cc)
+
+  later_differ : (front : List (List ℕ)) (pairs : List (Name × Number)) (name : List ℕ) → IsInFront front name → Each (IsGood kind) (pairs_behind k most front pairs) → Each (λ p. name ≢ p.0.text) pairs
+  later_differ front [] name there good = tt
+  later_differ front (p ∷ pairs) name there good =
+      (there p.0.text good.0.1, later_differ (front ++ p.0.text ∷ []) pairs name (stays_in_front front name p.0.text there) good.1.1)
+
+  pub pairs_apart : (front : List (List ℕ)) (pairs : List (Name × Number)) → Each (IsGood kind) (pairs_behind k most front pairs) → Once pairs
+  pairs_apart front [] good = tt
+  pairs_apart front (p ∷ pairs) good =
+      (later_differ (front ++ p.0.text ∷ []) pairs p.0.text (put_in_front front p.0.text) good.1.1, pairs_apart (front ++ p.0.text ∷ []) pairs good.1.1)
+
+-- ---- in a file in whose names nothing is wrong
+module _ (statements : List Statement) (clean : name_fault_of statements ≡ None) where
+  abbrev kind : List ℕ → Option Kind
+  kind = kind_in (declared_in (occurrences_of statements))
+
+  pub statement_good : (i : ℕ) (s : Statement) → i < length statements → s ≡ get_or statements i s → Each (IsGood (kind_in (declared_in (occurrences_of statements)))) (kind_occurrences s.at s.kind)
+  statement_good i s below at = Each-item (λ t. Each (IsGood kind) (statement_occurrences t)) statements (statements_good statements clean) i s below at
+
+  kind_good : (i : ℕ) (s : Statement) (k : StatementKind) → i < length statements → s ≡ get_or statements i s → s.kind ≡ k → Each (IsGood kind) (kind_occurrences s.at k)
+  kind_good i s k below at is = subst (λ j. Each (IsGood kind) (kind_occurrences s.at j)) is (statement_good i s below at)
+
+  module _ (i : ℕ) (s : Statement) (below : i < length statements) (at : s ≡ get_or statements i s) where
+    -- the weights of an order
+    pub weights_are : (pairs : List (Name × Number)) → s.kind ≡ statement.Weight pairs → Each (IsPair (kind_in (declared_in (occurrences_of statements))) Map 1000) pairs
+    weights_are pairs is = pairs_are kind Map 1000 [] pairs (kind_good i s (statement.Weight pairs) below at is).1
+
+    pub weights_named : (pairs : List (Name × Number)) → s.kind ≡ statement.Weight pairs → All (λ p. IsTrue (is_map (named_in (declarations_of statements) p.0.text))) pairs
+    weights_named pairs is =
+        Each-at (λ p. IsTrue (is_map (named_in (declarations_of statements) p.0.text))) pairs
+        (Each-weaker (IsPair kind Map 1000) (λ p. IsTrue (is_map (named_in (declarations_of statements) p.0.text))) pairs (λ p pair. map_named statements clean p.0.text pair.of_kind) (weights_are pairs is))
+
+    pub weights_small : (pairs : List (Name × Number)) → s.kind ≡ statement.Weight pairs → All (λ p. value_of p.1.value ≤ 1000) pairs
+    weights_small pairs is =
+        Each-at (λ p. value_of p.1.value ≤ 1000) pairs (Each-weaker (IsPair kind Map 1000) (λ p. value_of p.1.value ≤ 1000) pairs (λ p pair. pair.most_) (weights_are pairs is))
+
+    pub weights_once : (pairs : List (Name × Number)) → s.kind ≡ statement.Weight pairs → Once pairs
+    weights_once pairs is = pairs_apart kind Map 1000 [] pairs (kind_good i s (statement.Weight pairs) below at is).1
+
+    -- the modulus and the sides of a shape
+    pub modulus_is : (m : Number) (sides : List (Name × Number)) → s.kind ≡ statement.Shape m sides → is_modulus (value_of m.value) ≡ true
+    modulus_is m sides is = (kind_good i s (statement.Shape m sides) below at is).1.0
+
+    pub sides_are : (m : Number) (sides : List (Name × Number)) → s.kind ≡ statement.Shape m sides → Each (IsPair (kind_in (declared_in (occurrences_of statements))) Object 6) sides
+    sides_are m sides is = pairs_are kind Object 6 [] sides (kind_good i s (statement.Shape m sides) below at is).1.1
+
+    pub sides_named : (m : Number) (sides : List (Name × Number)) → s.kind ≡ statement.Shape m sides → All (λ p. IsTrue (is_object (named_in (declarations_of statements) p.0.text))) sides
+    sides_named m sides is =
+        Each-at (λ p. IsTrue (is_object (named_in (declarations_of statements) p.0.text))) sides
+        (Each-weaker (IsPair kind Object 6) (λ p. IsTrue (is_object (named_in (declarations_of statements) p.0.text))) sides (λ p pair. object_named statements clean p.0.text pair.of_kind) (sides_are m sides is))
+
+    pub sides_small : (m : Number) (sides : List (Name × Number)) → s.kind ≡ statement.Shape m sides → All (λ p. value_of p.1.value ≤ 6) sides
+    sides_small m sides is = Each-at (λ p. value_of p.1.value ≤ 6) sides (Each-weaker (IsPair kind Object 6) (λ p. value_of p.1.value ≤ 6) sides (λ p pair. pair.most_) (sides_are m sides is))
+
+    pub sides_once : (m : Number) (sides : List (Name × Number)) → s.kind ≡ statement.Shape m sides → AllPairs (λ p q. p.0.text ≢ q.0.text) sides
+    sides_once m sides is = pairs_once sides (pairs_apart kind Object 6 [] sides (kind_good i s (statement.Shape m sides) below at is).1.1)

@@ -1,0 +1,170 @@
+-- How much the statements of a file declare and begin.
+use Rattle.std.proofs.Common.{◌≡◌, ℕ, ◌+◌, Bool, List, [], ◌∷◌, ◌++◌, length, map, refl, ap, ap₂, sym, ◌∙◌, arith}
+use Rattle.std.specs.List.{flat_map, sum_by}
+use Rattle.std.proofs.lemmas.List.{length-append}
+use Rattle.std.proofs.lemmas.List.Sums.{sum_by-cons, sum_by-append}
+use Rattle.quiver.specs.Declarations.{Declaration, object, arrow, object_count, map_count}
+use Rattle.quiver.proofs.Counts.{object_count-append, map_count-append}
+use Rattle.statement_syntax.specs.declared.place.Spot.{Spot}
+use Rattle.statement_syntax.specs.declared.tree.Name.{Name}
+use Rattle.statement_syntax.specs.declared.tree.Number.{Number}
+use Rattle.statement_syntax.specs.declared.tree.Statement.{Statement}
+use Rattle.statement_syntax.specs.declared.tree.StatementKind.{StatementKind}
+use Rattle.statement_syntax.specs.declared.tree.StatementKind.TheVariants as statement
+use Rattle.statement_names.specs.declared.kinds.Kind.TheVariants.{Object, Map}
+use Rattle.statement_names.specs.Uses.{Use, object_use, map_use}
+use Rattle.statement_names.specs.Occurrences.{Occurrence, declares_object, declares_map, uses, lists, counts, modulus, begins_order, begins_assumptions, begins_claim, begins_shape, names_behind, pairs_behind, used_names, sides_occurrences, kind_occurrences, statement_occurrences, occurrences_of}
+use Rattle.statement_names.specs.Faults.{objects_by, maps_by, assumptions_by, claims_by, shapes_by}
+use Rattle.statement_names.specs.Numbered.{objects_in, maps_in, declared_objects, declared_maps}
+use Rattle.statement_names.specs.Shapes.{shapes_in}
+use Rattle.statement_names.specs.Written.{equations_in, assumptions_of, claims_in, claims_of}
+use Rattle.statement_names.proofs.Quiet.{IsQuiet, sum_by-quiet, used_names-quiet, sides-quiet, names_behind-quiet, pairs_behind-quiet}
+
+-- a count that leaves out names and literals
+pub record LeavesOut (by : Occurrence → ℕ) : Type 0 where
+  pub use_ : (u : Use) → by (uses u) ≡ 0
+  pub list_ : (front : List (List ℕ)) (u : Use) → by (lists front u) ≡ 0
+  pub count_ : (most : ℕ) (n : Number) → by (counts most n) ≡ 0
+  pub modulus_ : (n : Number) → by (modulus n) ≡ 0
+
+abbrev made_objects : List Name → List Occurrence
+made_objects names = map (λ n. declares_object n) names
+
+abbrev made_maps : List ℕ → List ℕ → Bool → List Name → List Occurrence
+made_maps u v selfmade names = map (λ n. declares_map n u v selfmade) names
+
+-- what a statement adds to a count
+abbrev pub tally : (Occurrence → ℕ) → Spot → StatementKind → ℕ
+tally by at (statement.Objects names) = sum_by by (made_objects names)
+tally by at (statement.Maps names source target selfmade) = sum_by by (made_maps source.text target.text selfmade names)
+tally by at (statement.Assume left right) = by (begins_assumptions 1 at)
+tally by at (statement.Claim left right) = by (begins_claim at)
+tally by at (statement.Pinv a x) = by (begins_assumptions 4 at)
+tally by at (statement.Inverse a x) = by (begins_assumptions 2 at)
+tally by at (statement.Inner a x) = by (begins_assumptions 1 at)
+tally by at (statement.Projection p) = by (begins_assumptions 2 at)
+tally by at statement.Degree = by (begins_order at)
+tally by at (statement.Weight pairs) = by (begins_order at)
+tally by at (statement.Solve names) = 0
+tally by at (statement.Shape m sides) = by (begins_shape at)
+
+plus_nothing : (n : ℕ) → n + 0 ≡ n
+plus_nothing n = omega arith
+
+module _ (by : Occurrence → ℕ) (out : LeavesOut by) where
+  quiet : (os : List Occurrence) → IsQuiet os → sum_by by os ≡ 0
+  quiet os h = sum_by-quiet by out.use_ out.list_ out.count_ out.modulus_ os h
+
+  begins : (o : Occurrence) (os : List Occurrence) → IsQuiet os → sum_by by (o ∷ os) ≡ by o
+  begins o os h = sum_by-cons by o os ∙ ap (λ n. by o + n) (quiet os h) ∙ plus_nothing (by o)
+
+  pub tally-statement : (at : Spot) (k : StatementKind) → sum_by by (kind_occurrences at k) ≡ tally by at k
+  tally-statement at (statement.Objects names) = refl
+  tally-statement at (statement.Maps names source target selfmade) =
+      let ends = used_names (object_use source ∷ object_use target ∷ []) in
+      sum_by-append by (made_maps source.text target.text selfmade names) ends
+      ∙ ap (λ n. sum_by by (made_maps source.text target.text selfmade names) + n) (quiet ends (used_names-quiet (object_use source ∷ object_use target ∷ [])))
+      ∙ plus_nothing (sum_by by (made_maps source.text target.text selfmade names))
+  tally-statement at (statement.Assume left right) = begins (begins_assumptions 1 at) (sides_occurrences left right) (sides-quiet left right)
+  tally-statement at (statement.Claim left right) = begins (begins_claim at) (sides_occurrences left right) (sides-quiet left right)
+  tally-statement at (statement.Pinv a x) = begins (begins_assumptions 4 at) (used_names (map_use a ∷ map_use x ∷ [])) tt
+  tally-statement at (statement.Inverse a x) = begins (begins_assumptions 2 at) (used_names (map_use a ∷ map_use x ∷ [])) tt
+  tally-statement at (statement.Inner a x) = begins (begins_assumptions 1 at) (used_names (map_use a ∷ map_use x ∷ [])) tt
+  tally-statement at (statement.Projection p) = begins (begins_assumptions 2 at) (used_names (map_use p ∷ [])) tt
+  tally-statement at statement.Degree = begins (begins_order at) [] tt
+  tally-statement at (statement.Weight pairs) = begins (begins_order at) (pairs_behind Map 1000 [] pairs) (pairs_behind-quiet Map 1000 [] pairs)
+  tally-statement at (statement.Solve names) = quiet (names_behind Map [] names) (names_behind-quiet Map [] names)
+  tally-statement at (statement.Shape m sides) = begins (begins_shape at) (modulus m ∷ pairs_behind Object 6 [] sides) (pairs_behind-quiet Object 6 [] sides)
+
+  -- a measure of statements that agrees with it
+  pub tally-statements : (measure : Spot → StatementKind → ℕ) → ((at : Spot) (k : StatementKind) → measure at k ≡ tally by at k)
+      → (whole : List Statement → ℕ) → whole [] ≡ 0 → ((s : Statement) (statements : List Statement) → whole (s ∷ statements) ≡ measure s.at s.kind + whole statements)
+      → (statements : List Statement) → whole statements ≡ sum_by by (occurrences_of statements)
+  tally-statements measure same whole none more [] = none
+  tally-statements measure same whole none more (s ∷ statements) =
+      more s statements
+      ∙ ap₂ (λ a b. a + b) (same s.at s.kind ∙ sym (tally-statement s.at s.kind)) (tally-statements measure same whole none more statements)
+      ∙ sym (sum_by-append by (statement_occurrences s) (occurrences_of statements))
+
+-- ---- what a list of declarations adds
+no_objects : (u v : List ℕ) (selfmade : Bool) (by : Occurrence → ℕ) → ((n : Name) → by (declares_map n u v selfmade) ≡ 0) → (names : List Name) → sum_by by (made_maps u v selfmade names) ≡ 0
+no_objects u v selfmade by none [] = refl
+no_objects u v selfmade by none (n ∷ names) = sum_by-cons by (declares_map n u v selfmade) (made_maps u v selfmade names) ∙ ap₂ (λ a b. a + b) (none n) (no_objects u v selfmade by none names)
+
+no_maps : (by : Occurrence → ℕ) → ((n : Name) → by (declares_object n) ≡ 0) → (names : List Name) → sum_by by (made_objects names) ≡ 0
+no_maps by none [] = refl
+no_maps by none (n ∷ names) = sum_by-cons by (declares_object n) (made_objects names) ∙ ap₂ (λ a b. a + b) (none n) (no_maps by none names)
+
+object_each : (names : List Name) → object_count (map (λ n. object n.text) names) ≡ sum_by objects_by (made_objects names)
+object_each [] = refl
+object_each (n ∷ names) = ap (λ k. 1 + k) (object_each names) ∙ sym (sum_by-cons objects_by (declares_object n) (made_objects names))
+
+map_each : (u v : List ℕ) (x y : ℕ) (selfmade : Bool) (names : List Name) → map_count (map (λ n. arrow n.text x y selfmade) names) ≡ sum_by maps_by (made_maps u v selfmade names)
+map_each u v x y selfmade [] = refl
+map_each u v x y selfmade (n ∷ names) = ap (λ k. 1 + k) (map_each u v x y selfmade names) ∙ sym (sum_by-cons maps_by (declares_map n u v selfmade) (made_maps u v selfmade names))
+
+-- ---- the counts
+objects_out : LeavesOut objects_by
+objects_out = record { use_ = λ u. refl; list_ = λ front u. refl; count_ = λ most n. refl; modulus_ = λ n. refl }
+
+maps_out : LeavesOut maps_by
+maps_out = record { use_ = λ u. refl; list_ = λ front u. refl; count_ = λ most n. refl; modulus_ = λ n. refl }
+
+assumptions_out : LeavesOut assumptions_by
+assumptions_out = record { use_ = λ u. refl; list_ = λ front u. refl; count_ = λ most n. refl; modulus_ = λ n. refl }
+
+claims_out : LeavesOut claims_by
+claims_out = record { use_ = λ u. refl; list_ = λ front u. refl; count_ = λ most n. refl; modulus_ = λ n. refl }
+
+shapes_out : LeavesOut shapes_by
+shapes_out = record { use_ = λ u. refl; list_ = λ front u. refl; count_ = λ most n. refl; modulus_ = λ n. refl }
+
+objects_same : (at : Spot) (k : StatementKind) → object_count (objects_in k) ≡ tally objects_by at k
+objects_same at (statement.Objects names) = object_each names
+objects_same at (statement.Maps names source target selfmade) = sym (no_objects source.text target.text selfmade objects_by (λ n. refl) names)
+objects_same at k = refl
+
+maps_same : (objects : List Declaration) (at : Spot) (k : StatementKind) → map_count (maps_in objects k) ≡ tally maps_by at k
+maps_same objects at (statement.Objects names) = sym (no_maps maps_by (λ n. refl) names)
+maps_same objects at (statement.Maps names source target selfmade) = map_each source.text target.text _ _ selfmade names
+maps_same objects at k = refl
+
+assumptions_same : (ds : List Declaration) (at : Spot) (k : StatementKind) → length (equations_in ds at k) ≡ tally assumptions_by at k
+assumptions_same ds at (statement.Objects names) = sym (no_maps assumptions_by (λ n. refl) names)
+assumptions_same ds at (statement.Maps names source target selfmade) = sym (no_objects source.text target.text selfmade assumptions_by (λ n. refl) names)
+assumptions_same ds at k = refl
+
+claims_same : (at : Spot) (k : StatementKind) → length (claims_in k) ≡ tally claims_by at k
+claims_same at (statement.Objects names) = sym (no_maps claims_by (λ n. refl) names)
+claims_same at (statement.Maps names source target selfmade) = sym (no_objects source.text target.text selfmade claims_by (λ n. refl) names)
+claims_same at k = refl
+
+shapes_same : (ds : List Declaration) (at : Spot) (k : StatementKind) → length (shapes_in ds k) ≡ tally shapes_by at k
+shapes_same ds at (statement.Objects names) = sym (no_maps shapes_by (λ n. refl) names)
+shapes_same ds at (statement.Maps names source target selfmade) = sym (no_objects source.text target.text selfmade shapes_by (λ n. refl) names)
+shapes_same ds at k = refl
+
+pub object_count-statements : (statements : List Statement) → object_count (declared_objects statements) ≡ sum_by objects_by (occurrences_of statements)
+object_count-statements statements =
+    tally-statements objects_by objects_out (λ at k. object_count (objects_in k)) objects_same (λ ss. object_count (declared_objects ss)) refl
+    (λ s ss. object_count-append (objects_in s.kind) (declared_objects ss)) statements
+
+pub map_count-statements : (objects : List Declaration) (statements : List Statement) → map_count (declared_maps objects statements) ≡ sum_by maps_by (occurrences_of statements)
+map_count-statements objects statements =
+    tally-statements maps_by maps_out (λ at k. map_count (maps_in objects k)) (maps_same objects) (λ ss. map_count (declared_maps objects ss)) refl
+    (λ s ss. map_count-append (maps_in objects s.kind) (declared_maps objects ss)) statements
+
+pub length-assumptions : (ds : List Declaration) (statements : List Statement) → length (assumptions_of ds statements) ≡ sum_by assumptions_by (occurrences_of statements)
+length-assumptions ds statements =
+    tally-statements assumptions_by assumptions_out (λ at k. length (equations_in ds at k)) (assumptions_same ds) (λ ss. length (assumptions_of ds ss)) refl
+    (λ s ss. length-append (equations_in ds s.at s.kind) (assumptions_of ds ss)) statements
+
+pub length-claims : (statements : List Statement) → length (claims_of statements) ≡ sum_by claims_by (occurrences_of statements)
+length-claims statements =
+    tally-statements claims_by claims_out (λ at k. length (claims_in k)) claims_same (λ ss. length (claims_of ss)) refl
+    (λ s ss. length-append (claims_in s.kind) (claims_of ss)) statements
+
+pub length-shapes : (ds : List Declaration) (statements : List Statement) → length (flat_map (λ s. shapes_in ds s.kind) statements) ≡ sum_by shapes_by (occurrences_of statements)
+length-shapes ds statements =
+    tally-statements shapes_by shapes_out (λ at k. length (shapes_in ds k)) (shapes_same ds) (λ ss. length (flat_map (λ s. shapes_in ds s.kind) ss)) refl
+    (λ s ss. length-append (shapes_in ds s.kind) (flat_map (λ t. shapes_in ds t.kind) ss)) statements

@@ -1,0 +1,19 @@
+use Rattle.std.proofs.Common.{◌≡◌, ◌∙◌, ◌≤◌, List, IsTrue, All, sym, subst}
+use Rattle.quiver.specs.Declarations.{named_in}
+use Rattle.expressions.specs.Names.{is_map}
+use Rattle.statement_syntax.specs.declared.tree.Name.{Name}
+use Rattle.statement_syntax.specs.declared.tree.Number.{Number}
+use Rattle.statement_names.specs.Faults.{value_of}
+use Rattle.statement_names.proofs.Stated.{weights_named, weights_small}
+use Rattle.statement_names.proofs.order.read_order.Goals as goal
+
+pub weights_of-requires-clause-maps : goal.weights_of-requires-clause-maps
+weights_of-requires-clause-maps c =
+    subst (λ pairs. All (λ p. IsTrue (is_map (named_in c.args.quiver.now p.0.text))) pairs) (sym c.as_slice.ensures)
+    (subst (λ ds. All (λ p. IsTrue (is_map (named_in ds p.0.text))) c.in-Weight.weights) (sym c.requires.declared)
+    (weights_named c.args.statements.now c.requires.sound c.loop-statement.statement-index c.statement-item.result c.loop-statement-test.true c.statement-item.is c.in-Weight.weights c.in-Weight.is))
+
+pub weights_of-requires-clause-small : goal.weights_of-requires-clause-small
+weights_of-requires-clause-small c =
+    subst (λ pairs. All (λ p. value_of p.1.value ≤ 1000) pairs) (sym c.as_slice.ensures)
+    (weights_small c.args.statements.now c.requires.sound c.loop-statement.statement-index c.statement-item.result c.loop-statement-test.true c.statement-item.is c.in-Weight.weights c.in-Weight.is)

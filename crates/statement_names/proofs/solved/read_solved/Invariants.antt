@@ -1,0 +1,12 @@
+use Rattle.std.proofs.Common.{◌≡◌, Bool, false, length, replicate, take}
+use Rattle.std.specs.List.{list_any}
+use Rattle.quiver.specs.Declarations.{letter_count}
+use Rattle.statement_names.specs.Marks.{Marks}
+use Rattle.statement_names.specs.Solved.{names_letter, solved_names}
+use Rattle.statement_names.proofs.solved.read_solved.Given as goal
+
+abbrev pub invariant-loop-statement : goal.invariant-loop-statement
+invariant-loop-statement l = record {
+  size : length l.solved.items ≡ letter_count l.quiver;
+  marked : Marks (replicate (letter_count l.quiver) false) l.solved.items (λ a. list_any (names_letter l.quiver a) (solved_names (take l.statement-index l.statements)));
+}

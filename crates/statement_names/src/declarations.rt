@@ -1,0 +1,78 @@
+//! The quiver of a file: all its objects, and then all its maps.
+
+ghost use Rattle.std.specs.Prelude.{◌≡◌, ◌++◌, None, IfOk, OnOk};
+ghost use Rattle.quiver.specs.Declarations.{IsDeclared};
+ghost use Rattle.quiver.specs.Refusals.{IsMemory};
+ghost use Rattle.statement_names.specs.Faults.{name_fault_of};
+ghost use Rattle.statement_names.specs.Numbered.{objects_in, maps_in, declarations_of, HasEnds};
+
+use crate::named::object_named;
+use quiver::{Quiver, QuiverFault};
+use statement_syntax::{Statement, StatementKind};
+use std::alloc::{AllocError, Global};
+
+/// The quiver that statements declare, in whose names nothing is wrong.
+pub fn declare_all(alloc: Global, statements: &[Statement]) -> Result<Quiver, AllocError>
+    requires { name_fault_of statements.now ≡ None }
+    ensures { IfOk result (λ quiver. quiver ≡ declarations_of statements.now) }
+{
+    let mut quiver = Quiver::new(alloc)?;
+    for statement in statements {
+        add_objects(&mut quiver, &statement.kind)?;
+    }
+    for statement in statements {
+        add_maps(&mut quiver, &statement.kind)?;
+    }
+    Ok(quiver)
+}
+
+// Declares the objects of a statement.
+fn add_objects(quiver: &mut Quiver, statement: &StatementKind) -> Result<(), AllocError>
+    requires { IsDeclared (quiver.old ++ objects_in statement.now) }
+    ensures { OnOk result (quiver.new ≡ quiver.old ++ objects_in statement.now) }
+{
+    if let StatementKind::Objects(names) = statement {
+        for name in names.as_slice() {
+            match quiver.add_object(name.text.as_str()) {
+                Ok(_) => {}
+                Err(fault) => return Err(memory_of(fault)),
+            }
+        }
+    }
+    Ok(())
+}
+
+// Declares the maps of a statement between objects that are declared.
+fn add_maps(quiver: &mut Quiver, statement: &StatementKind) -> Result<(), AllocError>
+    requires ends { HasEnds quiver.old statement.now }
+    requires fits { IsDeclared (quiver.old ++ maps_in quiver.old statement.now) }
+    ensures { OnOk result (quiver.new ≡ quiver.old ++ maps_in quiver.old statement.now) }
+{
+    if let StatementKind::Maps {
+        names,
+        source,
+        target,
+        selfmade,
+    } = statement
+    {
+        let source = object_named(quiver, source);
+        let target = object_named(quiver, target);
+        for name in names.as_slice() {
+            match quiver.add_map(name.text.as_str(), source, target, *selfmade) {
+                Ok(_) => {}
+                Err(fault) => return Err(memory_of(fault)),
+            }
+        }
+    }
+    Ok(())
+}
+
+// The want of memory, where nothing else is wrong with a declaration.
+fn memory_of(fault: QuiverFault) -> AllocError
+    requires { IsMemory fault }
+{
+    match fault {
+        QuiverFault::Memory(error) => error,
+        _ => unreachable!(),
+    }
+}

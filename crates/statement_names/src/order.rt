@@ -1,0 +1,62 @@
+ghost use Rattle.std.specs.Prelude.{◌≡◌, ◌≤◌, None, IfOk, IsTrue};
+ghost use Rattle.std.specs.List.{All, flat_map};
+ghost use Rattle.quiver.specs.Declarations.{named_in};
+ghost use Rattle.expressions.specs.Names.{is_map};
+ghost use Rattle.statement_names.specs.Faults.{name_fault_of, value_of};
+ghost use Rattle.statement_names.specs.Numbered.{declarations_of};
+ghost use Rattle.statement_names.specs.Ordered.{order_of, weights_of};
+
+use crate::named::letter_named;
+use crate::survey::value_of;
+use lists::Listing;
+use quiver::Quiver;
+use statement_syntax::{Name, Number, Statement, StatementKind};
+use std::alloc::{AllocError, Global};
+use word_core::Letter;
+use word_orders::OrderSpec;
+
+/// The order that statements ask for, in whose names nothing is wrong.
+pub fn read_order(
+    alloc: Global,
+    quiver: &Quiver,
+    statements: &[Statement],
+) -> Result<OrderSpec, AllocError>
+    requires sound { name_fault_of statements.now ≡ None }
+    requires declared { quiver.now ≡ declarations_of statements.now }
+    ensures { IfOk result (λ order. order ≡ order_of quiver.now statements.now) }
+{
+    for statement in statements {
+        match &statement.kind {
+            StatementKind::Degree => return Ok(OrderSpec::Degree),
+            StatementKind::Weight(weights) => {
+                let weights = weights_of(alloc, quiver, weights.as_slice())?;
+                return Ok(OrderSpec::Weight(weights));
+            }
+            _ => {}
+        }
+    }
+    Ok(OrderSpec::Degree)
+}
+
+// The weights of maps and their adjoints.
+fn weights_of(
+    alloc: Global,
+    quiver: &Quiver,
+    pairs: &[(Name, Number)],
+) -> Result<Listing<(Letter, u32)>, AllocError>
+    requires maps { All (λ pair. IsTrue (is_map (named_in quiver.now pair.0.text))) pairs.now }
+    requires small { All (λ pair. value_of pair.1.value ≤ 1000) pairs.now }
+    ensures { IfOk result (λ weights. weights ≡ flat_map (weights_of quiver.now) pairs.now) }
+{
+    let mut weights = Listing::new(alloc);
+    for pair in pairs {
+        let letter = letter_named(quiver, &pair.0);
+        let star = quiver.star_of(letter);
+        let weight = value_of(&pair.1) as u32;
+        weights.push((letter, weight))?;
+        if star != letter {
+            weights.push((star, weight))?;
+        }
+    }
+    Ok(weights)
+}

@@ -1,0 +1,27 @@
+ghost use Rattle.std.specs.Prelude.{◌≡◌};
+ghost use Rattle.statement_names.specs.Marked.{is_starred, is_starred_in};
+
+use expressions::has_mark;
+use statement_syntax::{Statement, StatementKind};
+
+/// Whether a mark or the word `self` stands in a statement, abbreviations written out.
+pub fn is_starred(statements: &[Statement]) -> bool
+    ensures { result ≡ is_starred statements.now }
+{
+    statements
+        .iter()
+        .any(|statement| is_starred_in(&statement.kind))
+}
+
+fn is_starred_in(statement: &StatementKind) -> bool
+    ensures { result ≡ is_starred_in statement.now }
+{
+    match statement {
+        StatementKind::Maps { selfmade, .. } => *selfmade,
+        StatementKind::Assume(left, right) | StatementKind::Claim(left, right) => {
+            has_mark(left) || has_mark(right)
+        }
+        StatementKind::Pinv(..) | StatementKind::Projection(_) => true,
+        _ => false,
+    }
+}
