@@ -61,7 +61,7 @@ fn the_first_fault_is_told_with_its_place(rt: HostRuntime) -> Result<(), Fail> {
         ("model 2 U 1", "S6 1 9 0  "),
         ("object U U", "S7 1 10 0  "),
         ("object U\nmap a U : U -> U", "S7 2 7 0  "),
-        ("map a : U -> U\nobject U a", "S6 1 9 0  "),
+        ("map a : U -> U\nobject U a", "S7 2 10 0  "),
         ("order degree\n\norder degree", "S7 3 1 0  "),
         ("object U\nmap a : U -> U\nsolve a a", "S7 3 9 0  "),
         (
@@ -253,7 +253,7 @@ fn limits_are_passed_at_the_next_value(rt: HostRuntime) -> Result<(), Fail> {
             true,
             "\nmap a : U -> U\nclaim a = a",
             "read",
-            "S8 1 254 64  ",
+            "S8 1 252 64  ",
         ),
         (
             "object U\nmap a",
