@@ -7,3 +7,4 @@ pub mod Values
 pub mod InPlay
 pub mod Posed
 pub mod Unique
+pub mod Examples

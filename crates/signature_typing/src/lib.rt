@@ -6,6 +6,8 @@ mod laws;
 mod polynomials;
 mod signatures;
 mod stages;
+#[cfg(test)]
+mod tests;
 
 pub use fault::TypeFault;
 pub use laws::problem_is_unique;

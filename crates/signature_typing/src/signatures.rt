@@ -104,7 +104,8 @@ fn with_equations(
     ensures err { IfErr result (Explains (first_among (signature_fault quiver.now) equations.now)) }
 {
     for equation in equations {
-        before.push(signature_of(alloc, quiver, &equation.left, &equation.right)?)?;
+        let signature = signature_of(alloc, quiver, &equation.left, &equation.right)?;
+        before.push(signature)?;
     }
     Ok(before)
 }
@@ -125,11 +126,12 @@ impl Signatures {
     {
         match &statement.kind {
             StatementKind::Assume(left, right) => {
-                self.assumptions
-                    .push(signature_of(alloc, quiver, left, right)?)?;
+                let signature = signature_of(alloc, quiver, left, right)?;
+                self.assumptions.push(signature)?;
             }
             StatementKind::Claim(left, right) => {
-                self.claims.push(signature_of(alloc, quiver, left, right)?)?;
+                let signature = signature_of(alloc, quiver, left, right)?;
+                self.claims.push(signature)?;
             }
             _ => {
                 let equations = abbreviation(alloc, quiver, statement)?;

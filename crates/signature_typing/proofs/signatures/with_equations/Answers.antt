@@ -5,16 +5,16 @@ use Rattle.signature_typing.proofs.FirstFound.{explained_at}
 use Rattle.signature_typing.proofs.Progress.{one_more}
 use Rattle.signature_typing.proofs.signatures.with_equations.Goals as goal
 
-pub returns-in_err-signature_of-clause-err : goal.returns-in_err-signature_of-clause-err
-returns-in_err-signature_of-clause-err c =
+pub returns-in_err-signature-clause-err : goal.returns-in_err-signature-clause-err
+returns-in_err-signature-clause-err c =
     let exit = err_from_is_err_and c.from_residual.result c.from_residual.ensures.1 in
-    rw (exit.1, exit.2) (explained_at (signature_fault c.args.quiver.now) c.args.equations.now c.loop-equation.equation-index c.equation-item.result _ (omega arith) c.equation-item.is c.loop-equation.invariant.fits c.in_err-signature_of.ensures.err)
+    rw (exit.1, exit.2) (explained_at (signature_fault c.args.quiver.now) c.args.equations.now c.loop-equation.equation-index c.equation-item.result _ (omega arith) c.equation-item.is c.loop-equation.invariant.fits c.in_err-signature.ensures.err)
 
 pub loop-equation-preserved : goal.loop-equation-preserved
 loop-equation-preserved c =
     let ds = c.args.quiver.now in
     let e = c.equation-item.result in
-    let given : c.in_ok-signature_of.field-0 ∷ [] ≡ value_in (signature_in ds e) = rw c.in_ok-signature_of.ensures.ok refl in
-    let fits : signature_fault ds e ≡ None = rw c.in_ok-signature_of.ensures.ok refl in
+    let given : c.in_ok-signature.signature ∷ [] ≡ value_in (signature_in ds e) = rw c.in_ok-signature.ensures.ok refl in
+    let fits : signature_fault ds e ≡ None = rw c.in_ok-signature.ensures.ok refl in
     one_more (λ x. value_in (signature_in ds x)) (signature_fault ds) c.args.equations.now c.loop-equation.equation-index c.args.before c.loop-equation.before c.push.new.self e (omega arith) c.equation-item.is
     (c.in_ok-push.ensures.ok ∙ ap (λ ys. c.loop-equation.before ++ ys) given) fits c.loop-equation.invariant
