@@ -1,0 +1,7 @@
+pub mod Stars
+pub mod NewAdjoints
+pub mod Ranges
+pub mod Counted
+pub mod Generators
+mod Examples
+mod LoopStatement

@@ -96,3 +96,7 @@ generators_in p = generators_of (quiver_of p.quiver) p.starred (numbers p.marked
 -- The polynomials are the generators of the parts, in their order.
 pub record IsClosed (p : Parts) (generators : List Poly) : Type 0 where
   pub same : AllZip SamePolynomial (polynomials generators) (generators_in p)
+
+-- The parts have one list of generators.
+abbrev pub GeneratorsAreUnique : Type 0
+GeneratorsAreUnique = (p : Parts) (generators others : List Poly) → IsClosed p generators → IsClosed p others → polynomials generators ≡ polynomials others

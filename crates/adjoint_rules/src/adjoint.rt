@@ -1,12 +1,14 @@
 ghost use Rattle.std.specs.Prelude.{◌≡◌, IfOk, OnOk, ◌++◌, ℕ, ℤ, List, length, negsuc};
-ghost use Rattle.std.specs.List.{All, AllZip, flat_map};
+ghost use Rattle.std.specs.List.{All, AllZip};
 ghost use Rattle.definitions.specs.Poly.{SamePolynomial, poly_multiple};
-ghost use Rattle.definitions.specs.Generators.{adjoint_word, adjoint_poly, new_adjoint};
+ghost use Rattle.definitions.specs.Generators.{adjoint_word, adjoint_poly};
 ghost use Rattle.word_core.specs.Letters.{IsOver};
 ghost use Rattle.nc_polynomial.specs.Adjoint.{numbers_of, IsInvolution};
 ghost use Rattle.quiver.specs.Declarations.{letter_count, quiver_of};
-ghost use Rattle.adjoint_rules.specs.Problem.{polynomials};
+ghost use Rattle.adjoint_rules.specs.Problem.{polynomials, IsPosed};
+ghost use Rattle.adjoint_rules.specs.Parts.{IsNewAdjoint, adjoints_in};
 
+use crate::Parts;
 use lists::{Duplicate, Listing};
 use nc_polynomial::{Poly, negate_terms};
 use quiver::Quiver;
@@ -39,6 +41,7 @@ pub fn adjoint_poly(alloc: Global, quiver: &Quiver, poly: &Poly) -> Result<Poly,
 // The adjoint of each letter, in the order of their numbers.
 fn stars_of(alloc: Global, quiver: &Quiver) -> Result<Listing<Letter>, AllocError>
     ensures listed { IfOk result (λ stars. numbers_of stars ≡ (quiver_of quiver.now).stars) }
+    ensures count { IfOk result (λ stars. length stars ≡ letter_count quiver.now) }
     ensures involution { IfOk result (λ stars. IsInvolution (numbers_of stars)) }
 {
     // The number of objects comes with the fact that adjoints are letters.
@@ -58,22 +61,39 @@ fn negative_of(alloc: Global, poly: &Poly) -> Result<Poly, AllocError>
     Ok(Poly { terms })
 }
 
-// Appends the adjoints of the polynomials, without those that are plus or minus the polynomial.
+// The adjoint of a polynomial by the adjoints of the letters, unless it is plus or minus the polynomial.
+fn new_adjoint(alloc: Global, stars: &[Letter], poly: &Poly) -> Result<Option<Poly>, AllocError>
+    requires involution { IsInvolution (numbers_of stars.now) }
+    requires listed { All (λ t. IsOver (length stars.now) t.1) poly.now.terms }
+    ensures { IfOk result (IsNewAdjoint (numbers_of stars.now) poly.now.terms) }
+{
+    let adjoint = poly.adjoint_by(stars)?;
+    if adjoint.same(poly) {
+        return Ok(None);
+    }
+    let negative = negative_of(alloc, poly)?;
+    if adjoint.same(&negative) {
+        return Ok(None);
+    }
+    Ok(Some(adjoint))
+}
+
+// Appends the adjoints of the assumptions where the statement is starred, without those that are plus or minus the assumption.
 pub(crate) fn push_adjoints(
     alloc: Global,
     generators: &mut Listing<Poly>,
-    quiver: &Quiver,
-    assumptions: &[Poly],
+    parts: &Parts,
 ) -> Result<(), AllocError>
-    requires { All (λ p. All (λ t. IsOver (letter_count quiver.now) t.1) p.terms) assumptions.now }
+    requires { IsPosed parts.now }
     ensures { OnOk result ((before : List (List (ℤ × List ℕ))) → AllZip SamePolynomial (polynomials generators.old) before
-        → AllZip SamePolynomial (polynomials generators.new) (before ++ flat_map (new_adjoint (quiver_of quiver.now)) (polynomials assumptions.now))) }
+        → AllZip SamePolynomial (polynomials generators.new) (before ++ adjoints_in parts.now)) }
 {
-    let stars = stars_of(alloc, quiver)?;
-    for assumption in assumptions {
-        let adjoint = assumption.adjoint_by(stars.as_slice())?;
-        let negative = negative_of(alloc, assumption)?;
-        if !adjoint.same(assumption) && !adjoint.same(&negative) {
+    if !parts.starred {
+        return Ok(());
+    }
+    let stars = stars_of(alloc, &parts.quiver)?;
+    for assumption in parts.assumptions.as_slice() {
+        if let Some(adjoint) = new_adjoint(alloc, stars.as_slice(), assumption)? {
             generators.push(adjoint)?;
         }
     }

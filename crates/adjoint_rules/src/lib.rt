@@ -2,12 +2,14 @@
 #![tactic(auto)]
 
 mod adjoint;
+mod laws;
 mod parts;
 mod problem;
-mod units;
 #[cfg(test)]
 mod tests;
+mod units;
 
 pub use adjoint::{adjoint_poly, adjoint_word};
+pub use laws::{generators_are_unique, problem_is_typed};
 pub use parts::{Parts, Shape};
 pub use problem::{Problem, close_problem};

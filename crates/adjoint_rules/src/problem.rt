@@ -1,10 +1,10 @@
-ghost use Rattle.std.specs.Prelude.{◌≤◌, length};
+ghost use Rattle.std.specs.Prelude.{◌≡◌, ◌≤◌, length, IfOk};
 ghost use Rattle.adjoint_rules.specs.Problem.{IsPosed, IsClosed};
 ghost use Rattle.adjoint_rules.specs.Props.{props};
 
 use crate::Parts;
 use crate::adjoint::push_adjoints;
-use crate::units::push_units;
+use crate::units::push_all_units;
 use lists::{Duplicate, Listing};
 use nc_polynomial::Poly;
 use std::alloc::{AllocError, Global};
@@ -22,8 +22,6 @@ pub struct Problem {
     pub ghost few: { length generators ≤ 1864 },
 }
 
-ghost use Rattle.std.specs.Prelude.{◌≡◌, IfOk};
-
 /// The problem of the parts.
 pub fn close_problem(alloc: Global, parts: Parts) -> Result<Problem, AllocError>
     requires { IsPosed parts }
@@ -32,11 +30,7 @@ pub fn close_problem(alloc: Global, parts: Parts) -> Result<Problem, AllocError>
     ensures few { IfOk result (λ problem. length problem.generators ≤ 1864) }
 {
     let mut generators = parts.assumptions.duplicate()?;
-    if parts.starred {
-        push_adjoints(alloc, &mut generators, &parts.quiver, parts.assumptions.as_slice())?;
-    }
-    for object in parts.marked.as_slice() {
-        push_units(alloc, &mut generators, &parts.quiver, parts.starred, *object)?;
-    }
+    push_adjoints(alloc, &mut generators, &parts)?;
+    push_all_units(alloc, &mut generators, &parts)?;
     Ok(Problem { parts, generators })
 }

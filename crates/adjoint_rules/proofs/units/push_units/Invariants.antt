@@ -1,4 +1,4 @@
-use Rattle.std.proofs.Common.{◌≡◌, ◌++◌, ◌-◌, ◌≤◌}
+use Rattle.std.proofs.Common.{◌≡◌, ◌++◌, ◌-◌}
 use Rattle.std.specs.List.{flat_map, range_with_len}
 use Rattle.definitions.specs.Generators.{letter_units}
 use Rattle.quiver.specs.Declarations.{quiver_of, object_count}

@@ -1,0 +1,171 @@
+-- How many generators there are.
+use Rattle.std.proofs.Common.{◌≡◌, ℕ, suc, ◌+◌, ◌-◌, ◌*◌, ◌<◌, ◌≤◌, negsuc, Bool, true, false, cond, ◌||◌, List, [], ◌∷◌, ◌++◌, length, refl, ap, subst, sym, arith, eqb, leb, eqb-true}
+use Rattle.std.specs.List.{AllPairs, AllByRecursion, flat_map, range_with_len, sum_by}
+use Rattle.std.proofs.lemmas.Bool.{false_from_ne_true}
+use Rattle.std.proofs.lemmas.List.{length-append, length-map}
+use Rattle.std.proofs.lemmas.List.Concat.{length-flat_map}
+use Rattle.std.proofs.lemmas.List.Elements.{recursion_from_All, length_all_zip}
+use Rattle.std.proofs.lemmas.List.FromFn.{length-range_with_len}
+use Rattle.std.proofs.lemmas.List.Sums.{sum_by-cons}
+use Rattle.definitions.specs.Poly.{Term, SamePolynomial, poly_eq, poly_multiple}
+use Rattle.definitions.specs.Quiver.{Quiver, letters, source, target, star}
+use Rattle.definitions.specs.Generators.{adjoint_poly, new_adjoint, left_unit, right_unit, letter_units, units}
+use Rattle.word_core.specs.declared.letter.Object.{Object}
+use Rattle.nc_polynomial.specs.declared.poly.Poly.{Poly}
+use Rattle.quiver.specs.Declarations.{object_count, quiver_of}
+use Rattle.quiver.proofs.Counts.{letters-quiver_of, few_letters}
+use Rattle.adjoint_rules.specs.declared.parts.Parts.{Parts}
+use Rattle.adjoint_rules.specs.Problem.{polynomials, numbers, IsPosed, IsClosed, generators_in}
+use Rattle.adjoint_rules.specs.Parts.{adjoints_in, units_in}
+
+-- ---- sums
+sum_le : {X : Type 0} (f g h : X → ℕ) → ((x : X) → f x ≤ g x + h x) → (xs : List X) → sum_by f xs ≤ sum_by g xs + sum_by h xs
+sum_le f g h each [] = omega arith
+sum_le f g h each (x ∷ xs) = omega (arith, each x, sum_le f g h each xs, sum_by-cons f x xs, sum_by-cons g x xs, sum_by-cons h x xs)
+
+sum_of_none : {X : Type 0} (xs : List X) → sum_by (λ x. 0) xs ≡ 0
+sum_of_none [] = refl
+sum_of_none (x ∷ xs) = omega (arith, sum_of_none xs, sum_by-cons (λ y. 0) x xs)
+
+sum_of_ones : {X : Type 0} (xs : List X) → sum_by (λ x. 1) xs ≡ length xs
+sum_of_ones [] = refl
+sum_of_ones (x ∷ xs) = omega (arith, sum_of_ones xs, sum_by-cons (λ y. 1) x xs)
+
+-- ---- ascending numbers
+abbrev Ascends : List ℕ → Type 0
+Ascends [] = Unit {0}
+Ascends (v ∷ vs) = AllByRecursion (λ w. v < w) vs × Ascends vs
+
+ascends_from_pairs : (vs : List Object) → AllPairs (λ v w. v.0 < w.0) vs → Ascends (numbers vs)
+ascends_from_pairs [] h = tt
+ascends_from_pairs (v ∷ vs) h = (
+  above vs (recursion_from_All (λ (w : Object). v.0 < w.0) vs (λ i x k. h 0 (suc i) x (omega arith) (omega arith))),
+  ascends_from_pairs vs (λ i j x k l. h (suc i) (suc j) x (omega arith) (omega arith)),
+)
+  where
+    above : (ws : List Object) → AllByRecursion (λ (w : Object). v.0 < w.0) ws → AllByRecursion (λ w. v.0 < w) (numbers ws)
+    above [] k = tt
+    above (w ∷ ws) k = (k.0, above ws k.1)
+
+-- at most n numbers are below n
+length_ascending : (k n : ℕ) (vs : List ℕ) → Ascends vs → AllByRecursion (λ v. k ≤ v) vs → AllByRecursion (λ v. v < n) vs → length vs ≤ n - k
+length_ascending k n [] up from below = omega arith
+length_ascending k n (v ∷ vs) up from below = omega (arith, from.0, below.0, length_ascending (v + 1) n vs up.1 (next vs up.0) below.1)
+  where
+    next : (ws : List ℕ) → AllByRecursion (λ w. v < w) ws → AllByRecursion (λ w. v + 1 ≤ w) ws
+    next [] h = tt
+    next (w ∷ ws) h = (omega (arith, h.0), next ws h.1)
+
+-- how often a number is listed
+abbrev bit : Bool → ℕ
+bit b = cond b 1 0
+
+abbrev hits : ℕ → List ℕ → ℕ
+hits x vs = sum_by (λ v. bit (eqb x v)) vs
+
+no_hit : (x : ℕ) (vs : List ℕ) → AllByRecursion (λ w. x < w) vs → hits x vs ≡ 0
+no_hit x [] h = refl
+no_hit x (v ∷ vs) h =
+    let other : eqb x v ≡ false = false_from_ne_true (eqb x v) (λ e. absurd (omega (arith, h.0, eqb-true x v e))) in
+    omega (arith, sum_by-cons (λ w. bit (eqb x w)) v vs, ap bit other, no_hit x vs h.1)
+
+hits_once : (x : ℕ) (vs : List ℕ) → Ascends vs → hits x vs ≤ 1
+hits_once x [] up = omega arith
+hits_once x (v ∷ vs) up = go (eqb x v) refl (hits_once x vs up.1)
+  where
+    go : (b : Bool) → eqb x v ≡ b → hits x vs ≤ 1 → hits x (v ∷ vs) ≤ 1
+    go true e rest =
+        let none : hits x vs ≡ 0 = no_hit x vs (subst (λ y. AllByRecursion (λ w. y < w) vs) (sym (eqb-true x v e)) up.0) in
+        omega (arith, sum_by-cons (λ w. bit (eqb x w)) v vs, ap bit e, none)
+    go false e rest = omega (arith, sum_by-cons (λ w. bit (eqb x w)) v vs, ap bit e, rest)
+
+-- ---- the relations of identities
+module _ (q : Quiver) (starred : Bool) where
+  few_each : (a v : ℕ) → length (letter_units q starred v a) ≤ bit (eqb (target q a) v) + bit (eqb (source q a) v)
+  few_each a v = go (starred || leb a (star q a)) (eqb (target q a) v) (eqb (source q a) v)
+    where
+      go : (b c d : Bool) → length (cond b (cond c (left_unit v a ∷ []) [] ++ cond d (right_unit v a ∷ []) []) []) ≤ bit c + bit d
+      go true true true = omega arith
+      go true true false = omega arith
+      go true false true = omega arith
+      go true false false = omega arith
+      go false c d = omega arith
+
+  -- a letter ends at one object and starts at one
+  few_of_letter : (a : ℕ) (vs : List ℕ) → Ascends vs → sum_by (λ v. length (letter_units q starred v a)) vs ≤ 2
+  few_of_letter a vs up =
+      omega (
+        arith,
+        sum_le (λ v. length (letter_units q starred v a)) (λ v. bit (eqb (target q a) v)) (λ v. bit (eqb (source q a) v)) (few_each a) vs,
+        hits_once (target q a) vs up,
+        hits_once (source q a) vs up,
+      )
+
+  few_of_letters : (ns vs : List ℕ) → Ascends vs → sum_by (λ v. length (flat_map (letter_units q starred v) ns)) vs ≤ 2 * length ns
+  few_of_letters [] vs up = omega (arith, sum_of_none vs)
+  few_of_letters (a ∷ ns) vs up =
+      omega (
+        arith,
+        sum_le (λ v. length (flat_map (letter_units q starred v) (a ∷ ns))) (λ v. length (letter_units q starred v a)) (λ v. length (flat_map (letter_units q starred v) ns))
+            (λ v. omega (arith, length-append (letter_units q starred v a) (flat_map (letter_units q starred v) ns))) vs,
+        few_of_letter a vs up,
+        few_of_letters ns vs up,
+      )
+
+  few_units : (vs : List ℕ) → Ascends vs → length (flat_map (units q starred) vs) ≤ length vs + 2 * (letters q - q.objects)
+  few_units vs up =
+      let ns = range_with_len q.objects (letters q - q.objects) in
+      omega (
+        arith,
+        length-flat_map (units q starred) vs,
+        sum_le (λ v. length (units q starred v)) (λ v. 1) (λ v. length (flat_map (letter_units q starred v) ns)) (λ v. omega arith) vs,
+        sum_of_ones vs,
+        few_of_letters ns vs up,
+        length-range_with_len q.objects (letters q - q.objects),
+      )
+
+  few_adjoints : (ps : List (List Term)) → length (flat_map (new_adjoint q) ps) ≤ length ps
+  few_adjoints [] = omega arith
+  few_adjoints (p ∷ ps) = omega (arith, length-append (new_adjoint q p) (flat_map (new_adjoint q) ps), few_adjoints ps, one (poly_eq (adjoint_poly q p) p || poly_eq (adjoint_poly q p) (poly_multiple (negsuc 0) p)))
+    where
+      one : (b : Bool) → length (cond b [] (adjoint_poly q p ∷ [])) ≤ 1
+      one true = omega arith
+      one false = omega arith
+
+few_generators : (p : Parts) → IsPosed p → length (generators_in p) ≤ 1864
+few_generators p posed =
+    let q = quiver_of p.quiver in
+    let ps = polynomials p.assumptions in
+    let vs = numbers p.marked in
+    let up = ascends_from_pairs p.marked posed.marked_ascending in
+    let below = recursion_from_All (λ v. v.0 < object_count p.quiver) p.marked posed.marked_objects in
+    omega (
+      arith,
+      length-append ps (adjoints_in p ++ units_in p),
+      length-append (adjoints_in p) (units_in p),
+      adjoints p.starred,
+      few_units q p.starred vs up,
+      length_ascending 0 (object_count p.quiver) vs up (least vs) (below_all p.marked below),
+      letters-quiver_of p.quiver,
+      few_letters p.quiver,
+      posed.declared.few_objects,
+      posed.declared.few_maps,
+      posed.few_assumptions,
+      length-map p.assumptions (λ f. f.terms),
+    )
+  where
+    adjoints : (b : Bool) → length (cond b (flat_map (new_adjoint (quiver_of p.quiver)) (polynomials p.assumptions)) []) ≤ length (polynomials p.assumptions)
+    adjoints true = few_adjoints (quiver_of p.quiver) true (polynomials p.assumptions)
+    adjoints false = omega arith
+
+    least : (ws : List ℕ) → AllByRecursion (λ v. 0 ≤ v) ws
+    least [] = tt
+    least (w ∷ ws) = (omega arith, least ws)
+
+    below_all : (ws : List Object) → AllByRecursion (λ v. v.0 < object_count p.quiver) ws → AllByRecursion (λ v. v < object_count p.quiver) (numbers ws)
+    below_all [] h = tt
+    below_all (w ∷ ws) h = (h.0, below_all ws h.1)
+
+pub few_closed : (p : Parts) (generators : List Poly) → IsPosed p → IsClosed p generators → length generators ≤ 1864
+few_closed p generators posed closed =
+    omega (arith, few_generators p posed, length_all_zip SamePolynomial (polynomials generators) (generators_in p) closed.same, length-map generators (λ f. f.terms))
