@@ -1,5 +1,5 @@
 -- The polynomial of an expression, or the first fault of its arithmetic.
-use Rattle.std.specs.Prelude.{ℕ, pos, Bool, true, false, List, [], ◌∷◌, Option, Some, None, Result, Ok, Err}
+use Rattle.std.specs.Prelude.{ℕ, pos, Bool, true, false, List, [], ◌∷◌, Option, Some, None, Result, Ok}
 use Rattle.definitions.specs.Poly.{Poly}
 use Rattle.definitions.specs.Quiver.{Quiver}
 use Rattle.definitions.specs.Generators.{adjoint_poly}
@@ -22,10 +22,13 @@ use Rattle.expressions.specs.Names.{letter_of, object_of}
 abbrev pub letter_poly : ℕ → Poly
 letter_poly a = (pos 1, a ∷ []) ∷ []
 
--- each mark reverses the words and takes the adjoints of the letters
+-- a mark reverses the words and takes the adjoints of their letters
+abbrev pub adjoint_by : Quiver → Mark → Poly → Result Poly PolyFault
+adjoint_by q Adjoint p = collection_result (adjoint_poly q p)
+
 abbrev pub marked_poly : Quiver → List Mark → Poly → Result Poly PolyFault
 marked_poly q [] p = Ok p
-marked_poly q (Adjoint ∷ marks) p = collection_result (adjoint_poly q p) >>= marked_poly q marks
+marked_poly q (m ∷ marks) p = adjoint_by q m p >>= marked_poly q marks
 
 -- factors from the left, after this part
 abbrev pub product_from : Poly → List Poly → Result Poly PolyFault
@@ -46,9 +49,9 @@ abbrev pub Summand : Type 0
 Summand = Bool × Poly
 
 -- the first term
-abbrev pub started : Summand → Poly
-started (false, p) = p
-started (true, p) = negated p
+abbrev pub signed : Summand → Poly
+signed (false, p) = p
+signed (true, p) = negated p
 
 abbrev pub sum_step : Poly → Summand → Result Poly PolyFault
 sum_step so_far (false, p) = sum_result so_far p
@@ -61,7 +64,7 @@ sum_from so_far (s ∷ summands) = sum_step so_far s >>= λ next. sum_from next 
 -- a sum of these terms from the left
 abbrev pub total : List Summand → Result Poly PolyFault
 total [] = Ok []
-total (s ∷ summands) = sum_from (started s) summands
+total (s ∷ summands) = sum_from (signed s) summands
 
 abbrev pub is_negative : Term → Bool
 is_negative (Term' at negative literal shape factors) = negative
@@ -74,9 +77,9 @@ abbrev mutual
   pub summands : {m : _} → List Declaration → Row_of-Term m → Result (List Summand) PolyFault
   summands ds end_of-Term = Ok []
   summands ds (more_of-Term t rest) = do
-    p ← term_poly ds t
+    summand ← term_poly ds t >>= λ p. Ok (is_negative t, p)
     others ← summands ds rest
-    Ok ((is_negative t, p) ∷ others)
+    Ok (summand ∷ others)
 
   pub term_poly : List Declaration → Term → Result Poly PolyFault
   term_poly ds (Term' at negative literal shape factors) = (factor_polys ds factors >>= product_poly) >>= scaled_by literal

@@ -30,10 +30,13 @@ same_ends s t = nat_eq s.source.0 t.source.0 && nat_eq s.target.0 t.target.0
 abbrev pub turned : Sig → Sig
 turned s = record { source = s.target; target = s.source }
 
--- each mark exchanges the ends
+-- a mark exchanges the ends
+abbrev pub turned_by : Mark → Option Sig → Option Sig
+turned_by Adjoint s = option_map turned s
+
 abbrev pub marked_signature : List Mark → Option Sig → Option Sig
 marked_signature [] s = s
-marked_signature (Adjoint ∷ marks) s = marked_signature marks (option_map turned s)
+marked_signature (m ∷ marks) s = marked_signature marks (turned_by m s)
 
 -- its ends are among the first n objects, unless it is open
 abbrev pub HasObjects : ℕ → Option Sig → Type 0
@@ -94,9 +97,9 @@ abbrev mutual
   pub terms_parts : {m : _} → List Declaration → Row_of-Term m → Result (List Part) SignatureFault
   terms_parts ds end_of-Term = Ok []
   terms_parts ds (more_of-Term t rest) = do
-    s ← term_signature ds t
+    part ← term_signature ds t >>= λ s. Ok (term_at t, s)
     parts ← terms_parts ds rest
-    Ok ((term_at t, s) ∷ parts)
+    Ok (part ∷ parts)
 
   pub term_signature : List Declaration → Term → Result (Option Sig) SignatureFault
   term_signature ds (Term' at negative literal shape factors) = factors_parts ds factors >>= product_signature
@@ -104,9 +107,9 @@ abbrev mutual
   pub factors_parts : {m : _} → List Declaration → Row_of-Factor m → Result (List Part) SignatureFault
   factors_parts ds end_of-Factor = Ok []
   factors_parts ds (more_of-Factor at primary marks rest) = do
-    s ← primary_signature ds primary >>= λ s. Ok (marked_signature marks s)
+    part ← primary_signature ds primary >>= λ s. Ok (at, marked_signature marks s)
     parts ← factors_parts ds rest
-    Ok ((at, s) ∷ parts)
+    Ok (part ∷ parts)
 
   pub primary_signature : List Declaration → Primary → Result (Option Sig) SignatureFault
   primary_signature ds (Letter n) = Ok (Some (letter_signature (quiver_of ds) (letter_of ds n)))

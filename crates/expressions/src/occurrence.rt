@@ -47,11 +47,17 @@ fn has_adjoint(marks: &[Mark]) -> bool
     ensures { result ≡ list_any is_adjoint marks.now }
 {
     for mark in marks {
-        match mark {
-            Mark::Adjoint => return true,
+        if is_adjoint(mark) {
+            return true;
         }
     }
     false
+}
+
+fn is_adjoint(mark: &Mark) -> bool
+    ensures { result ≡ is_adjoint mark.now }
+{
+    matches!(mark, Mark::Adjoint)
 }
 
 /// Whether the name of the object stands in square brackets in the expression.

@@ -1,13 +1,13 @@
-ghost use Rattle.std.specs.Prelude.{◌≡◌, ◌<◌, [], map, MatchResult, Ok, IfOk, IsTrue};
+ghost use Rattle.std.specs.Prelude.{◌≡◌, ◌<◌, [], map, MatchResult, Ok, IfOk, IfErr, IsTrue};
 ghost use Rattle.std.specs.List.{All};
 ghost use Rattle.definitions.specs.Generators.{adjoint_word, adjoint_poly};
 ghost use Rattle.word_core.specs.Letters.{IsOver};
-ghost use Rattle.nc_polynomial.specs.Arithmetic.{multiple_result};
+ghost use Rattle.nc_polynomial.specs.Arithmetic.{sum_result, multiple_result};
 ghost use Rattle.nc_polynomial.specs.Collected.{collection_result};
-ghost use Rattle.nc_polynomial.specs.Faults.{Explains};
+ghost use Rattle.nc_polynomial.specs.Faults.{Explains, IsMemory};
 ghost use Rattle.quiver.specs.Declarations.{letter_count, quiver_of, identity_in, IsDeclared};
 ghost use Rattle.expressions.specs.Names.{AreNames, are_names_of_term, are_names_of_primary, letter_of, object_of};
-ghost use Rattle.expressions.specs.Polynomials.{letter_poly, marked_poly, product_poly, scaled_by, started, sum_step, total, sum_poly, term_poly, factor_poly, primary_poly, equation_poly};
+ghost use Rattle.expressions.specs.Polynomials.{letter_poly, adjoint_by, marked_poly, product_poly, scaled_by, signed, sum_step, total, sum_poly, term_poly, factor_poly, primary_poly, equation_poly};
 
 use crate::names::{letter_of, object_of};
 use coef_int::Overflow;
@@ -32,7 +32,8 @@ pub fn equation_poly(
     requires right_names { AreNames quiver.now right.now }
     ensures exact { MatchResult result (λ p. equation_poly quiver.now left.now right.now ≡ Ok p.terms) (Explains (equation_poly quiver.now left.now right.now)) }
 {
-    let _objects = quiver.objects();
+    // A quiver is made of declarations, so the adjoints of its letters are letters.
+    prove!(quiver.objects() <= 64);
     let minuend = sum_poly(alloc, quiver, left)?;
     let subtrahend = sum_poly(alloc, quiver, right)?;
     add_summand(alloc, minuend, true, subtrahend)
@@ -59,35 +60,37 @@ fn total(alloc: Global, mut summands: VecDeque<(bool, Poly)>) -> Result<Poly, Po
     let Some((negative, first)) = summands.pop_front() else {
         return Ok(Poly::zero(alloc));
     };
-    let mut sum = started(alloc, negative, first)?;
+    let mut sum = signed(alloc, negative, first)?;
     while let Some((negative, poly)) = summands.pop_front() {
         sum = add_summand(alloc, sum, negative, poly)?;
     }
     Ok(sum)
 }
 
-// The first summand, negated where it is subtracted.
-fn started(alloc: Global, negative: bool, poly: Poly) -> Result<Poly, AllocError>
-    ensures { IfOk result (λ p. p.terms ≡ started (negative, poly.terms)) }
+// The summand, negated where it is subtracted.
+fn signed(alloc: Global, negative: bool, poly: Poly) -> Result<Poly, AllocError>
+    ensures { IfOk result (λ p. p.terms ≡ signed (negative, poly.terms)) }
 {
     if !negative {
         return Ok(poly);
     }
-    Ok(Poly {
-        terms: negate_terms(alloc, poly.terms)?,
-    })
+    let terms = negate_terms(alloc, poly.terms)?;
+    Ok(Poly { terms })
 }
 
 // The sum so far and a summand, which is added or subtracted. Both are given away.
 fn add_summand(alloc: Global, sum: Poly, negative: bool, poly: Poly) -> Result<Poly, PolyFault>
     ensures { MatchResult result (λ p. sum_step sum.terms (negative, poly.terms) ≡ Ok p.terms) (Explains (sum_step sum.terms (negative, poly.terms))) }
 {
-    let terms = if negative {
-        negate_terms(alloc, poly.terms)?
-    } else {
-        poly.terms
-    };
-    Poly::from_descending(merge_terms(alloc, sum.terms, terms)?)
+    let summand = signed(alloc, negative, poly)?;
+    add(alloc, sum, summand)
+}
+
+fn add(alloc: Global, left: Poly, right: Poly) -> Result<Poly, PolyFault>
+    ensures { MatchResult result (λ p. sum_result left.terms right.terms ≡ Ok p.terms) (Explains (sum_result left.terms right.terms)) }
+{
+    let terms = merge_terms(alloc, left.terms, right.terms)?;
+    Poly::from_descending(terms)
 }
 
 #[cycle(polys)]
@@ -101,10 +104,7 @@ fn term_poly(alloc: Global, quiver: &Quiver, term: &Term) -> Result<Poly, PolyFa
         polys.push_back(factor_poly(alloc, quiver, factor)?)?;
     }
     let product = product(alloc, polys)?;
-    match term.literal {
-        None => Ok(product),
-        Some(number) => scale(product, number.value),
-    }
+    scaled_by(product, &term.literal)
 }
 
 // The product from the left.
@@ -118,6 +118,16 @@ fn product(alloc: Global, mut polys: VecDeque<Poly>) -> Result<Poly, PolyFault>
         product = product.product(&next)?;
     }
     Ok(product)
+}
+
+// The multiple by a literal, where there is one.
+fn scaled_by(poly: Poly, literal: &Option<Number>) -> Result<Poly, PolyFault>
+    ensures { MatchResult result (λ p. scaled_by literal.now poly.terms ≡ Ok p.terms) (Explains (scaled_by literal.now poly.terms)) }
+{
+    match literal {
+        None => Ok(poly),
+        Some(number) => scale(poly, number.value),
+    }
 }
 
 // The multiple by a number. The least number is no coefficient, and so is none of its products but with zero.
@@ -143,23 +153,32 @@ fn factor_poly(alloc: Global, quiver: &Quiver, factor: &Factor) -> Result<Poly, 
     requires names { IsTrue (are_names_of_primary quiver.now factor.now.primary) }
     ensures { MatchResult result (λ p. factor_poly quiver.now factor.now ≡ Ok p.terms) (Explains (factor_poly quiver.now factor.now)) }
 {
-    let mut poly = match &factor.primary {
-        Primary::Letter(name) => letter_poly(alloc, letter_of(quiver, name))?,
-        Primary::Identity(name) => {
-            letter_poly(alloc, quiver.identity_of(object_of(quiver, name)))?
-        }
-        Primary::Bracket(sum) => sum_poly(alloc, quiver, sum)?,
-    };
+    let mut poly = primary_poly(alloc, quiver, &factor.primary)?;
     for mark in factor.marks.as_slice() {
-        match mark {
-            Mark::Adjoint => poly = adjoint(alloc, quiver, &poly)?,
-        }
+        poly = adjoint_by(alloc, quiver, mark, &poly)?;
     }
     Ok(poly)
 }
 
+#[cycle(polys)]
+fn primary_poly(alloc: Global, quiver: &Quiver, primary: &Primary) -> Result<Poly, PolyFault>
+    requires declared { IsDeclared quiver.now }
+    requires names { IsTrue (are_names_of_primary quiver.now primary.now) }
+    ensures { MatchResult result (λ p. primary_poly quiver.now primary.now ≡ Ok p.terms) (Explains (primary_poly quiver.now primary.now)) }
+{
+    match primary {
+        Primary::Letter(name) => letter_poly(alloc, letter_of(quiver, name)),
+        Primary::Identity(name) => {
+            let object = object_of(quiver, name);
+            letter_poly(alloc, quiver.identity_of(object))
+        }
+        Primary::Bracket(sum) => sum_poly(alloc, quiver, sum),
+    }
+}
+
 fn letter_poly(alloc: Global, letter: Letter) -> Result<Poly, PolyFault>
-    ensures { IfOk result (λ p. p.terms ≡ letter_poly letter.0) }
+    ensures ok { IfOk result (λ p. p.terms ≡ letter_poly letter.0) }
+    ensures err { IfErr result IsMemory }
 {
     let mut word = Word::new(alloc);
     word.push(letter)?;
@@ -168,7 +187,16 @@ fn letter_poly(alloc: Global, letter: Letter) -> Result<Poly, PolyFault>
     Ok(Poly { terms })
 }
 
-// Each word reversed, with the adjoints of its letters.
+// A mark reverses the words and takes the adjoints of their letters.
+fn adjoint_by(alloc: Global, quiver: &Quiver, mark: &Mark, poly: &Poly) -> Result<Poly, PolyFault>
+    requires { All (λ t. IsOver (letter_count quiver.now) t.1) poly.now.terms }
+    ensures { MatchResult result (λ p. adjoint_by (quiver_of quiver.now) mark.now poly.now.terms ≡ Ok p.terms) (Explains (adjoint_by (quiver_of quiver.now) mark.now poly.now.terms)) }
+{
+    match mark {
+        Mark::Adjoint => adjoint(alloc, quiver, poly),
+    }
+}
+
 fn adjoint(alloc: Global, quiver: &Quiver, poly: &Poly) -> Result<Poly, PolyFault>
     requires { All (λ t. IsOver (letter_count quiver.now) t.1) poly.now.terms }
     ensures { MatchResult result (λ p. collection_result (adjoint_poly (quiver_of quiver.now) poly.now.terms) ≡ Ok p.terms) (Explains (collection_result (adjoint_poly (quiver_of quiver.now) poly.now.terms))) }

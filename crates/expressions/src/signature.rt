@@ -1,7 +1,7 @@
-ghost use Rattle.std.specs.Prelude.{◌≡◌, ◌<◌, IfOk, IsTrue, option_map};
+ghost use Rattle.std.specs.Prelude.{◌≡◌, ◌<◌, IfOk, IsTrue};
 ghost use Rattle.quiver.specs.Declarations.{object_count};
 ghost use Rattle.expressions.specs.Names.{AreNames, are_names_of_term, are_names_of_primary};
-ghost use Rattle.expressions.specs.Signatures.{HasObjects, turned, marked_signature, product_step, sum_step, sum_signature, term_signature, factor_signature, primary_signature, sides_signature, equation_signature};
+ghost use Rattle.expressions.specs.Signatures.{HasObjects, turned_by, marked_signature, product_step, sum_step, sum_signature, term_signature, factor_signature, primary_signature, sides_signature, equation_signature};
 
 use crate::SignatureFault;
 use crate::names::{letter_of, object_of};
@@ -80,13 +80,13 @@ fn term_signature(quiver: &Quiver, term: &Term) -> Result<Option<Sig>, Signature
     ensures exact { result ≡ term_signature quiver.now term.now }
     ensures in_range { IfOk result (HasObjects (object_count quiver.now)) }
 {
-    let alone = term.factors.len() == 1;
+    let factors = term.factors.as_slice();
+    if factors.len() == 1 {
+        return factor_signature(quiver, &factors[0]);
+    }
     let mut signature = Ok(None);
-    for factor in term.factors.as_slice() {
+    for factor in factors {
         let next = factor_signature(quiver, factor)?;
-        if alone {
-            return Ok(next);
-        }
         signature = product_step(signature, factor.at, next);
     }
     signature
@@ -117,39 +117,49 @@ fn factor_signature(quiver: &Quiver, factor: &Factor) -> Result<Option<Sig>, Sig
     ensures exact { result ≡ factor_signature quiver.now factor.now }
     ensures in_range { IfOk result (HasObjects (object_count quiver.now)) }
 {
-    let signature = match &factor.primary {
-        Primary::Letter(name) => Some(quiver.signature_of(letter_of(quiver, name))),
-        Primary::Identity(name) => {
-            let object = object_of(quiver, name);
-            Some(Sig {
-                source: object,
-                target: object,
-            })
-        }
-        Primary::Bracket(sum) => sum_signature(quiver, sum)?,
-    };
+    let signature = primary_signature(quiver, &factor.primary)?;
     Ok(marked_signature(signature, factor.marks.as_slice()))
 }
 
-// Each mark exchanges the ends.
+#[cycle(signatures)]
+fn primary_signature(quiver: &Quiver, primary: &Primary) -> Result<Option<Sig>, SignatureFault>
+    requires { IsTrue (are_names_of_primary quiver.now primary.now) }
+    ensures exact { result ≡ primary_signature quiver.now primary.now }
+    ensures in_range { IfOk result (HasObjects (object_count quiver.now)) }
+{
+    match primary {
+        Primary::Letter(name) => {
+            let letter = letter_of(quiver, name);
+            Ok(Some(quiver.signature_of(letter)))
+        }
+        Primary::Identity(name) => {
+            let object = object_of(quiver, name);
+            Ok(Some(Sig {
+                source: object,
+                target: object,
+            }))
+        }
+        Primary::Bracket(sum) => sum_signature(quiver, sum),
+    }
+}
+
 fn marked_signature(signature: Option<Sig>, marks: &[Mark]) -> Option<Sig>
     ensures { result ≡ marked_signature marks.now signature }
 {
     let mut marked = signature;
     for mark in marks {
-        match mark {
-            Mark::Adjoint => marked = turned(marked),
-        }
+        marked = turned_by(mark, marked);
     }
     marked
 }
 
-fn turned(signature: Option<Sig>) -> Option<Sig>
-    ensures { result ≡ option_map turned signature }
+// A mark exchanges the ends.
+fn turned_by(mark: &Mark, signature: Option<Sig>) -> Option<Sig>
+    ensures { result ≡ turned_by mark.now signature }
 {
-    match signature {
-        None => None,
-        Some(s) => Some(Sig {
+    match (mark, signature) {
+        (Mark::Adjoint, None) => None,
+        (Mark::Adjoint, Some(s)) => Some(Sig {
             source: s.target,
             target: s.source,
         }),

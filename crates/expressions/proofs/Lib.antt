@@ -1,0 +1,15 @@
+mod Examples
+pub mod Trees
+pub mod Sequences
+pub mod Ends
+pub mod SignatureLoops
+pub mod Words
+pub mod Canonical
+pub mod Multiples
+pub mod Letters
+pub mod Range
+pub mod PolynomialLoops
+pub mod Maps
+pub mod Written
+pub mod TypedParts
+pub mod Typed

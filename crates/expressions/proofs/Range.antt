@@ -1,0 +1,39 @@
+-- The letters of a polynomial are letters of the quiver.
+use Rattle.std.proofs.Common.{◌≡◌, ◌<◌, ℕ, true, List, Ok, Some, sym, subst}
+use Rattle.std.specs.List.{All}
+use Rattle.definitions.specs.Poly.{Poly}
+use Rattle.definitions.specs.Quiver.{star}
+use Rattle.word_core.specs.declared.letter.Letter.{Letter}
+use Rattle.word_core.specs.Letters.{IsOver}
+use Rattle.quiver.specs.declared.named.Named.TheVariants.{Map}
+use Rattle.quiver.specs.Declarations.{Declaration, named_in, letter_count, letter_at, quiver_of, IsDeclared}
+use Rattle.quiver.proofs.Found.{is_named}
+use Rattle.quiver.proofs.Identities.{identity_in_range}
+use Rattle.quiver.proofs.Letters.{letter_is, in_range_from_table, star-quiver_of}
+use Rattle.statement_syntax.specs.declared.tree.Mark.{Mark}
+use Rattle.statement_syntax.specs.declared.tree.Primary.{Primary}
+use Rattle.expressions.specs.Names.{are_names_of_primary}
+use Rattle.expressions.specs.Polynomials.{adjoint_by, primary_poly}
+use Rattle.expressions.proofs.Letters.{letters_by_places, letters_by_recursion, over-primary, over-adjoint_by}
+
+module _ (ds : List Declaration) (declared : IsDeclared ds) where
+  pub star_in_range : (a : ℕ) → a < letter_count ds → star (quiver_of ds) a < letter_count ds
+  star_in_range a h =
+      let entry = letter_is ds declared a h in
+      subst (λ b. b < letter_count ds) (sym (star-quiver_of ds a h)) (in_range_from_table ds (letter_at ds a).star entry.star_is_letter)
+
+  abbrev pub AllOver : Poly → Type 0
+  AllOver p = All (λ t. IsOver (letter_count ds) t.1) p
+
+  abbrev IsLetter : ℕ → Type 0
+  IsLetter a = a < letter_count ds
+
+  maps_in_range : (name : List ℕ) (a : Letter) → named_in ds name ≡ Some (Map a) → IsLetter a.0
+  maps_in_range name a e = (is_named ds name (Map a) e).0
+
+  pub in_range-primary : (x : Primary) (p : Poly) → are_names_of_primary ds x ≡ true → primary_poly ds x ≡ Ok p → AllOver p
+  in_range-primary x p known e = letters_by_places IsLetter p (over-primary ds IsLetter maps_in_range x known (λ v below h. identity_in_range ds v below) (λ h. star_in_range) p e)
+
+  pub in_range-adjoint_by : (m : Mark) (p r : Poly) → AllOver p → adjoint_by (quiver_of ds) m p ≡ Ok r → AllOver r
+  in_range-adjoint_by m p r h e =
+      letters_by_places IsLetter r (over-adjoint_by ds IsLetter maps_in_range m star_in_range p r (letters_by_recursion IsLetter p h) e)

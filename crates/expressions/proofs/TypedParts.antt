@@ -1,0 +1,167 @@
+-- The words of sums, products and adjoints are paths of their signatures.
+use Rattle.std.proofs.Common.{◌≡◌, ◌<◌, ℕ, Bool, true, false, cond, nat_eq, List, [], ◌∷◌, ◌++◌, Option, Some, None, Result, Ok, Err, refl, sym, ap, ap₂, subst, ◌∙◌, eqb-true, eq-eqb, lt-ltb}
+use Rattle.std.proofs.lemmas.Bool.{and_parts, and_from}
+use Rattle.definitions.specs.Poly.{Poly}
+use Rattle.definitions.specs.Quiver.{Quiver, IsQuiver, letters, source, target, is_path}
+use Rattle.definitions.specs.Generators.{adjoint_word, adjoint_poly}
+use Rattle.definitions.proofs.Adjoints.{is_path-adjoint_word}
+use Rattle.definitions.proofs.Paths.{leads-append}
+use Rattle.nc_polynomial.specs.Product.{product_result}
+use Rattle.quiver.specs.declared.named.Sig.{Sig}
+use Rattle.statement_syntax.specs.declared.place.Spot.{Spot}
+use Rattle.statement_syntax.specs.declared.tree.Mark.{Mark}
+use Rattle.statement_syntax.specs.declared.tree.Mark.TheVariants.{Adjoint}
+use Rattle.expressions.specs.declared.fault.SignatureFault.{SignatureFault}
+use Rattle.expressions.specs.declared.fault.SignatureFault.TheVariants.{NotComposable, SumMismatch}
+use Rattle.expressions.specs.Signatures as signatures
+use Rattle.expressions.specs.Signatures.{Part, from_to, letter_signature, same_ends, turned_by, marked_signature, sides_signature, equation_signature, sum_at}
+use Rattle.expressions.specs.Polynomials as polynomials
+use Rattle.expressions.specs.Polynomials.{letter_poly, adjoint_by, marked_poly, scaled_by, Summand, signed, equation_poly}
+use Rattle.expressions.proofs.Sequences.{bound, same_value}
+use Rattle.expressions.proofs.Words.{Words, weaker, words-collection, words-adjoint, words-product}
+use Rattle.expressions.proofs.Letters.{words-signed, words-sum_step}
+
+pub no_fault : {A : Type 0} (x : A) (f : SignatureFault) → ◌≡◌ {A = Result A SignatureFault} (Err f) (Ok x) → ⊥
+no_fault x f h = cc
+
+-- ---- equal signatures
+pub same_from_ends : (s t : Sig) → same_ends s t ≡ true → s ≡ t
+same_from_ends s t h =
+    let both = and_parts (nat_eq s.source.0 t.source.0) (nat_eq s.target.0 t.target.0) h in
+    ap₂ from_to (eqb-true s.source.0 t.source.0 both.0) (eqb-true s.target.0 t.target.0 both.1)
+
+-- ---- the paths of a signature
+module _ (q : Quiver) where
+  -- an open expression has no words
+  abbrev pub IsPathOf : Option Sig → List ℕ → Type 0
+  IsPathOf None w = ⊥
+  IsPathOf (Some s) w = is_path q s.source.0 s.target.0 w ≡ true
+
+  path-append : (u k v : ℕ) (l y : List ℕ) → is_path q k v l ≡ true → is_path q u k y ≡ true → is_path q u v (l ++ y) ≡ true
+  path-append u k v [] y h m = absurd (cc)
+  path-append u k v (a ∷ l) [] h m = absurd (cc)
+  path-append u k v (a ∷ l) (b ∷ y) h m = leads-append q u k v (a ∷ l) (b ∷ y) h m
+
+  pub path-letter : (a : ℕ) → a < letters q → is_path q (source q a) (target q a) (a ∷ []) ≡ true
+  path-letter a h = and_from _ _ (lt-ltb a (letters q) h) (and_from _ _ (eq-eqb (target q a) (target q a) refl) (eq-eqb (source q a) (source q a) refl))
+
+  -- ---- a sum
+  sum-left : (before : Option Sig) (at : Spot) (next after : Option Sig) → signatures.sum_step (Ok before) at next ≡ Ok after → (w : List ℕ) → IsPathOf before w → IsPathOf after w
+  sum-left before at None after h w path = subst (λ s. IsPathOf s w) (same_value before after h) path
+  sum-left None at (Some s) after h w path = absurd path
+  sum-left (Some before) at (Some s) after h w path = go (same_ends before s) h
+    where
+      go : (b : Bool) → cond b (Ok (Some before)) (Err (SumMismatch at before s)) ≡ Ok after → IsPathOf after w
+      go true k = subst (λ t. IsPathOf t w) (same_value (Some before) after k) path
+      go false k = absurd (no_fault after _ k)
+
+  sum-right : (before : Option Sig) (at : Spot) (next after : Option Sig) → signatures.sum_step (Ok before) at next ≡ Ok after → (w : List ℕ) → IsPathOf next w → IsPathOf after w
+  sum-right before at None after h w path = absurd path
+  sum-right None at (Some s) after h w path = subst (λ t. IsPathOf t w) (same_value (Some s) after h) path
+  sum-right (Some before) at (Some s) after h w path = go (same_ends before s) refl h
+    where
+      go : (b : Bool) → same_ends before s ≡ b → cond b (Ok (Some before)) (Err (SumMismatch at before s)) ≡ Ok after → IsPathOf after w
+      go true e k = subst (λ t. IsPathOf t w) (ap Some (sym (same_from_ends before s e)) ∙ same_value (Some before) after k) path
+      go false e k = absurd (no_fault after _ k)
+
+  sum_from-fault : (f : SignatureFault) (parts : List Part) → signatures.sum_from (Err f) parts ≡ Err f
+  sum_from-fault f [] = refl
+  sum_from-fault f (p ∷ parts) = sum_from-fault f parts
+
+  -- each summand is typed as its part says
+  abbrev pub AreSummands : List Part → List Summand → Type 0
+  AreSummands [] [] = Unit {0}
+  AreSummands [] (s ∷ ss) = ⊥
+  AreSummands (p ∷ parts) [] = ⊥
+  AreSummands (p ∷ parts) (s ∷ ss) = Words (IsPathOf p.1) s.1 × AreSummands parts ss
+
+  typed-sum_from : (so_far : Option Sig) (sum : Poly) (parts : List Part) (ss : List Summand) (o : Option Sig) (r : Poly)
+      → Words (IsPathOf so_far) sum → AreSummands parts ss → signatures.sum_from (Ok so_far) parts ≡ Ok o → polynomials.sum_from sum ss ≡ Ok r → Words (IsPathOf o) r
+  typed-sum_from so_far sum [] [] o r h k e d = subst (Words (IsPathOf o)) (same_value sum r d) (subst (λ t. Words (IsPathOf t) sum) (same_value so_far o e) h)
+  typed-sum_from so_far sum [] (s ∷ ss) o r h k e d = absurd k
+  typed-sum_from so_far sum (p ∷ parts) [] o r h k e d = absurd k
+  typed-sum_from so_far sum (p ∷ parts) (s ∷ ss) o r h k e d =
+      let step = bound (polynomials.sum_step sum s) (λ next. polynomials.sum_from next ss) r d in
+      go step.value step.is (signatures.sum_step (Ok so_far) p.0 p.1) refl e (λ next made rest. typed-sum_from next step.value parts ss o r made k.1 rest step.then)
+    where
+      go : (v : Poly) → polynomials.sum_step sum s ≡ Ok v → (x : Result (Option Sig) SignatureFault) → signatures.sum_step (Ok so_far) p.0 p.1 ≡ x → signatures.sum_from x parts ≡ Ok o
+          → ((next : Option Sig) → Words (IsPathOf next) v → signatures.sum_from (Ok next) parts ≡ Ok o → Words (IsPathOf o) r) → Words (IsPathOf o) r
+      go v sum_is (Err f) step rest more = absurd (no_fault o f (sym (sum_from-fault f parts) ∙ rest))
+      go v sum_is (Ok next) step rest more =
+          let on_left = weaker (IsPathOf so_far) (IsPathOf next) (sum-left so_far p.0 p.1 next step) sum h in
+          let on_right = weaker (IsPathOf p.1) (IsPathOf next) (sum-right so_far p.0 p.1 next step) s.1 k.0 in
+          more next (words-sum_step (IsPathOf next) sum s v on_left on_right sum_is) rest
+
+  first-sum_step : (at : Spot) (s : Option Sig) → signatures.sum_step (Ok None) at s ≡ Ok s
+  first-sum_step at None = refl
+  first-sum_step at (Some s) = refl
+
+  pub typed-total : (parts : List Part) (ss : List Summand) (o : Option Sig) (r : Poly) → AreSummands parts ss → signatures.sum_from (Ok None) parts ≡ Ok o → polynomials.total ss ≡ Ok r → Words (IsPathOf o) r
+  typed-total [] [] o r k e d = subst (Words (IsPathOf o)) (same_value [] r d) tt
+  typed-total [] (s ∷ ss) o r k e d = absurd k
+  typed-total (p ∷ parts) [] o r k e d = absurd k
+  typed-total (p ∷ parts) (s ∷ ss) o r k e d =
+      typed-sum_from p.1 (signed s) parts ss o r (words-signed (IsPathOf p.1) s k.0) k.1 (ap (λ x. signatures.sum_from x parts) (sym (first-sum_step p.0 p.1)) ∙ e) d
+
+  -- ---- a product
+  product_from-fault : (f : SignatureFault) (parts : List Part) → signatures.product_from (Err f) parts ≡ Err f
+  product_from-fault f [] = refl
+  product_from-fault f (p ∷ parts) = product_from-fault f parts
+
+  -- each factor is typed as its part says
+  abbrev pub AreFactors : List Part → List Poly → Type 0
+  AreFactors [] [] = Unit {0}
+  AreFactors [] (p ∷ ps) = ⊥
+  AreFactors (part ∷ parts) [] = ⊥
+  AreFactors (part ∷ parts) (p ∷ ps) = Words (IsPathOf part.1) p × AreFactors parts ps
+
+  typed-product_from : (left : Sig) (product : Poly) (parts : List Part) (ps : List Poly) (o : Option Sig) (r : Poly)
+      → Words (IsPathOf (Some left)) product → AreFactors parts ps → signatures.product_from (Ok (Some left)) parts ≡ Ok o → polynomials.product_from product ps ≡ Ok r → Words (IsPathOf o) r
+  typed-product_from left product [] [] o r h k e d = subst (Words (IsPathOf o)) (same_value product r d) (subst (λ t. Words (IsPathOf t) product) (same_value (Some left) o e) h)
+  typed-product_from left product [] (p ∷ ps) o r h k e d = absurd k
+  typed-product_from left product (part ∷ parts) [] o r h k e d = absurd k
+  typed-product_from left product (part ∷ parts) (p ∷ ps) o r h k e d =
+      let step = bound (product_result product p) (λ next. polynomials.product_from next ps) r d in
+      go step.value step.is part.1 e k.0 (λ next made rest. typed-product_from next step.value parts ps o r made k.1 rest step.then)
+    where
+      joined : (right : Sig) → left.source.0 ≡ right.target.0 → (v w : List ℕ) → IsPathOf (Some left) v → IsPathOf (Some right) w → IsPathOf (Some (from_to right.source.0 left.target.0)) (v ++ w)
+      joined right meet v w on_left on_right = path-append right.source.0 left.source.0 left.target.0 v w on_left (subst (λ x. is_path q right.source.0 x w ≡ true) (sym meet) on_right)
+
+      fits : (v : Poly) → product_result product p ≡ Ok v → (right : Sig) → Words (IsPathOf (Some right)) p
+          → ((next : Sig) → Words (IsPathOf (Some next)) v → signatures.product_from (Ok (Some next)) parts ≡ Ok o → Words (IsPathOf o) r)
+          → (b : Bool) → nat_eq left.source.0 right.target.0 ≡ b → signatures.product_from (cond b (Ok (Some (from_to right.source.0 left.target.0))) (Err (NotComposable part.0 left right))) parts ≡ Ok o → Words (IsPathOf o) r
+      fits v product_is right factor more true meet rest =
+          let next = from_to right.source.0 left.target.0 in
+          more next (words-product (IsPathOf (Some left)) (IsPathOf (Some right)) (IsPathOf (Some next)) (joined right (eqb-true left.source.0 right.target.0 meet)) product p v h factor product_is) rest
+      fits v product_is right factor more false meet rest = absurd (no_fault o _ (sym (product_from-fault _ parts) ∙ rest))
+
+      go : (v : Poly) → product_result product p ≡ Ok v → (s : Option Sig) → signatures.product_from (signatures.product_step (Ok (Some left)) part.0 s) parts ≡ Ok o → Words (IsPathOf s) p
+          → ((next : Sig) → Words (IsPathOf (Some next)) v → signatures.product_from (Ok (Some next)) parts ≡ Ok o → Words (IsPathOf o) r) → Words (IsPathOf o) r
+      go v product_is None rest factor more = absurd (no_fault o _ (sym (product_from-fault _ parts) ∙ rest))
+      go v product_is (Some right) rest factor more = fits v product_is right factor more (nat_eq left.source.0 right.target.0) refl rest
+
+  pub typed-product : (parts : List Part) (ps : List Poly) (o : Option Sig) (r : Poly) → AreFactors parts ps → signatures.product_signature parts ≡ Ok o → polynomials.product_poly ps ≡ Ok r → Words (IsPathOf o) r
+  typed-product [] [] o r k e d = subst (Words (IsPathOf o)) (same_value [] r d) tt
+  typed-product [] (p ∷ ps) o r k e d = absurd k
+  typed-product (part ∷ []) [] o r k e d = absurd k
+  typed-product (part ∷ []) (p ∷ []) o r k e d = subst (Words (IsPathOf o)) (same_value p r d) (subst (λ s. Words (IsPathOf s) p) (same_value part.1 o e) k.0)
+  typed-product (part ∷ []) (p ∷ x ∷ ps) o r k e d = absurd k.1
+  typed-product (part ∷ next ∷ parts) [] o r k e d = absurd k
+  typed-product (part ∷ next ∷ parts) (p ∷ ps) o r k e d = go part.1 e k.0
+    where
+      go : (s : Option Sig) → signatures.product_from (signatures.product_step (Ok None) part.0 s) (next ∷ parts) ≡ Ok o → Words (IsPathOf s) p → Words (IsPathOf o) r
+      go None rest factor = absurd (no_fault o _ (sym (product_from-fault _ (next ∷ parts)) ∙ rest))
+      go (Some s) rest factor = typed-product_from s p (next ∷ parts) ps o r factor k.1 rest d
+
+  -- ---- marks
+  turned-path : IsQuiver q → (m : Mark) (s : Option Sig) (w : List ℕ) → IsPathOf s w → IsPathOf (turned_by m s) (adjoint_word q w)
+  turned-path quiver Adjoint None w h = h
+  turned-path quiver Adjoint (Some s) w h = is_path-adjoint_word q quiver s.source.0 s.target.0 w h
+
+  pub typed-marked : IsQuiver q → (marks : List Mark) (s : Option Sig) (p r : Poly) → Words (IsPathOf s) p → marked_poly q marks p ≡ Ok r → Words (IsPathOf (marked_signature marks s)) r
+  typed-marked quiver [] s p r h e = subst (Words (IsPathOf s)) (same_value p r e) h
+  typed-marked quiver (Adjoint ∷ marks) s p r h e =
+      let step = bound (adjoint_by q Adjoint p) (marked_poly q marks) r e in
+      typed-marked quiver marks (turned_by Adjoint s) step.value r
+      (words-collection (IsPathOf (turned_by Adjoint s)) (adjoint_poly q p) step.value (words-adjoint (IsPathOf s) (IsPathOf (turned_by Adjoint s)) q (turned-path quiver Adjoint s) p h) step.is)
+      step.then

@@ -1,0 +1,68 @@
+-- The letters of an equation's polynomial are those that the equation writes.
+use Rattle.std.proofs.Common.{◌≡◌, ◌<◌, ℕ, true, ◌||◌, List, Ok, Some, sym, subst, ◌∙◌, arith}
+use Rattle.std.specs.List.{All, AllByRecursion}
+use Rattle.definitions.specs.Poly.{Poly}
+use Rattle.definitions.specs.Quiver.{star, letters}
+use Rattle.nc_polynomial.specs.Arithmetic.{difference_result}
+use Rattle.word_core.specs.declared.letter.Letter.{Letter}
+use Rattle.quiver.specs.declared.named.Named.TheVariants.{Map}
+use Rattle.quiver.specs.Declarations.{Declaration, named_in, object_count, letter_count, quiver_of, identity_in, ObjectsFirst, IsDeclared}
+use Rattle.quiver.proofs.Counts.{letters-quiver_of}
+use Rattle.quiver.proofs.Found.{is_named}
+use Rattle.quiver.proofs.Identities.{identity_in_range, identity_is, is_quiver}
+use Rattle.statement_syntax.specs.declared.tree.Sum.{Sum}
+use Rattle.expressions.specs.Results.{◌>>=◌}
+use Rattle.expressions.specs.Names.{are_names}
+use Rattle.expressions.specs.Occurrences.{has_mark, has_identity}
+use Rattle.expressions.specs.Polynomials.{sum_poly, equation_poly}
+use Rattle.expressions.specs.Laws.{IsWritten, LettersAreWritten}
+use Rattle.expressions.proofs.Sequences.{bound}
+use Rattle.expressions.proofs.Words.{words-difference}
+use Rattle.expressions.proofs.Letters.{left_of, right_of, over-sum, letters_by_places}
+use Rattle.expressions.proofs.Maps.{map_after_objects, map_before_adjoint}
+use Rattle.expressions.proofs.Range.{star_in_range}
+
+module _ (ds : List Declaration) (declared : IsDeclared ds) (first : ObjectsFirst ds) (left right : Sum) where
+  written_map : (name : List ℕ) (m : Letter) → named_in ds name ≡ Some (Map m) → IsWritten ds left right m.0
+  written_map name m found = record {
+    letter = (is_named ds name (Map m) found).0;
+    identity = λ below. absurd (omega (arith, below, map_after_objects ds first name m found));
+    adjoint = λ below. absurd (omega (arith, below, map_before_adjoint ds first name m found));
+  }
+
+  -- an identity is its own adjoint
+  own_adjoint : (v : ℕ) → v < object_count ds → star (quiver_of ds) v ≡ v
+  own_adjoint v below = (is_quiver ds declared first).identity_star v below
+
+  written_identity : (v : ℕ) → v < object_count ds → (has_identity ds v left || has_identity ds v right) ≡ true → IsWritten ds left right (identity_in ds v)
+  written_identity v below occurs =
+      let same = identity_is ds first v below in
+      subst (IsWritten ds left right) (sym same) (record {
+        letter = subst (λ a. a < letter_count ds) same (identity_in_range ds v below);
+        identity = λ _. occurs;
+        adjoint = λ less. absurd (omega (arith, less, own_adjoint v below));
+      })
+
+  written_adjoint : (has_mark left || has_mark right) ≡ true → (a : ℕ) → IsWritten ds left right a → IsWritten ds left right (star (quiver_of ds) a)
+  written_adjoint occurs a h =
+      let q = quiver_of ds in
+      let in_quiver : a < letters q = subst (λ n. a < n) (sym (letters-quiver_of ds)) h.letter in
+      record {
+        letter = star_in_range ds declared a h.letter;
+        identity = λ below.
+            let same : a ≡ star q a = sym ((is_quiver ds declared first).star_star a in_quiver) ∙ own_adjoint (star q a) below in
+            subst (λ v. (has_identity ds v left || has_identity ds v right) ≡ true) same (h.identity (subst (λ v. v < object_count ds) (sym same) below));
+        adjoint = λ _. occurs;
+      }
+
+  letters_written : (p : Poly) → are_names ds left ≡ true → are_names ds right ≡ true → equation_poly ds left right ≡ Ok p → All (λ t. All (IsWritten ds left right) t.1) p
+  letters_written p left_names right_names e =
+      let L = IsWritten ds left right in
+      let minuend = bound (sum_poly ds left) (λ m. sum_poly ds right >>= λ s. difference_result m s) p e in
+      let subtrahend = bound (sum_poly ds right) (λ s. difference_result minuend.value s) p minuend.then in
+      let on_left = over-sum ds L written_map left left_names (λ v below h. written_identity v below (left_of _ _ h)) (λ h. written_adjoint (left_of _ _ h)) minuend.value minuend.is in
+      let on_right = over-sum ds L written_map right right_names (λ v below h. written_identity v below (right_of _ _ h)) (λ h. written_adjoint (right_of _ _ h)) subtrahend.value subtrahend.is in
+      letters_by_places L p (words-difference (AllByRecursion L) minuend.value subtrahend.value p on_left on_right subtrahend.then)
+
+pub letters_are_written : LettersAreWritten
+letters_are_written ds left right p declared first left_names right_names e = letters_written ds declared first left right p left_names right_names e

@@ -1,0 +1,80 @@
+use Rattle.std.proofs.Common.{◌≡◌, Ok, Err, rules, ◌∙◌}
+use Rattle.statement_syntax.specs.declared.tree.Sum.{the_lemmas}
+use Rattle.nc_polynomial.specs.Faults.{Explains}
+use Rattle.quiver.specs.Declarations.{quiver_of}
+use Rattle.expressions.specs.Polynomials.{term_poly, factor_poly, primary_poly, product_poly}
+use Rattle.expressions.proofs.Trees.{names_of_the_term, names_of_the_factor}
+use Rattle.expressions.proofs.Range.{in_range-primary, in_range-adjoint_by}
+use Rattle.expressions.proofs.PolynomialLoops.{polys_of, sum-end, sum-fault, sum-next, product-end, product-end_fault, product-fault, product-next, factor-first, factor-next}
+use Rattle.expressions.proofs.polynomial.+polys.Goals as goal
+
+-- ---- a factor
+pub factor_poly-loop-mark-init : goal.factor_poly-loop-mark-init
+factor_poly-loop-mark-init t c =
+    let ok : primary_poly c.args.quiver.now c.args.factor.now.primary ≡ Ok c.in_ok-poly.poly.terms = search rules in
+    record {
+      rest = factor-first c.args.quiver.now c.args.factor.now c.as_slice-mark-items.result.now c.as_slice-mark-items.ensures c.in_ok-poly.poly.terms ok;
+      over = in_range-primary c.args.quiver.now c.requires.declared c.args.factor.now.primary c.in_ok-poly.poly.terms c.requires.names ok;
+    }
+
+pub factor_poly-loop-mark-preserved : goal.factor_poly-loop-mark-preserved
+factor_poly-loop-mark-preserved t c =
+    let q = quiver_of c.args.quiver.now in
+    record {
+      rest = factor-next q c.as_slice-mark-items.result.now c.loop-mark.mark-index _ c.loop-mark-test.true c.loop-mark.poly.terms c.in_ok-poly-2.poly.terms c.in_ok-poly-2.ensures ∙ c.loop-mark.invariant.rest;
+      over = in_range-adjoint_by c.args.quiver.now c.requires.declared _ c.loop-mark.poly.terms c.in_ok-poly-2.poly.terms c.loop-mark.invariant.over c.in_ok-poly-2.ensures;
+    }
+
+-- ---- a sum
+pub sum_poly-term_poly-requires : goal.sum_poly-term_poly-requires
+sum_poly-term_poly-requires t c = (
+  search (rules, the_lemmas),
+  (c.requires.declared, names_of_the_term c.args.quiver.now c.args.sum.now c.as_slice-term-items.result.now c.loop-term.term-index c.term-item.result c.requires.names c.as_slice-term-items.ensures c.loop-term-test.true c.term-item.is),
+)
+
+pub sum_poly-returns-in_err-poly : goal.sum_poly-returns-in_err-poly
+sum_poly-returns-in_err-poly t c =
+    let e = c.in_err-poly.field-0.0 in
+    let given : c.from_residual.result ≡ Err e = search rules in
+    let why : Explains (term_poly c.args.quiver.now c.term-item.result) e = search rules in
+    rw given (sum-fault c.args.quiver.now c.args.sum.now c.as_slice-term-items.result.now c.as_slice-term-items.ensures c.loop-term.term-index c.loop-term.summands.items c.loop-term.invariant c.term-item.result c.loop-term-test.true c.term-item.is e why)
+
+pub sum_poly-loop-term-preserved : goal.sum_poly-loop-term-preserved
+sum_poly-loop-term-preserved t c =
+    let ok : term_poly c.args.quiver.now c.term-item.result ≡ Ok c.in_ok-poly.poly.terms = search rules in
+    sum-next c.args.quiver.now c.args.sum.now c.as_slice-term-items.result.now c.as_slice-term-items.ensures c.loop-term.term-index c.loop-term.summands.items c.loop-term.invariant c.term-item.result c.loop-term-test.true c.term-item.is c.in_ok-poly.poly ok c.push_back.new.self.items (search rules)
+
+pub sum_poly-returns : goal.sum_poly-returns
+sum_poly-returns t c =
+    sum-end c.args.quiver.now c.args.sum.now c.as_slice-term-items.result.now c.as_slice-term-items.ensures c.loop-term.term-index c.loop-term.summands.items c.loop-term.invariant c.loop-term-test.false c.total.result c.total.ensures
+
+-- ---- a product
+pub term_poly-factor_poly-requires : goal.term_poly-factor_poly-requires
+term_poly-factor_poly-requires t c = (
+  search (rules, the_lemmas),
+  (c.requires.declared, names_of_the_factor c.args.quiver.now c.args.term.now c.as_slice-factor-items.result.now c.loop-factor.factor-index c.factor-item.result c.requires.names c.as_slice-factor-items.ensures c.loop-factor-test.true c.factor-item.is),
+)
+
+pub term_poly-returns-in_err-factor_poly : goal.term_poly-returns-in_err-factor_poly
+term_poly-returns-in_err-factor_poly t c =
+    let e = c.in_err-factor_poly.field-0.0 in
+    let given : c.from_residual.result ≡ Err e = search rules in
+    let why : Explains (factor_poly c.args.quiver.now c.factor-item.result) e = search rules in
+    rw given (product-fault c.args.quiver.now c.args.term.now c.as_slice-factor-items.result.now c.as_slice-factor-items.ensures c.loop-factor.factor-index c.loop-factor.polys.items c.loop-factor.invariant c.factor-item.result c.loop-factor-test.true c.factor-item.is e why)
+
+pub term_poly-loop-factor-preserved : goal.term_poly-loop-factor-preserved
+term_poly-loop-factor-preserved t c =
+    let ok : factor_poly c.args.quiver.now c.factor-item.result ≡ Ok c.in_ok-factor_poly.field-0.terms = search rules in
+    product-next c.args.quiver.now c.args.term.now c.as_slice-factor-items.result.now c.as_slice-factor-items.ensures c.loop-factor.factor-index c.loop-factor.polys.items c.loop-factor.invariant c.factor-item.result c.loop-factor-test.true c.factor-item.is c.in_ok-factor_poly.field-0 ok c.push_back.new.self.items (search rules)
+
+pub term_poly-returns-in_err-product : goal.term_poly-returns-in_err-product
+term_poly-returns-in_err-product t c =
+    let e = c.in_err-product.field-0.0 in
+    let given : c.from_residual-in_err-product.result ≡ Err e = search rules in
+    let why : Explains (product_poly (polys_of c.loop-factor.polys.items)) e = search rules in
+    rw given (product-end_fault c.args.quiver.now c.args.term.now c.as_slice-factor-items.result.now c.as_slice-factor-items.ensures c.loop-factor.factor-index c.loop-factor.polys.items c.loop-factor.invariant c.loop-factor-test.false e why)
+
+pub term_poly-returns : goal.term_poly-returns
+term_poly-returns t c =
+    let ok : product_poly (polys_of c.loop-factor.polys.items) ≡ Ok c.in_ok-product.product.terms = search rules in
+    product-end c.args.quiver.now c.args.term.now c.as_slice-factor-items.result.now c.as_slice-factor-items.ensures c.loop-factor.factor-index c.loop-factor.polys.items c.loop-factor.invariant c.loop-factor-test.false c.in_ok-product.product.terms ok c.scaled_by.result c.scaled_by.ensures

@@ -1,0 +1,6 @@
+use Rattle.std.proofs.Common.{◌≡◌, drop}
+use Rattle.expressions.specs.Signatures.{marked_signature}
+use Rattle.expressions.proofs.signature.marked_signature.Given as goal
+
+abbrev pub invariant-loop-mark : goal.invariant-loop-mark
+invariant-loop-mark l = marked_signature (drop l.mark-index l.marks) l.marked ≡ marked_signature l.marks l.initial.marked
