@@ -1,8 +1,10 @@
-ghost use Rattle.std.specs.Prelude.{◌≡◌, [], OnOk};
-ghost use Rattle.statement_names.specs.Faults.{kind_in};
-ghost use Rattle.statement_names.specs.Survey.{with_kind};
+ghost use Rattle.std.specs.Prelude.{◌≡◌, ◌++◌, [], IfOk, OnOk};
+ghost use Rattle.statement_names.specs.Faults.{declared_in, kind_in};
+ghost use Rattle.statement_names.specs.Occurrences.{occurrences_of};
+ghost use Rattle.statement_names.specs.Survey.{with_kind, kinded, kinds_by, SameKinds};
 
 use indexmap::IndexMap;
+use statement_syntax::{Name, Statement, StatementKind};
 use std::alloc::{AllocError, Global};
 use std::marker::Model;
 
@@ -56,4 +58,36 @@ impl Kinds {
         self.kinds.insert(key, kind)?;
         Ok(())
     }
+}
+
+/// What each name of some statements is declared as.
+pub fn kinds_of(alloc: Global, statements: &[Statement]) -> Result<Kinds, AllocError>
+    ensures { IfOk result (λ kinds. SameKinds kinds (declared_in (occurrences_of statements.now))) }
+{
+    let mut kinds = Kinds::new(alloc);
+    for statement in statements {
+        put_statement(&mut kinds, &statement.kind)?;
+    }
+    Ok(kinds)
+}
+
+// Declares what the statement declares.
+fn put_statement(kinds: &mut Kinds, statement: &StatementKind) -> Result<(), AllocError>
+    ensures { OnOk result (SameKinds kinds.new (kinds.old ++ kinds_by statement.now)) }
+{
+    match statement {
+        StatementKind::Objects(names) => put_names(kinds, names.as_slice(), Kind::Object),
+        StatementKind::Maps { names, .. } => put_names(kinds, names.as_slice(), Kind::Map),
+        _ => Ok(()),
+    }
+}
+
+// Declares names as objects or as maps.
+fn put_names(kinds: &mut Kinds, names: &[Name], kind: Kind) -> Result<(), AllocError>
+    ensures { OnOk result (SameKinds kinds.new (kinds.old ++ kinded kind names.now)) }
+{
+    for name in names {
+        kinds.declare(name.text.as_str(), kind)?;
+    }
+    Ok(())
 }

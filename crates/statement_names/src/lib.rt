@@ -2,8 +2,10 @@
 #![tactic(auto)]
 
 mod declarations;
+mod declaring;
 mod fault;
 mod kinds;
+mod literal;
 mod marked;
 mod named;
 mod names;
@@ -12,6 +14,9 @@ mod shapes;
 mod solved;
 mod starred;
 mod survey;
+#[cfg(test)]
+mod tests;
+mod used;
 mod written;
 
 pub use fault::NameFault;

@@ -6,8 +6,8 @@ ghost use Rattle.statement_names.specs.Faults.{name_fault_of, value_of};
 ghost use Rattle.statement_names.specs.Numbered.{declarations_of};
 ghost use Rattle.statement_names.specs.Ordered.{order_of, weights_of};
 
+use crate::literal::value_of;
 use crate::named::letter_named;
-use crate::survey::value_of;
 use lists::Listing;
 use quiver::Quiver;
 use statement_syntax::{Name, Number, Statement, StatementKind};

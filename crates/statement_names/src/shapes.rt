@@ -6,8 +6,8 @@ ghost use Rattle.statement_names.specs.Faults.{name_fault_of, value_of};
 ghost use Rattle.statement_names.specs.Numbered.{declarations_of};
 ghost use Rattle.statement_names.specs.Shapes.{shape, sides_of, shapes_of};
 
+use crate::literal::value_of;
 use crate::named::object_named;
-use crate::survey::value_of;
 use adjoint_rules::Shape;
 use lists::Listing;
 use quiver::Quiver;

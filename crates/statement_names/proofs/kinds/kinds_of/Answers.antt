@@ -5,7 +5,7 @@ use Rattle.statement_names.specs.Faults.{kind_in}
 use Rattle.statement_names.specs.Survey.{kinds_by}
 use Rattle.statement_names.proofs.KindsFound.{statement_put}
 use Rattle.statement_names.proofs.Quiet.{declared-statements}
-use Rattle.statement_names.proofs.survey.kinds_of.Goals as goal
+use Rattle.statement_names.proofs.kinds.kinds_of.Goals as goal
 
 pub loop-statement-preserved : goal.loop-statement-preserved
 loop-statement-preserved c =

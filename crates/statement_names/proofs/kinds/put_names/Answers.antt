@@ -1,6 +1,6 @@
 use Rattle.std.proofs.Common.{rules}
 use Rattle.statement_names.proofs.KindsFound.{name_put}
-use Rattle.statement_names.proofs.survey.put_names.Goals as goal
+use Rattle.statement_names.proofs.kinds.put_names.Goals as goal
 
 pub loop-name-preserved : goal.loop-name-preserved
 loop-name-preserved c =

@@ -1,0 +1,37 @@
+ghost use Rattle.std.specs.Prelude.{◌≡◌, None, Some, OnOk, IfErr};
+ghost use Rattle.statement_names.specs.Faults.{is_between, is_modulus, value_of};
+ghost use Rattle.statement_names.specs.Survey.{number_fault};
+
+use crate::fault::NameFault;
+use statement_syntax::Number;
+
+/// The value of a literal, which has no sign.
+pub fn value_of(number: &Number) -> u128
+    ensures { result ≡ value_of number.now.value }
+{
+    let value = number.value;
+    if value < 0 { 0 } else { value as u128 }
+}
+
+/// Refuses a literal that isn't from 1 to so much.
+pub fn check_count(most: u32, number: &Number) -> Result<(), NameFault>
+    ensures ok { OnOk result (number_fault (is_between 1 most (value_of number.now.value)) (NameFault.BadNumber number.now.at) ≡ None) }
+    ensures err { IfErr result (λ e. number_fault (is_between 1 most (value_of number.now.value)) (NameFault.BadNumber number.now.at) ≡ Some e) }
+{
+    let value = value_of(number);
+    if 1 <= value && value <= u128::from(most) {
+        return Ok(());
+    }
+    Err(NameFault::BadNumber { at: number.at })
+}
+
+/// Refuses a literal that is no modulus of shapes.
+pub fn check_modulus(number: &Number) -> Result<(), NameFault>
+    ensures ok { OnOk result (number_fault (is_modulus (value_of number.now.value)) (NameFault.BadNumber number.now.at) ≡ None) }
+    ensures err { IfErr result (λ e. number_fault (is_modulus (value_of number.now.value)) (NameFault.BadNumber number.now.at) ≡ Some e) }
+{
+    match value_of(number) {
+        2 | 3 | 5 | 7 | 101 | 32003 | 65537 => Ok(()),
+        _ => Err(NameFault::BadNumber { at: number.at }),
+    }
+}
