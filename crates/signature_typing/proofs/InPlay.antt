@@ -17,7 +17,7 @@ use Rattle.statement_syntax.specs.declared.tree.Sum.{out-roll-Sum}
 use Rattle.statement_syntax.specs.Steps.{term_of}
 use Rattle.word_core.specs.declared.letter.Object.{Object}
 use Rattle.statement_names.specs.declared.written.Equation.{Equation}
-use Rattle.statement_names.specs.Marked.{is_starred_in, is_starred, all_equations, is_marked, an_object, marked_of}
+use Rattle.statement_names.specs.Marked.{is_starred_in, is_starred, stated_by, all_equations, is_marked, an_object, marked_of}
 use Rattle.statement_names.specs.Solved.{numbers_that}
 use Rattle.statement_names.specs.Written.{product_at, equation, equations_in, equations_of, assumptions_of, claims_in, claims_of}
 use Rattle.expressions.specs.Occurrences.{has_mark, has_mark_in_term, has_identity}
@@ -120,17 +120,29 @@ module _ (ds : List Declaration) (statements : List Statement) where
   abbrev IsIdentified : Equation → Type 0
   IsIdentified e = (v : ℕ) → has_the_identity ds v e ≡ true → is_marked ds statements v ≡ true
 
+  abbrev marks : ℕ → List Equation → Bool
+  marks v es = list_any (has_the_identity ds v) es
+
+  -- what part of each statement writes is written by the file
+  all_identified : (part : Statement → List Equation) → ((s : Statement) → AllByRecursion (λ e. (v : ℕ) → has_the_identity ds v e ≡ true → marks v (stated_by ds s) ≡ true) (part s))
+      → (xs : List Statement) → AllByRecursion (λ e. (v : ℕ) → has_the_identity ds v e ≡ true → marks v (all_equations ds xs) ≡ true) (flat_map part xs)
+  all_identified part each [] = tt
+  all_identified part each (x ∷ xs) =
+      each_of_both (λ e. (v : ℕ) → has_the_identity ds v e ≡ true → marks v (all_equations ds (x ∷ xs)) ≡ true) (part x) (flat_map part xs)
+      (each_weaker (λ e. (v : ℕ) → has_the_identity ds v e ≡ true → marks v (stated_by ds x) ≡ true) (λ e. (v : ℕ) → has_the_identity ds v e ≡ true → marks v (all_equations ds (x ∷ xs)) ≡ true)
+      (λ e here v is. list_any-append (has_the_identity ds v) (stated_by ds x) (all_equations ds xs) ∙ or_left _ _ (here v is)) (part x) (each x))
+      (each_weaker (λ e. (v : ℕ) → has_the_identity ds v e ≡ true → marks v (all_equations ds xs) ≡ true) (λ e. (v : ℕ) → has_the_identity ds v e ≡ true → marks v (all_equations ds (x ∷ xs)) ≡ true)
+      (λ e later v is. list_any-append (has_the_identity ds v) (stated_by ds x) (all_equations ds xs) ∙ or_right _ _ (later v is)) (flat_map part xs) (all_identified part each xs))
+
   assumptions_identified : AllByRecursion IsIdentified (assumptions_of ds statements)
-  assumptions_identified =
-      each_weaker (λ e. (v : ℕ) → has_the_identity ds v e ≡ true → list_any (has_the_identity ds v) (assumptions_of ds statements) ≡ true) IsIdentified
-      (λ e found v is. list_any-append (has_the_identity ds v) (assumptions_of ds statements) (claims_of statements) ∙ or_left _ _ (found v is))
-      (assumptions_of ds statements) (each_found (has_the_identity ds) (assumptions_of ds statements))
+  assumptions_identified = all_identified (equations_of ds)
+      (λ s. each_weaker (λ e. (v : ℕ) → has_the_identity ds v e ≡ true → marks v (equations_of ds s) ≡ true) (λ e. (v : ℕ) → has_the_identity ds v e ≡ true → marks v (stated_by ds s) ≡ true)
+      (λ e found v is. list_any-append (has_the_identity ds v) (equations_of ds s) (claims_in s.kind) ∙ or_left _ _ (found v is)) (equations_of ds s) (each_found (has_the_identity ds) (equations_of ds s))) statements
 
   claims_identified : AllByRecursion IsIdentified (claims_of statements)
-  claims_identified =
-      each_weaker (λ e. (v : ℕ) → has_the_identity ds v e ≡ true → list_any (has_the_identity ds v) (claims_of statements) ≡ true) IsIdentified
-      (λ e found v is. list_any-append (has_the_identity ds v) (assumptions_of ds statements) (claims_of statements) ∙ or_right _ _ (found v is))
-      (claims_of statements) (each_found (has_the_identity ds) (claims_of statements))
+  claims_identified = all_identified (λ s. claims_in s.kind)
+      (λ s. each_weaker (λ e. (v : ℕ) → has_the_identity ds v e ≡ true → marks v (claims_in s.kind) ≡ true) (λ e. (v : ℕ) → has_the_identity ds v e ≡ true → marks v (stated_by ds s) ≡ true)
+      (λ e found v is. list_any-append (has_the_identity ds v) (equations_of ds s) (claims_in s.kind) ∙ or_right _ _ (found v is)) (claims_in s.kind) (each_found (has_the_identity ds) (claims_in s.kind))) statements
 
   counted : (es : List Equation) → AllByRecursion (λ e. is_starred_equation e ≡ true → is_starred statements ≡ true) es → AllByRecursion IsIdentified es → AllByRecursion (IsCounted ds statements) es
   counted [] starred identified = tt

@@ -7,4 +7,3 @@ pub mod Values
 pub mod InPlay
 pub mod Posed
 pub mod Unique
-pub mod Examples

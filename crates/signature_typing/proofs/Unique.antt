@@ -13,6 +13,7 @@ use Rattle.statement_names.specs.Ordered.{order_of}
 use Rattle.statement_names.specs.Solved.{solved_of}
 use Rattle.statement_names.specs.Written.{assumptions_of, claims_of}
 use Rattle.signature_typing.specs.Typing.{signatures_of, polynomials_of, ArePartsOf, IsProblemOf}
+use Rattle.statement_names.specs.Shapes.{shapes_of}
 use Rattle.signature_typing.specs.Unique.{ProblemIsUnique}
 
 module _ (statements : List Statement) (p q : Parts) (of_p : ArePartsOf statements p) (of_q : ArePartsOf statements q) where
@@ -46,7 +47,7 @@ problem_is_unique statements p q of_p of_q =
       signatures = of_p.parts.signatures ∙ ap (λ ds. signatures_of ds (assumptions_of ds statements)) quiver ∙ sym of_q.parts.signatures;
       claims = of_p.parts.claims ∙ ap (λ ds. polynomials_of ds (claims_of statements)) quiver ∙ sym of_q.parts.claims;
       claim_signatures = of_p.parts.claim_signatures ∙ ap (λ ds. signatures_of ds (claims_of statements)) quiver ∙ sym of_q.parts.claim_signatures;
-      shapes = of_p.parts.shapes ∙ sym of_q.parts.shapes;
+      shapes = of_p.parts.shapes ∙ ap (λ ds. shapes_of ds statements) quiver ∙ sym of_q.parts.shapes;
       solved = of_p.parts.solved ∙ ap (λ ds. solved_of ds statements) quiver ∙ sym of_q.parts.solved;
       generators = generators_are_unique p.parts p.generators q.generators p.closed (closed_too statements p.parts q.parts of_p.parts of_q.parts q.generators q.closed);
     }

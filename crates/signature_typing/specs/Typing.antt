@@ -99,7 +99,7 @@ pub record ArePartsOf (statements : List Statement) (p : Parts) : Type 0 where
   pub claims : polynomials p.claims ≡ polynomials_of p.quiver (claims_of statements)
   pub claim_signatures : p.claim_sigs ≡ signatures_of p.quiver (claims_of statements)
   -- the models that are looked for
-  pub shapes : p.shapes ≡ shapes_of statements
+  pub shapes : p.shapes ≡ shapes_of p.quiver statements
   pub solved : p.solved ≡ solved_of p.quiver statements
 
 -- A file without a fault stands for the problem with these parts.
