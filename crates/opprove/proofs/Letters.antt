@@ -22,7 +22,7 @@ use Rattle.cofactor_checker.specs.declared.Refusal.TheVariants as refusal
 use Rattle.cofactor_checker.specs.Acceptance.{Refuses}
 use Rattle.adjoint_rules.specs.declared.problem.Problem.{Problem}
 use Rattle.adjoint_rules.specs.Problem.{polynomials}
-use Rattle.adjoint_rules.proofs.Laws.{claims_have_signatures, generators_have_signatures}
+use Rattle.adjoint_rules.proofs.Generators.{claims_have_signatures, generators_have_signatures}
 use Rattle.certificate_text.specs.Evidence.{IsRowOver, IsCheckable}
 use Rattle.opprove.specs.Refusals.{HasLetters}
 use Rattle.definitions.proofs.Coefficients.{coefficient_of-append, coefficient_of-multiple}

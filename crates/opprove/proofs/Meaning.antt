@@ -11,7 +11,7 @@ use Rattle.cofactor_trace.specs.Rows.{rows_of}
 use Rattle.cofactor_checker.proofs.Outcomes.{combination_from_accepts}
 use Rattle.adjoint_rules.specs.declared.problem.Problem.{Problem}
 use Rattle.adjoint_rules.specs.Problem.{polynomials}
-use Rattle.adjoint_rules.proofs.Laws.{posed_quiver, generators_have_signatures, generators_are_zero, makes_zero}
+use Rattle.adjoint_rules.proofs.Generators.{posed_quiver, generators_have_signatures, generators_are_zero, makes_zero}
 use Rattle.opprove.specs.Ending.{Ending}
 use Rattle.opprove.specs.Decides.{question_of, IsAccepted, DecidesOver, no_evidence, judged, Decides, no_statement, over}
 use Rattle.opprove.specs.Headline.{stated_claim, Means, MeansByStar, Proved}
