@@ -1,6 +1,6 @@
 -- The loop over the tokens of a file, and what its end says of the bytes.
-use Rattle.std.proofs.Common.{◌≡◌, ℕ, ◌+◌, ◌<◌, List, [], ◌∷◌, ◌++◌, inl, inr, length, take, drop, get_or, Ok, Err, refl, sym, ap, subst, ◌∙◌, take-append-drop, append_assoc}
-use Rattle.std.proofs.lemmas.List.{append-nil, drop_more, take_more}
+use Rattle.std.proofs.Common.{◌≡◌, ℕ, List, [], ◌∷◌, ◌++◌, inl, inr, Ok, Err, refl, sym, ap, subst, ◌∙◌, append_assoc}
+use Rattle.std.proofs.lemmas.List.{append-nil}
 use Rattle.std.specs.Str.{IsUtf8, chars}
 use Rattle.statement_syntax.specs.declared.place.Spot.{Spot}
 use Rattle.statement_syntax.specs.declared.token.Token.{Token}
@@ -31,29 +31,22 @@ use Rattle.statement_syntax.proofs.FileDeep.{file_deep}
 
 -- ---- the loop
 
-same_token : (ts : List Token) (place : ℕ) (t : Token) → place < length ts → t ≡ get_or ts place t → take (place + 1) ts ≡ take place ts ++ t ∷ []
-same_token ts place t within is = take_more ts place t within ∙ ap (λ x. take place ts ++ x ∷ []) (sym is)
-
-pub goes_on : (ts : List Token) (place : ℕ) (t : Token) (p next : Progress) → place < length ts → t ≡ get_or ts place t → run file_step beginning (take place ts) ≡ Ok p → file_step p t ≡ Ok next
-    → run file_step beginning (take (place + 1) ts) ≡ Ok next
+pub goes_on : (front : List Token) (t : Token) (p next : Progress) → run file_step beginning front ≡ Ok p → file_step p t ≡ Ok next → run file_step beginning (front ++ t ∷ []) ≡ Ok next
 unfolding run
-goes_on ts place t p next within is ran goes =
-    ap (run file_step beginning) (same_token ts place t within is)
-    ∙ run_front file_step beginning (take place ts) p (t ∷ []) ran
-    ∙ one_step file_step p next t [] goes
+goes_on front t p next ran goes = run_front file_step beginning front p (t ∷ []) ran ∙ one_step file_step p next t [] goes
 
 no_memory : (ts : List Token) (refused : SyntaxFault) → IsWantOfMemory refused → Refused ts refused
 no_memory ts (refusal.Memory e) loop = tt
 no_memory ts (refusal.Fault code l c) loop = absurd loop
 
-pub stops_at : (ts : List Token) (place : ℕ) (t : Token) (p : Progress) (e : ReadError) (refused : SyntaxFault) → place < length ts → t ≡ get_or ts place t → run file_step beginning (take place ts) ≡ Ok p
+pub stops_at : (ts front : List Token) (t : Token) (rest : List Token) (p : Progress) (e : ReadError) (refused : SyntaxFault) → ts ≡ front ++ t ∷ rest → run file_step beginning front ≡ Ok p
     → Fails e (file_step p t) → IsRefusal e t.at refused → Refused ts refused
-stops_at ts place t p error.Memory refused within is ran fails tells = no_memory ts refused tells
-stops_at ts place t p (error.Misfit f) refused within is ran fails tells = subst (Refused ts) (sym tells) (record {
-  front = take place ts;
+stops_at ts front t rest p error.Memory refused splits ran fails tells = no_memory ts refused tells
+stops_at ts front t rest p (error.Misfit f) refused splits ran fails tells = subst (Refused ts) (sym tells) (record {
+  front = front;
   token = t;
-  rest = drop (place + 1) ts;
-  splits = sym (take-append-drop place ts) ∙ ap (λ x. take place ts ++ x) (drop_more ts place t within ∙ ap (λ x. x ∷ drop (place + 1) ts) (sym is));
+  rest = rest;
+  splits = splits;
   progress = p;
   ran = ran;
   misfit = f;

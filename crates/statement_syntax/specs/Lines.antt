@@ -131,9 +131,12 @@ map_step at names (rest.Source s) k t = on_arrow (Ok (line.Map at names (rest.Ar
 map_step at names (rest.Arrow s) k t = name_in k t >>= λ n. Ok (line.Map at names (rest.Target s n))
 map_step at names (rest.Target s e) k t = if is_word k (codes "self") then Ok (whole at (statement.Maps names s e true)) else Err Expected
 
+abbrev pub left_end : SidesWord → Spot → Reading → Lined
+left_end w at r = whole_sum r >>= λ left. Ok (line.Sides w at (Some left) start_reading)
+
 abbrev pub left_step : SidesWord → Spot → Reading → TokenKind → Spot → Lined
 left_step w at r k t =
-    on_equals (whole_sum r >>= λ left. Ok (line.Sides w at (Some left) start_reading)) (token_step r k t >>= λ x. Ok (line.Sides w at None x)) k
+    on_equals (left_end w at r) (token_step r k t >>= λ x. Ok (line.Sides w at None x)) k
 
 abbrev pub sides_step : SidesWord → Spot → Option Sum → Reading → TokenKind → Spot → Lined
 sides_step w at (Some left) r k t = token_step r k t >>= λ x. Ok (line.Sides w at (Some left) x)
@@ -165,6 +168,11 @@ abbrev pub projection_step : Spot → TokenKind → Spot → Lined
 projection_step at k t = name_in k t >>= λ n. Ok (whole at (statement.Projection n))
 
 -- ---- a token, and the line's end
+
+-- it holds no expression
+abbrev pub IsPlain : Line → Type 0
+IsPlain (line.Sides w at left r) = ⊥
+IsPlain l = Unit {0}
 
 abbrev pub line_step : Line → TokenKind → Spot → Lined
 line_step line.Start k t = start_step k t

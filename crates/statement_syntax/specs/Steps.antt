@@ -24,9 +24,6 @@ use Rattle.statement_syntax.specs.declared.tree.Sum.{Sum, roll-Sum}
 use Rattle.statement_syntax.specs.declared.expression.Part.{Part}
 use Rattle.statement_syntax.specs.declared.expression.Part.TheVariants.{Nothing, Scaled, Product}
 
-abbrev pub name_with : List ℕ → Spot → Name
-name_with text at = record { text = text; at = at }
-
 abbrev pub factor_of : Spot → Primary → List Mark → Factor
 factor_of at primary marks = roll-Factor (record { at = at; primary = primary; marks = marks })
 
@@ -53,6 +50,11 @@ Fails (error.Misfit f) read = read ≡ Err f
 abbrev pub Gives : {X : Type 0} → Result X ReadError → Result X Misfit → Type 0
 Gives (Ok x) read = read ≡ Ok x
 Gives (Err e) read = Fails e read
+
+-- what a function made of a state is what reading gives, unless memory ran out
+abbrev pub Turns : {A S : Type 0} → Result A ReadError → S → Result S Misfit → Type 0
+Turns (Ok done) state read = read ≡ Ok state
+Turns (Err e) state read = Fails e read
 
 abbrev pub term_of : Spot → Bool → Option Number → List Factor → Term
 term_of at negative l fs = roll-Term (record { at = at; negative = negative; literal = l; factors = fs })
@@ -113,6 +115,9 @@ close_step levels head part = do
   t ← ended_part part head.negative
   close_by levels (sum_with head t)
 
+abbrev pub signed_step : List Level → Head → Part → Spot → Bool → Result Reading Misfit
+signed_step levels head part at negative = sign_step head part at negative >>= λ h. Ok (outside levels h Nothing)
+
 abbrev pub empty_head : Head
 empty_head = record { at = None; terms = []; negative = false }
 
@@ -131,8 +136,8 @@ outside_step levels head part (kind.Literal n) at = literal_step levels head par
 outside_step levels head part kind.Colon at = Err Expected
 outside_step levels head part kind.Arrow at = Err Expected
 outside_step levels head part kind.Equals at = Err Expected
-outside_step levels head part kind.Plus at = sign_step head part at false >>= λ h. Ok (outside levels h Nothing)
-outside_step levels head part kind.Minus at = sign_step head part at true >>= λ h. Ok (outside levels h Nothing)
+outside_step levels head part kind.Plus at = signed_step levels head part at false
+outside_step levels head part kind.Minus at = signed_step levels head part at true
 outside_step levels head part kind.Open at = open_step levels head part at
 outside_step levels head part kind.Close at = close_step levels head part
 outside_step levels head part kind.OpenSquare at = Ok (record { levels = levels; head = head; part = part; focus = focus.Square at })

@@ -7,17 +7,14 @@ ghost use Rattle.statement_syntax.specs.Lines.{name_in, number_in, is_word};
 use crate::expression::{Misfit, ReadError};
 use crate::token::{Token, TokenKind};
 use crate::tree::{Name, Number};
-use lists::Duplicate;
 
 /// The name.
-pub fn name_in(token: &Token) -> Result<Name, ReadError>
-    ensures { Gives result (name_in token.now.kind token.now.at) }
+pub fn name_in(token: Token) -> Result<Name, ReadError>
+    ensures { Gives result (name_in token.kind token.at) }
 {
-    match &token.kind {
-        TokenKind::Name(text) => Ok(Name {
-            text: text.duplicate()?,
-            at: token.at,
-        }),
+    let Token { at, kind } = token;
+    match kind {
+        TokenKind::Name(text) => Ok(Name { text, at }),
         _ => Err(ReadError::Misfit(Misfit::Expected)),
     }
 }

@@ -1,7 +1,8 @@
 //! What has been read of an expression.
 
-ghost use Rattle.std.specs.Prelude.{◌≡◌, IfOk};
-ghost use Rattle.statement_syntax.specs.Steps.{name_with, Gives, close_step, open_step, literal_step, outside_step, outside, token_step, whole_sum};
+ghost use Rattle.std.specs.Prelude.{◌≡◌};
+ghost use Rattle.statement_syntax.specs.Steps.{Gives, Turns, empty_head, close_step, open_step, literal_step, signed_step, outside_step, token_step, whole_sum};
+ghost use Rattle.statement_syntax.specs.declared.expression.Focus.TheVariants.{Outside};
 ghost use Rattle.statement_syntax.specs.declared.expression.ReadError.TheVariants.{Memory};
 
 use crate::part::{ended_part, part_with, quote_step, sign_step, sum_with};
@@ -9,8 +10,9 @@ use crate::place::Spot;
 use crate::stack::Stack;
 use crate::token::{Token, TokenKind};
 use crate::tree::{Factor, Name, Number, Primary, Sum, Term};
-use lists::{Duplicate, Listing, Text};
+use lists::Listing;
 use std::alloc::{AllocError, AllocFailed, Global};
+use std::mem;
 use thiserror::Error;
 
 /// What stands before the term that is read: the place of the sum's first token, if there is one, and the sign.
@@ -93,158 +95,117 @@ impl<T: Drop> From<AllocFailed<T>> for ReadError {
     }
 }
 
-fn close_step(
-    alloc: Global,
-    levels: Stack<Level>,
-    head: Head,
-    part: Part,
-) -> Result<Reading, ReadError>
-    ensures { Gives result (close_step levels head part) }
+/// Nothing of a sum.
+pub fn empty_head(alloc: Global) -> Head
+    ensures { result ≡ empty_head }
 {
-    let negative = head.negative;
-    let term = ended_part(alloc, part, negative)?;
-    let sum = sum_with(head, term)?;
-    let mut levels = levels;
-    match levels.pop() {
-        None => Err(ReadError::Misfit(Misfit::Expected)),
-        Some(level) => Ok(Reading {
-            levels,
-            head: level.head,
-            part: part_with(alloc, level.part, Primary::Bracket(sum), level.at)?,
-            focus: Focus::Outside,
-        }),
+    Head {
+        at: None,
+        terms: Listing::new(alloc),
+        negative: false,
     }
 }
 
-fn open_step(
-    alloc: Global,
-    levels: Stack<Level>,
-    head: Head,
-    part: Part,
-    at: Spot,
-) -> Result<Reading, ReadError>
-    ensures { Gives result (open_step levels head part at) }
+fn close_step(alloc: Global, reading: &mut Reading) -> Result<(), ReadError>
+    requires { reading.old.focus ≡ Outside }
+    ensures { Turns result reading.new (close_step reading.old.levels reading.old.head reading.old.part) }
 {
-    if levels.len() >= 64 {
+    let part = mem::replace(&mut reading.part, Part::Nothing);
+    let term = ended_part(alloc, part, reading.head.negative)?;
+    match reading.levels.pop() {
+        None => Err(ReadError::Misfit(Misfit::Expected)),
+        Some(Level { head, part, at }) => {
+            let sum = sum_with(mem::replace(&mut reading.head, head), term)?;
+            reading.part = part;
+            part_with(alloc, &mut reading.part, Primary::Bracket(sum), at)?;
+            Ok(())
+        }
+    }
+}
+
+fn open_step(alloc: Global, reading: &mut Reading, at: Spot) -> Result<(), ReadError>
+    requires { reading.old.focus ≡ Outside }
+    ensures { Turns result reading.new (open_step reading.old.levels reading.old.head reading.old.part at) }
+{
+    if reading.levels.len() >= 64 {
         return Err(ReadError::Misfit(Misfit::TooDeep));
     }
-    let mut levels = levels;
-    levels.push(Level { head, part, at })?;
-    Ok(Reading {
-        levels,
-        head: Head {
-            at: None,
-            terms: Listing::new(alloc),
-            negative: false,
-        },
-        part: Part::Nothing,
-        focus: Focus::Outside,
-    })
+    let head = mem::replace(&mut reading.head, empty_head(alloc));
+    let part = mem::replace(&mut reading.part, Part::Nothing);
+    reading.levels.push(Level { head, part, at })?;
+    Ok(())
 }
 
-fn name_of(text: &Text, at: Spot) -> Result<Name, AllocError>
-    ensures { IfOk result (λ n. n ≡ name_with text.now at) }
+fn literal_step(reading: &mut Reading, number: Number) -> Result<(), ReadError>
+    requires { reading.old.focus ≡ Outside }
+    ensures { Turns result reading.new (literal_step reading.old.levels reading.old.head reading.old.part number) }
 {
-    Ok(Name {
-        text: text.duplicate()?,
-        at,
-    })
-}
-
-fn literal_step(
-    levels: Stack<Level>,
-    head: Head,
-    part: Part,
-    number: Number,
-) -> Result<Reading, ReadError>
-    ensures { Gives result (literal_step levels head part number) }
-{
-    match part {
-        Part::Nothing => Ok(outside(levels, head, Part::Scaled(number))),
+    match reading.part {
+        Part::Nothing => {
+            reading.part = Part::Scaled(number);
+            Ok(())
+        }
         _ => Err(ReadError::Misfit(Misfit::Expected)),
     }
 }
 
-fn outside_step(
+// A sign ends the term before it, if there is one.
+fn signed_step(
     alloc: Global,
-    levels: Stack<Level>,
-    head: Head,
-    part: Part,
-    token: &Token,
-) -> Result<Reading, ReadError>
-    ensures { Gives result (outside_step levels head part token.now.kind token.now.at) }
+    reading: &mut Reading,
+    at: Spot,
+    negative: bool,
+) -> Result<(), ReadError>
+    requires { reading.old.focus ≡ Outside }
+    ensures { Turns result reading.new (signed_step reading.old.levels reading.old.head reading.old.part at negative) }
 {
-    let at = token.at;
-    match &token.kind {
-        TokenKind::Name(text) => {
-            let name = name_of(text, at)?;
-            let part = part_with(alloc, part, Primary::Letter(name), at)?;
-            Ok(outside(levels, head, part))
-        }
-        TokenKind::Literal(value) => {
-            let value = *value;
-            literal_step(levels, head, part, Number { value, at })
-        }
-        TokenKind::Plus => {
-            let head = sign_step(alloc, head, part, at, false)?;
-            Ok(outside(levels, head, Part::Nothing))
-        }
-        TokenKind::Minus => {
-            let head = sign_step(alloc, head, part, at, true)?;
-            Ok(outside(levels, head, Part::Nothing))
-        }
-        TokenKind::Open => open_step(alloc, levels, head, part, at),
-        TokenKind::Close => close_step(alloc, levels, head, part),
-        TokenKind::OpenSquare => Ok(Reading {
-            levels,
-            head,
-            part,
-            focus: Focus::Square(at),
-        }),
-        TokenKind::Quote => Ok(outside(levels, head, quote_step(part)?)),
-        _ => Err(ReadError::Misfit(Misfit::Expected)),
-    }
+    let part = mem::replace(&mut reading.part, Part::Nothing);
+    sign_step(alloc, &mut reading.head, part, at, negative)
 }
 
-fn outside(levels: Stack<Level>, head: Head, part: Part) -> Reading
-    ensures { result ≡ outside levels head part }
+fn outside_step(alloc: Global, reading: &mut Reading, token: Token) -> Result<(), ReadError>
+    requires { reading.old.focus ≡ Outside }
+    ensures { Turns result reading.new (outside_step reading.old.levels reading.old.head reading.old.part token.kind token.at) }
 {
-    Reading {
-        levels,
-        head,
-        part,
-        focus: Focus::Outside,
+    let Token { at, kind } = token;
+    match kind {
+        TokenKind::Name(text) => {
+            let letter = Primary::Letter(Name { text, at });
+            Ok(part_with(alloc, &mut reading.part, letter, at)?)
+        }
+        TokenKind::Literal(value) => literal_step(reading, Number { value, at }),
+        TokenKind::Plus => signed_step(alloc, reading, at, false),
+        TokenKind::Minus => signed_step(alloc, reading, at, true),
+        TokenKind::Open => open_step(alloc, reading, at),
+        TokenKind::Close => close_step(alloc, reading),
+        TokenKind::OpenSquare => {
+            reading.focus = Focus::Square(at);
+            Ok(())
+        }
+        TokenKind::Quote => quote_step(&mut reading.part),
+        _ => Err(ReadError::Misfit(Misfit::Expected)),
     }
 }
 
 /// The next token of an expression.
-pub fn token_step(alloc: Global, reading: Reading, token: &Token) -> Result<Reading, ReadError>
-    ensures { Gives result (token_step reading token.now.kind token.now.at) }
+pub fn token_step(alloc: Global, reading: &mut Reading, token: Token) -> Result<(), ReadError>
+    ensures { Turns result reading.new (token_step reading.old token.kind token.at) }
 {
-    let Reading {
-        levels,
-        head,
-        part,
-        focus,
-    } = reading;
-    match focus {
-        Focus::Outside => outside_step(alloc, levels, head, part, token),
-        Focus::Square(left) => match &token.kind {
-            TokenKind::Name(text) => {
-                let name = name_of(text, token.at)?;
-                Ok(Reading {
-                    levels,
-                    head,
-                    part,
-                    focus: Focus::Named(left, name),
-                })
+    match mem::replace(&mut reading.focus, Focus::Outside) {
+        Focus::Outside => outside_step(alloc, reading, token),
+        Focus::Square(left) => {
+            let Token { at, kind } = token;
+            match kind {
+                TokenKind::Name(text) => {
+                    reading.focus = Focus::Named(left, Name { text, at });
+                    Ok(())
+                }
+                _ => Err(ReadError::Misfit(Misfit::Expected)),
             }
-            _ => Err(ReadError::Misfit(Misfit::Expected)),
-        },
-        Focus::Named(left, name) => match &token.kind {
+        }
+        Focus::Named(left, name) => match token.kind {
             TokenKind::CloseSquare => {
-                let part = part_with(alloc, part, Primary::Identity(name), left)?;
-                Ok(outside(levels, head, part))
+                Ok(part_with(alloc, &mut reading.part, Primary::Identity(name), left)?)
             }
             _ => Err(ReadError::Misfit(Misfit::Expected)),
         },

@@ -1,8 +1,8 @@
 //! Statements, a line each: what has been read of a line, and what may come next.
 
 ghost use Rattle.std.specs.Prelude.{◌≡◌};
-ghost use Rattle.statement_syntax.specs.Steps.{Gives};
-ghost use Rattle.statement_syntax.specs.Lines.{line_step, statement_of, line_end};
+ghost use Rattle.statement_syntax.specs.Steps.{Gives, Turns};
+ghost use Rattle.statement_syntax.specs.Lines.{IsPlain, line_step, statement_of, line_end};
 
 use crate::expected::number_in;
 use crate::expression::{Misfit, ReadError, Reading};
@@ -15,6 +15,7 @@ use crate::token::Token;
 use crate::tree::{Name, Number, Statement, StatementKind, Sum};
 use lists::Listing;
 use std::alloc::Global;
+use std::mem;
 
 /// The words before a list of names.
 #[derive(Clone, Copy, Debug, PartialEq, Eq)]
@@ -100,29 +101,42 @@ pub enum Line {
     Whole(Statement),
 }
 
-/// The line with one more token.
-pub fn line_step(alloc: Global, line: Line, token: &Token) -> Result<Line, ReadError>
-    ensures { Gives result (line_step line token.now.kind token.now.at) }
+/// The line with one more token. An expression, which may be long, is read in its place.
+pub fn line_step(alloc: Global, line: &mut Line, token: Token) -> Result<(), ReadError>
+    ensures { Turns result line.new (line_step line.old token.kind token.at) }
 {
     match line {
-        Line::Start => start_step(alloc, token),
+        Line::Sides { left, reading, .. } => sides_step(alloc, left, reading, token),
+        _ => plain_step(alloc, line, token),
+    }
+}
+
+// The same for a line that holds no expression.
+fn plain_step(alloc: Global, line: &mut Line, token: Token) -> Result<(), ReadError>
+    requires { IsPlain line.old }
+    ensures { Turns result line.new (line_step line.old token.kind token.at) }
+{
+    *line = plain_line(alloc, mem::replace(line, Line::Start), token)?;
+    Ok(())
+}
+
+fn plain_line(alloc: Global, line: Line, token: Token) -> Result<Line, ReadError>
+    requires { IsPlain line }
+    ensures { Gives result (line_step line token.kind token.at) }
+{
+    match line {
+        Line::Start => start_step(alloc, &token),
         Line::List { word, at, names } => list_step(word, at, names, token),
         Line::Map { at, names, rest } => map_step(at, names, rest, token),
-        Line::Sides {
-            word,
-            at,
-            left,
-            reading,
-        } => sides_step(alloc, word, at, left, reading, token),
         Line::Pair { word, at, first } => pair_step(word, at, first, token),
         Line::Projection(at) => projection_step(at, token),
-        Line::Order(at) => order_step(alloc, at, token),
+        Line::Order(at) => order_step(alloc, at, &token),
         Line::Weights(at, pairs) => Ok(Line::Weights(at, pairs_step(pairs, token)?)),
-        Line::Model(at) => Ok(Line::Shape(at, number_in(token)?, no_pairs(alloc))),
+        Line::Model(at) => Ok(Line::Shape(at, number_in(&token)?, no_pairs(alloc))),
         Line::Shape(at, modulus, pairs) => {
             Ok(Line::Shape(at, modulus, pairs_step(pairs, token)?))
         }
-        Line::Whole(_) => Err(ReadError::Misfit(Misfit::Expected)),
+        Line::Sides { .. } | Line::Whole(_) => Err(ReadError::Misfit(Misfit::Expected)),
     }
 }
 

@@ -18,9 +18,9 @@ pub fn list_step(
     word: ListWord,
     at: Spot,
     names: Listing<Name>,
-    token: &Token,
+    token: Token,
 ) -> Result<Line, ReadError>
-    ensures { Gives result (list_step word at names token.now.kind token.now.at) }
+    ensures { Gives result (list_step word at names token.kind token.at) }
 {
     let mut names = names;
     names.push(name_in(token)?)?;
@@ -40,8 +40,8 @@ pub fn list_end(word: ListWord, names: Listing<Name>) -> Result<StatementKind, R
     }
 }
 
-fn map_names_step(at: Spot, names: Listing<Name>, token: &Token) -> Result<Line, ReadError>
-    ensures { Gives result (map_names_step at names token.now.kind token.now.at) }
+fn map_names_step(at: Spot, names: Listing<Name>, token: Token) -> Result<Line, ReadError>
+    ensures { Gives result (map_names_step at names token.kind token.at) }
 {
     match &token.kind {
         TokenKind::Colon => {
@@ -65,9 +65,9 @@ pub fn map_step(
     at: Spot,
     names: Listing<Name>,
     rest: MapRest,
-    token: &Token,
+    token: Token,
 ) -> Result<Line, ReadError>
-    ensures { Gives result (map_step at names rest token.now.kind token.now.at) }
+    ensures { Gives result (map_step at names rest token.kind token.at) }
 {
     match rest {
         MapRest::Names => map_names_step(at, names, token),
@@ -87,7 +87,7 @@ pub fn map_step(
             Ok(Line::Map { at, names, rest })
         }
         MapRest::Target(source, target) => {
-            if !is_word(token, "self") {
+            if !is_word(&token, "self") {
                 return Err(ReadError::Misfit(Misfit::Expected));
             }
             let kind = StatementKind::Maps {
@@ -131,9 +131,9 @@ pub fn pair_step(
     word: PairWord,
     at: Spot,
     first: Option<Name>,
-    token: &Token,
+    token: Token,
 ) -> Result<Line, ReadError>
-    ensures { Gives result (pair_step word at first token.now.kind token.now.at) }
+    ensures { Gives result (pair_step word at first token.kind token.at) }
 {
     let name = name_in(token)?;
     match first {
@@ -150,8 +150,8 @@ pub fn pair_step(
 }
 
 /// The name of `projection`.
-pub fn projection_step(at: Spot, token: &Token) -> Result<Line, ReadError>
-    ensures { Gives result (projection_step at token.now.kind token.now.at) }
+pub fn projection_step(at: Spot, token: Token) -> Result<Line, ReadError>
+    ensures { Gives result (projection_step at token.kind token.at) }
 {
     let kind = StatementKind::Projection(name_in(token)?);
     Ok(Line::Whole(Statement { at, kind }))

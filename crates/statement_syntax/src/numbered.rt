@@ -24,8 +24,8 @@ pub fn no_pairs(alloc: Global) -> Pairs
 }
 
 /// One more name, or the literal of the last one.
-pub fn pairs_step(pairs: Pairs, token: &Token) -> Result<Pairs, ReadError>
-    ensures { Gives result (pairs_step pairs token.now.kind token.now.at) }
+pub fn pairs_step(pairs: Pairs, token: Token) -> Result<Pairs, ReadError>
+    ensures { Gives result (pairs_step pairs token.kind token.at) }
 {
     let Pairs { mut whole, half } = pairs;
     match half {
@@ -34,7 +34,7 @@ pub fn pairs_step(pairs: Pairs, token: &Token) -> Result<Pairs, ReadError>
             half: Some(name_in(token)?),
         }),
         Some(name) => {
-            whole.push((name, number_in(token)?))?;
+            whole.push((name, number_in(&token)?))?;
             Ok(Pairs { whole, half: None })
         }
     }

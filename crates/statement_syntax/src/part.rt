@@ -1,50 +1,49 @@
 //! The term that is read, and the sum that it ends.
 
-ghost use Rattle.std.specs.Prelude.{◌≡◌, IfOk};
-ghost use Rattle.statement_syntax.specs.Steps.{part_with, Gives, ended_part, sum_with, quote_step, sign_step};
+ghost use Rattle.std.specs.Prelude.{◌≡◌, [], IfOk, OnOk};
+ghost use Rattle.statement_syntax.specs.Steps.{part_with, Gives, Turns, ended_part, sum_with, quote_step, sign_step};
+ghost use Rattle.statement_syntax.specs.declared.expression.Part.TheVariants.{Product};
 
 use crate::expression::{Head, Misfit, Part, ReadError};
 use crate::place::Spot;
-use crate::tree::{Factor, Mark, Primary, Sum, Term};
+use crate::tree::{Factor, Mark, Number, Primary, Sum, Term};
 use lists::Listing;
 use std::alloc::{AllocError, Global};
+use std::mem;
 
 /// The term with one more primary.
-pub fn part_with(alloc: Global, part: Part, primary: Primary, at: Spot) -> Result<Part, AllocError>
-    ensures { IfOk result (λ p. p ≡ part_with part primary at) }
+pub fn part_with(
+    alloc: Global,
+    part: &mut Part,
+    primary: Primary,
+    at: Spot,
+) -> Result<(), AllocError>
+    ensures { OnOk result (part.new ≡ part_with part.old primary at) }
 {
-    let last = Factor {
+    let factor = Factor {
         at,
         primary,
         marks: Listing::new(alloc),
     };
     match part {
-        Part::Nothing => Ok(Part::Product {
-            at,
-            literal: None,
-            factors: Listing::new(alloc),
-            last,
-        }),
-        Part::Scaled(number) => Ok(Part::Product {
-            at: number.at,
-            literal: Some(number),
-            factors: Listing::new(alloc),
-            last,
-        }),
-        Part::Product {
-            at: first,
-            literal,
-            mut factors,
-            last: before,
-        } => {
-            factors.push(before)?;
-            Ok(Part::Product {
-                at: first,
-                literal,
-                factors,
-                last,
-            })
+        Part::Nothing => *part = first_factor(alloc, at, None, factor),
+        Part::Scaled(number) => {
+            let number = *number;
+            *part = first_factor(alloc, number.at, Some(number), factor);
         }
+        Part::Product { factors, last, .. } => factors.push(mem::replace(last, factor))?,
+    }
+    Ok(())
+}
+
+fn first_factor(alloc: Global, at: Spot, literal: Option<Number>, last: Factor) -> Part
+    ensures { result ≡ Product at literal [] last }
+{
+    Part::Product {
+        at,
+        literal,
+        factors: Listing::new(alloc),
+        last,
     }
 }
 
@@ -96,24 +95,11 @@ pub fn sum_with(head: Head, term: Term) -> Result<Sum, AllocError>
 }
 
 /// A mark at the last factor.
-pub fn quote_step(part: Part) -> Result<Part, ReadError>
-    ensures { Gives result (quote_step part) }
+pub fn quote_step(part: &mut Part) -> Result<(), ReadError>
+    ensures { Turns result part.new (quote_step part.old) }
 {
     match part {
-        Part::Product {
-            at,
-            literal,
-            factors,
-            mut last,
-        } => {
-            last.marks.push(Mark::Adjoint)?;
-            Ok(Part::Product {
-                at,
-                literal,
-                factors,
-                last,
-            })
-        }
+        Part::Product { last, .. } => Ok(last.marks.push(Mark::Adjoint)?),
         _ => Err(ReadError::Misfit(Misfit::Expected)),
     }
 }
@@ -121,28 +107,24 @@ pub fn quote_step(part: Part) -> Result<Part, ReadError>
 /// A sign between terms, or a leading one.
 pub fn sign_step(
     alloc: Global,
-    head: Head,
+    head: &mut Head,
     part: Part,
     at: Spot,
     negative: bool,
-) -> Result<Head, ReadError>
-    ensures { Gives result (sign_step head part at negative) }
+) -> Result<(), ReadError>
+    ensures { Turns result head.new (sign_step head.old part at negative) }
 {
     match (part, head.at) {
-        (Part::Nothing, None) => Ok(Head {
-            at: Some(at),
-            terms: head.terms,
-            negative,
-        }),
-        (Part::Nothing, Some(_)) => Err(ReadError::Misfit(Misfit::Expected)),
-        (part, _) => {
+        (Part::Nothing, None) => head.at = Some(at),
+        (Part::Nothing, Some(_)) => return Err(ReadError::Misfit(Misfit::Expected)),
+        (part, first) => {
             let term = ended_part(alloc, part, head.negative)?;
-            let sum = sum_with(head, term)?;
-            Ok(Head {
-                at: Some(sum.at),
-                terms: sum.terms,
-                negative,
-            })
+            if first.is_none() {
+                head.at = Some(term.at);
+            }
+            head.terms.push(term)?;
         }
     }
+    head.negative = negative;
+    Ok(())
 }

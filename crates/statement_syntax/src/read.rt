@@ -4,8 +4,8 @@ ghost use Rattle.std.specs.Prelude.{◌≡◌, ◌<◌, ◌↔◌, ℕ, List, le
 ghost use Rattle.statement_syntax.specs.Grammar.{StatedLine};
 ghost use Rattle.statement_syntax.specs.Tree.{file_tree};
 ghost use Rattle.statement_syntax.specs.Fault.{IsStatements, IsTreeOf, TellsFirstFault, IsWantOfMemory};
-ghost use Rattle.statement_syntax.specs.Steps.{Gives};
-ghost use Rattle.statement_syntax.specs.Lines.{beginning, file_step};
+ghost use Rattle.statement_syntax.specs.Steps.{Turns};
+ghost use Rattle.statement_syntax.specs.Lines.{beginning, ended, file_step};
 ghost use Rattle.statement_syntax.specs.Stages.{TokensRead, LinesRead, IsRefusal};
 
 use crate::expression::ReadError;
@@ -17,6 +17,7 @@ use crate::token::{Token, TokenKind};
 use crate::tree::{Statement, Tree};
 use lists::Listing;
 use std::alloc::{AllocError, Global};
+use std::mem;
 
 /// The statements of the lines that are read, and what has been read of the next one.
 #[derive(Drop)]
@@ -25,22 +26,21 @@ pub struct Progress {
     pub line: Line,
 }
 
-fn file_step(alloc: Global, progress: Progress, token: &Token) -> Result<Progress, ReadError>
-    ensures { Gives result (file_step progress token.now) }
+fn file_step(alloc: Global, progress: &mut Progress, token: Token) -> Result<(), ReadError>
+    ensures { Turns result progress.new (file_step progress.old token) }
 {
-    let Progress { statements, line } = progress;
     match &token.kind {
-        TokenKind::End => {
-            let mut statements = statements;
-            statements.push(line_end(alloc, line)?)?;
-            let line = Line::Start;
-            Ok(Progress { statements, line })
-        }
-        _ => {
-            let line = line_step(alloc, line, token)?;
-            Ok(Progress { statements, line })
-        }
+        TokenKind::End => end_line(alloc, progress),
+        _ => line_step(alloc, &mut progress.line, token),
     }
+}
+
+fn end_line(alloc: Global, progress: &mut Progress) -> Result<(), ReadError>
+    ensures { Turns result progress.new (ended progress.old) }
+{
+    let line = mem::replace(&mut progress.line, Line::Start);
+    progress.statements.push(line_end(alloc, line)?)?;
+    Ok(())
 }
 
 fn refusal(error: ReadError, at: Spot) -> SyntaxFault
@@ -52,18 +52,18 @@ fn refusal(error: ReadError, at: Spot) -> SyntaxFault
     }
 }
 
-fn statements(alloc: Global, tokens: &[Token]) -> Result<Listing<Statement>, SyntaxFault>
-    ensures { LinesRead tokens.now result }
+fn statements(alloc: Global, tokens: Vec<Token>) -> Result<Listing<Statement>, SyntaxFault>
+    ensures { LinesRead tokens.items result }
 {
     let mut progress = Progress {
         statements: Listing::new(alloc),
         line: Line::Start,
     };
     for token in tokens {
-        progress = match file_step(alloc, progress, token) {
-            Ok(next) => next,
-            Err(error) => return Err(refusal(error, token.at)),
-        };
+        let at = token.at;
+        if let Err(error) = file_step(alloc, &mut progress, token) {
+            return Err(refusal(error, at));
+        }
     }
     Ok(progress.statements)
 }
@@ -106,6 +106,6 @@ pub fn read_tree(alloc: Global, bytes: &[u8]) -> Result<Tree, SyntaxFault>
     ensures first { IfErr result (TellsFirstFault bytes.now) }
 {
     let tokens = token_list(alloc, bytes)?;
-    let statements = statements(alloc, &tokens)?;
+    let statements = statements(alloc, tokens)?;
     Ok(Tree { statements })
 }

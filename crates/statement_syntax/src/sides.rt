@@ -1,17 +1,20 @@
 //! Statements of two expressions: `assume`, `claim`.
 
 ghost use Rattle.std.specs.Prelude.{◌≡◌};
-ghost use Rattle.statement_syntax.specs.Steps.{Gives};
-ghost use Rattle.statement_syntax.specs.Lines.{start_reading, left_step, sides_step, sides_end};
+ghost use Rattle.statement_syntax.specs.Steps.{Gives, Turns};
+ghost use Rattle.statement_syntax.specs.Lines.{start_reading, left_end, sides_step, sides_end};
+ghost use Rattle.statement_syntax.specs.declared.line.Line.TheVariants.{Sides};
 
-use crate::expression::{Focus, Head, Misfit, Part, ReadError, Reading, token_step, whole_sum};
-use crate::line::{Line, SidesWord};
+use crate::expression::{
+    Focus, Misfit, Part, ReadError, Reading, empty_head, token_step, whole_sum,
+};
+use crate::line::SidesWord;
 use crate::place::Spot;
 use crate::stack::Stack;
 use crate::token::{Token, TokenKind};
 use crate::tree::{StatementKind, Sum};
-use lists::Listing;
 use std::alloc::Global;
+use std::mem;
 
 /// An expression of which nothing is read.
 pub fn start_reading(alloc: Global) -> Reading
@@ -19,61 +22,34 @@ pub fn start_reading(alloc: Global) -> Reading
 {
     Reading {
         levels: Stack::new(alloc),
-        head: Head {
-            at: None,
-            terms: Listing::new(alloc),
-            negative: false,
-        },
+        head: empty_head(alloc),
         part: Part::Nothing,
         focus: Focus::Outside,
-    }
-}
-
-fn left_step(
-    alloc: Global,
-    word: SidesWord,
-    at: Spot,
-    reading: Reading,
-    token: &Token,
-) -> Result<Line, ReadError>
-    ensures { Gives result (left_step word at reading token.now.kind token.now.at) }
-{
-    match &token.kind {
-        TokenKind::Equals => Ok(Line::Sides {
-            word,
-            at,
-            left: Some(whole_sum(alloc, reading)?),
-            reading: start_reading(alloc),
-        }),
-        _ => Ok(Line::Sides {
-            word,
-            at,
-            left: None,
-            reading: token_step(alloc, reading, token)?,
-        }),
     }
 }
 
 /// One more token of either side.
 pub fn sides_step(
     alloc: Global,
-    word: SidesWord,
-    at: Spot,
-    left: Option<Sum>,
-    reading: Reading,
-    token: &Token,
-) -> Result<Line, ReadError>
-    ensures { Gives result (sides_step word at left reading token.now.kind token.now.at) }
+    left: &mut Option<Sum>,
+    reading: &mut Reading,
+    token: Token,
+) -> Result<(), ReadError>
+    ensures { (word : SidesWord) → (at : Spot) → Turns result (Sides word at left.new reading.new) (sides_step word at left.old reading.old token.kind token.at) }
 {
-    match left {
-        Some(left) => Ok(Line::Sides {
-            word,
-            at,
-            left: Some(left),
-            reading: token_step(alloc, reading, token)?,
-        }),
-        None => left_step(alloc, word, at, reading, token),
+    match (&*left, &token.kind) {
+        (None, TokenKind::Equals) => end_left(alloc, left, reading),
+        _ => token_step(alloc, reading, token),
     }
+}
+
+// The left side, where it may end; nothing of the right one is read.
+fn end_left(alloc: Global, left: &mut Option<Sum>, reading: &mut Reading) -> Result<(), ReadError>
+    ensures { (word : SidesWord) → (at : Spot) → Turns result (Sides word at left.new reading.new) (left_end word at reading.old) }
+{
+    let whole = mem::replace(reading, start_reading(alloc));
+    *left = Some(whole_sum(alloc, whole)?);
+    Ok(())
 }
 
 /// The statement, where the right side may end.
