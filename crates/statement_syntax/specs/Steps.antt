@@ -24,6 +24,9 @@ use Rattle.statement_syntax.specs.declared.tree.Sum.{Sum, roll-Sum}
 use Rattle.statement_syntax.specs.declared.expression.Part.{Part}
 use Rattle.statement_syntax.specs.declared.expression.Part.TheVariants.{Nothing, Scaled, Product}
 
+abbrev pub name_with : List ℕ → Spot → Name
+name_with text at = record { text = text; at = at }
+
 abbrev pub factor_of : Spot → Primary → List Mark → Factor
 factor_of at primary marks = roll-Factor (record { at = at; primary = primary; marks = marks })
 
