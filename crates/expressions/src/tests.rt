@@ -4,8 +4,9 @@ ghost use Rattle.expressions.specs.Names.{are_names, are_names_of_term, are_name
 
 use crate::{
     SignatureFault, equation_poly, equation_signature, equations_are_typed, has_identity, has_mark,
-    letters_are_written,
+    letter_of, letters_are_written, object_of,
 };
+use lists::Text;
 use nc_polynomial::{Poly, PolyFault};
 use quiver::{Named, Quiver, QuiverFault, Sig};
 use statement_syntax::{
@@ -72,6 +73,21 @@ fn is_object(quiver: &Quiver, name: &Name) -> bool
     ensures { result ≡ is_object (named_in quiver.now name.now.text) }
 {
     matches!(quiver.find(name.text.as_str()), Some(Named::Object(_)))
+}
+
+#[test]
+fn a_name_stands_for_a_map_or_an_object(rt: HostRuntime) -> Result<(), Fail> {
+    let quiver = small(rt.alloc())?;
+    let at = spot(1);
+    let text = Text::from_str(rt.alloc(), "x")?;
+    let map = Name { text, at };
+    let text = Text::from_str(rt.alloc(), "V")?;
+    let object = Name { text, at };
+    assert!(&rt; is_map(&quiver, &map));
+    assert!(&rt; is_object(&quiver, &object));
+    assert_eq!(&rt; letter_of(&quiver, &map), Letter(6));
+    assert_eq!(&rt; object_of(&quiver, &object), Object(1));
+    Ok(())
 }
 
 fn tree_of(rt: &HostRuntime, text: &str) -> Result<Tree, Fail> {

@@ -7,7 +7,6 @@ mod fault;
 mod kinds;
 mod literal;
 mod marked;
-mod named;
 mod names;
 mod order;
 mod shapes;
