@@ -52,13 +52,21 @@ share known common r = int_div common (known r.from).denominator
 abbrev pub joined_row : ℤ → Row → CertRow → CertRow
 joined_row k outer inner = record { coef = k *ℤ inner.coef; left = outer.left ++ inner.left; generator = inner.generator; right = inner.right ++ outer.right }
 
--- for each row the expansion of what it names, times its coefficient and its share, between its words
-abbrev pub joined : Known → ℤ → List Row → List CertRow
-joined known common rows = flat_map (λ r. map (joined_row (r.coef *ℤ share known common r) r) (known r.from).rows) rows
+-- the expansion of what the row names, times its coefficient and its share, between its words
+abbrev pub joined_rows : Known → ℤ → Row → List CertRow
+joined_rows known common r = map (joined_row (r.coef *ℤ share known common r) r) (known r.from).rows
 
--- the products of these rows
+-- its products: that of the coefficient and the share, then those of it with the coefficients of the expansion
+abbrev pub row_products : Known → ℤ → Row → List Overflow
+row_products known common r =
+    product_of r.coef (share known common r) ∷ map (λ s. product_of (r.coef *ℤ share known common r) s.coef) (known r.from).rows
+
+-- the same of all rows, in order
+abbrev pub joined : Known → ℤ → List Row → List CertRow
+joined known common rows = flat_map (joined_rows known common) rows
+
 abbrev pub joined_products : Known → ℤ → List Row → List Overflow
-joined_products known common rows = flat_map (λ r. product_of r.coef (share known common r) ∷ map (λ s. product_of (r.coef *ℤ share known common r) s.coef) (known r.from).rows) rows
+joined_products known common rows = flat_map (row_products known common) rows
 
 -- ---- the limits
 -- whether a word has more than 500 letters

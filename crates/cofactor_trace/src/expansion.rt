@@ -40,12 +40,13 @@ fn needed_numbers(
     requires target { IsRecord (length made.now) target.now }
     ensures { IfOk result (λ numbers. reverse numbers.items ≡ map (λ e. e.0) (needed_rules made.now target.now)) }
 {
-    let mut named = vec![in alloc; false; made.len()]?;
+    let mut marks = vec![in alloc; false; made.len()]?;
+    let named = marks.as_mut_slice();
     let mut numbers = Vec::new(alloc);
-    mark(&mut named, target.rows.as_slice());
+    mark(named, target.rows.as_slice());
     for place in (0..made.len()).rev() {
         if named[place] {
-            mark(&mut named, made[place].rows.as_slice());
+            mark(named, made[place].rows.as_slice());
             numbers.push(place + 1)?;
         }
     }

@@ -1,11 +1,11 @@
 //! The expansion of one record, from those of the rules that it names.
-ghost use Rattle.std.specs.Prelude.{◌≡◌, ◌<ℤ◌, pos, [], ◌∷◌, None, Ok, IfOk, OnOk, MatchResult};
+ghost use Rattle.std.specs.Prelude.{◌≡◌, ◌<ℤ◌, pos, [], None, Ok, IfOk, OnOk, MatchResult};
 ghost use Rattle.std.specs.List.{All};
 ghost use Rattle.std.specs.Map.{values_of};
 ghost use Rattle.coef_int.specs.Range.{IsCoefficient};
 ghost use Rattle.cofactor_trace.specs.declared.Origin.TheVariants as origin;
 ghost use Rattle.cofactor_trace.specs.Expansion as expansion;
-ghost use Rattle.cofactor_trace.specs.Expansion.{overflow_in, multiple_products, denominators, joined, joined_products, limit_fault, record_expansion};
+ghost use Rattle.cofactor_trace.specs.Expansion.{overflow_in, multiple_products, denominators, joined, joined_rows, joined_products, row_products, limit_fault, record_expansion};
 ghost use Rattle.cofactor_trace.specs.Needed.{known_from};
 ghost use Rattle.cofactor_trace.specs.Faults.{Explains, IsFirst};
 ghost use Rattle.cofactor_trace.specs.Ranges.{IsRanged};
@@ -122,8 +122,8 @@ fn add_row(
     requires coefficient_in { IsCoefficient row.now.coef }
     requires sums_in { All IsInRange (values_of sums.old.entries) }
     ensures sums_in { OnOk result (All IsInRange (values_of sums.new.entries)) }
-    ensures added { OnOk result (sums.new.entries ≡ with_rows sums.old.entries (joined (known_from expansions.now.entries) common (row.now ∷ []))) }
-    ensures exact { let first = overflow_in (joined_products (known_from expansions.now.entries) common (row.now ∷ [])) in
+    ensures added { OnOk result (sums.new.entries ≡ with_rows sums.old.entries (joined_rows (known_from expansions.now.entries) common row.now)) }
+    ensures exact { let first = overflow_in (row_products (known_from expansions.now.entries) common row.now) in
         MatchResult result (λ _. first ≡ None) (IsFirst first) }
 {
     let share = quotient(common, denominator_of(expansions, row.from));
@@ -163,19 +163,19 @@ fn add_rows(
 pub(crate) fn expand_record(
     alloc: Global,
     expansions: &Expansions,
-    record: &Made,
+    made: &Made,
 ) -> Result<Cofactors, ExpandFault>
     requires ranged { All IsRanged (values_of expansions.now.entries) }
-    requires positive { pos 0 <ℤ record.now.scale }
-    requires scale_in { IsCoefficient record.now.scale }
-    requires coefficients_in { All (λ r. IsCoefficient r.coef) record.now.rows }
+    requires positive { pos 0 <ℤ made.now.scale }
+    requires scale_in { IsCoefficient made.now.scale }
+    requires coefficients_in { All (λ r. IsCoefficient r.coef) made.now.rows }
     ensures ranged { IfOk result IsRanged }
-    ensures exact { MatchResult result (λ c. record_expansion (known_from expansions.now.entries) record.now ≡ Ok c)
-        (Explains (record_expansion (known_from expansions.now.entries) record.now)) }
+    ensures exact { MatchResult result (λ c. record_expansion (known_from expansions.now.entries) made.now ≡ Ok c)
+        (Explains (record_expansion (known_from expansions.now.entries) made.now)) }
 {
-    let rows = record.rows.as_slice();
+    let rows = made.rows.as_slice();
     let common = common_denominator(expansions, rows)?;
-    let denominator = times(record.scale, common)?;
+    let denominator = times(made.scale, common)?;
     check_limits(alloc, expansions, common, rows)?;
     let sums = add_rows(alloc, expansions, common, rows)?;
     let gathered = gather(alloc, sums)?;

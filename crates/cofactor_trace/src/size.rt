@@ -1,8 +1,8 @@
 //! How large the rows of an expansion are, before any of them is made.
-ghost use Rattle.std.specs.Prelude.{◌≡◌, ℤ, None, MatchResult, map, min, ◌-◌, ◌^◌, length};
-ghost use Rattle.cofactor_trace.specs.Expansion.{joined_row, limit_fault};
+ghost use Rattle.std.specs.Prelude.{◌≡◌, ℤ, None, MatchResult, map};
+ghost use Rattle.cofactor_trace.specs.Expansion.{joined_row};
 ghost use Rattle.cofactor_trace.specs.Faults.{IsFirst};
-ghost use Rattle.cofactor_trace.specs.Sizes.{measured_all, limit_of};
+ghost use Rattle.cofactor_trace.specs.Sizes.{measured, measured_all, limit_of};
 
 use crate::{CertRow, ExpandFault, Row};
 
@@ -18,19 +18,26 @@ pub(crate) struct Size {
     pub letters: usize,
 }
 
+// With the row of an expansion between the words of a row.
+fn measure_row(size: Size, outer: &Row, inner: &CertRow) -> Size
+    ensures { (k : ℤ) → result ≡ measured size (joined_row k outer.now inner.now) }
+{
+    let left = outer.left.len().saturating_add(inner.left.len());
+    let right = inner.right.len().saturating_add(outer.right.len());
+    Size {
+        long: size.long || left > WORD_LIMIT || right > WORD_LIMIT,
+        rows: size.rows.saturating_add(1),
+        letters: size.letters.saturating_add(left).saturating_add(right),
+    }
+}
+
 // With the rows of an expansion between the words of a row.
 pub(crate) fn measure_joined(size: Size, outer: &Row, inner: &[CertRow]) -> Size
     ensures { (k : ℤ) → result ≡ measured_all size (map (joined_row k outer.now) inner.now) }
 {
     let mut size = size;
     for row in inner {
-        let left = outer.left.len().saturating_add(row.left.len());
-        let right = row.right.len().saturating_add(outer.right.len());
-        size = Size {
-            long: size.long || left > WORD_LIMIT || right > WORD_LIMIT,
-            rows: size.rows.saturating_add(1),
-            letters: size.letters.saturating_add(left).saturating_add(right),
-        };
+        size = measure_row(size, outer, row);
     }
     size
 }
