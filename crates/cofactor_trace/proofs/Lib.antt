@@ -1,1 +1,10 @@
 mod Examples
+mod Divisors
+mod Lists
+mod Gathering
+mod Operations
+mod Halts
+mod SizeLaws
+mod TableLaws
+mod RecordLaws
+mod NeededLaws

@@ -1,6 +1,15 @@
 //! Rows that add up to a multiple of a polynomial: over generators in certificates, over generators and rules in records.
 #![tactic(auto)]
 
+mod divisor;
+mod expansion;
+mod fault;
+mod gather;
+mod record;
+mod size;
+
+pub use expansion::expand;
+pub use fault::ExpandFault;
 use lists::{Duplicate, Listing};
 use std::alloc::AllocError;
 use word_core::Word;

@@ -1,0 +1,72 @@
+-- The greatest common divisor is that of the division with remainder.
+use Rattle.std.proofs.Common.{◌≡◌, ℕ, zero, suc, List, [], ◌∷◌, ◌<◌, ◌%◌, ◌/◌, ℤ, pos, negsuc, ◌<ℤ◌, ◌*ℤ◌, refl, arith}
+use Rattle.std.proofs.Math.IntN.{*ℤ-zero}
+use Rattle.std.specs.List.{AllByRecursion, fold}
+use Rattle.std.specs.Int.{IsGcd, ◌∣◌}
+use Rattle.std.specs.Int.RustNames.{unsigned_abs, int_div}
+use Rattle.std.proofs.lemmas.Int.{ints}
+use Rattle.std.proofs.lemmas.Nat.Gcd.{dvd_refl, dvd_trans, IsGcd-from_mod, IsGcd-from_zero, same_from_IsGcd}
+use Rattle.std.proofs.Math.Nat.{pos_of_dvd_of_pos}
+use Rattle.nc_polynomial.proofs.Divisors.{quotient_times}
+use Rattle.cofactor_trace.specs.Divisor.{gcd_within, gcd_of}
+use Rattle.cofactor_trace.specs.Expansion.{lcm_of}
+
+gcd_within-IsGcd : (n a b : ℕ) → b < n → IsGcd a b (gcd_within n a b)
+gcd_within-IsGcd zero a b enough = absurd (omega arith)
+gcd_within-IsGcd (suc n) a zero enough = IsGcd-from_zero a zero refl
+gcd_within-IsGcd (suc n) a (suc b) enough = IsGcd-from_mod a (suc b) (gcd_within n (suc b) (a % (suc b))) (gcd_within-IsGcd n (suc b) (a % (suc b)) (omega arith))
+
+pub gcd_of-IsGcd : (x y : ℤ) → IsGcd (unsigned_abs x) (unsigned_abs y) (unsigned_abs (gcd_of x y))
+gcd_of-IsGcd x y = gcd_within-IsGcd (suc (unsigned_abs y)) (unsigned_abs x) (unsigned_abs y) (omega arith)
+
+pub gcd_same : (a b g : ℕ) → IsGcd a b g → g ≡ gcd_within (suc b) a b
+gcd_same a b g is_gcd = same_from_IsGcd a b g (gcd_within (suc b) a b) is_gcd (gcd_within-IsGcd (suc b) a b (omega arith))
+
+pub gcd_of-positive : (x y : ℤ) → pos 0 <ℤ x → pos 0 <ℤ gcd_of x y
+gcd_of-positive x y above =
+    let left : 0 < unsigned_abs x = omega (arith, ints) in
+    let divides = gcd_of-IsGcd x y in
+    let nonzero : 0 < gcd_within (suc (unsigned_abs y)) (unsigned_abs x) (unsigned_abs y) = pos_of_dvd_of_pos divides.0 left in
+    omega (arith, ints, nonzero)
+
+pub gcd_of-positive_right : (x y : ℤ) → pos 0 <ℤ y → pos 0 <ℤ gcd_of x y
+gcd_of-positive_right x y above =
+    let right : 0 < unsigned_abs y = omega (arith, ints) in
+    let divides = gcd_of-IsGcd x y in
+    let nonzero : 0 < gcd_within (suc (unsigned_abs y)) (unsigned_abs x) (unsigned_abs y) = pos_of_dvd_of_pos divides.1 right in
+    omega (arith, ints, nonzero)
+
+-- a quotient by a divisor of a positive integer is positive
+pub quotient_positive : (y d : ℤ) → pos 0 <ℤ y → pos 0 <ℤ d → unsigned_abs d ∣ unsigned_abs y → pos 0 <ℤ int_div y d
+quotient_positive (pos y) (pos d) y_in d_in divides =
+    let times = quotient_times (pos y) (pos d) divides in
+    go (y / d) times
+  where
+    go : (q : ℕ) → pos d *ℤ pos q ≡ pos y → pos 0 <ℤ pos q
+    go zero e = absurd (omega (arith, ints, e, *ℤ-zero (pos d)))
+    go (suc q) e = omega (arith, ints)
+quotient_positive (pos y) (negsuc d) y_in d_in divides = absurd (omega (arith, ints))
+quotient_positive (negsuc y) d y_in d_in divides = absurd (omega (arith, ints))
+
+pub product_positive : (x y : ℤ) → pos 0 <ℤ x → pos 0 <ℤ y → pos 0 <ℤ (x *ℤ y)
+product_positive (pos zero) y x_in y_in = absurd (omega (arith, ints))
+product_positive (pos (suc x)) (pos zero) x_in y_in = absurd (omega (arith, ints))
+product_positive (pos (suc x)) (pos (suc y)) x_in y_in = omega (arith, ints)
+product_positive (pos (suc x)) (negsuc y) x_in y_in = absurd (omega (arith, ints))
+product_positive (negsuc x) y x_in y_in = absurd (omega (arith, ints))
+
+pub lcm_of-positive : (x y : ℤ) → pos 0 <ℤ x → pos 0 <ℤ y → pos 0 <ℤ lcm_of x y
+lcm_of-positive x y x_in y_in = product_positive x (int_div y (gcd_of x y)) x_in (quotient_positive y (gcd_of x y) y_in (gcd_of-positive x y x_in) (gcd_of-IsGcd x y).1)
+
+-- the common divisor of numbers divides the first one and each other
+pub content-first : (d : ℤ) (cs : List ℤ) → unsigned_abs (fold gcd_of d cs) ∣ unsigned_abs d
+content-first d [] = dvd_refl (unsigned_abs d)
+content-first d (c ∷ cs) = dvd_trans (unsigned_abs (fold gcd_of (gcd_of d c) cs)) (content-first (gcd_of d c) cs) (gcd_of-IsGcd d c).0
+
+pub content-each : (d : ℤ) (cs : List ℤ) → AllByRecursion (λ c. unsigned_abs (fold gcd_of d cs) ∣ unsigned_abs c) cs
+content-each d [] = tt
+content-each d (c ∷ cs) = (dvd_trans (unsigned_abs (fold gcd_of (gcd_of d c) cs)) (content-first (gcd_of d c) cs) (gcd_of-IsGcd d c).1, content-each (gcd_of d c) cs)
+
+pub content-positive : (d : ℤ) (cs : List ℤ) → pos 0 <ℤ d → pos 0 <ℤ fold gcd_of d cs
+content-positive d [] h = h
+content-positive d (c ∷ cs) h = content-positive (gcd_of d c) cs (gcd_of-positive d c h)

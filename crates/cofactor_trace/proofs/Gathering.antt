@@ -1,0 +1,23 @@
+-- Rows that stand before what is left to gather.
+use Rattle.std.proofs.Common.{◌≡◌, ℤ, zero, suc, pos, negsuc, List, [], ◌∷◌, ◌++◌, Result, Ok, Err, refl, sym, ap, append_assoc}
+use Rattle.std.specs.List.{All}
+use Rattle.std.proofs.lemmas.List.Elements.{All-nil, All-cons}
+use Rattle.coef_int.specs.declared.Overflow.{Overflow}
+use Rattle.coef_int.specs.Range.{IsCoefficient}
+use Rattle.cofactor_trace.specs.declared.CertRow.{CertRow}
+use Rattle.cofactor_trace.specs.declared.gather.Multiple.{Multiple}
+use Rattle.cofactor_trace.specs.Gathered.{kept_row}
+use Rattle.cofactor_trace.specs.Table.{Entries, before, rows_in}
+
+abbrev pub behind : List CertRow → Result (List CertRow) Overflow → Result (List CertRow) Overflow
+behind out (Ok rows) = Ok (out ++ rows)
+behind out (Err o) = Err o
+
+pub behind-before : (out : List CertRow) (c : ℤ) (m : Multiple) (rest : Result (List CertRow) Overflow) → behind out (before (Ok c) m rest) ≡ behind (out ++ kept_row c m) rest
+behind-before out c m (Ok rows) = ap Ok (sym (append_assoc out (kept_row c m) rows))
+behind-before out c m (Err o) = refl
+
+pub kept_row-in_range : (c : ℤ) (m : Multiple) → IsCoefficient c → All (λ (r : CertRow). IsCoefficient r.coef) (kept_row c m)
+kept_row-in_range (pos zero) m h = All-nil (λ r. IsCoefficient r.coef)
+kept_row-in_range (pos (suc n)) m h = All-cons (λ r. IsCoefficient r.coef) _ [] h (All-nil (λ r. IsCoefficient r.coef))
+kept_row-in_range (negsuc n) m h = All-cons (λ r. IsCoefficient r.coef) _ [] h (All-nil (λ r. IsCoefficient r.coef))

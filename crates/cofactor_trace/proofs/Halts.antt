@@ -1,0 +1,62 @@
+-- The first fault of several parts.
+use Rattle.std.proofs.Common.{◌≡◌, List, ◌++◌, Option, Some, None, Result, Ok, Err, refl, sym, ap, subst, ◌∙◌}
+use Rattle.std.specs.Option.{option_map}
+use Rattle.coef_int.specs.declared.Overflow.{Overflow}
+use Rattle.coef_int.specs.Operations.{first_overflow}
+use Rattle.nc_polynomial.proofs.Chains.{or_first, first-append}
+use Rattle.cofactor_trace.specs.declared.fault.ExpandFault.{ExpandFault}
+use Rattle.cofactor_trace.specs.declared.fault.ExpandFault.TheVariants as fault
+use Rattle.cofactor_trace.specs.Expansion.{unless, overflow_in}
+use Rattle.cofactor_trace.specs.Needed.{and_then}
+use Rattle.cofactor_trace.specs.Faults.{IsMemory, Explains, IsFirst}
+
+-- a fault of the first part is that of the whole
+pub explains-first : {A : Type 0} (first : Option ExpandFault) (r : Result A ExpandFault) (e : ExpandFault) → IsFirst first e → Explains (unless first r) e
+explains-first first r (fault.Overflow o) h = ap (λ f. unless f r) h
+explains-first first r (fault.Rows letters) h = ap (λ f. unless f r) h
+explains-first first r fault.Size h = ap (λ f. unless f r) h
+explains-first first r (fault.Memory e) h = tt
+
+-- a part without a fault is passed over
+pub explains-later : {A : Type 0} (first : Option ExpandFault) (r : Result A ExpandFault) (e : ExpandFault) → first ≡ None → Explains r e → Explains (unless first r) e
+explains-later first r e none h = subst (λ f. Explains (unless f r) e) (sym none) h
+
+pub ok-later : {A : Type 0} (first : Option ExpandFault) (r : Result A ExpandFault) (x : A) → first ≡ None → r ≡ Ok x → unless first r ≡ Ok x
+ok-later first r x none h = ap (λ f. unless f r) none ∙ h
+
+-- the first overflow of operations is that of the operations with more behind them
+pub is_first-append : (os more : List Overflow) (e : ExpandFault) → IsFirst (overflow_in os) e → IsFirst (overflow_in (os ++ more)) e
+is_first-append os more e h = subst (λ f. IsFirst (option_map fault.Overflow f) e) (sym (first-append os more)) (go (first_overflow os) e h)
+  where
+    go : (f : Option Overflow) (e : ExpandFault) → IsFirst (option_map fault.Overflow f) e → IsFirst (option_map fault.Overflow (or_first f (first_overflow more))) e
+    go None (fault.Overflow o) h = absurd (cc)
+    go None (fault.Rows letters) h = absurd (cc)
+    go None fault.Size h = absurd (cc)
+    go None (fault.Memory e) h = tt
+    go (Some o) e h = h
+
+pub memory-first : (first : Option ExpandFault) (e : ExpandFault) → IsMemory e → IsFirst first e
+memory-first first (fault.Overflow o) h = absurd h
+memory-first first (fault.Rows letters) h = absurd h
+memory-first first fault.Size h = absurd h
+memory-first first (fault.Memory e) h = tt
+
+pub memory-explains : {A : Type 0} (r : Result A ExpandFault) (e : ExpandFault) → IsMemory e → Explains r e
+memory-explains r (fault.Overflow o) h = absurd h
+memory-explains r (fault.Rows letters) h = absurd h
+memory-explains r fault.Size h = absurd h
+memory-explains r (fault.Memory e) h = tt
+
+pub overflow-none : (os : List Overflow) → overflow_in os ≡ None → first_overflow os ≡ None
+overflow-none os h = go (first_overflow os) h
+  where
+    go : (f : Option Overflow) → option_map fault.Overflow f ≡ None → f ≡ None
+    go None e = refl
+    go (Some o) e = absurd (cc)
+
+-- a fault of the first of two results is that of both
+pub explains-and_then : {A B : Type 0} (r : Result A ExpandFault) (next : A → Result B ExpandFault) (e : ExpandFault) → Explains r e → Explains (and_then r next) e
+explains-and_then r next (fault.Overflow o) h = ap (λ x. and_then x next) h
+explains-and_then r next (fault.Rows letters) h = ap (λ x. and_then x next) h
+explains-and_then r next fault.Size h = ap (λ x. and_then x next) h
+explains-and_then r next (fault.Memory e) h = tt

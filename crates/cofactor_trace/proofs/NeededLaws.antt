@@ -1,0 +1,196 @@
+-- The needed rules one by one, and their expansions.
+use Rattle.std.proofs.Common.{◌≡◌, ℕ, zero, suc, ◌+◌, ◌-◌, ◌<◌, ◌≤◌, get_or, Bool, true, false, ◌||◌, cond, List, [], ◌∷◌, ◌++◌, map, reverse, length, drop, Some, Result, Ok, Err, refl, sym, ap, subst, ◌∙◌, arith}
+use Rattle.std.specs.List.{AllByRecursion, list_any, slice_get}
+use Rattle.std.proofs.lemmas.List.{reverse-append, drop_all}
+use Rattle.nc_polynomial.proofs.Steps.{drop_next}
+use Rattle.std.specs.BTreeMap.{insert_entry}
+use Rattle.std.specs.Ordering.{nat_cmp}
+use Rattle.cofactor_trace.specs.declared.Made.{Made}
+use Rattle.cofactor_trace.specs.declared.Cofactors.{Cofactors}
+use Rattle.cofactor_trace.specs.Expansion.{record_expansion}
+use Rattle.cofactor_trace.specs.Needed.{Numbered, Expansions, is_rule, is_named, needed_from, needed_rules, known_from, and_then, expansion_from, expansion_of, IsAmongFirst}
+use Rattle.cofactor_trace.specs.Faults.{Explains}
+use Rattle.cofactor_trace.specs.declared.fault.ExpandFault.{ExpandFault}
+use Rattle.cofactor_trace.specs.declared.Origin.{Origin}
+use Rattle.cofactor_trace.specs.declared.Origin.TheVariants as origin
+use Rattle.cofactor_trace.proofs.Halts.{explains-and_then}
+use Rattle.std.proofs.lemmas.Option.{slice_get_within, get_or_from_slice_get}
+
+-- what the records name, with one record more
+pub named_with : (n : ℕ) (target m : Made) (rest : List Made) → is_named n (target ∷ rest) || list_any (λ r. is_rule n r.from) m.rows ≡ is_named n (target ∷ (m ∷ rest))
+named_with n target m rest = go (list_any (λ r. is_rule n r.from) target.rows) (is_named n rest) (list_any (λ r. is_rule n r.from) m.rows)
+  where
+    go : (a b d : Bool) → (a || b) || d ≡ a || (d || b)
+    go true b d = refl
+    go false true true = refl
+    go false true false = refl
+    go false false true = refl
+    go false false false = refl
+
+-- ---- from the last rule to the first
+-- the needed rules behind a place
+abbrev pub needed_behind : Made → List Made → ℕ → List Numbered
+needed_behind target made place = needed_from target (suc place) (drop place made)
+
+abbrev pub records_of : List Numbered → List Made
+records_of = map (λ e. e.1)
+
+module _ (made : List Made) (target : Made) where
+  -- what is marked, and which numbers are found, once the rules behind a place are done
+  pub record IsMarked (place : ℕ) (named : List Bool) (numbers : List ℕ) : Type 0 where
+    pub sized : length named ≡ length made
+    pub marks : (k : ℕ) → k < length made → get_or named k false ≡ is_named (k + 1) (target ∷ records_of (needed_behind target made place))
+    pub found : reverse numbers ≡ map (λ e. e.0) (needed_behind target made place)
+
+  -- at first the target alone marks
+  pub marked-start : (named : List Bool) (numbers : List ℕ) → length named ≡ length made
+      → ((k : ℕ) → k < length made → get_or named k false ≡ list_any (λ r. is_rule (k + 1) r.from) target.rows) → numbers ≡ [] → IsMarked (length made) named numbers
+  marked-start named numbers sized marks none =
+      let nothing : needed_behind target made (length made) ≡ [] = ap (needed_from target (suc (length made))) (drop_all (length made) made (omega arith)) in
+      record {
+        sized = sized;
+        marks = λ k h. marks k h ∙ or_nothing (list_any (λ r. is_rule (k + 1) r.from) target.rows) ∙ ap (λ l. is_named (k + 1) (target ∷ records_of l)) (sym nothing);
+        found = ap reverse none ∙ ap (map (λ e. e.0)) (sym nothing);
+      }
+    where
+      or_nothing : (b : Bool) → b ≡ b || false
+      or_nothing true = refl
+      or_nothing false = refl
+
+  module _ (place : ℕ) (m : Made) (inside : place < length made) (item : m ≡ get_or made place m) where
+    next_is : (behind : ℕ) → behind ≡ place + 1 → needed_behind target made place
+        ≡ cond (is_named (place + 1) (target ∷ records_of (needed_behind target made behind))) ((place + 1, m) ∷ needed_behind target made behind) (needed_behind target made behind)
+    next_is behind e =
+        let number : suc place ≡ place + 1 = omega arith in
+        let next : suc (place + 1) ≡ suc behind = omega arith in
+        ap (λ l. needed_from target (suc place) l) (drop_next made place m inside item)
+        ∙ ap (λ n. needed_from target n (m ∷ drop (place + 1) made)) number
+        ∙ ap (λ b. cond (is_named (place + 1) (target ∷ records_of (needed_behind target made b))) ((place + 1, m) ∷ needed_behind target made b) (needed_behind target made b)) (sym e)
+
+    module _ (behind : ℕ) (e : behind ≡ place + 1) (named : List Bool) (numbers : List ℕ) (marked : IsMarked behind named numbers) where
+      pub marked-no : get_or named place false ≡ false → IsMarked place named numbers
+      marked-no unnamed =
+          let same : needed_behind target made place ≡ needed_behind target made behind =
+          next_is behind e ∙ ap (λ b. cond b ((place + 1, m) ∷ needed_behind target made behind) (needed_behind target made behind)) (sym (marked.marks place inside) ∙ unnamed) in
+          record {
+            sized = marked.sized;
+            marks = λ k h. marked.marks k h ∙ ap (λ l. is_named (k + 1) (target ∷ records_of l)) (sym same);
+            found = marked.found ∙ ap (map (λ e. e.0)) (sym same);
+          }
+
+      pub marked-yes : (new : List Bool) → get_or named place false ≡ true → length new ≡ length named
+          → ((k : ℕ) → k < length named → get_or new k false ≡ get_or named k false || list_any (λ r. is_rule (k + 1) r.from) m.rows)
+          → IsMarked place new (numbers ++ (place + 1) ∷ [])
+      marked-yes new is_named_here size marks =
+          let more : needed_behind target made place ≡ (place + 1, m) ∷ needed_behind target made behind =
+          next_is behind e ∙ ap (λ b. cond b ((place + 1, m) ∷ needed_behind target made behind) (needed_behind target made behind)) (sym (marked.marks place inside) ∙ is_named_here) in
+          record {
+            sized = size ∙ marked.sized;
+            marks = λ k h.
+                marks k (subst (λ n. k < n) (sym marked.sized) h)
+                ∙ ap (λ b. b || list_any (λ r. is_rule (k + 1) r.from) m.rows) (marked.marks k h)
+                ∙ named_with (k + 1) target m (records_of (needed_behind target made behind))
+                ∙ ap (λ l. is_named (k + 1) (target ∷ records_of l)) (sym more);
+            found = reverse-append numbers ((place + 1) ∷ []) ∙ ap (λ l. (place + 1) ∷ l) marked.found ∙ ap (map (λ e. e.0)) (sym more);
+          }
+
+-- ---- from the first rule to the last
+-- each number comes with the record of its rule
+abbrev pub AreNumbered : List Made → List Numbered → Type 0
+AreNumbered made = AllByRecursion (λ e. (1 ≤ e.0) × (slice_get made (e.0 - 1) ≡ Some e.1))
+
+module _ (made : List Made) (target : Made) where
+  -- the rules that are left have the numbers, the last one first, and give what all give
+  pub record IsUnderWay (numbers : List ℕ) (expansions : Expansions) : Type 0 where
+    pub rest : List Numbered
+    pub numbers_are : reverse numbers ≡ map (λ e. e.0) rest
+    pub numbered : AreNumbered made rest
+    pub result : expansion_from expansions rest target ≡ expansion_of made target
+
+  -- a number is taken
+  pub record IsTaken (numbers : List ℕ) (number : ℕ) (m : Made) (expansions : Expansions) : Type 0 where
+    pub rest : List Numbered
+    pub numbers_are : reverse numbers ≡ map (λ e. e.0) rest
+    pub numbered : AreNumbered made rest
+    pub positive : 1 ≤ number
+    pub item : slice_get made (number - 1) ≡ Some m
+    pub result : expansion_from expansions ((number, m) ∷ rest) target ≡ expansion_of made target
+
+  pub taken_number : (numbers front : List ℕ) (number : ℕ) (expansions : Expansions) → numbers ≡ front ++ number ∷ [] → IsUnderWay numbers expansions → (1 ≤ number) × (number - 1 < length made)
+  taken_number numbers front number expansions e u = go u.rest (sym (ap reverse e ∙ reverse-append front (number ∷ [])) ∙ u.numbers_are) u.numbered
+    where
+      go : (rest : List Numbered) → number ∷ reverse front ≡ map (λ e. e.0) rest → AreNumbered made rest → (1 ≤ number) × (number - 1 < length made)
+      go [] same numbered = absurd (cc)
+      go (x ∷ rest) same numbered =
+          let first : x.0 ≡ number = cc in
+          (subst (λ n. 1 ≤ n) first numbered.0.0, subst (λ n. n - 1 < length made) first (slice_get_within made (x.0 - 1) x.1 numbered.0.1))
+
+  pub taken : (numbers front : List ℕ) (number : ℕ) (m : Made) (expansions : Expansions) → numbers ≡ front ++ number ∷ [] → m ≡ get_or made (number - 1) m → IsUnderWay numbers expansions → IsTaken front number m expansions
+  taken numbers front number m expansions e item u = go u.rest (sym (ap reverse e ∙ reverse-append front (number ∷ [])) ∙ u.numbers_are) u.numbered u.result
+    where
+      go : (rest : List Numbered) → number ∷ reverse front ≡ map (λ e. e.0) rest → AreNumbered made rest → expansion_from expansions rest target ≡ expansion_of made target → IsTaken front number m expansions
+      go [] same numbered result = absurd (cc)
+      go (x ∷ rest) same numbered result =
+          let first : number ≡ x.0 = cc in
+          let later : reverse front ≡ map (λ e. e.0) rest = cc in
+          let stands : slice_get made (number - 1) ≡ Some x.1 = subst (λ n. slice_get made (n - 1) ≡ Some x.1) (sym first) numbered.0.1 in
+          let is : m ≡ x.1 = item ∙ get_or_from_slice_get made (number - 1) x.1 m stands in
+          record {
+            rest = rest;
+            numbers_are = later;
+            numbered = numbered.1;
+            positive = subst (λ n. 1 ≤ n) (sym first) numbered.0.0;
+            item = stands ∙ ap Some (sym is);
+            result = (λ i. expansion_from expansions ((first i, is i) ∷ rest) target) ∙ result;
+          }
+
+  -- the expansion of the rule that was taken is put in
+  pub goes_on : (numbers : List ℕ) (number : ℕ) (m : Made) (expansions new : Expansions) (c : Cofactors) → IsTaken numbers number m expansions
+      → record_expansion (known_from expansions) m ≡ Ok c → new ≡ insert_entry nat_cmp expansions number c → IsUnderWay numbers new
+  goes_on numbers number m expansions new c t ends put = record {
+    rest = t.rest;
+    numbers_are = t.numbers_are;
+    numbered = t.numbered;
+    result =
+        ap (λ es. expansion_from es t.rest target) put
+        ∙ ap (λ r. and_then r (λ c. expansion_from (insert_entry nat_cmp expansions number c) t.rest target)) (sym ends) ∙ t.result;
+  }
+
+  -- or its fault is that of the whole
+  pub stops : (numbers : List ℕ) (number : ℕ) (m : Made) (expansions : Expansions) (e : ExpandFault) → IsTaken numbers number m expansions
+      → Explains (record_expansion (known_from expansions) m) e → Explains (expansion_of made target) e
+  stops numbers number m expansions e t h =
+      subst (λ r. Explains r e) t.result (explains-and_then (record_expansion (known_from expansions) m) (λ c. expansion_from (insert_entry nat_cmp expansions number c) t.rest target) e h)
+
+  -- with no number left it is the target's turn
+  pub last_turn : (numbers : List ℕ) (expansions : Expansions) → numbers ≡ [] → IsUnderWay numbers expansions → record_expansion (known_from expansions) target ≡ expansion_of made target
+  last_turn numbers expansions e u = go u.rest (sym (ap reverse e) ∙ u.numbers_are) u.result
+    where
+      go : (rest : List Numbered) → ◌≡◌ {A = List ℕ} [] (map (λ e. e.0) rest) → expansion_from expansions rest target ≡ expansion_of made target → record_expansion (known_from expansions) target ≡ expansion_of made target
+      go [] same result = result
+      go (x ∷ rest) same result = absurd (cc)
+
+  numbered_from : (place : ℕ) (xs : List Made) → ((k : ℕ) (m : Made) → slice_get xs k ≡ Some m → slice_get made (place + k) ≡ Some m) → AreNumbered made (needed_from target (suc place) xs)
+  numbered_from place [] h = tt
+  numbered_from place (m ∷ xs) h =
+      let place_is : place + 0 ≡ suc place - 1 = omega arith in
+      let later = numbered_from (suc place) xs (λ k x e. let next : place + suc k ≡ suc place + k = omega arith in subst (λ n. slice_get made n ≡ Some x) next (h (suc k) x e)) in
+      go (is_named (suc place) (target ∷ records_of (needed_from target (suc (suc place)) xs))) (omega arith, subst (λ n. slice_get made n ≡ Some m) place_is (h 0 m refl)) later
+    where
+      go : (b : Bool) → (1 ≤ suc place) × (slice_get made (suc place - 1) ≡ Some m) → AreNumbered made (needed_from target (suc (suc place)) xs)
+          → AreNumbered made (cond b ((suc place, m) ∷ needed_from target (suc (suc place)) xs) (needed_from target (suc (suc place)) xs))
+      go true first later = (first, later)
+      go false first later = later
+
+  pub starts : (numbers : List ℕ) (expansions : Expansions) → reverse numbers ≡ map (λ e. e.0) (needed_rules made target) → expansions ≡ [] → IsUnderWay numbers expansions
+  starts numbers expansions e none = record {
+    rest = needed_rules made target;
+    numbers_are = e;
+    numbered = numbered_from 0 made (λ k m h. let same : k ≡ 0 + k = omega arith in subst (λ n. slice_get made n ≡ Some m) same h);
+    result = ap (λ es. expansion_from es (needed_rules made target) target) none;
+  }
+
+-- what is among the first rules is among more of them
+pub among_more : (few many : ℕ) (o : Origin) → few ≤ many → IsAmongFirst few o → IsAmongFirst many o
+among_more few many (origin.Generator n) more h = tt
+among_more few many (origin.Rule n) more h = (h.0, omega (arith, h.1))

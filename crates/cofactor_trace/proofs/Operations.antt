@@ -1,0 +1,30 @@
+-- Operations one after another, and the first of them that overflows.
+use Rattle.std.proofs.Common.{◌≡◌, ℕ, ◌+◌, ◌<◌, ◌≤◌, List, [], ◌∷◌, ◌++◌, map, length, drop, get_or, Option, Some, None, sym, ap, ◌∙◌, arith}
+use Rattle.std.proofs.lemmas.Bool.Decides.{nat_tests}
+use Rattle.std.proofs.lemmas.List.{drop_all}
+use Rattle.coef_int.specs.declared.Overflow.{Overflow}
+use Rattle.coef_int.specs.Range.{IsCoefficient}
+use Rattle.coef_int.specs.Operations.{exact_value, first_overflow}
+use Rattle.nc_polynomial.proofs.Steps.{drop_next}
+use Rattle.nc_polynomial.proofs.Chains.{or_first, first-append, first-fits}
+
+pub first-fails : (o : Overflow) (os : List Overflow) → ¬ IsCoefficient (exact_value o) → first_overflow (o ∷ os) ≡ Some o
+first-fails o os fails = grind (arith, nat_tests)
+
+pub first-behind : (os more : List Overflow) → first_overflow os ≡ None → first_overflow (os ++ more) ≡ first_overflow more
+first-behind os more none = first-append os more ∙ ap (λ f. or_first f (first_overflow more)) none
+
+pub first-before : (os more : List Overflow) (o : Overflow) → first_overflow os ≡ Some o → first_overflow (os ++ more) ≡ Some o
+first-before os more o some = first-append os more ∙ ap (λ f. or_first f (first_overflow more)) some
+
+-- one operation for each item of a list
+module _ {X : Type 0} (f : X → Overflow) (xs : List X) (i : ℕ) (kept : first_overflow (map f (drop i xs)) ≡ first_overflow (map f xs)) where
+  module _ (x : X) (inside : i < length xs) (item : x ≡ get_or xs i x) where
+    pub first_next : IsCoefficient (exact_value (f x)) → first_overflow (map f (drop (i + 1) xs)) ≡ first_overflow (map f xs)
+    first_next fits = sym (first-fits (f x) (map f (drop (i + 1) xs)) fits) ∙ ap (λ l. first_overflow (map f l)) (sym (drop_next xs i x inside item)) ∙ kept
+
+    pub first_stops : ¬ IsCoefficient (exact_value (f x)) → first_overflow (map f xs) ≡ Some (f x)
+    first_stops fails = sym kept ∙ ap (λ l. first_overflow (map f l)) (drop_next xs i x inside item) ∙ first-fails (f x) (map f (drop (i + 1) xs)) fails
+
+  pub first_none : length xs ≤ i → first_overflow (map f xs) ≡ None
+  first_none past = sym kept ∙ ap (λ l. first_overflow (map f l)) (drop_all i xs past)

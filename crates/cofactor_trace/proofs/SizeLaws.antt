@@ -1,0 +1,56 @@
+-- Counts that stop at the greatest number say which limit is passed.
+use Rattle.std.proofs.Common.{◌≡◌, ℕ, ◌+◌, ◌-◌, ◌^◌, ◌≤◌, ◌||◌, min, Bool, true, false, List, [], ◌∷◌, length, nat_lt, Option, Some, None, refl, ap, ◌∙◌, arith}
+use Rattle.std.specs.Prelude.{if◌then◌else◌}
+use Rattle.std.proofs.lemmas.Bool.Decides.{nat_tests}
+use Rattle.std.proofs.lemmas.List.Sums.{sum_by-cons}
+use Rattle.cofactor_trace.specs.declared.CertRow.{CertRow}
+use Rattle.cofactor_trace.specs.declared.size.Size.{Size}
+use Rattle.cofactor_trace.specs.declared.fault.ExpandFault.{ExpandFault}
+use Rattle.cofactor_trace.specs.declared.fault.ExpandFault.TheVariants as fault
+use Rattle.cofactor_trace.specs.Expansion.{has_long_word, letter_count, limit_fault}
+use Rattle.cofactor_trace.specs.Sizes.{measured, measured_all, no_size, limit_of}
+
+or_nothing : (b : Bool) → b ≡ b || false
+or_nothing true = refl
+or_nothing false = refl
+
+or_later : (a b c : Bool) → (a || b) || c ≡ a || (b || c)
+or_later true b c = refl
+or_later false b c = refl
+
+-- ---- what is measured of rows, from any size on
+long_is : (size : Size) (rows : List CertRow) → (measured_all size rows).long ≡ size.long || has_long_word rows
+long_is size [] = or_nothing size.long
+long_is size (r ∷ rows) = long_is (measured size r) rows ∙ or_later size.long (nat_lt 500 (length r.left) || nat_lt 500 (length r.right)) (has_long_word rows)
+
+rows_is : (size : Size) (rows : List CertRow) → size.rows ≤ 2 ^ 64 - 1 → (measured_all size rows).rows ≡ min (size.rows + length rows) (2 ^ 64 - 1)
+rows_is size [] h = omega arith
+rows_is size (r ∷ rows) h =
+    let rest = rows_is (measured size r) rows (omega arith) in
+    omega arith
+
+letters_is : (size : Size) (rows : List CertRow) → size.letters ≤ 2 ^ 64 - 1 → (measured_all size rows).letters ≡ min (size.letters + letter_count rows) (2 ^ 64 - 1)
+letters_is size [] h = omega arith
+letters_is size (r ∷ rows) h =
+    let rest = letters_is (measured size r) rows (omega arith) in
+    let more : letter_count (r ∷ rows) ≡ (length r.left + length r.right) + letter_count rows = sum_by-cons (λ (x : CertRow). length x.left + length x.right) r rows in
+    omega arith
+
+-- ---- the limits
+limits : Bool → Bool → Bool → Option ExpandFault
+limits long rows letters = if long then Some fault.Size else (if rows then Some (fault.Rows false) else (if letters then Some (fault.Rows true) else None))
+
+above_rows : (n : ℕ) → nat_lt 200000 (min (0 + n) (2 ^ 64 - 1)) ≡ nat_lt 200000 n
+above_rows n = grind (arith, nat_tests)
+
+above_letters : (n : ℕ) → nat_lt 1000000 (min (0 + n) (2 ^ 64 - 1)) ≡ nat_lt 1000000 n
+above_letters n = grind (arith, nat_tests)
+
+pub limit_of-measured : (rows : List CertRow) → limit_of (measured_all no_size rows) ≡ limit_fault rows
+unfolding limits
+limit_of-measured rows =
+    let size = measured_all no_size rows in
+    let a = long_is no_size rows in
+    let b = ap (nat_lt 200000) (rows_is no_size rows (omega arith)) ∙ above_rows (length rows) in
+    let c = ap (nat_lt 1000000) (letters_is no_size rows (omega arith)) ∙ above_letters (letter_count rows) in
+    λ i. limits (a i) (b i) (c i)

@@ -1,0 +1,289 @@
+-- The table of rows lists each multiple once, ascending, with the sum of its coefficients or the first overflow on the way to it.
+use Rattle.std.proofs.Common.{◌≡◌, ℤ, zero, suc, pos, negsuc, ◌+ℤ◌, Bool, true, false, ◌||◌, cond, List, [], ◌∷◌, ◌++◌, map, filter, Option, Some, None, Result, Ok, Err, unwrap_or, refl, sym, ap, ap₂, subst, ◌∙◌, arith, append_assoc}
+use Rattle.std.proofs.lemmas.Cmp.{ranked, tied_itself}
+use Rattle.std.proofs.lemmas.List.{append-nil, map-append}
+use Rattle.std.proofs.lemmas.List.Sums.{fold-append}
+use Rattle.word_core.specs.Canonical.{word_cmp}
+use Rattle.word_core.proofs.Order.{word_cmp-same}
+use Rattle.std.specs.List.{AllByRecursion, fold, flat_map, list_any}
+use Rattle.std.specs.List.Sorted.{IsStrictlySortedBy}
+use Rattle.std.specs.Map.{lookup, values_of}
+use Rattle.std.specs.BTreeMap.{insert_entry, is_at}
+use Rattle.std.specs.BTreeSet.{insert_key}
+use Rattle.std.specs.Ordering.{is_eq, match_ordering, ordering_reverse, ordering_then, nat_cmp}
+use Rattle.std.specs.declared.cmp.Ordering.{Ordering}
+use Rattle.std.specs.declared.cmp.Ordering.TheVariants.{Less, Equal, Greater}
+use Rattle.std.proofs.lemmas.Bool.Decides.{nat_tests}
+use Rattle.coef_int.specs.declared.Overflow.{Overflow}
+use Rattle.coef_int.specs.Range.{IsCoefficient, is_coefficient}
+use Rattle.coef_int.specs.Operations.{sum_of, first_overflow}
+use Rattle.nc_polynomial.proofs.Chains.{or_first, first-append}
+use Rattle.cofactor_trace.specs.declared.CertRow.{CertRow}
+use Rattle.cofactor_trace.specs.declared.gather.Multiple.{Multiple}
+use Rattle.cofactor_trace.specs.Multiples.{multiple_of, multiple_cmp, multiple_cmp_total}
+use Rattle.cofactor_trace.specs.Gathered.{multiples_of, coefficients_at, kept_row, gathered, running_sums, sums_of_gathering}
+use Rattle.cofactor_trace.specs.Table.{Sum, IsInRange, added, Entries, sum_in, with_row, with_rows, before, rows_in}
+
+pub added-in_range : (s : Sum) (c : ℤ) → IsInRange (added s c)
+added-in_range (Err o) c = tt
+added-in_range (Ok so_far) c = go (is_coefficient (so_far +ℤ c)) refl
+  where
+    go : (b : Bool) → is_coefficient (so_far +ℤ c) ≡ b → IsInRange (cond b (Ok (so_far +ℤ c)) (Err (sum_of so_far c)))
+    go true e = grind (arith, nat_tests)
+    go false e = tt
+
+-- ---- sums
+abbrev pub sum_from : Sum → List ℤ → Sum
+sum_from = fold added
+
+-- a value, unless there is an overflow
+abbrev pub unless_overflow : {A : Type 0} → Option Overflow → A → Result A Overflow
+unless_overflow None x = Ok x
+unless_overflow (Some o) x = Err o
+
+stays : (o : Overflow) (cs : List ℤ) → sum_from (Err o) cs ≡ Err o
+stays o [] = refl
+stays o (c ∷ cs) = stays o cs
+
+pub sum_from-running : (z : ℤ) (cs : List ℤ) → sum_from (Ok z) cs ≡ unless_overflow (first_overflow (running_sums z cs)) (fold ◌+ℤ◌ z cs)
+sum_from-running z [] = refl
+sum_from-running z (c ∷ cs) = go (is_coefficient (z +ℤ c)) (sum_from-running (z +ℤ c) cs)
+  where
+    go : (b : Bool) → sum_from (Ok (z +ℤ c)) cs ≡ unless_overflow (first_overflow (running_sums (z +ℤ c) cs)) (fold ◌+ℤ◌ (z +ℤ c) cs)
+        → sum_from (cond b (Ok (z +ℤ c)) (Err (sum_of z c))) cs ≡ unless_overflow (cond b (first_overflow (running_sums (z +ℤ c) cs)) (Some (sum_of z c))) (fold ◌+ℤ◌ (z +ℤ c) cs)
+    go true h = h
+    go false h = stays (sum_of z c) cs
+
+-- the sum of each of some multiples
+abbrev pub sums_at : (Multiple → Sum) → List Multiple → Entries
+sums_at f ms = map (λ m. (m, f m)) ms
+
+-- ---- what the entries give
+module _ (coefficients : Multiple → List ℤ) where
+  total : Multiple → ℤ
+  total m = fold ◌+ℤ◌ (pos 0) (coefficients m)
+
+  pub rows_in-sums : (ms : List Multiple) → rows_in (sums_at (λ m. sum_from (Ok (pos 0)) (coefficients m)) ms)
+      ≡ unless_overflow (first_overflow (flat_map (λ m. running_sums (pos 0) (coefficients m)) ms)) (flat_map (λ m. kept_row (fold ◌+ℤ◌ (pos 0) (coefficients m)) m) ms)
+  rows_in-sums [] = refl
+  rows_in-sums (m ∷ ms) =
+      let here = running_sums (pos 0) (coefficients m) in
+      let z = fold ◌+ℤ◌ (pos 0) (coefficients m) in
+      let later = flat_map (λ m. running_sums (pos 0) (coefficients m)) ms in
+      let rows = flat_map (λ m. kept_row (fold ◌+ℤ◌ (pos 0) (coefficients m)) m) ms in
+      ap₂ (λ s r. before s m r) (sum_from-running (pos 0) (coefficients m)) (rows_in-sums ms)
+      ∙ both (first_overflow here) (first_overflow later) z rows
+      ∙ ap (λ f. unless_overflow f (kept_row z m ++ rows)) (sym (first-append here later))
+    where
+      both : (f g : Option Overflow) (z : ℤ) (rows : List CertRow) → before (unless_overflow f z) m (unless_overflow g rows) ≡ unless_overflow (or_first f g) (kept_row z m ++ rows)
+      both (Some o) g z rows = refl
+      both None (Some o) z rows = refl
+      both None None z rows = refl
+
+-- ---- one row more
+-- whether the multiple is one of them
+abbrev pub is_among : List Multiple → Multiple → Bool
+is_among ms m = list_any (is_at (multiple_cmp m)) ms
+
+both_equal : (o p : Ordering) → ordering_then o p ≡ Equal → (o ≡ Equal) × (p ≡ Equal)
+both_equal Less p h = absurd (cc)
+both_equal Equal p h = (refl, h)
+both_equal Greater p h = absurd (cc)
+
+-- equal in the order is equal
+equal : (m n : Multiple) → multiple_cmp m n ≡ Equal → m ≡ n
+equal m n h =
+    let outer = both_equal (nat_cmp m.generator n.generator) (ordering_then (word_cmp m.left n.left) (word_cmp m.right n.right)) h in
+    let inner = both_equal (word_cmp m.left n.left) (word_cmp m.right n.right) outer.1 in
+    let generators : m.generator ≡ n.generator = ranked m.generator n.generator Equal (sym outer.0) in
+    let lefts : m.left ≡ n.left = word_cmp-same m.left n.left inner.0 in
+    let rights : m.right ≡ n.right = word_cmp-same m.right n.right inner.1 in
+    λ i. record { generator = generators i; left = lefts i; right = rights i }
+
+itself : (m : Multiple) → multiple_cmp m m ≡ Equal
+itself m = tied_itself multiple_cmp_total m
+
+sum_in-sums : (f : Multiple → Sum) (ms : List Multiple) (m : Multiple) → sum_in (sums_at f ms) m ≡ cond (is_among ms m) (f m) (Ok (pos 0))
+sum_in-sums f [] m = refl
+sum_in-sums f (k ∷ ks) m = go (multiple_cmp m k) refl (sum_in-sums f ks m)
+  where
+    go : (o : Ordering) → multiple_cmp m k ≡ o → unwrap_or (lookup (is_at (multiple_cmp m)) (sums_at f ks)) (Ok (pos 0)) ≡ cond (is_among ks m) (f m) (Ok (pos 0))
+        → unwrap_or (cond (is_eq o) (Some (f k)) (lookup (is_at (multiple_cmp m)) (sums_at f ks))) (Ok (pos 0)) ≡ cond (is_eq o || is_among ks m) (f m) (Ok (pos 0))
+    go Less e h = h
+    go Equal e h = ap f (sym (equal m k e))
+    go Greater e h = h
+
+-- ---- ascending lists of multiples
+all_inserted : (P : Multiple → Type 0) (ms : List Multiple) (m : Multiple) → AllByRecursion P ms → P m → AllByRecursion P (insert_key multiple_cmp ms m)
+all_inserted P [] m h p = (p, tt)
+all_inserted P (k ∷ ks) m h p = go (multiple_cmp m k) (all_inserted P ks m h.1 p)
+  where
+    go : (o : Ordering) → AllByRecursion P (insert_key multiple_cmp ks m) → AllByRecursion P (match_ordering o (m ∷ (k ∷ ks)) (k ∷ ks) (k ∷ insert_key multiple_cmp ks m))
+    go Less rest = (p, h)
+    go Equal rest = h
+    go Greater rest = (h.0, rest)
+
+all_below : (m k : Multiple) (ks : List Multiple) → multiple_cmp m k ≡ Less → AllByRecursion (λ q. multiple_cmp k q ≡ Less) ks → AllByRecursion (λ q. multiple_cmp m q ≡ Less) ks
+all_below m k [] e h = tt
+all_below m k (q ∷ ks) e h = (multiple_cmp_total.trans m k q e h.0, all_below m k ks e h.1)
+
+sorted_inserted : (ms : List Multiple) (m : Multiple) → IsStrictlySortedBy multiple_cmp ms → IsStrictlySortedBy multiple_cmp (insert_key multiple_cmp ms m)
+unfolding IsStrictlySortedBy
+sorted_inserted [] m h = (tt, tt)
+sorted_inserted (k ∷ ks) m h = go (multiple_cmp m k) refl (sorted_inserted ks m h.1)
+  where
+    go : (o : Ordering) → multiple_cmp m k ≡ o → IsStrictlySortedBy multiple_cmp (insert_key multiple_cmp ks m) → IsStrictlySortedBy multiple_cmp (match_ordering o (m ∷ (k ∷ ks)) (k ∷ ks) (k ∷ insert_key multiple_cmp ks m))
+    go Less e rest = ((e, all_below m k ks e h.0), h)
+    go Equal e rest = h
+    go Greater e rest = (all_inserted (λ q. multiple_cmp k q ≡ Less) ks m h.0 (multiple_cmp_total.antisymm k m ∙ ap ordering_reverse e), rest)
+
+sorted_all : (ms : List Multiple) (keys : List Multiple) → IsStrictlySortedBy multiple_cmp ms → IsStrictlySortedBy multiple_cmp (fold (insert_key multiple_cmp) ms keys)
+sorted_all ms [] h = h
+sorted_all ms (k ∷ keys) h = sorted_all (insert_key multiple_cmp ms k) keys (sorted_inserted ms k h)
+
+pub sorted-multiples : (rows : List CertRow) → IsStrictlySortedBy multiple_cmp (multiples_of rows)
+unfolding IsStrictlySortedBy
+sorted-multiples rows = sorted_all [] (map multiple_of rows) tt
+
+-- ---- an entry more
+-- sums that differ at one multiple alone are the same above it
+same_above : (f g : Multiple → Sum) (m : Multiple) (ms : List Multiple) → ((k : Multiple) → is_eq (multiple_cmp m k) ≡ false → g k ≡ f k) → AllByRecursion (λ q. multiple_cmp m q ≡ Less) ms → sums_at f ms ≡ sums_at g ms
+same_above f g m [] other h = refl
+same_above f g m (k ∷ ks) other h = ap₂ (λ s es. (k, s) ∷ es) (sym (other k (ap is_eq h.0))) (same_above f g m ks other h.1)
+
+inserted : (f g : Multiple → Sum) (m : Multiple) (ms : List Multiple) → IsStrictlySortedBy multiple_cmp ms → ((k : Multiple) → is_eq (multiple_cmp m k) ≡ false → g k ≡ f k)
+    → insert_entry multiple_cmp (sums_at f ms) m (g m) ≡ sums_at g (insert_key multiple_cmp ms m)
+unfolding IsStrictlySortedBy
+inserted f g m [] h other = refl
+inserted f g m (k ∷ ks) h other = go (multiple_cmp m k) refl (inserted f g m ks h.1 other)
+  where
+    go : (o : Ordering) → multiple_cmp m k ≡ o → insert_entry multiple_cmp (sums_at f ks) m (g m) ≡ sums_at g (insert_key multiple_cmp ks m)
+        → match_ordering o ((m, g m) ∷ ((k, f k) ∷ sums_at f ks)) ((k, g m) ∷ sums_at f ks) ((k, f k) ∷ insert_entry multiple_cmp (sums_at f ks) m (g m))
+        ≡ sums_at g (match_ordering o (m ∷ (k ∷ ks)) (k ∷ ks) (k ∷ insert_key multiple_cmp ks m))
+    go Less e rest = ap (λ es. (m, g m) ∷ es) (same_above f g m (k ∷ ks) other (e, all_below m k ks e h.0))
+    go Equal e rest =
+        let same = equal m k e in
+        ap₂ (λ s es. (k, s) ∷ es) (ap g same) (same_above f g m ks other (subst (λ x. AllByRecursion (λ q. multiple_cmp x q ≡ Less) ks) (sym same) h.0))
+    go Greater e rest = ap₂ (λ s es. (k, s) ∷ es) (sym (other k (ap is_eq e))) rest
+
+-- ---- which multiples are listed
+or_swap : (a b c : Bool) → a || (b || c) ≡ b || (a || c)
+or_swap true true c = refl
+or_swap true false c = refl
+or_swap false b c = refl
+
+or_twice : (a b : Bool) → a || b ≡ a || (a || b)
+or_twice true b = refl
+or_twice false b = refl
+
+among_inserted : (ms : List Multiple) (m q : Multiple) → is_among (insert_key multiple_cmp ms m) q ≡ is_eq (multiple_cmp q m) || is_among ms q
+among_inserted [] m q = refl
+among_inserted (k ∷ ks) m q = go (multiple_cmp m k) refl (among_inserted ks m q)
+  where
+    go : (o : Ordering) → multiple_cmp m k ≡ o → is_among (insert_key multiple_cmp ks m) q ≡ is_eq (multiple_cmp q m) || is_among ks q
+        → is_among (match_ordering o (m ∷ (k ∷ ks)) (k ∷ ks) (k ∷ insert_key multiple_cmp ks m)) q ≡ is_eq (multiple_cmp q m) || (is_eq (multiple_cmp q k) || is_among ks q)
+    go Less e rest = refl
+    go Equal e rest =
+        or_twice (is_eq (multiple_cmp q k)) (is_among ks q)
+        ∙ ap (λ x. is_eq (multiple_cmp q x) || (is_eq (multiple_cmp q k) || is_among ks q)) (sym (equal m k e))
+    go Greater e rest = ap (λ b. is_eq (multiple_cmp q k) || b) rest ∙ or_swap (is_eq (multiple_cmp q k)) (is_eq (multiple_cmp q m)) (is_among ks q)
+
+among_all : (rows : List CertRow) (ms : List Multiple) (q : Multiple)
+    → is_among (fold (insert_key multiple_cmp) ms (map multiple_of rows)) q ≡ is_among ms q || list_any (λ r. is_eq (multiple_cmp q (multiple_of r))) rows
+among_all [] ms q = or_nothing (is_among ms q)
+  where
+    or_nothing : (b : Bool) → b ≡ b || false
+    or_nothing true = refl
+    or_nothing false = refl
+among_all (r ∷ rows) ms q =
+    among_all rows (insert_key multiple_cmp ms (multiple_of r)) q
+    ∙ ap (λ b. b || list_any (λ s. is_eq (multiple_cmp q (multiple_of s))) rows) (among_inserted ms (multiple_of r) q)
+    ∙ turned (is_eq (multiple_cmp q (multiple_of r))) (is_among ms q) (list_any (λ s. is_eq (multiple_cmp q (multiple_of s))) rows)
+  where
+    turned : (a b c : Bool) → (a || b) || c ≡ b || (a || c)
+    turned true true c = refl
+    turned true false c = refl
+    turned false b c = refl
+
+none_listed : (q : Multiple) (rows : List CertRow) → list_any (λ r. is_eq (multiple_cmp q (multiple_of r))) rows ≡ false → coefficients_at q rows ≡ []
+none_listed q [] h = refl
+none_listed q (r ∷ rows) h = go (is_eq (multiple_cmp q (multiple_of r))) h (none_listed q rows)
+  where
+    go : (b : Bool) → b || list_any (λ s. is_eq (multiple_cmp q (multiple_of s))) rows ≡ false → (list_any (λ s. is_eq (multiple_cmp q (multiple_of s))) rows ≡ false → coefficients_at q rows ≡ [])
+        → map (λ s. s.coef) (cond b (r ∷ filter (λ s. is_eq (multiple_cmp q (multiple_of s))) rows) (filter (λ s. is_eq (multiple_cmp q (multiple_of s))) rows)) ≡ []
+    go true e later = absurd (cc)
+    go false e later = later e
+
+-- ---- one row more
+coefficients_more : (q : Multiple) (done : List CertRow) (r : CertRow) → coefficients_at q (done ++ r ∷ []) ≡ coefficients_at q done ++ cond (is_eq (multiple_cmp q (multiple_of r))) (r.coef ∷ []) []
+coefficients_more q [] r = go (is_eq (multiple_cmp q (multiple_of r)))
+  where
+    go : (b : Bool) → map (λ s. s.coef) (cond b (r ∷ []) []) ≡ cond b (r.coef ∷ []) []
+    go true = refl
+    go false = refl
+coefficients_more q (d ∷ done) r = go (is_eq (multiple_cmp q (multiple_of d))) (coefficients_more q done r)
+  where
+    go : (b : Bool) → coefficients_at q (done ++ r ∷ []) ≡ coefficients_at q done ++ cond (is_eq (multiple_cmp q (multiple_of r))) (r.coef ∷ []) []
+        → map (λ s. s.coef) (cond b (d ∷ filter (λ s. is_eq (multiple_cmp q (multiple_of s))) (done ++ r ∷ [])) (filter (λ s. is_eq (multiple_cmp q (multiple_of s))) (done ++ r ∷ [])))
+        ≡ map (λ s. s.coef) (cond b (d ∷ filter (λ s. is_eq (multiple_cmp q (multiple_of s))) done) (filter (λ s. is_eq (multiple_cmp q (multiple_of s))) done)) ++ cond (is_eq (multiple_cmp q (multiple_of r))) (r.coef ∷ []) []
+    go true h = ap (λ cs. d.coef ∷ cs) h
+    go false h = h
+
+-- the sum that a multiple has in rows
+abbrev pub sum_of_rows : List CertRow → Multiple → Sum
+sum_of_rows rows m = sum_from (Ok (pos 0)) (coefficients_at m rows)
+
+-- the table of rows
+abbrev pub table_of : List CertRow → Entries
+table_of rows = sums_at (sum_of_rows rows) (multiples_of rows)
+
+sum_more : (q : Multiple) (done : List CertRow) (r : CertRow) → sum_of_rows (done ++ r ∷ []) q ≡ cond (is_eq (multiple_cmp q (multiple_of r))) (added (sum_of_rows done q) r.coef) (sum_of_rows done q)
+sum_more q done r =
+    ap (sum_from (Ok (pos 0))) (coefficients_more q done r)
+    ∙ fold-append added (Ok (pos 0)) (coefficients_at q done) (cond (is_eq (multiple_cmp q (multiple_of r))) (r.coef ∷ []) [])
+    ∙ go (is_eq (multiple_cmp q (multiple_of r)))
+  where
+    go : (b : Bool) → fold added (sum_of_rows done q) (cond b (r.coef ∷ []) []) ≡ cond b (added (sum_of_rows done q) r.coef) (sum_of_rows done q)
+    go true = refl
+    go false = refl
+
+sum_in-table : (done : List CertRow) (m : Multiple) → sum_in (table_of done) m ≡ sum_of_rows done m
+sum_in-table done m = sum_in-sums (sum_of_rows done) (multiples_of done) m ∙ go (is_among (multiples_of done) m) refl
+  where
+    go : (b : Bool) → is_among (multiples_of done) m ≡ b → cond b (sum_of_rows done m) (Ok (pos 0)) ≡ sum_of_rows done m
+    go true e = refl
+    go false e = ap (sum_from (Ok (pos 0))) (sym (none_listed m done (sym (among_all done [] m) ∙ e)))
+
+multiples_more : (done : List CertRow) (r : CertRow) → multiples_of (done ++ r ∷ []) ≡ insert_key multiple_cmp (multiples_of done) (multiple_of r)
+multiples_more done r =
+    ap (fold (insert_key multiple_cmp) []) (map-append multiple_of done (r ∷ []))
+    ∙ fold-append (insert_key multiple_cmp) [] (map multiple_of done) (multiple_of r ∷ [])
+
+turned_round : (m k : Multiple) → is_eq (multiple_cmp m k) ≡ false → is_eq (multiple_cmp k m) ≡ false
+turned_round m k h = go (multiple_cmp m k) refl h
+  where
+    go : (o : Ordering) → multiple_cmp m k ≡ o → is_eq o ≡ false → is_eq (multiple_cmp k m) ≡ false
+    go Less e _ = ap is_eq (multiple_cmp_total.antisymm k m ∙ ap ordering_reverse e)
+    go Equal e n = absurd (cc)
+    go Greater e _ = ap is_eq (multiple_cmp_total.antisymm k m ∙ ap ordering_reverse e)
+
+table-more : (done : List CertRow) (r : CertRow) → with_row (table_of done) r ≡ table_of (done ++ r ∷ [])
+table-more done r =
+    let m = multiple_of r in
+    let f = sum_of_rows done in
+    let g = sum_of_rows (done ++ r ∷ []) in
+    let here : g m ≡ added (f m) r.coef = sum_more m done r ∙ ap (λ o. cond (is_eq o) (added (f m) r.coef) (f m)) (itself m) in
+    let other = λ (k : Multiple) (h : is_eq (multiple_cmp m k) ≡ false). sum_more k done r ∙ ap (λ b. cond b (added (f k) r.coef) (f k)) (turned_round m k h) in
+    ap (λ s. insert_entry multiple_cmp (table_of done) m (added s r.coef)) (sum_in-table done m)
+    ∙ ap (insert_entry multiple_cmp (table_of done) m) (sym here)
+    ∙ inserted f g m (multiples_of done) (sorted-multiples done) other
+    ∙ ap (sums_at g) (sym (multiples_more done r))
+
+table-all : (done rows : List CertRow) → with_rows (table_of done) rows ≡ table_of (done ++ rows)
+table-all done [] = ap table_of (sym (append-nil done))
+table-all done (r ∷ rows) =
+    ap (λ es. with_rows es rows) (table-more done r) ∙ table-all (done ++ r ∷ []) rows ∙ ap table_of (append_assoc done (r ∷ []) rows)
+
+-- the rows of the table are the gathered rows, unless a sum of gathering overflows
+pub rows_in-with_rows : (rows : List CertRow) → rows_in (with_rows [] rows) ≡ unless_overflow (first_overflow (sums_of_gathering rows)) (gathered rows)
+rows_in-with_rows rows = ap rows_in (table-all [] rows) ∙ rows_in-sums (λ m. coefficients_at m rows) (multiples_of rows)

@@ -1,0 +1,10 @@
+use Rattle.std.proofs.Common.{◌≡◌, ℕ, ◌+◌, ◌<◌, ◌||◌, false, drop, get_or, length}
+use Rattle.std.specs.List.{list_any}
+use Rattle.cofactor_trace.specs.Needed.{is_rule}
+use Rattle.cofactor_trace.proofs.expansion.mark.Given as goal
+
+-- what is marked so far, and what the rows that are left name
+abbrev pub invariant-loop-row : goal.invariant-loop-row
+invariant-loop-row l = (place : ℕ) → place < length l.fn.named
+    → get_or l.named place false || list_any (λ r. is_rule (place + 1) r.from) (drop l.row-index l.rows)
+    ≡ get_or l.fn.named place false || list_any (λ r. is_rule (place + 1) r.from) l.rows

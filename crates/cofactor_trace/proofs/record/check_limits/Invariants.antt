@@ -1,0 +1,8 @@
+use Rattle.std.proofs.Common.{◌≡◌, drop}
+use Rattle.cofactor_trace.specs.Expansion.{joined}
+use Rattle.cofactor_trace.specs.Needed.{known_from}
+use Rattle.cofactor_trace.specs.Sizes.{measured_all, no_size}
+use Rattle.cofactor_trace.proofs.record.check_limits.Given as goal
+
+abbrev pub invariant-loop-row : goal.invariant-loop-row
+invariant-loop-row l = measured_all l.size (joined (known_from l.expansions.entries) l.fn.common (drop l.row-index l.rows)) ≡ measured_all no_size (joined (known_from l.expansions.entries) l.fn.common l.rows)

@@ -1,0 +1,32 @@
+-- How large rows are, counted up to the greatest number of the machine.
+use Rattle.std.specs.Prelude.{ℕ, ◌+◌, ◌-◌, ◌^◌, ◌||◌, min, Bool, true, false, List, length, Option, Some, None, nat_lt, if◌then◌else◌}
+use Rattle.std.specs.List.{fold}
+use Rattle.cofactor_trace.specs.declared.CertRow.{CertRow}
+use Rattle.cofactor_trace.specs.declared.fault.ExpandFault.{ExpandFault}
+use Rattle.cofactor_trace.specs.declared.fault.ExpandFault.TheVariants as fault
+use Rattle.cofactor_trace.specs.declared.size.Size.{Size}
+
+-- a sum that stops at the greatest number
+abbrev pub counted : ℕ → ℕ → ℕ
+counted m n = min (m + n) (2 ^ 64 - 1)
+
+-- with one row more
+abbrev pub measured : Size → CertRow → Size
+measured size r = record {
+  long = size.long || (nat_lt 500 (length r.left) || nat_lt 500 (length r.right));
+  rows = counted size.rows 1;
+  letters = counted size.letters (length r.left + length r.right);
+}
+
+abbrev pub measured_all : Size → List CertRow → Size
+measured_all = fold measured
+
+-- no rows
+abbrev pub no_size : Size
+no_size = record { long = false; rows = 0; letters = 0 }
+
+-- the first limit that is passed
+abbrev pub limit_of : Size → Option ExpandFault
+limit_of size = if size.long then Some fault.Size
+    else (if nat_lt 200000 size.rows then Some (fault.Rows false)
+    else (if nat_lt 1000000 size.letters then Some (fault.Rows true) else None))

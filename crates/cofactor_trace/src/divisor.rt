@@ -1,0 +1,79 @@
+//! Common divisors and multiples, and division by them.
+ghost use Rattle.std.specs.Prelude.{◌≡◌, ◌<ℤ◌, pos, int_div, map, IfOk};
+ghost use Rattle.std.specs.List.{All};
+ghost use Rattle.coef_int.specs.Range.{IsCoefficient};
+ghost use Rattle.cofactor_trace.specs.Divisor.{gcd_of};
+ghost use Rattle.cofactor_trace.specs.Expansion.{content_of, divided_row};
+
+use crate::CertRow;
+use lists::Listing;
+use std::alloc::{AllocError, Global};
+use std::collections::VecDeque;
+
+// The greatest common divisor.
+pub(crate) fn divisor(x: i128, y: i128) -> i128
+    requires x_in { IsCoefficient x }
+    requires y_in { IsCoefficient y }
+    ensures same { result ≡ gcd_of x y }
+    ensures in_range { IsCoefficient result }
+    ensures positive { pos 0 <ℤ x → pos 0 <ℤ result }
+    ensures positive_right { pos 0 <ℤ y → pos 0 <ℤ result }
+{
+    coef_int::gcd(x, y)
+}
+
+// The quotient.
+pub(crate) fn quotient(value: i128, by: i128) -> i128
+    requires value_in { IsCoefficient value }
+    requires by_in { pos 0 <ℤ by }
+    ensures same { result ≡ int_div value by }
+    ensures in_range { IsCoefficient result }
+{
+    value / by
+}
+
+// The greatest common divisor of the denominator and the coefficients.
+pub(crate) fn content(denominator: i128, rows: &[CertRow]) -> i128
+    requires positive { pos 0 <ℤ denominator }
+    requires denominator_in { IsCoefficient denominator }
+    requires coefficients_in { All (λ r. IsCoefficient r.coef) rows.now }
+    ensures same { result ≡ content_of denominator rows.now }
+    ensures in_range { IsCoefficient result }
+    ensures positive { pos 0 <ℤ result }
+{
+    let mut content = denominator;
+    for row in rows {
+        content = divisor(content, row.coef);
+    }
+    content
+}
+
+// The rows with their coefficients divided.
+pub(crate) fn divide_rows(
+    alloc: Global,
+    rows: Listing<CertRow>,
+    by: i128,
+) -> Result<Listing<CertRow>, AllocError>
+    requires by_in { pos 0 <ℤ by }
+    requires coefficients_in { All (λ r. IsCoefficient r.coef) rows }
+    ensures same { IfOk result (λ v. v ≡ map (divided_row by) rows) }
+    ensures in_range { IfOk result (All (λ r. IsCoefficient r.coef)) }
+{
+    let mut divided = Listing::new(alloc);
+    let mut rest = VecDeque::from_vec(rows.into_vec());
+    while let Some(row) = rest.pop_front() {
+        let CertRow {
+            coef,
+            left,
+            generator,
+            right,
+        } = row;
+        divided.push(CertRow {
+            coef: quotient(coef, by),
+            left,
+            generator,
+            right,
+        })?;
+    }
+    Ok(divided)
+}
