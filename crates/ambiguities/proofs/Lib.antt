@@ -1,0 +1,9 @@
+pub mod Exactly
+pub mod Numbers
+pub mod Pairs
+pub mod Rows
+pub mod Joined
+pub mod Cancelling
+pub mod Multiples
+pub mod Balance
+pub mod Bounds
