@@ -1,8 +1,10 @@
 -- Both leading words occur in the overlap word.
 use Rattle.std.proofs.Common.{◌≡◌, ℕ, ◌+◌, ◌≤◌, List, [], ◌++◌, length, take, drop, Some, refl, sym, ap, ap₂, ◌∙◌, subst, arith}
+use Rattle.std.proofs.lemmas.Option.{same_Some}
 use Rattle.std.proofs.lemmas.List.{append-nil, append_assoc, length-append, length-take-le, take_at}
 use Rattle.word_core.specs.Occurrence.{OccursAt}
 use Rattle.word_core.specs.Overlap.{OverlapsAt}
+use Rattle.word_core.proofs.Places.{OccursAt-length}
 use Rattle.rule_reduce.specs.declared.rule.Rule.{Rule}
 use Rattle.rule_reduce.specs.RuleLists.{rule_at}
 use Rattle.rule_reduce.proofs.WordsKept.{split_at}
@@ -54,3 +56,9 @@ module _ (rules : List Rule) (a : Ambiguity) (is : IsAmbiguity rules a) where
   second_splits =
       split_at (overlap_word_of rules a) is.second.lead a.place both.second
       ∙ ap (λ q. take a.place (overlap_word_of rules a) ++ (is.second.lead ++ drop (a.place + length q) (overlap_word_of rules a))) (sym (lead_at-is rules a.j is.second is.second_numbered))
+
+  -- the second leading word ends inside the overlap word
+  pub second_fits : (h : Rule) → rule_at rules a.j ≡ Some h → a.place + length h.lead ≤ length (overlap_word_of rules a)
+  second_fits h numbered =
+      let same : is.second ≡ h = same_Some is.second h (sym is.second_numbered ∙ numbered) in
+      subst (λ (f : Rule). a.place + length f.lead ≤ length (overlap_word_of rules a)) same (OccursAt-length (overlap_word_of rules a) is.second.lead a.place both.second)

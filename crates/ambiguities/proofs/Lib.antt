@@ -7,3 +7,4 @@ pub mod Cancelling
 pub mod Multiples
 pub mod Balance
 pub mod Bounds
+pub mod Exits

@@ -34,17 +34,10 @@ pub fn s_poly<O: WordOrder>(rules: &Rules<O>, which: &Ambiguity) -> Result<SPoly
     ensures rows { IfOk result (λ s. s.rows ≡ s_rows_of rules.now.rules which.now) }
 {
     let alloc = rules.rules.allocator();
-    let (first, second) = make_rows(alloc, rules.rules.as_slice(), which)?;
-    let left = rules
-        .rules
-        .at(which.i as usize - 1)
-        .poly
-        .left_right(&first.left, &first.right)?;
-    let right = rules
-        .rules
-        .at(which.j as usize - 1)
-        .poly
-        .left_right(&second.left, &second.right)?;
+    let all = rules.rules.as_slice();
+    let (first, second) = make_rows(alloc, all, which)?;
+    let left = rule_with(all, which.i).poly.left_right(&first.left, &first.right)?;
+    let right = rule_with(all, which.j).poly.left_right(&second.left, &second.right)?;
     let poly = Poly::combine(first.coef, &left, second.coef, &right)?;
     let mut rows = Listing::new(alloc);
     rows.push(first)?;
