@@ -34,6 +34,7 @@ over_joined : (letters : ℕ) (kind : Kind) (p q : List ℕ) (place : ℕ) → I
 over_joined letters Overlap p q place p_over q_over = IsOver-append letters (take place p) q (All-take (λ a. a < letters) place p p_over) q_over
 over_joined letters Inclusion p q place p_over q_over = p_over
 
+-- the letters of a leading word
 over_lead : (letters : ℕ) (compare : Compare) (g : Rule) → IsRule letters compare g → IsOver letters g.lead
 over_lead letters compare g is_rule = leading-all (λ t. IsOver letters t.1) compare g.poly.terms (g.leading, g.lead) is_rule.leading (recursion_from_All (λ (t : Term). IsOver letters t.1) g.poly.terms is_rule.over)
 

@@ -1,9 +1,9 @@
 -- Lists with exactly the items that have a property, each before all later ones.
 use Rattle.std.proofs.Common.{◌≡◌, ◌↔◌, ◌⊎◌, inl, inr, ℕ, ◌+◌, ◌-◌, ◌<◌, ◌≤◌, List, [], ◌∷◌, ◌++◌, map, length, get_or, refl, sym, ap, ap₂, ◌∙◌, subst, arith}
-use Rattle.std.specs.List.{AllPairs, Contains}
+use Rattle.std.specs.List.{All, AllPairs, Contains}
 use Rattle.std.proofs.lemmas.Bool.{cases_lt}
 use Rattle.std.proofs.lemmas.List.{append_assoc, append-nil, length-append, length-map, get_or_append_left, get_or-append_right, get_or-map, get_or_default}
-use Rattle.std.proofs.lemmas.List.Elements.{Contains-append_left, Contains-append_right, Contains-append_cases, Contains-get_or}
+use Rattle.std.proofs.lemmas.List.Elements.{Contains-append_left, Contains-append_right, Contains-append_cases, Contains-get_or, All-weaker, All-contains_itself}
 use Rattle.ambiguities.specs.declared.ambiguity.Ambiguity.{Ambiguity}
 use Rattle.ambiguities.specs.Listed.{IsBefore, ListsExactly, IsGrown}
 
@@ -73,12 +73,16 @@ module _ {X : Type 0} (Before : X → X → Type 0) where
     ascending = exact.ascending;
   }
 
+  -- each item has what follows from the property
+  pub exactly-all : (P Q : X → Type 0) (xs : List X) → ListsExactly Before P xs → ((x : X) → P x → Q x) → All Q xs
+  exactly-all P Q xs exact follows = All-weaker (Contains xs) Q (λ x at. follows x ((exact.members x).0 at)) xs (All-contains_itself xs)
+
   -- the images of a list of numbers, by a function that keeps the order
   module _ (f : ℕ → X) where
     contains-map : (xs : List ℕ) (n : ℕ) → Contains xs n → Contains (map f xs) (f n)
     contains-map xs n at = (at.0, omega (arith, at.1, length-map xs f), get_or-map f xs at.0 n (f n) at.1 ∙ ap f at.2)
 
-    record Image (P : ℕ → Type 0) (x : X) : Type 0 where
+    pub record Image (P : ℕ → Type 0) (x : X) : Type 0 where
       pub number : ℕ
       pub held : P number
       pub same : f number ≡ x
@@ -104,6 +108,35 @@ module _ {X : Type 0} (Before : X → X → Type 0) where
         to_list : (x : X) → Image P x → Contains (map f xs) x
         to_list x image = subst (Contains (map f xs)) image.same (contains-map xs image.number ((exact.members image.number).1 image.held))
 
+-- ---- the numbers with a property, in turn
+module _ (P : ℕ → Type 0) where
+  abbrev pub PassedBy : ℕ → ℕ → Type 0
+  PassedBy n s = P s × (s < n)
+
+  pub passed-one : (n : ℕ) (xs : List ℕ) → P n → ListsExactly (λ (s t : ℕ). s < t) (PassedBy n) xs → ListsExactly (λ (s t : ℕ). s < t) (PassedBy (n + 1)) (xs ++ n ∷ [])
+  passed-one n xs held exact =
+      exactly-append (λ (s t : ℕ). s < t) (PassedBy n) (λ s. n ≡ s) (PassedBy (n + 1)) xs (n ∷ []) exact (exactly-one (λ (s t : ℕ). s < t) n)
+      (λ s t before same. omega (arith, before.1, same))
+      (λ s. (λ passed. split s passed (cases_lt s n), join s))
+    where
+      split : (s : ℕ) → PassedBy (n + 1) s → (s < n) ⊎ (n ≤ s) → PassedBy n s ⊎ (n ≡ s)
+      split s passed (inl less) = inl (passed.0, less)
+      split s passed (inr past) = inr (omega (arith, passed.1, past))
+
+      join : (s : ℕ) → PassedBy n s ⊎ (n ≡ s) → PassedBy (n + 1) s
+      join s (inl passed) = (passed.0, omega (arith, passed.1))
+      join s (inr same) = (subst P same held, omega (arith, same))
+
+  pub passed-none : (n : ℕ) (xs : List ℕ) → (P n → ⊥) → ListsExactly (λ (s t : ℕ). s < t) (PassedBy n) xs → ListsExactly (λ (s t : ℕ). s < t) (PassedBy (n + 1)) xs
+  passed-none n xs not_held exact = exactly-same (λ (s t : ℕ). s < t) (PassedBy n) (PassedBy (n + 1)) xs (λ s. (λ passed. before s passed (cases_lt s n), λ passed. (passed.0, omega (arith, passed.1)))) exact
+    where
+      before : (s : ℕ) → PassedBy (n + 1) s → (s < n) ⊎ (n ≤ s) → PassedBy n s
+      before s passed (inl less) = (passed.0, less)
+      before s passed (inr past) = let same : s ≡ n = omega (arith, passed.1, past) in absurd (not_held (subst P same passed.0))
+
+  pub passed-all : (n : ℕ) (xs : List ℕ) → ((s : ℕ) → P s → s < n) → ListsExactly (λ (s t : ℕ). s < t) (PassedBy n) xs → ListsExactly (λ (s t : ℕ). s < t) P xs
+  passed-all n xs bounded exact = exactly-same (λ (s t : ℕ). s < t) (PassedBy n) P xs (λ s. (λ held. (held, bounded s held), λ passed. passed.0)) exact
+
 -- ---- lists that grow
 pub grown-none : (P : Ambiguity → Type 0) (old : List Ambiguity) → ((a : Ambiguity) → P a → ⊥) → IsGrown P old old
 grown-none P old none = record { more = []; appended = sym (append-nil old); exact = exactly-none IsBefore P none }
@@ -118,3 +151,7 @@ grown-append P Q R old mid new first second across both = record {
 
 pub grown-same : (P Q : Ambiguity → Type 0) (old new : List Ambiguity) → ((a : Ambiguity) → Q a ↔ P a) → IsGrown P old new → IsGrown Q old new
 grown-same P Q old new same grown = record { more = grown.more; appended = grown.appended; exact = exactly-same IsBefore P Q grown.more same grown.exact }
+
+-- what grew from nothing is what was appended
+pub grown-whole : (P : Ambiguity → Type 0) (new : List Ambiguity) → IsGrown P [] new → ListsExactly IsBefore P new
+grown-whole P new grown = subst (ListsExactly IsBefore P) (sym grown.appended) grown.exact

@@ -8,3 +8,5 @@ pub mod Multiples
 pub mod Balance
 pub mod Bounds
 pub mod Exits
+pub mod Leads
+pub mod Occurrences

@@ -34,10 +34,10 @@ module _ (rules : List Rule) where
       join a (inr of) = record { is = of.0; first = of.1; above = omega (arith, of.2, reached); below = omega (arith, of.2) }
 
   -- the second rules from `least` on are those that count
-  pub row-all : (from i least : ℕ) (old new : List Ambiguity) → (i < from → least ≡ from) → (from ≤ i → least ≡ 1) → IsGrown (IsInRow i least (length rules + 1)) old new → IsGrown (IsOfFirst from rules i) old new
-  row-all from i least old new early late row = grown-same (IsInRow i least (length rules + 1)) (IsOfFirst from rules i) old new (λ a. (λ of. counts a of (cases_lt i from), λ in_row. counted a in_row (cases_lt i from))) row
+  pub row-all : (from i least high : ℕ) (old new : List Ambiguity) → length rules < high → (i < from → least ≡ from) → (from ≤ i → least ≡ 1) → IsGrown (IsInRow i least high) old new → IsGrown (IsOfFirst from rules i) old new
+  row-all from i least high old new past early late row = grown-same (IsInRow i least high) (IsOfFirst from rules i) old new (λ a. (λ of. counts a of (cases_lt i from), λ in_row. counted a in_row (cases_lt i from))) row
     where
-      counts : (a : Ambiguity) → IsOfFirst from rules i a → (i < from) ⊎ (from ≤ i) → IsInRow i least (length rules + 1) a
+      counts : (a : Ambiguity) → IsOfFirst from rules i a → (i < from) ⊎ (from ≤ i) → IsInRow i least high a
       counts a of (inl less) = record {
         is = of.0.0;
         first = of.1;
@@ -48,16 +48,16 @@ module _ (rules : List Rule) where
           second : (from ≤ a.i) ⊎ (from ≤ a.j) → least ≤ a.j
           second (inl first) = absurd (omega (arith, first, of.1, less))
           second (inr reached) = omega (arith, early less, reached)
-      counts a of (inr past) = record {
+      counts a of (inr reached) = record {
         is = of.0.0;
         first = of.1;
-        above = omega (arith, late past, rule_at-first rules a.j of.0.0.second of.0.0.second_numbered);
+        above = omega (arith, late reached, rule_at-first rules a.j of.0.0.second of.0.0.second_numbered);
         below = omega (arith, rule_at-last rules a.j of.0.0.second of.0.0.second_numbered);
       }
 
-      counted : (a : Ambiguity) → IsInRow i least (length rules + 1) a → (i < from) ⊎ (from ≤ i) → IsOfFirst from rules i a
+      counted : (a : Ambiguity) → IsInRow i least high a → (i < from) ⊎ (from ≤ i) → IsOfFirst from rules i a
       counted a row (inl less) = ((row.is, inr (omega (arith, early less, row.above))), row.first)
-      counted a row (inr past) = ((row.is, inl (omega (arith, past, row.first))), row.first)
+      counted a row (inr reached) = ((row.is, inl (omega (arith, reached, row.first))), row.first)
 
   -- ---- all first rules
   pub record IsUpTo (from high : ℕ) (a : Ambiguity) : Type 0 where
@@ -81,6 +81,6 @@ module _ (rules : List Rule) where
       join a (inl up) = record { is = up.is; below = omega (arith, up.below) }
       join a (inr of) = record { is = of.0; below = omega (arith, of.1) }
 
-  pub first-all : (from : ℕ) (old new : List Ambiguity) → IsGrown (IsUpTo from (length rules + 1)) old new → IsGrown (IsAmbiguityFrom from rules) old new
-  first-all from old new up = grown-same (IsUpTo from (length rules + 1)) (IsAmbiguityFrom from rules) old new
+  pub first-all : (from high : ℕ) (old new : List Ambiguity) → length rules < high → IsGrown (IsUpTo from high) old new → IsGrown (IsAmbiguityFrom from rules) old new
+  first-all from high old new past up = grown-same (IsUpTo from high) (IsAmbiguityFrom from rules) old new
       (λ a. (λ is. record { is = is; below = omega (arith, rule_at-last rules a.i is.0.first is.0.first_numbered) }, λ up_to. up_to.is)) up

@@ -1,12 +1,13 @@
 ghost use Rattle.std.specs.Prelude.{◌≡◌, ◌↔◌, ◌≤◌, ◌<◌, ◌^◌, ◌++◌, map, length, Contains, IfOk, OnOk};
 ghost use Rattle.std.specs.List.{All, AllPairs};
-ghost use Rattle.ambiguities.specs.Listed.{IsBefore, IsAmbiguityFrom, IsOfFirst, IsOfPair, IsGrown, ambiguity_at};
+ghost use Rattle.ambiguities.specs.Listed.{IsBefore, ListsExactly, IsAmbiguityFrom, IsOfFirst, IsOfPair, IsGrown, ambiguity_at};
 
+use crate::overlap::rule_with;
 use crate::places::inclusions;
 use crate::{Ambiguity, Kind};
 use lists::Listing;
 use rule_reduce::{Rule, Rules};
-use std::alloc::AllocError;
+use std::alloc::{AllocError, Global};
 use word_orders::WordOrder;
 
 /// The ambiguities in which the number of a rule is at least `from`, each once: by the first rule, then the second,
@@ -15,9 +16,22 @@ pub fn between<O: WordOrder>(rules: &Rules<O>, from: u32) -> Result<Listing<Ambi
     ensures members { IfOk result (λ found. (a : Ambiguity) → Contains found a ↔ IsAmbiguityFrom from rules.now.rules a) }
     ensures ascending { IfOk result (AllPairs IsBefore) }
 {
-    let mut found = Listing::new(rules.rules.allocator());
-    for i in 1..=rules.rules.len() as u32 {
-        push_first(&mut found, rules.rules.as_slice(), from, i)?;
+    list_all(rules.rules.allocator(), rules.rules.as_slice(), from)
+}
+
+// Those of all first rules.
+fn list_all(
+    alloc: Global,
+    rules: &[Rule],
+    from: u32,
+) -> Result<Listing<Ambiguity>, AllocError>
+    requires few { length rules.now < 2 ^ 32 }
+    requires short { All (λ g. length g.lead ≤ 500) rules.now }
+    ensures { IfOk result (ListsExactly IsBefore (IsAmbiguityFrom from rules.now)) }
+{
+    let mut found = Listing::new(alloc);
+    for i in 1..=rules.len() as u32 {
+        push_first(&mut found, rules, from, i)?;
     }
     Ok(found)
 }
@@ -56,8 +70,8 @@ fn push_pair(
     requires j_last { j ≤ length rules.now }
     ensures { OnOk result (IsGrown (IsOfPair rules.now i j) found.old found.new) }
 {
-    let word = &rules[i as usize - 1].lead;
-    let other = &rules[j as usize - 1].lead;
+    let word = &rule_with(rules, i).lead;
+    let other = &rule_with(rules, j).lead;
     let overlaps = word.overlaps(other)?;
     push_places(found, i, j, Kind::Overlap, overlaps.as_slice())?;
     if i != j {
