@@ -11,6 +11,9 @@ use Rattle.word_core.specs.Letters.{IsOver}
 use Rattle.word_orders.specs.Admissible.{Compare, IsAdmissible}
 use Rattle.word_orders.specs.Orders.{IsBelow}
 use Rattle.word_orders.proofs.Over.{IsOver-append, IsOver-front, IsOver-back}
+use Rattle.nc_polynomial.specs.Shape.{IsShaped}
+use Rattle.nc_polynomial.proofs.Distinct.{distinct-descending, words_listed}
+use Rattle.nc_polynomial.proofs.Shapes.{recursion_from_IsDescending}
 use Rattle.cofactor_trace.specs.declared.Row.{Row}
 use Rattle.cofactor_trace.specs.Traces.{origin_poly}
 use Rattle.rule_reduce.specs.declared.rule.Rule.{Rule}
@@ -146,3 +149,11 @@ leading_words_cancel letters compare rank rules a p laws each is ends =
         (row_at_most letters compare rank laws bound over is.second second_rule two.left two.right (second_splits rules a is)), tt),
       );
     }
+
+-- all letters of the S-polynomial are below the number
+pub over_terms : (letters : ℕ) (compare : Compare) (rank : List ℕ → List ℕ) (rules : List Rule) (a : Ambiguity) (p : List Term)
+    → IsAdmissible letters compare rank → All (IsRule letters compare) rules → IsAmbiguity rules a → s_polynomial_of rules a ≡ Ok p → IsShaped p → All (λ t. IsOver letters t.1) p
+over_terms letters compare rank rules a p laws each is ends shaped =
+    let bound = leading_words_cancel letters compare rank rules a p laws each is ends in
+    All-from_recursion (λ t. IsOver letters t.1) p
+    (words_listed (IsOver letters) p (distinct-descending p (recursion_from_IsDescending p shaped.descending)) (recursion_from_All (λ (t : Term). t.0 ≢ pos 0) p shaped.nonzero) (λ w some. (bound.polynomial w some).left))

@@ -1,4 +1,5 @@
 ghost use Rattle.std.specs.Prelude.{◌≡◌, ◌<◌, ◌≤◌, length, IfOk, Some};
+ghost use Rattle.word_core.specs.Letters.{IsOver};
 ghost use Rattle.ambiguities.specs.Ambiguities.{IsAmbiguity, overlap_word_of};
 ghost use Rattle.rule_reduce.specs.RuleLists.{rule_at};
 
@@ -12,7 +13,8 @@ use word_orders::WordOrder;
 /// second word, of an inclusion the first word. The ambiguity is one of the rules.
 pub fn overlap_word<O: WordOrder>(rules: &Rules<O>, which: &Ambiguity) -> Result<Word, AllocError>
     requires { IsAmbiguity rules.now.rules which.now }
-    ensures { IfOk result (λ w. w ≡ overlap_word_of rules.now.rules which.now) }
+    ensures exact { IfOk result (λ w. w ≡ overlap_word_of rules.now.rules which.now) }
+    ensures over { IfOk result (IsOver (O.letters rules.now.order)) }
 {
     make_word(rules.rules.as_slice(), which)
 }

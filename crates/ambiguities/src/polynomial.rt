@@ -1,6 +1,7 @@
 ghost use Rattle.std.specs.Prelude.{◌≡◌, ◌<ℤ◌, pos, IfOk, MatchResult, Ok};
 ghost use Rattle.std.specs.List.{All};
 ghost use Rattle.coef_int.specs.Range.{IsCoefficient};
+ghost use Rattle.word_core.specs.Letters.{IsOver};
 ghost use Rattle.nc_polynomial.specs.Faults.{Explains};
 ghost use Rattle.ambiguities.specs.Ambiguities.{IsAmbiguity};
 ghost use Rattle.ambiguities.specs.SPolynomials.{first_row, second_row, s_rows_of, s_polynomial_of};
@@ -32,6 +33,7 @@ pub fn s_poly<O: WordOrder>(rules: &Rules<O>, which: &Ambiguity) -> Result<SPoly
     requires { IsAmbiguity rules.now.rules which.now }
     ensures exact { MatchResult result (λ s. s_polynomial_of rules.now.rules which.now ≡ Ok s.poly.terms) (Explains (s_polynomial_of rules.now.rules which.now)) }
     ensures rows { IfOk result (λ s. s.rows ≡ s_rows_of rules.now.rules which.now) }
+    ensures over { IfOk result (λ s. All (λ t. IsOver (O.letters rules.now.order) t.1) s.poly.terms) }
 {
     let alloc = rules.rules.allocator();
     let all = rules.rules.as_slice();
