@@ -144,9 +144,12 @@ leading_words_cancel letters compare rank rules a p laws each is ends =
           (multiple_at_most letters compare rank laws bound over is.second second_rule two.left two.right (second_splits rules a is));
       rows_at_most = All-from_recursion (EachOfRow (AtMostBound letters compare rank laws bound over) rules) (s_rows_of rules a) (
         subst (λ (f : List Term). (w : List ℕ) → coefficient_of f w ≢ pos 0 → AtMostBound letters compare rank laws bound over (one.left ++ (w ++ one.right))) (sym first_poly)
-        (row_at_most letters compare rank laws bound over is.first first_rule one.left one.right (first_splits rules a is)),
-        (subst (λ (f : List Term). (w : List ℕ) → coefficient_of f w ≢ pos 0 → AtMostBound letters compare rank laws bound over (two.left ++ (w ++ two.right))) (sym second_poly)
-        (row_at_most letters compare rank laws bound over is.second second_rule two.left two.right (second_splits rules a is)), tt),
+            (row_at_most letters compare rank laws bound over is.first first_rule one.left one.right (first_splits rules a is)),
+        (
+          subst (λ (f : List Term). (w : List ℕ) → coefficient_of f w ≢ pos 0 → AtMostBound letters compare rank laws bound over (two.left ++ (w ++ two.right))) (sym second_poly)
+              (row_at_most letters compare rank laws bound over is.second second_rule two.left two.right (second_splits rules a is)),
+          tt,
+        ),
       );
     }
 

@@ -20,11 +20,7 @@ pub fn between<O: WordOrder>(rules: &Rules<O>, from: u32) -> Result<Listing<Ambi
 }
 
 // Those of all first rules.
-fn list_all(
-    alloc: Global,
-    rules: &[Rule],
-    from: u32,
-) -> Result<Listing<Ambiguity>, AllocError>
+fn list_all(alloc: Global, rules: &[Rule], from: u32) -> Result<Listing<Ambiguity>, AllocError>
     requires few { length rules.now < 2 ^ 32 }
     requires short { All (λ g. length g.lead ≤ 500) rules.now }
     ensures { IfOk result (ListsExactly IsBefore (IsAmbiguityFrom from rules.now)) }

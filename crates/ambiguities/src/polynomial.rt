@@ -38,8 +38,12 @@ pub fn s_poly<O: WordOrder>(rules: &Rules<O>, which: &Ambiguity) -> Result<SPoly
     let alloc = rules.rules.allocator();
     let all = rules.rules.as_slice();
     let (first, second) = make_rows(alloc, all, which)?;
-    let left = rule_with(all, which.i).poly.left_right(&first.left, &first.right)?;
-    let right = rule_with(all, which.j).poly.left_right(&second.left, &second.right)?;
+    let left = rule_with(all, which.i)
+        .poly
+        .left_right(&first.left, &first.right)?;
+    let right = rule_with(all, which.j)
+        .poly
+        .left_right(&second.left, &second.right)?;
     let poly = Poly::combine(first.coef, &left, second.coef, &right)?;
     let mut rows = Listing::new(alloc);
     rows.push(first)?;

@@ -91,5 +91,5 @@ returns-clause-over g c =
     let right : moved_result two.left c.rule_with-2.result.now.poly.terms two.right ≡ Ok n = search rules in
     let sum : combined one.coef m two.coef n ≡ Ok c.in_ok-poly.poly.terms = search rules in
     let made = after_both all a c.rule_with.result.now c.rule_with.ensures one c.in_ok-first.ensures.first m left c.rule_with-2.result.now c.rule_with-2.ensures two c.in_ok-first.ensures.second n right ∙ sum in
-    over_terms (g.O.WordOrder.letters order) (g.O.WordOrder.compare order) (g.O.WordOrder.rank order) c.args.rules.now.rules a c.in_ok-poly.poly.terms (g.O.WordOrder.admissible order) c.args.rules.now.each c.requires
+    over_terms (g.O.WordOrder.letters order) (g.O.WordOrder.compare order) (g.O.WordOrder.rank order) c.args.rules.now.rules a c.in_ok-poly.poly.terms (g.met.O.WordOrder.admissible order) c.args.rules.now.each c.requires
     (subst (λ (rs : List Rule). s_polynomial_of rs a ≡ Ok c.in_ok-poly.poly.terms) same made) c.in_ok-poly.poly.canonical.shaped
