@@ -1,0 +1,57 @@
+-- Where the arithmetic of an S-polynomial ends.
+use Rattle.std.proofs.Common.{◌≡◌, List, [], Result, Ok, Some, sym, ap, ◌∙◌, subst}
+use Rattle.definitions.specs.Poly.{Term}
+use Rattle.nc_polynomial.specs.declared.fault.PolyFault.{PolyFault}
+use Rattle.nc_polynomial.specs.declared.fault.PolyFault.TheVariants as fault
+use Rattle.nc_polynomial.specs.Faults.{Explains}
+use Rattle.nc_polynomial.specs.Product.{moved_result, and_then}
+use Rattle.nc_polynomial.specs.Arithmetic.{combined}
+use Rattle.cofactor_trace.specs.declared.Row.{Row}
+use Rattle.rule_reduce.specs.declared.rule.Rule.{Rule}
+use Rattle.rule_reduce.specs.RuleLists.{rule_at}
+use Rattle.rule_reduce.proofs.Numbers.{rule_at-polynomial}
+use Rattle.ambiguities.specs.declared.ambiguity.Ambiguity.{Ambiguity}
+use Rattle.ambiguities.specs.SPolynomials.{first_row, second_row, row_multiple, s_polynomial_of}
+
+-- a fault of the first call is that of both
+explains-and_then : (r : Result (List Term) PolyFault) (next : List Term → Result (List Term) PolyFault) (e : PolyFault) → Explains r e → Explains (and_then r next) e
+explains-and_then r next (fault.Overflow o) why = ap (λ s. and_then s next) why
+explains-and_then r next (fault.Size s) why = ap (λ s. and_then s next) why
+explains-and_then r next (fault.Memory m) why = tt
+
+module _ (rules : List Rule) (a : Ambiguity) (g : Rule) (g_is : rule_at rules a.i ≡ Some g) (one : Row) (one_is : one ≡ first_row rules a) where
+  abbrev left : Result (List Term) PolyFault
+  left = moved_result one.left g.poly.terms one.right
+
+  abbrev rest : List Term → Result (List Term) PolyFault
+  rest m = and_then (row_multiple rules (second_row rules a)) (λ n. combined one.coef m (second_row rules a).coef n)
+
+  whole : s_polynomial_of rules a ≡ and_then left rest
+  whole = λ i.
+      and_then (moved_result (sym one_is i).left (rule_at-polynomial rules a.i g g_is i) (sym one_is i).right) (λ m.
+      and_then (row_multiple rules (second_row rules a)) (λ n. combined (sym one_is i).coef m (second_row rules a).coef n))
+
+  pub exit_left : (e : PolyFault) → Explains left e → Explains (s_polynomial_of rules a) e
+  exit_left e why = subst (λ r. Explains r e) (sym whole) (explains-and_then left rest e why)
+
+  module _ (m : List Term) (left_is : left ≡ Ok m) (h : Rule) (h_is : rule_at rules a.j ≡ Some h) (two : Row) (two_is : two ≡ second_row rules a) where
+    abbrev right : Result (List Term) PolyFault
+    right = moved_result two.left h.poly.terms two.right
+
+    abbrev last : List Term → Result (List Term) PolyFault
+    last n = combined one.coef m two.coef n
+
+    after_left : s_polynomial_of rules a ≡ and_then right last
+    after_left =
+        whole ∙ ap (λ r. and_then r rest) left_is
+        ∙ (λ i. and_then (moved_result (sym two_is i).left (rule_at-polynomial rules a.j h h_is i) (sym two_is i).right) (λ n. combined one.coef m (sym two_is i).coef n))
+
+    pub exit_right : (e : PolyFault) → Explains right e → Explains (s_polynomial_of rules a) e
+    exit_right e why = subst (λ r. Explains r e) (sym after_left) (explains-and_then right last e why)
+
+    module _ (n : List Term) (right_is : right ≡ Ok n) where
+      pub after_both : s_polynomial_of rules a ≡ last n
+      after_both = after_left ∙ ap (λ r. and_then r last) right_is
+
+      pub exit_last : (e : PolyFault) → Explains (last n) e → Explains (s_polynomial_of rules a) e
+      exit_last e why = subst (λ r. Explains r e) (sym after_both) why

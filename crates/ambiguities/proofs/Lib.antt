@@ -1,0 +1,12 @@
+pub mod Exactly
+pub mod Numbers
+pub mod Pairs
+pub mod Rows
+pub mod Joined
+pub mod Cancelling
+pub mod Multiples
+pub mod Balance
+pub mod Bounds
+pub mod Exits
+pub mod Leads
+pub mod Occurrences

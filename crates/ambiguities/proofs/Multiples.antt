@@ -1,0 +1,61 @@
+-- The polynomial of a rule between two words, and the sum of two multiples.
+use Rattle.std.proofs.Common.{◌≡◌, ◌≢◌, ℕ, ℤ, pos, ◌+ℤ◌, ◌*ℤ◌, Bool, true, false, cond, List, [], ◌∷◌, ◌++◌, Some, Result, Ok, Err, refl, sym, ap, ap₂, ◌∙◌, subst}
+use Rattle.std.specs.List.{AllByRecursion}
+use Rattle.std.specs.Ordering.{is_eq}
+use Rattle.definitions.specs.Poly.{Term, word_eq, coefficient_of, SamePolynomial, poly_sum, poly_multiple, poly_between}
+use Rattle.definitions.proofs.Coefficients.{Same_trans, SamePolynomial-append}
+use Rattle.definitions.proofs.Linear.{coefficient_other}
+use Rattle.nc_polynomial.specs.declared.fault.PolyFault.{PolyFault}
+use Rattle.nc_polynomial.specs.Terms.{scaled, products, added, sums}
+use Rattle.nc_polynomial.specs.Product.{moved_result, and_then}
+use Rattle.nc_polynomial.specs.Arithmetic.{combined}
+use Rattle.nc_polynomial.specs.Shape.{IsShaped}
+use Rattle.nc_polynomial.proofs.Around.{word_cmp-around}
+use Rattle.nc_polynomial.proofs.Chains.{finished-value, no_error, sized-value}
+use Rattle.nc_polynomial.proofs.Distinct.{AreDistinct, distinct-descending, first_coefficient}
+use Rattle.nc_polynomial.proofs.Shapes.{recursion_from_IsDescending}
+use Rattle.nc_polynomial.proofs.Values.{SamePolynomial-added, SamePolynomial-scaled}
+use Rattle.nc_polynomial.proofs.Words.{word_eq-cmp, word_eq-turned}
+use Rattle.word_orders.specs.Admissible.{Compare}
+use Rattle.rule_reduce.specs.Leading.{leading_term}
+use Rattle.rule_reduce.proofs.AtMost.{leading-all}
+
+-- the first of two calls went well, and so did the second on what it gave
+pub record Passed (r : Result (List Term) PolyFault) (next : List Term → Result (List Term) PolyFault) (p : List Term) : Type 0 where
+  pub value : List Term
+  pub given : r ≡ Ok value
+  pub rest : next value ≡ Ok p
+
+pub passed : (r : Result (List Term) PolyFault) (next : List Term → Result (List Term) PolyFault) (p : List Term) → and_then r next ≡ Ok p → Passed r next p
+passed (Ok v) next p ends = record { value = v; given = refl; rest = ends }
+passed (Err e) next p ends = absurd (no_error p e (sym ends))
+
+-- a p + b q
+pub combined_value : (a : ℤ) (p : List Term) (b : ℤ) (q r : List Term) → combined a p b q ≡ Ok r → SamePolynomial r (poly_sum (poly_multiple a p) (poly_multiple b q))
+combined_value a p b q r ends =
+    subst (λ x. SamePolynomial x (poly_sum (poly_multiple a p) (poly_multiple b q)))
+    (finished-value (products a p ++ (products b q ++ sums (scaled a p) (scaled b q))) (added (scaled a p) (scaled b q)) r ends)
+    (Same_trans (added (scaled a p) (scaled b q)) (poly_sum (scaled a p) (scaled b q)) (poly_sum (poly_multiple a p) (poly_multiple b q))
+    (SamePolynomial-added (scaled a p) (scaled b q))
+    (SamePolynomial-append (scaled a p) (poly_multiple a p) (scaled b q) (poly_multiple b q) (SamePolynomial-scaled a p) (SamePolynomial-scaled b q)))
+
+-- the same words around two words do not make them equal
+word_eq-around : (l v w r : List ℕ) → word_eq (l ++ (v ++ r)) (l ++ (w ++ r)) ≡ word_eq v w
+word_eq-around l v w r = word_eq-cmp (l ++ (v ++ r)) (l ++ (w ++ r)) ∙ ap is_eq (word_cmp-around l v w r) ∙ sym (word_eq-cmp v w)
+
+pub coefficient_of-around : (l r w : List ℕ) (p : List Term) → coefficient_of (poly_between l p r) (l ++ (w ++ r)) ≡ coefficient_of p w
+coefficient_of-around l r w [] = refl
+coefficient_of-around l r w (t ∷ p) = ap₂ (λ b (z : ℤ). cond b t.0 (pos 0) +ℤ z) (word_eq-around l t.1 w r) (coefficient_of-around l r w p)
+
+-- in a list in which no word stands twice, the integer beside a word is its coefficient
+own_coefficients : (p : List Term) → AreDistinct p → AllByRecursion (λ t. coefficient_of p t.1 ≡ t.0) p
+own_coefficients [] distinct = tt
+own_coefficients (t ∷ p) distinct = (first_coefficient t p distinct.0, later p distinct.0 (own_coefficients p distinct.1))
+  where
+    later : (q : List Term) → AllByRecursion (λ u. word_eq u.1 t.1 ≡ false) q → AllByRecursion (λ u. coefficient_of p u.1 ≡ u.0) q → AllByRecursion (λ u. coefficient_of (t ∷ p) u.1 ≡ u.0) q
+    later [] others own = tt
+    later (u ∷ q) others own = (coefficient_other u.1 t p (word_eq-turned t.1 u.1 ∙ others.0) ∙ own.0, later q others.1 own.1)
+
+pub leading_coefficient : (compare : Compare) (p : List Term) (top : Term) → IsShaped p → leading_term compare p ≡ Some top → coefficient_of p top.1 ≡ top.0
+leading_coefficient compare p top shaped is =
+    leading-all (λ t. coefficient_of p t.1 ≡ t.0) compare p top is (own_coefficients p (distinct-descending p (recursion_from_IsDescending p shaped.descending)))

@@ -1,0 +1,62 @@
+use Rattle.std.proofs.Common.{rules, ◌≡◌, ◌+◌, ◌-◌, ◌≤◌, pos, neg_ℤ, int_div, length, take, drop, Some, sym, ap, ap₂, ◌∙◌, subst, arith}
+use Rattle.std.proofs.lemmas.List.{take_rest}
+use Rattle.cofactor_trace.specs.declared.Origin.TheVariants as origin
+use Rattle.cofactor_trace.specs.declared.Row.{Row}
+use Rattle.rule_reduce.specs.Divisor.{gcd_of}
+use Rattle.rule_reduce.specs.RuleLists.{rule_at}
+use Rattle.ambiguities.specs.Ambiguities.{lead_at, overlap_word_of}
+use Rattle.ambiguities.specs.SPolynomials.{leading_at, first_row, second_row}
+use Rattle.ambiguities.proofs.Joined.{lead_at-is, leading_at-is, second_fits}
+use Rattle.ambiguities.proofs.polynomial.make_rows.Goals as goal
+
+pub overflow_add-place : goal.overflow_add-place
+overflow_add-place c =
+    let all = c.args.rules.now in
+    let a = c.args.which.now in
+    let second : rule_at all a.j ≡ Some c.rule_with-second.result.now = search rules in
+    let word : c.in_ok-word.word ≡ overlap_word_of all a = search rules in
+    omega (arith, second_fits all a c.requires.ambiguity c.rule_with-second.result.now second, ap length word)
+
+pub slice-requires-3-clause-order : goal.slice-requires-3-clause-order
+slice-requires-3-clause-order c =
+    let all = c.args.rules.now in
+    let a = c.args.which.now in
+    let second : rule_at all a.j ≡ Some c.rule_with-second.result.now = search rules in
+    let word : c.in_ok-word.word ≡ overlap_word_of all a = search rules in
+    omega (arith, second_fits all a c.requires.ambiguity c.rule_with-second.result.now second, ap length word)
+
+pub returns-clause-first : goal.returns-clause-first
+returns-clause-first c =
+    let all = c.args.rules.now in
+    let a = c.args.which.now in
+    let g = c.rule_with-first.result.now in
+    let h = c.rule_with-second.result.now in
+    let first : rule_at all a.i ≡ Some g = search rules in
+    let second : rule_at all a.j ≡ Some h = search rules in
+    let word : c.in_ok-word.word ≡ overlap_word_of all a = search rules in
+    let factor : c.factors-of_first.result.0 ≡ int_div h.leading (gcd_of g.leading h.leading) = search rules in
+    let behind : c.in_ok-slice.field-0 ≡ take (length c.in_ok-word.word - length g.lead) (drop (length g.lead) c.in_ok-word.word) = search rules in
+    let coef = factor ∙ ap₂ (λ k l. int_div l (gcd_of k l)) (sym (leading_at-is all a.i g first)) (sym (leading_at-is all a.j h second)) in
+    let right = behind ∙ take_rest c.in_ok-word.word (length g.lead) ∙ ap₂ (λ n w. drop (length n) w) (sym (lead_at-is all a.i g first)) word in
+    let whole : ◌≡◌ {A = Row} (record { coef = c.factors-of_first.result.0; left = c.new.result; from = origin.Rule a.i; right = c.in_ok-slice.field-0 }) (first_row all a) =
+    λ i. record { coef = coef i; left = c.new.ensures i; from = origin.Rule a.i; right = right i } in
+    search (rules, whole)
+
+pub returns-clause-second : goal.returns-clause-second
+returns-clause-second c =
+    let all = c.args.rules.now in
+    let a = c.args.which.now in
+    let g = c.rule_with-first.result.now in
+    let h = c.rule_with-second.result.now in
+    let first : rule_at all a.i ≡ Some g = search rules in
+    let second : rule_at all a.j ≡ Some h = search rules in
+    let word : c.in_ok-word.word ≡ overlap_word_of all a = search rules in
+    let factor : c.negate.result ≡ neg_ℤ (int_div g.leading (gcd_of g.leading h.leading)) = search rules in
+    let before : c.in_ok-slice-2.field-0 ≡ take a.place c.in_ok-word.word = search rules in
+    let behind : c.in_ok-slice-3.field-0 ≡ take (length c.in_ok-word.word - (a.place + length h.lead)) (drop (a.place + length h.lead) c.in_ok-word.word) = search rules in
+    let coef = factor ∙ ap₂ (λ k l. neg_ℤ (int_div k (gcd_of k l))) (sym (leading_at-is all a.i g first)) (sym (leading_at-is all a.j h second)) in
+    let left = before ∙ ap (take a.place) word in
+    let right = behind ∙ take_rest c.in_ok-word.word (a.place + length h.lead) ∙ ap₂ (λ n w. drop (a.place + length n) w) (sym (lead_at-is all a.j h second)) word in
+    let whole : ◌≡◌ {A = Row} (record { coef = c.negate.result; left = c.in_ok-slice-2.field-0; from = origin.Rule a.j; right = c.in_ok-slice-3.field-0 }) (second_row all a) =
+    λ i. record { coef = coef i; left = left i; from = origin.Rule a.j; right = right i } in
+    search (rules, whole)

@@ -1,0 +1,17 @@
+pub use Rattle.definitions.specs.Poly
+pub use Rattle.coef_int.specs.Range
+pub use Rattle.word_core.specs.Letters
+pub use Rattle.word_core.specs.Occurrence
+pub use Rattle.word_core.specs.Overlap
+pub use Rattle.word_orders.specs.Admissible
+pub use Rattle.nc_polynomial.specs.Faults
+pub use Rattle.nc_polynomial.specs.Product
+pub use Rattle.nc_polynomial.specs.Arithmetic
+pub use Rattle.cofactor_trace.specs.Traces
+pub use Rattle.rule_reduce.specs.RuleLists
+pub use Rattle.rule_reduce.specs.Divisor
+pub use Rattle.rule_reduce.specs.KeptWords
+pub mod Ambiguities
+pub mod Listed
+pub mod SPolynomials
+pub mod Laws

@@ -1,0 +1,13 @@
+//! What an S-polynomial is, as laws over the definitions.
+ghost use Rattle.ambiguities.specs.Laws.{SPolynomialsBalance, LeadingWordsCancel};
+
+/// The S-polynomial is the sum of its two rows over the rules.
+pub fn s_polynomials_balance()
+    ensures { SPolynomialsBalance }
+{}
+
+/// In an admissible order each word of the S-polynomial is below the overlap word, and each word to which a row multiplies
+/// its rule is at most the overlap word.
+pub fn leading_words_cancel()
+    ensures { LeadingWordsCancel }
+{}

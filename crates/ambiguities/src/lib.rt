@@ -1,0 +1,18 @@
+//! Ambiguities of rules: where leading words overlap or one is in another, their overlap words and S-polynomials.
+#![tactic(auto)]
+
+mod ambiguity;
+mod factors;
+mod laws;
+mod list;
+mod overlap;
+mod places;
+mod polynomial;
+#[cfg(test)]
+mod tests;
+
+pub use ambiguity::{Ambiguity, Kind};
+pub use laws::{leading_words_cancel, s_polynomials_balance};
+pub use list::between;
+pub use overlap::overlap_word;
+pub use polynomial::{SPoly, s_poly};
