@@ -9,7 +9,7 @@ pub use Rattle.nc_polynomial.specs.Product
 pub use Rattle.nc_polynomial.specs.Arithmetic
 pub use Rattle.cofactor_trace.specs.Traces
 pub use Rattle.rule_reduce.specs.RuleLists
-pub use Rattle.rule_reduce.specs.Divisor
+pub use Rattle.common_divisor.specs.Divisor
 pub use Rattle.rule_reduce.specs.KeptWords
 pub mod Ambiguities
 pub mod Listed

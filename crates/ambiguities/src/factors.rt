@@ -1,6 +1,8 @@
 ghost use Rattle.std.specs.Prelude.{◌≡◌, ◌<ℤ◌, pos, int_div};
 ghost use Rattle.coef_int.specs.Range.{IsCoefficient};
-ghost use Rattle.rule_reduce.specs.Divisor.{gcd_of};
+ghost use Rattle.common_divisor.specs.Divisor.{gcd_of};
+
+use common_divisor::{divisor, quotient};
 
 // The least positive integers by which the two numbers become equal: each is the other number by their greatest common
 // divisor.
@@ -14,16 +16,5 @@ pub(crate) fn factors(first: i128, second: i128) -> (i128, i128)
     ensures second_in { IsCoefficient result.1 }
 {
     let shared = divisor(first, second);
-    (second / shared, first / shared)
-}
-
-// The greatest common divisor.
-fn divisor(first: i128, second: i128) -> i128
-    requires first_in { IsCoefficient first }
-    requires second_in { IsCoefficient second }
-    requires positive { pos 0 <ℤ second }
-    ensures exact { result ≡ gcd_of first second }
-    ensures positive { pos 0 <ℤ result }
-{
-    coef_int::gcd(first, second)
+    (quotient(second, shared), quotient(first, shared))
 }

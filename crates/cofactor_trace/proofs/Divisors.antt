@@ -1,40 +1,15 @@
--- The greatest common divisor is that of the division with remainder.
-use Rattle.std.proofs.Common.{◌≡◌, ℕ, zero, suc, List, [], ◌∷◌, ◌<◌, ◌%◌, ◌/◌, ℤ, pos, negsuc, ◌<ℤ◌, ◌*ℤ◌, refl, arith}
+-- Quotients, products and least common multiples of positive integers are positive; a common divisor divides each number.
+use Rattle.std.proofs.Common.{◌≡◌, ℕ, zero, suc, List, [], ◌∷◌, ◌<◌, ◌/◌, ℤ, pos, negsuc, ◌<ℤ◌, ◌*ℤ◌, arith}
 use Rattle.std.proofs.Math.IntN.{*ℤ-zero}
 use Rattle.std.specs.List.{AllByRecursion, fold}
-use Rattle.std.specs.Int.{IsGcd, ◌∣◌}
+use Rattle.std.specs.Int.{◌∣◌}
 use Rattle.std.specs.Int.RustNames.{unsigned_abs, int_div}
 use Rattle.std.proofs.lemmas.Int.{ints}
-use Rattle.std.proofs.lemmas.Nat.Gcd.{dvd_refl, dvd_trans, IsGcd-from_mod, IsGcd-from_zero, same_from_IsGcd}
-use Rattle.std.proofs.Math.Nat.{pos_of_dvd_of_pos}
+use Rattle.std.proofs.lemmas.Nat.Gcd.{dvd_refl, dvd_trans}
 use Rattle.nc_polynomial.proofs.Divisors.{quotient_times}
-use Rattle.cofactor_trace.specs.Divisor.{gcd_within, gcd_of}
+use Rattle.common_divisor.specs.Divisor.{gcd_of}
+use Rattle.common_divisor.proofs.Divisors.{gcd_of-IsGcd, gcd_of-positive}
 use Rattle.cofactor_trace.specs.Expansion.{lcm_of}
-
-gcd_within-IsGcd : (n a b : ℕ) → b < n → IsGcd a b (gcd_within n a b)
-gcd_within-IsGcd zero a b enough = absurd (omega arith)
-gcd_within-IsGcd (suc n) a zero enough = IsGcd-from_zero a zero refl
-gcd_within-IsGcd (suc n) a (suc b) enough = IsGcd-from_mod a (suc b) (gcd_within n (suc b) (a % (suc b))) (gcd_within-IsGcd n (suc b) (a % (suc b)) (omega arith))
-
-pub gcd_of-IsGcd : (x y : ℤ) → IsGcd (unsigned_abs x) (unsigned_abs y) (unsigned_abs (gcd_of x y))
-gcd_of-IsGcd x y = gcd_within-IsGcd (suc (unsigned_abs y)) (unsigned_abs x) (unsigned_abs y) (omega arith)
-
-pub gcd_same : (a b g : ℕ) → IsGcd a b g → g ≡ gcd_within (suc b) a b
-gcd_same a b g is_gcd = same_from_IsGcd a b g (gcd_within (suc b) a b) is_gcd (gcd_within-IsGcd (suc b) a b (omega arith))
-
-pub gcd_of-positive : (x y : ℤ) → pos 0 <ℤ x → pos 0 <ℤ gcd_of x y
-gcd_of-positive x y above =
-    let left : 0 < unsigned_abs x = omega (arith, ints) in
-    let divides = gcd_of-IsGcd x y in
-    let nonzero : 0 < gcd_within (suc (unsigned_abs y)) (unsigned_abs x) (unsigned_abs y) = pos_of_dvd_of_pos divides.0 left in
-    omega (arith, ints, nonzero)
-
-pub gcd_of-positive_right : (x y : ℤ) → pos 0 <ℤ y → pos 0 <ℤ gcd_of x y
-gcd_of-positive_right x y above =
-    let right : 0 < unsigned_abs y = omega (arith, ints) in
-    let divides = gcd_of-IsGcd x y in
-    let nonzero : 0 < gcd_within (suc (unsigned_abs y)) (unsigned_abs x) (unsigned_abs y) = pos_of_dvd_of_pos divides.1 right in
-    omega (arith, ints, nonzero)
 
 -- a quotient by a divisor of a positive integer is positive
 pub quotient_positive : (y d : ℤ) → pos 0 <ℤ y → pos 0 <ℤ d → unsigned_abs d ∣ unsigned_abs y → pos 0 <ℤ int_div y d

@@ -11,7 +11,7 @@ use Rattle.cofactor_trace.specs.declared.CertRow.{CertRow}
 use Rattle.cofactor_trace.specs.declared.Cofactors.{Cofactors}
 use Rattle.cofactor_trace.specs.declared.fault.ExpandFault.{ExpandFault}
 use Rattle.cofactor_trace.specs.declared.fault.ExpandFault.TheVariants as fault
-use Rattle.cofactor_trace.specs.Divisor.{gcd_of}
+use Rattle.common_divisor.specs.Divisor.{gcd_of}
 use Rattle.cofactor_trace.specs.Gathered.{gathered, sums_of_gathering}
 
 -- what each generator and each rule expands to

@@ -1,36 +1,14 @@
-//! Common divisors and multiples, and division by them.
-ghost use Rattle.std.specs.Prelude.{◌≡◌, ◌<ℤ◌, pos, int_div, map, IfOk};
+//! The common divisor of an expansion, and division by it.
+ghost use Rattle.std.specs.Prelude.{◌≡◌, ◌<ℤ◌, pos, map, IfOk};
 ghost use Rattle.std.specs.List.{All};
 ghost use Rattle.coef_int.specs.Range.{IsCoefficient};
-ghost use Rattle.cofactor_trace.specs.Divisor.{gcd_of};
 ghost use Rattle.cofactor_trace.specs.Expansion.{content_of, divided_row};
 
 use crate::CertRow;
+use common_divisor::{divisor, quotient};
 use lists::Listing;
 use std::alloc::{AllocError, Global};
 use std::collections::VecDeque;
-
-// The greatest common divisor.
-pub(crate) fn divisor(x: i128, y: i128) -> i128
-    requires x_in { IsCoefficient x }
-    requires y_in { IsCoefficient y }
-    ensures same { result ≡ gcd_of x y }
-    ensures in_range { IsCoefficient result }
-    ensures positive { pos 0 <ℤ x → pos 0 <ℤ result }
-    ensures positive_right { pos 0 <ℤ y → pos 0 <ℤ result }
-{
-    coef_int::gcd(x, y)
-}
-
-// The quotient.
-pub(crate) fn quotient(value: i128, by: i128) -> i128
-    requires value_in { IsCoefficient value }
-    requires by_in { pos 0 <ℤ by }
-    ensures same { result ≡ int_div value by }
-    ensures in_range { IsCoefficient result }
-{
-    value / by
-}
 
 // The greatest common divisor of the denominator and the coefficients.
 pub(crate) fn content(denominator: i128, rows: &[CertRow]) -> i128

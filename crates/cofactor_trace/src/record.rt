@@ -11,11 +11,12 @@ ghost use Rattle.cofactor_trace.specs.Faults.{Explains, IsFirst};
 ghost use Rattle.cofactor_trace.specs.Ranges.{IsRanged};
 ghost use Rattle.cofactor_trace.specs.Table.{IsInRange, with_rows};
 
-use crate::divisor::{content, divide_rows, divisor, quotient};
+use crate::divisor::{content, divide_rows};
 use crate::gather::{Sums, add_joined, gather};
 use crate::size::{Size, check_size, measure_joined};
 use crate::{CertRow, Cofactors, ExpandFault, Made, Origin, Row};
 use coef_int::times;
+use common_divisor::{divisor, quotient};
 use std::alloc::Global;
 use std::collections::BTreeMap;
 use word_core::Word;

@@ -1,4 +1,3 @@
-pub mod Divisors
 pub mod Numbers
 pub mod Rows
 pub mod Exits

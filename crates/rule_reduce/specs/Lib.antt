@@ -14,7 +14,6 @@ pub use Rattle.rule_index.specs.Matches
 pub mod Leading
 pub mod RuleLists
 pub mod Choices
-pub mod Divisor
 pub mod Steps
 pub mod NormalForms
 pub mod Laws

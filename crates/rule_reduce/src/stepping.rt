@@ -8,9 +8,10 @@ ghost use Rattle.rule_reduce.specs.RuleLists.{rule_at};
 ghost use Rattle.rule_reduce.specs.Steps.{multiplied_row, row_operations, multiplied_state, state_operations, less_multiple, less_operations, move_of, move_result, step_result, IsInRange};
 
 use crate::Rule;
-use crate::parts::{back, divisor, front, quotient};
+use crate::parts::{back, front};
 use crate::state::{Choice, State};
 use cofactor_trace::{Origin, Row};
+use common_divisor::{divisor, quotient};
 use lists::Listing;
 use nc_polynomial::{Poly, PolyFault, merge_terms, multiply_terms, negate_terms, shift_terms};
 use std::alloc::Global;

@@ -3,9 +3,9 @@ use Rattle.std.specs.Int.{IsGcd}
 use Rattle.std.specs.Int.RustNames.{unsigned_abs}
 use Rattle.std.proofs.lemmas.Int.{ints}
 use mir.Syntax.{w128}
-use Rattle.cofactor_trace.specs.Divisor.{gcd_of, gcd_within}
-use Rattle.cofactor_trace.proofs.Divisors.{gcd_same, gcd_of-positive, gcd_of-positive_right}
-use Rattle.cofactor_trace.proofs.divisor.divisor.Goals as goal
+use Rattle.common_divisor.specs.Divisor.{gcd_of, gcd_within}
+use Rattle.common_divisor.proofs.Divisors.{gcd_same, gcd_of-positive, gcd_of-positive_right}
+use Rattle.common_divisor.proofs.divisor.Goals as goal
 
 pub returns-clause-same : goal.returns-clause-same
 returns-clause-same c =
