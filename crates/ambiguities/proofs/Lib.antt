@@ -7,6 +7,7 @@ pub mod Cancelling
 pub mod Multiples
 pub mod Balance
 pub mod Bounds
+pub mod Signatures
 pub mod Exits
 pub mod Leads
 pub mod Occurrences
