@@ -1,7 +1,7 @@
 pub mod Exactly
 pub mod Numbers
 pub mod Pairs
-pub mod Rows
+pub mod Numbered
 pub mod Joined
 pub mod Cancelling
 pub mod Multiples
