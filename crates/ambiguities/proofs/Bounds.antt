@@ -96,23 +96,41 @@ module _ (letters : ℕ) (compare : Compare) (rank : List ℕ → List ℕ) (law
         ∙ coefficient_of-around l r g.lead g.poly.terms
         ∙ leading_coefficient compare g.poly.terms (g.leading, g.lead) g.poly.canonical.shaped is_rule.leading
 
--- a sum of two multiples of polynomials with no word above the bound, whose coefficients at the bound cancel
-module _ (P : List ℕ → Type 0) (bound : List ℕ) (a b : ℤ) (m n p : List Term) (sum : (w : List ℕ) → coefficient_of p w ≡ a *ℤ coefficient_of m w +ℤ b *ℤ coefficient_of n w) where
+-- the sum of two multiples of polynomials
+module _ (a b : ℤ) (m n p : List Term) (sum : (w : List ℕ) → coefficient_of p w ≡ a *ℤ coefficient_of m w +ℤ b *ℤ coefficient_of n w) where
   no_word : (w : List ℕ) → coefficient_of m w ≡ pos 0 → coefficient_of n w ≡ pos 0 → coefficient_of p w ≡ pos 0
   no_word w m_none n_none = sum w ∙ ap₂ (λ x y. a *ℤ x +ℤ b *ℤ y) m_none n_none ∙ ap₂ ◌+ℤ◌ (*ℤ-zero a) (*ℤ-zero b)
 
-  pub cancelled : a *ℤ coefficient_of m bound +ℤ b *ℤ coefficient_of n bound ≡ pos 0 → ((w : List ℕ) → coefficient_of m w ≢ pos 0 → (w ≡ bound) ⊎ P w) → ((w : List ℕ) → coefficient_of n w ≢ pos 0 → (w ≡ bound) ⊎ P w)
+  -- its words are words of one of them
+  pub of_either : (P : List ℕ → Type 0) → ((w : List ℕ) → coefficient_of m w ≢ pos 0 → P w) → ((w : List ℕ) → coefficient_of n w ≢ pos 0 → P w) → (w : List ℕ) → coefficient_of p w ≢ pos 0 → P w
+  of_either P of_m of_n w some = go (is_zero_or_not (coefficient_of m w)) (is_zero_or_not (coefficient_of n w))
+    where
+      go : (coefficient_of m w ≡ pos 0) ⊎ (coefficient_of m w ≢ pos 0) → (coefficient_of n w ≡ pos 0) ⊎ (coefficient_of n w ≢ pos 0) → P w
+      go (inr m_some) n_case = of_m w m_some
+      go (inl m_none) (inr n_some) = of_n w n_some
+      go (inl m_none) (inl n_none) = absurd (some (no_word w m_none n_none))
+
+  -- the bound is none of them where the coefficients there cancel
+  pub cancelled : (P : List ℕ → Type 0) (bound : List ℕ) → a *ℤ coefficient_of m bound +ℤ b *ℤ coefficient_of n bound ≡ pos 0 → ((w : List ℕ) → coefficient_of m w ≢ pos 0 → (w ≡ bound) ⊎ P w) → ((w : List ℕ) → coefficient_of n w ≢ pos 0 → (w ≡ bound) ⊎ P w)
       → (w : List ℕ) → coefficient_of p w ≢ pos 0 → P w
-  cancelled at_bound m_most n_most w some = go (is_zero_or_not (coefficient_of m w)) (is_zero_or_not (coefficient_of n w))
+  cancelled P bound at_bound of_m of_n w some = below (of_either (λ v. (v ≡ bound) ⊎ P v) of_m of_n w some)
     where
       below : (w ≡ bound) ⊎ P w → P w
       below (inl same) = absurd (some (ap (coefficient_of p) same ∙ sum bound ∙ at_bound))
       below (inr held) = held
 
-      go : (coefficient_of m w ≡ pos 0) ⊎ (coefficient_of m w ≢ pos 0) → (coefficient_of n w ≡ pos 0) ⊎ (coefficient_of n w ≢ pos 0) → P w
-      go (inr m_some) n_case = below (m_most w m_some)
-      go (inl m_none) (inr n_some) = below (n_most w n_some)
-      go (inl m_none) (inl n_none) = absurd (some (no_word w m_none n_none))
+-- the coefficients of the S-polynomial, by the polynomials of the two rules
+pub coefficient_of-s_polynomial : (rules : List Rule) (a : Ambiguity) (is : IsAmbiguity rules a) (p : List Term) → s_polynomial_of rules a ≡ Ok p → (w : List ℕ)
+    → coefficient_of p w ≡ (first_row rules a).coef *ℤ coefficient_of (poly_between (first_row rules a).left is.first.poly.terms (first_row rules a).right) w
+    +ℤ (second_row rules a).coef *ℤ coefficient_of (poly_between (second_row rules a).left is.second.poly.terms (second_row rules a).right) w
+coefficient_of-s_polynomial rules a is p ends w =
+    let one = first_row rules a in
+    let two = second_row rules a in
+    (sum_of_multiples rules a p ends).at w
+    ∙ coefficient_of-append (poly_multiple one.coef (between_of rules a one)) (poly_multiple two.coef (between_of rules a two)) w
+    ∙ ap₂ ◌+ℤ◌ (coefficient_of-multiple one.coef (between_of rules a one) w) (coefficient_of-multiple two.coef (between_of rules a two) w)
+    ∙ ap₂ (λ x y. one.coef *ℤ coefficient_of (poly_between one.left x one.right) w +ℤ two.coef *ℤ coefficient_of (poly_between two.left y two.right) w)
+    (rule_at-polynomial rules a.i is.first is.first_numbered) (rule_at-polynomial rules a.j is.second is.second_numbered)
 
 -- the law
 pub leading_words_cancel : LeadingWordsCancel
@@ -127,11 +145,7 @@ leading_words_cancel letters compare rank rules a p laws each is ends =
     let second_poly = rule_at-polynomial rules a.j is.second is.second_numbered in
     let m = poly_between one.left is.first.poly.terms one.right in
     let n = poly_between two.left is.second.poly.terms two.right in
-    let sum = λ (w : List ℕ).
-    (sum_of_multiples rules a p ends).at w
-    ∙ coefficient_of-append (poly_multiple one.coef (between_of rules a one)) (poly_multiple two.coef (between_of rules a two)) w
-    ∙ ap₂ ◌+ℤ◌ (coefficient_of-multiple one.coef (between_of rules a one) w) (coefficient_of-multiple two.coef (between_of rules a two) w)
-    ∙ ap₂ (λ x y. one.coef *ℤ coefficient_of (poly_between one.left x one.right) w +ℤ two.coef *ℤ coefficient_of (poly_between two.left y two.right) w) first_poly second_poly in
+    let sum = coefficient_of-s_polynomial rules a is p ends in
     let at_first = coefficient_at_bound letters compare rank laws bound over is.first first_rule one.left one.right (first_splits rules a is) in
     let at_second = coefficient_at_bound letters compare rank laws bound over is.second second_rule two.left two.right (second_splits rules a is) in
     let at_bound : one.coef *ℤ coefficient_of m bound +ℤ two.coef *ℤ coefficient_of n bound ≡ pos 0 =
@@ -139,7 +153,7 @@ leading_words_cancel letters compare rank rules a p laws each is ends =
     ∙ factors_cancel _ _ (subst (λ k. pos 0 <ℤ k) (sym (leading_at-is rules a.i is.first is.first_numbered)) first_rule.positive) (subst (λ k. pos 0 <ℤ k) (sym (leading_at-is rules a.j is.second is.second_numbered)) second_rule.positive) in
     record {
       over = over;
-      polynomial = cancelled (λ w. IsBelow letters compare w bound) bound one.coef two.coef m n p sum at_bound
+      polynomial = cancelled one.coef two.coef m n p sum (λ w. IsBelow letters compare w bound) bound at_bound
           (multiple_at_most letters compare rank laws bound over is.first first_rule one.left one.right (first_splits rules a is))
           (multiple_at_most letters compare rank laws bound over is.second second_rule two.left two.right (second_splits rules a is));
       rows_at_most = All-from_recursion (EachOfRow (AtMostBound letters compare rank laws bound over) rules) (s_rows_of rules a) (

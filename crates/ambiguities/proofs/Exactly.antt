@@ -7,9 +7,6 @@ use Rattle.std.proofs.lemmas.List.Elements.{Contains-append_left, Contains-appen
 use Rattle.ambiguities.specs.declared.ambiguity.Ambiguity.{Ambiguity}
 use Rattle.ambiguities.specs.Listed.{IsBefore, ListsExactly, IsGrown}
 
-contains-nothing : {X : Type 0} (x : X) → Contains [] x → ⊥
-contains-nothing x at = omega (arith, at.1)
-
 contains-one : {X : Type 0} (y x : X) → Contains (y ∷ []) x → y ≡ x
 contains-one y x at = sym (here at.0 at.1) ∙ at.2
   where
@@ -39,12 +36,6 @@ module _ {X : Type 0} (Before : X → X → Type 0) where
       go (inr i_right) (inr j_right) =
           subst (λ (p : X × X). Before p.0 p.1) (λ n. (sym (at_right i i_right) n, sym (at_right j j_right) n))
           (right (i - length xs) (j - length xs) d (omega arith) (omega (arith, all, inside)))
-
-  pub exactly-none : (P : X → Type 0) → ((x : X) → P x → ⊥) → ListsExactly Before P []
-  exactly-none P none = record {
-    members = λ x. (λ at. absurd (contains-nothing x at), λ held. absurd (none x held));
-    ascending = λ i j d before inside. absurd (omega arith);
-  }
 
   pub exactly-one : (y : X) → ListsExactly Before (λ x. y ≡ x) (y ∷ [])
   exactly-one y = record {
@@ -138,9 +129,6 @@ module _ (P : ℕ → Type 0) where
   passed-all n xs bounded exact = exactly-same (λ (s t : ℕ). s < t) (PassedBy n) P xs (λ s. (λ held. (held, bounded s held), λ passed. passed.0)) exact
 
 -- ---- lists that grow
-pub grown-none : (P : Ambiguity → Type 0) (old : List Ambiguity) → ((a : Ambiguity) → P a → ⊥) → IsGrown P old old
-grown-none P old none = record { more = []; appended = sym (append-nil old); exact = exactly-none IsBefore P none }
-
 pub grown-append : (P Q R : Ambiguity → Type 0) (old mid new : List Ambiguity) → IsGrown P old mid → IsGrown Q mid new → ((a b : Ambiguity) → P a → Q b → IsBefore a b) → ((a : Ambiguity) → R a ↔ (P a ⊎ Q a))
     → IsGrown R old new
 grown-append P Q R old mid new first second across both = record {

@@ -1,12 +1,13 @@
 pub mod Exactly
 pub mod Numbers
 pub mod Pairs
-pub mod Rows
+pub mod Numbered
 pub mod Joined
 pub mod Cancelling
 pub mod Multiples
 pub mod Balance
 pub mod Bounds
+pub mod Signatures
 pub mod Exits
 pub mod Leads
 pub mod Occurrences

@@ -1,7 +1,8 @@
--- What S-polynomials are, and below what their words are.
+-- What S-polynomials are, below what their words are, and that they are typed.
 use Rattle.std.specs.Prelude.{◌≡◌, ◌≢◌, ◌⊎◌, ℕ, pos, List, [], ◌++◌, Ok}
 use Rattle.std.specs.List.{All}
 use Rattle.definitions.specs.Poly.{Term, SamePolynomial, coefficient_of}
+use Rattle.definitions.specs.Quiver.{Quiver, IsPath, IsTyped}
 use Rattle.word_core.specs.Letters.{IsOver}
 use Rattle.word_orders.specs.Admissible.{Compare, IsAdmissible}
 use Rattle.word_orders.specs.Orders.{IsBelow}
@@ -9,6 +10,7 @@ use Rattle.cofactor_trace.specs.declared.Row.{Row}
 use Rattle.cofactor_trace.specs.Traces.{origin_poly, traced_sum}
 use Rattle.rule_reduce.specs.declared.rule.Rule.{Rule}
 use Rattle.rule_reduce.specs.RuleLists.{IsRule, polynomials_of}
+use Rattle.rule_reduce.specs.KeptWords.{IsTypedRule}
 use Rattle.ambiguities.specs.declared.ambiguity.Ambiguity.{Ambiguity}
 use Rattle.ambiguities.specs.Ambiguities.{IsAmbiguity, overlap_word_of}
 use Rattle.ambiguities.specs.SPolynomials.{s_rows_of, s_polynomial_of}
@@ -32,3 +34,17 @@ abbrev pub LeadingWordsCancel : Type 0
 LeadingWordsCancel = (letters : ℕ) (compare : Compare) (rank : List ℕ → List ℕ) (rules : List Rule) (a : Ambiguity) (p : List Term)
     → IsAdmissible letters compare rank → All (IsRule letters compare) rules → IsAmbiguity rules a → s_polynomial_of rules a ≡ Ok p
     → IsBound letters compare rules p (s_rows_of rules a) (overlap_word_of rules a)
+
+-- All words of the polynomial, the word itself and all words to which the rows multiply their rules are paths of one signature.
+pub record HasOneSignature (q : Quiver) (rules : List Rule) (p : List Term) (rows : List Row) (word : List ℕ) : Type 0 where
+  pub source : ℕ
+  pub target : ℕ
+  pub word_is_path : IsPath q source target word
+  pub typed : IsTyped q source target p
+  pub rows_are_typed : All (EachOfRow (IsPath q source target) rules) rows
+
+-- By typed rules, the overlap word is a path, and the S-polynomial and its rows are typed of its signature.
+abbrev pub SPolynomialsAreTyped : Type 0
+SPolynomialsAreTyped = (q : Quiver) (letters : ℕ) (compare : Compare) (rules : List Rule) (a : Ambiguity) (p : List Term)
+    → All (IsRule letters compare) rules → All (IsTypedRule q) rules → IsAmbiguity rules a → s_polynomial_of rules a ≡ Ok p
+    → HasOneSignature q rules p (s_rows_of rules a) (overlap_word_of rules a)

@@ -1,4 +1,5 @@
 pub use Rattle.definitions.specs.Poly
+pub use Rattle.definitions.specs.Quiver
 pub use Rattle.coef_int.specs.Range
 pub use Rattle.word_core.specs.Letters
 pub use Rattle.word_core.specs.Occurrence

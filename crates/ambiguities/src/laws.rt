@@ -1,5 +1,5 @@
 //! What an S-polynomial is, as laws over the definitions.
-ghost use Rattle.ambiguities.specs.Laws.{SPolynomialsBalance, LeadingWordsCancel};
+ghost use Rattle.ambiguities.specs.Laws.{SPolynomialsBalance, LeadingWordsCancel, SPolynomialsAreTyped};
 
 /// The S-polynomial is the sum of its two rows over the rules.
 pub fn s_polynomials_balance()
@@ -10,4 +10,10 @@ pub fn s_polynomials_balance()
 /// its rule is at most the overlap word.
 pub fn leading_words_cancel()
     ensures { LeadingWordsCancel }
+{}
+
+/// Where the rules are typed, the overlap word is a path, and all words of the S-polynomial and those to which the rows
+/// multiply their rules are paths of its signature.
+pub fn s_polynomials_are_typed()
+    ensures { SPolynomialsAreTyped }
 {}

@@ -12,7 +12,7 @@ mod polynomial;
 mod tests;
 
 pub use ambiguity::{Ambiguity, Kind};
-pub use laws::{leading_words_cancel, s_polynomials_balance};
+pub use laws::{leading_words_cancel, s_polynomials_are_typed, s_polynomials_balance};
 pub use list::between;
 pub use overlap::overlap_word;
 pub use polynomial::{SPoly, s_poly};

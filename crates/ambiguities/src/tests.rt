@@ -6,7 +6,7 @@ ghost use Rattle.ambiguities.specs.Ambiguities.{IsAmbiguity};
 
 use crate::{
     Ambiguity, Kind, SPoly, between, leading_words_cancel, overlap_word, s_poly,
-    s_polynomials_balance,
+    s_polynomials_are_typed, s_polynomials_balance,
 };
 use cofactor_trace::{Origin, Row};
 use nc_polynomial::{Poly, PolyFault};
@@ -271,4 +271,5 @@ fn faults_of_s_polynomials(rt: HostRuntime) -> Result<(), Fail> {
 fn laws_are_called() {
     s_polynomials_balance();
     leading_words_cancel();
+    s_polynomials_are_typed();
 }

@@ -1,14 +1,14 @@
 use Rattle.std.proofs.Common.{rules, ◌≡◌, ◌<◌, ◌≤◌, ◌+◌, [], sym, subst, arith}
 use Rattle.ambiguities.specs.Listed.{IsBefore, ListsExactly, IsGrown, IsOfFirst, IsAmbiguityFrom}
 use Rattle.ambiguities.proofs.Exactly.{grown-whole}
-use Rattle.ambiguities.proofs.Rows.{first-more, first-all}
+use Rattle.ambiguities.proofs.Numbered.{firsts-more, firsts-all}
 use Rattle.ambiguities.proofs.list.list_all.Goals as goal
 use Rattle.ambiguities.proofs.list.list_all.Goals.{else-loop-i-test, then-loop-i-test+in_ok-push_first+else-i-i-end}
 
 pub loop-i-preserved : goal.loop-i-preserved
 loop-i-preserved c =
     let made : IsGrown (IsOfFirst c.args.from c.args.rules.now c.loop-i.i) c.loop-i.found c.push_first.new.found = search rules in
-    first-more c.args.rules.now c.args.from c.loop-i.i [] c.loop-i.found c.push_first.new.found c.loop-i.invariant made
+    firsts-more c.args.rules.now c.args.from c.loop-i.i [] c.loop-i.found c.push_first.new.found c.loop-i.invariant made
 
 pub returns : goal.returns
 returns c =
@@ -19,11 +19,11 @@ returns c =
       | else-loop-i-test w ↦
           let now : c.loop-i-test.found ≡ c.loop-i.found = search rules in
           subst (ListsExactly IsBefore (IsAmbiguityFrom from all)) (sym now)
-          (grown-whole (IsAmbiguityFrom from all) c.loop-i.found (first-all all from i [] c.loop-i.found (omega arith) c.loop-i.invariant))
+          (grown-whole (IsAmbiguityFrom from all) c.loop-i.found (firsts-all all from i [] c.loop-i.found (omega arith) c.loop-i.invariant))
       | then-loop-i-test+in_ok-push_first+else-i-i-end w ↦
           let made : IsGrown (IsOfFirst from all i) c.loop-i.found w.push_first.new.found = search rules in
           let now : c.loop-i-test.found ≡ w.push_first.new.found = search rules in
-          let more = first-more all from i [] c.loop-i.found w.push_first.new.found c.loop-i.invariant made in
+          let more = firsts-more all from i [] c.loop-i.found w.push_first.new.found c.loop-i.invariant made in
           subst (ListsExactly IsBefore (IsAmbiguityFrom from all)) (sym now)
-          (grown-whole (IsAmbiguityFrom from all) w.push_first.new.found (first-all all from (i + 1) [] w.push_first.new.found (omega arith) more))
+          (grown-whole (IsAmbiguityFrom from all) w.push_first.new.found (firsts-all all from (i + 1) [] w.push_first.new.found (omega arith) more))
     ]

@@ -1,6 +1,6 @@
 use Rattle.std.proofs.Common.{[]}
 use Rattle.ambiguities.specs.Listed.{IsGrown}
-use Rattle.ambiguities.proofs.Rows.{IsUpTo}
+use Rattle.ambiguities.proofs.Numbered.{IsUpTo}
 use Rattle.ambiguities.proofs.list.list_all.Given as goal
 
 -- those with the first rules that were passed

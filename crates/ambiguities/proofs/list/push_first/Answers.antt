@@ -1,6 +1,6 @@
 use Rattle.std.proofs.Common.{rules, ◌≡◌, ◌<◌, ◌≤◌, ◌+◌, ℕ, List, length, sym, ap, ◌∙◌, subst, arith}
 use Rattle.ambiguities.specs.Listed.{IsGrown, IsOfPair, IsOfFirst}
-use Rattle.ambiguities.proofs.Rows.{IsInRow, row-more, row-all}
+use Rattle.ambiguities.proofs.Numbered.{IsOfSeconds, seconds-more, seconds-all}
 use Rattle.ambiguities.proofs.list.push_first.Goals as goal
 use Rattle.ambiguities.proofs.list.push_first.Goals.{then-i-from, else-i-from}
 
@@ -9,7 +9,7 @@ loop-j-preserved c =
     let pair : IsGrown (IsOfPair c.args.rules.now c.args.i c.loop-j.j) c.loop-j.found c.push_pair.new.found = search rules in
     record {
       reached = omega arith;
-      row = row-more c.args.rules.now c.args.i c.if-i-from.least c.loop-j.j c.args.found.now c.loop-j.found c.push_pair.new.found c.loop-j.invariant.reached c.loop-j.invariant.row pair;
+      seconds = seconds-more c.args.rules.now c.args.i c.if-i-from.least c.loop-j.j c.args.found.now c.loop-j.found c.push_pair.new.found c.loop-j.invariant.reached c.loop-j.invariant.seconds pair;
     }
 
 pub returns-after-i-from : goal.returns-after-i-from
@@ -17,7 +17,7 @@ returns-after-i-from c =
     let all = c.args.rules.now in
     let early : c.args.i < c.args.from → c.if-i-from.least ≡ c.args.from = elim c.if-i-from.branch [ then-i-from w ↦ search rules | else-i-from w ↦ λ less. absurd (omega arith) ] in
     let late : c.args.from ≤ c.args.i → c.if-i-from.least ≡ 1 = elim c.if-i-from.branch [ then-i-from w ↦ λ reached. absurd (omega arith) | else-i-from w ↦ search rules ] in
-    row-all all c.args.from c.args.i c.if-i-from.least c.loop-j.j c.args.found.now c.loop-j.found (omega arith) early late c.loop-j.invariant.row
+    seconds-all all c.args.from c.args.i c.if-i-from.least c.loop-j.j c.args.found.now c.loop-j.found (omega arith) early late c.loop-j.invariant.seconds
 
 pub returns-in_ok-push_pair : goal.returns-in_ok-push_pair
 returns-in_ok-push_pair c =
@@ -25,5 +25,5 @@ returns-in_ok-push_pair c =
     let early : c.args.i < c.args.from → c.if-i-from.least ≡ c.args.from = elim c.if-i-from.branch [ then-i-from w ↦ search rules | else-i-from w ↦ λ less. absurd (omega arith) ] in
     let late : c.args.from ≤ c.args.i → c.if-i-from.least ≡ 1 = elim c.if-i-from.branch [ then-i-from w ↦ λ reached. absurd (omega arith) | else-i-from w ↦ search rules ] in
     let pair : IsGrown (IsOfPair all c.args.i c.loop-j.j) c.loop-j.found c.push_pair.new.found = search rules in
-    let row = row-more all c.args.i c.if-i-from.least c.loop-j.j c.args.found.now c.loop-j.found c.push_pair.new.found c.loop-j.invariant.reached c.loop-j.invariant.row pair in
-    row-all all c.args.from c.args.i c.if-i-from.least (c.loop-j.j + 1) c.args.found.now c.push_pair.new.found (omega arith) early late row
+    let seconds = seconds-more all c.args.i c.if-i-from.least c.loop-j.j c.args.found.now c.loop-j.found c.push_pair.new.found c.loop-j.invariant.reached c.loop-j.invariant.seconds pair in
+    seconds-all all c.args.from c.args.i c.if-i-from.least (c.loop-j.j + 1) c.args.found.now c.push_pair.new.found (omega arith) early late seconds
