@@ -3,7 +3,7 @@ use Rattle.std.specs.Int.{IsGcd}
 use Rattle.std.specs.Int.RustNames.{unsigned_abs}
 use Rattle.std.proofs.lemmas.Int.{ints}
 use mir.Syntax.{w128}
-use Rattle.common_divisor.specs.Divisor.{gcd_of, gcd_within}
+use Rattle.common_divisor.specs.Divisor.{gcd_within}
 use Rattle.common_divisor.proofs.Divisors.{gcd_same, gcd_of-positive, gcd_of-positive_right}
 use Rattle.common_divisor.proofs.divisor.Goals as goal
 
