@@ -8,3 +8,8 @@ mod SizeLaws
 mod TableLaws
 mod RecordLaws
 mod NeededLaws
+mod Between
+mod Values
+mod Balance
+mod Closure
+mod Passes

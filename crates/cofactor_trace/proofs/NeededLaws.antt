@@ -170,7 +170,7 @@ module _ (made : List Made) (target : Made) where
       go [] same result = result
       go (x ∷ rest) same result = absurd (cc)
 
-  numbered_from : (place : ℕ) (xs : List Made) → ((k : ℕ) (m : Made) → slice_get xs k ≡ Some m → slice_get made (place + k) ≡ Some m) → AreNumbered made (needed_from target (suc place) xs)
+  pub numbered_from : (place : ℕ) (xs : List Made) → ((k : ℕ) (m : Made) → slice_get xs k ≡ Some m → slice_get made (place + k) ≡ Some m) → AreNumbered made (needed_from target (suc place) xs)
   numbered_from place [] h = tt
   numbered_from place (m ∷ xs) h =
       let place_is : place + 0 ≡ suc place - 1 = omega arith in

@@ -91,7 +91,7 @@ both_equal Equal p h = (refl, h)
 both_equal Greater p h = absurd (cc)
 
 -- equal in the order is equal
-equal : (m n : Multiple) → multiple_cmp m n ≡ Equal → m ≡ n
+pub equal : (m n : Multiple) → multiple_cmp m n ≡ Equal → m ≡ n
 equal m n h =
     let outer = both_equal (nat_cmp m.generator n.generator) (ordering_then (word_cmp m.left n.left) (word_cmp m.right n.right)) h in
     let inner = both_equal (word_cmp m.left n.left) (word_cmp m.right n.right) outer.1 in
@@ -100,7 +100,7 @@ equal m n h =
     let rights : m.right ≡ n.right = word_cmp-same m.right n.right inner.1 in
     λ i. record { generator = generators i; left = lefts i; right = rights i }
 
-itself : (m : Multiple) → multiple_cmp m m ≡ Equal
+pub itself : (m : Multiple) → multiple_cmp m m ≡ Equal
 itself m = tied_itself multiple_cmp_total m
 
 sum_in-sums : (f : Multiple → Sum) (ms : List Multiple) (m : Multiple) → sum_in (sums_at f ms) m ≡ cond (is_among ms m) (f m) (Ok (pos 0))
@@ -123,7 +123,7 @@ all_inserted P (k ∷ ks) m h p = go (multiple_cmp m k) (all_inserted P ks m h.1
     go Equal rest = h
     go Greater rest = (h.0, rest)
 
-all_below : (m k : Multiple) (ks : List Multiple) → multiple_cmp m k ≡ Less → AllByRecursion (λ q. multiple_cmp k q ≡ Less) ks → AllByRecursion (λ q. multiple_cmp m q ≡ Less) ks
+pub all_below : (m k : Multiple) (ks : List Multiple) → multiple_cmp m k ≡ Less → AllByRecursion (λ q. multiple_cmp k q ≡ Less) ks → AllByRecursion (λ q. multiple_cmp m q ≡ Less) ks
 all_below m k [] e h = tt
 all_below m k (q ∷ ks) e h = (multiple_cmp_total.trans m k q e h.0, all_below m k ks e h.1)
 
@@ -176,7 +176,7 @@ or_twice : (a b : Bool) → a || b ≡ a || (a || b)
 or_twice true b = refl
 or_twice false b = refl
 
-among_inserted : (ms : List Multiple) (m q : Multiple) → is_among (insert_key multiple_cmp ms m) q ≡ is_eq (multiple_cmp q m) || is_among ms q
+pub among_inserted : (ms : List Multiple) (m q : Multiple) → is_among (insert_key multiple_cmp ms m) q ≡ is_eq (multiple_cmp q m) || is_among ms q
 among_inserted [] m q = refl
 among_inserted (k ∷ ks) m q = go (multiple_cmp m k) refl (among_inserted ks m q)
   where
@@ -188,7 +188,7 @@ among_inserted (k ∷ ks) m q = go (multiple_cmp m k) refl (among_inserted ks m 
         ∙ ap (λ x. is_eq (multiple_cmp q x) || (is_eq (multiple_cmp q k) || is_among ks q)) (sym (equal m k e))
     go Greater e rest = ap (λ b. is_eq (multiple_cmp q k) || b) rest ∙ or_swap (is_eq (multiple_cmp q k)) (is_eq (multiple_cmp q m)) (is_among ks q)
 
-among_all : (rows : List CertRow) (ms : List Multiple) (q : Multiple)
+pub among_all : (rows : List CertRow) (ms : List Multiple) (q : Multiple)
     → is_among (fold (insert_key multiple_cmp) ms (map multiple_of rows)) q ≡ is_among ms q || list_any (λ r. is_eq (multiple_cmp q (multiple_of r))) rows
 among_all [] ms q = or_nothing (is_among ms q)
   where
@@ -259,7 +259,7 @@ multiples_more done r =
     ap (fold (insert_key multiple_cmp) []) (map-append multiple_of done (r ∷ []))
     ∙ fold-append (insert_key multiple_cmp) [] (map multiple_of done) (multiple_of r ∷ [])
 
-turned_round : (m k : Multiple) → is_eq (multiple_cmp m k) ≡ false → is_eq (multiple_cmp k m) ≡ false
+pub turned_round : (m k : Multiple) → is_eq (multiple_cmp m k) ≡ false → is_eq (multiple_cmp k m) ≡ false
 turned_round m k h = go (multiple_cmp m k) refl h
   where
     go : (o : Ordering) → multiple_cmp m k ≡ o → is_eq o ≡ false → is_eq (multiple_cmp k m) ≡ false

@@ -5,11 +5,13 @@ mod divisor;
 mod expansion;
 mod fault;
 mod gather;
+mod laws;
 mod record;
 mod size;
 
 pub use expansion::expand;
 pub use fault::ExpandFault;
+pub use laws::expansions_balance;
 use lists::{Duplicate, Listing};
 use std::alloc::AllocError;
 use word_core::Word;
