@@ -1,18 +1,16 @@
 -- The rows of an expansion add up to its denominator times the polynomial.
-use Rattle.std.proofs.Common.{◌≡◌, ℕ, zero, suc, ℤ, pos, negsuc, ◌+ℤ◌, ◌*ℤ◌, neg_ℤ, ◌<ℤ◌, int_div, List, [], ◌∷◌, ◌++◌, map, Option, Some, None, Result, Ok, Err, sym, refl, ap, ap₂, subst, ◌∙◌, arith}
+use Rattle.std.proofs.Common.{◌≡◌, ℕ, zero, suc, ℤ, pos, negsuc, ◌+ℤ◌, ◌*ℤ◌, neg_ℤ, ◌<ℤ◌, int_div, List, [], ◌∷◌, ◌++◌, map, Option, Some, None, Result, Ok, sym, ap, ap₂, subst, ◌∙◌, arith}
 use Rattle.std.proofs.lemmas.Int.{ints}
-use Rattle.std.proofs.Math.IntN.{*ℤ_comm, *ℤ-zero, +ℤ_idl, +ℤ_idr}
+use Rattle.std.proofs.Math.IntN.{*ℤ_comm, *ℤ-zero}
 use Rattle.std.specs.Int.{◌∣◌}
 use Rattle.std.specs.Int.RustNames.{unsigned_abs}
-use Rattle.std.specs.List.{AllByRecursion, fold, flat_map}
-use Rattle.coef_int.specs.declared.Overflow.{Overflow}
-use Rattle.definitions.specs.Poly.{Term, coefficient_of, SamePolynomial, poly_multiple, poly_between}
+use Rattle.std.specs.List.{AllByRecursion}
+use Rattle.definitions.specs.Poly.{Term, coefficient_of, poly_multiple, poly_between}
 use Rattle.definitions.specs.Combination.{generator_at, row_sum, IsCombination}
 use Rattle.definitions.proofs.Coefficients.{coefficient_of-append, coefficient_of-multiple}
 use Rattle.definitions.proofs.Integers.{*ℤ_assoc, *ℤ-+ℤ, *ℤ-neg_ℤ, *ℤ_zero}
 use Rattle.nc_polynomial.proofs.Divisors.{quotient_times}
 use Rattle.cofactor_trace.specs.declared.Origin.{Origin}
-use Rattle.cofactor_trace.specs.declared.Origin.TheVariants as origin
 use Rattle.cofactor_trace.specs.declared.Row.{Row}
 use Rattle.cofactor_trace.specs.declared.Made.{Made}
 use Rattle.cofactor_trace.specs.declared.CertRow.{CertRow}
@@ -20,13 +18,12 @@ use Rattle.cofactor_trace.specs.declared.Cofactors.{Cofactors}
 use Rattle.cofactor_trace.specs.declared.fault.ExpandFault.{ExpandFault}
 use Rattle.cofactor_trace.specs.Rows.{rows_of}
 use Rattle.cofactor_trace.specs.Traces.{origin_poly, traced_poly, traced_sum}
-use Rattle.common_divisor.specs.Divisor.{gcd_of}
 use Rattle.cofactor_trace.specs.Gathered.{gathered, sums_of_gathering}
-use Rattle.cofactor_trace.specs.Expansion.{Known, denominators, common_multiple, common_denominator, denominator_products, share, joined_rows, joined, joined_products, limit_fault, content_of, divided_row, primitive, unless, overflow_in, record_expansion}
+use Rattle.cofactor_trace.specs.Expansion.{Known, denominators, common_denominator, denominator_products, share, joined_rows, joined, joined_products, limit_fault, content_of, divided_row, primitive, unless, overflow_in, record_expansion}
 use Rattle.cofactor_trace.specs.Laws.{Traces}
 use Rattle.cofactor_trace.proofs.Divisors.{content-first, content-each, content-positive, quotient_positive, product_positive, common_multiple-each, common_multiple-positive}
 use Rattle.cofactor_trace.proofs.Between.{between-same, between-multiple}
-use Rattle.cofactor_trace.proofs.Values.{weight, value, value-sum, value-append, value-gathered, value-joined}
+use Rattle.cofactor_trace.proofs.Values.{value, value-sum, value-append, value-gathered, value-joined}
 
 -- ---- integers
 cancel : (d a b : ℤ) → pos 0 <ℤ d → d *ℤ a ≡ d *ℤ b → a ≡ b

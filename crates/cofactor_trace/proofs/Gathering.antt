@@ -1,5 +1,5 @@
 -- Rows that stand before what is left to gather.
-use Rattle.std.proofs.Common.{◌≡◌, ℤ, zero, suc, pos, negsuc, List, [], ◌∷◌, ◌++◌, Result, Ok, Err, refl, sym, ap, append_assoc}
+use Rattle.std.proofs.Common.{◌≡◌, ℤ, zero, suc, pos, negsuc, List, [], ◌++◌, Result, Ok, Err, refl, sym, ap, append_assoc}
 use Rattle.std.specs.List.{All}
 use Rattle.std.proofs.lemmas.List.Elements.{All-nil, All-cons}
 use Rattle.coef_int.specs.declared.Overflow.{Overflow}
@@ -7,7 +7,7 @@ use Rattle.coef_int.specs.Range.{IsCoefficient}
 use Rattle.cofactor_trace.specs.declared.CertRow.{CertRow}
 use Rattle.cofactor_trace.specs.declared.gather.Multiple.{Multiple}
 use Rattle.cofactor_trace.specs.Gathered.{kept_row}
-use Rattle.cofactor_trace.specs.Table.{Entries, before, rows_in}
+use Rattle.cofactor_trace.specs.Table.{before}
 
 abbrev pub behind : List CertRow → Result (List CertRow) Overflow → Result (List CertRow) Overflow
 behind out (Ok rows) = Ok (out ++ rows)

@@ -1,5 +1,5 @@
 -- The needed rules one by one, and their expansions.
-use Rattle.std.proofs.Common.{◌≡◌, ℕ, zero, suc, ◌+◌, ◌-◌, ◌<◌, ◌≤◌, get_or, Bool, true, false, ◌||◌, cond, List, [], ◌∷◌, ◌++◌, map, reverse, length, drop, Some, Result, Ok, Err, refl, sym, ap, subst, ◌∙◌, arith}
+use Rattle.std.proofs.Common.{◌≡◌, ℕ, suc, ◌+◌, ◌-◌, ◌<◌, ◌≤◌, get_or, Bool, true, false, ◌||◌, cond, List, [], ◌∷◌, ◌++◌, map, reverse, length, drop, Some, Ok, refl, sym, ap, subst, ◌∙◌, arith}
 use Rattle.std.specs.List.{AllByRecursion, list_any, slice_get}
 use Rattle.std.proofs.lemmas.List.{reverse-append, drop_all}
 use Rattle.nc_polynomial.proofs.Steps.{drop_next}

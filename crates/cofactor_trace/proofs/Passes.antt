@@ -1,5 +1,5 @@
 -- Expansions one after another balance, since each stands on balanced ones.
-use Rattle.std.proofs.Common.{◌≡◌, ◌⊎◌, inl, inr, ℕ, zero, suc, ◌+◌, ◌-◌, ◌≤◌, ℤ, pos, ◌<ℤ◌, Bool, true, false, ◌||◌, List, [], ◌∷◌, length, nat_eq, eqb-true, eq-eqb, Some, Result, Ok, Err, unwrap_or, sym, refl, ap, subst, ◌∙◌, arith, cond}
+use Rattle.std.proofs.Common.{◌≡◌, ◌⊎◌, inl, inr, ℕ, zero, suc, ◌+◌, ◌-◌, ◌≤◌, ℤ, pos, ◌<ℤ◌, Bool, true, false, ◌||◌, List, [], ◌∷◌, nat_eq, eqb-true, eq-eqb, Some, Result, Ok, Err, unwrap_or, sym, refl, ap, subst, ◌∙◌, arith, cond}
 use Rattle.std.proofs.lemmas.Int.{ints}
 use Rattle.std.proofs.lemmas.Cmp.{ranked, tied_itself, nat_cmp_total}
 use Rattle.std.proofs.lemmas.List.{append-nil}
@@ -9,7 +9,7 @@ use Rattle.std.specs.BTreeMap.{insert_entry, is_at}
 use Rattle.std.specs.Ordering.{nat_cmp, is_eq, match_ordering}
 use Rattle.std.specs.declared.cmp.Ordering.{Ordering}
 use Rattle.std.specs.declared.cmp.Ordering.TheVariants.{Less, Equal, Greater}
-use Rattle.definitions.specs.Poly.{Term, coefficient_of, SamePolynomial, poly_multiple}
+use Rattle.definitions.specs.Poly.{Term, coefficient_of, poly_multiple}
 use Rattle.definitions.specs.Combination.{generator_at, IsCombination}
 use Rattle.cofactor_trace.specs.declared.Origin.{Origin}
 use Rattle.cofactor_trace.specs.declared.Origin.TheVariants as origin
@@ -19,8 +19,8 @@ use Rattle.cofactor_trace.specs.declared.Cofactors.{Cofactors}
 use Rattle.cofactor_trace.specs.declared.fault.ExpandFault.{ExpandFault}
 use Rattle.cofactor_trace.specs.Rows.{rows_of}
 use Rattle.cofactor_trace.specs.Expansion.{record_expansion}
-use Rattle.cofactor_trace.specs.Laws.{Traces, AreTraces, ExpansionsBalance}
-use Rattle.cofactor_trace.specs.Needed.{IsRecord, AreRecords, is_rule, is_named, Numbered, needed_rules, Expansions, none, known_from, and_then, expansion_from, expansion_of}
+use Rattle.cofactor_trace.specs.Laws.{Traces, ExpansionsBalance}
+use Rattle.cofactor_trace.specs.Needed.{IsRecord, is_rule, is_named, Numbered, needed_rules, Expansions, none, known_from, and_then, expansion_from}
 use Rattle.cofactor_trace.proofs.Balance.{IsKnown, record_balances}
 use Rattle.cofactor_trace.proofs.Between.{between-nothing}
 use Rattle.cofactor_trace.proofs.Closure.{or_cases, or_left, or_right, names, record_names, records_from, is_numbered, named_is_needed, Above, needed_ascend, numbered_above}

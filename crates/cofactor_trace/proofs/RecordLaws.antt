@@ -1,5 +1,5 @@
 -- Where the expansion of a record ends.
-use Rattle.std.proofs.Common.{◌≡◌, ℤ, pos, ◌*ℤ◌, List, [], ◌∷◌, ◌++◌, Option, Some, None, Result, Ok, Err, refl, sym, ap, subst, ◌∙◌}
+use Rattle.std.proofs.Common.{◌≡◌, ℤ, pos, ◌*ℤ◌, List, [], ◌∷◌, ◌++◌, Option, Some, None, Ok, refl, sym, ap, subst, ◌∙◌}
 use Rattle.std.specs.Option.{option_map}
 use Rattle.coef_int.specs.declared.Overflow.{Overflow}
 use Rattle.coef_int.specs.Range.{IsCoefficient}
@@ -8,11 +8,10 @@ use Rattle.nc_polynomial.proofs.Chains.{first-fits}
 use Rattle.cofactor_trace.specs.declared.Row.{Row}
 use Rattle.cofactor_trace.specs.declared.Made.{Made}
 use Rattle.cofactor_trace.specs.declared.CertRow.{CertRow}
-use Rattle.cofactor_trace.specs.declared.Cofactors.{Cofactors}
 use Rattle.cofactor_trace.specs.declared.fault.ExpandFault.{ExpandFault}
 use Rattle.cofactor_trace.specs.declared.fault.ExpandFault.TheVariants as fault
 use Rattle.cofactor_trace.specs.Gathered.{gathered, sums_of_gathering}
-use Rattle.cofactor_trace.specs.Expansion.{Known, multiple_products, denominators, common_denominator, denominator_products, joined, joined_products, limit_fault, primitive, unless, overflow_in, record_expansion}
+use Rattle.cofactor_trace.specs.Expansion.{Known, multiple_products, denominators, common_denominator, denominator_products, joined, joined_products, limit_fault, primitive, overflow_in, record_expansion}
 use Rattle.cofactor_trace.specs.Faults.{Explains, IsFirst, IsOverflowOf}
 use Rattle.cofactor_trace.specs.Table.{Entries, with_rows, rows_in}
 use Rattle.cofactor_trace.proofs.Operations.{first-fails, first-behind}

@@ -20,7 +20,7 @@ use Rattle.cofactor_trace.specs.Multiples.{multiple_of, multiple_cmp}
 use Rattle.cofactor_trace.specs.Gathered.{multiples_of, total_at, coefficients_at, kept_row, gathered}
 use Rattle.cofactor_trace.specs.Expansion.{joined_row}
 use Rattle.cofactor_trace.proofs.Between.{between-append, between-multiple, between-between}
-use Rattle.cofactor_trace.proofs.TableLaws.{is_among, equal, itself, all_below, turned_round, among_all, among_inserted, sorted-multiples}
+use Rattle.cofactor_trace.proofs.TableLaws.{is_among, equal, itself, turned_round, among_all, among_inserted, sorted-multiples}
 
 module _ (generators : List (List (ℤ × List ℕ))) (w : List ℕ) where
   -- the coefficient in l G r

@@ -1,5 +1,5 @@
 -- The rules that a record needs, and their expansions one after another.
-use Rattle.std.specs.Prelude.{◌≡◌, ◌≤◌, ◌<ℤ◌, ℕ, suc, ℤ, pos, List, [], ◌∷◌, map, Bool, false, nat_eq, slice_get, Some, Result, Ok, Err, if◌then◌else◌, unwrap_or, ⊤}
+use Rattle.std.specs.Prelude.{◌≡◌, ◌≤◌, ◌<ℤ◌, ℕ, suc, pos, List, [], ◌∷◌, map, Bool, false, nat_eq, slice_get, Some, Result, Ok, Err, if◌then◌else◌, unwrap_or, ⊤}
 use Rattle.std.specs.List.{All, list_any}
 use Rattle.std.specs.Map.{lookup}
 use Rattle.std.specs.BTreeMap.{insert_entry, is_at}
@@ -7,7 +7,6 @@ use Rattle.std.specs.Ordering.{nat_cmp}
 use Rattle.coef_int.specs.Range.{IsCoefficient}
 use Rattle.cofactor_trace.specs.declared.Origin.{Origin}
 use Rattle.cofactor_trace.specs.declared.Origin.TheVariants as origin
-use Rattle.cofactor_trace.specs.declared.Row.{Row}
 use Rattle.cofactor_trace.specs.declared.Made.{Made}
 use Rattle.cofactor_trace.specs.declared.Cofactors.{Cofactors}
 use Rattle.cofactor_trace.specs.declared.fault.ExpandFault.{ExpandFault}

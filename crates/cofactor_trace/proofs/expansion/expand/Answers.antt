@@ -1,14 +1,12 @@
-use Rattle.std.proofs.Common.{rules, ◌≡◌, ℕ, ◌+◌, ◌-◌, ◌<◌, ◌≤◌, ◌∷◌, ◌++◌, [], length, refl, Ok, Err, Some, sym, ap, subst, ◌∙◌, arith}
-use Rattle.std.specs.List.{All, slice_get}
+use Rattle.std.proofs.Common.{rules, ◌≡◌, ◌-◌, ◌∷◌, ◌++◌, [], Err, sym, subst, arith}
+use Rattle.std.specs.List.{All}
 use Rattle.std.specs.Map.{values_of}
 use Rattle.std.specs.BTreeMap.{insert_entry}
 use Rattle.std.specs.Ordering.{nat_cmp}
 use Rattle.std.proofs.lemmas.Map.Views.{All-values-insert_entry}
-use Rattle.cofactor_trace.specs.Expansion.{record_expansion}
-use Rattle.cofactor_trace.specs.Faults.{Explains}
-use Rattle.cofactor_trace.specs.Needed.{IsRecord, Expansions, known_from}
+use Rattle.cofactor_trace.specs.Needed.{Expansions}
 use Rattle.cofactor_trace.specs.Ranges.{IsRanged}
-use Rattle.cofactor_trace.proofs.NeededLaws.{IsUnderWay, IsTaken, taken_number, taken, goes_on, stops, last_turn, starts}
+use Rattle.cofactor_trace.proofs.NeededLaws.{taken_number, taken, goes_on, stops, starts}
 use Rattle.cofactor_trace.proofs.expansion.expand.Goals as goal
 
 pub loop-number-init : goal.loop-number-init

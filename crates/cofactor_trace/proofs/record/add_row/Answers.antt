@@ -1,12 +1,12 @@
-use Rattle.std.proofs.Common.{rules, ◌≡◌, ℤ, List, ◌*ℤ◌, ◌∷◌, [], map, pos, None, Some, Err, MatchResult, to_z, of_z, sym, ap, ap₂, subst, ◌∙◌}
+use Rattle.std.proofs.Common.{rules, ◌≡◌, ℤ, List, ◌*ℤ◌, ◌∷◌, [], map, None, Err, MatchResult, to_z, of_z, sym, ap, ap₂, subst, ◌∙◌}
 use mir.Syntax.{w128}
 use Rattle.std.specs.Option.{option_map}
 use Rattle.coef_int.specs.Range.{IsCoefficient}
-use Rattle.coef_int.specs.Operations.{product_of, first_overflow}
+use Rattle.coef_int.specs.Operations.{product_of}
 use Rattle.nc_polynomial.proofs.Chains.{first-fits}
 use Rattle.cofactor_trace.specs.declared.CertRow.{CertRow}
 use Rattle.cofactor_trace.specs.declared.fault.ExpandFault.TheVariants as fault
-use Rattle.cofactor_trace.specs.Expansion.{share, row_products, overflow_in}
+use Rattle.cofactor_trace.specs.Expansion.{share, overflow_in}
 use Rattle.cofactor_trace.specs.Faults.{IsFirst}
 use Rattle.cofactor_trace.specs.Needed.{known_from}
 use Rattle.cofactor_trace.proofs.Operations.{first-fails}

@@ -2,7 +2,7 @@ use Rattle.std.proofs.Common.{rules, ◌≡◌, ◌+◌, ◌*ℤ◌, ◌∷◌, 
 use Rattle.std.proofs.lemmas.List.{drop_all}
 use Rattle.std.proofs.lemmas.List.Sums.{fold-append}
 use Rattle.nc_polynomial.proofs.Steps.{drop_next}
-use Rattle.cofactor_trace.specs.Expansion.{joined, joined_rows, joined_row, share, limit_fault}
+use Rattle.cofactor_trace.specs.Expansion.{joined, joined_rows, joined_row, share}
 use Rattle.cofactor_trace.specs.Faults.{IsFirst}
 use Rattle.cofactor_trace.specs.Needed.{known_from}
 use Rattle.cofactor_trace.specs.Sizes.{measured, measured_all, no_size, limit_of}

@@ -5,12 +5,12 @@ use Rattle.std.specs.Int.RustNames.{unsigned_abs}
 use Rattle.coef_int.specs.Range.{IsCoefficient}
 use Rattle.coef_int.specs.Operations.{product_of}
 use Rattle.cofactor_trace.specs.declared.fault.ExpandFault.TheVariants as fault
-use Rattle.cofactor_trace.specs.Expansion.{joined, joined_products, limit_fault, overflow_in, multiple_products, denominators, common_denominator, content_of, divided_row}
+use Rattle.cofactor_trace.specs.Expansion.{joined, joined_products, limit_fault, overflow_in, content_of, divided_row}
 use Rattle.cofactor_trace.specs.Faults.{IsFirst, IsOverflowOf}
 use Rattle.cofactor_trace.specs.Needed.{known_from}
 use Rattle.cofactor_trace.specs.Table.{with_rows, rows_in}
 use Rattle.cofactor_trace.proofs.Divisors.{product_positive, quotient_positive, content-first}
-use Rattle.cofactor_trace.proofs.RecordLaws.{IsCommon, Begins, AddsUp, at_common, at_denominator, at_limits, at_rows, at_gathering, at_end}
+use Rattle.cofactor_trace.proofs.RecordLaws.{IsCommon, AddsUp, at_common, at_denominator, at_limits, at_rows, at_gathering, at_end}
 use Rattle.cofactor_trace.proofs.record.expand_record.Goals as goal
 
 pub returns-in_err-common-clause-exact : goal.returns-in_err-common-clause-exact
