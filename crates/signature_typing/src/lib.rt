@@ -4,6 +4,8 @@
 mod fault;
 mod laws;
 mod polynomials;
+#[cfg(test)]
+mod rows;
 mod signatures;
 mod stages;
 #[cfg(test)]
