@@ -1,16 +1,16 @@
 -- The S-polynomial is the sum of its rows.
-use Rattle.std.proofs.Common.{◌≡◌, List, [], ◌∷◌, ◌++◌, Ok, Result, sym, ap, ap₂, ◌∙◌, subst}
+use Rattle.std.proofs.Common.{◌≡◌, List, [], Ok, sym, subst}
 use Rattle.std.proofs.lemmas.List.{append-nil}
 use Rattle.definitions.specs.Poly.{Term, SamePolynomial, poly_sum, poly_multiple, poly_between}
 use Rattle.nc_polynomial.specs.Arithmetic.{combined}
 use Rattle.nc_polynomial.specs.Product.{and_then}
 use Rattle.nc_polynomial.proofs.Chains.{sized-value}
 use Rattle.cofactor_trace.specs.declared.Row.{Row}
-use Rattle.cofactor_trace.specs.Traces.{origin_poly, traced_poly, traced_sum}
+use Rattle.cofactor_trace.specs.Traces.{origin_poly}
 use Rattle.rule_reduce.specs.declared.rule.Rule.{Rule}
 use Rattle.rule_reduce.specs.RuleLists.{polynomials_of}
 use Rattle.ambiguities.specs.declared.ambiguity.Ambiguity.{Ambiguity}
-use Rattle.ambiguities.specs.SPolynomials.{first_row, second_row, s_rows_of, row_multiple, s_polynomial_of}
+use Rattle.ambiguities.specs.SPolynomials.{first_row, second_row, row_multiple, s_polynomial_of}
 use Rattle.ambiguities.specs.Laws.{SPolynomialsBalance}
 use Rattle.ambiguities.proofs.Multiples.{passed, combined_value}
 

@@ -1,11 +1,10 @@
 -- The leading words of the two multiples cancel, and all other words are below them.
-use Rattle.std.proofs.Common.{◌≡◌, ◌≢◌, ◌⊎◌, inl, inr, ◌<◌, ℕ, zero, suc, ℤ, pos, negsuc, ◌+ℤ◌, ◌*ℤ◌, ◌<ℤ◌, List, [], ◌∷◌, ◌++◌, take, Some, Ok, refl, sym, ap, ap₂, ◌∙◌, subst}
+use Rattle.std.proofs.Common.{◌≡◌, ◌≢◌, ◌⊎◌, inl, inr, ◌<◌, ℕ, zero, suc, ℤ, pos, negsuc, ◌+ℤ◌, ◌*ℤ◌, ◌<ℤ◌, List, [], ◌∷◌, ◌++◌, take, Ok, refl, sym, ap, ap₂, ◌∙◌, subst}
 use Rattle.std.specs.List.{All, AllByRecursion}
 use Rattle.std.proofs.Math.IntN.{*ℤ-zero}
-use Rattle.std.proofs.lemmas.List.Elements.{All-from_recursion, recursion_from_All, All-take, All-cons, All-nil}
+use Rattle.std.proofs.lemmas.List.Elements.{All-from_recursion, recursion_from_All, All-take}
 use Rattle.std.specs.declared.cmp.Ordering.TheVariants.{Less}
 use Rattle.definitions.specs.Poly.{Term, coefficient_of, poly_multiple, poly_between}
-use Rattle.definitions.specs.Combination.{generator_at}
 use Rattle.definitions.proofs.Coefficients.{coefficient_of-append, coefficient_of-multiple}
 use Rattle.word_core.specs.Letters.{IsOver}
 use Rattle.word_orders.specs.Admissible.{Compare, IsAdmissible}
@@ -14,10 +13,8 @@ use Rattle.word_orders.proofs.Over.{IsOver-append, IsOver-front, IsOver-back}
 use Rattle.nc_polynomial.specs.Shape.{IsShaped}
 use Rattle.nc_polynomial.proofs.Distinct.{distinct-descending, words_listed}
 use Rattle.nc_polynomial.proofs.Shapes.{recursion_from_IsDescending}
-use Rattle.cofactor_trace.specs.declared.Row.{Row}
-use Rattle.cofactor_trace.specs.Traces.{origin_poly}
 use Rattle.rule_reduce.specs.declared.rule.Rule.{Rule}
-use Rattle.rule_reduce.specs.RuleLists.{IsRule, rule_at, polynomials_of}
+use Rattle.rule_reduce.specs.RuleLists.{IsRule}
 use Rattle.rule_reduce.proofs.AtMost.{IsAtMost, leading-greatest, leading-all}
 use Rattle.rule_reduce.proofs.Numbers.{rule_at-all, rule_at-polynomial}
 use Rattle.rule_reduce.proofs.WordsKept.{words_with_coefficients}

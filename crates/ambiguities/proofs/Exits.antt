@@ -1,5 +1,5 @@
 -- Where the arithmetic of an S-polynomial ends.
-use Rattle.std.proofs.Common.{◌≡◌, List, [], Result, Ok, Some, sym, ap, ◌∙◌, subst}
+use Rattle.std.proofs.Common.{◌≡◌, List, Result, Ok, Some, sym, ap, ◌∙◌, subst}
 use Rattle.definitions.specs.Poly.{Term}
 use Rattle.nc_polynomial.specs.declared.fault.PolyFault.{PolyFault}
 use Rattle.nc_polynomial.specs.declared.fault.PolyFault.TheVariants as fault

@@ -1,5 +1,5 @@
 -- The polynomial of a rule between two words, and the sum of two multiples.
-use Rattle.std.proofs.Common.{◌≡◌, ◌≢◌, ℕ, ℤ, pos, ◌+ℤ◌, ◌*ℤ◌, Bool, true, false, cond, List, [], ◌∷◌, ◌++◌, Some, Result, Ok, Err, refl, sym, ap, ap₂, ◌∙◌, subst}
+use Rattle.std.proofs.Common.{◌≡◌, ℕ, ℤ, pos, ◌+ℤ◌, false, cond, List, [], ◌∷◌, ◌++◌, Some, Result, Ok, Err, refl, sym, ap, ap₂, ◌∙◌, subst}
 use Rattle.std.specs.List.{AllByRecursion}
 use Rattle.std.specs.Ordering.{is_eq}
 use Rattle.definitions.specs.Poly.{Term, word_eq, coefficient_of, SamePolynomial, poly_sum, poly_multiple, poly_between}
@@ -7,11 +7,11 @@ use Rattle.definitions.proofs.Coefficients.{Same_trans, SamePolynomial-append}
 use Rattle.definitions.proofs.Linear.{coefficient_other}
 use Rattle.nc_polynomial.specs.declared.fault.PolyFault.{PolyFault}
 use Rattle.nc_polynomial.specs.Terms.{scaled, products, added, sums}
-use Rattle.nc_polynomial.specs.Product.{moved_result, and_then}
+use Rattle.nc_polynomial.specs.Product.{and_then}
 use Rattle.nc_polynomial.specs.Arithmetic.{combined}
 use Rattle.nc_polynomial.specs.Shape.{IsShaped}
 use Rattle.nc_polynomial.proofs.Around.{word_cmp-around}
-use Rattle.nc_polynomial.proofs.Chains.{finished-value, no_error, sized-value}
+use Rattle.nc_polynomial.proofs.Chains.{finished-value, no_error}
 use Rattle.nc_polynomial.proofs.Distinct.{AreDistinct, distinct-descending, first_coefficient}
 use Rattle.nc_polynomial.proofs.Shapes.{recursion_from_IsDescending}
 use Rattle.nc_polynomial.proofs.Values.{SamePolynomial-added, SamePolynomial-scaled}

@@ -1,10 +1,10 @@
 -- The ambiguities with one first rule, and those with all.
-use Rattle.std.proofs.Common.{◌≡◌, ◌↔◌, ◌⊎◌, inl, inr, ℕ, suc, ◌+◌, ◌<◌, ◌≤◌, Bool, true, false, cond, List, length, refl, sym, ap, ◌∙◌, subst, arith}
+use Rattle.std.proofs.Common.{◌≡◌, ◌⊎◌, inl, inr, ℕ, ◌+◌, ◌<◌, ◌≤◌, List, length, sym, ◌∙◌, arith}
 use Rattle.std.proofs.lemmas.Bool.{cases_lt}
 use Rattle.rule_reduce.specs.declared.rule.Rule.{Rule}
 use Rattle.ambiguities.specs.declared.ambiguity.Ambiguity.{Ambiguity}
 use Rattle.ambiguities.specs.Ambiguities.{IsAmbiguity}
-use Rattle.ambiguities.specs.Listed.{IsBefore, IsGrown, IsAmbiguityFrom, IsOfFirst, IsOfPair}
+use Rattle.ambiguities.specs.Listed.{IsGrown, IsAmbiguityFrom, IsOfFirst, IsOfPair}
 use Rattle.ambiguities.proofs.Exactly.{grown-append, grown-same}
 use Rattle.ambiguities.proofs.Numbers.{rule_at-first, rule_at-last}
 

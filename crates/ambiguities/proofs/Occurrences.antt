@@ -1,6 +1,6 @@
 -- A word occurs at a place exactly where its letters do.
-use Rattle.std.proofs.Common.{◌≡◌, ℕ, ◌+◌, ◌-◌, ◌<◌, ◌≤◌, List, ◌++◌, length, take, drop, get_or, sym, ap, ap₂, ◌∙◌, arith}
-use Rattle.std.proofs.lemmas.List.{take-append-drop, length-take-le, length-drop, length-append, drop-drop, same_lists, get_or-take, get_or-drop, get_or_default, get_or-append-add, get_or_append_left}
+use Rattle.std.proofs.Common.{◌≡◌, ℕ, ◌+◌, ◌<◌, ◌≤◌, List, ◌++◌, length, take, drop, get_or, sym, ap, ap₂, ◌∙◌, arith}
+use Rattle.std.proofs.lemmas.List.{take-append-drop, length-take-le, length-drop, length-append, same_lists, get_or-take, get_or-drop, get_or_default, get_or-append-add, get_or_append_left}
 use Rattle.word_core.specs.Occurrence.{OccursAt}
 use Rattle.word_core.specs.Overlap.{OverlapsAt}
 use Rattle.word_core.proofs.Places.{OccursAt-length}

@@ -1,11 +1,9 @@
 -- The ambiguities of two rules: those of each kind, at their places.
-use Rattle.std.proofs.Common.{◌≡◌, ◌≢◌, ◌↔◌, ◌⊎◌, inl, inr, ℕ, ◌+◌, ◌-◌, ◌<◌, ◌≤◌, List, [], ◌++◌, map, length, get_or, Some, refl, sym, ap, ◌∙◌, subst, arith}
+use Rattle.std.proofs.Common.{◌≡◌, ◌⊎◌, inl, inr, ℕ, ◌-◌, ◌<◌, List, ◌++◌, map, length, Some, refl, sym, ap, ◌∙◌, subst, arith}
 use Rattle.std.specs.List.{AllPairs, range_with_len}
-use Rattle.std.specs.List.Sorted.{IsStrictlyIncreasing}
-use Rattle.std.proofs.lemmas.List.Kept.{AllPairs-filter, AllPairs-from_increasing}
+use Rattle.std.proofs.lemmas.List.Kept.{AllPairs-filter}
 use Rattle.std.proofs.lemmas.List.FromFn.{length-range_with_len, get_or-range_with_len}
 use Rattle.std.proofs.lemmas.Option.{same_Some}
-use Rattle.word_core.specs.Occurrence.{OccursAt}
 use Rattle.word_core.specs.Overlap.{OverlapsAt, overlaps_at, overlap_places}
 use Rattle.word_core.proofs.Overlaps.{overlap_places-tells}
 use Rattle.rule_reduce.specs.declared.rule.Rule.{Rule}
@@ -13,9 +11,9 @@ use Rattle.rule_reduce.specs.RuleLists.{rule_at}
 use Rattle.ambiguities.specs.declared.ambiguity.Kind.{Kind}
 use Rattle.ambiguities.specs.declared.ambiguity.Kind.TheVariants.{Overlap, Inclusion}
 use Rattle.ambiguities.specs.declared.ambiguity.Ambiguity.{Ambiguity}
-use Rattle.ambiguities.specs.Ambiguities.{MeetsAs, IsAmbiguity}
+use Rattle.ambiguities.specs.Ambiguities.{MeetsAs}
 use Rattle.ambiguities.specs.Listed.{IsBefore, kind_number, ListsExactly, IsGrown, IsOfPair, ambiguity_at}
-use Rattle.ambiguities.proofs.Exactly.{Image, exactly-map, grown-append, grown-same}
+use Rattle.ambiguities.proofs.Exactly.{exactly-map, grown-append, grown-same}
 
 range-ascending : (a n : ℕ) → AllPairs (λ s t. s < t) (range_with_len a n)
 range-ascending a n i j d before inside =

@@ -1,12 +1,12 @@
 -- The overlap word of typed rules is a path, and the S-polynomial is typed of its signature.
-use Rattle.std.proofs.Common.{◌≡◌, ◌≢◌, ◌<◌, ◌<ℤ◌, ℕ, ℤ, pos, true, List, [], ◌∷◌, ◌++◌, length, take, Ok, sym, ap, ap₂, ◌∙◌, subst, arith}
-use Rattle.std.specs.List.{All, AllByRecursion}
+use Rattle.std.proofs.Common.{◌≡◌, ◌≢◌, ◌<◌, ◌<ℤ◌, ℕ, ℤ, pos, true, List, [], ◌∷◌, ◌++◌, length, take, sym, ap, ap₂, ◌∙◌, subst, arith}
+use Rattle.std.specs.List.{AllByRecursion}
 use Rattle.std.proofs.lemmas.Int.{ints}
 use Rattle.std.proofs.lemmas.List.{length-append, take_at}
 use Rattle.std.proofs.lemmas.List.Elements.{All-from_recursion, recursion_from_All}
 use Rattle.definitions.specs.Poly.{Term, coefficient_of, poly_between}
-use Rattle.definitions.specs.Quiver.{Quiver, IsPath, IsTyped, leads, is_path}
-use Rattle.definitions.proofs.Paths.{step, split, leads-append, source_unique, fits_from_path, path_from_fits}
+use Rattle.definitions.specs.Quiver.{Quiver, IsPath, leads, is_path}
+use Rattle.definitions.proofs.Paths.{step, split, leads-append, fits_from_path, path_from_fits}
 use Rattle.word_core.specs.Overlap.{OverlapsAt}
 use Rattle.word_orders.specs.Admissible.{Compare}
 use Rattle.nc_polynomial.proofs.Distinct.{distinct-descending, words_listed}
@@ -18,9 +18,8 @@ use Rattle.rule_reduce.proofs.Numbers.{rule_at-all, rule_at-polynomial}
 use Rattle.rule_reduce.proofs.WordsKept.{words_with_coefficients}
 use Rattle.ambiguities.specs.declared.ambiguity.Kind.{Kind}
 use Rattle.ambiguities.specs.declared.ambiguity.Kind.TheVariants.{Overlap, Inclusion}
-use Rattle.ambiguities.specs.declared.ambiguity.Ambiguity.{Ambiguity}
-use Rattle.ambiguities.specs.Ambiguities.{MeetsAs, IsAmbiguity, joined_word, overlap_word_of}
-use Rattle.ambiguities.specs.SPolynomials.{first_row, second_row, s_rows_of, s_polynomial_of}
+use Rattle.ambiguities.specs.Ambiguities.{MeetsAs, joined_word, overlap_word_of}
+use Rattle.ambiguities.specs.SPolynomials.{first_row, second_row, s_rows_of}
 use Rattle.ambiguities.specs.Laws.{EachOfRow, SPolynomialsAreTyped}
 use Rattle.ambiguities.proofs.Joined.{overlap_word-is, first_splits, second_splits}
 use Rattle.ambiguities.proofs.Multiples.{leading_coefficient}

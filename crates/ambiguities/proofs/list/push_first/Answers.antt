@@ -1,6 +1,6 @@
-use Rattle.std.proofs.Common.{rules, ◌≡◌, ◌<◌, ◌≤◌, ◌+◌, ℕ, List, length, sym, ap, ◌∙◌, subst, arith}
-use Rattle.ambiguities.specs.Listed.{IsGrown, IsOfPair, IsOfFirst}
-use Rattle.ambiguities.proofs.Numbered.{IsOfSeconds, seconds-more, seconds-all}
+use Rattle.std.proofs.Common.{rules, ◌≡◌, ◌<◌, ◌≤◌, ◌+◌, arith}
+use Rattle.ambiguities.specs.Listed.{IsGrown, IsOfPair}
+use Rattle.ambiguities.proofs.Numbered.{seconds-more, seconds-all}
 use Rattle.ambiguities.proofs.list.push_first.Goals as goal
 use Rattle.ambiguities.proofs.list.push_first.Goals.{then-i-from, else-i-from}
 

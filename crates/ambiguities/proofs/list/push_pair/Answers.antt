@@ -1,11 +1,10 @@
-use Rattle.std.proofs.Common.{rules, ◌≡◌, ◌≢◌, ◌<◌, ◌≤◌, ◌^◌, ◌++◌, ℕ, List, length, map, Some, sym, ap, ◌∙◌, subst, arith}
+use Rattle.std.proofs.Common.{rules, ◌≡◌, ◌≢◌, ◌<◌, ◌≤◌, ◌^◌, ◌++◌, ℕ, length, map, Some, sym, subst, arith}
 use Rattle.std.specs.List.{All}
 use Rattle.word_core.specs.Occurrence.{OccursAt}
 use Rattle.word_core.specs.Overlap.{OverlapsAt, overlap_places}
 use Rattle.rule_reduce.specs.RuleLists.{rule_at}
 use Rattle.rule_reduce.proofs.Numbers.{rule_at-all}
 use Rattle.ambiguities.specs.declared.ambiguity.Kind.TheVariants.{Overlap, Inclusion}
-use Rattle.ambiguities.specs.declared.ambiguity.Ambiguity.{Ambiguity}
 use Rattle.ambiguities.specs.Listed.{ListsExactly, IsGrown, IsOfPair, ambiguity_at}
 use Rattle.ambiguities.proofs.Exactly.{exactly-all, exactly-same}
 use Rattle.ambiguities.proofs.Occurrences.{occurs_within, overlaps_within}

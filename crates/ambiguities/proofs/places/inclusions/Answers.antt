@@ -1,4 +1,4 @@
-use Rattle.std.proofs.Common.{rules, ◌≡◌, ◌≤◌, ◌<◌, ◌+◌, ◌∷◌, ◌++◌, [], ℕ, true, false, List, length, sym, ap, ◌∙◌, subst, arith}
+use Rattle.std.proofs.Common.{rules, ◌≡◌, ◌≤◌, ◌<◌, ◌+◌, ◌∷◌, ◌++◌, [], ℕ, true, false, length, sym, ◌∙◌, subst, arith}
 use Rattle.word_core.specs.Occurrence.{OccursAt}
 use Rattle.ambiguities.specs.Listed.{ListsExactly}
 use Rattle.ambiguities.proofs.Exactly.{PassedBy, passed-one, passed-none, passed-all}

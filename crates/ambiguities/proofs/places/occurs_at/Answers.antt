@@ -1,4 +1,4 @@
-use Rattle.std.proofs.Common.{◌≡◌, ◌≤◌, ◌+◌, length, refl, arith}
+use Rattle.std.proofs.Common.{◌≤◌, ◌+◌, length, refl, arith}
 use Rattle.ambiguities.proofs.Occurrences.{occurs_by_letters}
 use Rattle.ambiguities.proofs.places.occurs_at.Goals as goal
 

@@ -1,11 +1,11 @@
-use Rattle.std.proofs.Common.{rules, ◌≡◌, ◌+◌, ◌-◌, ◌≤◌, pos, neg_ℤ, int_div, length, take, drop, Some, sym, ap, ap₂, ◌∙◌, subst, arith}
+use Rattle.std.proofs.Common.{rules, ◌≡◌, ◌+◌, ◌-◌, neg_ℤ, int_div, length, take, drop, Some, sym, ap, ap₂, ◌∙◌, arith}
 use Rattle.std.proofs.lemmas.List.{take_rest}
 use Rattle.cofactor_trace.specs.declared.Origin.TheVariants as origin
 use Rattle.cofactor_trace.specs.declared.Row.{Row}
 use Rattle.common_divisor.specs.Divisor.{gcd_of}
 use Rattle.rule_reduce.specs.RuleLists.{rule_at}
-use Rattle.ambiguities.specs.Ambiguities.{lead_at, overlap_word_of}
-use Rattle.ambiguities.specs.SPolynomials.{leading_at, first_row, second_row}
+use Rattle.ambiguities.specs.Ambiguities.{overlap_word_of}
+use Rattle.ambiguities.specs.SPolynomials.{first_row, second_row}
 use Rattle.ambiguities.proofs.Joined.{lead_at-is, leading_at-is, second_fits}
 use Rattle.ambiguities.proofs.polynomial.make_rows.Goals as goal
 

@@ -1,4 +1,4 @@
-use Rattle.std.proofs.Common.{rules, ◌≡◌, ◌≤◌, List, length, Some, Ok, Err, ap, ◌∙◌, subst, arith}
+use Rattle.std.proofs.Common.{rules, ◌≡◌, List, length, Ok, Err, ap, ◌∙◌, subst, arith}
 use Rattle.nc_polynomial.specs.Faults.{Explains}
 use Rattle.nc_polynomial.specs.Product.{moved_result}
 use Rattle.nc_polynomial.specs.Arithmetic.{combined}

@@ -1,4 +1,4 @@
-use Rattle.std.proofs.Common.{rules, ◌≡◌, ◌<◌, Some, length, slice_get}
+use Rattle.std.proofs.Common.{rules, ◌≡◌, Some, slice_get}
 use Rattle.std.specs.List.{Contains}
 use Rattle.std.proofs.lemmas.Option.{get_or_from_slice_get, slice_get_within}
 use Rattle.ambiguities.specs.Listed.{IsAmbiguityFrom}
