@@ -8,6 +8,8 @@ mod gather;
 mod laws;
 mod record;
 mod size;
+#[cfg(test)]
+mod tests;
 
 pub use expansion::expand;
 pub use fault::ExpandFault;
