@@ -12,6 +12,7 @@ mod tests;
 
 pub use fault::SignatureFault;
 pub use laws::{equations_are_typed, letters_are_written};
-pub use occurrence::{has_identity, has_mark};
+pub use names::{letter_of, object_of};
+pub use occurrence::has_mark;
 pub use polynomial::equation_poly;
 pub use signature::equation_signature;

@@ -1,11 +1,8 @@
 ghost use Rattle.std.specs.Prelude.{◌≡◌};
 ghost use Rattle.std.specs.List.{list_any};
-ghost use Rattle.quiver.specs.Declarations.{named_in};
-ghost use Rattle.expressions.specs.Occurrences.{is_adjoint, has_mark, has_mark_in_term, has_mark_in_primary, is_the_object, has_identity, has_identity_in_term, has_identity_in_primary};
+ghost use Rattle.expressions.specs.Occurrences.{is_adjoint, has_mark, has_mark_in_term, has_mark_in_primary};
 
-use quiver::{Named, Quiver};
-use statement_syntax::{Mark, Name, Primary, Sum, Term};
-use word_core::Object;
+use statement_syntax::{Mark, Primary, Sum, Term};
 
 /// Whether a factor of the expression has a mark, and so an adjoint is taken.
 #[cycle(marks)]
@@ -58,49 +55,4 @@ fn is_adjoint(mark: &Mark) -> bool
     ensures { result ≡ is_adjoint mark.now }
 {
     matches!(mark, Mark::Adjoint)
-}
-
-/// Whether the name of the object stands in square brackets in the expression.
-#[cycle(identities)]
-pub fn has_identity(quiver: &Quiver, object: Object, sum: &Sum) -> bool
-    ensures { result ≡ has_identity quiver.now object.0 sum.now }
-{
-    for term in sum.terms.as_slice() {
-        if has_identity_in_term(quiver, object, term) {
-            return true;
-        }
-    }
-    false
-}
-
-#[cycle(identities)]
-fn has_identity_in_term(quiver: &Quiver, object: Object, term: &Term) -> bool
-    ensures { result ≡ has_identity_in_term quiver.now object.0 term.now }
-{
-    for factor in term.factors.as_slice() {
-        if has_identity_in_primary(quiver, object, &factor.primary) {
-            return true;
-        }
-    }
-    false
-}
-
-#[cycle(identities)]
-fn has_identity_in_primary(quiver: &Quiver, object: Object, primary: &Primary) -> bool
-    ensures { result ≡ has_identity_in_primary quiver.now object.0 primary.now }
-{
-    match primary {
-        Primary::Letter(_) => false,
-        Primary::Identity(name) => is_the_object(quiver, object, name),
-        Primary::Bracket(sum) => has_identity(quiver, object, sum),
-    }
-}
-
-fn is_the_object(quiver: &Quiver, object: Object, name: &Name) -> bool
-    ensures { result ≡ is_the_object object.0 (named_in quiver.now name.now.text) }
-{
-    match quiver.find(name.text.as_str()) {
-        Some(Named::Object(found)) => found == object,
-        _ => false,
-    }
 }

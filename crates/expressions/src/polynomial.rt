@@ -1,6 +1,6 @@
 ghost use Rattle.std.specs.Prelude.{◌≡◌, ◌<◌, [], map, MatchResult, Ok, IfOk, IfErr, IsTrue};
 ghost use Rattle.std.specs.List.{All};
-ghost use Rattle.definitions.specs.Generators.{adjoint_word, adjoint_poly};
+ghost use Rattle.definitions.specs.Generators.{adjoint_poly};
 ghost use Rattle.word_core.specs.Letters.{IsOver};
 ghost use Rattle.nc_polynomial.specs.Arithmetic.{sum_result, multiple_result};
 ghost use Rattle.nc_polynomial.specs.Collected.{collection_result};
@@ -10,6 +10,7 @@ ghost use Rattle.expressions.specs.Names.{AreNames, are_names_of_term, are_names
 ghost use Rattle.expressions.specs.Polynomials.{letter_poly, adjoint_by, marked_poly, product_poly, scaled_by, signed, sum_step, total, sum_poly, term_poly, factor_poly, primary_poly, equation_poly};
 
 use crate::names::{letter_of, object_of};
+use adjoint_rules::adjoint_word;
 use coef_int::Overflow;
 use lists::Listing;
 use nc_polynomial::{Poly, PolyFault, merge_terms, negate_terms};
@@ -206,18 +207,4 @@ fn adjoint(alloc: Global, quiver: &Quiver, poly: &Poly) -> Result<Poly, PolyFaul
         terms.push((term.0, adjoint_word(alloc, quiver, &term.1)?))?;
     }
     Poly::from_terms(alloc, terms.as_slice())
-}
-
-// The adjoints of the letters, in reverse.
-fn adjoint_word(alloc: Global, quiver: &Quiver, word: &Word) -> Result<Word, AllocError>
-    requires { IsOver (letter_count quiver.now) word.now }
-    ensures { IfOk result (λ w. w ≡ adjoint_word (quiver_of quiver.now) word.now) }
-{
-    let mut adjoint = Word::new(alloc);
-    let mut place = word.len();
-    while place > 0 {
-        place -= 1;
-        adjoint.push(quiver.star_of(word.letter(place)))?;
-    }
-    Ok(adjoint)
 }

@@ -3,9 +3,10 @@ ghost use Rattle.quiver.specs.Declarations.{named_in};
 ghost use Rattle.expressions.specs.Names.{are_names, are_names_of_term, are_names_of_primary, is_map, is_object};
 
 use crate::{
-    SignatureFault, equation_poly, equation_signature, equations_are_typed, has_identity, has_mark,
-    letters_are_written,
+    SignatureFault, equation_poly, equation_signature, equations_are_typed, has_mark, letter_of,
+    letters_are_written, object_of,
 };
+use lists::Text;
 use nc_polynomial::{Poly, PolyFault};
 use quiver::{Named, Quiver, QuiverFault, Sig};
 use statement_syntax::{
@@ -72,6 +73,21 @@ fn is_object(quiver: &Quiver, name: &Name) -> bool
     ensures { result ≡ is_object (named_in quiver.now name.now.text) }
 {
     matches!(quiver.find(name.text.as_str()), Some(Named::Object(_)))
+}
+
+#[test]
+fn a_name_stands_for_a_map_or_an_object(rt: HostRuntime) -> Result<(), Fail> {
+    let quiver = small(rt.alloc())?;
+    let at = spot(1);
+    let text = Text::from_str(rt.alloc(), "x")?;
+    let map = Name { text, at };
+    let text = Text::from_str(rt.alloc(), "V")?;
+    let object = Name { text, at };
+    assert!(&rt; is_map(&quiver, &map));
+    assert!(&rt; is_object(&quiver, &object));
+    assert_eq!(&rt; letter_of(&quiver, &map), Letter(6));
+    assert_eq!(&rt; object_of(&quiver, &object), Object(1));
+    Ok(())
 }
 
 fn tree_of(rt: &HostRuntime, text: &str) -> Result<Tree, Fail> {
@@ -300,25 +316,21 @@ fn large_polynomials_are_refused(rt: HostRuntime) -> Result<(), Fail> {
 }
 
 #[test]
-fn marks_and_identities_are_found(rt: HostRuntime) -> Result<(), Fail> {
+fn marks_are_found(rt: HostRuntime) -> Result<(), Fail> {
     let cases = [
-        ("a = b", false, false),
-        ("0 = b", false, false),
-        ("a' = b", true, false),
-        ("2 a ((b + x)') = a", true, false),
-        ("(p (a x)'')  = [V]", true, false),
-        ("[U] = a", false, true),
-        ("a (b + 0 - [V] (x [U])) = a", false, true),
-        ("[V] = [U]", false, false),
-        ("[U]' = a", true, true),
+        ("a = b", false),
+        ("0 = b", false),
+        ("a' = b", true),
+        ("2 a ((b + x)') = a", true),
+        ("(p (a x)'')  = [V]", true),
+        ("[U] = a'", false),
+        ("a (b + 0 - [V] (x [U]')) = a", true),
     ];
-    let quiver = small(rt.alloc())?;
-    for (claim, mark, identity) in cases {
+    for (claim, want) in cases {
         let text = format!(in rt.alloc(); "claim {claim}")?;
         let tree = tree_of(&rt, text.as_str())?;
         let (left, _) = sides(&tree)?;
-        assert_eq!(&rt; has_mark(left), mark, "{claim}");
-        assert_eq!(&rt; has_identity(&quiver, Object(0), left), identity, "{claim}");
+        assert_eq!(&rt; has_mark(left), want, "{claim}");
     }
     Ok(())
 }

@@ -1,5 +1,5 @@
 -- The choice that is computed is that of the greatest word, the least number and the leftmost place, and the only such one.
-use Rattle.std.proofs.Common.{◌≡◌, ◌⊎◌, inl, inr, ℕ, ◌<◌, ℤ, List, [], ◌∷◌, length, get_or, Option, Some, None, IfSome, ◌↔◌, refl, sym, ap, ap₂, ◌∙◌, subst, arith}
+use Rattle.std.proofs.Common.{◌≡◌, inl, inr, ℕ, ◌<◌, ℤ, List, [], ◌∷◌, length, get_or, Option, Some, None, IfSome, refl, sym, ap, ap₂, ◌∙◌, subst, arith}
 use Rattle.std.specs.List.{All, AllByRecursion, Contains}
 use Rattle.std.proofs.lemmas.List.{get_or_default}
 use Rattle.std.proofs.lemmas.List.Elements.{All-from_recursion, recursion_from_All, All-weaker, All-contains_itself, All-contains}
@@ -18,7 +18,7 @@ use Rattle.rule_index.proofs.PlacesOfWords.{place_in-is}
 use Rattle.rule_reduce.specs.declared.rule.Rule.{Rule}
 use Rattle.rule_reduce.specs.declared.state.Choice.{Choice}
 use Rattle.rule_reduce.specs.RuleLists.{rule_at, entries_of}
-use Rattle.rule_reduce.specs.Choices.{choice_or, better_choice, choice_from, choice_of, IsChoice, ChoicesAreExact}
+use Rattle.rule_reduce.specs.Choices.{choice_or, better_choice, choice_from, choice_of, IsChoice, IsSettled, ChoicesAreExact}
 use Rattle.rule_reduce.proofs.Numbers.{rule_at-all}
 use Rattle.rule_reduce.proofs.Irreducible.{no_match, irreducible_where_none}
 use Rattle.rule_reduce.proofs.Matched.{Matched, matched}
@@ -127,27 +127,30 @@ found compare rules p c is =
     }
 
 module _ (letters : ℕ) (compare : Compare) (rank : List ℕ → List ℕ) (laws : IsAdmissible letters compare rank) (rules : List Rule) (p : List Term) where
+  -- no word above the chosen one has a match
+  pub none_above : (c : Choice) → choice_of compare (entries_of rules) p ≡ Some c → AllByRecursion (λ t. IsSettled compare (entries_of rules) c.word t.1) p
+  none_above c is = go p (at_most compare (entries_of rules) letters rank laws p None c is).each
+    where
+      go : (q : List Term) → AllByRecursion (λ t. (m : ℕ × ℕ) → match_of (entries_of rules) t.1 ≡ Some m → IsAtMost compare t.1 c.word) q → AllByRecursion (λ t. IsSettled compare (entries_of rules) c.word t.1) q
+      go [] below = tt
+      go (t ∷ q) below = (λ greater. no_match_above compare (entries_of rules) letters rank laws t c below.0 greater, go q below.1)
+
   -- what is computed is such a choice
   pub choice_tells : (c : Choice) → choice_of compare (entries_of rules) p ≡ Some c → IsChoice compare rules p c
   choice_tells c is =
       let made = found compare rules p c is in
-      let bounds = at_most compare (entries_of rules) letters rank laws p None c is in
       record {
         term = made.term;
         rule = made.match.rule;
         numbered = made.match.numbered;
-        greatest = All-from_recursion (λ t. compare t.1 c.word ≡ Greater → All (λ g. OccursNowhere t.1 g.lead) rules) p (above c p bounds.each);
+        greatest = All-from_recursion (λ t. compare t.1 c.word ≡ Greater → All (λ g. OccursNowhere t.1 g.lead) rules) p (above c p (none_above c is));
         least = made.match.least;
         leftmost = made.match.leftmost;
       }
     where
-      above : (c : Choice) (q : List Term) → AllByRecursion (λ t. (m : ℕ × ℕ) → match_of (entries_of rules) t.1 ≡ Some m → IsAtMost compare t.1 c.word) q
-          → AllByRecursion (λ t. compare t.1 c.word ≡ Greater → All (λ g. OccursNowhere t.1 g.lead) rules) q
-      above c [] below = tt
-      above c (t ∷ q) below = (
-        λ greater. All-from_recursion (λ g. OccursNowhere t.1 g.lead) rules (no_match 1 rules t.1 (no_match_above compare (entries_of rules) letters rank laws t c below.0 greater)),
-        above c q below.1,
-      )
+      above : (c : Choice) (q : List Term) → AllByRecursion (λ t. IsSettled compare (entries_of rules) c.word t.1) q → AllByRecursion (λ t. compare t.1 c.word ≡ Greater → All (λ g. OccursNowhere t.1 g.lead) rules) q
+      above c [] settled = tt
+      above c (t ∷ q) settled = (λ greater. All-from_recursion (λ g. OccursNowhere t.1 g.lead) rules (no_match 1 rules t.1 (settled.0 greater)), above c q settled.1)
 
   -- a word that can be reduced is not above the chosen one
   not_above : (c d : Choice) → IsChoice compare rules p c → IsChoice compare rules p d → compare c.word d.word ≡ Greater → ⊥

@@ -12,6 +12,7 @@ pub mod Matched
 pub mod AtMost
 pub mod Chosen
 pub mod WordsKept
+pub mod Settled
 pub mod KeptWordLaws
 pub mod LettersKept
 pub mod LeadingPlaces

@@ -1,5 +1,5 @@
 -- The rule that matches a word: the first one whose leading word occurs in it.
-use Rattle.std.proofs.Common.{◌≡◌, ℕ, zero, suc, ◌+◌, ◌<◌, List, [], ◌∷◌, slice_get, Option, Some, None, MatchOption, refl, sym, ap, ◌∙◌, subst, arith}
+use Rattle.std.proofs.Common.{◌≡◌, ℕ, zero, suc, ◌+◌, ◌<◌, List, [], ◌∷◌, slice_get, Option, Some, None, MatchOption, refl, subst, arith}
 use Rattle.std.proofs.lemmas.Option.{same_Some, some_pair_parts}
 use Rattle.word_core.specs.Occurrence.{OccursNowhere, IsFirstPlace}
 use Rattle.rule_index.specs.Matches.{match_or, match_of, place_in}

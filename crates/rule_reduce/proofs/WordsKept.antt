@@ -1,11 +1,10 @@
 -- A property of words that replacing a leading word by the other words of its rule keeps is kept by a reduction.
-use Rattle.std.proofs.Common.{◌≡◌, ◌≢◌, ℕ, ◌+◌, ℤ, pos, Bool, true, false, List, [], ◌∷◌, ◌++◌, length, map, take, drop, Some, Ok, refl, sym, ap, ap₂, ◌∙◌, subst}
-use Rattle.std.specs.List.{All, AllByRecursion, Contains}
+use Rattle.std.proofs.Common.{◌≡◌, ◌≢◌, ℕ, ◌+◌, pos, Bool, true, false, List, [], ◌∷◌, ◌++◌, length, take, drop, Some, Ok, refl, sym, ap, ap₂, ◌∙◌, subst}
+use Rattle.std.specs.List.{AllByRecursion}
 use Rattle.std.proofs.lemmas.List.{take_at, drop_at, drop-drop}
 use Rattle.std.proofs.lemmas.List.Elements.{All-from_recursion, All-contains}
 use Rattle.std.proofs.lemmas.Option.{same_Some}
 use Rattle.definitions.specs.Poly.{Term, word_eq, coefficient_of}
-use Rattle.definitions.specs.Combination.{generator_at}
 use Rattle.definitions.proofs.Linear.{word_eq-true, coefficient_other}
 use Rattle.word_core.specs.Occurrence.{OccursAt}
 use Rattle.word_orders.specs.Admissible.{Compare}
@@ -23,7 +22,7 @@ use Rattle.rule_reduce.proofs.Numbers.{rule_at-polynomial}
 use Rattle.rule_reduce.proofs.Rows.{all-multiplied}
 use Rattle.rule_reduce.proofs.Runs.{reduction_keeps}
 use Rattle.rule_reduce.proofs.LettersKept.{each-moved}
-use Rattle.rule_reduce.proofs.Chosen.{Found, found}
+use Rattle.rule_reduce.proofs.Chosen.{found}
 
 -- what holds of each word that stands there holds of each word with a coefficient
 pub words_with_coefficients : (P : List ℕ → Type 0) (p : List Term) → AllByRecursion (λ t. P t.1) p → (w : List ℕ) → coefficient_of p w ≢ pos 0 → P w

@@ -41,6 +41,10 @@ choice_from compare entries best (t ∷ p) = choice_from compare entries (better
 abbrev pub choice_of : Compare → List (List ℕ × ℕ) → List Term → Option Choice
 choice_of compare entries p = choice_from compare entries None p
 
+-- no leading word occurs in the word if it is above the last one that was reduced
+abbrev pub IsSettled : Compare → List (List ℕ × ℕ) → List ℕ → List ℕ → Type 0
+IsSettled compare entries last w = compare w last ≡ Greater → match_of entries w ≡ None
+
 -- In an admissible order, the choice that this computes is the one that there is.
 abbrev pub ChoicesAreExact : Type 0
 ChoicesAreExact = (letters : ℕ) (compare : Compare) (rank : List ℕ → List ℕ) (rules : List Rule) (p : List Term) (c : Choice)

@@ -170,17 +170,25 @@ impl<O: WordOrder + Drop> Rules<O> {
         ensures exact { MatchResult result (λ t. reduction steps (O.compare self.now.order) self.now.rules steps start ≡ Ok t) (ExplainsHalt (reduction steps (O.compare self.now.order) self.now.rules steps start)) }
     {
         let mut state = start;
+        let mut last: Option<Word> = None;
         for _ in 0..steps {
-            let choice = match choose(&self.order, &self.index, state.rest.as_slice())? {
+            let terms = state.rest.as_slice();
+            let choice = match choose(&self.order, &self.index, last.as_ref(), terms)? {
                 Some(choice) => choice,
                 None => return Ok(state),
             };
+            last = Some(choice.word.copy()?);
             state = match take_step(self.rules.allocator(), self.rules.as_slice(), choice, state) {
                 Ok(next) => next,
                 Err(fault) => return Err(halt(fault)),
             };
         }
-        match choose(&self.order, &self.index, state.rest.as_slice())? {
+        match choose(
+            &self.order,
+            &self.index,
+            last.as_ref(),
+            state.rest.as_slice(),
+        )? {
             Some(_) => Err(ReduceFault::Steps { limit: steps }),
             None => Ok(state),
         }

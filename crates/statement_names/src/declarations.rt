@@ -6,7 +6,7 @@ ghost use Rattle.quiver.specs.Refusals.{IsMemory};
 ghost use Rattle.statement_names.specs.Faults.{name_fault_of};
 ghost use Rattle.statement_names.specs.Numbered.{objects_in, maps_in, declarations_of, HasEnds};
 
-use crate::named::object_named;
+use expressions::object_of;
 use quiver::{Quiver, QuiverFault};
 use statement_syntax::{Statement, StatementKind};
 use std::alloc::{AllocError, Global};
@@ -55,8 +55,8 @@ fn add_maps(quiver: &mut Quiver, statement: &StatementKind) -> Result<(), AllocE
         selfmade,
     } = statement
     {
-        let source = object_named(quiver, source);
-        let target = object_named(quiver, target);
+        let source = object_of(quiver, source);
+        let target = object_of(quiver, target);
         for name in names.as_slice() {
             match quiver.add_map(name.text.as_str(), source, target, *selfmade) {
                 Ok(_) => {}

@@ -1,13 +1,13 @@
 //! The names of a statement file: what it declares, its order, its shapes, and the first thing that is wrong with them.
 #![tactic(auto)]
 
+mod by_kind;
 mod declarations;
 mod declaring;
 mod fault;
 mod kinds;
 mod literal;
 mod marked;
-mod named;
 mod names;
 mod order;
 mod shapes;

@@ -1,17 +1,16 @@
 ghost use Rattle.std.specs.Prelude.{◌≡◌, ◌≤◌, ◌^◌, ◌||◌, false, length, map, IfOk, OnOk};
 ghost use Rattle.std.specs.List.{list_any, slice_index_or};
-ghost use Rattle.quiver.specs.Declarations.{object_count};
-ghost use Rattle.expressions.specs.Occurrences.{has_identity};
+ghost use Rattle.quiver.specs.Declarations.{named_in, object_count};
+ghost use Rattle.expressions.specs.Occurrences.{has_identity, has_identity_in_term, has_identity_in_primary, is_the_object};
 ghost use Rattle.statement_names.specs.Marked.{an_object, writes_identity, stated_by, marked_of};
 ghost use Rattle.statement_names.specs.Marks.{Marks};
 ghost use Rattle.statement_names.specs.Solved.{numbers_that};
 ghost use Rattle.statement_names.specs.Written.{abbreviation_of};
 
 use crate::written::abbreviation;
-use expressions::has_identity;
 use lists::Listing;
-use quiver::Quiver;
-use statement_syntax::{Statement, StatementKind, Sum};
+use quiver::{Named, Quiver};
+use statement_syntax::{Name, Primary, Statement, StatementKind, Sum, Term};
 use std::alloc::{AllocError, Global};
 use word_core::Object;
 
@@ -68,11 +67,50 @@ fn mark_sides(quiver: &Quiver, left: &Sum, right: &Sum, marks: &mut [bool])
     requires { length marks.old ≡ object_count quiver.now }
     ensures { Marks marks.old marks.new (λ v. has_identity quiver.now v left.now || has_identity quiver.now v right.now) }
 {
-    for number in 0..quiver.objects() {
-        let object = Object(number as u16);
-        if has_identity(quiver, object, left) || has_identity(quiver, object, right) {
-            marks[number as usize] = true;
-        }
+    mark_sum(quiver, left, marks);
+    mark_sum(quiver, right, marks);
+}
+
+// Marks the objects whose names stand in square brackets in an expression.
+#[cycle(identities)]
+fn mark_sum(quiver: &Quiver, sum: &Sum, marks: &mut [bool])
+    requires { length marks.old ≡ object_count quiver.now }
+    ensures { Marks marks.old marks.new (λ v. has_identity quiver.now v sum.now) }
+{
+    for term in sum.terms.as_slice() {
+        mark_term(quiver, term, marks);
+    }
+}
+
+#[cycle(identities)]
+fn mark_term(quiver: &Quiver, term: &Term, marks: &mut [bool])
+    requires { length marks.old ≡ object_count quiver.now }
+    ensures { Marks marks.old marks.new (λ v. has_identity_in_term quiver.now v term.now) }
+{
+    for factor in term.factors.as_slice() {
+        mark_primary(quiver, &factor.primary, marks);
+    }
+}
+
+#[cycle(identities)]
+fn mark_primary(quiver: &Quiver, primary: &Primary, marks: &mut [bool])
+    requires { length marks.old ≡ object_count quiver.now }
+    ensures { Marks marks.old marks.new (λ v. has_identity_in_primary quiver.now v primary.now) }
+{
+    match primary {
+        Primary::Letter(_) => {}
+        Primary::Identity(name) => mark_object(quiver, name, marks),
+        Primary::Bracket(sum) => mark_sum(quiver, sum, marks),
+    }
+}
+
+// Marks the object with this name, if there is one.
+fn mark_object(quiver: &Quiver, name: &Name, marks: &mut [bool])
+    requires { length marks.old ≡ object_count quiver.now }
+    ensures { Marks marks.old marks.new (λ v. is_the_object v (named_in quiver.now name.now.text)) }
+{
+    if let Some(Named::Object(object)) = quiver.find(name.text.as_str()) {
+        marks[usize::from(object.0)] = true;
     }
 }
 

@@ -7,7 +7,7 @@ ghost use Rattle.statement_names.specs.Numbered.{declarations_of};
 ghost use Rattle.statement_names.specs.Ordered.{order_of, weights_of};
 
 use crate::literal::value_of;
-use crate::named::letter_named;
+use expressions::letter_of;
 use lists::Listing;
 use quiver::Quiver;
 use statement_syntax::{Name, Number, Statement, StatementKind};
@@ -50,7 +50,7 @@ fn weights_of(
 {
     let mut weights = Listing::new(alloc);
     for pair in pairs {
-        let letter = letter_named(quiver, &pair.0);
+        let letter = letter_of(quiver, &pair.0);
         let star = quiver.star_of(letter);
         let weight = value_of(&pair.1) as u32;
         weights.push((letter, weight))?;

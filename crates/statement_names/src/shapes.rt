@@ -7,8 +7,8 @@ ghost use Rattle.statement_names.specs.Numbered.{declarations_of};
 ghost use Rattle.statement_names.specs.Shapes.{shape, sides_of, shapes_of};
 
 use crate::literal::value_of;
-use crate::named::object_named;
 use adjoint_rules::Shape;
+use expressions::object_of;
 use lists::Listing;
 use quiver::Quiver;
 use statement_syntax::{Name, Number, Statement, StatementKind};
@@ -63,7 +63,7 @@ fn sides_of(
 {
     let mut sides = vec![in alloc; 1u32; quiver.objects() as usize]?;
     for pair in pairs {
-        let object = object_named(quiver, &pair.0);
+        let object = object_of(quiver, &pair.0);
         sides[usize::from(object.0)] = value_of(&pair.1) as u32;
     }
     Ok(Listing::from_vec(sides))

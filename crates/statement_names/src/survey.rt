@@ -1,14 +1,13 @@
 //! The search for the first fault: each name, literal and first word of the file, in reading order.
 
-ghost use Rattle.std.specs.Prelude.{◌≡◌, ◌-◌, None, Some, Ok, OnOk, IfErr};
+ghost use Rattle.std.specs.Prelude.{◌≡◌, ◌-◌, None, Some, OnOk, IfErr};
 ghost use Rattle.statement_names.specs.Faults.{name_fault_of, Explains};
-ghost use Rattle.statement_names.specs.Occurrences.{begins_order, begins_assumptions, begins_claim, begins_shape, statement_occurrences};
-ghost use Rattle.statement_names.specs.Survey.{fault_at, behind, run, fault_in, short_of};
+ghost use Rattle.statement_names.specs.Occurrences.{begins_order, begins_assumptions, begins_claim, begins_shape};
+ghost use Rattle.statement_names.specs.Survey.{fault_at, behind, short_of};
 
 use crate::fault::NameFault;
-use crate::kinds::{Kind, Kinds, kinds_of};
-use crate::literal::check_modulus;
-use statement_syntax::{Spot, Statement, StatementKind};
+use crate::kinds::{Kinds, kinds_of};
+use statement_syntax::{Spot, Statement};
 use std::alloc::Global;
 
 /// The greatest number of objects.
@@ -22,10 +21,6 @@ const ASSUMPTION_LIMIT: u32 = 500;
 const CLAIM_LIMIT: u32 = 100;
 
 const SHAPE_LIMIT: u32 = 16;
-
-const GREATEST_WEIGHT: u32 = 1000;
-
-const GREATEST_SIDE: u32 = 6;
 
 /// What all of a file declares, what is declared so far, and how many more of each may come.
 #[derive(Drop)]
@@ -76,7 +71,7 @@ pub fn take_room(room: &mut u32, more: u32, fault: NameFault) -> Result<(), Name
 
 impl Survey {
     // The first word of a statement with so many assumptions.
-    fn assumptions(&mut self, count: u32, at: Spot) -> Result<(), NameFault>
+    pub(crate) fn assumptions(&mut self, count: u32, at: Spot) -> Result<(), NameFault>
         ensures ok { OnOk result (fault_at self.old (begins_assumptions count at) ≡ None) }
         ensures after { OnOk result (self.new ≡ behind self.old (begins_assumptions count at)) }
         ensures err { IfErr result (Explains (fault_at self.old (begins_assumptions count at))) }
@@ -89,7 +84,7 @@ impl Survey {
     }
 
     // The first word of a claim.
-    fn claim(&mut self, at: Spot) -> Result<(), NameFault>
+    pub(crate) fn claim(&mut self, at: Spot) -> Result<(), NameFault>
         ensures ok { OnOk result (fault_at self.old (begins_claim at) ≡ None) }
         ensures after { OnOk result (self.new ≡ behind self.old (begins_claim at)) }
         ensures err { IfErr result (Explains (fault_at self.old (begins_claim at))) }
@@ -102,7 +97,7 @@ impl Survey {
     }
 
     // The first word of a shape.
-    fn shape(&mut self, at: Spot) -> Result<(), NameFault>
+    pub(crate) fn shape(&mut self, at: Spot) -> Result<(), NameFault>
         ensures ok { OnOk result (fault_at self.old (begins_shape at) ≡ None) }
         ensures after { OnOk result (self.new ≡ behind self.old (begins_shape at)) }
         ensures err { IfErr result (Explains (fault_at self.old (begins_shape at))) }
@@ -115,66 +110,11 @@ impl Survey {
     }
 
     // The first word of an order.
-    fn order(&mut self, at: Spot) -> Result<(), NameFault>
+    pub(crate) fn order(&mut self, at: Spot) -> Result<(), NameFault>
         ensures ok { OnOk result (fault_at self.old (begins_order at) ≡ None) }
         ensures after { OnOk result (self.new ≡ behind self.old (begins_order at)) }
         ensures err { IfErr result (Explains (fault_at self.old (begins_order at))) }
     {
         take_room(&mut self.orders, 1, NameFault::Double { at })
-    }
-
-    // All names, literals and first words of a statement.
-    fn statement(&mut self, alloc: Global, statement: &Statement) -> Result<(), NameFault>
-        ensures ok { OnOk result (run self.old (statement_occurrences statement.now) ≡ Ok self.new) }
-        ensures err { IfErr result (Explains (fault_in (run self.old (statement_occurrences statement.now)))) }
-    {
-        let at = statement.at;
-        match &statement.kind {
-            StatementKind::Objects(names) => self.objects(names.as_slice()),
-            StatementKind::Maps {
-                names,
-                source,
-                target,
-                selfmade,
-            } => {
-                self.maps(names.as_slice(), source, target, *selfmade)?;
-                self.two(source, target, Kind::Object)
-            }
-            StatementKind::Assume(left, right) => {
-                self.assumptions(1, at)?;
-                self.sides(left, right)
-            }
-            StatementKind::Claim(left, right) => {
-                self.claim(at)?;
-                self.sides(left, right)
-            }
-            StatementKind::Pinv(first, second) => {
-                self.assumptions(4, at)?;
-                self.two(first, second, Kind::Map)
-            }
-            StatementKind::Inverse(first, second) => {
-                self.assumptions(2, at)?;
-                self.two(first, second, Kind::Map)
-            }
-            StatementKind::Inner(first, second) => {
-                self.assumptions(1, at)?;
-                self.two(first, second, Kind::Map)
-            }
-            StatementKind::Projection(name) => {
-                self.assumptions(2, at)?;
-                self.name(name, Kind::Map)
-            }
-            StatementKind::Degree => self.order(at),
-            StatementKind::Weight(weights) => {
-                self.order(at)?;
-                self.pairs(alloc, weights.as_slice(), Kind::Map, GREATEST_WEIGHT)
-            }
-            StatementKind::Solve(names) => self.names(alloc, names.as_slice()),
-            StatementKind::Shape { modulus, sides } => {
-                self.shape(at)?;
-                check_modulus(modulus)?;
-                self.pairs(alloc, sides.as_slice(), Kind::Object, GREATEST_SIDE)
-            }
-        }
     }
 }

@@ -215,6 +215,26 @@ fn marks_and_self_star_a_file(rt: HostRuntime) -> Result<(), Fail> {
 }
 
 #[test]
+fn objects_in_square_brackets_are_marked(rt: HostRuntime) -> Result<(), Fail> {
+    let cases: [(&str, &[Object]); 5] = [
+        ("claim [W] = [U]", &[Object(0), Object(2)]),
+        (
+            "claim a (a + 0 - [V] (a [U]))' = a",
+            &[Object(0), Object(1)],
+        ),
+        ("assume a = 2 [V]'", &[Object(1)]),
+        ("inverse a a", &[Object(0), Object(1)]),
+        ("pinv a a", &[]),
+    ];
+    for (line, want) in cases {
+        let text = format!(in rt.alloc(); "object U V W\nmap a : U -> V\n{line}")?;
+        let names = names_of(&rt, text.as_str())?;
+        assert_eq!(&rt; names.marked.as_slice(), want, "{line}");
+    }
+    Ok(())
+}
+
+#[test]
 fn abbreviations_are_written_out(rt: HostRuntime) -> Result<(), Fail> {
     let cases: [(&str, usize); 6] = [
         ("  pinv a x", 4),

@@ -1,9 +1,7 @@
-use Rattle.std.proofs.Common.{rules, ◌≡◌, ◌*ℤ◌, pos, [], ◌∷◌, map, Ok, Err, sym, ap, ◌∙◌, subst}
+use Rattle.std.proofs.Common.{rules, ◌≡◌, ◌*ℤ◌, pos, map, Ok, Err, sym, ap, ◌∙◌, subst}
 use Rattle.coef_int.specs.Range.{IsCoefficient}
-use Rattle.coef_int.specs.Operations.{product_of}
 use Rattle.nc_polynomial.specs.Terms.{multiplied, multiplications}
 use Rattle.nc_polynomial.specs.Faults.{checked, Explains}
-use Rattle.rule_reduce.specs.declared.state.State.{State}
 use Rattle.rule_reduce.specs.Steps.{multiplied_row, row_operations, multiplied_state, state_operations, IsInRange}
 use Rattle.rule_reduce.proofs.Exits.{one_checked, state-times-one, exit_rest, exit_rows, all_multiplied, canonical_multiply}
 use Rattle.rule_reduce.proofs.stepping.multiply_state.Goals as goal

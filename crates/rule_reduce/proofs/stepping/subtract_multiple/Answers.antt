@@ -1,4 +1,4 @@
-use Rattle.std.proofs.Common.{rules, ◌≡◌, Ok, Err, MatchResult, sym, subst}
+use Rattle.std.proofs.Common.{rules, ◌≡◌, Ok, Err, MatchResult}
 use Rattle.std.specs.List.{All}
 use Rattle.coef_int.specs.Range.{IsCoefficient}
 use Rattle.nc_polynomial.specs.Terms.{negated, shifted, products, added, sums}

@@ -1,11 +1,9 @@
-use Rattle.std.proofs.Common.{rules, ◌≡◌, ◌+◌, ◌++◌, [], ◌∷◌, int_div, length, take, drop, Ok, Err, refl, sym, ap, ◌∙◌, subst}
+use Rattle.std.proofs.Common.{rules, ◌≡◌, ◌+◌, ◌++◌, [], ◌∷◌, Ok, Err, sym, ap, ◌∙◌, subst}
 use Rattle.coef_int.specs.Range.{IsCoefficient}
 use Rattle.cofactor_trace.specs.declared.Origin.TheVariants as origin
 use Rattle.cofactor_trace.specs.declared.Row.{Row}
 use Rattle.nc_polynomial.specs.Faults.{checked, Explains}
-use Rattle.rule_reduce.specs.declared.state.State.{State}
-use Rattle.rule_reduce.specs.Divisor.{gcd_of}
-use Rattle.rule_reduce.specs.Steps.{Move, move_row, move_of, move_result, multiplied_state, state_operations, IsInRange}
+use Rattle.rule_reduce.specs.Steps.{move_row, move_of, move_result, multiplied_state, state_operations, IsInRange}
 use Rattle.rule_reduce.proofs.Rows.{all_push}
 use Rattle.rule_reduce.proofs.Exits.{less, exit_multiplied, exit_subtracted, step_ends, memory-explains}
 use Rattle.rule_reduce.proofs.stepping.take_away.Goals as goal

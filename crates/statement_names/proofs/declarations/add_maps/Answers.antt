@@ -18,22 +18,22 @@ in_more before after more v is below = omega (arith, ap object_count is, object_
 
 pub add_map-requires-clause-source_in : goal.add_map-requires-clause-source_in
 add_map-requires-clause-source_in c =
-    in_more c.args.quiver.now c.loop-name.quiver _ c.object_named-source.result.0 c.loop-name.invariant c.object_named-source.ensures.in_range
+    in_more c.args.quiver.now c.loop-name.quiver _ c.object_of-source.result.0 c.loop-name.invariant c.object_of-source.ensures.in_range
 
 pub add_map-requires-clause-target_in : goal.add_map-requires-clause-target_in
 add_map-requires-clause-target_in c =
-    in_more c.args.quiver.now c.loop-name.quiver _ c.object_named-target.result.0 c.loop-name.invariant c.object_named-target.ensures.in_range
+    in_more c.args.quiver.now c.loop-name.quiver _ c.object_of-target.result.0 c.loop-name.invariant c.object_of-target.ensures.in_range
 
 pub memory_of-requires : goal.memory_of-requires
 memory_of-requires c =
     let names = c.as_slice-name-items.result.now in
-    let u = c.object_named-source.result.0 in
-    let v = c.object_named-target.result.0 in
+    let u = c.object_of-source.result.0 in
+    let v = c.object_of-target.result.0 in
     let made = declaration u v c.in-Maps.selfmade in
     let rest = map made (drop (c.loop-name.name-index + 1) names) in
     let whole : c.args.quiver.now ++ maps_in c.args.quiver.now c.args.statement.now ≡ c.loop-name.quiver ++ made c.name-item.result ∷ rest =
     ap (λ k. c.args.quiver.now ++ maps_in c.args.quiver.now k) c.in-Maps.is
-    ∙ ap₂ (λ s t. c.args.quiver.now ++ map (declaration s t c.in-Maps.selfmade) c.in-Maps.names) (sym c.object_named-source.ensures.number) (sym c.object_named-target.ensures.number)
+    ∙ ap₂ (λ s t. c.args.quiver.now ++ map (declaration s t c.in-Maps.selfmade) c.in-Maps.names) (sym c.object_of-source.ensures.number) (sym c.object_of-target.ensures.number)
     ∙ ap (λ ns. c.args.quiver.now ++ map made ns) (sym c.as_slice-name-items.ensures)
     ∙ map_split names c.loop-name.name-index c.name-item.result c.loop-name-test.true c.name-item.is made c.args.quiver.now
     ∙ ap (λ q. q ++ made c.name-item.result ∷ rest) (sym c.loop-name.invariant) in

@@ -12,7 +12,7 @@ loop-pair-preserved c =
     let p = c.pair-item.result in
     let named : IsTrue (is_object (named_in c.args.quiver.now p.0.text)) =
     subst (λ q. IsTrue (is_object (named_in c.args.quiver.now q.0.text))) (sym c.pair-item.is) (c.requires.objects c.loop-pair.pair-index p c.loop-pair-test.true) in
-    let place : c.from.result ≡ object_of c.args.quiver.now p.0 = c.from.ensures ∙ c.object_named-object.ensures.number in
+    let place : c.from.result ≡ object_of c.args.quiver.now p.0 = c.from.ensures ∙ c.object_of-object.ensures.number in
     let value : c.value_of.result ≡ value_of p.1.value = search rules in
     record {
       size = length-set c.loop-pair.sides.items c.from.result c.value_of.result ∙ c.loop-pair.invariant.size;

@@ -1,13 +1,15 @@
-use Rattle.std.proofs.Common.{rules, ◌≡◌, ◌+◌, ◌-◌, suc, zero, List, Some, None, Ok, Result, arith, sym, ap, ◌∙◌, subst}
+use Rattle.std.proofs.Common.{rules, ◌≡◌, ◌+◌, ◌-◌, suc, zero, List, Some, None, Ok, Result, IfSome, arith, sym, ap, ◌∙◌, subst}
 use Rattle.std.specs.List.{All}
 use Rattle.word_core.specs.Letters.{IsOver}
 use Rattle.nc_polynomial.specs.Faults.{Explains}
 use Rattle.rule_reduce.specs.declared.rule.Rule.{Rule}
 use Rattle.rule_reduce.specs.declared.state.State.{State}
 use Rattle.rule_reduce.specs.declared.fault.ReduceFault.{ReduceFault}
-use Rattle.rule_reduce.specs.Choices.{choice_of}
+use Rattle.rule_reduce.specs.RuleLists.{entries_of}
+use Rattle.rule_reduce.specs.Choices.{choice_of, IsSettled}
 use Rattle.rule_reduce.specs.Steps.{step_result}
 use Rattle.rule_reduce.specs.NormalForms.{halt_of, reduction, ExplainsHalt}
+use Rattle.rule_reduce.proofs.Settled.{if_borrowed, step_settles}
 use Rattle.rule_reduce.proofs.Rounds.{stops, goes_on, explains_fault, runs_out}
 use Rattle.rule_reduce.proofs.rules.Rules.reduce.Goals as goal
 
@@ -40,17 +42,22 @@ loop-preserved g c =
     let left = limit - c.loop.counter - 1 in
     let found : choice_of compare c.args.self.now.index s.rest ≡ Some choice = search rules in
     let pick = subst (λ es. choice_of compare es s.rest ≡ Some choice) c.args.self.now.indexed found in
-    let same_rules : c.as_slice-in-loop.result.now ≡ all = search rules in
+    let same_rules : c.as_slice.result.now ≡ all = search rules in
     let stepped : step_result all choice s ≡ Ok next = search rules in
     let more : suc left ≡ limit - c.loop.counter = omega arith in
     let fewer : limit - (c.loop.counter + 1) ≡ left = omega arith in
     let rules_over : All (λ f. All (λ u. IsOver letters u.1) f.poly.terms) all = λ k d inside. (c.args.self.now.each k d inside).over in
     let word_over : IsOver letters choice.word = search rules in
+    let word : choice.word ≡ c.in_ok-copy.field-0 = search rules in
+    let above : All (λ t. IsSettled compare (entries_of all) choice.word t.1) next.rest = step_settles letters compare (g.O.WordOrder.rank c.args.self.now.order) (g.met.O.WordOrder.admissible c.args.self.now.order) all choice c.args.self.now.each s next pick stepped in
+    let above_index = subst (λ es. All (λ t. IsSettled compare es choice.word t.1) next.rest) (sym c.args.self.now.indexed) above in
     record {
       within = omega arith;
       used = search rules;
       in_range = search rules;
       over = c.in-Ok.ensures.letters letters (subst (λ (rs : List Rule). All (λ f. All (λ u. IsOver letters u.1) f.poly.terms) rs) (sym same_rules) rules_over) word_over c.loop.invariant.over;
+      last_over = subst (IsOver letters) word word_over;
+      settled = subst (λ w. All (λ t. IsSettled compare c.args.self.now.index w t.1) next.rest) word above_index;
       same = ap (λ n. reduction limit compare all n next) fewer ∙ sym (goes_on limit compare all s left choice next pick stepped) ∙ ap (λ n. reduction limit compare all n s) more ∙ c.loop.invariant.same;
     }
 
@@ -75,3 +82,27 @@ returns-in-None-2-clause-exact g c =
     let found : choice_of compare c.args.self.now.index s.rest ≡ None = search rules in
     let pick = subst (λ es. choice_of compare es s.rest ≡ None) c.args.self.now.indexed found in
     sym c.loop.invariant.same ∙ stops limit compare all s (limit - c.loop.counter) pick
+
+pub returns-in-None-clause-exact : goal.returns-in-None-clause-exact
+returns-in-None-clause-exact g c =
+    let compare = g.O.WordOrder.compare c.args.self.now.order in
+    let all = c.args.self.now.rules in
+    let limit = c.args.steps in
+    let s = c.loop.state in
+    let found : choice_of compare c.args.self.now.index s.rest ≡ None = search rules in
+    let pick = subst (λ es. choice_of compare es s.rest ≡ None) c.args.self.now.indexed found in
+    sym c.loop.invariant.same ∙ stops limit compare all s (limit - c.loop.counter) pick
+
+pub choose-requires-clause-settled : goal.choose-requires-clause-settled
+choose-requires-clause-settled g c =
+    let compare = g.O.WordOrder.compare c.args.self.now.order in
+    let index = c.args.self.now.index in
+    let settled = subst (λ p. IfSome c.loop.last (λ w. All (λ t. IsSettled compare index w t.1) p)) (sym c.as_slice-terms.ensures) c.loop.invariant.settled in
+    if_borrowed (λ w. All (λ t. IsSettled compare index w t.1) c.as_slice-terms.result.now) c.as_ref.result c.loop.last c.as_ref.ensures.value settled
+
+pub choose-requires-2-clause-settled : goal.choose-requires-2-clause-settled
+choose-requires-2-clause-settled g c =
+    let compare = g.O.WordOrder.compare c.args.self.now.order in
+    let index = c.args.self.now.index in
+    let settled = subst (λ p. IfSome c.loop.last (λ w. All (λ t. IsSettled compare index w t.1) p)) (sym c.as_slice-2.ensures) c.loop.invariant.settled in
+    if_borrowed (λ w. All (λ t. IsSettled compare index w t.1) c.as_slice-2.result.now) c.as_ref-2.result c.loop.last c.as_ref-2.ensures.value settled

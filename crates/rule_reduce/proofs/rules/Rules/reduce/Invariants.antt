@@ -1,16 +1,19 @@
-use Rattle.std.proofs.Common.{◌≡◌, ◌≤◌, ◌-◌}
+use Rattle.std.proofs.Common.{◌≡◌, ◌≤◌, ◌-◌, IfSome}
 use Rattle.std.specs.List.{All}
 use Rattle.word_core.specs.Letters.{IsOver}
+use Rattle.rule_reduce.specs.Choices.{IsSettled}
 use Rattle.rule_reduce.specs.Steps.{IsInRange}
 use Rattle.rule_reduce.specs.NormalForms.{reduction}
 use Rattle.rule_reduce.proofs.rules.Rules.reduce.Given as goal
 
--- the steps that are left give the normal form
+-- the steps that are left give the normal form, and no word above the last one that was reduced has a match
 abbrev pub invariant-loop : goal.invariant-loop
 invariant-loop g l = record {
   within : l.counter ≤ l.steps;
   used : l.state.used ≤ l.counter;
   in_range : IsInRange l.state;
   over : All (λ t. IsOver (g.O.WordOrder.letters l.self.order) t.1) l.state.rest;
+  last_over : IfSome l.last (IsOver (g.O.WordOrder.letters l.self.order));
+  settled : IfSome l.last (λ w. All (λ t. IsSettled (g.O.WordOrder.compare l.self.order) l.self.index w t.1) l.state.rest);
   same : reduction l.steps (g.O.WordOrder.compare l.self.order) l.self.rules (l.steps - l.counter) l.state ≡ reduction l.steps (g.O.WordOrder.compare l.self.order) l.self.rules l.steps l.fn.start;
 }

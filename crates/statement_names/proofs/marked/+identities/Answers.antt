@@ -1,0 +1,10 @@
+use Rattle.std.proofs.Common.{arith}
+use Rattle.std.proofs.lemmas.Grind.{common_steps}
+use Rattle.expressions.proofs.Trees.{identity-sum, identity-term}
+use Rattle.statement_names.proofs.marked.+identities.Goals as goal
+
+pub mark_sum-returns : goal.mark_sum-returns
+mark_sum-returns t c = grind (arith, common_steps, identity-sum)
+
+pub mark_term-returns : goal.mark_term-returns
+mark_term-returns t c = grind (arith, common_steps, identity-term)

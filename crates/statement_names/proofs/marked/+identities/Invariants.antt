@@ -1,0 +1,12 @@
+use Rattle.std.proofs.Common.{take}
+use Rattle.std.specs.List.{list_any}
+use Rattle.expressions.specs.Occurrences.{has_identity_in_term}
+use Rattle.expressions.proofs.Trees.{has_identity_in_factor}
+use Rattle.statement_names.specs.Marks.{Marks}
+use Rattle.statement_names.proofs.marked.+identities.Given as goal
+
+abbrev pub invariant-mark_sum-loop-term : goal.invariant-mark_sum-loop-term
+invariant-mark_sum-loop-term l = Marks l.initial.marks l.marks (λ v. list_any (has_identity_in_term l.quiver v) (take l.term-index l.term-items))
+
+abbrev pub invariant-mark_term-loop-factor : goal.invariant-mark_term-loop-factor
+invariant-mark_term-loop-factor l = Marks l.initial.marks l.marks (λ v. list_any (has_identity_in_factor l.quiver v) (take l.factor-index l.factor-items))
