@@ -47,9 +47,10 @@ RecordsFrom place (m ∷ made) = IsRecord place m × RecordsFrom (suc place) mad
 pub records_from : (made : List Made) → AreRecords made → (place : ℕ) (xs : List Made) → ((k : ℕ) (m : Made) → slice_get xs k ≡ Some m → slice_get made (place + k) ≡ Some m) → RecordsFrom place xs
 records_from made records place [] h = tt
 records_from made records place (m ∷ xs) h =
-    let here : place + 0 ≡ place = omega arith in
-    (records.at place m (subst (λ n. slice_get made n ≡ Some m) here (h 0 m refl)),
-    records_from made records (suc place) xs (λ k x e. let next : place + suc k ≡ suc place + k = omega arith in subst (λ n. slice_get made n ≡ Some x) next (h (suc k) x e)))
+    let here : place + 0 ≡ place = omega arith in (
+      records.at place m (subst (λ n. slice_get made n ≡ Some m) here (h 0 m refl)),
+      records_from made records (suc place) xs (λ k x e. let next : place + suc k ≡ suc place + k = omega arith in subst (λ n. slice_get made n ≡ Some x) next (h (suc k) x e)),
+    )
 
 -- whether the rule is one of them
 abbrev pub is_numbered : ℕ → List Numbered → Bool

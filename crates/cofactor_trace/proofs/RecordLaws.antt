@@ -132,3 +132,15 @@ module _ (known : Known) (m : Made) where
       (ok-later (limit_fault (joined known whole m.rows)) _ _ (here rows common h.begins (λ z l. limit_fault (joined known z l) ≡ None) h.short)
       (ok-later (overflow_in operations) _ _ (ap (option_map fault.Overflow) (no_product rows common entries h ∙ parts.0)) refl))
       ∙ ap (λ l. Ok (primitive (m.scale *ℤ whole) l)) parts.1 ∙ ap (λ z. Ok (primitive (m.scale *ℤ z) out)) (sym (common_is rows common h.begins.found))
+
+  -- a result has no fault before it
+  behind_fault : {A : Type 0} (first : Option ExpandFault) (r : Result A ExpandFault) (x : A) → unless first r ≡ Ok x → (first ≡ None) × (r ≡ Ok x)
+  behind_fault None r x h = (refl, h)
+  behind_fault (Some e) r x h = absurd (cc)
+
+  pub primitive_is : (c : Cofactors) → record_expansion known m ≡ Ok c → (limit_fault (joined known whole m.rows) ≡ None) × (primitive (m.scale *ℤ whole) (gathered (joined known whole m.rows)) ≡ c)
+  primitive_is c ends =
+      let out = primitive (m.scale *ℤ whole) (gathered (joined known whole m.rows)) in
+      let limits = behind_fault (limit_fault (joined known whole m.rows)) _ c (behind_fault (overflow_in (denominator_products known m)) _ c ends).1 in
+      let last : Ok out ≡ Ok c = (behind_fault (overflow_in operations) (Ok out) c limits.1).1 in
+      (limits.0, cc)

@@ -31,11 +31,7 @@ pub fn expand(alloc: Global, made: &[Made], target: &Made) -> Result<Cofactors, 
 }
 
 // The numbers of the rules that the target needs, descending.
-fn needed_numbers(
-    alloc: Global,
-    made: &[Made],
-    target: &Made,
-) -> Result<Vec<usize>, AllocError>
+fn needed_numbers(alloc: Global, made: &[Made], target: &Made) -> Result<Vec<usize>, AllocError>
     requires records { AreRecords made.now }
     requires target { IsRecord (length made.now) target.now }
     ensures { IfOk result (λ numbers. reverse numbers.items ≡ map (λ e. e.0) (needed_rules made.now target.now)) }

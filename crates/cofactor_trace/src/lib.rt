@@ -13,7 +13,7 @@ mod tests;
 
 pub use expansion::expand;
 pub use fault::ExpandFault;
-pub use laws::expansions_balance;
+pub use laws::{expansions_balance, expansions_fit, generators_are_named};
 use lists::{Duplicate, Listing};
 use std::alloc::AllocError;
 use word_core::Word;

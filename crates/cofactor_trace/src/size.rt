@@ -7,7 +7,9 @@ ghost use Rattle.cofactor_trace.specs.Sizes.{measured, measured_all, limit_of};
 use crate::{CertRow, ExpandFault, Row};
 
 const WORD_LIMIT: usize = 500;
+
 const ROW_LIMIT: usize = 200_000;
+
 const LETTER_LIMIT: usize = 1_000_000;
 
 /// Whether a word is too long, how many rows there are, and how many letters they have. A count stops at the greatest number.

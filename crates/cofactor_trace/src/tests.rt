@@ -1,11 +1,12 @@
-ghost use Rattle.std.specs.Prelude.{◌≤◌, IsTrue, length};
-ghost use Rattle.cofactor_trace.specs.Needed.{IsAmongFirst, IsRecord, AreRecords};
+mod records;
 
-use crate::{Cofactors, ExpandFault, Made, Origin, Row, expand, expansions_balance};
+use crate::{
+    ExpandFault, Made, Origin, Row, expansions_balance, expansions_fit, generators_are_named,
+};
 use coef_int::Overflow;
 use lists::Listing;
+use records::{Record, Written, all_made, expanded, is_written, made, word};
 use std::alloc::{AllocError, Global};
-use std::process::Abort;
 use std::test::Fail;
 use word_core::{Letter, Word};
 
@@ -13,109 +14,6 @@ const MOST: i128 = i128::MAX;
 
 // 2^126
 const HALF: i128 = 85070591730234615865843651857942052864;
-
-type Rows = &'static [(i128, &'static [u16], Origin, &'static [u16])];
-
-// A scale and rows.
-type Record = (i128, Rows);
-
-// Rows over generators, by their numbers.
-type Written = &'static [(i128, &'static [u16], u32, &'static [u16])];
-
-fn word(alloc: Global, letters: &[u16]) -> Result<Word, AllocError> {
-    let mut word = Word::new(alloc);
-    for letter in letters {
-        word.push(Letter(*letter))?;
-    }
-    Ok(word)
-}
-
-fn made(alloc: Global, record: Record) -> Result<Made, AllocError> {
-    let mut rows = Listing::new(alloc);
-    for (coef, left, from, right) in record.1 {
-        rows.push(Row {
-            coef: *coef,
-            left: word(alloc, left)?,
-            from: *from,
-            right: word(alloc, right)?,
-        })?;
-    }
-    Ok(Made {
-        scale: record.0,
-        rows,
-    })
-}
-
-fn all_made(alloc: Global, records: &[Record]) -> Result<Vec<Made>, AllocError> {
-    let mut all = Vec::new(alloc);
-    for record in records {
-        all.push(made(alloc, *record)?)?;
-    }
-    Ok(all)
-}
-
-fn is_among_first(count: usize, from: Origin) -> bool
-    ensures { IsTrue result → IsAmongFirst count from }
-{
-    match from {
-        Origin::Generator(_) => true,
-        Origin::Rule(number) => number >= 1 && number as usize <= count,
-    }
-}
-
-fn is_record(count: usize, made: &Made) -> bool
-    ensures { IsTrue result → IsRecord count made.now }
-{
-    for row in made.rows.as_slice() {
-        if row.coef == i128::MIN || !is_among_first(count, row.from) {
-            return false;
-        }
-    }
-    made.scale > 0
-}
-
-fn are_records(made: &[Made]) -> bool
-    ensures { IsTrue result → AreRecords made.now }
-{
-    for (place, record) in made.iter().enumerate() {
-        if !is_record(place, record) {
-            return false;
-        }
-    }
-    true
-}
-
-fn expanded(
-    rt: &impl Abort,
-    alloc: Global,
-    records: &[Made],
-    target: &Made,
-) -> Result<Cofactors, ExpandFault> {
-    assert!(rt; are_records(records), "the rules' records");
-    assert!(rt; is_record(records.len(), target), "the target's record");
-    expand(alloc, records, target)
-}
-
-fn is_written(
-    alloc: Global,
-    cofactors: &Cofactors,
-    denominator: i128,
-    rows: Written,
-) -> Result<bool, AllocError> {
-    if cofactors.denominator != denominator || cofactors.rows.len() != rows.len() {
-        return Ok(false);
-    }
-    for (row, want) in cofactors.rows.as_slice().iter().zip(rows) {
-        if row.coef != want.0
-            || row.left != word(alloc, want.1)?
-            || row.generator != want.2
-            || row.right != word(alloc, want.3)?
-        {
-            return Ok(false);
-        }
-    }
-    Ok(true)
-}
 
 const HALVES_AND_THIRDS: &[Record] = &[
     (2, &[(1, &[], Origin::Generator(1), &[])]),
@@ -199,9 +97,14 @@ fn records_expand_as_worked_out(rt: HostRuntime) -> Result<(), Fail> {
         let records = all_made(rt.alloc(), records)?;
         let target = made(rt.alloc(), target)?;
         let cofactors = expanded(&rt, rt.alloc(), &records, &target)?;
-        assert!(rt; is_written(rt.alloc(), &cofactors, denominator, rows)?, "{name}");
+        assert!(rt;
+            is_written(rt.alloc(), &cofactors, denominator, rows)?,
+            "{name}"
+        );
     }
     expansions_balance();
+    expansions_fit();
+    generators_are_named();
     Ok(())
 }
 
@@ -270,7 +173,14 @@ fn the_first_overflow_counts(rt: HostRuntime) -> Result<(), Fail> {
         let target = made(rt.alloc(), target)?;
         match expanded(&rt, rt.alloc(), &records, &target) {
             Err(ExpandFault::Overflow(overflow)) => {
-                assert_eq!(rt; overflow, Overflow { left, right, product });
+                assert_eq!(rt;
+                    overflow,
+                    Overflow {
+                        left,
+                        right,
+                        product
+                    }
+                );
             }
             _ => assert!(rt; false, "no overflow at {left} and {right}"),
         }
@@ -299,7 +209,10 @@ fn joined_words_have_at_most_500_letters(rt: HostRuntime) -> Result<(), Fail> {
     let mut records = Vec::new(rt.alloc());
     records.push(long_row(rt.alloc(), 250, Origin::Generator(1))?)?;
     let fits = long_row(rt.alloc(), 250, Origin::Rule(1))?;
-    assert!(rt; expanded(&rt, rt.alloc(), &records, &fits).is_ok(), "500 letters");
+    assert!(rt;
+        expanded(&rt, rt.alloc(), &records, &fits).is_ok(),
+        "500 letters"
+    );
     let long = long_row(rt.alloc(), 251, Origin::Rule(1))?;
     match expanded(&rt, rt.alloc(), &records, &long) {
         Err(ExpandFault::Size) => Ok(()),

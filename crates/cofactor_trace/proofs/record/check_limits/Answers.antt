@@ -23,14 +23,14 @@ loop-row-preserved c =
     let so_far : measured_all old (joined known common (drop i rows)) ≡ measured_all no_size (joined known common rows) = search rules in
     let size_is : c.match-row.size ≡ measured_all old (joined_rows known common row) =
     elim c.match-row.branch [
-      in-Generator w ↦
-        w.size-is ∙ w.measure_joined-size.ensures (row.coef *ℤ share known common row)
-        ∙ ap (λ r. measured_all old (map jr (r ∷ []))) w.itself.ensures
-        ∙ ap (λ o. measured_all old (map jr (known o).rows)) (sym w.in-Generator.is)
-    | in-Rule w ↦
-        w.size-is ∙ w.measure_joined-size-in-Rule.ensures (row.coef *ℤ share known common row)
-        ∙ ap (λ rs. measured_all old (map jr rs)) w.rows_of_rule.ensures.exact
-        ∙ ap (λ o. measured_all old (map jr (known o).rows)) (sym w.in-Rule.is)
+      | in-Generator w ↦
+          w.size-is ∙ w.measure_joined-size.ensures (row.coef *ℤ share known common row)
+          ∙ ap (λ r. measured_all old (map jr (r ∷ []))) w.itself.ensures
+          ∙ ap (λ o. measured_all old (map jr (known o).rows)) (sym w.in-Generator.is)
+      | in-Rule w ↦
+          w.size-is ∙ w.measure_joined-size-in-Rule.ensures (row.coef *ℤ share known common row)
+          ∙ ap (λ rs. measured_all old (map jr rs)) w.rows_of_rule.ensures.exact
+          ∙ ap (λ o. measured_all old (map jr (known o).rows)) (sym w.in-Rule.is)
     ] in
     let same : measured_all c.match-row.size rest ≡ measured_all no_size (joined known common rows) =
     ap (λ s. measured_all s rest) size_is ∙ sym (fold-append measured old (joined_rows known common row) rest)
