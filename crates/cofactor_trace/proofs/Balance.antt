@@ -1,5 +1,5 @@
 -- The rows of an expansion add up to its denominator times the polynomial.
-use Rattle.std.proofs.Common.{◌≡◌, ℕ, zero, suc, ℤ, pos, negsuc, ◌+ℤ◌, ◌*ℤ◌, neg_ℤ, ◌<ℤ◌, int_div, List, [], ◌∷◌, ◌++◌, map, Option, Some, None, Result, Ok, sym, ap, ap₂, subst, ◌∙◌, arith}
+use Rattle.std.proofs.Common.{◌≡◌, ℕ, zero, suc, ℤ, pos, negsuc, ◌+ℤ◌, ◌*ℤ◌, neg_ℤ, ◌<ℤ◌, int_div, List, [], ◌∷◌, map, Ok, sym, ap, ap₂, subst, ◌∙◌, arith}
 use Rattle.std.proofs.lemmas.Int.{ints}
 use Rattle.std.proofs.Math.IntN.{*ℤ_comm, *ℤ-zero}
 use Rattle.std.specs.Int.{◌∣◌}
@@ -15,13 +15,13 @@ use Rattle.cofactor_trace.specs.declared.Row.{Row}
 use Rattle.cofactor_trace.specs.declared.Made.{Made}
 use Rattle.cofactor_trace.specs.declared.CertRow.{CertRow}
 use Rattle.cofactor_trace.specs.declared.Cofactors.{Cofactors}
-use Rattle.cofactor_trace.specs.declared.fault.ExpandFault.{ExpandFault}
 use Rattle.cofactor_trace.specs.Rows.{rows_of}
 use Rattle.cofactor_trace.specs.Traces.{origin_poly, traced_poly, traced_sum}
-use Rattle.cofactor_trace.specs.Gathered.{gathered, sums_of_gathering}
-use Rattle.cofactor_trace.specs.Expansion.{Known, denominators, common_denominator, denominator_products, share, joined_rows, joined, joined_products, limit_fault, content_of, divided_row, primitive, unless, overflow_in, record_expansion}
+use Rattle.cofactor_trace.specs.Gathered.{gathered}
+use Rattle.cofactor_trace.specs.Expansion.{Known, denominators, common_denominator, share, joined_rows, joined, content_of, divided_row, primitive, record_expansion}
 use Rattle.cofactor_trace.specs.Laws.{Traces}
 use Rattle.cofactor_trace.proofs.Divisors.{content-first, content-each, content-positive, quotient_positive, product_positive, common_multiple-each, common_multiple-positive}
+use Rattle.cofactor_trace.proofs.RecordLaws.{primitive_is}
 use Rattle.cofactor_trace.proofs.Between.{between-same, between-multiple}
 use Rattle.cofactor_trace.proofs.Values.{value, value-sum, value-append, value-gathered, value-joined}
 
@@ -124,19 +124,7 @@ module _ (generators rules : List (List (ℤ × List ℕ))) (known : Known) wher
         };
       }
 
-  -- a result is what stands behind the faults
-  behind_faults : {A : Type 0} (first : Option ExpandFault) (r : Result A ExpandFault) (x : A) → unless first r ≡ Ok x → r ≡ Ok x
-  behind_faults None r x h = h
-  behind_faults (Some e) r x h = absurd (cc)
-
   pub record_balances : (m : Made) (p : List Term) (c : Cofactors) → pos 0 <ℤ m.scale → AllByRecursion (λ r. IsKnown r.from) m.rows → Traces generators rules m p
       → record_expansion known m ≡ Ok c → IsCombination generators (rows_of c.rows) c.denominator p
   record_balances m p c scale_in each traced ends =
-      let common = common_denominator known m.rows in
-      let rows = joined known common m.rows in
-      let out = primitive (m.scale *ℤ common) (gathered rows) in
-      let whole : Ok out ≡ Ok c =
-      behind_faults (overflow_in (joined_products known common m.rows ++ sums_of_gathering rows)) (Ok out) c
-      (behind_faults (limit_fault rows) _ c (behind_faults (overflow_in (denominator_products known m)) _ c ends)) in
-      let same : out ≡ c = cc in
-      subst (λ x. IsCombination generators (rows_of x.rows) x.denominator p) same (primitive_balances m p scale_in each traced)
+      subst (λ x. IsCombination generators (rows_of x.rows) x.denominator p) (primitive_is known m c ends).1 (primitive_balances m p scale_in each traced)

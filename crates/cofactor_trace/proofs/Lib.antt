@@ -13,3 +13,6 @@ mod Values
 mod Balance
 mod Closure
 mod Passes
+mod Kept
+mod Limits
+mod NamedGenerators

@@ -54,7 +54,7 @@ key_kept (e ∷ entries) k n c h = go (nat_cmp k e.0) (key_kept entries k n c)
         by (inr there) = or_right (is_eq (nat_cmp n e.0)) (is_key n (insert_entry nat_cmp entries k c)) (rest there)
 
 module _ (P : ℕ × Cofactors → Type 0) where
-  each_with : (entries : Expansions) (k : ℕ) (c : Cofactors) → AllByRecursion P entries → P (k, c) → AllByRecursion P (insert_entry nat_cmp entries k c)
+  pub each_with : (entries : Expansions) (k : ℕ) (c : Cofactors) → AllByRecursion P entries → P (k, c) → AllByRecursion P (insert_entry nat_cmp entries k c)
   each_with [] k c h p = (p, tt)
   each_with (e ∷ entries) k c h p = go (nat_cmp k e.0) refl (each_with entries k c h.1 p)
     where

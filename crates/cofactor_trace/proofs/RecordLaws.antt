@@ -1,5 +1,5 @@
 -- Where the expansion of a record ends.
-use Rattle.std.proofs.Common.{◌≡◌, ℤ, pos, ◌*ℤ◌, List, [], ◌∷◌, ◌++◌, Option, Some, None, Ok, refl, sym, ap, subst, ◌∙◌}
+use Rattle.std.proofs.Common.{◌≡◌, ℤ, pos, ◌*ℤ◌, List, [], ◌∷◌, ◌++◌, Option, Some, None, Result, Ok, refl, sym, ap, subst, ◌∙◌}
 use Rattle.std.specs.Option.{option_map}
 use Rattle.coef_int.specs.declared.Overflow.{Overflow}
 use Rattle.coef_int.specs.Range.{IsCoefficient}
@@ -8,10 +8,11 @@ use Rattle.nc_polynomial.proofs.Chains.{first-fits}
 use Rattle.cofactor_trace.specs.declared.Row.{Row}
 use Rattle.cofactor_trace.specs.declared.Made.{Made}
 use Rattle.cofactor_trace.specs.declared.CertRow.{CertRow}
+use Rattle.cofactor_trace.specs.declared.Cofactors.{Cofactors}
 use Rattle.cofactor_trace.specs.declared.fault.ExpandFault.{ExpandFault}
 use Rattle.cofactor_trace.specs.declared.fault.ExpandFault.TheVariants as fault
 use Rattle.cofactor_trace.specs.Gathered.{gathered, sums_of_gathering}
-use Rattle.cofactor_trace.specs.Expansion.{Known, multiple_products, denominators, common_denominator, denominator_products, joined, joined_products, limit_fault, primitive, overflow_in, record_expansion}
+use Rattle.cofactor_trace.specs.Expansion.{Known, multiple_products, denominators, common_denominator, denominator_products, joined, joined_products, limit_fault, primitive, unless, overflow_in, record_expansion}
 use Rattle.cofactor_trace.specs.Faults.{Explains, IsFirst, IsOverflowOf}
 use Rattle.cofactor_trace.specs.Table.{Entries, with_rows, rows_in}
 use Rattle.cofactor_trace.proofs.Operations.{first-fails, first-behind}
@@ -131,3 +132,15 @@ module _ (known : Known) (m : Made) where
       (ok-later (limit_fault (joined known whole m.rows)) _ _ (here rows common h.begins (λ z l. limit_fault (joined known z l) ≡ None) h.short)
       (ok-later (overflow_in operations) _ _ (ap (option_map fault.Overflow) (no_product rows common entries h ∙ parts.0)) refl))
       ∙ ap (λ l. Ok (primitive (m.scale *ℤ whole) l)) parts.1 ∙ ap (λ z. Ok (primitive (m.scale *ℤ z) out)) (sym (common_is rows common h.begins.found))
+
+  -- a result has no fault before it
+  behind_fault : {A : Type 0} (first : Option ExpandFault) (r : Result A ExpandFault) (x : A) → unless first r ≡ Ok x → (first ≡ None) × (r ≡ Ok x)
+  behind_fault None r x h = (refl, h)
+  behind_fault (Some e) r x h = absurd (cc)
+
+  pub primitive_is : (c : Cofactors) → record_expansion known m ≡ Ok c → (limit_fault (joined known whole m.rows) ≡ None) × (primitive (m.scale *ℤ whole) (gathered (joined known whole m.rows)) ≡ c)
+  primitive_is c ends =
+      let out = primitive (m.scale *ℤ whole) (gathered (joined known whole m.rows)) in
+      let limits = behind_fault (limit_fault (joined known whole m.rows)) _ c (behind_fault (overflow_in (denominator_products known m)) _ c ends).1 in
+      let last : Ok out ≡ Ok c = (behind_fault (overflow_in operations) (Ok out) c limits.1).1 in
+      (limits.0, cc)

@@ -114,7 +114,7 @@ sum_in-sums f (k ∷ ks) m = go (multiple_cmp m k) refl (sum_in-sums f ks m)
     go Greater e h = h
 
 -- ---- ascending lists of multiples
-all_inserted : (P : Multiple → Type 0) (ms : List Multiple) (m : Multiple) → AllByRecursion P ms → P m → AllByRecursion P (insert_key multiple_cmp ms m)
+pub all_inserted : (P : Multiple → Type 0) (ms : List Multiple) (m : Multiple) → AllByRecursion P ms → P m → AllByRecursion P (insert_key multiple_cmp ms m)
 all_inserted P [] m h p = (p, tt)
 all_inserted P (k ∷ ks) m h p = go (multiple_cmp m k) (all_inserted P ks m h.1 p)
   where

@@ -1,11 +1,16 @@
--- What an expansion adds up to.
-use Rattle.std.specs.Prelude.{◌≡◌, ℕ, suc, ℤ, List, slice_get, length, Some, Ok}
+-- What an expansion adds up to, and how large it is.
+use Rattle.std.specs.Prelude.{◌≡◌, ◌≤◌, ℕ, suc, ℤ, List, slice_get, length, Some, Ok, ⊤}
+use Rattle.std.specs.List.{All}
 use Rattle.definitions.specs.Poly.{SamePolynomial, poly_multiple}
 use Rattle.definitions.specs.Combination.{generator_at, IsCombination}
+use Rattle.cofactor_trace.specs.declared.Origin.{Origin}
+use Rattle.cofactor_trace.specs.declared.Origin.TheVariants as origin
 use Rattle.cofactor_trace.specs.declared.Made.{Made}
+use Rattle.cofactor_trace.specs.declared.CertRow.{CertRow}
 use Rattle.cofactor_trace.specs.declared.Cofactors.{Cofactors}
 use Rattle.cofactor_trace.specs.Rows.{rows_of}
 use Rattle.cofactor_trace.specs.Traces.{traced_sum}
+use Rattle.cofactor_trace.specs.Expansion.{letter_count}
 use Rattle.cofactor_trace.specs.Needed.{IsRecord, AreRecords, expansion_of}
 
 -- The rows of the record add up to its scale times the polynomial.
@@ -22,3 +27,25 @@ abbrev pub ExpansionsBalance : Type 0
 ExpansionsBalance = (generators rules : List (List (ℤ × List ℕ))) (made : List Made) (target : Made) (p : List (ℤ × List ℕ)) (c : Cofactors)
     → AreRecords made → IsRecord (length made) target → AreTraces generators rules made → Traces generators rules target p
     → expansion_of made target ≡ Ok c → IsCombination generators (rows_of c.rows) c.denominator p
+
+-- No word has more than 500 letters, there are at most 200,000 rows, and their words have at most 1,000,000 letters.
+pub record IsWithinLimits (rows : List CertRow) : Type 0 where
+  pub short : All (λ r. (length r.left ≤ 500) × (length r.right ≤ 500)) rows
+  pub few : length rows ≤ 200000
+  pub letters : letter_count rows ≤ 1000000
+
+abbrev pub ExpansionsFit : Type 0
+ExpansionsFit = (made : List Made) (target : Made) (c : Cofactors) → expansion_of made target ≡ Ok c → IsWithinLimits c.rows
+
+-- a rule, or one of the first generators, as many as the count says
+abbrev pub IsUpTo : ℕ → Origin → Type 0
+IsUpTo count (origin.Generator n) = (1 ≤ n) × (n ≤ count)
+IsUpTo count (origin.Rule n) = ⊤
+
+abbrev pub NamesUpTo : ℕ → Made → Type 0
+NamesUpTo count m = All (λ r. IsUpTo count r.from) m.rows
+
+-- Where the records name no generators but the first ones, neither does an expansion.
+abbrev pub GeneratorsAreNamed : Type 0
+GeneratorsAreNamed = (count : ℕ) (made : List Made) (target : Made) (c : Cofactors) → All (NamesUpTo count) made → NamesUpTo count target
+    → expansion_of made target ≡ Ok c → All (λ r. (1 ≤ r.generator) × (r.generator ≤ count)) c.rows

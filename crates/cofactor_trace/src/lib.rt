@@ -8,10 +8,12 @@ mod gather;
 mod laws;
 mod record;
 mod size;
+#[cfg(test)]
+mod tests;
 
 pub use expansion::expand;
 pub use fault::ExpandFault;
-pub use laws::expansions_balance;
+pub use laws::{expansions_balance, expansions_fit, generators_are_named};
 use lists::{Duplicate, Listing};
 use std::alloc::AllocError;
 use word_core::Word;

@@ -1,0 +1,96 @@
+-- An expansion is over the generators that the records name.
+use Rattle.std.proofs.Common.{◌≡◌, ℕ, ◌≤◌, ℤ, ◌*ℤ◌, Bool, true, false, cond, List, [], ◌∷◌, map, suc, Some, Result, Ok, Err, unwrap_or, subst}
+use Rattle.std.proofs.lemmas.List.Elements.{All-from_recursion, recursion_from_All}
+use Rattle.std.specs.List.{AllByRecursion}
+use Rattle.std.specs.Map.{lookup}
+use Rattle.std.specs.BTreeMap.{insert_entry, is_at}
+use Rattle.std.specs.Ordering.{nat_cmp, is_eq}
+use Rattle.cofactor_trace.specs.declared.Origin.{Origin}
+use Rattle.cofactor_trace.specs.declared.Origin.TheVariants as origin
+use Rattle.cofactor_trace.specs.declared.Row.{Row}
+use Rattle.cofactor_trace.specs.declared.Made.{Made}
+use Rattle.cofactor_trace.specs.declared.CertRow.{CertRow}
+use Rattle.cofactor_trace.specs.declared.Cofactors.{Cofactors}
+use Rattle.cofactor_trace.specs.declared.gather.Multiple.{Multiple}
+use Rattle.cofactor_trace.specs.declared.fault.ExpandFault.{ExpandFault}
+use Rattle.cofactor_trace.specs.Expansion.{Known, common_denominator, joined, joined_rows, joined_row, share, record_expansion}
+use Rattle.cofactor_trace.specs.Laws.{IsUpTo, NamesUpTo, GeneratorsAreNamed}
+use Rattle.cofactor_trace.specs.Needed.{Numbered, Expansions, none, known_from, and_then, expansion_from, needed_from, needed_rules, is_named}
+use Rattle.cofactor_trace.proofs.Kept.{Each, each_append, each_primitive}
+use Rattle.cofactor_trace.proofs.NeededLaws.{records_of}
+use Rattle.cofactor_trace.proofs.Passes.{each_with}
+use Rattle.cofactor_trace.proofs.RecordLaws.{primitive_is}
+
+module _ (count : ℕ) where
+  -- its generator is one of the first
+  abbrev IsOver : Multiple → Type 0
+  IsOver m = (1 ≤ m.generator) × (m.generator ≤ count)
+
+  abbrev AreOver : List CertRow → Type 0
+  AreOver rows = Each IsOver rows
+
+  joined_over : (k : ℤ) (outer : Row) (inner : List CertRow) → AreOver inner → AreOver (map (joined_row k outer) inner)
+  joined_over k outer [] h = tt
+  joined_over k outer (s ∷ inner) h = (h.0, joined_over k outer inner h.1)
+
+  all_over : (known : Known) (common : ℤ) (rows : List Row) → AllByRecursion (λ r. AreOver (known r.from).rows) rows → AreOver (joined known common rows)
+  all_over known common [] h = tt
+  all_over known common (r ∷ rows) h =
+      each_append IsOver (joined_rows known common r) (joined known common rows)
+      (joined_over (r.coef *ℤ share known common r) r (known r.from).rows h.0) (all_over known common rows h.1)
+
+  -- ---- the list of expansions
+  abbrev EachOver : Expansions → Type 0
+  EachOver expansions = AllByRecursion (λ e. AreOver e.1.rows) expansions
+
+  found_over : (expansions : Expansions) (n : ℕ) → EachOver expansions → AreOver (unwrap_or (lookup (is_at (nat_cmp n)) expansions) none).rows
+  found_over [] n h = tt
+  found_over (e ∷ expansions) n h = go (is_eq (nat_cmp n e.0)) (found_over expansions n h.1)
+    where
+      go : (b : Bool) → AreOver (unwrap_or (lookup (is_at (nat_cmp n)) expansions) none).rows → AreOver (unwrap_or (cond b (Some e.1) (lookup (is_at (nat_cmp n)) expansions)) none).rows
+      go true rest = h.0
+      go false rest = rest
+
+  known_over : (expansions : Expansions) → EachOver expansions → (rows : List Row) → AllByRecursion (λ r. IsUpTo count r.from) rows → AllByRecursion (λ r. AreOver (known_from expansions r.from).rows) rows
+  known_over expansions each [] h = tt
+  known_over expansions each (r ∷ rows) h = (go r.from h.0, known_over expansions each rows h.1)
+    where
+      go : (o : Origin) → IsUpTo count o → AreOver (known_from expansions o).rows
+      go (origin.Generator n) up_to = (up_to, tt)
+      go (origin.Rule n) up_to = found_over expansions n each
+
+  record_over : (expansions : Expansions) (m : Made) (c : Cofactors) → EachOver expansions → NamesUpTo count m → record_expansion (known_from expansions) m ≡ Ok c → AreOver c.rows
+  record_over expansions m c each names ends =
+      let known = known_from expansions in
+      let common = common_denominator known m.rows in
+      let rows = joined known common m.rows in
+      subst (λ (x : Cofactors). AreOver x.rows) (primitive_is known m c ends).1
+      (each_primitive IsOver (m.scale *ℤ common) rows (all_over known common m.rows (known_over expansions each m.rows (recursion_from_All (λ (r : Row). IsUpTo count r.from) m.rows names))))
+
+  over_from : (expansions : Expansions) (rest : List Numbered) (target : Made) (c : Cofactors) → EachOver expansions → AllByRecursion (λ e. NamesUpTo count e.1) rest → NamesUpTo count target
+      → expansion_from expansions rest target ≡ Ok c → AreOver c.rows
+  over_from expansions [] target c each rules names ends = record_over expansions target c each names ends
+  over_from expansions (e ∷ rest) target c each rules names ends =
+      go (record_expansion (known_from expansions) e.1) (record_over expansions e.1) ends
+      (λ x over. over_from (insert_entry nat_cmp expansions e.0 x) rest target c (each_with (λ d. AreOver d.1.rows) expansions e.0 x each over) rules.1 names)
+    where
+      go : (r : Result Cofactors ExpandFault) → ((x : Cofactors) → EachOver expansions → NamesUpTo count e.1 → r ≡ Ok x → AreOver x.rows)
+          → and_then r (λ x. expansion_from (insert_entry nat_cmp expansions e.0 x) rest target) ≡ Ok c
+          → ((x : Cofactors) → AreOver x.rows → expansion_from (insert_entry nat_cmp expansions e.0 x) rest target ≡ Ok c → AreOver c.rows) → AreOver c.rows
+      go (Ok x) over ends next = next x (over x each rules.0 (λ i. Ok x)) ends
+      go (Err f) over ends next = absurd (cc)
+
+  needed_name : (target : Made) (number : ℕ) (made : List Made) → AllByRecursion (NamesUpTo count) made → AllByRecursion (λ e. NamesUpTo count e.1) (needed_from target number made)
+  needed_name target number [] h = tt
+  needed_name target number (m ∷ made) h = go (is_named number (target ∷ records_of (needed_from target (suc number) made))) (needed_name target (suc number) made h.1)
+    where
+      go : (b : Bool) → AllByRecursion (λ e. NamesUpTo count e.1) (needed_from target (suc number) made)
+          → AllByRecursion (λ e. NamesUpTo count e.1) (cond b ((number, m) ∷ needed_from target (suc number) made) (needed_from target (suc number) made))
+      go true later = (h.0, later)
+      go false later = later
+
+-- the law
+pub generators_are_named : GeneratorsAreNamed
+generators_are_named count made target c rules names ends =
+    All-from_recursion (λ (r : CertRow). (1 ≤ r.generator) × (r.generator ≤ count)) c.rows
+    (over_from count [] (needed_rules made target) target c tt (needed_name count target 1 made (recursion_from_All (NamesUpTo count) made rules)) names ends)
