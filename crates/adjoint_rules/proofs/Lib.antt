@@ -4,4 +4,4 @@ pub mod Ranges
 pub mod Counted
 pub mod Generators
 mod Examples
-mod LoopStatement
+pub mod Involution

@@ -1,3 +1,4 @@
 pub mod Problem
 pub mod Parts
 pub mod Props
+pub mod Laws

@@ -2,6 +2,7 @@ ghost use Rattle.std.specs.List.{AllByRecursion};
 ghost use Rattle.definitions.specs.Quiver.{IsQuiver};
 ghost use Rattle.definitions.specs.Soundness.{HasSignature};
 ghost use Rattle.quiver.specs.Declarations.{quiver_of};
+ghost use Rattle.adjoint_rules.specs.Laws.{AdjointsAreAnInvolution};
 ghost use Rattle.adjoint_rules.specs.Problem.{polynomials, GeneratorsAreUnique};
 
 use crate::Problem;
@@ -17,4 +18,10 @@ pub fn problem_is_typed(problem: &Problem)
 #[tactic(auto, using(crate::proofs::Generators::generators_are_unique))]
 pub fn generators_are_unique()
     ensures { GeneratorsAreUnique }
+{}
+
+/// The law that adjoints are an involution on words and polynomials: twice the adjoint is the same again, products are
+/// reversed, and sums are kept. It has nothing to run.
+pub fn adjoints_are_an_involution()
+    ensures { AdjointsAreAnInvolution }
 {}

@@ -5,11 +5,9 @@ mod adjoint;
 mod laws;
 mod parts;
 mod problem;
-#[cfg(test)]
-mod tests;
 mod units;
 
 pub use adjoint::{adjoint_poly, adjoint_word};
-pub use laws::{generators_are_unique, problem_is_typed};
+pub use laws::{adjoints_are_an_involution, generators_are_unique, problem_is_typed};
 pub use parts::{Parts, Shape};
 pub use problem::{Problem, close_problem};

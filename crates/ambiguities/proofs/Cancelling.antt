@@ -5,8 +5,8 @@ use Rattle.std.proofs.Math.IntN.{*ℤ_comm}
 use Rattle.std.proofs.Math.Nat.{div-mul_cancel, mul_comm, mul_assoc}
 use Rattle.std.specs.Int.{IsGcd}
 use Rattle.definitions.proofs.Integers.{*ℤ-neg_ℤ}
-use Rattle.common_divisor.specs.Divisor.{gcd_within, gcd_of}
-use Rattle.common_divisor.proofs.Divisors.{gcd_within-IsGcd}
+use Rattle.coef_int.specs.Divisor.{gcd_within, gcd_of}
+use Rattle.coef_int.proofs.Divisors.{gcd_within-IsGcd}
 
 -- (b / g) a = (a / g) b
 crossed : (a b g : ℕ) → IsGcd a b g → (b / g) * a ≡ b * (a / g)

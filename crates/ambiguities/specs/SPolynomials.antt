@@ -9,7 +9,7 @@ use Rattle.cofactor_trace.specs.declared.Origin.TheVariants as origin
 use Rattle.cofactor_trace.specs.declared.Row.{Row}
 use Rattle.cofactor_trace.specs.Traces.{origin_poly}
 use Rattle.rule_reduce.specs.declared.rule.Rule.{Rule}
-use Rattle.common_divisor.specs.Divisor.{gcd_of}
+use Rattle.coef_int.specs.Divisor.{gcd_of}
 use Rattle.rule_reduce.specs.RuleLists.{rule_at, polynomials_of}
 use Rattle.ambiguities.specs.declared.ambiguity.Ambiguity.{Ambiguity}
 use Rattle.ambiguities.specs.Ambiguities.{lead_at, overlap_word_of}

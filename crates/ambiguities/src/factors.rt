@@ -1,8 +1,8 @@
 ghost use Rattle.std.specs.Prelude.{◌≡◌, ◌<ℤ◌, pos, int_div};
 ghost use Rattle.coef_int.specs.Range.{IsCoefficient};
-ghost use Rattle.common_divisor.specs.Divisor.{gcd_of};
+ghost use Rattle.coef_int.specs.Divisor.{gcd_of};
 
-use common_divisor::{divisor, quotient};
+use coef_int::{divisor, quotient};
 
 // The least positive integers by which the two numbers become equal: each is the other number by their greatest common
 // divisor.

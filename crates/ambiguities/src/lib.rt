@@ -8,8 +8,6 @@ mod list;
 mod overlap;
 mod places;
 mod polynomial;
-#[cfg(test)]
-mod tests;
 
 pub use ambiguity::{Ambiguity, Kind};
 pub use laws::{leading_words_cancel, s_polynomials_are_typed, s_polynomials_balance};

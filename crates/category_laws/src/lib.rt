@@ -10,6 +10,3 @@ pub use category::{Category, Involutive, Preadditive};
 pub use opposite::Opposite;
 pub use pair::Pair;
 pub use parity::Parity;
-
-#[cfg(test)]
-mod tests;

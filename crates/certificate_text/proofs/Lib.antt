@@ -16,6 +16,7 @@ pub mod LetterNames
 pub mod TextsBack
 pub mod RowsBack
 pub mod BlocksBack
+pub mod LemmaTexts
 pub mod Shifted
 pub mod ReadBack
 mod Examples

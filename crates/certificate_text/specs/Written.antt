@@ -1,14 +1,23 @@
--- How words, polynomials and certificates are written.
-use Rattle.std.specs.Prelude.{ℕ, ◌==◌, Bool, List, [], ◌∷◌, ◌++◌, map, nat_eq, decimal, ℤ, Option, Some, None, if◌then◌else◌, codes}
+-- How words, polynomials and evidence of both formats are written.
+use Rattle.std.specs.Prelude.{ℕ, suc, ◌==◌, Bool, List, [], ◌∷◌, ◌++◌, map, nat_eq, decimal, ℤ, Option, Some, None, if◌then◌else◌, codes}
 use Rattle.std.specs.Fmt.{signed_decimal}
 use Rattle.std.specs.Int.{is_negative}
 use Rattle.std.specs.Int.RustNames.{unsigned_abs}
-use Rattle.std.specs.List.{flat_map, join_with_byte}
+use Rattle.std.specs.List.{All, flat_map, join_with_byte}
 use Rattle.quiver.specs.declared.named.Named.{Named}
 use Rattle.quiver.specs.declared.named.Named.TheVariants.{Object, Map}
-use Rattle.quiver.specs.Declarations.{Declaration, named_in, letter_name}
+use Rattle.quiver.specs.Declarations.{Declaration, letter_count, named_in, letter_name}
 use Rattle.cofactor_trace.specs.declared.CertRow.{CertRow}
 use Rattle.cofactor_trace.specs.declared.Certificate.{Certificate}
+use Rattle.cofactor_trace.specs.declared.evidence.CertFrom.{CertFrom}
+use Rattle.cofactor_trace.specs.declared.evidence.CertFrom.TheVariants as over
+use Rattle.cofactor_trace.specs.declared.evidence.LemmaRow.{LemmaRow}
+use Rattle.cofactor_trace.specs.declared.evidence.Lemma.{Lemma}
+use Rattle.cofactor_trace.specs.declared.evidence.LemmaCertificate.{LemmaCertificate}
+use Rattle.cofactor_trace.specs.declared.evidence.Evidence.{Evidence}
+use Rattle.cofactor_trace.specs.declared.evidence.Evidence.TheVariants.{Plain, Lemmas}
+use Rattle.word_core.specs.Letters.{IsOver}
+use Rattle.certificate_text.specs.Evidence.{IsRowOver}
 
 -- of a letter that comes from what its name stands for: an identity, a map, or the adjoint of a map
 abbrev pub spelled_as : List ℕ → ℕ → Option Named → List ℕ
@@ -49,10 +58,64 @@ poly_text ds (t ∷ terms) = first_text ds t ++ flat_map (later_text ds) terms
 
 -- ---- certificates
 
+-- the first lines of a certificate, of which the first ends with `claim`
+abbrev pub opening_text : List ℕ → ℕ → ℤ → List ℕ
+opening_text head claim denominator = head ++ decimal claim ++ codes "\ndenominator " ++ signed_decimal denominator ++ codes "\n"
+
 abbrev pub row_text : List Declaration → CertRow → List ℕ
 row_text ds row =
     codes "row " ++ signed_decimal row.coef ++ codes " (" ++ word_text ds row.left ++ codes ") " ++ decimal row.generator ++ codes " (" ++ word_text ds row.right ++ codes ")\n"
 
 abbrev pub certificate_text : List Declaration → Certificate → List ℕ
 certificate_text ds c =
-    codes "certificate 1\nclaim " ++ decimal c.claim ++ codes "\ndenominator " ++ signed_decimal c.denominator ++ codes "\n" ++ flat_map (row_text ds) c.rows ++ codes "end\n"
+    opening_text (codes "certificate 1\nclaim ") c.claim c.denominator ++ flat_map (row_text ds) c.rows ++ codes "end\n"
+
+-- ---- certificates with lemmas
+
+-- a generator by its number, a lemma with the word in front
+abbrev pub origin_text : CertFrom → List ℕ
+origin_text (over.Generator n) = decimal n
+origin_text (over.Lemma n) = codes "lemma " ++ decimal n
+
+abbrev pub lemma_row_text : List Declaration → LemmaRow → List ℕ
+lemma_row_text ds row =
+    codes "row " ++ signed_decimal row.coef ++ codes " (" ++ word_text ds row.left ++ codes ") " ++ origin_text row.from ++ codes " (" ++ word_text ds row.right ++ codes ")\n"
+
+-- the scale of a lemma or of the goal, and its rows
+abbrev pub scaled_text : List Declaration → Lemma → List ℕ
+scaled_text ds l = codes " scale " ++ signed_decimal l.scale ++ codes "\n" ++ flat_map (lemma_row_text ds) l.rows
+
+-- the lemma with this number
+abbrev pub lemma_text : List Declaration → ℕ → Lemma → List ℕ
+lemma_text ds number l = codes "lemma " ++ decimal number ++ scaled_text ds l
+
+-- the lemmas with this number and the next ones
+abbrev pub lemmas_text : List Declaration → ℕ → List Lemma → List ℕ
+lemmas_text ds number [] = []
+lemmas_text ds number (l ∷ lemmas) = lemma_text ds number l ++ lemmas_text ds (suc number) lemmas
+
+-- the goal, and the end of the block
+abbrev pub goal_text : List Declaration → Lemma → List ℕ
+goal_text ds l = codes "goal" ++ scaled_text ds l ++ codes "end\n"
+
+abbrev pub lemma_certificate_text : List Declaration → LemmaCertificate → List ℕ
+lemma_certificate_text ds c =
+    opening_text (codes "certificate 2\nclaim ") c.claim c.denominator ++ lemmas_text ds 1 c.lemmas ++ goal_text ds c.goal
+
+-- evidence of either format
+abbrev pub evidence_text : List Declaration → Evidence → List ℕ
+evidence_text ds (Plain c) = certificate_text ds c
+evidence_text ds (Lemmas c) = lemma_certificate_text ds c
+
+-- ---- the letters of evidence are letters of the quiver
+
+pub record IsLemmaRowOver (ds : List Declaration) (row : LemmaRow) : Type 0 where
+  pub left : IsOver (letter_count ds) row.left
+  pub right : IsOver (letter_count ds) row.right
+
+abbrev pub IsLemmaOver : List Declaration → Lemma → Type 0
+IsLemmaOver ds l = All (IsLemmaRowOver ds) l.rows
+
+abbrev pub IsEvidenceOver : List Declaration → Evidence → Type 0
+IsEvidenceOver ds (Plain c) = All (IsRowOver ds) c.rows
+IsEvidenceOver ds (Lemmas c) = All (IsLemmaOver ds) c.lemmas × IsLemmaOver ds c.goal

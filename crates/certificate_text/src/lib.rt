@@ -2,6 +2,7 @@
 #![tactic(auto)]
 
 mod cut;
+mod evidence;
 mod fault;
 mod laws;
 mod letter;
@@ -9,11 +10,13 @@ mod line;
 mod number;
 mod place;
 mod read;
-#[cfg(test)]
-mod tests;
 mod write;
 
+pub use evidence::{put_evidence, write_evidence};
 pub use fault::CertFault;
 pub use laws::certificates_are_read_back;
 pub use read::read_certificates;
-pub use write::{write_certificate, write_poly, write_word};
+pub use write::{
+    put, put_certificate, put_integer, put_number, put_poly, put_word, write_certificate,
+    write_poly, write_word,
+};

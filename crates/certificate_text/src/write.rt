@@ -6,7 +6,7 @@ ghost use Rattle.std.specs.List.{All, flat_map};
 ghost use Rattle.quiver.specs.Declarations.{letter_count};
 ghost use Rattle.word_core.specs.Letters.{IsOver};
 ghost use Rattle.certificate_text.specs.Evidence.{IsRowOver};
-ghost use Rattle.certificate_text.specs.Written.{letter_text, gap_text, word_text, factor_text, term_text, first_text, later_text, poly_text, row_text, certificate_text};
+ghost use Rattle.certificate_text.specs.Written.{letter_text, gap_text, word_text, factor_text, term_text, first_text, later_text, poly_text, opening_text, row_text, certificate_text};
 
 use cofactor_trace::{CertRow, Certificate};
 use itoa::Buffer;
@@ -15,20 +15,23 @@ use quiver::{Named, Quiver};
 use std::alloc::{AllocError, Global};
 use word_core::{Letter, Word};
 
-fn put(out: &mut Vec<u8>, text: &str) -> Result<(), AllocError>
+/// A text behind bytes.
+pub fn put(out: &mut Vec<u8>, text: &str) -> Result<(), AllocError>
     ensures { OnOk result (out.new.items ≡ out.old.items ++ text.now) }
 {
     out.extend_from_slice(text.as_bytes())
 }
 
-fn put_number(out: &mut Vec<u8>, number: u128) -> Result<(), AllocError>
+/// A number in decimal digits behind bytes.
+pub fn put_number(out: &mut Vec<u8>, number: u128) -> Result<(), AllocError>
     ensures { OnOk result (out.new.items ≡ out.old.items ++ decimal number) }
 {
     let mut buffer = Buffer::new();
     put(out, buffer.format(number))
 }
 
-fn put_integer(out: &mut Vec<u8>, integer: i128) -> Result<(), AllocError>
+/// An integer in decimal digits behind bytes, with `-` in front where it is negative.
+pub fn put_integer(out: &mut Vec<u8>, integer: i128) -> Result<(), AllocError>
     ensures { OnOk result (out.new.items ≡ out.old.items ++ signed_decimal integer) }
 {
     let mut buffer = Buffer::new();
@@ -62,7 +65,8 @@ fn put_gap(out: &mut Vec<u8>, place: usize) -> Result<(), AllocError>
     if place == 0 { Ok(()) } else { put(out, " ") }
 }
 
-fn put_word(out: &mut Vec<u8>, quiver: &Quiver, word: &Word) -> Result<(), AllocError>
+/// The letters of a word behind bytes, with one blank between them.
+pub fn put_word(out: &mut Vec<u8>, quiver: &Quiver, word: &Word) -> Result<(), AllocError>
     requires { IsOver (letter_count quiver.now) word.now }
     ensures { OnOk result (out.new.items ≡ out.old.items ++ word_text quiver.now word.now) }
 {
@@ -130,6 +134,14 @@ fn put_terms(out: &mut Vec<u8>, quiver: &Quiver, terms: &[(i128, Word)]) -> Resu
     }
 }
 
+/// The terms of a polynomial behind bytes, descending, with their signs, and 0 where there are none.
+pub fn put_poly(out: &mut Vec<u8>, quiver: &Quiver, poly: &Poly) -> Result<(), AllocError>
+    requires { All (λ t. IsOver (letter_count quiver.now) t.1) poly.now.terms }
+    ensures { OnOk result (out.new.items ≡ out.old.items ++ poly_text quiver.now poly.now.terms) }
+{
+    put_terms(out, quiver, poly.terms.as_slice())
+}
+
 fn put_row(out: &mut Vec<u8>, quiver: &Quiver, row: &CertRow) -> Result<(), AllocError>
     requires { IsRowOver quiver.now row.now }
     ensures { OnOk result (out.new.items ≡ out.old.items ++ row_text quiver.now row.now) }
@@ -171,8 +183,43 @@ pub fn write_poly(alloc: Global, quiver: &Quiver, poly: &Poly) -> Result<Vec<u8>
     ensures { IfOk result (λ text. text.items ≡ poly_text quiver.now poly.now.terms) }
 {
     let mut out = Vec::new(alloc);
-    put_terms(&mut out, quiver, poly.terms.as_slice())?;
+    put_poly(&mut out, quiver, poly)?;
     Ok(out)
+}
+
+// The first lines of a certificate.
+pub(crate) fn put_opening(
+    out: &mut Vec<u8>,
+    head: &str,
+    claim: u32,
+    denominator: i128,
+) -> Result<(), AllocError>
+    ensures { OnOk result (out.new.items ≡ out.old.items ++ opening_text head.now claim denominator) }
+{
+    put(out, head)?;
+    put_number(out, u128::from(claim))?;
+    put(out, "\ndenominator ")?;
+    put_integer(out, denominator)?;
+    put(out, "\n")
+}
+
+/// A certificate behind bytes, as a block of evidence text with a line for each row.
+pub fn put_certificate(
+    out: &mut Vec<u8>,
+    quiver: &Quiver,
+    certificate: &Certificate,
+) -> Result<(), AllocError>
+    requires { All (IsRowOver quiver.now) certificate.now.rows }
+    ensures { OnOk result (out.new.items ≡ out.old.items ++ certificate_text quiver.now certificate.now) }
+{
+    put_opening(
+        out,
+        "certificate 1\nclaim ",
+        certificate.claim,
+        certificate.denominator,
+    )?;
+    put_rows(out, quiver, certificate.rows.as_slice())?;
+    put(out, "end\n")
 }
 
 /// A certificate as a block of evidence text, a line for each row.
@@ -185,12 +232,6 @@ pub fn write_certificate(
     ensures { IfOk result (λ text. text.items ≡ certificate_text quiver.now certificate.now) }
 {
     let mut out = Vec::new(alloc);
-    put(&mut out, "certificate 1\nclaim ")?;
-    put_number(&mut out, u128::from(certificate.claim))?;
-    put(&mut out, "\ndenominator ")?;
-    put_integer(&mut out, certificate.denominator)?;
-    put(&mut out, "\n")?;
-    put_rows(&mut out, quiver, certificate.rows.as_slice())?;
-    put(&mut out, "end\n")?;
+    put_certificate(&mut out, quiver, certificate)?;
     Ok(out)
 }

@@ -6,9 +6,9 @@ ghost use Rattle.std.specs.Int.RustNames.{unsigned_abs};
 ghost use Rattle.std.specs.Int.{IsGcd, IsNonNegative};
 ghost use Rattle.coef_int.specs.Range.{IsCoefficient};
 
-#[cfg(test)]
-mod tests;
+mod quotients;
 
+pub use quotients::{divisor, quotient};
 use thiserror::Error;
 
 /// A product or sum that is no coefficient, with both its operands.

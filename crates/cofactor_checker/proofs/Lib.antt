@@ -8,4 +8,5 @@ pub mod Counts
 pub mod RowSums
 pub mod Outcomes
 pub mod Unique
+pub mod Judged
 mod Examples

@@ -4,3 +4,4 @@ pub mod RowRefusals
 pub mod Acceptance
 pub mod Running
 pub mod Difference
+pub mod Laws

@@ -5,14 +5,13 @@ ghost use Rattle.std.specs.Prelude.{◌≡◌, ◌≤◌, length, All, IfOk, IfE
 ghost use Rattle.adjoint_rules.specs.Problem.{polynomials};
 ghost use Rattle.coef_int.specs.Range.{IsCoefficient};
 ghost use Rattle.cofactor_checker.specs.Acceptance.{claim_of, Accepts, Refuses, IsMemory, RefusalIsUnique};
+ghost use Rattle.cofactor_checker.specs.Laws.{EachCertificateIsJudged};
 ghost use Rattle.cofactor_trace.specs.Rows.{rows_of};
 ghost use Rattle.definitions.specs.Combination.{IsCombination};
 
 mod compare;
 mod rows;
 mod sum;
-#[cfg(test)]
-mod tests;
 
 use adjoint_rules::Problem;
 use coef_int::Overflow;
@@ -134,4 +133,9 @@ pub fn check_over(
 #[tactic(auto, using(crate::proofs::Unique::refusal_is_unique))]
 pub fn refusal_is_unique()
     ensures { RefusalIsUnique }
+{}
+
+/// Each certificate is accepted, or one of its tests is the first that fails. It does nothing when it runs.
+pub fn each_certificate_is_judged()
+    ensures { EachCertificateIsJudged }
 {}

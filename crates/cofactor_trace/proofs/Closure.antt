@@ -137,7 +137,7 @@ module _ (target : Made) where
   Above place [] = Unit {0}
   Above place (e ∷ rest) = (place < e.0) × Above e.0 rest
 
-  above_lower : (low high : ℕ) (rest : List Numbered) → low ≤ high → Above high rest → Above low rest
+  pub above_lower : (low high : ℕ) (rest : List Numbered) → low ≤ high → Above high rest → Above low rest
   above_lower low high [] h above = tt
   above_lower low high (e ∷ rest) h above = (omega (arith, above.0), above.1)
 

@@ -9,8 +9,8 @@ use Rattle.std.proofs.lemmas.Int.{ints, unsigned_abs-mul}
 use Rattle.std.proofs.lemmas.Nat.Gcd.{dvd_refl, dvd_trans}
 use Rattle.std.proofs.Math.Nat.{dvd-mul_right, mul-dvd-mul_right}
 use Rattle.nc_polynomial.proofs.Divisors.{quotient_times}
-use Rattle.common_divisor.specs.Divisor.{gcd_of}
-use Rattle.common_divisor.proofs.Divisors.{gcd_of-IsGcd, gcd_of-positive}
+use Rattle.coef_int.specs.Divisor.{gcd_of}
+use Rattle.coef_int.proofs.Divisors.{gcd_of-IsGcd, gcd_of-positive}
 use Rattle.cofactor_trace.specs.Expansion.{lcm_of, common_multiple}
 
 -- a quotient by a divisor of a positive integer is positive

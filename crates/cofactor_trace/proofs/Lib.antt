@@ -8,7 +8,7 @@ mod SizeLaws
 mod TableLaws
 mod RecordLaws
 mod NeededLaws
-mod Between
+pub mod Between
 mod Values
 mod Balance
 mod Closure
@@ -16,3 +16,13 @@ mod Passes
 mod Kept
 mod Limits
 mod NamedGenerators
+mod NamedRecords
+mod NamingLaws
+mod LemmaHalts
+mod LemmaLimits
+mod LemmaLaws
+pub mod GatheredParts
+mod LemmaSources
+pub mod LemmaSums
+pub mod LemmaBalance
+pub mod LemmaNames

@@ -11,7 +11,7 @@ use Rattle.cofactor_trace.specs.declared.Row.{Row}
 use Rattle.cofactor_trace.specs.declared.Made.{Made}
 use Rattle.cofactor_trace.specs.declared.CertRow.{CertRow}
 use Rattle.cofactor_trace.specs.declared.Cofactors.{Cofactors}
-use Rattle.cofactor_trace.specs.declared.gather.Multiple.{Multiple}
+use Rattle.cofactor_trace.specs.declared.table.Multiple.{Multiple}
 use Rattle.cofactor_trace.specs.declared.fault.ExpandFault.{ExpandFault}
 use Rattle.cofactor_trace.specs.Expansion.{Known, common_denominator, joined, joined_rows, joined_row, share, record_expansion}
 use Rattle.cofactor_trace.specs.Laws.{IsUpTo, NamesUpTo, GeneratorsAreNamed}

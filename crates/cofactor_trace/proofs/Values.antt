@@ -14,7 +14,7 @@ use Rattle.definitions.proofs.Coefficients.{coefficient_of-append, coefficient_o
 use Rattle.definitions.proofs.Integers.{*ℤ_assoc, *ℤ-+ℤ, +ℤ-*ℤ, +ℤ_left_comm}
 use Rattle.cofactor_trace.specs.declared.Row.{Row}
 use Rattle.cofactor_trace.specs.declared.CertRow.{CertRow}
-use Rattle.cofactor_trace.specs.declared.gather.Multiple.{Multiple}
+use Rattle.cofactor_trace.specs.declared.table.Multiple.{Multiple}
 use Rattle.cofactor_trace.specs.Rows.{row_of, rows_of}
 use Rattle.cofactor_trace.specs.Multiples.{multiple_of, multiple_cmp}
 use Rattle.cofactor_trace.specs.Gathered.{multiples_of, total_at, coefficients_at, kept_row, gathered}

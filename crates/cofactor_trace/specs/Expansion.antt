@@ -11,7 +11,7 @@ use Rattle.cofactor_trace.specs.declared.CertRow.{CertRow}
 use Rattle.cofactor_trace.specs.declared.Cofactors.{Cofactors}
 use Rattle.cofactor_trace.specs.declared.fault.ExpandFault.{ExpandFault}
 use Rattle.cofactor_trace.specs.declared.fault.ExpandFault.TheVariants as fault
-use Rattle.common_divisor.specs.Divisor.{gcd_of}
+use Rattle.coef_int.specs.Divisor.{gcd_of}
 use Rattle.cofactor_trace.specs.Gathered.{gathered, sums_of_gathering}
 
 -- what each generator and each rule expands to
@@ -99,7 +99,7 @@ primitive denominator rows =
     record { denominator = int_div denominator divisor; rows = map (divided_row divisor) rows }
 
 -- a result, unless there is a fault
-abbrev pub unless : {A : Type 0} → Option ExpandFault → Result A ExpandFault → Result A ExpandFault
+abbrev pub unless : {A F : Type 0} → Option F → Result A F → Result A F
 unless None r = r
 unless (Some e) r = Err e
 

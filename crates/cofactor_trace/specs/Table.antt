@@ -7,7 +7,7 @@ use Rattle.coef_int.specs.declared.Overflow.{Overflow}
 use Rattle.coef_int.specs.Range.{IsCoefficient, is_coefficient}
 use Rattle.coef_int.specs.Operations.{sum_of}
 use Rattle.cofactor_trace.specs.declared.CertRow.{CertRow}
-use Rattle.cofactor_trace.specs.declared.gather.Multiple.{Multiple}
+use Rattle.cofactor_trace.specs.declared.table.Multiple.{Multiple}
 use Rattle.cofactor_trace.specs.Multiples.{multiple_of, multiple_cmp}
 use Rattle.cofactor_trace.specs.Gathered.{kept_row}
 

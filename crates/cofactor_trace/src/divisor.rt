@@ -5,7 +5,7 @@ ghost use Rattle.coef_int.specs.Range.{IsCoefficient};
 ghost use Rattle.cofactor_trace.specs.Expansion.{content_of, divided_row};
 
 use crate::CertRow;
-use common_divisor::{divisor, quotient};
+use coef_int::{divisor, quotient};
 use lists::Listing;
 use std::alloc::{AllocError, Global};
 use std::collections::VecDeque;

@@ -1,5 +1,5 @@
 //! The rows over generators alone that a record stands for.
-ghost use Rattle.std.specs.Prelude.{◌≡◌, ℕ, ◌+◌, ◌<◌, ◌||◌, false, length, map, reverse, slice_index_or, Ok, IfOk, MatchResult};
+ghost use Rattle.std.specs.Prelude.{◌≡◌, ℕ, ◌+◌, ◌<◌, ◌≤◌, ◌^◌, ◌||◌, false, length, map, reverse, slice_index_or, Ok, IfOk, MatchResult};
 ghost use Rattle.std.specs.List.{All, list_any};
 ghost use Rattle.cofactor_trace.specs.Needed.{IsAmongFirst, IsRecord, AreRecords, is_rule, needed_rules, expansion_of};
 ghost use Rattle.cofactor_trace.specs.Faults.{Explains};
@@ -31,10 +31,15 @@ pub fn expand(alloc: Global, made: &[Made], target: &Made) -> Result<Cofactors, 
 }
 
 // The numbers of the rules that the target needs, descending.
-fn needed_numbers(alloc: Global, made: &[Made], target: &Made) -> Result<Vec<usize>, AllocError>
+pub(crate) fn needed_numbers(
+    alloc: Global,
+    made: &[Made],
+    target: &Made,
+) -> Result<Vec<usize>, AllocError>
     requires records { AreRecords made.now }
     requires target { IsRecord (length made.now) target.now }
-    ensures { IfOk result (λ numbers. reverse numbers.items ≡ map (λ e. e.0) (needed_rules made.now target.now)) }
+    ensures exact { IfOk result (λ numbers. reverse numbers.items ≡ map (λ e. e.0) (needed_rules made.now target.now)) }
+    ensures in_range { IfOk result (λ numbers. All (λ n. n < 2 ^ 32) numbers.items) }
 {
     let mut marks = vec![in alloc; false; made.len()]?;
     let named = marks.as_mut_slice();
@@ -52,9 +57,11 @@ fn needed_numbers(alloc: Global, made: &[Made], target: &Made) -> Result<Vec<usi
 // Marks the places of the rules that the rows name.
 fn mark(named: &mut [bool], rows: &[Row])
     requires { All (λ r. IsAmongFirst (length named.old) r.from) rows.now }
-    ensures { (place : ℕ) → place < length named.old
+    ensures marks { (place : ℕ) → place < length named.old
         → slice_index_or named.new place false
         ≡ (slice_index_or named.old place false || list_any (λ r. is_rule (place + 1) r.from) rows.now) }
+    ensures far { (place : ℕ) → 2 ^ 32 ≤ place + 1
+        → slice_index_or named.new place false ≡ slice_index_or named.old place false }
 {
     for row in rows {
         if let Origin::Rule(number) = row.from {

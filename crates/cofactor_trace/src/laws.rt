@@ -1,4 +1,5 @@
-//! What an expansion adds up to, and how large it is, as laws over the definitions.
+//! What an expansion and a gathered certificate add up to, and how large they are, as laws over the definitions.
+ghost use Rattle.cofactor_trace.specs.GatheringLaws.{GatheringsAddUp, GatheringsAreRanged, GatheringsFit, LemmasAreNamed, LemmasHaveRows, WordsAreKept};
 ghost use Rattle.cofactor_trace.specs.Laws.{ExpansionsBalance, ExpansionsFit, GeneratorsAreNamed};
 
 /// Where the rows of each record add up to its scale times its rule, those of an expansion add up, over the generators
@@ -15,4 +16,37 @@ pub fn expansions_fit()
 /// Where the records name no generators but the first ones, as many as a number says, neither does an expansion.
 pub fn generators_are_named()
     ensures { GeneratorsAreNamed }
+{}
+
+/// Where the rows of each record add up to its scale times its rule, a gathered certificate is evidence of the polynomial of the
+/// target: its lemmas are rules, each lemma's rows add up to its scale times its rule over generators and earlier lemmas, and so
+/// do those of the goal; each scale is positive and divides the denominator.
+pub fn gatherings_add_up()
+    ensures { GatheringsAddUp }
+{}
+
+/// A gathered certificate has at most 200,000 rows and 1,000,000 letters in all their words.
+pub fn gatherings_fit()
+    ensures { GatheringsFit }
+{}
+
+/// Where each record has a row, so has each lemma, and there are at most 200,000 lemmas.
+pub fn lemmas_have_rows()
+    ensures { LemmasHaveRows }
+{}
+
+/// The denominator, the scales and the coefficients of a gathered certificate are coefficients.
+pub fn gatherings_are_ranged()
+    ensures { GatheringsAreRanged }
+{}
+
+/// Where a test is true at each word of the records, it is true at each word of a gathered certificate.
+pub fn words_are_kept()
+    ensures { WordsAreKept }
+{}
+
+/// Where the records name no generators but the first ones, as many as a number says, neither does a gathered certificate. Each
+/// lemma names lemmas before it alone, and the goal lemmas that there are.
+pub fn lemmas_are_named()
+    ensures { LemmasAreNamed }
 {}

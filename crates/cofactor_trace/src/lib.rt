@@ -2,18 +2,28 @@
 #![tactic(auto)]
 
 mod divisor;
+mod evidence;
 mod expansion;
+mod extent;
 mod fault;
-mod gather;
+mod halt;
 mod laws;
+mod lemmas;
+mod naming;
 mod record;
+mod replacement;
 mod size;
-#[cfg(test)]
-mod tests;
+mod table;
 
+pub use evidence::{CertFrom, Evidence, Format, Lemma, LemmaCertificate, LemmaRow};
 pub use expansion::expand;
-pub use fault::ExpandFault;
-pub use laws::{expansions_balance, expansions_fit, generators_are_named};
+pub use fault::{ExpandFault, GatherFault};
+pub use halt::{Cause, Halt, Place};
+pub use laws::{
+    expansions_balance, expansions_fit, gatherings_add_up, gatherings_are_ranged, gatherings_fit,
+    generators_are_named, lemmas_are_named, lemmas_have_rows, words_are_kept,
+};
+pub use lemmas::gather;
 use lists::{Duplicate, Listing};
 use std::alloc::AllocError;
 use word_core::Word;

@@ -12,11 +12,10 @@ ghost use Rattle.cofactor_trace.specs.Ranges.{IsRanged};
 ghost use Rattle.cofactor_trace.specs.Table.{IsInRange, with_rows};
 
 use crate::divisor::{content, divide_rows};
-use crate::gather::{Sums, add_joined, gather};
 use crate::size::{Size, check_size, measure_joined};
+use crate::table::{Sums, add_joined, nonzero_rows};
 use crate::{CertRow, Cofactors, ExpandFault, Made, Origin, Row};
-use coef_int::times;
-use common_divisor::{divisor, quotient};
+use coef_int::{divisor, quotient, times};
 use std::alloc::Global;
 use std::collections::BTreeMap;
 use word_core::Word;
@@ -179,7 +178,7 @@ pub(crate) fn expand_record(
     let denominator = times(made.scale, common)?;
     check_limits(alloc, expansions, common, rows)?;
     let sums = add_rows(alloc, expansions, common, rows)?;
-    let gathered = gather(alloc, sums)?;
+    let gathered = nonzero_rows(alloc, sums)?;
     let by = content(denominator, gathered.as_slice());
     Ok(Cofactors {
         denominator: quotient(denominator, by),

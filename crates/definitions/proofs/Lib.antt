@@ -9,6 +9,7 @@ pub mod Rows
 pub mod Sound
 pub mod Typed
 pub mod Adjoints
+pub mod UnitSound
 pub mod StarSound
 pub mod Projection
 pub mod Canonical

@@ -29,7 +29,7 @@ abbrev pub multiple : {Object Arrow : Type 0} → Structure Object Arrow → ℤ
 multiple s (pos n) a = natural_multiple s n a
 multiple s (negsuc n) a = s.negate (natural_multiple s (suc n) a)
 
--- a positive integer d such that d a = 0 only for a = 0
+-- d a = 0 only for a = 0
 pub record Cancels {Object Arrow : Type 0} (s : Structure Object Arrow) (d : ℤ) : Type 0 where
   pub at : (a : Arrow) → s.is_arrow a → multiple s d a ≡ s.zero (s.source a) (s.target a) → a ≡ s.zero (s.source a) (s.target a)
 

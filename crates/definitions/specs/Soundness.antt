@@ -1,5 +1,5 @@
 -- What an accepted certificate means in a category.
-use Rattle.std.specs.Prelude.{◌≡◌, ℕ, ℤ, ◌<◌, Bool, List, filter}
+use Rattle.std.specs.Prelude.{◌≡◌, ℕ, ℤ, ◌<◌, Bool, false, List, filter}
 use Rattle.std.specs.List.{AllByRecursion}
 use Rattle.definitions.specs.Category.{Structure}
 use Rattle.definitions.specs.Quiver.{Quiver, IsQuiver, IsTyped}
@@ -31,6 +31,12 @@ pub record MakesZero {Object Arrow : Type 0} (s : Structure Object Arrow) (q : Q
 pub record IsSound {Object Arrow : Type 0} (s : Structure Object Arrow) : Type 0 where
   pub certificate : (q : Quiver) (generators : List (List (ℤ × List ℕ))) (rows : List Row) (d : ℤ) (claim : List (ℤ × List ℕ))
       → IsQuiver q → AllByRecursion (HasSignature q) generators → IsCombination generators rows d claim → MakesZero s q generators d claim
+
+-- In each representation the assumptions make all generators of a statement zero that isn't starred: the relations of identities hold anyway.
+pub record IsUnitSound {Object Arrow : Type 0} (s : Structure Object Arrow) : Type 0 where
+  pub generators : (q : Quiver) (marked : List ℕ) (assumptions : List (List (ℤ × List ℕ)))
+      → IsQuiver q → AllByRecursion (λ v. v < q.objects) marked
+      → (f : Representation Object Arrow) → Represents s q f → AllByRecursion (HasValueZero s q f) assumptions → AllByRecursion (HasValueZero s q f) (generators_of q false marked assumptions)
 
 -- In each star representation the assumptions make all generators zero.
 pub record IsStarSound {Object Arrow : Type 0} (s : Structure Object Arrow) (adjoint : Arrow → Arrow) : Type 0 where

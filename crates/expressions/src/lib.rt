@@ -7,8 +7,6 @@ mod names;
 mod occurrence;
 mod polynomial;
 mod signature;
-#[cfg(test)]
-mod tests;
 
 pub use fault::SignatureFault;
 pub use laws::{equations_are_typed, letters_are_written};

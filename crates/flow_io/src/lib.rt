@@ -14,6 +14,3 @@ pub use real_shelf::RealShelf;
 pub use real_sink::RealSink;
 pub use shelf::{Shelf, ShelfFault};
 pub use sink::{PutFault, Sink, SinkFault, put_all};
-
-#[cfg(test)]
-mod tests;

@@ -54,6 +54,13 @@ impl MemoryShelf {
             counts,
         })
     }
+
+    /// How many loads there were; at the greatest u64 the number stays.
+    pub fn loads(&self) -> u64
+        ensures { result ≡ self.now.loads }
+    {
+        self.loads
+    }
 }
 
 // The place of the file of this name, or the number of files where there is none.

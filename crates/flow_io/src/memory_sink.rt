@@ -68,6 +68,13 @@ impl MemorySink {
         &self.bytes
     }
 
+    /// How many puts and finishes there were; at the greatest u64 the number stays.
+    pub fn calls(&self) -> u64
+        ensures { result ≡ self.now.calls }
+    {
+        self.calls
+    }
+
     /// Whether the last call that didn't fail was a finish.
     pub fn finished(&self) -> bool
         ensures { result ≡ self.now.finished }

@@ -1,12 +1,12 @@
-ghost use Rattle.std.specs.Prelude.{◌≡◌, ◌+◌, ◌<◌, ◌≤◌};
+ghost use Rattle.std.specs.Prelude.{◌≡◌, ◌+◌, ◌<◌, ◌≤◌, IsErr, IsErrOf, IfOk};
 ghost use Rattle.flow_io.specs.Shelf.{LoadAnswers};
 ghost use Rattle.flow_io.specs.Told.{Untold, told_by};
 
 use crate::{Shelf, ShelfFault};
 use std::alloc::Global;
-use std::fs;
 use std::io::Read;
 use std::rt::Files;
+use std::{fs, io};
 
 const BLOCK: usize = 8192;
 
@@ -46,60 +46,42 @@ fn read_whole<F: Read>(alloc: Global, file: &mut F, most: usize) -> Result<Vec<u
     Err(ShelfFault::TooLong { got: bytes.len() })
 }
 
+// The whole of an opened file, within its limit, or why there is none.
+fn read_opened<F: Read + Drop>(
+    alloc: Global,
+    opened: io::Result<F>,
+    most: usize,
+) -> Result<Vec<u8>, ShelfFault>
+    requires { most < usize.MAX }
+    ensures unopened { IsErr opened → IsErrOf result ShelfFault.Failed }
+    ensures whole { IfOk opened (λ file. LoadAnswers (told_by (F.remaining file)) most 0 1 result) }
+{
+    match opened {
+        Ok(mut file) => read_whole(alloc, &mut file, most),
+        Err(_) => Err(ShelfFault::Failed),
+    }
+}
+
 impl<R: Files + Drop> Shelf for RealShelf<R> {
+    ghost use Rattle.std.specs.Prelude.{◌<◌, ◌≤◌, ◌≡◌, List, ℕ};
+    ghost use Rattle.flow_io.specs.Shelf.{CountsLoad};
+
     ghost file = { λ _ _. Untold };
 
     ghost faults = { λ shelf _. shelf.faults };
 
-    fn load(&mut self, alloc: Global, name: &str, most: usize) -> Result<Vec<u8>, ShelfFault> {
-        let answer = match fs::open(&self.rt, name) {
-            Ok(mut file) => read_whole(alloc, &mut file, most),
-            Err(_) => Err(ShelfFault::Failed),
-        };
+    /// The count goes up by one where it answers `Failed`, and stays else.
+    fn load(&mut self, alloc: Global, name: &str, most: usize) -> Result<Vec<u8>, ShelfFault>
+        requires { most < usize.MAX }
+        ensures counted { CountsLoad self.old.faults self.new.faults result }
+        // as of the trait
+        ensures answer { LoadAnswers Untold most self.old.faults self.new.faults result }
+        ensures counts { self.old.faults ≤ self.new.faults }
+    {
+        let answer = read_opened(alloc, fs::open(&self.rt, name), most);
         if let Err(ShelfFault::Failed) = &answer {
             self.faults = self.faults.saturating_add(1);
         }
         answer
-    }
-}
-
-#[cfg(test)]
-mod tests {
-    use super::read_whole;
-    use crate::ShelfFault;
-    use std::io;
-    use std::io::{ErrorKind, Read};
-    use std::test::Fail;
-
-    // Gives one byte a call, and then fails.
-    #[derive(Drop)]
-    struct Broken {
-        left: u8,
-    }
-
-    impl Read for Broken {
-        fn read(&mut self, buf: &mut [u8]) -> io::Result<usize> {
-            if self.left == 0 {
-                return Err(io::Error::from(ErrorKind::BrokenPipe));
-            }
-            if buf.is_empty() {
-                return Ok(0);
-            }
-            self.left -= 1;
-            buf[0] = b'x';
-            Ok(1)
-        }
-    }
-
-    #[test]
-    fn a_read_that_fails_in_mid_stream_is_no_file(rt: HostRuntime) -> Result<(), Fail> {
-        let alloc = rt.alloc();
-        let mut broken = Broken { left: 3 };
-        let failed = read_whole(alloc, &mut broken, 9);
-        assert!(rt; matches!(failed, Err(ShelfFault::Failed)));
-        let mut long = Broken { left: 3 };
-        let past = read_whole(alloc, &mut long, 2);
-        assert!(rt; matches!(past, Err(ShelfFault::TooLong { got: 3 })));
-        Ok(())
     }
 }

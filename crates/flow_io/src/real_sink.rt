@@ -1,4 +1,5 @@
-ghost use Rattle.std.specs.Prelude.{◌≡◌, None, false};
+ghost use Rattle.std.specs.Prelude.{◌≡◌, ◌<◌, ◌≤◌, None, false, length, IfOk, OnOk, OnErr, IsTrue};
+ghost use Rattle.flow_io.specs.Causes.{Rose, CountsFault};
 
 use crate::{Sink, SinkFault};
 
@@ -31,8 +32,17 @@ impl<R: Print + Drop> Sink for RealSink<R> {
 
     ghost faults = { λ sink. sink.faults };
 
-    /// A write that takes nothing of the piece is a fault.
-    fn put(&mut self, bytes: &[u8]) -> Result<usize, SinkFault> {
+    /// A write that takes nothing of the piece is a fault. The count goes up by one where the put failed, and stays else.
+    fn put(&mut self, bytes: &[u8]) -> Result<usize, SinkFault>
+        requires { 0 < length bytes.now }
+        ensures counted { CountsFault self.old.faults self.new.faults result }
+        // as of the trait
+        ensures some { IfOk result (λ count. 0 < count) }
+        ensures bound { IfOk result (λ count. count ≤ length bytes.now) }
+        ensures unfinished { OnOk result (self.new.is_finished ≡ false) }
+        ensures cause { OnErr result (Rose self.old.faults self.new.faults) }
+        ensures count { self.old.faults ≤ self.new.faults }
+    {
         match self.rt.write_some(bytes) {
             Ok(count) if count > 0 => {
                 self.is_finished = false;
@@ -46,7 +56,13 @@ impl<R: Print + Drop> Sink for RealSink<R> {
     }
 
     /// Each put has written its bytes, so that nothing is left to write.
-    fn finish(&mut self) -> Result<(), SinkFault> {
+    fn finish(&mut self) -> Result<(), SinkFault>
+        ensures counted { CountsFault self.old.faults self.new.faults result }
+        // as of the trait
+        ensures finished { OnOk result (IsTrue self.new.is_finished) }
+        ensures cause { OnErr result (Rose self.old.faults self.new.faults) }
+        ensures count { self.old.faults ≤ self.new.faults }
+    {
         self.is_finished = true;
         Ok(())
     }

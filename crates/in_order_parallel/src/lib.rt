@@ -8,6 +8,3 @@ mod spread;
 pub use gate::{Gate, OpenGate};
 pub use job::Job;
 pub use spread::map_in_order;
-
-#[cfg(test)]
-mod tests;

@@ -10,6 +10,3 @@ pub use fault::MatrixFault;
 pub use matrices::Matrices;
 pub use matrix::Matrix;
 pub use model::Model;
-
-#[cfg(test)]
-mod tests;

@@ -13,8 +13,6 @@ mod product;
 mod push;
 mod size;
 mod terms;
-#[cfg(test)]
-mod tests;
 
 pub use fault::{PolyFault, SizeFault};
 pub use laws::canonical_is_unique;

@@ -1,50 +1,60 @@
 -- Blocks that are judged one after another.
-use Rattle.std.proofs.Common.{◌≡◌, ℕ, zero, suc, ◌+◌, ◌<◌, ◌≤◌, List, [], ◌∷◌, ◌++◌, Some, length, drop, get_or, refl, sym, ap, subst, ◌∙◌, arith}
+use Rattle.std.proofs.Common.{◌≡◌, ℕ, ◌+◌, ◌<◌, ◌≤◌, ◌⊎◌, inl, inr, List, [], ◌∷◌, ◌++◌, length, drop, get_or, refl, sym, ap, subst, ◌∙◌}
 use Rattle.std.proofs.lemmas.List.{append_assoc, append-nil}
-use Rattle.cofactor_trace.specs.declared.Certificate.{Certificate}
-use Rattle.cofactor_checker.specs.declared.Refusal.{Refusal}
-use Rattle.cofactor_checker.specs.Acceptance.{Refuses}
 use Rattle.opprove.specs.Ending.{line}
-use Rattle.opprove.specs.Refusals.{accepted_text, cause_text, refused_text}
-use Rattle.opprove.specs.Decides.{Question, IsAccepted, JudgesBlock, accepts, refuses, Judges}
+use Rattle.opprove.specs.Refusals.{accepted_text, refused_text}
+use Rattle.opprove.specs.Blocks.{accepted, refused, JudgesFrom}
+use Rattle.opprove.proofs.Places.{drop-at, drop-all}
 
--- the item at a place stands before the rest
-drop-suc : (cs : List Certificate) (place : ℕ) (c : Certificate) → place < length cs → c ≡ get_or cs place c → drop place cs ≡ c ∷ drop (suc place) cs
-drop-suc [] place c inside is = absurd (omega arith)
-drop-suc (d ∷ cs) zero c inside is = ap (λ x. x ∷ cs) (sym is)
-drop-suc (d ∷ cs) (suc place) c inside is = drop-suc cs place c (omega arith) is
+module _ {Block : Type 0} (accepts refuses : Block → List ℕ → Type 0) where
+  -- ---- the blocks one by one
+  module _ (bs : List Block) where
+    -- the report so far goes on as the rest of the blocks is judged
+    abbrev pub GoesOn : ℕ → List ℕ → Type 0
+    GoesOn place report = (lines : List ℕ) (status : ℕ) → JudgesFrom accepts refuses (place + 1) (drop place bs) lines status → JudgesFrom accepts refuses 1 bs (report ++ lines) status
 
-drop-at : (cs : List Certificate) (place : ℕ) (c : Certificate) → place < length cs → c ≡ get_or cs place c → drop place cs ≡ c ∷ drop (place + 1) cs
-drop-at cs place c inside is = let next : suc place ≡ place + 1 = omega arith in drop-suc cs place c inside is ∙ ap (λ n. c ∷ drop n cs) next
+    pub with_accepted : (place : ℕ) (report : List ℕ) (b : Block) (text : List ℕ) → place < length bs → b ≡ get_or bs place b → accepts b text → GoesOn place report
+        → GoesOn (place + 1) (report ++ line (accepted_text (place + 1) text))
+    with_accepted place report b text inside is holds goes lines status judges =
+        let one : JudgesFrom accepts refuses (place + 1) (b ∷ drop (place + 1) bs) (line (accepted_text (place + 1) text) ++ lines) status = accepted text holds lines judges refl in
+        let there = goes _ status (subst (λ (l : List Block). JudgesFrom accepts refuses (place + 1) l (line (accepted_text (place + 1) text) ++ lines) status) (sym (drop-at bs place b inside is)) one) in
+        subst (λ (l : List ℕ). JudgesFrom accepts refuses 1 bs l status) (sym (append_assoc report (line (accepted_text (place + 1) text)) lines)) there
 
-drop-all : (cs : List Certificate) (place : ℕ) → length cs ≤ place → drop place cs ≡ []
-drop-all [] zero past = refl
-drop-all [] (suc place) past = refl
-drop-all (c ∷ cs) zero past = absurd (omega arith)
-drop-all (c ∷ cs) (suc place) past = drop-all cs place (omega arith)
+    pub with_refused : (place : ℕ) (report : List ℕ) (b : Block) (cause : List ℕ) → place < length bs → b ≡ get_or bs place b → refuses b cause → GoesOn place report
+        → JudgesFrom accepts refuses 1 bs (report ++ line (refused_text (place + 1) cause)) 7
+    with_refused place report b cause inside is because goes =
+        let one : JudgesFrom accepts refuses (place + 1) (b ∷ drop (place + 1) bs) (line (refused_text (place + 1) cause)) 7 = refused cause because refl refl in
+        goes _ 7 (subst (λ (l : List Block). JudgesFrom accepts refuses (place + 1) l (line (refused_text (place + 1) cause)) 7) (sym (drop-at bs place b inside is)) one)
 
-module _ (question : Question) (cs : List Certificate) where
-  -- the report so far goes on as the rest of the blocks is judged
-  abbrev pub GoesOn : ℕ → List ℕ → Type 0
-  GoesOn place report = (lines : List ℕ) (status : ℕ) → Judges question (place + 1) (drop place cs) lines status → Judges question 1 cs (report ++ lines) status
+    pub all_judged : (place : ℕ) (report : List ℕ) → length bs ≤ place → GoesOn place report → JudgesFrom accepts refuses 1 bs report 0
+    all_judged place report past goes =
+        let rest : JudgesFrom accepts refuses (place + 1) (drop place bs) [] 0 = subst (λ (l : List Block). JudgesFrom accepts refuses (place + 1) l [] 0) (sym (drop-all bs place past)) (refl, refl) in
+        subst (λ (l : List ℕ). JudgesFrom accepts refuses 1 bs l 0) (append-nil report) (goes [] 0 rest)
 
-  pub begins : GoesOn 0 []
-  begins lines status judges = judges
+  -- ---- the status
+  pub judged_status : (number : ℕ) (bs : List Block) (lines : List ℕ) (status : ℕ) → JudgesFrom accepts refuses number bs lines status → (status ≡ 0) ⊎ (status ≡ 7)
+  judged_status number [] lines status judges = inl judges.1
+  judged_status number (b ∷ bs) lines status (accepted text holds rest next is) = judged_status (number + 1) bs rest status next
+  judged_status number (b ∷ bs) lines status (refused cause because is seven) = inr seven
 
-  pub with_accepted : (place : ℕ) (report : List ℕ) (c : Certificate) → place < length cs → c ≡ get_or cs place c → IsAccepted question c → GoesOn place report
-      → GoesOn (place + 1) (report ++ line (accepted_text (place + 1) c.claim c.denominator))
-  with_accepted place report c inside is holds goes lines status judges =
-      let one : Judges question (place + 1) (c ∷ drop (place + 1) cs) (line (accepted_text (place + 1) c.claim c.denominator) ++ lines) status = accepts holds lines judges refl in
-      let there = goes _ status (subst (λ (l : List Certificate). Judges question (place + 1) l (line (accepted_text (place + 1) c.claim c.denominator) ++ lines) status) (sym (drop-at cs place c inside is)) one) in
-      subst (λ (l : List ℕ). Judges question 1 cs l status) (sym (append_assoc report (line (accepted_text (place + 1) c.claim c.denominator)) lines)) there
+  -- ---- what is told of blocks is told once
 
-  pub with_refused : (place : ℕ) (report : List ℕ) (c : Certificate) (r : Refusal) (cause : List ℕ) → place < length cs → c ≡ get_or cs place c
-      → Refuses question.claims question.generators c r → cause_text question.declared r ≡ Some cause → GoesOn place report → Judges question 1 cs (report ++ line (refused_text (place + 1) cause)) 7
-  with_refused place report c r cause inside is because told goes =
-      let one : Judges question (place + 1) (c ∷ drop (place + 1) cs) (line (refused_text (place + 1) cause)) 7 = refuses r cause because told refl refl in
-      goes _ 7 (subst (λ (l : List Certificate). Judges question (place + 1) l (line (refused_text (place + 1) cause)) 7) (sym (drop-at cs place c inside is)) one)
+  pub record Same (lines lines' : List ℕ) (status status' : ℕ) : Type 0 where
+    pub lines_same : lines ≡ lines'
+    pub status_same : status ≡ status'
 
-  pub all_judged : (place : ℕ) (report : List ℕ) → length cs ≤ place → GoesOn place report → Judges question 1 cs report 0
-  all_judged place report past goes =
-      let rest : Judges question (place + 1) (drop place cs) [] 0 = subst (λ (l : List Certificate). Judges question (place + 1) l [] 0) (sym (drop-all cs place past)) (refl, refl) in
-      subst (λ (l : List ℕ). Judges question 1 cs l 0) (append-nil report) (goes [] 0 rest)
+  module _ (one_text : (b : Block) (text text' : List ℕ) → accepts b text → accepts b text' → text ≡ text')
+      (one_cause : (b : Block) (cause cause' : List ℕ) → refuses b cause → refuses b cause' → cause ≡ cause')
+      (not_both : (b : Block) (text cause : List ℕ) → accepts b text → refuses b cause → ⊥) where
+    pub judged_once : (number : ℕ) (bs : List Block) (lines lines' : List ℕ) (status status' : ℕ) → JudgesFrom accepts refuses number bs lines status → JudgesFrom accepts refuses number bs lines' status' → Same lines lines' status status'
+    judged_once number [] lines lines' status status' one other = record { lines_same = one.0 ∙ sym other.0; status_same = one.1 ∙ sym other.1 }
+    judged_once number (b ∷ bs) lines lines' status status' (accepted text holds rest next is) (accepted text' holds' rest' next' is') =
+        let same = judged_once (number + 1) bs rest rest' status status' next next' in
+        record {
+          lines_same = is ∙ (λ i. line (accepted_text number (one_text b text text' holds holds' i)) ++ same.lines_same i) ∙ sym is';
+          status_same = same.status_same;
+        }
+    judged_once number (b ∷ bs) lines lines' status status' (accepted text holds rest next is) (refused cause because _ _) = absurd (not_both b text cause holds because)
+    judged_once number (b ∷ bs) lines lines' status status' (refused cause because _ _) (accepted text holds rest next is) = absurd (not_both b text cause holds because)
+    judged_once number (b ∷ bs) lines lines' status status' (refused cause because is seven) (refused cause' because' is' seven') =
+        record { lines_same = is ∙ ap (λ x. line (refused_text number x)) (one_cause b cause cause' because because') ∙ sym is'; status_same = seven ∙ sym seven' }

@@ -4,7 +4,7 @@ use Rattle.std.proofs.lemmas.Bool.{and_parts, and_from}
 use Rattle.std.proofs.lemmas.Bool.Decides.{Decides-int_eq}
 use Rattle.std.proofs.lemmas.List.Folds.{list_all-append}
 use Rattle.std.proofs.Math.IntN.{*ℤ-zero}
-use Rattle.std.specs.List.{All, AllByRecursion, list_all}
+use Rattle.std.specs.List.{AllByRecursion, list_all}
 use Rattle.std.proofs.lemmas.List.Elements.{recursion_from_All, All-from_recursion}
 use Rattle.std.specs.Ordering.{int_eq}
 use Rattle.definitions.specs.Poly.{word_eq, coefficient_of, poly_multiple, poly_between}
@@ -24,7 +24,7 @@ use Rattle.adjoint_rules.specs.declared.problem.Problem.{Problem}
 use Rattle.adjoint_rules.specs.Problem.{polynomials}
 use Rattle.adjoint_rules.proofs.Generators.{claims_have_signatures, generators_have_signatures}
 use Rattle.certificate_text.specs.Evidence.{IsRowOver, IsCheckable}
-use Rattle.opprove.specs.Refusals.{HasLetters}
+use Rattle.opprove.specs.Letters.{HasLetters}
 use Rattle.definitions.proofs.Coefficients.{coefficient_of-append, coefficient_of-multiple}
 use Rattle.definitions.proofs.Linear.{word_eq-true}
 use Rattle.definitions.proofs.Paths.{step}

@@ -1,21 +1,36 @@
 -- What accepted certificates mean in a category.
-use Rattle.std.proofs.Common.{◌≡◌, ℕ, List, [], ◌∷◌, ap, sym, ◌∙◌, arith}
+use Rattle.std.proofs.Common.{◌≡◌, ℕ, zero, suc, ◌<◌, ℤ, Bool, false, List, [], ◌∷◌, length, get_or, sym, subst, arith}
 use Rattle.std.specs.List.{AllByRecursion}
 use Rattle.definitions.specs.Category.{Structure, PreadditiveLaws}
-use Rattle.definitions.specs.Combination.{IsCombination}
-use Rattle.definitions.specs.Soundness.{IsSound, MakesZero}
+use Rattle.definitions.specs.Combination.{IsCombination, generator_at}
+use Rattle.definitions.specs.Quiver.{Quiver}
+use Rattle.definitions.specs.Representation.{Representation, Represents}
+use Rattle.definitions.specs.Soundness.{HasSignature, HasValueZero, IsSound, MakesZero}
+use Rattle.definitions.specs.Generators.{generators_of}
 use Rattle.definitions.proofs.StarSound.{star_sound}
+use Rattle.definitions.proofs.UnitSound.{unit_sound}
 use Rattle.quiver.specs.Declarations.{quiver_of}
 use Rattle.cofactor_trace.specs.declared.Certificate.{Certificate}
 use Rattle.cofactor_trace.specs.Rows.{rows_of}
+use Rattle.cofactor_checker.specs.Rows.{IsNumberUpTo}
 use Rattle.cofactor_checker.proofs.Outcomes.{combination_from_accepts}
 use Rattle.adjoint_rules.specs.declared.problem.Problem.{Problem}
-use Rattle.adjoint_rules.specs.Problem.{polynomials}
-use Rattle.adjoint_rules.proofs.Generators.{posed_quiver, generators_have_signatures, generators_are_zero, makes_zero}
+use Rattle.adjoint_rules.specs.Problem.{polynomials, numbers, generators_in}
+use Rattle.adjoint_rules.proofs.Generators.{posed_quiver, claims_have_signatures, marked_are_objects, generators_have_signatures, generators_are_zero, makes_zero}
 use Rattle.opprove.specs.Ending.{Ending}
-use Rattle.opprove.specs.Decides.{question_of, IsAccepted, DecidesOver, no_evidence, judged, Decides, no_statement, over}
-use Rattle.opprove.specs.Headline.{stated_claim, Means, MeansByStar, Proved}
-use Rattle.opprove.proofs.Decisions.{all_accepted}
+use Rattle.opprove.specs.Check.{question_of, IsAccepted, AnswersCheck}
+use Rattle.opprove.specs.Headline.{stated_claim, MakesZeroByStar, CheckedMeans, SaysChecked}
+use Rattle.opprove.proofs.Checking.{told_accepted}
+
+-- the polynomial with a number from 1 to the count has what each of them has
+get_one : (q : Quiver) (ps : List (List (ℤ × List ℕ))) (n : ℕ) → n < length ps → AllByRecursion (HasSignature q) ps → HasSignature q (get_or ps n [])
+get_one q [] n inside all = absurd (omega arith)
+get_one q (p ∷ ps) zero inside all = all.0
+get_one q (p ∷ ps) (suc n) inside all = get_one q ps n (omega arith) all.1
+
+numbered : (q : Quiver) (ps : List (List (ℤ × List ℕ))) (n : ℕ) → IsNumberUpTo (length ps) n → AllByRecursion (HasSignature q) ps → HasSignature q (generator_at ps n)
+numbered q ps zero is all = let least = is.least in absurd (omega arith)
+numbered q ps (suc n) is all = let most = is.most in get_one q ps n (omega arith) all
 
 module _ {Object Arrow : Type 0} {s : Structure Object Arrow} (laws : PreadditiveLaws s) (sound : IsSound s) (problem : Problem) (c : Certificate) (accepted : IsAccepted (question_of problem) c) where
   sum : IsCombination (polynomials problem.generators) (rows_of c.rows) c.denominator (stated_claim problem c)
@@ -25,39 +40,40 @@ module _ {Object Arrow : Type 0} {s : Structure Object Arrow} (laws : Preadditiv
   makes = sound.certificate (quiver_of problem.parts.quiver) (polynomials problem.generators) (rows_of c.rows) c.denominator (stated_claim problem c)
       (posed_quiver problem.parts problem.posed) (generators_have_signatures problem.parts problem.posed problem.generators problem.closed) sum
 
-  pub means : Means s problem c
-  means = record {
-    accepted = accepted;
-    sum = sum;
-    zero = makes_zero laws problem.parts problem.generators problem.closed c.denominator (stated_claim problem c) makes;
-  }
+  zero_made : MakesZero s (quiver_of problem.parts.quiver) (generators_in problem.parts) c.denominator (stated_claim problem c)
+  zero_made = makes_zero laws problem.parts problem.generators problem.closed c.denominator (stated_claim problem c) makes
 
-  pub means_by_star : MeansByStar s problem c
-  means_by_star = record {
+  by_star_made : MakesZeroByStar s (quiver_of problem.parts.quiver) (polynomials problem.parts.assumptions) c.denominator (stated_claim problem c)
+  by_star_made = record {
     zero = λ adjoint involution f rep cancels vanish. makes.zero f rep.represents cancels
         (generators_are_zero laws problem.parts problem.generators problem.closed adjoint (star_sound laws involution) problem.posed f rep vanish);
   }
 
--- what each accepted certificate means
-each : (P : Certificate → Type 0) (problem : Problem) → ((c : Certificate) → IsAccepted (question_of problem) c → P c) → (cs : List Certificate) → AllByRecursion (IsAccepted (question_of problem)) cs → AllByRecursion P cs
-each P problem one [] all = tt
-each P problem one (c ∷ cs) all = (one c all.0, each P problem one cs all.1)
+  -- in a statement that isn't starred
+  generators_vanish : problem.parts.starred ≡ false → (f : Representation Object Arrow) → Represents s (quiver_of problem.parts.quiver) f
+      → AllByRecursion (HasValueZero s (quiver_of problem.parts.quiver) f) (polynomials problem.parts.assumptions) → AllByRecursion (HasValueZero s (quiver_of problem.parts.quiver) f) (generators_in problem.parts)
+  generators_vanish not_starred f rep vanish =
+      let q = quiver_of problem.parts.quiver in
+      let P : Bool → Type 0 = λ b. AllByRecursion (HasValueZero s q f) (generators_of q b (numbers problem.parts.marked) (polynomials problem.parts.assumptions)) in
+      subst P (sym not_starred)
+      ((unit_sound laws).generators q (numbers problem.parts.marked) (polynomials problem.parts.assumptions) (posed_quiver problem.parts problem.posed) (marked_are_objects problem.parts problem.posed) f rep vanish)
 
-status_is : {ending end : Ending} → ending ≡ end → ending.status ≡ end.status
-status_is same = ap (λ (e : Ending). e.status) same
+  pub means : CheckedMeans s problem c
+  means = record {
+    sum = sum;
+    typed = numbered (quiver_of problem.parts.quiver) (polynomials problem.parts.claims) c.claim accepted.adds_up.begins.posed.claim (claims_have_signatures problem.parts problem.posed);
+    zero = zero_made;
+    by_star = by_star_made;
+    plain = λ not_starred. record { zero = λ f rep cancels vanish. zero_made.zero f rep cancels (generators_vanish not_starred f rep vanish) };
+  }
 
--- status 0 has its meaning in the category
-pub decided_meaning : (meaning : Problem → Certificate → Type 0) → ((problem : Problem) (c : Certificate) → IsAccepted (question_of problem) c → meaning problem c)
-    → {statement evidence : List ℕ} {ending : Ending} → Decides statement evidence ending → ending.status ≡ 0 → Proved statement evidence meaning
-decided_meaning meaning one (no_statement text refused is) zero = let three = status_is is in absurd (omega arith)
-decided_meaning meaning one {statement} {evidence} {ending} (over problem stated decided) zero = by decided
-  where
-    by : DecidesOver problem evidence ending → Proved statement evidence meaning
-    by (no_evidence code at limit read is) = let seven = status_is is in absurd (omega arith)
-    by (judged cs read judges) = record {
-      problem = problem;
-      certificates = cs;
-      statement_is = stated;
-      evidence_is = read;
-      each = each (meaning problem) problem (one problem) cs (all_accepted (question_of problem) 1 cs ending.report ending.status judges zero);
-    }
+-- what each of them means
+each : (P Q : Certificate → Type 0) → ((c : Certificate) → P c → Q c) → (cs : List Certificate) → AllByRecursion P cs → AllByRecursion Q cs
+each P Q one [] all = tt
+each P Q one (c ∷ cs) all = (one c all.0, each P Q one cs all.1)
+
+pub says_checked : {Object Arrow : Type 0} {s : Structure Object Arrow} → PreadditiveLaws s → IsSound s → (statement evidence : List ℕ) (ending : Ending) → AnswersCheck statement evidence ending → SaysChecked s statement evidence ending.report
+says_checked {s} laws sound statement evidence ending answers = record {
+  each = λ problem first others rest is certificates begins.
+      each (IsAccepted (question_of problem)) (CheckedMeans s problem) (means laws sound problem) first (told_accepted statement evidence ending problem is first others certificates rest begins answers);
+}

@@ -1,7 +1,7 @@
 -- A text has one tree or one first fault, and not both.
-use Rattle.std.proofs.Common.{◌≡◌, ◌⊎◌, inl, inr, ⊎_elim, ℕ, List, [], ◌∷◌, ◌++◌, Ok, Err, Result, refl, sym, ap, ◌∙◌, subst}
+use Rattle.std.proofs.Common.{◌≡◌, inl, inr, ℕ, List, [], ◌∷◌, ◌++◌, Ok, Err, Result, refl, sym, ap, ◌∙◌, subst}
 use Rattle.std.proofs.lemmas.List.{append_assoc}
-use Rattle.std.specs.Str.{IsUtf8, chars}
+use Rattle.std.specs.Str.{chars}
 use Rattle.statement_syntax.specs.declared.token.Token.{Token}
 use Rattle.statement_syntax.specs.declared.place.Spot.{Spot}
 use Rattle.statement_syntax.specs.declared.tree.Statement.{Statement}
@@ -18,7 +18,7 @@ use Rattle.statement_syntax.specs.Grammar.{StatedLine, file_tokens, FileFits}
 use Rattle.statement_syntax.specs.Tree.{file_tree}
 use Rattle.statement_syntax.specs.Fault.{IsStatements, IsTreeOf, GoesOn, GoesOnWithin, IsMisfit, IsFirstFault}
 use Rattle.statement_syntax.proofs.FileReads.{all_run}
-use Rattle.statement_syntax.proofs.Run.{Upto, upto_ok}
+use Rattle.statement_syntax.proofs.Run.{Upto}
 
 -- what is read with the tokens of statements within the limit
 ran : (bytes : List ℕ) (lines : List StatedLine) → IsStatements bytes lines → (p : Progress) × (run file_step beginning (file_tokens lines) ≡ Ok p) × (p.statements ≡ file_tree lines)

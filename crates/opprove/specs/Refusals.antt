@@ -1,8 +1,7 @@
 -- The lines of a report on the blocks of an evidence text.
-use Rattle.std.specs.Prelude.{ℕ, ℤ, ⊤, Bool, List, ◌++◌, codes, decimal, if◌then◌else◌, Option, Some, None}
+use Rattle.std.specs.Prelude.{ℕ, ℤ, Bool, List, ◌++◌, codes, decimal, if◌then◌else◌, Option, Some, None}
 use Rattle.std.specs.Fmt.{signed_decimal}
-use Rattle.word_core.specs.Letters.{IsOver}
-use Rattle.quiver.specs.Declarations.{Declaration, letter_count}
+use Rattle.quiver.specs.Declarations.{Declaration}
 use Rattle.cofactor_checker.specs.declared.Refusal.{Refusal}
 use Rattle.cofactor_checker.specs.declared.Refusal.TheVariants as refusal
 use Rattle.certificate_text.specs.Written.{word_text}
@@ -10,9 +9,13 @@ use Rattle.certificate_text.specs.Written.{word_text}
 abbrev pub operation_text : Bool → List ℕ
 operation_text product = if product then codes " times " else codes " plus "
 
--- the block with this number is accepted
-abbrev pub accepted_text : ℕ → ℕ → ℤ → List ℕ
-accepted_text block claim denominator = codes "# block " ++ (decimal block ++ (codes " accepted claim " ++ (decimal claim ++ (codes " denominator " ++ signed_decimal denominator))))
+-- what accepting a certificate says
+abbrev pub claim_text : ℕ → ℤ → List ℕ
+claim_text claim denominator = codes "claim " ++ (decimal claim ++ (codes " denominator " ++ signed_decimal denominator))
+
+-- the block with this number is accepted, and this is said of it
+abbrev pub accepted_text : ℕ → List ℕ → List ℕ
+accepted_text block text = codes "# block " ++ (decimal block ++ (codes " accepted " ++ text))
 
 -- why a block is refused; want of memory is told by no line
 abbrev pub cause_text : List Declaration → Refusal → Option (List ℕ)
@@ -29,13 +32,3 @@ cause_text ds (refusal.Memory failed) = None
 -- the block with this number is refused for this cause
 abbrev pub refused_text : ℕ → List ℕ → List ℕ
 refused_text block cause = codes "# block " ++ (decimal block ++ (codes " refused " ++ cause))
-
--- the letters that the text of a refusal names are letters of the quiver
-abbrev pub HasLetters : List Declaration → Refusal → Type 0
-HasLetters ds refusal.NoSuchClaim = ⊤
-HasLetters ds (refusal.NoSuchGenerator row) = ⊤
-HasLetters ds refusal.ZeroDenominator = ⊤
-HasLetters ds (refusal.Overflow row o) = ⊤
-HasLetters ds (refusal.Size row) = ⊤
-HasLetters ds (refusal.Differs word want got) = IsOver (letter_count ds) word
-HasLetters ds (refusal.Memory failed) = ⊤

@@ -55,7 +55,7 @@ impl Ending {
     }
 
     /// A file that is longer than its limit.
-    pub fn too_long(alloc: Global, name: &str, limit: usize) -> Result<Ending, AllocError>
+    pub fn too_long(alloc: Global, name: &str, limit: u32) -> Result<Ending, AllocError>
         ensures { IfOk result (λ ending. ending ≡ too_long name.now limit) }
     {
         let mut digits = Buffer::new();

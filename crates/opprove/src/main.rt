@@ -1,17 +1,23 @@
 //! Proves and refutes identities of operators: the program.
 #![tactic(auto)]
 
-mod decide;
+mod answer;
+mod call;
+mod check;
 mod ending;
 mod fault;
+mod files;
 mod judge;
-mod load;
+mod laws;
 mod refusal;
 mod run;
+mod statement;
+mod stop;
 mod words;
 
-use category_laws::Parity;
 use flow_io::{RealShelf, RealSink};
+use in_order_parallel::OpenGate;
+use matrix_models::Matrices;
 use std::env;
 use std::io::ErrorKind;
 use std::process::ExitCode;
@@ -35,8 +41,15 @@ fn main(rt: HostRuntime) -> ExitCode {
     }
     let mut shelf = RealShelf::new(rt);
     let mut sink = RealSink::new(rt);
-    ExitCode::from(run::run(alloc, &Parity, &words, &mut shelf, &mut sink))
+    let category = Matrices { modulus: 2 };
+    ExitCode::from(run::run(
+        &rt, alloc, &category, &words, &mut shelf, &mut sink, &OpenGate,
+    ))
 }
 
+#[cfg(test)]
+mod call_tests;
+#[cfg(test)]
+mod test_rows;
 #[cfg(test)]
 mod tests;

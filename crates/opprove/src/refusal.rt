@@ -4,7 +4,8 @@ ghost use Rattle.std.specs.Fmt.{signed_decimal};
 ghost use Rattle.quiver.specs.Declarations.{letter_count};
 ghost use Rattle.word_core.specs.Letters.{IsOver};
 ghost use Rattle.certificate_text.specs.Written.{word_text};
-ghost use Rattle.opprove.specs.Refusals.{operation_text, cause_text, HasLetters};
+ghost use Rattle.opprove.specs.Letters.{HasLetters};
+ghost use Rattle.opprove.specs.Refusals.{operation_text, cause_text};
 
 use certificate_text::write_word;
 use coef_int::Overflow;

@@ -1,67 +1,70 @@
 // The top call.
-ghost use Rattle.std.specs.Prelude.{◌≡◌, ◌≢◌, ◌⊎◌, ◌≤◌, ℕ, List, Some, None, Ok, IfOk, IsTrue, take};
-ghost use Rattle.std.specs.List.{AllByRecursion};
+ghost use Rattle.std.specs.Prelude.{◌≡◌, IfOk, IsTrue};
 ghost use Rattle.std.specs.Io.KnownBytes.{Appends};
 ghost use Rattle.flow_io.specs.Causes.{Rose};
-ghost use Rattle.opprove.specs.Words.{Named, files_named};
-ghost use Rattle.adjoint_rules.specs.declared.problem.Problem.{Problem};
-ghost use Rattle.certificate_text.specs.Evidence.{certificates_of};
-ghost use Rattle.cofactor_trace.specs.declared.Certificate.{Certificate};
-ghost use Rattle.opprove.specs.Ending.{Ending as End, refused_statement, too_long};
-ghost use Rattle.opprove.specs.Decides.{Decides, IsAccepted, IsRefusedStatement, IsStated, accepted_lines, question_of};
-ghost use Rattle.opprove.specs.Headline.{Means, MeansByStar, Proved};
-ghost use Rattle.opprove.specs.Ends.{MayEnd, AfterFiles, RoseAt};
+ghost use Rattle.opprove.specs.Ends.{MayEnd};
+ghost use Rattle.opprove.specs.Files.{RoseAt};
 ghost use Rattle.opprove.specs.Put.{IsPut};
-ghost use Rattle.opprove.specs.Status.{SaysLoadFailed, SaysTooLong, IsMissing, IsFirstTooLong, AreHeld, WereLoaded};
+ghost use Rattle.opprove.specs.Stop.{EndsAs};
+ghost use Rattle.opprove.specs.Run.{seen, IsReported, IsSinkFailure, IsCutShort, IsUsage, TellsOtherWords, IsNotLoaded, TellsMissing, TellsTooLong, IsAnswered, IsComplete};
+ghost use Rattle.opprove.specs.Headline.{MeansAsSaid};
 
-use crate::decide::decide;
+use crate::answer::answer;
 use crate::ending::Ending;
-use crate::load::{Load, load_file};
-use crate::words::named;
+use crate::files::load_files;
+use crate::stop::Stop;
+use crate::words::{Refusal, read_words};
 use category_laws::Preadditive;
 use flow_io::{Shelf, Sink, put_all};
+use in_order_parallel::Gate;
 use representations::sound;
 use std::alloc::{AllocError, Global};
-
-const STATEMENT_LIMIT: usize = 1_048_576;
-
-const CERTIFICATE_LIMIT: usize = 67_108_864;
+use std::thread::Threads;
 
 const SINK_FAILED: u8 = 5;
 
 const OUT_OF_MEMORY: u8 = 6;
 
-fn after_files<L: Shelf>(
+// The answer of the call that the words are, from its files.
+fn answer_words<R: Threads + Sync, L: Shelf, G: Gate + Sync>(
+    rt: &R,
     alloc: Global,
-    statement: &str,
-    certificate: &str,
+    words: &[String],
     shelf: &mut L,
-) -> Result<Ending, AllocError>
-    ensures { IfOk result (AfterFiles (L.file shelf.old) (RoseAt (L.faults shelf.old) (L.faults shelf.new)) (record { statement = statement.now; certificate = certificate.now })) }
+    gate: &G,
+) -> Result<Ending, Stop>
+    ensures { EndsAs (MayEnd words.now (L.file shelf.old) (RoseAt (L.faults shelf.old) (L.faults shelf.new))) result }
 {
-    let first = match load_file(alloc, shelf, statement, STATEMENT_LIMIT)? {
-        Load::Whole(bytes) => bytes,
-        Load::Ends(ending) => return Ok(ending),
+    let call = match read_words(alloc, words) {
+        Ok(call) => call,
+        Err(Refusal::Words) => return Ok(Ending::usage(alloc)?),
+        Err(Refusal::Memory) => return Err(Stop::Memory(AllocError)),
     };
-    let second = match load_file(alloc, shelf, certificate, CERTIFICATE_LIMIT)? {
-        Load::Whole(bytes) => bytes,
-        Load::Ends(ending) => return Ok(ending),
-    };
-    decide(alloc, &first, &second)
+    let files = call.files(alloc)?;
+    let contents = load_files(alloc, shelf, files.as_slice())?;
+    answer(rt, alloc, &call, contents.as_slice(), gate)
 }
 
-fn ending_of<L: Shelf>(alloc: Global, words: &[String], shelf: &mut L) -> Result<Ending, AllocError>
+// How a run ends, before anything is put.
+fn ending_of<R: Threads + Sync, L: Shelf, G: Gate + Sync>(
+    rt: &R,
+    alloc: Global,
+    words: &[String],
+    shelf: &mut L,
+    gate: &G,
+) -> Result<Ending, AllocError>
     ensures { IfOk result (MayEnd words.now (L.file shelf.old) (RoseAt (L.faults shelf.old) (L.faults shelf.new))) }
 {
-    match named(words) {
-        None => Ending::usage(alloc),
-        Some((statement, certificate)) => after_files(alloc, statement, certificate, shelf),
+    match answer_words(rt, alloc, words, shelf, gate) {
+        Ok(ending) => Ok(ending),
+        Err(Stop::Ended(ending)) => Ok(ending),
+        Err(Stop::Memory(failed)) => Err(failed),
     }
 }
 
 // Puts the report and finishes.
 fn put_ending<K: Sink>(sink: &mut K, ending: &Ending) -> u8
-    ensures { IsPut (K.written sink.old) (K.written sink.new) (IsTrue (K.is_finished sink.new)) (Rose (K.faults sink.old) (K.faults sink.new)) ending.now result }
+    ensures { IsPut (λ bytes. Appends (K.written sink.old) (K.written sink.new) bytes) (IsTrue (K.is_finished sink.new)) (Rose (K.faults sink.old) (K.faults sink.new)) ending.now result }
 {
     match put_all(sink, ending.report()) {
         Ok(()) => {}
@@ -73,77 +76,36 @@ fn put_ending<K: Sink>(sink: &mut K, ending: &Ending) -> u8
     }
 }
 
-pub fn run<C: Preadditive, L: Shelf, K: Sink>(
+/// Runs a call: loads its files in their order, and puts the report of its answer.
+///
+/// The clauses speak of what the devices tell. A shelf that tells of each file what it holds, and a sink that tells what was
+/// put, make each of them bite. The machine's files and its standard output tell nothing, and over them each clause on content
+/// is empty; but this is one body for all devices, which can't see which of them it has, and so does over these what it does
+/// over those. What the machine's devices give and take is tried by tests alone.
+pub fn run<R: Threads + Sync, C: Preadditive, L: Shelf, K: Sink, G: Gate + Sync>(
+    rt: &R,
     alloc: Global,
     category: &C,
     words: &[String],
     shelf: &mut L,
     sink: &mut K,
+    gate: &G,
 ) -> u8
-    // Every status but 5 and 6: the whole report of an ending that is allowed was put, and the sink is finished.
-    ensures reported { result ≢ 5 → result ≢ 6 → (ending : End)
-        × MayEnd words.now (L.file shelf.old) (RoseAt (L.faults shelf.old) (L.faults shelf.new)) ending
-        × (ending.status ≡ result) × Appends (K.written sink.old) (K.written sink.new) ending.report × IsTrue (K.is_finished sink.new) }
-
-    // 5: the sink failed, and what was put is the first part of such a report.
-    ensures sink_failed { result ≡ 5 → Rose (K.faults sink.old) (K.faults sink.new) }
-    ensures cut_short { result ≡ 5 → (ending : End)
-        × MayEnd words.now (L.file shelf.old) (RoseAt (L.faults shelf.old) (L.faults shelf.new)) ending
-        × ((n : ℕ) × Appends (K.written sink.old) (K.written sink.new) (take n ending.report)) }
-
-    // 6: nothing was put.
+    ensures reported { IsReported words.now (seen L.file L.faults K.written K.is_finished K.faults shelf.old shelf.new sink.old sink.new) result }
+    ensures sink_failed { IsSinkFailure (seen L.file L.faults K.written K.is_finished K.faults shelf.old shelf.new sink.old sink.new) result }
+    ensures cut_short { IsCutShort words.now (seen L.file L.faults K.written K.is_finished K.faults shelf.old shelf.new sink.old sink.new) result }
     ensures nothing_put { result ≡ 6 → sink.new ≡ sink.old }
-
-    // 2: on other words, and only there.
-    ensures usage { result ≡ 2 → files_named words.now ≡ None }
-    ensures other_words { files_named words.now ≡ None → (result ≡ 2) ⊎ (result ≡ 5) ⊎ (result ≡ 6) }
-
-    // 4: only at a file of the words, with its cause; always where the shelf tells that a file is missing or too long.
-    ensures not_loaded { result ≡ 4 → (files : Named) × (files_named words.now ≡ Some files)
-        × (SaysLoadFailed files (RoseAt (L.faults shelf.old) (L.faults shelf.new)) (λ bytes. Appends (K.written sink.old) (K.written sink.new) bytes)
-        ⊎ SaysTooLong files (L.file shelf.old) (λ bytes. Appends (K.written sink.old) (K.written sink.new) bytes)) }
-    ensures missing { (files : Named) → files_named words.now ≡ Some files → IsMissing (L.file shelf.old) files → result ≢ 6
-        → ((result ≡ 4) × SaysLoadFailed files (RoseAt (L.faults shelf.old) (L.faults shelf.new)) (λ bytes. Appends (K.written sink.old) (K.written sink.new) bytes)) ⊎ (result ≡ 5) }
-    ensures past_limit { (files : Named) (name : List ℕ) (limit : ℕ) → files_named words.now ≡ Some files
-        → IsFirstTooLong (L.file shelf.old) (RoseAt (L.faults shelf.old) (L.faults shelf.new)) files name limit → result ≢ 6
-        → ((result ≡ 4) × Appends (K.written sink.old) (K.written sink.new) (too_long name limit).report) ⊎ (result ≡ 5) }
-
-    // Every other status: both files were loaded whole, and it is what their bytes decide, with their report.
-    ensures decided { result ≢ 2 → result ≢ 4 → result ≢ 5 → result ≢ 6 → (files : Named) × (files_named words.now ≡ Some files)
-        × ((statement : List ℕ) × ((evidence : List ℕ) × WereLoaded (L.file shelf.old) files statement evidence
-        × ((ending : End) × Decides statement evidence ending × (result ≡ ending.status) × Appends (K.written sink.old) (K.written sink.new) ending.report))) }
-
-    // Where the files are held within their limits and no count rose, what their bytes decide is the status, and its report is put whole.
-    ensures complete { (files : Named) (statement evidence : List ℕ) (ending : End) → files_named words.now ≡ Some files
-        → AreHeld (L.file shelf.old) (RoseAt (L.faults shelf.old) (L.faults shelf.new)) files statement evidence
-        → (Rose (K.faults sink.old) (K.faults sink.new) → ⊥) → result ≢ 6 → Decides statement evidence ending
-        → (result ≡ ending.status) × Appends (K.written sink.old) (K.written sink.new) ending.report × IsTrue (K.is_finished sink.new) }
-
-    // 3: the statement that was loaded has a first fault, and the report tells it; each statement with a fault is answered so.
-    ensures refused_statement { result ≡ 3 → (files : Named) × (files_named words.now ≡ Some files)
-        × ((statement : List ℕ) × ((evidence : List ℕ) × WereLoaded (L.file shelf.old) files statement evidence
-        × ((text : List ℕ) × IsRefusedStatement statement text × Appends (K.written sink.old) (K.written sink.new) (refused_statement text).report))) }
-    ensures refuses_statement { (files : Named) (statement evidence text : List ℕ) → files_named words.now ≡ Some files
-        → AreHeld (L.file shelf.old) (RoseAt (L.faults shelf.old) (L.faults shelf.new)) files statement evidence
-        → (Rose (K.faults sink.old) (K.faults sink.new) → ⊥) → result ≢ 6 → IsRefusedStatement statement text
-        → (result ≡ 3) × Appends (K.written sink.old) (K.written sink.new) (refused_statement text).report }
-
-    // Certificates that are all accepted are answered by 0.
-    ensures accepted { (files : Named) (statement evidence : List ℕ) (problem : Problem) (certificates : List Certificate) → files_named words.now ≡ Some files
-        → AreHeld (L.file shelf.old) (RoseAt (L.faults shelf.old) (L.faults shelf.new)) files statement evidence
-        → (Rose (K.faults sink.old) (K.faults sink.new) → ⊥) → result ≢ 6
-        → IsStated statement problem → certificates_of problem.parts.quiver evidence ≡ Ok certificates → AllByRecursion (IsAccepted (question_of problem)) certificates
-        → (result ≡ 0) × Appends (K.written sink.old) (K.written sink.new) (accepted_lines 1 certificates) }
-
-    // 0: what was loaded is a statement with certificates of it, and each has its meaning in the category that is handed in,
-    ensures meaning { result ≡ 0 → (files : Named) × (files_named words.now ≡ Some files)
-        × ((statement : List ℕ) × ((evidence : List ℕ) × WereLoaded (L.file shelf.old) files statement evidence × Proved statement evidence (Means (C.structure category.now)))) }
-    // where in star representations the assumptions of the statement alone suffice.
-    ensures meaning_by_star { result ≡ 0 → (files : Named) × (files_named words.now ≡ Some files)
-        × ((statement : List ℕ) × ((evidence : List ℕ) × WereLoaded (L.file shelf.old) files statement evidence × Proved statement evidence (MeansByStar (C.structure category.now)))) }
+    ensures usage { IsUsage words.now result }
+    ensures other_words { TellsOtherWords words.now result }
+    ensures not_loaded { IsNotLoaded words.now (seen L.file L.faults K.written K.is_finished K.faults shelf.old shelf.new sink.old sink.new) result }
+    ensures missing { TellsMissing words.now (seen L.file L.faults K.written K.is_finished K.faults shelf.old shelf.new sink.old sink.new) result }
+    ensures past_limit { TellsTooLong words.now (seen L.file L.faults K.written K.is_finished K.faults shelf.old shelf.new sink.old sink.new) result }
+    ensures answered { IsAnswered words.now (seen L.file L.faults K.written K.is_finished K.faults shelf.old shelf.new sink.old sink.new) result }
+    ensures complete { IsComplete words.now (seen L.file L.faults K.written K.is_finished K.faults shelf.old shelf.new sink.old sink.new) result }
+    ensures meaning { MeansAsSaid (C.structure category.now) words.now (seen L.file L.faults K.written K.is_finished K.faults shelf.old shelf.new sink.old sink.new) result }
 {
     sound(category);
-    match ending_of(alloc, words, shelf) {
+    match ending_of(rt, alloc, words, shelf, gate) {
         Ok(ending) => put_ending(sink, &ending),
         Err(AllocError) => OUT_OF_MEMORY,
     }

@@ -1,21 +1,48 @@
 // The words of a call.
-ghost use Rattle.std.specs.Prelude.{◌≡◌, Some, None, MatchOption};
-ghost use Rattle.opprove.specs.Words.{files_named, is_file_word};
+ghost use Rattle.std.specs.Prelude.{◌≡◌, ◌&&◌, IfOk, IsErrOf, IsTrue, codes};
+ghost use Rattle.std.specs.Str.{bytes_eq};
+ghost use Rattle.opprove.specs.Call.{is_file_word, IsCalled, IsTaken};
 
-/// The files of `check STATEMENT CERTIFICATE`, and `None` for all other words.
-pub fn named(words: &[String]) -> Option<(&str, &str)>
-    ensures { MatchOption result (files_named words.now ≡ None) (λ pair. files_named words.now ≡ Some (record { statement = pair.0.now; certificate = pair.1.now })) }
+use crate::call::{Call, PairCall};
+use lists::Text;
+use std::alloc::{AllocError, Global};
+
+/// Why words are not read.
+#[derive(Drop)]
+pub enum Refusal {
+    /// They are no call.
+    Words,
+    Memory,
+}
+
+impl From<AllocError> for Refusal {
+    ghost use Rattle.std.specs.Prelude.{◌≡◌};
+    ghost use Rattle.opprove.specs.declared.words.Refusal.TheVariants.{Memory};
+
+    ghost from_gives = { λ _ refusal. refusal ≡ Memory };
+
+    fn from(_failed: AllocError) -> Refusal {
+        Refusal::Memory
+    }
+}
+
+/// The call that the words are.
+pub fn read_words(alloc: Global, words: &[String]) -> Result<Call, Refusal>
+    ensures called { IfOk result (IsCalled words.now) }
+    ensures refused { IsErrOf result Refusal.Words → IsTaken words.now → ⊥ }
 {
-    let [command, statement, certificate] = words else {
-        return None;
+    let [command, statement, evidence] = words else {
+        return Err(Refusal::Words);
     };
     let statement = statement.as_str();
-    let certificate = certificate.as_str();
-    if command.as_str() == "check" && is_file_word(statement) && is_file_word(certificate) {
-        Some((statement, certificate))
-    } else {
-        None
+    let evidence = evidence.as_str();
+    if !(command.as_str() == "check" && is_file_word(statement) && is_file_word(evidence)) {
+        return Err(Refusal::Words);
     }
+    Ok(Call::Check(PairCall {
+        statement: Text::from_str(alloc, statement)?,
+        evidence: Text::from_str(alloc, evidence)?,
+    }))
 }
 
 fn is_file_word(word: &str) -> bool

@@ -5,8 +5,6 @@ mod fault;
 mod named;
 mod quiver;
 mod signatures;
-#[cfg(test)]
-mod tests;
 
 pub use fault::QuiverFault;
 pub use named::{Named, Sig};

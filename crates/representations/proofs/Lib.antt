@@ -4,4 +4,4 @@ pub mod PathValues
 pub mod TypedTerms
 pub mod TermSums
 pub mod ValueLoop
-pub mod Loops
+pub mod Lemmas

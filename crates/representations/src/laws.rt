@@ -1,4 +1,5 @@
-ghost use Rattle.definitions.specs.Soundness.{IsSound, IsStarSound, TypedRowsSuffice};
+ghost use Rattle.definitions.specs.Soundness.{IsSound, IsStarSound, IsUnitSound, TypedRowsSuffice};
+ghost use Rattle.representations.specs.Evidence.{IsEvidenceSound, IsEvidenceStarSound};
 
 use category_laws::{Involutive, Preadditive};
 
@@ -13,6 +14,26 @@ pub fn sound<C: Preadditive>(category: &C)
 /// generators zero: their adjoints and the relations of the identities follow.
 pub fn star_sound<C: Involutive>(category: &C)
     ensures { IsStarSound (C.structure category.now) (C.involution category.now) }
+{}
+
+/// In the category that is handed in a certificate with lemmas proves its claim: where each lemma's scale times its
+/// polynomial is the sum of its rows over generators and earlier lemmas, the goal's scale times the claim is the sum of
+/// the goal's rows, and each scale is positive and divides the denominator, each representation in which the denominator
+/// cancels and all generators have the value zero gives the claim the value zero. Neither rows nor lemmas need be typed.
+pub fn lemmas_sound<C: Preadditive>(category: &C)
+    ensures { IsEvidenceSound (C.structure category.now) }
+{}
+
+/// In the category that is handed in, and in each star representation, a certificate with lemmas over the generators of
+/// a statement gives its claim the value zero where the assumptions have it and the denominator cancels.
+pub fn lemmas_star_sound<C: Involutive>(category: &C)
+    ensures { IsEvidenceStarSound (C.structure category.now) (C.involution category.now) }
+{}
+
+/// In the category that is handed in, and in each representation, the assumptions of a statement that isn't starred make
+/// all its generators zero: the relations of the identities hold anyway, without an involution.
+pub fn unit_sound<C: Preadditive>(category: &C)
+    ensures { IsUnitSound (C.structure category.now) }
 {}
 
 /// Of the rows of a typed claim those of the claim's signature alone have the same sum.

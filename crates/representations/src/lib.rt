@@ -6,9 +6,8 @@ mod multiple;
 mod representation;
 mod value;
 
-pub use laws::{sound, star_sound, typed_rows_suffice};
+pub use laws::{
+    lemmas_sound, lemmas_star_sound, sound, star_sound, typed_rows_suffice, unit_sound,
+};
 pub use representation::Representation;
 pub use value::value_of;
-
-#[cfg(test)]
-mod tests;

@@ -1,7 +1,15 @@
-ghost use Rattle.std.specs.Prelude.{◌≡◌, ◌<◌, [], ◌∷◌, ◌++◌, length, IfOk, IfSome, IfNone, OnOk, OnErr};
-ghost use Rattle.std.specs.List.{All};
-ghost use Rattle.rule_index.specs.Matches.{IsAscending, IsLeastMatch, HasNoMatch, match_of, place_in};
+//! Numbered words, of which contracts see the list.
 
+ghost use Rattle.std.specs.Prelude.{◌≡◌, ◌<◌, [], ◌∷◌, ◌++◌, length, take, IfOk, IfSome, IfNone, OnOk, OnErr};
+ghost use Rattle.std.specs.List.{All};
+ghost use Rattle.rule_index.specs.Matches.{IsAscending, IsLeastMatch, HasNoMatch, match_of, match_or, place_in};
+ghost use Rattle.rule_index.specs.Prefixes.{IsPrefixCount};
+ghost use Rattle.rule_index.specs.Automaton.{IsTree, IsMarked, letters_of, words_of};
+ghost use Rattle.rule_index.specs.Cuts.{IsCounted};
+
+use crate::cutting::cut;
+use crate::insertion::{insert, starts};
+use crate::tree::{Tree, first_in, new_tree, put, reserve};
 use lists::Listing;
 use std::alloc::{AllocError, Global};
 use std::marker::Model;
@@ -11,7 +19,13 @@ use word_core::Word;
 #[derive(Drop)]
 pub struct Index {
     entries: Listing<(Word, u32)>,
+    tree: Tree,
+    sizes: Vec<usize>,
     ghost ascending: { IsAscending entries },
+    ghost grown: { IsTree tree.nodes.items tree.heads.items tree.nexts.items tree.links.items },
+    ghost marked: { IsMarked entries (words_of tree.nodes.items) tree.leasts.items },
+    ghost lettered: { tree.letters.items ≡ letters_of tree.nodes.items },
+    ghost counted: { IsCounted entries (words_of tree.nodes.items) sizes.items },
 }
 
 impl Model for Index {
@@ -27,8 +41,12 @@ impl Index {
     pub fn new(alloc: Global) -> Result<Index, AllocError>
         ensures { IfOk result (λ i. i ≡ []) }
     {
+        let mut sizes = Vec::new(alloc);
+        sizes.push(1)?;
         Ok(Index {
             entries: Listing::new(alloc),
+            tree: new_tree(alloc)?,
+            sizes,
         })
     }
 
@@ -39,8 +57,27 @@ impl Index {
         ensures ok { OnOk result (self.new ≡ self.old ++ (word.now, number) ∷ []) }
         ensures err { OnErr result (self.new ≡ self.old) }
     {
-        self.entries.push((word.copy()?, number))?;
+        let copy = word.copy()?;
+        reserve(&mut self.tree, word.len())?;
+        self.sizes.reserve(1)?;
+        let alloc = self.entries.allocator();
+        let first = word.letter(0).0;
+        let ends = starts(alloc, &self.tree.nodes, &self.tree.letters, first)?;
+        let place = self.entries.len();
+        self.entries.push((copy, number))?;
+        insert(&mut self.tree, word, place, ends);
+        put(&mut self.sizes, self.tree.nodes.len());
         Ok(())
+    }
+
+    /// The first words, as many as `count` says. It takes no memory.
+    pub fn truncate(&mut self, count: usize)
+        ensures { self.new ≡ take count self.old }
+    {
+        let count = count.min(self.entries.len());
+        cut(&mut self.tree, self.sizes[count], count);
+        self.entries.truncate(count);
+        self.sizes.truncate(count + 1);
     }
 
     /// The least number whose word occurs in the word, with the leftmost place at which it does, counted from 0.
@@ -50,20 +87,37 @@ impl Index {
         ensures least { IfSome result (λ m. IsLeastMatch self.now word.now m.0 m.1) }
         ensures absent { IfNone result (HasNoMatch self.now word.now) }
     {
-        search(self.entries.as_slice(), word)
+        search(&self.entries, &self.tree, word)
+    }
+
+    /// The number of distinct prefixes of the words, the empty one included.
+    pub fn nodes(&self) -> usize
+        ensures { IsPrefixCount self.now result }
+    {
+        self.tree.nodes.len()
     }
 }
 
 // The first entry whose word occurs in the word.
-fn search(entries: &[(Word, u32)], word: &Word) -> Option<(u32, usize)>
+fn search(entries: &Listing<(Word, u32)>, tree: &Tree, word: &Word) -> Option<(u32, usize)>
+    requires tree { IsTree tree.now.nodes.items tree.now.heads.items tree.now.nexts.items tree.now.links.items }
+    requires marked { IsMarked entries.now (words_of tree.now.nodes.items) tree.now.leasts.items }
     ensures { result ≡ match_of entries.now word.now }
 {
-    for entry in entries {
-        if let Some(place) = first_place(word, &entry.0) {
-            return Some((entry.1, place));
-        }
+    match first_in(tree, word) {
+        None => None,
+        Some(found) => match_with(entries.at(found), word),
     }
-    None
+}
+
+// The number of the entry, with the leftmost place at which its word occurs.
+fn match_with(entry: &(Word, u32), word: &Word) -> Option<(u32, usize)>
+    ensures { result ≡ match_or entry.now.1 (place_in word.now entry.now.0) None }
+{
+    match first_place(word, &entry.0) {
+        Some(place) => Some((entry.1, place)),
+        None => None,
+    }
 }
 
 // The leftmost place at which the other word occurs.

@@ -1,8 +1,10 @@
 //! Numbered words, and which of them occurs in a word.
 #![tactic(auto)]
 
+mod chains;
+mod cutting;
 mod index;
-#[cfg(test)]
-mod tests;
+mod insertion;
+mod tree;
 
 pub use index::Index;

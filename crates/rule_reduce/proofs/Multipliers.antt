@@ -6,12 +6,12 @@ use Rattle.std.proofs.lemmas.Nat.{le-div}
 use Rattle.std.proofs.lemmas.Nat.Gcd.{le_of_dvd}
 use Rattle.std.proofs.Math.IntN.{pos-*ℤ-pos}
 use Rattle.rule_reduce.specs.RuleLists.{IsRule}
-use Rattle.common_divisor.specs.Divisor.{gcd_within, gcd_of}
+use Rattle.coef_int.specs.Divisor.{gcd_within, gcd_of}
 use Rattle.rule_reduce.specs.Steps.{move_of}
 use Rattle.rule_reduce.specs.NormalForms.{start_of}
 use Rattle.rule_reduce.specs.Laws.{MultipliersArePositive}
 use Rattle.rule_reduce.proofs.Numbers.{rule_at-all}
-use Rattle.common_divisor.proofs.Divisors.{gcd_within-IsGcd, gcd_positive}
+use Rattle.coef_int.proofs.Divisors.{gcd_within-IsGcd, gcd_positive}
 use Rattle.rule_reduce.proofs.Runs.{reduction_keeps}
 
 product_positive : (a b : ℤ) → pos 0 <ℤ a → pos 0 <ℤ b → pos 0 <ℤ (a *ℤ b)

@@ -1,5 +1,5 @@
 -- Rules by their numbers.
-use Rattle.std.proofs.Common.{◌≡◌, ℕ, zero, suc, ◌+◌, ◌-◌, ◌<◌, ◌≤◌, List, [], ◌∷◌, ◌++◌, length, get_or, slice_get, Option, Some, None, refl, ap, ◌∙◌, arith, subst}
+use Rattle.std.proofs.Common.{◌≡◌, ℕ, zero, suc, ◌+◌, ◌-◌, ◌<◌, ◌≤◌, List, [], ◌∷◌, ◌++◌, length, take, get_or, slice_get, Option, Some, None, refl, ap, ◌∙◌, arith, subst}
 use Rattle.std.specs.List.{All, AllByRecursion}
 use Rattle.std.proofs.lemmas.List.Elements.{All-from_recursion, recursion_from_All}
 use Rattle.definitions.specs.Combination.{generator_at}
@@ -40,6 +40,21 @@ entries_from-push n [] g = let same : n ≡ n + 0 = omega arith in ap (λ m. (g.
 entries_from-push n (f ∷ rules) g =
     let same : suc n + length rules ≡ n + suc (length rules) = omega arith in
     ap (λ es. (f.lead, n) ∷ es) (entries_from-push (suc n) rules g ∙ ap (λ m. entries_from (suc n) rules ++ (g.lead, m) ∷ []) same)
+
+-- the entries of the first rules are the first entries
+pub entries_from-take : (count n : ℕ) (rules : List Rule) → entries_from n (take count rules) ≡ take count (entries_from n rules)
+entries_from-take zero n rules = refl
+entries_from-take (suc count) n [] = refl
+entries_from-take (suc count) n (g ∷ rules) = ap (λ es. (g.lead, n) ∷ es) (entries_from-take count (suc n) rules)
+
+pub entries_of-take : (count : ℕ) (rules : List Rule) → entries_of (take count rules) ≡ take count (entries_of rules)
+entries_of-take count rules = entries_from-take count 1 rules
+
+-- which are no more than there are
+pub no_longer : (count : ℕ) (rules : List Rule) → length (take count rules) ≤ length rules
+no_longer zero rules = omega arith
+no_longer (suc count) [] = omega arith
+no_longer (suc count) (g ∷ rules) = let rest = no_longer count rules in omega (arith, rest)
 
 -- all numbers are below that one
 below_from : (n : ℕ) (rules : List Rule) (m : ℕ) → n + length rules ≤ m → AllByRecursion (λ e. e.1 < m) (entries_from n rules)

@@ -14,7 +14,7 @@ use Rattle.cofactor_trace.specs.declared.Row.{Row}
 use Rattle.rule_reduce.specs.declared.rule.Rule.{Rule}
 use Rattle.rule_reduce.specs.declared.state.State.{State}
 use Rattle.rule_reduce.specs.declared.state.Choice.{Choice}
-use Rattle.common_divisor.specs.Divisor.{gcd_of}
+use Rattle.coef_int.specs.Divisor.{gcd_of}
 use Rattle.rule_reduce.specs.RuleLists.{rule_at}
 
 -- what a step multiplies by, and the multiple of a rule that it takes away

@@ -10,13 +10,11 @@ mod rule;
 mod rules;
 mod state;
 mod stepping;
-#[cfg(test)]
-mod tests;
 
 pub use fault::ReduceFault;
 pub use laws::{
     choices_are_exact, letters_are_kept, multipliers_are_positive, reductions_balance,
     rests_are_irreducible, rows_are_by_rules, types_are_kept, words_stay_below,
 };
-pub use rule::Rule;
+pub use rule::{Rule, leading_place};
 pub use rules::{Reduced, Rules};

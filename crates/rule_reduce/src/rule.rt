@@ -20,8 +20,8 @@ pub struct Rule {
     pub poly: Poly,
 }
 
-// The place of the leading term.
-pub(crate) fn leading_place<O: WordOrder>(order: &O, terms: &[(i128, Word)]) -> usize
+/// The place of the leading term.
+pub fn leading_place<O: WordOrder>(order: &O, terms: &[(i128, Word)]) -> usize
     requires nonzero { 0 < length terms.now }
     requires over { All (λ t. IsOver (O.letters order.now) t.1) terms.now }
     ensures in_range { result < length terms.now }

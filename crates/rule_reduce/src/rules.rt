@@ -44,8 +44,9 @@ pub struct Rules<O: WordOrder> {
 }
 
 impl<O: WordOrder + Drop> Rules<O> {
-    ghost use Rattle.std.specs.Prelude.{◌≡◌, ◌↔◌, ◌<◌, ◌≤◌, ◌+◌, ◌++◌, ◌^◌, ◌<ℤ◌, suc, pos, [], length, MatchResult, IfOk, OnOk, OnErr, IsSomeAnd, IsTrue, Ok, Some, option_to_list};
+    ghost use Rattle.std.specs.Prelude.{◌≡◌, ◌↔◌, ◌<◌, ◌≤◌, ◌+◌, ◌++◌, ◌^◌, ◌<ℤ◌, suc, pos, [], length, take, MatchResult, IfOk, OnOk, OnErr, IsSomeAnd, IsTrue, Ok, Some, option_to_list};
     ghost use Rattle.std.specs.Option.{option_map};
+    ghost use Rattle.coef_int.specs.Range.{IsCoefficient};
     ghost use Rattle.word_core.specs.Letters.{IsOver};
     ghost use Rattle.nc_polynomial.specs.Content.{IsContent};
     ghost use Rattle.nc_polynomial.specs.Shape.{IsCanonical};
@@ -91,6 +92,16 @@ impl<O: WordOrder + Drop> Rules<O> {
                 Err(failed)
             }
         }
+    }
+
+    /// The first rules, as many as `count` says. It takes no memory.
+    pub fn truncate(&mut self, count: u32)
+        ensures order { self.new.order ≡ self.old.order }
+        ensures rules { self.new.rules ≡ take count self.old.rules }
+    {
+        let count = count as usize;
+        self.rules.truncate(count);
+        self.index.truncate(count);
     }
 
     /// Whether the polynomial may be pushed: it is primitive, the coefficient of its leading word is positive, no word of
@@ -141,7 +152,10 @@ impl<O: WordOrder + Drop> Rules<O> {
     /// meets them.
     pub fn normal_form(&self, poly: &Poly, steps: u32) -> Result<Reduced, ReduceFault>
         requires over { All (λ t. IsOver (O.letters self.now.order) t.1) poly.now.terms }
-        ensures { MatchResult result
+        ensures over { IfOk result (λ r. All (λ t. IsOver (O.letters self.now.order) t.1) r.rest.terms) }
+        ensures multiplier_in { IfOk result (λ r. IsCoefficient r.multiplier) }
+        ensures rows_in { IfOk result (λ r. All (λ row. IsCoefficient row.coef) r.rows) }
+        ensures exact { MatchResult result
             (λ r. normal_form_of (O.compare self.now.order) self.now.rules poly.now.terms steps
             ≡ Ok (record { multiplier = r.multiplier; rest = r.rest.terms; rows = r.rows; used = r.used }))
             (ExplainsHalt (normal_form_of (O.compare self.now.order) self.now.rules poly.now.terms steps)) }
@@ -167,6 +181,8 @@ impl<O: WordOrder + Drop> Rules<O> {
         requires in_range { IsInRange start }
         requires unused { start.used ≡ 0 }
         ensures canonical { IfOk result (λ t. IsCanonical t.rest) }
+        ensures in_range { IfOk result IsInRange }
+        ensures over { IfOk result (λ t. All (λ u. IsOver (O.letters self.now.order) u.1) t.rest) }
         ensures exact { MatchResult result (λ t. reduction steps (O.compare self.now.order) self.now.rules steps start ≡ Ok t) (ExplainsHalt (reduction steps (O.compare self.now.order) self.now.rules steps start)) }
     {
         let mut state = start;

@@ -10,8 +10,8 @@ ghost use Rattle.rule_reduce.specs.Steps.{multiplied_row, row_operations, multip
 use crate::Rule;
 use crate::parts::{back, front};
 use crate::state::{Choice, State};
+use coef_int::{divisor, quotient};
 use cofactor_trace::{Origin, Row};
-use common_divisor::{divisor, quotient};
 use lists::Listing;
 use nc_polynomial::{Poly, PolyFault, merge_terms, multiply_terms, negate_terms, shift_terms};
 use std::alloc::Global;

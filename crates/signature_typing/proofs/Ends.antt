@@ -1,12 +1,11 @@
 -- The signature of an equation is between objects, and so is each that its fault tells.
-use Rattle.std.proofs.Common.{◌≡◌, ◌<◌, ℕ, Bool, true, false, cond, nat_eq, ◌&&◌, List, [], ◌∷◌, Option, Some, None, Result, Ok, Err, refl, subst, MatchResult}
+use Rattle.std.proofs.Common.{◌≡◌, ℕ, Bool, true, false, cond, nat_eq, List, [], ◌∷◌, Option, Some, None, Result, Ok, Err, refl, subst, MatchResult}
 use Rattle.std.specs.Option.{IfSome}
 use Rattle.std.proofs.lemmas.Bool.{and_parts}
-use Rattle.definitions.specs.Quiver.{source, target}
 use Rattle.quiver.specs.declared.named.Named.{Named}
 use Rattle.quiver.specs.declared.named.Named.TheVariants.{Object, Map}
 use Rattle.quiver.specs.declared.named.Sig.{Sig}
-use Rattle.quiver.specs.Declarations.{Declaration, IsDeclared, named_in, object_count, letter_count, quiver_of}
+use Rattle.quiver.specs.Declarations.{Declaration, IsDeclared, named_in, quiver_of}
 use Rattle.quiver.proofs.Found.{is_named}
 use Rattle.quiver.proofs.Letters.{letter_is, source-quiver_of, target-quiver_of}
 use Rattle.statement_syntax.specs.declared.place.Spot.{Spot}
@@ -16,10 +15,10 @@ use Rattle.statement_syntax.specs.declared.tree.Primary.{Primary, Letter, Identi
 use Rattle.statement_syntax.specs.declared.tree.Term.{Term, Term', Row_of-Factor, end_of-Factor, more_of-Factor}
 use Rattle.statement_syntax.specs.declared.tree.Sum.{Sum, Sum', Row_of-Term, end_of-Term, more_of-Term}
 use Rattle.expressions.specs.declared.fault.SignatureFault.{SignatureFault}
-use Rattle.expressions.specs.declared.fault.SignatureFault.TheVariants.{NotComposable, SumMismatch, OpenZero}
+use Rattle.expressions.specs.declared.fault.SignatureFault.TheVariants.{NotComposable, SumMismatch}
 use Rattle.expressions.specs.Results.{◌>>=◌}
 use Rattle.expressions.specs.Names.{AreNames, is_map, is_object, letter_number, object_number, are_names_of_terms, are_names_of_term, are_names_of_factors, are_names_of_primary}
-use Rattle.expressions.specs.Signatures.{Part, from_to, letter_signature, same_ends, turned_by, marked_signature, composed, product_step, product_from, product_signature, matched, sum_step, sum_from, term_at, sum_at, sum_signature, terms_parts, term_signature, factors_parts, primary_signature, sides_signature, equation_signature}
+use Rattle.expressions.specs.Signatures.{Part, from_to, letter_signature, same_ends, turned_by, marked_signature, product_step, product_from, product_signature, sum_step, sum_from, term_at, sum_at, sum_signature, terms_parts, term_signature, factors_parts, primary_signature, sides_signature, equation_signature}
 use Rattle.adjoint_rules.specs.Problem.{HasObjects}
 use Rattle.signature_typing.specs.Named.{HasFaultObjects}
 

@@ -1,6 +1,6 @@
 -- The letters of an equation of a file are in play.
-use Rattle.std.proofs.Common.{◌≡◌, ◌<◌, ◌≤◌, ◌+◌, ℕ, Bool, true, false, cond, ◌&&◌, ◌||◌, nat_eq, nat_lt, nat_le, List, [], ◌∷◌, ◌++◌, map, length, get_or, None, refl, zero-add, eq-eqb, eqb-true, ltb-true, sym, ap, subst, ◌∙◌, rules, tests, arith}
-use Rattle.std.specs.List.{AllByRecursion, flat_map, list_any, filter, range_with_len}
+use Rattle.std.proofs.Common.{◌≡◌, ◌<◌, ℕ, Bool, true, false, cond, ◌&&◌, ◌||◌, nat_eq, nat_lt, nat_le, List, [], ◌∷◌, map, get_or, None, refl, zero-add, eq-eqb, eqb-true, ltb-true, ap, subst, ◌∙◌, rules, tests, arith}
+use Rattle.std.specs.List.{AllByRecursion, flat_map, list_any, range_with_len}
 use Rattle.std.proofs.lemmas.Bool.{or_right, lt-ltb}
 use Rattle.std.proofs.lemmas.List.Folds.{list_any-append, list_any_at}
 use Rattle.std.proofs.lemmas.List.FromFn.{length-range_with_len, get_or-range_with_len}
@@ -14,8 +14,7 @@ use Rattle.statement_syntax.specs.declared.tree.StatementKind.TheVariants as sta
 use Rattle.statement_syntax.specs.declared.tree.Factor.{Factor}
 use Rattle.statement_syntax.specs.declared.tree.Term.{out-roll-Term}
 use Rattle.statement_syntax.specs.declared.tree.Sum.{out-roll-Sum}
-use Rattle.statement_syntax.specs.Steps.{term_of}
-use Rattle.word_core.specs.declared.letter.Object.{Object}
+use Rattle.statement_syntax.specs.Nodes.{term_of}
 use Rattle.statement_names.specs.declared.written.Equation.{Equation}
 use Rattle.statement_names.specs.Marked.{is_starred_in, is_starred, stated_by, all_equations, is_marked, an_object, marked_of}
 use Rattle.statement_names.specs.Solved.{numbers_that}
@@ -23,8 +22,8 @@ use Rattle.statement_names.specs.Written.{product_at, equation, equations_in, eq
 use Rattle.expressions.specs.Occurrences.{has_mark, has_mark_in_term, has_identity}
 use Rattle.expressions.proofs.Trees.{has_mark_in_factor, mark-sum, mark-term}
 use Rattle.expressions.specs.Laws.{IsWritten}
-use Rattle.adjoint_rules.specs.Problem.{numbers, is_in_play, IsInPlay}
-use Rattle.signature_typing.proofs.Each.{each_weaker, each_of_both, each_with_both}
+use Rattle.adjoint_rules.specs.Problem.{numbers, IsInPlay}
+use Rattle.signature_typing.proofs.Each.{each_weaker, each_of_both}
 
 -- whether a side has a mark, and whether a side has the identity of v
 abbrev pub is_starred_equation : Equation → Bool

@@ -7,3 +7,6 @@ pub mod Values
 pub mod InPlay
 pub mod Posed
 pub mod Unique
+pub mod Results
+pub mod Generated
+pub mod EachStatement

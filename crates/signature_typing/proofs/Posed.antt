@@ -1,13 +1,11 @@
 -- What a file says, where nothing is wrong with it, can be made a problem.
-use Rattle.std.proofs.Common.{◌≡◌, ◌≢◌, ◌≤◌, ℕ, ℤ, List, [], ◌∷◌, ◌++◌, length, map, Option, Some, None, Result, Ok, Err, refl, sym, ap, subst, ◌∙◌, arith}
-use Rattle.std.specs.List.{All, AllByRecursion, AllZip, flat_map}
+use Rattle.std.proofs.Common.{◌≡◌, ◌≢◌, List, [], ◌∷◌, length, Option, Some, None, refl, sym, ap, subst, ◌∙◌, arith}
+use Rattle.std.specs.List.{All, AllByRecursion, AllZip}
 use Rattle.std.specs.Option.{option_or, option_map}
 use Rattle.std.proofs.lemmas.List.{length-map}
 use Rattle.std.proofs.lemmas.List.Elements.{All-from_recursion, recursion_from_All, All-weaker}
 use Rattle.definitions.specs.Poly.{Poly}
 use Rattle.nc_polynomial.specs.declared.poly.Poly as made
-use Rattle.nc_polynomial.specs.declared.fault.PolyFault.{PolyFault}
-use Rattle.quiver.specs.declared.named.Sig.{Sig}
 use Rattle.quiver.specs.Declarations.{Declaration}
 use Rattle.statement_syntax.specs.declared.tree.Statement.{Statement}
 use Rattle.statement_names.specs.declared.written.Equation.{Equation}
@@ -28,7 +26,7 @@ use Rattle.signature_typing.specs.Named.{AreNamed}
 use Rattle.signature_typing.proofs.Each.{each_part, each_before_map, each_with_both}
 use Rattle.signature_typing.proofs.Ends.{signature_has_objects}
 use Rattle.signature_typing.proofs.InPlay.{IsCounted, assumptions_counted, claims_counted, letter_in_play}
-use Rattle.signature_typing.proofs.Values.{AreValues, values, all_values, length-values, each_value, zipped}
+use Rattle.signature_typing.proofs.Values.{AreValues, all_values, length-values, each_value, zipped}
 
 -- the names in all equations of each statement
 pub named : (ds : List Declaration) (statements : List Statement) → IsReady ds statements → AreNamed ds statements

@@ -1,5 +1,5 @@
 -- The equations of a statement that writes them.
-use Rattle.std.proofs.Common.{◌≡◌, List, [], ◌∷◌, subst}
+use Rattle.std.proofs.Common.{◌≡◌, List, [], subst}
 use Rattle.std.specs.List.{All}
 use Rattle.std.proofs.lemmas.List.Elements.{All-head}
 use Rattle.quiver.specs.Declarations.{Declaration}

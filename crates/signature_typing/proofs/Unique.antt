@@ -1,18 +1,14 @@
 -- A file stands for one problem.
-use Rattle.std.proofs.Common.{◌≡◌, ℤ, ℕ, List, refl, sym, ap, subst, ◌∙◌}
-use Rattle.std.specs.List.{AllZip}
-use Rattle.definitions.specs.Poly.{SamePolynomial}
+use Rattle.std.proofs.Common.{◌≡◌, List, refl, sym, ap, ◌∙◌}
 use Rattle.statement_syntax.specs.declared.tree.Statement.{Statement}
 use Rattle.adjoint_rules.specs.declared.parts.Parts.{Parts}
-use Rattle.adjoint_rules.specs.declared.problem.Problem.{Problem}
 use Rattle.adjoint_rules.specs.Problem.{polynomials, generators_in, IsClosed}
 use Rattle.adjoint_rules.proofs.Generators.{generators_are_unique}
 use Rattle.statement_names.specs.Marked.{marked_of}
-use Rattle.statement_names.specs.Numbered.{declarations_of}
 use Rattle.statement_names.specs.Ordered.{order_of}
 use Rattle.statement_names.specs.Solved.{solved_of}
 use Rattle.statement_names.specs.Written.{assumptions_of, claims_of}
-use Rattle.signature_typing.specs.Typing.{signatures_of, polynomials_of, ArePartsOf, IsProblemOf}
+use Rattle.signature_typing.specs.Typing.{signatures_of, polynomials_of, ArePartsOf}
 use Rattle.statement_names.specs.Shapes.{shapes_of}
 use Rattle.signature_typing.specs.Unique.{ProblemIsUnique}
 

@@ -3,3 +3,4 @@ pub mod Fault
 pub mod Typing
 pub mod Named
 pub mod Unique
+pub mod Laws

@@ -4,13 +4,9 @@
 mod fault;
 mod laws;
 mod polynomials;
-#[cfg(test)]
-mod rows;
 mod signatures;
 mod stages;
-#[cfg(test)]
-mod tests;
 
 pub use fault::TypeFault;
-pub use laws::problem_is_unique;
+pub use laws::{each_statement_has_a_problem_or_a_fault, problem_is_unique};
 pub use stages::elaborate;

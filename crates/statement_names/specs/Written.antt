@@ -10,7 +10,7 @@ use Rattle.statement_syntax.specs.declared.tree.Statement.{Statement}
 use Rattle.statement_syntax.specs.declared.tree.StatementKind.{StatementKind}
 use Rattle.statement_syntax.specs.declared.tree.StatementKind.TheVariants as statement
 use Rattle.statement_syntax.specs.declared.tree.Sum.{Sum}
-use Rattle.statement_syntax.specs.Steps.{name_with, factor_of, term_of, sum_of}
+use Rattle.statement_syntax.specs.Nodes.{name_with, factor_of, term_of, sum_of}
 use Rattle.definitions.specs.Quiver.{source, target}
 use Rattle.quiver.specs.declared.named.Named.{Named}
 use Rattle.quiver.specs.declared.named.Named.TheVariants.{Map}

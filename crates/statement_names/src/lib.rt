@@ -14,8 +14,6 @@ mod shapes;
 mod solved;
 mod starred;
 mod survey;
-#[cfg(test)]
-mod tests;
 mod used;
 mod written;
 

@@ -24,3 +24,4 @@ pub mod StatedKinds
 pub mod ReadBack
 pub mod FileBack
 pub mod Stopping
+pub mod EachText

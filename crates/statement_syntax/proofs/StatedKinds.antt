@@ -18,7 +18,7 @@ use Rattle.statement_syntax.specs.declared.tree.Sum.{out-roll-Sum}
 use Rattle.statement_syntax.specs.declared.line.ListWord.TheVariants.{Object, Solve}
 use Rattle.statement_syntax.specs.declared.line.SidesWord.TheVariants.{Assume, Claim}
 use Rattle.statement_syntax.specs.declared.line.PairWord.TheVariants.{Pinv, Inverse, Inner}
-use Rattle.statement_syntax.specs.Steps.{term_of, sum_of}
+use Rattle.statement_syntax.specs.Nodes.{term_of, sum_of}
 use Rattle.statement_syntax.specs.Grammar.{Lead, no_sign, lead_plus, lead_minus, Sign, plus, minus, Expr, first, joined, Product, zero_alone, factors, Factors, one, beside, Marked, plain, marked, Prime, name, identity, bracket, sign_token, name_token, zero_at, lead_tokens, signed_token, literal_tokens, expr_tokens, product_tokens, factors_tokens, marked_tokens, prime_tokens, Ending, no_word, self_word, ending_tokens, names_tokens, pairs_tokens, Stated, listed, mapped, sides, paired, projected, by_degree, by_weight, modelled, stated_tokens}
 use Rattle.statement_syntax.specs.Tree.{prime_tree, marked_tree, front_trees, last_tree, product_tree, expr_terms, expr_tree, expr_at, is_minus, is_negative, literal_or, factors_at, is_self, stated_kind}
 use Rattle.statement_syntax.specs.Places.{somewhere, bare_name, bare_literal, bare_lead, bare_sign, bare, bare_product, bare_factors, bare_marked, bare_prime, bare_ending, bare_names, bare_pairs, bare_stated}

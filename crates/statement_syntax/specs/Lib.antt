@@ -1,5 +1,6 @@
 pub mod Token
 pub mod Grammar
+pub mod Nodes
 pub mod Steps
 pub mod Tree
 pub mod Lines
@@ -7,3 +8,4 @@ pub mod Fault
 pub mod Stages
 pub mod Written
 pub mod Places
+pub mod Laws

@@ -1,16 +1,13 @@
--- The same steps on the trees of the program, which keep no places of signs.
-use Rattle.std.specs.Prelude.{◌≡◌, ℕ, ℤ, zero, suc, Bool, true, false, List, [], ◌∷◌, ◌++◌, length, Option, Some, None, Result, Ok, Err, pos, negsuc, nat_lt, if◌then◌else◌}
+-- The steps of the reader of expressions, one token after another.
+use Rattle.std.specs.Prelude.{◌≡◌, ℤ, zero, suc, Bool, true, false, List, [], ◌∷◌, ◌++◌, length, Option, Some, None, Result, Ok, Err, pos, negsuc, nat_lt, if◌then◌else◌}
 use Rattle.statement_syntax.specs.declared.place.Spot.{Spot}
 use Rattle.statement_syntax.specs.declared.token.Token.{Token}
 use Rattle.statement_syntax.specs.declared.token.TokenKind.{TokenKind}
 use Rattle.statement_syntax.specs.declared.token.TokenKind.TheVariants as kind
 use Rattle.statement_syntax.specs.declared.tree.Name.{Name}
 use Rattle.statement_syntax.specs.declared.tree.Number.{Number}
-use Rattle.statement_syntax.specs.declared.tree.Mark.{Mark}
-use Rattle.statement_syntax.specs.declared.tree.Mark.TheVariants.{Adjoint}
 use Rattle.statement_syntax.specs.declared.tree.Primary.{Primary, Letter, Identity, Bracket}
-use Rattle.statement_syntax.specs.declared.tree.Factor.{Factor, roll-Factor, out-Factor}
-use Rattle.statement_syntax.specs.declared.tree.Term.{Term, roll-Term, out-Term}
+use Rattle.statement_syntax.specs.declared.tree.Term.{Term, out-Term}
 use Rattle.statement_syntax.specs.declared.expression.Head.{Head}
 use Rattle.statement_syntax.specs.declared.expression.Level.{Level}
 use Rattle.statement_syntax.specs.declared.expression.Reading.{Reading}
@@ -20,15 +17,10 @@ use Rattle.statement_syntax.specs.declared.expression.Misfit.{Misfit}
 use Rattle.statement_syntax.specs.declared.expression.Misfit.TheVariants.{Expected, TooDeep}
 use Rattle.statement_syntax.specs.declared.expression.ReadError.{ReadError}
 use Rattle.statement_syntax.specs.declared.expression.ReadError.TheVariants as error
-use Rattle.statement_syntax.specs.declared.tree.Sum.{Sum, roll-Sum}
+use Rattle.statement_syntax.specs.declared.tree.Sum.{Sum}
 use Rattle.statement_syntax.specs.declared.expression.Part.{Part}
 use Rattle.statement_syntax.specs.declared.expression.Part.TheVariants.{Nothing, Scaled, Product}
-
-abbrev pub name_with : List ℕ → Spot → Name
-name_with text at = record { text = text; at = at }
-
-abbrev pub factor_of : Spot → Primary → List Mark → Factor
-factor_of at primary marks = roll-Factor (record { at = at; primary = primary; marks = marks })
+pub use Rattle.statement_syntax.specs.Nodes.{name_with, factor_of, term_of, sum_of, marked_factor}
 
 abbrev pub part_with : Part → Primary → Spot → Part
 part_with Nothing p at = Product at None [] (factor_of at p [])
@@ -59,9 +51,6 @@ abbrev pub Turns : {A S : Type 0} → Result A ReadError → S → Result S Misf
 Turns (Ok done) state read = read ≡ Ok state
 Turns (Err e) state read = Fails e read
 
-abbrev pub term_of : Spot → Bool → Option Number → List Factor → Term
-term_of at negative l fs = roll-Term (record { at = at; negative = negative; literal = l; factors = fs })
-
 abbrev pub lone_term : ℤ → Number → Bool → Result Term Misfit
 lone_term (pos zero) n negative = Ok (term_of n.at negative (Some n) [])
 lone_term (pos (suc k)) n negative = Err Expected
@@ -76,17 +65,11 @@ abbrev pub at_or : Option Spot → Spot → Spot
 at_or None at = at
 at_or (Some at) other = at
 
-abbrev pub sum_of : Spot → List Term → Sum
-sum_of at terms = roll-Sum (record { at = at; terms = terms })
-
 abbrev pub sum_at : Head → Term → Spot
 sum_at head t = at_or head.at (out-Term t).at
 
 abbrev pub sum_with : Head → Term → Sum
 sum_with head t = sum_of (sum_at head t) (head.terms ++ t ∷ [])
-
-abbrev pub marked_factor : Factor → Factor
-marked_factor f = factor_of (out-Factor f).at (out-Factor f).primary ((out-Factor f).marks ++ Adjoint ∷ [])
 
 abbrev pub quote_step : Part → Result Part Misfit
 quote_step Nothing = Err Expected

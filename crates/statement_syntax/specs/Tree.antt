@@ -18,7 +18,7 @@ use Rattle.statement_syntax.specs.declared.line.PairWord.{PairWord}
 use Rattle.statement_syntax.specs.declared.line.PairWord.TheVariants.{Pinv, Inverse, Inner}
 use Rattle.statement_syntax.specs.Grammar.{Ending, no_word, self_word, Stated, listed, mapped, sides, paired, projected, by_degree, by_weight, modelled, StatedLine}
 use Rattle.statement_syntax.specs.Grammar.{Lead, no_sign, lead_plus, lead_minus, Sign, plus, minus, Expr, first, joined, Product, zero_alone, factors, Factors, one, beside, Marked, plain, marked, Prime, name, identity, bracket, zero_at}
-use Rattle.statement_syntax.specs.Steps.{factor_of, term_of, sum_of, marked_factor}
+use Rattle.statement_syntax.specs.Nodes.{factor_of, term_of, sum_of, marked_factor}
 
 -- ---- the place of the first token
 

@@ -5,6 +5,7 @@ mod expected;
 mod expression;
 mod fault;
 mod kinds;
+mod laws;
 mod line;
 mod named;
 mod numbered;
@@ -20,13 +21,9 @@ mod tree;
 mod write;
 
 pub use fault::SyntaxFault;
+pub use laws::each_text_is_read;
 pub use place::Spot;
 pub use read::read_tree;
 pub use token::{Token, TokenKind};
 pub use tree::{Factor, Mark, Name, Number, Primary, Statement, StatementKind, Sum, Term, Tree};
 pub use write::write_tree;
-
-#[cfg(test)]
-mod test_rows;
-#[cfg(test)]
-mod tests;

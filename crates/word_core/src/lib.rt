@@ -3,8 +3,6 @@
 
 mod letter;
 mod overlap;
-#[cfg(test)]
-mod tests;
 mod word;
 
 pub use letter::{Letter, Object};

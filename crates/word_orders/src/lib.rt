@@ -6,8 +6,6 @@ mod block;
 mod degree;
 mod fault;
 mod order;
-#[cfg(test)]
-mod tests;
 mod weight;
 
 pub use any::{AnyOrder, OrderSpec};

@@ -2,7 +2,7 @@ use Rattle.std.proofs.Common.{rules, ◌≡◌, ◌+◌, ◌-◌, neg_ℤ, int_d
 use Rattle.std.proofs.lemmas.List.{take_rest}
 use Rattle.cofactor_trace.specs.declared.Origin.TheVariants as origin
 use Rattle.cofactor_trace.specs.declared.Row.{Row}
-use Rattle.common_divisor.specs.Divisor.{gcd_of}
+use Rattle.coef_int.specs.Divisor.{gcd_of}
 use Rattle.rule_reduce.specs.RuleLists.{rule_at}
 use Rattle.ambiguities.specs.Ambiguities.{overlap_word_of}
 use Rattle.ambiguities.specs.SPolynomials.{first_row, second_row}

@@ -12,7 +12,7 @@ use Rattle.cofactor_trace.proofs.expansion.expand.Goals as goal
 pub loop-number-init : goal.loop-number-init
 loop-number-init c =
     let none : c.new-expansions.result.entries ≡ [] = search rules in
-    record { under_way = starts c.args.made.now c.args.target.now c.in_ok-numbers.numbers.items c.new-expansions.result.entries c.in_ok-numbers.ensures none; ranged = search rules }
+    record { under_way = starts c.args.made.now c.args.target.now c.in_ok-numbers.numbers.items c.new-expansions.result.entries c.in_ok-numbers.ensures.exact none; ranged = search rules }
 
 pub overflow_sub-number : goal.overflow_sub-number
 overflow_sub-number c =

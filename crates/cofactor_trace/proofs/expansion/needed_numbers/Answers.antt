@@ -1,4 +1,4 @@
-use Rattle.std.proofs.Common.{rules, ◌≡◌, ◌+◌, ◌-◌, ◌<◌, ◌≤◌, ◌∷◌, ◌++◌, [], length, refl, true, false, ◌||◌, get_or, Some, sym, ap, subst, ◌∙◌, arith}
+use Rattle.std.proofs.Common.{rules, ◌≡◌, ◌+◌, ◌-◌, ◌<◌, ◌≤◌, ◌^◌, ◌∷◌, ◌++◌, [], length, refl, true, false, ◌||◌, get_or, Some, sym, ap, subst, ◌∙◌, arith}
 use Rattle.std.specs.List.{All, slice_get, list_any}
 use Rattle.std.proofs.lemmas.Grind.{common_steps}
 use Rattle.std.proofs.lemmas.List.{get_or_default}
@@ -7,6 +7,7 @@ use Rattle.std.proofs.lemmas.Option.{slice_get_read}
 use Rattle.cofactor_trace.specs.declared.Row.{Row}
 use Rattle.cofactor_trace.specs.Needed.{IsAmongFirst, IsRecord, is_rule}
 use Rattle.cofactor_trace.specs.declared.Made.{Made}
+use Rattle.cofactor_trace.proofs.Lists.{all_push, below}
 use Rattle.cofactor_trace.proofs.NeededLaws.{IsMarked, among_more, marked-start, marked-yes, marked-no}
 use Rattle.cofactor_trace.proofs.expansion.needed_numbers.Goals as goal
 
@@ -15,7 +16,7 @@ mark-requires-then-named-place c =
     let made = c.args.made.now in
     let m = c.index-made-place.result in
     let p = c.loop-place.place - 1 in
-    let size = c.loop-place.invariant.sized in
+    let size = c.loop-place.invariant.marked.sized in
     let inside : p < length made = omega arith in
     let item : slice_get made p ≡ Some m = slice_get_read made (length made) p m refl inside c.index-made-place.is in
     let entry : IsRecord p m = c.requires.records.at p m item in
@@ -26,8 +27,13 @@ mark-requires-then-named-place c =
 
 pub loop-place-init : goal.loop-place-init
 loop-place-init c =
-    marked-start c.args.made.now c.args.target.now c.mark.new.named c.new-numbers.result.items
-    (grind (arith, common_steps)) (λ k h. grind (arith, common_steps)) (search rules)
+    record {
+      marked =
+          marked-start c.args.made.now c.args.target.now c.mark.new.named c.new-numbers.result.items
+          (grind (arith, common_steps)) (λ k h. grind (arith, common_steps)) (search rules);
+      far = λ k h. c.mark.ensures.far k h ∙ grind (arith, common_steps);
+      in_range = search rules;
+    }
 
 pub loop-place-preserved-in-Continue-branch-2 : goal.loop-place-preserved-in-Continue-branch-2
 loop-place-preserved-in-Continue-branch-2 c =
@@ -44,9 +50,15 @@ loop-place-preserved-in-Continue-branch-2 c =
     let size : length new ≡ length old = search rules in
     let rows_are : c.as_slice-then-named-place.result.now ≡ m.rows = c.as_slice-then-named-place.ensures ∙ ap (λ (x : Made). x.rows) (sym c.index-made-place.is) in
     let pushed : c.push.new.self.items ≡ c.loop-place.numbers.items ++ (p + 1) ∷ [] = c.in_ok-push.ensures.items in
-    subst (IsMarked made target p new) (sym pushed)
-    (marked-yes made target p m inside c.index-made-place.is behind next old c.loop-place.numbers.items c.loop-place.invariant new here size
-    (λ k h. c.mark-then-named-place.ensures k h ∙ ap (λ l. get_or old k false || list_any (λ (r : Row). is_rule (k + 1) r.from) l) rows_are))
+    let near : p + 1 < 2 ^ 32 = below (2 ^ 32) (p + 1) (λ (h : 2 ^ 32 ≤ p + 1). absurd (cc (c.loop-place.invariant.far p h, here))) in
+    record {
+      marked =
+          subst (IsMarked made target p new) (sym pushed)
+          (marked-yes made target p m inside c.index-made-place.is behind next old c.loop-place.numbers.items c.loop-place.invariant.marked new here size
+          (λ k h. c.mark-then-named-place.ensures.marks k h ∙ ap (λ l. get_or old k false || list_any (λ (r : Row). is_rule (k + 1) r.from) l) rows_are));
+      far = λ k h. c.mark-then-named-place.ensures.far k h ∙ c.loop-place.invariant.far k h;
+      in_range = all_push (λ n. n < 2 ^ 32) c.loop-place.numbers.items c.push.new.self.items (p + 1) c.loop-place.invariant.in_range near pushed;
+    }
 
 pub loop-place-preserved : goal.loop-place-preserved
 loop-place-preserved c =
@@ -58,4 +70,8 @@ loop-place-preserved c =
     let next : behind ≡ p + 1 = omega arith in
     let here : get_or old p false ≡ false = search rules in
     let m = get_or made p c.args.target.now in
-    marked-no made c.args.target.now p m inside (get_or_default made p c.args.target.now m inside) behind next old c.loop-place.numbers.items c.loop-place.invariant here
+    record {
+      marked = marked-no made c.args.target.now p m inside (get_or_default made p c.args.target.now m inside) behind next old c.loop-place.numbers.items c.loop-place.invariant.marked here;
+      far = c.loop-place.invariant.far;
+      in_range = c.loop-place.invariant.in_range;
+    }

@@ -3,7 +3,7 @@ use Rattle.coef_int.specs.Range.{IsCoefficient}
 use Rattle.coef_int.specs.Operations.{product_of, first_overflow}
 use Rattle.nc_polynomial.proofs.Steps.{drop_next}
 use Rattle.nc_polynomial.proofs.Chains.{first-fits}
-use Rattle.common_divisor.specs.Divisor.{gcd_of}
+use Rattle.coef_int.specs.Divisor.{gcd_of}
 use Rattle.cofactor_trace.specs.Expansion.{lcm_of, multiple_products, denominators, common_multiple}
 use Rattle.cofactor_trace.specs.Needed.{known_from}
 use Rattle.cofactor_trace.proofs.Divisors.{lcm_of-positive}

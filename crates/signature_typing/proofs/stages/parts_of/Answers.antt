@@ -1,4 +1,4 @@
-use Rattle.std.proofs.Common.{◌≡◌, ◌≢◌, None, Some, length, sym, ap, ◌∙◌, arith}
+use Rattle.std.proofs.Common.{◌≡◌, ◌≢◌, None, Some, length, sym, ◌∙◌}
 use Rattle.expressions.proofs.Typed.{equations_are_typed}
 use Rattle.expressions.proofs.Written.{letters_are_written}
 use Rattle.adjoint_rules.specs.declared.parts.Parts.{Parts}

@@ -1,0 +1,62 @@
+-- The outcomes of several claims, and the rules that are given with them.
+use Rattle.std.specs.Prelude.{◌≡◌, ◌≤◌, ◌⊎◌, ℕ, List, map, length, Contains}
+use Rattle.std.specs.List.{All, AllZip, range_with_len}
+use Rattle.definitions.specs.Poly.{Term}
+use Rattle.definitions.specs.Combination.{generator_at}
+use Rattle.nc_polynomial.specs.declared.poly.Poly.{Poly}
+use Rattle.cofactor_trace.specs.declared.evidence.Format.{Format}
+use Rattle.rule_reduce.specs.declared.rule.Rule.{Rule}
+use Rattle.adjoint_rules.specs.declared.problem.Problem.{Problem}
+use Rattle.adjoint_rules.specs.Problem.{polynomials}
+use Rattle.traced_completion.specs.PlainRun.{Setting, RunState, IsRunState}
+use Rattle.claim_decider.specs.declared.outcome.Outcome.{Outcome}
+use Rattle.claim_decider.specs.Outcomes.{GetsOutcome, IsOutcomeOf}
+
+-- ---- claims by their numbers
+-- the claim of the problem with this number
+abbrev pub claim_at : Problem → ℕ → List Term
+claim_at problem number = generator_at (polynomials problem.parts.claims) number
+
+-- the numbers of all claims
+abbrev pub claim_numbers : Problem → List ℕ
+claim_numbers problem = range_with_len 1 (length problem.parts.claims)
+
+-- the outcomes of the claims with these numbers, in their order
+abbrev pub AreOutcomesOf : Setting → Format → Problem → List ℕ → List Outcome → Type 0
+AreOutcomesOf setting form problem numbers outcomes = AllZip (λ n o. IsOutcomeOf setting form n (claim_at problem n) o) numbers outcomes
+
+-- ---- the last rules
+-- The claim gets its outcome when so many rounds were made whole.
+pub record GetsOutcomeAt (setting : Setting) (form : Format) (problem : Problem) (rounds : ℕ) (number : ℕ) : Type 0 where
+  pub state : RunState
+  pub outcome : Outcome
+  pub gets : GetsOutcome setting form number (claim_at problem number) rounds state outcome
+
+-- or earlier
+pub record GetsOutcomeBy (setting : Setting) (form : Format) (problem : Problem) (most : ℕ) (number : ℕ) : Type 0 where
+  pub rounds : ℕ
+  pub gets : GetsOutcomeAt setting form problem rounds number
+  pub early : rounds ≤ most
+
+-- one of the claims gets its outcome when so many rounds were made whole
+pub record OneGetsOutcomeAt (setting : Setting) (form : Format) (problem : Problem) (numbers : List ℕ) (rounds : ℕ) : Type 0 where
+  pub number : ℕ
+  pub among : Contains numbers number
+  pub gets : GetsOutcomeAt setting form problem rounds number
+
+-- The last of the claims gets its outcome when so many rounds were made whole; no claims need none.
+pub record IsLastRound (setting : Setting) (form : Format) (problem : Problem) (numbers : List ℕ) (rounds : ℕ) : Type 0 where
+  pub enough : All (GetsOutcomeBy setting form problem rounds) numbers
+  pub needed : (rounds ≡ 0) ⊎ OneGetsOutcomeAt setting form problem numbers rounds
+
+abbrev pub polynomials_in : List Rule → List Poly
+polynomials_in rules = map (λ g. g.poly) rules
+
+-- The polynomials are the rules of the last whole round that was made before the last of the claims had its outcome, and
+-- none where there was none.
+pub record AreLastRules (setting : Setting) (form : Format) (problem : Problem) (numbers : List ℕ) (polys : List Poly) : Type 0 where
+  pub rounds : ℕ
+  pub state : RunState
+  pub last : IsLastRound setting form problem numbers rounds
+  pub run : IsRunState setting rounds state
+  pub are : polys ≡ polynomials_in state.rules

@@ -1,0 +1,11 @@
+pub use Rattle.definitions.specs.Poly
+pub use Rattle.definitions.specs.Combination
+pub use Rattle.cofactor_trace.specs.Needed
+pub use Rattle.cofactor_trace.specs.Lemmas
+pub use Rattle.rule_reduce.specs.NormalForms
+pub use Rattle.traced_completion.specs.PlainRun
+pub use Rattle.traced_completion.specs.Completions
+pub mod Outcomes
+pub mod Decided
+pub mod Cases
+pub mod OutcomeLaws

@@ -1,0 +1,175 @@
+//! The outcomes of claims, which share one run.
+ghost use Rattle.std.specs.Prelude.{◌≡◌, ◌≢◌, ◌<◌, ◌≤◌, ◌↔◌, [], ◌∷◌, length, IsTrue, IfOk, OnOk};
+ghost use Rattle.std.specs.List.{All, AllZip};
+ghost use Rattle.traced_completion.specs.declared.budget.Budget.{Budget as Asked};
+ghost use Rattle.traced_completion.specs.PlainRun.{start, setting_of};
+ghost use Rattle.traced_completion.specs.Completions.{IsBudget, IsCompletionOf};
+ghost use Rattle.claim_decider.specs.Decided.{claim_numbers, AreOutcomesOf, AreLastRules, polynomials_in};
+ghost use Rattle.claim_decider.specs.Cases.{IsNumber, IsOfProblem, HasRounds, Follows, IsCase, IsSettled, case_numbers, Gives};
+
+use crate::case::{Case, Standing, follow, open_case};
+use crate::{Decided, Outcome};
+use adjoint_rules::Problem;
+use cofactor_trace::Format;
+use in_order_parallel::Gate;
+use lists::Listing;
+use nc_polynomial::Poly;
+use rule_reduce::Rule;
+use std::alloc::{AllocError, Global};
+use std::collections::VecDeque;
+use std::mem;
+use std::thread::Threads;
+use traced_completion::{Budget, Completion, Step};
+
+/// What becomes of each claim of the problem, in one run of the completion for all of them. A claim leaves when it has its
+/// outcome, and the run ends with the last one.
+pub fn decide_all<R: Threads + Sync, G: Gate + Sync>(
+    rt: &R,
+    alloc: Global,
+    problem: &Problem,
+    budget: Budget,
+    format: Format,
+    workers: u32,
+    gate: &G,
+) -> Result<Decided, AllocError>
+    requires budget { IsBudget budget }
+    requires some_worker { 0 < workers }
+    requires at_most_64 { workers ≤ 64 }
+    ensures outcomes { IfOk result (λ d. AreOutcomesOf (setting_of problem.now budget) format problem.now (claim_numbers problem.now) d.outcomes) }
+    ensures rules { IfOk result (λ d. AreLastRules (setting_of problem.now budget) format problem.now (claim_numbers problem.now) d.rules) }
+{
+    let cases = open_all(alloc, problem, format)?;
+    run(rt, alloc, problem, budget, format, workers, gate, cases)
+}
+
+/// What becomes of the claim with this number.
+pub fn decide<R: Threads + Sync, G: Gate + Sync>(
+    rt: &R,
+    alloc: Global,
+    problem: &Problem,
+    claim: u32,
+    budget: Budget,
+    format: Format,
+    workers: u32,
+    gate: &G,
+) -> Result<Decided, AllocError>
+    requires claim { IsNumber problem.now claim }
+    requires budget { IsBudget budget }
+    requires some_worker { 0 < workers }
+    requires at_most_64 { workers ≤ 64 }
+    ensures outcome { IfOk result (λ d. AreOutcomesOf (setting_of problem.now budget) format problem.now (claim ∷ []) d.outcomes) }
+    ensures rules { IfOk result (λ d. AreLastRules (setting_of problem.now budget) format problem.now (claim ∷ []) d.rules) }
+{
+    let mut cases = Vec::new(alloc);
+    cases.push(open_case(alloc, problem, format, claim)?)?;
+    run(rt, alloc, problem, budget, format, workers, gate, cases)
+}
+
+// All claims before the first round.
+fn open_all(alloc: Global, problem: &Problem, format: Format) -> Result<Vec<Case>, AllocError>
+    ensures numbers { IfOk result (λ cases. case_numbers cases.items ≡ claim_numbers problem.now) }
+    ensures named { IfOk result (λ cases. All (IsOfProblem problem.now) cases.items) }
+    ensures cases { IfOk result (λ cases. (budget : Asked) → All (IsCase (setting_of problem.now budget) format problem.now 0 start) cases.items) }
+{
+    let mut cases = Vec::new(alloc);
+    for place in 0..problem.parts.claims.len() {
+        cases.push(open_case(alloc, problem, format, place as u32 + 1)?)?;
+    }
+    Ok(cases)
+}
+
+// Runs the completion until each of the claims has its outcome.
+fn run<R: Threads + Sync, G: Gate + Sync>(
+    rt: &R,
+    alloc: Global,
+    problem: &Problem,
+    budget: Budget,
+    format: Format,
+    workers: u32,
+    gate: &G,
+    cases: Vec<Case>,
+) -> Result<Decided, AllocError>
+    requires budget { IsBudget budget }
+    requires some_worker { 0 < workers }
+    requires at_most_64 { workers ≤ 64 }
+    requires numbers { All (IsOfProblem problem.now) cases.items }
+    requires cases { All (IsCase (setting_of problem.now budget) format problem.now 0 start) cases.items }
+    ensures outcomes { IfOk result (λ d. AreOutcomesOf (setting_of problem.now budget) format problem.now (case_numbers cases.items) d.outcomes) }
+    ensures rules { IfOk result (λ d. AreLastRules (setting_of problem.now budget) format problem.now (case_numbers cases.items) d.rules) }
+{
+    let mut completion = Completion::start(alloc, problem, budget)?;
+    let mut cases = cases;
+    while !are_settled(cases.as_slice()) {
+        let step = completion.round(rt, alloc, problem, workers, gate)?;
+        follow_all(alloc, problem, format, &completion, step, &mut cases)?;
+    }
+    let rules = polynomials(alloc, completion.rules.rules.as_slice())?;
+    let outcomes = outcomes(alloc, cases)?;
+    Ok(Decided { outcomes, rules })
+}
+
+// Whether each claim has its outcome.
+fn are_settled(cases: &[Case]) -> bool
+    ensures { IsTrue result ↔ All IsSettled cases.now }
+{
+    cases
+        .iter()
+        .all(|case| matches!(case.standing, Standing::Settled(_)))
+}
+
+// The claims after a step of the completion.
+fn follow_all(
+    alloc: Global,
+    problem: &Problem,
+    format: Format,
+    completion: &Completion,
+    step: Step,
+    cases: &mut Vec<Case>,
+) -> Result<(), AllocError>
+    requires numbers { All (IsOfProblem problem.now) cases.old.items }
+    requires of_problem { IsCompletionOf problem.now completion.now }
+    requires some_round { HasRounds step completion.now.rounds }
+    ensures { OnOk result (AllZip (Follows format problem.now completion.now step) cases.old.items cases.new.items) }
+{
+    let step = &step;
+    for case in cases.iter_mut() {
+        let standing = mem::replace(&mut case.standing, Standing::Open(Poly::zero(alloc)));
+        case.standing = follow(
+            alloc,
+            problem,
+            format,
+            completion,
+            step,
+            case.number,
+            standing,
+        )?;
+    }
+    Ok(())
+}
+
+// The outcomes of claims that have them.
+fn outcomes(alloc: Global, cases: Vec<Case>) -> Result<Listing<Outcome>, AllocError>
+    requires { All IsSettled cases.items }
+    ensures { IfOk result (AllZip Gives cases.items) }
+{
+    let mut outcomes = Listing::new(alloc);
+    let mut rest = VecDeque::from_vec(cases);
+    while let Some(case) = rest.pop_front() {
+        match case.standing {
+            Standing::Settled(outcome) => outcomes.push(outcome)?,
+            Standing::Open(_) => unreachable!(),
+        }
+    }
+    Ok(outcomes)
+}
+
+// Copies of the polynomials of rules.
+fn polynomials(alloc: Global, rules: &[Rule]) -> Result<Listing<Poly>, AllocError>
+    ensures { IfOk result (λ polys. polys ≡ polynomials_in rules.now) }
+{
+    let mut polys = Listing::new(alloc);
+    for rule in rules {
+        polys.push(rule.poly.copy()?)?;
+    }
+    Ok(polys)
+}

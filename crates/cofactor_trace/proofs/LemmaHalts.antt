@@ -1,0 +1,19 @@
+-- The first fault of gathering.
+use Rattle.std.proofs.Common.{◌≡◌, Option, Some, None, Result, sym, ap, subst, ◌∙◌}
+use Rattle.cofactor_trace.specs.declared.fault.GatherFault.{GatherFault}
+use Rattle.cofactor_trace.specs.declared.fault.GatherFault.TheVariants as fault
+use Rattle.cofactor_trace.specs.Expansion.{unless}
+use Rattle.cofactor_trace.specs.GatherFaults.{Explains}
+
+-- a fault of the first part is that of the whole
+pub explains-some : {A : Type 0} (first : Option GatherFault) (r : Result A GatherFault) (e : GatherFault) → first ≡ Some e → Explains (unless first r) e
+explains-some first r (fault.Overflow o) h = ap (λ f. unless f r) h
+explains-some first r (fault.Rows letters) h = ap (λ f. unless f r) h
+explains-some first r (fault.Memory e) h = tt
+
+-- a part without a fault is passed over
+pub explains-behind : {A : Type 0} (first : Option GatherFault) (r : Result A GatherFault) (e : GatherFault) → first ≡ None → Explains r e → Explains (unless first r) e
+explains-behind first r e none h = subst (λ f. Explains (unless f r) e) (sym none) h
+
+pub ok-behind : {A : Type 0} (first second : Option GatherFault) (r : Result A GatherFault) → first ≡ None → second ≡ None → unless first (unless second r) ≡ r
+ok-behind first second r none nothing = ap (λ f. unless f (unless second r)) none ∙ ap (λ f. unless f r) nothing

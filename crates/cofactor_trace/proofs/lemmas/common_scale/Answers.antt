@@ -1,0 +1,36 @@
+use Rattle.std.proofs.Common.{rules, ◌≡◌, pos, ◌++◌, ◌∷◌, [], drop, map, ◌∙◌}
+use Rattle.coef_int.specs.Range.{IsCoefficient}
+use Rattle.coef_int.specs.Operations.{first_overflow}
+use Rattle.cofactor_trace.specs.Expansion.{lcm_of, common_multiple, multiple_products}
+use Rattle.cofactor_trace.specs.Naming.{IsScaled, records}
+use Rattle.cofactor_trace.proofs.NamedRecords.{of_record, multiple_next, products_next}
+use Rattle.cofactor_trace.proofs.lemmas.common_scale.Goals as goal
+
+pub raise-requires-clause-scale_in : goal.raise-requires-clause-scale_in
+raise-requires-clause-scale_in c =
+    let both = of_record c.args.lemmas.now c.loop-lemma.lemma-index c.lemma-item.result c.loop-lemma-test.true c.lemma-item.is IsScaled c.requires.lemmas in
+    search (rules, both)
+
+pub raise-requires-clause-scale_positive : goal.raise-requires-clause-scale_positive
+raise-requires-clause-scale_positive c =
+    let both = of_record c.args.lemmas.now c.loop-lemma.lemma-index c.lemma-item.result c.loop-lemma-test.true c.lemma-item.is IsScaled c.requires.lemmas in
+    search (rules, both)
+
+pub loop-lemma-preserved : goal.loop-lemma-preserved
+loop-lemma-preserved c =
+    let lemmas = c.args.lemmas.now in
+    let goal_made = c.args.goal.now in
+    let i = c.loop-lemma.lemma-index in
+    let x = c.lemma-item.result in
+    let old = c.loop-lemma.common in
+    let new = c.in_ok-common.common in
+    let both = of_record lemmas i x c.loop-lemma-test.true c.lemma-item.is IsScaled c.requires.lemmas in
+    let new_is : new ≡ lcm_of old x.now.scale = search (rules, both) in
+    let fits : IsCoefficient (lcm_of old x.now.scale) = search (rules, both, new_is) in
+    let products_so_far : first_overflow (multiple_products old (map (λ m. m.scale) (records (drop i lemmas) ++ goal_made ∷ [])))
+    ≡ first_overflow (multiple_products (pos 1) (map (λ m. m.scale) (records lemmas ++ goal_made ∷ []))) = search rules in
+    let value_so_far : common_multiple old (map (λ m. m.scale) (records (drop i lemmas) ++ goal_made ∷ []))
+    ≡ common_multiple (pos 1) (map (λ m. m.scale) (records lemmas ++ goal_made ∷ [])) = search rules in
+    let products = products_next lemmas i x c.loop-lemma-test.true c.lemma-item.is goal_made old new new_is fits ∙ products_so_far in
+    let value = multiple_next lemmas i x c.loop-lemma-test.true c.lemma-item.is goal_made old new new_is ∙ value_so_far in
+    record { products = search (rules, products); value = search (rules, value); positive = search rules; in_range = search rules }

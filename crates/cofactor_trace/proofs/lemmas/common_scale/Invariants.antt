@@ -1,0 +1,16 @@
+use Rattle.std.proofs.Common.{◌≡◌, ◌<ℤ◌, ◌++◌, ◌∷◌, [], pos, drop, map}
+use Rattle.coef_int.specs.Range.{IsCoefficient}
+use Rattle.coef_int.specs.Operations.{first_overflow}
+use Rattle.cofactor_trace.specs.Expansion.{common_multiple, multiple_products}
+use Rattle.cofactor_trace.specs.Naming.{records}
+use Rattle.cofactor_trace.proofs.lemmas.common_scale.Given as goal
+
+abbrev pub invariant-loop-lemma : goal.invariant-loop-lemma
+invariant-loop-lemma l = record {
+  products : first_overflow (multiple_products l.common (map (λ m. m.scale) (records (drop l.lemma-index l.lemmas) ++ l.goal ∷ [])))
+      ≡ first_overflow (multiple_products (pos 1) (map (λ m. m.scale) (records l.lemmas ++ l.goal ∷ [])));
+  value : common_multiple l.common (map (λ m. m.scale) (records (drop l.lemma-index l.lemmas) ++ l.goal ∷ []))
+      ≡ common_multiple (pos 1) (map (λ m. m.scale) (records l.lemmas ++ l.goal ∷ []));
+  positive : pos 0 <ℤ l.common;
+  in_range : IsCoefficient l.common;
+}

@@ -1,0 +1,7 @@
+use Rattle.std.proofs.Common.{◌≡◌, map, take}
+use Rattle.cofactor_trace.specs.Lemmas.{lemma_of}
+use Rattle.cofactor_trace.specs.Naming.{named_in, records}
+use Rattle.cofactor_trace.proofs.lemmas.make_lemmas.Given as goal
+
+abbrev pub invariant-loop-lemma : goal.invariant-loop-lemma
+invariant-loop-lemma l = l.made ≡ map (lemma_of (named_in l.replacements)) (records (take l.lemma-index l.lemmas))

@@ -1,0 +1,57 @@
+use Rattle.std.proofs.Common.{rules, ◌≡◌, ◌+◌, ◌++◌, ◌*ℤ◌, map, drop, Err, sym, ap, ◌∙◌, arith}
+use Rattle.std.proofs.lemmas.List.{drop_all}
+use Rattle.std.specs.Option.{option_map}
+use Rattle.coef_int.specs.Range.{IsCoefficient}
+use Rattle.coef_int.specs.Operations.{product_of, first_overflow}
+use Rattle.nc_polynomial.proofs.Steps.{drop_next}
+use Rattle.cofactor_trace.specs.declared.CertRow.{CertRow}
+use Rattle.cofactor_trace.specs.declared.fault.ExpandFault.TheVariants as fault
+use Rattle.cofactor_trace.specs.Expansion.{joined_row}
+use Rattle.cofactor_trace.specs.Table.{with_row, with_rows}
+use Rattle.cofactor_trace.proofs.Operations.{first_next, first_stops, first_none}
+use Rattle.cofactor_trace.proofs.table.add_joined.Goals as goal
+
+pub returns-in_err-coef-clause-exact : goal.returns-in_err-coef-clause-exact
+returns-in_err-coef-clause-exact c =
+    let k = c.args.factor in
+    let row = c.row-item.result in
+    let f = λ (s : CertRow). product_of k s.coef in
+    let kept : first_overflow (map f (drop c.loop-row.row-index c.args.inner.now)) ≡ first_overflow (map f c.args.inner.now) = search rules in
+    let fails : ¬ IsCoefficient (k *ℤ row.coef) = search rules in
+    let back : c.from_residual.result ≡ Err (fault.Overflow (product_of k row.coef)) = search rules in
+    rw back (ap (option_map fault.Overflow) (first_stops f c.args.inner.now c.loop-row.row-index kept row c.loop-row-test.true c.row-item.is fails))
+
+pub loop-row-preserved : goal.loop-row-preserved
+loop-row-preserved c =
+    let k = c.args.factor in
+    let outer = c.args.outer.now in
+    let inner = c.args.inner.now in
+    let row = c.row-item.result in
+    let i = c.loop-row.row-index in
+    let f = λ (s : CertRow). product_of k s.coef in
+    let kept : first_overflow (map f (drop i inner)) ≡ first_overflow (map f inner) = search rules in
+    let fits : IsCoefficient (k *ℤ row.coef) = search rules in
+    let products : first_overflow (map f (drop (i + 1) inner)) ≡ first_overflow (map f inner) = first_next f inner i kept row c.loop-row-test.true c.row-item.is fits in
+    let old = c.loop-row.sums.entries in
+    let so_far : with_rows old (map (joined_row k outer) (drop i inner)) ≡ with_rows c.args.sums.now.entries (map (joined_row k outer) inner) = search rules in
+    let left : c.in_ok-concat.field-0 ≡ outer.left ++ row.left = search rules in
+    let right : c.in_ok-concat-2.field-0 ≡ row.right ++ outer.right = search rules in
+    let coef : c.in_ok-coef.coef ≡ k *ℤ row.coef = search rules in
+    let put : c.add.new.sums.entries ≡ with_row old (joined_row k outer row) = search (rules, left, right, coef) in
+    let added : with_rows c.add.new.sums.entries (map (joined_row k outer) (drop (i + 1) inner)) ≡ with_rows c.args.sums.now.entries (map (joined_row k outer) inner) =
+    ap (λ es. with_rows es (map (joined_row k outer) (drop (i + 1) inner))) put
+    ∙ ap (λ l. with_rows old (map (joined_row k outer) l)) (sym (drop_next inner i row c.loop-row-test.true c.row-item.is)) ∙ so_far in
+    record { sums_in = search rules; added = search (rules, added); products = search (rules, products) }
+
+pub returns-clause-added : goal.returns-clause-added
+returns-clause-added c =
+    let k = c.args.factor in
+    let jr = joined_row k c.args.outer.now in
+    let so_far : with_rows c.loop-row.sums.entries (map jr (drop c.loop-row.row-index c.args.inner.now)) ≡ with_rows c.args.sums.now.entries (map jr c.args.inner.now) = search rules in
+    ap (λ l. with_rows c.loop-row.sums.entries (map jr l)) (sym (drop_all c.loop-row.row-index c.args.inner.now (omega arith))) ∙ so_far
+
+pub returns-clause-exact : goal.returns-clause-exact
+returns-clause-exact c =
+    let f = λ (s : CertRow). product_of c.args.factor s.coef in
+    let kept : first_overflow (map f (drop c.loop-row.row-index c.args.inner.now)) ≡ first_overflow (map f c.args.inner.now) = search rules in
+    ap (option_map fault.Overflow) (first_none f c.args.inner.now c.loop-row.row-index kept (omega arith))

@@ -1,0 +1,18 @@
+use Rattle.std.proofs.Common.{◌≡◌}
+use Rattle.std.specs.BTreeMap.{btree_map_len}
+use Rattle.std.specs.List.{All}
+use Rattle.std.specs.Map.{values_of}
+use Rattle.coef_int.specs.Range.{IsCoefficient}
+use Rattle.cofactor_trace.specs.Table.{IsInRange, rows_in}
+use Rattle.cofactor_trace.proofs.Gathering.{behind}
+use Rattle.cofactor_trace.proofs.table.nonzero_rows.Given as goal
+
+abbrev pub invariant-loop-multiple : goal.invariant-loop-multiple
+invariant-loop-multiple l = record {
+  sums_in : All IsInRange (values_of l.sums.entries);
+  rows_in_range : All (λ r. IsCoefficient r.coef) l.rows;
+  same : behind l.rows (rows_in l.sums.entries) ≡ rows_in l.fn.sums.entries;
+}
+
+abbrev pub decreases-loop-multiple : goal.decreases-loop-multiple
+decreases-loop-multiple l = btree_map_len l.sums

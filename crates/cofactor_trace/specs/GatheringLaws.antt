@@ -1,0 +1,78 @@
+-- What a gathered certificate adds up to, how large it is, and what it names.
+use Rattle.std.specs.Prelude.{◌≡◌, ◌≤◌, ℕ, suc, ℤ, List, [], ◌∷◌, ◌++◌, map, length, Bool, IsTrue, Ok, ⊤}
+use Rattle.std.specs.List.{All}
+use Rattle.coef_int.specs.Range.{IsCoefficient}
+use Rattle.definitions.specs.Combination.{generator_at}
+use Rattle.cofactor_trace.specs.declared.Made.{Made}
+use Rattle.cofactor_trace.specs.declared.evidence.CertFrom.{CertFrom}
+use Rattle.cofactor_trace.specs.declared.evidence.CertFrom.TheVariants as cert
+use Rattle.cofactor_trace.specs.declared.evidence.Lemma.{Lemma}
+use Rattle.cofactor_trace.specs.declared.evidence.LemmaCertificate.{LemmaCertificate}
+use Rattle.cofactor_trace.specs.Needed.{IsRecord, AreRecords}
+use Rattle.cofactor_trace.specs.Laws.{Traces, AreTraces, NamesUpTo}
+use Rattle.cofactor_trace.specs.LemmaRows.{IsEvidenceOf}
+use Rattle.cofactor_trace.specs.Lemmas.{lemma_rules, row_count, letter_count, gathered_of}
+
+-- the lemmas and then the goal
+abbrev pub parts_of : LemmaCertificate → List Lemma
+parts_of c = c.lemmas ++ c.goal ∷ []
+
+-- ---- sums
+-- the rules of the lemmas, as polynomials
+abbrev pub lemma_polys : List (List (ℤ × List ℕ)) → List Made → Made → List (List (ℤ × List ℕ))
+lemma_polys rules made target = map (λ e. generator_at rules e.0) (lemma_rules made target)
+
+-- Where the rows of each record add up to its scale times its rule, a gathered certificate is evidence of the target's polynomial,
+-- and its lemmas are rules.
+abbrev pub GatheringsAddUp : Type 0
+GatheringsAddUp = (generators rules : List (List (ℤ × List ℕ))) (claim : ℕ) (made : List Made) (target : Made) (p : List (ℤ × List ℕ)) (c : LemmaCertificate)
+    → AreRecords made → IsRecord (length made) target → AreTraces generators rules made → Traces generators rules target p
+    → gathered_of claim made target ≡ Ok c → IsEvidenceOf generators (lemma_polys rules made target) c p
+
+-- ---- sizes
+-- There are at most 200,000 rows and 1,000,000 letters.
+abbrev pub GatheringsFit : Type 0
+GatheringsFit = (claim : ℕ) (made : List Made) (target : Made) (c : LemmaCertificate) → gathered_of claim made target ≡ Ok c
+    → (row_count (parts_of c) ≤ 200000) × (letter_count (parts_of c) ≤ 1000000)
+
+-- Where each record has a row, so has each lemma, and there are at most 200,000 of them.
+abbrev pub LemmasHaveRows : Type 0
+LemmasHaveRows = (claim : ℕ) (made : List Made) (target : Made) (c : LemmaCertificate) → All (λ m. 1 ≤ length m.rows) made → gathered_of claim made target ≡ Ok c
+    → All (λ l. 1 ≤ length l.rows) c.lemmas × (length c.lemmas ≤ 200000)
+
+-- ---- numbers and words
+-- the scale and the coefficients of all rows are coefficients
+abbrev pub IsRangedLemma : Lemma → Type 0
+IsRangedLemma l = IsCoefficient l.scale × All (λ r. IsCoefficient r.coef) l.rows
+
+-- The denominator, each scale and the coefficient of each row are coefficients.
+abbrev pub GatheringsAreRanged : Type 0
+GatheringsAreRanged = (claim : ℕ) (made : List Made) (target : Made) (c : LemmaCertificate) → AreRecords made → IsRecord (length made) target → gathered_of claim made target ≡ Ok c
+    → IsCoefficient c.denominator × All IsRangedLemma (parts_of c)
+
+-- Where a test is true at each word of the records, it is true at each word of the certificate.
+abbrev pub WordsAreKept : Type 0
+WordsAreKept = (test : List ℕ → Bool) (claim : ℕ) (made : List Made) (target : Made) (c : LemmaCertificate)
+    → All (λ m. All (λ r. IsTrue (test r.left) × IsTrue (test r.right)) m.rows) made → All (λ r. IsTrue (test r.left) × IsTrue (test r.right)) target.rows
+    → gathered_of claim made target ≡ Ok c → All (λ l. All (λ r. IsTrue (test r.left) × IsTrue (test r.right)) l.rows) (parts_of c)
+
+-- ---- names
+-- one of the first generators, or one of the first lemmas, as many as the counts say
+abbrev pub IsWithin : ℕ → ℕ → CertFrom → Type 0
+IsWithin generators lemmas (cert.Generator n) = (1 ≤ n) × (n ≤ generators)
+IsWithin generators lemmas (cert.Lemma n) = (1 ≤ n) × (n ≤ lemmas)
+
+abbrev pub NamesWithin : ℕ → ℕ → Lemma → Type 0
+NamesWithin generators lemmas l = All (λ r. IsWithin generators lemmas r.from) l.rows
+
+-- each lemma names lemmas before it alone, where so many stand before the first one
+abbrev pub NameEarlier : ℕ → ℕ → List Lemma → Type 0
+NameEarlier generators before [] = ⊤
+NameEarlier generators before (l ∷ lemmas) = NamesWithin generators before l × NameEarlier generators (suc before) lemmas
+
+-- Where the records name no generators but the first ones, neither do lemmas and goal; and each lemma names lemmas before it, the goal
+-- lemmas that there are.
+abbrev pub LemmasAreNamed : Type 0
+LemmasAreNamed = (count claim : ℕ) (made : List Made) (target : Made) (c : LemmaCertificate) → AreRecords made → IsRecord (length made) target
+    → All (NamesUpTo count) made → NamesUpTo count target → gathered_of claim made target ≡ Ok c
+    → NameEarlier count 0 c.lemmas × NamesWithin count (length c.lemmas) c.goal

@@ -1,0 +1,29 @@
+-- How many rows and letters records have, counted up to the greatest number of the machine.
+use Rattle.std.specs.Prelude.{ℕ, true, false, List, length, Option, Some, None, nat_lt, if◌then◌else◌}
+use Rattle.std.specs.List.{fold}
+use Rattle.cofactor_trace.specs.declared.Row.{Row}
+use Rattle.cofactor_trace.specs.declared.Made.{Made}
+use Rattle.cofactor_trace.specs.declared.fault.GatherFault.{GatherFault}
+use Rattle.cofactor_trace.specs.declared.fault.GatherFault.TheVariants as fault
+use Rattle.cofactor_trace.specs.declared.extent.Extent.{Extent}
+use Rattle.cofactor_trace.specs.Sizes.{counted}
+
+-- with one row more
+abbrev pub letters_with : ℕ → Row → ℕ
+letters_with letters r = counted (counted letters (length r.left)) (length r.right)
+
+-- with one record more
+abbrev pub extended : Extent → Made → Extent
+extended extent m = record { rows = counted extent.rows (length m.rows); letters = fold letters_with extent.letters m.rows }
+
+abbrev pub extended_all : Extent → List Made → Extent
+extended_all = fold extended
+
+-- no rows
+abbrev pub no_extent : Extent
+no_extent = record { rows = 0; letters = 0 }
+
+-- the first limit that is passed
+abbrev pub limit_of : Extent → Option GatherFault
+limit_of extent = if nat_lt 200000 extent.rows then Some (fault.Rows false)
+    else (if nat_lt 1000000 extent.letters then Some (fault.Rows true) else None)

@@ -1,0 +1,14 @@
+pub mod Steps
+pub mod Options
+pub mod Ends
+pub mod Top
+pub mod Numbers
+pub mod Gives
+pub mod Commands
+pub mod Rows
+pub mod Taken
+pub mod NamedCall
+pub mod Simple
+pub mod Getters
+pub mod Unique
+pub mod Samples

@@ -1,0 +1,65 @@
+-- The commands, their words, options, ranges and defaults.
+use Rattle.std.specs.Prelude.{◌≡◌, ℕ, true, List, [], ◌∷◌, Some, codes}
+use Rattle.clap.specs.Words.{App, Rule, Text, new_app, new_rule, with_rule, with_subcommand, fault_of}
+use Rattle.clap.specs.declared.builder.ArgAction.TheVariants.{Set, SetTrue}
+use Rattle.clap.specs.declared.builder.value_parser.ValueParser.TheVariants as parser
+
+-- a word that has to be given, by its place
+abbrev pub required_word : Text → Rule
+required_word id = record (new_rule id) { required = true }
+
+-- a number from least to most that has to be given, by its place
+abbrev pub required_number : Text → ℕ → ℕ → Rule
+required_number id least most = record (new_rule id) { required = true; parser = Some (parser.Unsigned least most) }
+
+-- `--id N`, a number from least to most, where `default` stands for an absent one
+abbrev pub number_option : Text → ℕ → ℕ → Text → Rule
+number_option id least most default = record (new_rule id) {
+  long = Some id;
+  action = Some Set;
+  parser = Some (parser.Unsigned least most);
+  defaults = default ∷ [];
+}
+
+abbrev pub flag_option : Text → Rule
+flag_option id = record (new_rule id) { long = Some id; action = Some SetTrue }
+
+-- the options that more than one command has
+abbrev pub workers_option : Rule
+workers_option = number_option (codes "workers") 1 64 (codes "4")
+
+abbrev pub seed_option : Rule
+seed_option = number_option (codes "seed") 0 18446744073709551615 (codes "1")
+
+abbrev pub prove_command : App
+prove_command = with_rule (with_rule (with_rule (with_rule (with_rule (with_rule (with_rule (new_app (codes "prove"))
+    (required_word (codes "file")))
+    (number_option (codes "pairs") 1 1000000 (codes "5000")))
+    (number_option (codes "steps") 1 1000000 (codes "20000")))
+    workers_option)
+    seed_option)
+    (number_option (codes "format") 1 2 (codes "2")))
+    (flag_option (codes "no-models"))
+
+abbrev pub bench_command : App
+bench_command = with_rule (with_rule (new_app (codes "bench")) (required_number (codes "size") 1 60)) workers_option
+
+-- a command of a statement and a second file
+abbrev pub pair_command : Text → App
+pair_command name = with_rule (with_rule (new_app name) (required_word (codes "statement"))) (required_word (codes "evidence"))
+
+-- the words are those after the program's name
+abbrev pub bare_command : App
+bare_command =
+    let a = new_app (codes "opprove") in
+    record a { top = record a.top { no_binary_name = true; disable_help_flag = true; disable_help_subcommand = true; subcommand_required = true } }
+
+unfoldable pub command_set : App
+command_set = with_subcommand (with_subcommand (with_subcommand bare_command
+    prove_command.top)
+    (pair_command (codes "check")).top)
+    bench_command.top
+
+-- clap's stated function of the command set takes the words after the program's name
+unfoldable pub IsTaken : List Text → Type 0
+IsTaken words = fault_of command_set words ≡ []

@@ -1,0 +1,9 @@
+//! The words of a call, read by clap: commands, files, numbers and options.
+#![tactic(auto)]
+
+mod call;
+mod read;
+mod set;
+
+pub use call::{BenchCall, Call, PairCall, ProveCall};
+pub use read::{Refusal, read_words};

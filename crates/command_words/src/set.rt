@@ -1,0 +1,126 @@
+//! The commands as clap gets them: what `specs/CommandSet.antt` says.
+ghost use Rattle.std.specs.Prelude.{◌≡◌, IfOk, false};
+ghost use Rattle.clap.specs.Words.{app_of, rule_of, with_rule, with_subcommand};
+ghost use Rattle.clap.specs.declared.builder.command.Command.TheViews.{out-Command as fields_of};
+ghost use Rattle.command_words.specs.CommandSet.{command_set, bare_command, prove_command, bench_command, pair_command, required_word, required_number, number_option, workers_option, seed_option, flag_option};
+
+use clap::builder::ValueParser;
+use clap::{Arg, ArgAction, Command};
+use std::alloc::{AllocError, Global};
+
+fn required_word<'a>(alloc: Global, id: &'a str) -> Arg<'a>
+    ensures rule { rule_of result ≡ required_word id.entry.now }
+    ensures local { result.global ≡ false }
+{
+    Arg::new(alloc, id).required(true)
+}
+
+fn required_number<'a>(alloc: Global, id: &'a str, least: u64, most: u64) -> Arg<'a>
+    ensures rule { rule_of result ≡ required_number id.entry.now least most }
+    ensures local { result.global ≡ false }
+{
+    Arg::new(alloc, id)
+        .required(true)
+        .value_parser(ValueParser::unsigned(least, most))
+}
+
+fn number_option<'a>(alloc: Global, id: &'a str, least: u64, most: u64, default: &'a str) -> Arg<'a>
+    ensures rule { rule_of result ≡ number_option id.entry.now least most default.entry.now }
+    ensures local { result.global ≡ false }
+{
+    Arg::new(alloc, id)
+        .long(id)
+        .action(ArgAction::Set)
+        .value_parser(ValueParser::unsigned(least, most))
+        .default_value(default)
+}
+
+fn workers_option<'a>(alloc: Global) -> Arg<'a>
+    ensures rule { rule_of result ≡ workers_option }
+    ensures local { result.global ≡ false }
+{
+    number_option(alloc, "workers", 1, 64, "4")
+}
+
+fn seed_option<'a>(alloc: Global) -> Arg<'a>
+    ensures rule { rule_of result ≡ seed_option }
+    ensures local { result.global ≡ false }
+{
+    number_option(alloc, "seed", 0, u64::MAX, "1")
+}
+
+fn flag_option<'a>(alloc: Global, id: &'a str) -> Arg<'a>
+    ensures rule { rule_of result ≡ flag_option id.entry.now }
+    ensures local { result.global ≡ false }
+{
+    Arg::new(alloc, id).long(id).action(ArgAction::SetTrue)
+}
+
+fn with_arg<'a>(command: Command<'a>, arg: Arg<'a>) -> Result<Command<'a>, AllocError>
+    requires { arg.global ≡ false }
+    ensures app { IfOk result (λ c. app_of c ≡ with_rule (app_of command.entry) (rule_of arg.entry)) }
+    ensures local { IfOk result (λ c. (fields_of c).has_globals ≡ (fields_of command.entry).has_globals) }
+{
+    command.arg(arg)
+}
+
+fn prove_command<'a>(alloc: Global) -> Result<Command<'a>, AllocError>
+    ensures app { IfOk result (λ c. app_of c ≡ prove_command) }
+    ensures local { IfOk result (λ c. (fields_of c).has_globals ≡ false) }
+{
+    let command = with_arg(Command::new(alloc, "prove"), required_word(alloc, "file"))?;
+    let command = with_arg(command, number_option(alloc, "pairs", 1, 1000000, "5000"))?;
+    let command = with_arg(command, number_option(alloc, "steps", 1, 1000000, "20000"))?;
+    let command = with_arg(command, workers_option(alloc))?;
+    let command = with_arg(command, seed_option(alloc))?;
+    let command = with_arg(command, number_option(alloc, "format", 1, 2, "2"))?;
+    with_arg(command, flag_option(alloc, "no-models"))
+}
+
+fn bench_command<'a>(alloc: Global) -> Result<Command<'a>, AllocError>
+    ensures app { IfOk result (λ c. app_of c ≡ bench_command) }
+    ensures local { IfOk result (λ c. (fields_of c).has_globals ≡ false) }
+{
+    let command = with_arg(
+        Command::new(alloc, "bench"),
+        required_number(alloc, "size", 1, 60),
+    )?;
+    with_arg(command, workers_option(alloc))
+}
+
+fn pair_command<'a>(alloc: Global, name: &'a str) -> Result<Command<'a>, AllocError>
+    ensures app { IfOk result (λ c. app_of c ≡ pair_command name.entry.now) }
+    ensures local { IfOk result (λ c. (fields_of c).has_globals ≡ false) }
+{
+    let command = with_arg(Command::new(alloc, name), required_word(alloc, "statement"))?;
+    with_arg(command, required_word(alloc, "evidence"))
+}
+
+fn bare_command<'a>(alloc: Global) -> Command<'a>
+    ensures app { app_of result ≡ bare_command }
+    ensures local { (fields_of result).has_globals ≡ false }
+{
+    Command::new(alloc, "opprove")
+        .no_binary_name(true)
+        .disable_help_flag(true)
+        .disable_help_subcommand(true)
+        .subcommand_required(true)
+}
+
+fn with_command<'a>(command: Command<'a>, below: Command<'a>) -> Result<Command<'a>, AllocError>
+    requires local { (fields_of command).has_globals ≡ false }
+    requires below_local { (fields_of below).has_globals ≡ false }
+    ensures app { IfOk result (λ c. app_of c ≡ with_subcommand (app_of command.entry) (app_of below.entry).top) }
+    ensures local { IfOk result (λ c. (fields_of c).has_globals ≡ false) }
+{
+    command.subcommand(below)
+}
+
+/// The commands with all that `specs/CommandSet.antt` says of them.
+pub fn command_set<'a>(alloc: Global) -> Result<Command<'a>, AllocError>
+    ensures { IfOk result (λ c. app_of c ≡ command_set) }
+{
+    let set = with_command(bare_command(alloc), prove_command(alloc)?)?;
+    let set = with_command(set, pair_command(alloc, "check")?)?;
+    with_command(set, bench_command(alloc)?)
+}

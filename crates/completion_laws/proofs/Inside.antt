@@ -1,0 +1,148 @@
+-- What is in the rational ideal of the generators.
+use Rattle.std.proofs.Common.{◌≡◌, ◌⊎◌, inl, inr, ◌≤◌, ◌<◌, ℕ, zero, suc, pos, ◌+ℤ◌, ◌*ℤ◌, List, [], ◌∷◌, length, slice_get, get_or, Some, refl, sym, ap, ◌∙◌, subst, arith, append-nil}
+use Rattle.std.specs.List.{All, AllByRecursion}
+use Rattle.std.proofs.lemmas.List.Elements.{All-contains, All-weaker, recursion_from_All}
+use Rattle.std.proofs.Math.IntN.{+ℤ_idl}
+use Rattle.definitions.specs.Poly.{Word, Term, coefficient_of, poly_between}
+use Rattle.definitions.specs.Combination.{generator_at, InRationalIdeal}
+use Rattle.definitions.proofs.Coefficients.{coefficient_of-append, coefficient_of-multiple}
+use Rattle.word_orders.specs.Admissible.{Compare}
+use Rattle.cofactor_trace.specs.declared.Origin.{Origin}
+use Rattle.cofactor_trace.specs.declared.Origin.TheVariants as origin
+use Rattle.cofactor_trace.specs.declared.Row.{Row}
+use Rattle.cofactor_trace.specs.declared.Made.{Made}
+use Rattle.cofactor_trace.specs.Traces.{origin_poly, traced_poly, traced_sum}
+use Rattle.rule_reduce.specs.declared.rule.Rule.{Rule}
+use Rattle.rule_reduce.specs.declared.state.State.{State}
+use Rattle.rule_reduce.specs.RuleLists.{rule_at, polynomials_of}
+use Rattle.rule_reduce.specs.Laws.{IsByRule}
+use Rattle.rule_reduce.proofs.Numbers.{rule_at-polynomial}
+use Rattle.ambiguities.proofs.Numbers.{rule_at-first, rule_at-last}
+use Rattle.confluence.specs.Reductions.{IsZero, IsReduced}
+use Rattle.confluence.proofs.Integers.{positive_nat}
+use Rattle.confluence.proofs.Spans.{Coefs, Span, nothing, part, span_same, span_add, span_scale, span_bind}
+use Rattle.confluence.proofs.Shifts.{shift, span_shift, coefficient_of-between}
+use Rattle.confluence.proofs.SumRows.{Numbered, combination_span}
+use Rattle.confluence.proofs.FreeRows.{Free, free_rows, single, numbered_shift, in_ideal}
+use Rattle.completion_laws.specs.Rests.{IsEarlier}
+use Rattle.completion_laws.specs.Kept.{AreRecorded, IsReached}
+use Rattle.completion_laws.specs.Conclusions.{AreAllDone, RulesAreInside, ZeroIsInside}
+use Rattle.completion_laws.proofs.RowSums.{traced_sum-by_rules}
+
+-- strong induction
+strong : (P : ℕ → Type 0) → ((n : ℕ) → ((m : ℕ) → m < n → P m) → P n) → (n : ℕ) → P n
+strong P step n = step n (below n)
+  where
+    below : (n m : ℕ) → m < n → P m
+    below zero m less = absurd (omega arith)
+    below (suc n) m less = step m (λ k lower. below n k (omega arith))
+
+slice_some : (made : List Made) (n : ℕ) → n < length made → (m : Made) × (slice_get made n ≡ Some m)
+slice_some [] n inside = absurd (omega arith)
+slice_some (m ∷ made) zero inside = (m, refl)
+slice_some (m ∷ made) (suc n) inside = slice_some made n (omega arith)
+
+-- what is between words comes from what it is of
+between_span : (polys : List (List Term)) (l r : Word) (p : List Term) → Span (Numbered polys Free) (coefficient_of p) → Span (Numbered polys Free) (coefficient_of (poly_between l p r))
+between_span polys l r p sp =
+    span_same (Numbered polys Free) (shift l r (coefficient_of p)) (coefficient_of (poly_between l p r))
+    (span_shift (Numbered polys Free) (Numbered polys Free) l r (λ b row. numbered_shift polys l r b row) (coefficient_of p) sp) (λ w. coefficient_of-between l r p w)
+
+module _ (generators : List (List Term)) where
+  abbrev FromGenerators : List Term → Type 0
+  FromGenerators p = Span (Numbered generators Free) (coefficient_of p)
+
+  -- rows over generators and over rules that come from generators
+  from_rows : (rules : List (List Term)) (bound : ℕ) → ((n : ℕ) → 1 ≤ n → n ≤ bound → FromGenerators (generator_at rules n)) → (rows : List Row) → AllByRecursion (λ row. IsEarlier (length generators) bound row.from) rows → FromGenerators (traced_sum generators rules rows)
+  from_rows rules bound each [] earlier = nothing _ (λ w. refl)
+  from_rows rules bound each (row ∷ rows) earlier =
+      span_same (Numbered generators Free) _ _
+      (span_add (Numbered generators Free) (λ w. row.coef *ℤ coefficient_of (poly_between row.left (origin_poly generators rules row.from) row.right) w) (coefficient_of (traced_sum generators rules rows))
+      (span_scale (Numbered generators Free) row.coef (coefficient_of (poly_between row.left (origin_poly generators rules row.from) row.right)) (of_origin row.from earlier.0)) (from_rows rules bound each rows earlier.1))
+      (λ w. coefficient_of-append (traced_poly generators rules row) (traced_sum generators rules rows) w ∙ ap (λ z. z +ℤ coefficient_of (traced_sum generators rules rows) w) (coefficient_of-multiple row.coef (poly_between row.left (origin_poly generators rules row.from) row.right) w))
+    where
+      of_origin : (x : Origin) → IsEarlier (length generators) bound x → Span (Numbered generators Free) (coefficient_of (poly_between row.left (origin_poly generators rules x) row.right))
+      of_origin (origin.Generator n) named = single (Numbered generators Free) _ (record { number = n; left = row.left; right = row.right; is = λ w. refl; asked = λ w some. tt })
+      of_origin (origin.Rule n) named = between_span generators row.left row.right (generator_at rules n) (each n named.0 named.1)
+
+  module _ (rules : List Rule) (made : List Made) (recorded : AreRecorded generators rules made) where
+    -- each rule, by the record of it and the rules before it
+    rule_from_generators : (n : ℕ) → 1 ≤ n → n ≤ length rules → FromGenerators (generator_at (polynomials_of rules) n)
+    rule_from_generators = strong (λ n. 1 ≤ n → n ≤ length rules → FromGenerators (generator_at (polynomials_of rules) n)) step
+      where
+        step : (n : ℕ) → ((j : ℕ) → j < n → 1 ≤ j → j ≤ length rules → FromGenerators (generator_at (polynomials_of rules) j)) → 1 ≤ n → n ≤ length rules → FromGenerators (generator_at (polynomials_of rules) n)
+        step zero before first last = absurd (omega (arith, first))
+        step (suc place) before first last = of_record (slice_some made place (omega (arith, last, recorded.one_each)))
+          where
+            of_record : ((m : Made) × (slice_get made place ≡ Some m)) → FromGenerators (generator_at (polynomials_of rules) (suc place))
+            of_record (m, found) = go (positive_nat m.scale (recorded.each place m found).positive)
+              where
+                rows : FromGenerators (traced_sum generators (polynomials_of rules) m.rows)
+                rows = from_rows (polynomials_of rules) place (λ j above within. before j (omega (arith, within)) above (omega (arith, within, last))) m.rows (recursion_from_All (λ (row : Row). IsEarlier (length generators) place row.from) m.rows (recorded.each place m found).earlier)
+
+                go : ((k : ℕ) × (0 < k) × (m.scale ≡ pos k)) → FromGenerators (generator_at (polynomials_of rules) (suc place))
+                go (k, above, scale) = part (coefficient_of (generator_at (polynomials_of rules) (suc place))) (coefficient_of (traced_sum generators (polynomials_of rules) m.rows)) k above rows
+                    (λ w. (recorded.traces.at place m found).at w ∙ coefficient_of-multiple m.scale (generator_at (polynomials_of rules) (suc place)) w ∙ ap (λ z. z *ℤ coefficient_of (generator_at (polynomials_of rules) (suc place)) w) scale)
+
+    pub rule_inside : (n : ℕ) (g : Rule) → rule_at rules n ≡ Some g → InRationalIdeal generators g.poly.terms
+    rule_inside n g numbered = in_ideal generators g.poly.terms (subst FromGenerators (rule_at-polynomial rules n g numbered) (rule_from_generators n (rule_at-first rules n g numbered) (rule_at-last rules n g numbered)))
+
+    earlier_rule : (row : Row) → IsByRule (length rules) row.from → IsEarlier (length generators) (length rules) row.from
+    earlier_rule row by_rule = go row.from by_rule
+      where
+        go : (x : Origin) → IsByRule (length rules) x → IsEarlier (length generators) (length rules) x
+        go (origin.Generator n) none = absurd none
+        go (origin.Rule n) named = named
+
+    -- what is reduced to zero
+    pub zero_inside : (letters : ℕ) (compare : Compare) (p : List Term) (s : State) → IsReduced letters compare rules p s → IsZero s.rest → InRationalIdeal generators p
+    zero_inside letters compare p s reduced none = in_ideal generators p (go (positive_nat s.multiplier reduced.positive))
+      where
+        sum_same : (w : Word) → coefficient_of (traced_sum generators (polynomials_of rules) s.rows) w ≡ s.multiplier *ℤ coefficient_of p w
+        sum_same w =
+            ap (λ q. coefficient_of q w) (ap (λ rs. traced_sum generators (polynomials_of rs) s.rows) (sym (append-nil rules)) ∙ traced_sum-by_rules generators rules [] s.rows reduced.by_rules)
+            ∙ sym (+ℤ_idl _) ∙ ap (λ z. z +ℤ coefficient_of (traced_sum [] (polynomials_of rules) s.rows) w) (sym (none.at w))
+            ∙ sym (coefficient_of-append s.rest (traced_sum [] (polynomials_of rules) s.rows) w) ∙ sym (reduced.balances.at w) ∙ coefficient_of-multiple s.multiplier p w
+
+        go : ((k : ℕ) × (0 < k) × (s.multiplier ≡ pos k)) → FromGenerators p
+        go (k, above, multiplier) = part (coefficient_of p) (coefficient_of (traced_sum generators (polynomials_of rules) s.rows)) k above
+            (from_rows (polynomials_of rules) (length rules) rule_from_generators s.rows (recursion_from_All (λ (row : Row). IsEarlier (length generators) (length rules) row.from) s.rows (All-weaker (λ (row : Row). IsByRule (length rules) row.from) (λ (row : Row). IsEarlier (length generators) (length rules) row.from) earlier_rule s.rows reduced.by_rules)))
+            (λ w. sum_same w ∙ ap (λ z. z *ℤ coefficient_of p w) multiplier)
+
+pub rules_are_inside : RulesAreInside
+rules_are_inside letters compare generators rules made done treated n g kept numbered = rule_inside generators rules made kept.recorded n g numbered
+
+pub zero_is_inside : ZeroIsInside
+zero_is_inside letters compare generators rules made done treated p s kept reduced none = zero_inside generators rules made kept.recorded letters compare p s reduced none
+
+-- ---- back
+pub generator_decided : (generators : List (List Term)) (n : ℕ) → ((1 ≤ n) × (n ≤ length generators)) ⊎ (generator_at generators n ≡ [])
+generator_decided gs zero = inr refl
+generator_decided [] (suc n) = inr (past n)
+  where
+    past : (n : ℕ) → get_or {A = List Term} [] n [] ≡ []
+    past zero = refl
+    past (suc n) = refl
+generator_decided (g ∷ gs) (suc zero) = inl (omega arith, omega arith)
+generator_decided (g ∷ gs) (suc (suc n)) = up (generator_decided gs (suc n))
+  where
+    up : ((1 ≤ suc n) × (suc n ≤ length gs)) ⊎ (generator_at gs (suc n) ≡ []) → ((1 ≤ suc (suc n)) × (suc (suc n) ≤ suc (length gs))) ⊎ (generator_at (g ∷ gs) (suc (suc n)) ≡ [])
+    up (inl named) = inl (omega arith, omega (arith, named.1))
+    up (inr none) = inr none
+
+-- where all generators were reached, what is in their rational ideal is in that of the rules
+pub inside_rules : (letters : ℕ) (compare : Compare) (generators : List (List Term)) (rules : List Rule) (done : List ℕ) → All (λ n. IsReached letters compare rules (generator_at generators n)) done → AreAllDone generators done
+    → (p : List Term) → InRationalIdeal generators p → InRationalIdeal (polynomials_of rules) p
+inside_rules letters compare generators rules done reached all p inside =
+    in_ideal (polynomials_of rules) p (span_bind (Numbered generators Free) (Numbered (polynomials_of rules) Free) each (coefficient_of p) (combination_span generators Free inside.rows inside.denominator p inside.combination (free_rows generators inside.rows)))
+  where
+    of_reached : (g : List Term) → IsReached letters compare rules g → Span (Numbered (polynomials_of rules) Free) (coefficient_of g)
+    of_reached g r = combination_span (polynomials_of rules) Free r.rows r.denominator g r.combination (free_rows (polynomials_of rules) r.rows)
+
+    each : (b : Coefs) → Numbered generators Free b → Span (Numbered (polynomials_of rules) Free) b
+    each b row = go (generator_decided generators row.number)
+      where
+        go : ((1 ≤ row.number) × (row.number ≤ length generators)) ⊎ (generator_at generators row.number ≡ []) → Span (Numbered (polynomials_of rules) Free) b
+        go (inl named) = span_same (Numbered (polynomials_of rules) Free) (coefficient_of (poly_between row.left (generator_at generators row.number) row.right)) b
+            (between_span (polynomials_of rules) row.left row.right (generator_at generators row.number) (of_reached (generator_at generators row.number) (All-contains (λ n. IsReached letters compare rules (generator_at generators n)) done row.number reached (all row.number named.0 named.1)))) row.is
+        go (inr none) = nothing b (λ w. row.is w ∙ ap (λ z. coefficient_of (poly_between row.left z row.right) w) none)

@@ -1,0 +1,97 @@
+//! What a completion keeps and what follows, as laws over the definitions.
+ghost use Rattle.completion_laws.specs.Kept.{StartIsKept, GeneratorsAreKept, AmbiguitiesAreKept, ResolvedAtOnceIsKept};
+ghost use Rattle.completion_laws.specs.Making.{PushedRulesAreMade};
+ghost use Rattle.completion_laws.specs.Typed.{NormalFormsStayTyped, SPolynomialsStayTyped, RulesStayTyped, TypedHasNoEmptyWord};
+ghost use Rattle.completion_laws.specs.Shapes.{NormalFormsAreShaped, SPolynomialsAreShaped, RestsHaveLettersBelow};
+ghost use Rattle.completion_laws.specs.Conclusions.{ResolvedWhereClosed, ResolvedBelowPending, RulesAreInside, ZeroIsInside, NonzeroIsOutside, NonzeroIsNotBelow};
+
+/// Of no rules all is kept.
+pub fn start_is_kept()
+    ensures { StartIsKept }
+{}
+
+/// A generator is reduced by the rules so far, and a rule is made of what is left.
+pub fn generators_are_kept()
+    ensures { GeneratorsAreKept }
+{}
+
+/// The S-polynomial of an ambiguity is reduced by the rules from the start of the round and then by the rules so far, and a
+/// rule is made of what is left.
+pub fn ambiguities_are_kept()
+    ensures { AmbiguitiesAreKept }
+{}
+
+/// The first of the two reductions leaves zero.
+pub fn resolved_at_once_is_kept()
+    ensures { ResolvedAtOnceIsKept }
+{}
+
+/// Where nothing is pending, the rules are resolved.
+pub fn resolved_where_closed()
+    ensures { ResolvedWhereClosed }
+{}
+
+/// Where nothing is pending below a word, they are resolved below it.
+pub fn resolved_below_pending()
+    ensures { ResolvedBelowPending }
+{}
+
+/// Each rule is in the rational ideal of the generators.
+pub fn rules_are_inside()
+    ensures { RulesAreInside }
+{}
+
+/// What is reduced to zero is in it.
+pub fn zero_is_inside()
+    ensures { ZeroIsInside }
+{}
+
+/// Where nothing is pending, what is reduced to a rest that isn't zero is outside.
+pub fn nonzero_is_outside()
+    ensures { NonzeroIsOutside }
+{}
+
+/// Where nothing is pending below a word, it does not come from the generators below that word.
+pub fn nonzero_is_not_below()
+    ensures { NonzeroIsNotBelow }
+{}
+
+/// What is left of a polynomial that is typed and in play, by rules that are so, is typed and in play.
+pub fn normal_forms_stay_typed()
+    ensures { NormalFormsStayTyped }
+{}
+
+/// So is each S-polynomial of such rules.
+pub fn s_polynomials_stay_typed()
+    ensures { SPolynomialsStayTyped }
+{}
+
+/// So are the rules with one that is made of such a rest.
+pub fn rules_stay_typed()
+    ensures { RulesStayTyped }
+{}
+
+/// No word of a typed polynomial is empty.
+pub fn typed_has_no_empty_word()
+    ensures { TypedHasNoEmptyWord }
+{}
+
+/// A normal form is sorted, with coefficients in range, where the polynomial is.
+pub fn normal_forms_are_shaped()
+    ensures { NormalFormsAreShaped }
+{}
+
+/// So is each S-polynomial.
+pub fn s_polynomials_are_shaped()
+    ensures { SPolynomialsAreShaped }
+{}
+
+/// The letters of what is left are below the number that those of the polynomial are below.
+pub fn rests_have_letters_below()
+    ensures { RestsHaveLettersBelow }
+{}
+
+/// A rest that is divided by its content, or by the negative of that, is made a rule.
+pub fn pushed_rules_are_made()
+    ensures { PushedRulesAreMade }
+{}

@@ -1,0 +1,28 @@
+-- Integers whose sign or product is known.
+use Rattle.std.proofs.Common.{◌≡◌, ◌≢◌, ◌⊎◌, inl, inr, ℕ, ◌<◌, refl, ap, sym, ◌∙◌, Bool, true, false, ℤ, pos, negsuc, ◌*ℤ◌, ◌<ℤ◌, neg_ℤ, zero, suc, arith}
+use Rattle.std.proofs.Math.IntN.{*ℤ_comm}
+use Rattle.std.proofs.lemmas.Bool.Decides.{Decides-int_eq}
+use Rattle.std.proofs.lemmas.Int.{ints}
+use Rattle.std.specs.Ordering.{int_eq}
+use Rattle.definitions.proofs.Integers.{*ℤ-neg_ℤ, *ℤ_zero}
+
+pub neg_ℤ-*ℤ : (a b : ℤ) → neg_ℤ a *ℤ b ≡ neg_ℤ (a *ℤ b)
+neg_ℤ-*ℤ a b = *ℤ_comm (neg_ℤ a) b ∙ *ℤ-neg_ℤ b a ∙ ap neg_ℤ (*ℤ_comm b a)
+
+pub *ℤ_cancel : (e : ℕ) (a : ℤ) → 0 < e → pos e *ℤ a ≡ pos 0 → a ≡ pos 0
+*ℤ_cancel zero a h z = absurd (omega arith)
+*ℤ_cancel (suc e) a h z = *ℤ_zero e a z
+
+pub positive_nat : (m : ℤ) → pos 0 <ℤ m → (n : ℕ) × (0 < n) × (m ≡ pos n)
+positive_nat (pos n) h = (n, omega (arith, ints, h), refl)
+positive_nat (negsuc n) h = absurd (omega (arith, ints, h))
+
+pub nonzero_or : (x : ℤ) → (x ≡ pos 0) ⊎ (x ≢ pos 0)
+nonzero_or x = go (int_eq x (pos 0)) refl
+  where
+    clash : true ≡ false → ⊥
+    clash q = cc
+
+    go : (b : Bool) → int_eq x (pos 0) ≡ b → (x ≡ pos 0) ⊎ (x ≢ pos 0)
+    go true e = inl ((Decides-int_eq x (pos 0)).0 e)
+    go false e = inr (λ z. clash (sym ((Decides-int_eq x (pos 0)).1 z) ∙ e))

@@ -1,0 +1,112 @@
+-- What reductions by resolved rules leave.
+use Rattle.std.proofs.Common.{◌≡◌, ◌≢◌, ◌⊎◌, inl, inr, ℕ, ℤ, pos, negsuc, ◌+ℤ◌, ◌*ℤ◌, List, [], ◌++◌, length, sym, ◌∙◌, subst, arith}
+use Rattle.std.specs.List.{All}
+use Rattle.std.proofs.lemmas.Int.{ints}
+use Rattle.std.proofs.lemmas.List.Elements.{All-weaker, recursion_from_All}
+use Rattle.definitions.specs.Poly.{Word, Term, coefficient_of}
+use Rattle.definitions.proofs.Coefficients.{coefficient_of-append, coefficient_of-multiple}
+use Rattle.word_core.specs.Letters.{IsOver}
+use Rattle.word_core.specs.Occurrence.{OccursNowhere}
+use Rattle.word_orders.specs.Admissible.{Compare}
+use Rattle.word_orders.specs.Orders.{Order, IsBelow}
+use Rattle.word_orders.proofs.Orders.{order_from_laws, below_less}
+use Rattle.cofactor_trace.specs.Traces.{traced_sum}
+use Rattle.rule_reduce.specs.declared.rule.Rule.{Rule}
+use Rattle.rule_reduce.specs.declared.state.State.{State}
+use Rattle.rule_reduce.specs.RuleLists.{polynomials_of}
+use Rattle.rule_reduce.specs.Laws.{IsIrreducible}
+use Rattle.rule_reduce.specs.KeptWords.{IsAtMostOf}
+use Rattle.rule_reduce.proofs.Balance.{reductions_balance}
+use Rattle.rule_reduce.proofs.Irreducible.{rests_are_irreducible}
+use Rattle.rule_reduce.proofs.KeptWordLaws.{words_stay_below}
+use Rattle.rule_reduce.proofs.Multipliers.{multipliers_are_positive}
+use Rattle.rule_reduce.proofs.Numbers.{rule_at-all}
+use Rattle.rule_reduce.proofs.RowsByRules.{rows_are_by_rules}
+use Rattle.rule_reduce.proofs.WordsKept.{words_with_coefficients}
+use Rattle.confluence.specs.Reductions.{IsNonzero, IsZero, IsReduced, NormalFormsAreReduced}
+use Rattle.confluence.specs.Reducible.{IsReducible, HasReducibleGreatest, RestsBelowAreZero, RestsOfIdealAreZero}
+use Rattle.confluence.proofs.Integers.{nonzero_or}
+use Rattle.confluence.proofs.Spans.{Span, span_same, span_add, span_scale}
+use Rattle.confluence.proofs.Outside.{span_word}
+use Rattle.confluence.proofs.Resolve.{below}
+use Rattle.confluence.proofs.SumRows.{Numbered, listed, combination_span, combination_from}
+use Rattle.confluence.proofs.FreeRows.{Free, free_rows, in_ideal}
+use Rattle.confluence.proofs.TracedRows.{IsAsked, numbered_rows}
+use Rattle.confluence.proofs.ResolvedOf.{comes_from_below, below_from_comes}
+use Rattle.confluence.proofs.ReducibleLaws.{ordered, below_span, reducible_below, reducible_in_ideal}
+
+pub normal_forms_are_reduced : NormalFormsAreReduced
+normal_forms_are_reduced letters compare rank rules p steps s laws are shaped over ends = record {
+  positive = multipliers_are_positive letters compare rules p steps s are ends;
+  balances = reductions_balance compare rules p steps s ends;
+  by_rules = rows_are_by_rules compare rules p steps s ends;
+  words = words_stay_below letters compare rank rules p steps s laws are shaped over ends;
+  irreducible = rests_are_irreducible compare rules p steps s ends;
+}
+
+-- no word of an irreducible polynomial is reducible
+pub not_reducible : (rules : List Rule) (p : List Term) → IsIrreducible rules p → (w : Word) → coefficient_of p w ≢ pos 0 → IsReducible rules w → ⊥
+not_reducible rules p irreducible w some reducible =
+    let nowhere = words_with_coefficients (λ v. All (λ g. OccursNowhere v g.lead) rules) p (recursion_from_All (λ (t : Term). All (λ g. OccursNowhere t.1 g.lead) rules) p irreducible) w some in
+    rule_at-all (λ g. OccursNowhere w g.lead) rules reducible.number reducible.rule reducible.numbered nowhere reducible.place reducible.occurs
+
+module _ (letters : ℕ) (compare : Compare) (rules : List Rule) (p : List Term) (s : State) (reduced : IsReduced letters compare rules p s) where
+  -- without a reducible greatest word the rest is zero
+  zero_rest : (IsNonzero s.rest → HasReducibleGreatest letters compare rules s.rest) → IsZero s.rest
+  zero_rest greatest = record { at = λ w. go w (nonzero_or (coefficient_of s.rest w)) }
+    where
+      go : (w : Word) → (coefficient_of s.rest w ≡ pos 0) ⊎ (coefficient_of s.rest w ≢ pos 0) → coefficient_of s.rest w ≡ pos 0
+      go w (inl zero) = zero
+      go w (inr some) = let top = greatest (record { word = w; occurs = some }) in absurd (not_reducible rules s.rest reduced.irreducible top.word top.occurs top.reducible)
+
+  -- the rest is the multiple of the polynomial less the rows
+  pub rest_is : (w : Word) → coefficient_of s.rest w ≡ s.multiplier *ℤ coefficient_of p w +ℤ negsuc 0 *ℤ coefficient_of (traced_sum [] (polynomials_of rules) s.rows) w
+  rest_is w = less (coefficient_of s.rest w) (s.multiplier *ℤ coefficient_of p w) (coefficient_of (traced_sum [] (polynomials_of rules) s.rows) w) (sym (coefficient_of-multiple s.multiplier p w) ∙ reduced.balances.at w ∙ coefficient_of-append s.rest (traced_sum [] (polynomials_of rules) s.rows) w)
+    where
+      less : (r m t : ℤ) → m ≡ r +ℤ t → r ≡ m +ℤ negsuc 0 *ℤ t
+      less r m t e = omega (arith, ints, e)
+
+  pub rest_span : (Asked : Word → Type 0) → ((w : Word) → IsAtMostOf letters compare p w → Asked w) → Span (Numbered (polynomials_of rules) Asked) (coefficient_of p) → Span (Numbered (polynomials_of rules) Asked) (coefficient_of s.rest)
+  rest_span Asked asked sp =
+      let Base = Numbered (polynomials_of rules) Asked in
+      let rows = numbered_rows (polynomials_of rules) Asked (length rules) s.rows reduced.by_rules
+      (All-weaker (IsAsked (polynomials_of rules) (IsAtMostOf letters compare p)) (IsAsked (polynomials_of rules) Asked) (λ row each w some. asked (row.left ++ (w ++ row.right)) (each w some)) s.rows reduced.words.rows) in
+      span_same Base _ (coefficient_of s.rest) (span_add Base _ _ (span_scale Base s.multiplier (coefficient_of p) sp) (span_scale Base (negsuc 0) (coefficient_of (traced_sum [] (polynomials_of rules) s.rows)) rows)) rest_is
+
+pub rests_of_ideal_are_zero : RestsOfIdealAreZero
+rests_of_ideal_are_zero letters compare rank rules p s laws are resolved inside over reduced =
+    let polys = polynomials_of rules in
+    let rest_inside = in_ideal polys s.rest (rest_span letters compare rules p s reduced Free (λ w most. tt) (combination_span polys Free inside.rows inside.denominator p inside.combination (free_rows polys inside.rows))) in
+    zero_rest letters compare rules p s reduced (reducible_in_ideal letters compare rank rules s.rest laws are resolved rest_inside (record { at = λ w some. of_word w (reduced.words.rest w some) }))
+  where
+    of_word : (w : Word) → IsAtMostOf letters compare p w → IsOver letters w
+    of_word w most = go most.at_most
+      where
+        go : (w ≡ most.word) ⊎ IsBelow letters compare w most.word → IsOver letters w
+        go (inl same) = subst (IsOver letters) (sym same) (over.at most.word most.occurs)
+        go (inr below) = below.left
+
+pub rests_below_are_zero : RestsBelowAreZero
+rests_below_are_zero letters compare rank rules bound p s laws are resolved comes reduced =
+    let polys = polynomials_of rules in
+    let c = comes_from_below letters compare rank laws polys bound p comes in
+    let sp = combination_span polys (λ w. o.Less w bound) c.rows c.multiplier p c.combination c.within in
+    let rest_comes = combination_from polys (λ w. o.Less w bound) s.rest (listed polys (λ w. o.Less w bound) (coefficient_of s.rest) (rest_span letters compare rules p s reduced (λ w. o.Less w bound) of_word sp)) in
+    zero_rest letters compare rules p s reduced (reducible_below letters compare rank rules bound s.rest laws are resolved (below_from_comes letters compare rank laws polys bound s.rest rest_comes))
+  where
+    o : Order
+    o = order_from_laws letters compare rank laws
+
+    own : (v : Word) → coefficient_of p v ≢ pos 0 → (order_from_laws letters compare rank laws).Less v bound
+    own v some = pick (span_word (order_from_laws letters compare rank laws) (ordered letters compare rank laws rules are) (below (order_from_laws letters compare rank laws) bound) (coefficient_of p) (below_span letters compare rank laws rules are bound p comes) v)
+      where
+        pick : (coefficient_of p v ≡ pos 0) ⊎ ((order_from_laws letters compare rank laws).Range v × (order_from_laws letters compare rank laws).Less v bound) → (order_from_laws letters compare rank laws).Less v bound
+        pick (inl zero) = absurd (some zero)
+        pick (inr held) = held.1
+
+    of_word : (w : Word) → IsAtMostOf letters compare p w → (order_from_laws letters compare rank laws).Less w bound
+    of_word w most = go most.at_most
+      where
+        go : (w ≡ most.word) ⊎ IsBelow letters compare w most.word → (order_from_laws letters compare rank laws).Less w bound
+        go (inl same) = subst (λ v. (order_from_laws letters compare rank laws).Less v bound) (sym same) (own most.word most.occurs)
+        go (inr less) = (order_from_laws letters compare rank laws).less_trans w most.word bound (below_less letters compare rank laws w most.word less) (own most.word most.occurs)

@@ -1,0 +1,4 @@
+pub use Rattle.ambiguities.specs.Resolved
+pub mod Reductions
+pub mod Reducible
+pub mod Places

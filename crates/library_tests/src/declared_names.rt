@@ -1,0 +1,147 @@
+//! The names of statement files: what they stand for, and what abbreviations are written out as.
+use crate::texts::{same, tree_of};
+use quiver::Quiver;
+use statement_names::{Names, abbreviation, read_names};
+use statement_syntax::Tree;
+use std::alloc::Global;
+use std::test::Fail;
+use word_orders::OrderSpec;
+
+// All that the names of a file stand for.
+fn told(alloc: Global, names: &Names) -> Result<String, Fail> {
+    let mut text = format!(in alloc;
+        "objects {} letters {} starred {} marked {:?} solved {:?} order ",
+        names.quiver.objects(),
+        names.quiver.letters(),
+        names.starred,
+        names.marked.as_slice(),
+        names.solved.as_slice(),
+    )?;
+    match &names.order {
+        OrderSpec::Degree => text.push_str("degree")?,
+        OrderSpec::Weight(weights) => text.push_str(format!(in alloc;
+            "{:?}",
+            weights.as_slice()
+        )?.as_str())?,
+        OrderSpec::Block(block) => text.push_str(format!(in alloc;
+            "{:?}",
+            block.as_slice()
+        )?.as_str())?,
+    }
+    for shape in names.shapes.as_slice() {
+        text.push_str(format!(in alloc;
+            " shape {} {:?}",
+            shape.modulus,
+            shape.sides.as_slice()
+        )?.as_str())?;
+    }
+    Ok(text)
+}
+
+type Row = (&'static str, &'static str);
+
+const FILES: [Row; 15] = [
+    (
+        "object U V\nmap a : U -> V\nmap x : V -> U\nmap p : U -> U self\npinv a x\nclaim p = p [U]\norder weight p 3 a 2\nsolve a\nmodel 3 V 2\n",
+        "objects 2 letters 7 starred true marked [Object(0)] solved [Letter(2), Letter(4)] order [(Letter(6), 3), (Letter(2), 2), (Letter(3), 2)] shape 3 [1, 2]",
+    ),
+    (
+        "object U V\nmap a : U -> V\nmap b : V -> U\ninverse a b",
+        "objects 2 letters 6 starred false marked [Object(0), Object(1)] solved [Letter(4)] order degree shape 2 [1, 1] shape 2 [2, 2]",
+    ),
+    (
+        "object V",
+        "objects 1 letters 1 starred false marked [] solved [] order degree shape 2 [1] shape 2 [2]",
+    ),
+    (
+        "object U\nmap self : U -> U\nclaim self = 0",
+        "objects 1 letters 3 starred false marked [] solved [] order degree shape 2 [1] shape 2 [2]",
+    ),
+    (
+        "object U\nmap p : U -> U self",
+        "objects 1 letters 2 starred true marked [] solved [] order degree shape 2 [1] shape 2 [2]",
+    ),
+    (
+        "object U\nmap a : U -> U\nclaim a = (a a)'",
+        "objects 1 letters 3 starred true marked [] solved [] order degree shape 2 [1] shape 2 [2]",
+    ),
+    (
+        "object U\nmap a : U -> U\nassume a' = a",
+        "objects 1 letters 3 starred true marked [] solved [] order degree shape 2 [1] shape 2 [2]",
+    ),
+    (
+        "object U\nmap a : U -> U\npinv a a",
+        "objects 1 letters 3 starred true marked [] solved [Letter(1)] order degree shape 2 [1] shape 2 [2]",
+    ),
+    (
+        "object U\nmap a : U -> U\nprojection a",
+        "objects 1 letters 3 starred true marked [] solved [] order degree shape 2 [1] shape 2 [2]",
+    ),
+    (
+        "object U\nmap a : U -> U\ninverse a a\ninner a a",
+        "objects 1 letters 3 starred false marked [Object(0)] solved [Letter(1)] order degree shape 2 [1] shape 2 [2]",
+    ),
+    (
+        "object U V W\nmap a : U -> V\nclaim [W] = [U]",
+        "objects 3 letters 5 starred false marked [Object(0), Object(2)] solved [] order degree shape 2 [1, 1, 1] shape 2 [2, 2, 2]",
+    ),
+    (
+        "object U V W\nmap a : U -> V\nclaim a (a + 0 - [V] (a [U]))' = a",
+        "objects 3 letters 5 starred true marked [Object(0), Object(1)] solved [] order degree shape 2 [1, 1, 1] shape 2 [2, 2, 2]",
+    ),
+    (
+        "object U V W\nmap a : U -> V\nassume a = 2 [V]'",
+        "objects 3 letters 5 starred true marked [Object(1)] solved [] order degree shape 2 [1, 1, 1] shape 2 [2, 2, 2]",
+    ),
+    (
+        "object U V W\nmap a : U -> V\ninverse a a",
+        "objects 3 letters 5 starred false marked [Object(0), Object(1)] solved [Letter(3)] order degree shape 2 [1, 1, 1] shape 2 [2, 2, 2]",
+    ),
+    (
+        "object U V W\nmap a : U -> V\npinv a a",
+        "objects 3 letters 5 starred true marked [] solved [Letter(3)] order degree shape 2 [1, 1, 1] shape 2 [2, 2, 2]",
+    ),
+];
+
+#[test]
+fn names_are_numbered_and_read(rt: HostRuntime) -> Result<(), Fail> {
+    for (text, want) in FILES {
+        let names = read_names(rt.alloc(), &tree_of(rt.alloc(), text)?)?;
+        let got = told(rt.alloc(), &names)?;
+        same(&rt, got.as_str(), want, text);
+    }
+    Ok(())
+}
+
+// Statements, and for each equation that they stand for the place of its left side and the number of terms on its right.
+const ABBREVIATIONS: [Row; 6] = [
+    ("  pinv a x", "1.3.1 1.3.1 1.3.1 1.3.1 "),
+    ("inverse a x", "1.1.1 1.1.1 "),
+    ("inner a b", "1.1.1 "),
+    ("projection a", "1.1.1 1.1.1 "),
+    ("assume a = x", ""),
+    ("solve a", ""),
+];
+
+fn equations_text(alloc: Global, quiver: &Quiver, tree: &Tree) -> Result<String, Fail> {
+    let mut text = String::new(alloc);
+    for statement in tree.statements.as_slice() {
+        for equation in abbreviation(alloc, quiver, statement)?.as_slice() {
+            let at = equation.left.at;
+            let terms = equation.right.terms.len();
+            text.push_str(format!(in alloc; "{}.{}.{terms} ", at.line, at.column)?.as_str())?;
+        }
+    }
+    Ok(text)
+}
+
+#[test]
+fn abbreviations_are_written_out(rt: HostRuntime) -> Result<(), Fail> {
+    let quiver = Quiver::new(rt.alloc())?;
+    for (text, want) in ABBREVIATIONS {
+        let tree = tree_of(rt.alloc(), text)?;
+        let got = equations_text(rt.alloc(), &quiver, &tree)?;
+        same(&rt, got.as_str(), want, text);
+    }
+    Ok(())
+}

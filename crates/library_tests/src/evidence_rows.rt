@@ -1,0 +1,209 @@
+//! Texts of evidence, worked out by hand from the grammar: each with what is written back of it or its first fault.
+use crate::texts::Piece::Plain;
+use crate::texts::Repeated;
+
+/// A text, and what is told of it.
+pub type Row = (&'static str, &'static str);
+
+const PROVED: &str =
+    "certificate 1\nclaim 1\ndenominator 1\nrow 1 () 1 (r)\nrow -1 (l) 2 ()\nrow 1 () 6 ()\nrow -1 () 8 ()\nend\n";
+
+const LETTERS: &str =
+    "certificate 1\nclaim 7\ndenominator 0\nrow 0 ([U] [V] a a' p) 4294967295 (жар_2 жар_2' 日)\nend\n";
+
+const LARGE: &str =
+    "certificate 1\nclaim 0\ndenominator 170141183460469231731687303715884105727\nrow -170141183460469231731687303715884105727 () 0 ()\nend\n";
+
+/// A certificate without rows.
+pub const EMPTY: &str = "certificate 1\nclaim 1\ndenominator 2\nend\n";
+
+const TWO: &str =
+    "certificate 1\nclaim 1\ndenominator 2\nend\ncertificate 1\nclaim 1\ndenominator 2\nend\n";
+
+/// Certificates that are read, with and without blanks, comments and blocks of other kinds.
+pub const CERTIFICATES: &[Row] = &[
+    (PROVED, PROVED),
+    (LETTERS, LETTERS),
+    (LARGE, LARGE),
+    (EMPTY, EMPTY),
+    (TWO, TWO),
+    // no LF at the end, CR LF, tabs and blanks, tight brackets, leading zeros, comments and blank lines everywhere
+    ("certificate 1\nclaim 1\ndenominator 2\nend", EMPTY),
+    (
+        "certificate 1\r\nclaim 1\r\ndenominator 2\r\nend\r\n",
+        EMPTY,
+    ),
+    (
+        "\tcertificate\t \t1 \n claim  1\ndenominator 2\t\nend ",
+        EMPTY,
+    ),
+    (
+        "certificate 1\nclaim 1\ndenominator 1\nrow 1()1(r)\nrow\t-1(\tl)2( )\nrow 01 ()006()\nrow -0001 () 8 ()\nend\n",
+        PROVED,
+    ),
+    (
+        "#\u{1}\n\ncertificate 1\n  # end\nclaim 01\n\t\ndenominator 002\n#\nend\n# \r#\n",
+        EMPTY,
+    ),
+    // [V]' is [V], and p' is p
+    (
+        "certificate 1\nclaim 7\ndenominator 0\nrow -0 ([U]' [V] a a' p') 4294967295 (жар_2 жар_2' 日)\nend\n",
+        LETTERS,
+    ),
+    // blocks of other kinds
+    (
+        "basis 1\nclaim 0x\nend 1\n # x\nrule certificate 1\nend\ncertificate 1\nclaim 1\ndenominator 2\nend\nmodel\nend\n",
+        EMPTY,
+    ),
+    (
+        "certificate 1\nclaim 1\ndenominator 2\nend\nbasis = ) claim\ncertificate 1\nmodel 1\nend\ncertificate 1\nclaim 1\ndenominator 2\nend\n",
+        TWO,
+    ),
+];
+
+/// The first fault of a text.
+pub const FAULTS: &[Row] = &[
+    ("x", "K2 in line 1, limit 0"),
+    ("# one\n\n\tcertificate 01\n", "K2 in line 3, limit 0"),
+    ("certificate\n", "K2 in line 1, limit 0"),
+    ("certificate 1 1\n", "K2 in line 1, limit 0"),
+    ("Certificate 1\n", "K2 in line 1, limit 0"),
+    ("end\n", "K2 in line 1, limit 0"),
+    ("certificate 1\r", "K2 in line 1, limit 0"),
+    ("certificate 1\r\r\n", "K2 in line 1, limit 0"),
+    ("certificate 1\nmodel 1\nend\n", "K2 in line 2, limit 0"),
+    ("certificate 1\nclaim\n", "K2 in line 2, limit 0"),
+    ("certificate 1\nclaim -1\n", "K2 in line 2, limit 0"),
+    ("certificate 1\nclaim 1 1\n", "K2 in line 2, limit 0"),
+    ("certificate 1\nclaim 4294967296\n", "K4 in line 2, limit 0"),
+    (
+        "certificate 1\nclaim 00004294967295\nx\n",
+        "K2 in line 3, limit 0",
+    ),
+    (
+        "certificate 1\nclaim 1\ndenominator\n",
+        "K2 in line 3, limit 0",
+    ),
+    (
+        "certificate 1\nclaim 1\ndenominator -1\n",
+        "K2 in line 3, limit 0",
+    ),
+    (
+        "certificate 1\nclaim 1\nrow 1 () 1 ()\n",
+        "K2 in line 3, limit 0",
+    ),
+    ("certificate 1\nclaim 1\nend\n", "K2 in line 3, limit 0"),
+    (
+        "certificate 1\nclaim 1\ndenominator 170141183460469231731687303715884105728\n",
+        "K4 in line 3, limit 0",
+    ),
+    (
+        "certificate 1\nclaim 1\ndenominator 1\nend\nend\n",
+        "K2 in line 5, limit 0",
+    ),
+    ("certificate 1", "K6 in line 0, limit 0"),
+    (
+        "certificate 1\nclaim 1\ndenominator 1\nrow 1 () 1 ()\n",
+        "K6 in line 0, limit 0",
+    ),
+    (
+        "certificate 1\nclaim 1\ndenominator 1\nend\nmodel 1\nend 1\n",
+        "K6 in line 0, limit 0",
+    ),
+    ("basis 1\n", "K6 in line 0, limit 0"),
+    ("", "K7 in line 0, limit 0"),
+    ("# claim 1 proved\n\n \t\n", "K7 in line 0, limit 0"),
+    ("basis 1\nend\nmodel 1\nend\n", "K7 in line 0, limit 0"),
+];
+
+/// Bytes that are not UTF-8, which come before all other faults.
+pub const NOT_UTF8: &[(&[u8], &str)] = &[
+    (
+        b"certificate 1\nclaim 1\ndenominator 1\nend\n\xff",
+        "K1 in line 0, limit 0",
+    ),
+    (b"x\n# \xc3", "K1 in line 0, limit 0"),
+];
+
+/// The lines before the rows of a certificate.
+pub const HEAD: &str = "certificate 1\nclaim 1\ndenominator 1\n";
+
+/// A row of a certificate in its fourth line, and its least fault.
+pub const ROWS: &[Row] = &[
+    ("claim 1", "K2 in line 4, limit 0"),
+    ("row", "K2 in line 4, limit 0"),
+    ("row 1 1 ()", "K2 in line 4, limit 0"),
+    ("row 1 () 1", "K2 in line 4, limit 0"),
+    ("row 1 () 1 (", "K2 in line 4, limit 0"),
+    ("row 1 () 1 ()()", "K2 in line 4, limit 0"),
+    ("row 1 (() 1 ()", "K2 in line 4, limit 0"),
+    ("row 1 (a;a) 1 ()", "K2 in line 4, limit 0"),
+    ("row + () 1 ()", "K2 in line 4, limit 0"),
+    ("row - () 1 ()", "K2 in line 4, limit 0"),
+    ("row --1 () 1 ()", "K2 in line 4, limit 0"),
+    ("row 1 () -1 ()", "K2 in line 4, limit 0"),
+    ("row 1 ([U) 1 ()", "K2 in line 4, limit 0"),
+    ("row 1 ([]) 1 ()", "K2 in line 4, limit 0"),
+    ("row 1 ([ U ]) 1 ()", "K2 in line 4, limit 0"),
+    ("row 1 (a '') 1 ()", "K2 in line 4, limit 0"),
+    ("row 1 (a'') 1 ()", "K2 in line 4, limit 0"),
+    ("row 1 (2a) 1 ()", "K2 in line 4, limit 0"),
+    ("row 1 (x 2a) 4294967296 ()", "K2 in line 4, limit 0"),
+    (
+        "row 1 (abcdefghijklmnopqrstuvwxyz_012345) 1 ()",
+        "K2 in line 4, limit 0",
+    ),
+    (
+        "row 1 ([abcdefghijklmnopqrstuvwxyz_01234]') 1 ()",
+        "K3 in line 4, limit 0",
+    ),
+    ("row 1 (_) 1 ()", "K3 in line 4, limit 0"),
+    ("row 1 (U) 1 ()", "K3 in line 4, limit 0"),
+    ("row 1 () 1 (r [a])", "K3 in line 4, limit 0"),
+    ("row 1 () 4294967296 (U')", "K3 in line 4, limit 0"),
+    ("row 1 () 4294967296 ()", "K4 in line 4, limit 0"),
+    (
+        "row -170141183460469231731687303715884105728 () 1 ()",
+        "K4 in line 4, limit 0",
+    ),
+    ("end 1", "K2 in line 4, limit 0"),
+    ("end # end", "K2 in line 4, limit 0"),
+];
+
+/// Limits that are passed, of the letters of a word, of rows and of blocks.
+pub const LIMITS: &[Repeated] = &[
+    (
+        "certificate 1\nclaim 1\ndenominator 1\nrow 1 (",
+        Plain("a "),
+        501,
+        ") 1 ()\n",
+        "K5 in line 4, limit 500",
+    ),
+    (
+        "certificate 1\nclaim 1\ndenominator 1\nrow 1 () 1 (",
+        Plain("a "),
+        501,
+        ")\n",
+        "K5 in line 4, limit 500",
+    ),
+    (
+        "certificate 1\nclaim 1\ndenominator 1\n",
+        Plain("row 1()1()\n"),
+        200_001,
+        "end\n",
+        "K5 in line 200004, limit 200000",
+    ),
+    ("", Plain(EMPTY), 101, "", "K5 in line 401, limit 100"),
+];
+
+/// Words by the numbers of their letters.
+pub const WORDS: &[(&[u16], &str)] = &[(&[0, 1, 2, 3, 8, 9, 10], "[U] [V] a a' p жар_2 жар_2'")];
+
+/// Polynomials by their terms.
+pub const WRITTEN: &[(&[(i128, &[u16])], &str)] = &[
+    (&[], "0"),
+    (
+        &[(5, &[2, 3, 4]), (-2, &[1]), (1, &[8]), (-1, &[3])],
+        "5 a a' l + p - a' - 2 [V]",
+    ),
+];

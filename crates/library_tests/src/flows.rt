@@ -1,0 +1,265 @@
+//! Shelves and sinks, in memory and of the machine.
+use flow_io::{
+    MemoryShelf, MemorySink, PutFault, RealShelf, RealSink, Shelf, ShelfFault, Sink, SinkFault,
+    put_all,
+};
+use lists::{Listing, Text};
+use std::alloc::{AllocError, Allocator, Global};
+use std::fs::{self, Metadata, OpenFile, OpenOptions};
+use std::io::{self, ErrorKind, Read, Seek, SeekFrom, Write};
+use std::rt::Files;
+use std::test::Fail;
+
+enum Want {
+    Bytes(&'static [u8]),
+    Failed,
+    TooLong(usize),
+}
+
+struct Load {
+    name: &'static str,
+    most: usize,
+    want: Want,
+}
+
+// In the order in which they are made; the second is to fail.
+const LOADS: [Load; 7] = [
+    Load {
+        name: "f",
+        most: 3,
+        want: Want::Bytes(b"abc"),
+    },
+    Load {
+        name: "f",
+        most: 3,
+        want: Want::Failed,
+    },
+    Load {
+        name: "f",
+        most: 2,
+        want: Want::TooLong(3),
+    },
+    Load {
+        name: "g",
+        most: 3,
+        want: Want::Failed,
+    },
+    Load {
+        name: "empty",
+        most: 0,
+        want: Want::Bytes(b""),
+    },
+    Load {
+        name: "f",
+        most: 0,
+        want: Want::TooLong(1),
+    },
+    Load {
+        name: "f",
+        most: 100,
+        want: Want::Bytes(b"abc"),
+    },
+];
+
+// A shelf with the files `f`, which holds `abc`, and `empty`.
+fn two_files(alloc: Global, failing: &[u64]) -> Result<MemoryShelf, AllocError> {
+    let mut files = Listing::new(alloc);
+    let first = Listing::from_vec(b"abc".to_vec(alloc)?);
+    files.push((Text::from_str(alloc, "f")?, first))?;
+    files.push((Text::from_str(alloc, "empty")?, Listing::new(alloc)))?;
+    MemoryShelf::new(alloc, files, Listing::from_vec(failing.to_vec(alloc)?))
+}
+
+fn is_wanted(got: &Result<Vec<u8>, ShelfFault>, want: &Want) -> bool {
+    match (got, want) {
+        (Ok(bytes), Want::Bytes(wanted)) => bytes.as_slice() == *wanted,
+        (Err(ShelfFault::Failed), Want::Failed) => true,
+        (Err(ShelfFault::TooLong { got }), Want::TooLong(wanted)) => got == wanted,
+        _ => false,
+    }
+}
+
+#[test]
+fn a_shelf_in_memory_gives_its_files(rt: HostRuntime) -> Result<(), Fail> {
+    let alloc = rt.alloc();
+    let mut shelf = two_files(alloc, &[2])?;
+    for (place, load) in LOADS.iter().enumerate() {
+        let got = shelf.load(alloc, load.name, load.most);
+        assert!(rt;
+            is_wanted(&got, &load.want),
+            "load {} of {}",
+            place + 1,
+            load.name
+        );
+    }
+    Ok(())
+}
+
+#[test]
+fn a_sink_in_memory_fails_where_it_is_to(rt: HostRuntime) -> Result<(), Fail> {
+    let alloc = rt.alloc();
+    let failing = Listing::from_vec([3, 5].to_vec(alloc)?);
+    let mut sink = MemorySink::new(alloc, 2, 9, failing)?;
+    assert_eq!(rt; put_all(&mut sink, b""), Ok(()));
+    assert_eq!(rt;
+        put_all(&mut sink, b"abcdef"),
+        Err(PutFault::Failed { written: 4 })
+    );
+    assert_eq!(rt; sink.bytes(), b"abcd".as_slice());
+    assert_eq!(rt; put_all(&mut sink, b"xy"), Ok(()));
+    assert_eq!(rt; sink.finish(), Err(SinkFault::Failed));
+    assert!(rt; !sink.finished());
+    assert_eq!(rt; sink.finish(), Ok(()));
+    assert!(rt; sink.finished());
+    // Three bytes of room are left.
+    assert_eq!(rt;
+        put_all(&mut sink, b"1234"),
+        Err(PutFault::Failed { written: 2 })
+    );
+    assert_eq!(rt; sink.bytes(), b"abcdxy12".as_slice());
+    assert!(rt; !sink.finished());
+    Ok(())
+}
+
+#[test]
+fn files_of_the_machine_are_read_whole(rt: HostRuntime) -> Result<(), Fail> {
+    let alloc = rt.alloc();
+    let name = "flow_io_test_file";
+    let bytes = vec![in alloc; b'x'; 20_000]?;
+    fs::write(&rt, name, bytes.as_slice())?;
+    let mut shelf = RealShelf::new(rt);
+    let whole = shelf.load(alloc, name, 20_000);
+    let long = shelf.load(alloc, name, 19_999);
+    fs::remove_file(&rt, name)?;
+    let missing = shelf.load(alloc, name, 20_000);
+    assert!(rt; matches!(&whole, Ok(read) if read == &bytes));
+    assert!(rt; matches!(long, Err(ShelfFault::TooLong { got: 20_000 })));
+    assert!(rt; matches!(missing, Err(ShelfFault::Failed)));
+    Ok(())
+}
+
+#[test]
+fn standard_output_takes_all_bytes(rt: HostRuntime) -> Result<(), Fail> {
+    let mut sink = RealSink::new(rt);
+    assert_eq!(rt; put_all(&mut sink, b"put\n"), Ok(()));
+    assert_eq!(rt; sink.finish(), Ok(()));
+    Ok(())
+}
+
+// Reads so many bytes, one a call, and then fails.
+#[derive(Drop)]
+struct Broken {
+    left: u8,
+}
+
+fn unsupported() -> io::Error {
+    io::Error::from(ErrorKind::Unsupported)
+}
+
+impl Read for Broken {
+    fn read(&mut self, buf: &mut [u8]) -> io::Result<usize> {
+        if self.left == 0 {
+            return Err(io::Error::from(ErrorKind::BrokenPipe));
+        }
+        if buf.is_empty() {
+            return Ok(0);
+        }
+        self.left -= 1;
+        buf[0] = b'x';
+        Ok(1)
+    }
+}
+
+impl Write for Broken {
+    fn write(&mut self, _buf: &[u8]) -> io::Result<usize> {
+        Err(unsupported())
+    }
+
+    fn flush(&mut self) -> io::Result<()> {
+        Err(unsupported())
+    }
+}
+
+impl Seek for Broken {
+    fn seek(&mut self, _to: SeekFrom) -> io::Result<u64> {
+        Err(unsupported())
+    }
+}
+
+impl OpenFile for Broken {
+    fn metadata(&self) -> io::Result<Metadata> {
+        Err(unsupported())
+    }
+
+    fn set_len(&self, _size: u64) -> io::Result<()> {
+        Err(unsupported())
+    }
+
+    fn sync_all(&self) -> io::Result<()> {
+        Err(unsupported())
+    }
+
+    fn sync_data(&self) -> io::Result<()> {
+        Err(unsupported())
+    }
+}
+
+// A machine each of whose files fails after three bytes.
+#[derive(Drop)]
+struct BrokenFiles;
+
+impl Files for BrokenFiles {
+    type File = Broken;
+
+    type Dir = Broken;
+
+    fn open_file(&self, _how: &OpenOptions, _path: &str) -> io::Result<Broken> {
+        Ok(Broken { left: 3 })
+    }
+
+    fn open_dir(&self, _path: &str) -> io::Result<Broken> {
+        Err(unsupported())
+    }
+
+    fn metadata(&self, _path: &str) -> io::Result<Metadata> {
+        Err(unsupported())
+    }
+
+    fn symlink_metadata(&self, _path: &str) -> io::Result<Metadata> {
+        Err(unsupported())
+    }
+
+    fn copy(&self, _from: &str, _to: &str) -> io::Result<u64> {
+        Err(unsupported())
+    }
+
+    fn rename(&self, _from: &str, _to: &str) -> io::Result<()> {
+        Err(unsupported())
+    }
+
+    fn remove_file(&self, _path: &str) -> io::Result<()> {
+        Err(unsupported())
+    }
+
+    fn create_dir(&self, _path: &str) -> io::Result<()> {
+        Err(unsupported())
+    }
+
+    fn remove_dir(&self, _path: &str) -> io::Result<()> {
+        Err(unsupported())
+    }
+
+    fn remove_dir_all<B: Allocator>(&self, _alloc: B, _path: &str) -> io::Result<()> {
+        Err(unsupported())
+    }
+}
+
+#[test]
+fn a_read_that_fails_in_mid_stream_is_no_file(rt: HostRuntime) -> Result<(), Fail> {
+    let mut shelf = RealShelf::new(BrokenFiles);
+    let failed = shelf.load(rt.alloc(), "f", 9);
+    assert!(rt; matches!(failed, Err(ShelfFault::Failed)));
+    let past = shelf.load(rt.alloc(), "f", 2);
+    assert!(rt; matches!(past, Err(ShelfFault::TooLong { got: 3 })));
+    Ok(())
+}

@@ -1,0 +1,223 @@
+//! Quivers: numbers and names of letters, refused declarations, and signatures.
+use crate::texts::{all_over, is_over, word};
+use nc_polynomial::{Poly, PolyFault};
+use quiver::{Named, Quiver, QuiverFault, Sig};
+use std::alloc::{AllocError, Global};
+use std::test::Fail;
+use word_core::{Letter, Object};
+
+// The objects U and V, a map a : U -> V and a map p : V -> V that is its own adjoint.
+fn small(alloc: Global) -> Result<Quiver, QuiverFault> {
+    let mut quiver = Quiver::new(alloc)?;
+    let first = quiver.add_object("U")?;
+    let second = quiver.add_object("V")?;
+    quiver.add_map("a", first, second, false)?;
+    quiver.add_map("p", second, second, true)?;
+    Ok(quiver)
+}
+
+fn signature(source: u16, target: u16) -> Sig {
+    Sig {
+        source: Object(source),
+        target: Object(target),
+    }
+}
+
+// The sum of the words.
+fn sum(alloc: Global, words: &[&[u16]]) -> Result<Poly, PolyFault> {
+    let mut sum = Poly::zero(alloc);
+    for letters in words {
+        let term = Poly::from_terms(alloc, &[(1, word(alloc, letters)?)])?;
+        sum = sum.add(&term)?;
+    }
+    Ok(sum)
+}
+
+#[test]
+fn letters_are_numbered_in_the_order_of_declaration(rt: HostRuntime) -> Result<(), Fail> {
+    let quiver = small(rt.alloc())?;
+    assert_eq!(rt; (quiver.objects(), quiver.letters()), (2, 5));
+    let names = [
+        ("U", Some(Named::Object(Object(0)))),
+        ("V", Some(Named::Object(Object(1)))),
+        ("a", Some(Named::Map(Letter(2)))),
+        ("p", Some(Named::Map(Letter(4)))),
+        ("u", None),
+        ("", None),
+    ];
+    for (name, want) in names {
+        assert_eq!(rt; quiver.find(name), want, "{name}");
+    }
+    let letters = [
+        (0, "U", 0, signature(0, 0)),
+        (1, "V", 1, signature(1, 1)),
+        (2, "a", 3, signature(0, 1)),
+        (3, "a", 2, signature(1, 0)),
+        (4, "p", 4, signature(1, 1)),
+    ];
+    for (number, name, star, want) in letters {
+        let letter = Letter(number);
+        assert!(rt; u32::from(letter.0) < quiver.letters());
+        assert_eq!(rt; quiver.letter_name(letter), name, "{number}");
+        assert_eq!(rt; quiver.star_of(letter), Letter(star), "{number}");
+        assert_eq!(rt; quiver.signature_of(letter), want, "{number}");
+    }
+    Ok(())
+}
+
+#[test]
+fn an_object_after_a_map_has_a_later_identity(rt: HostRuntime) -> Result<(), Fail> {
+    let mut quiver = small(rt.alloc())?;
+    quiver.add_object("W")?;
+    for (number, name, identity) in [(0, "U", 0), (1, "V", 1), (2, "W", 5)] {
+        let object = Object(number);
+        assert!(rt; u32::from(object.0) < quiver.objects());
+        assert_eq!(rt; quiver.object_name(object), name);
+        assert_eq!(rt; quiver.identity_of(object), Letter(identity), "{name}");
+    }
+    Ok(())
+}
+
+const DOUBLE: &str = "the name is declared";
+
+// A declaration: the name, and whether it is an object, or else a map between the first two objects that is its own adjoint.
+type Refusal = (&'static str, bool, &'static str);
+
+// What is told of the declaration.
+fn refusal(
+    alloc: Global,
+    quiver: &mut Quiver,
+    name: &str,
+    object: bool,
+) -> Result<String, AllocError> {
+    if quiver.objects() < 2 {
+        return String::from_str(alloc, "there are too few objects");
+    }
+    let answer = if object {
+        quiver.add_object(name).map(|_| ())
+    } else {
+        quiver.add_map(name, Object(0), Object(1), true).map(|_| ())
+    };
+    match answer {
+        Ok(()) => String::from_str(alloc, "declared"),
+        Err(fault) => format!(in alloc; "{fault}"),
+    }
+}
+
+// Quivers with so many objects more, and then with so many maps more from the first object to itself, and what they refuse.
+const REFUSALS: [(u32, u32, &[Refusal]); 3] = [
+    (
+        0,
+        0,
+        &[
+            ("U", true, DOUBLE),
+            ("a", true, DOUBLE),
+            ("V", false, DOUBLE),
+            ("p", false, DOUBLE),
+            ("q", false, "the source and the target differ"),
+        ],
+    ),
+    (
+        62,
+        0,
+        &[("V7", true, DOUBLE), ("W", true, "there are 64 already")],
+    ),
+    (
+        0,
+        198,
+        &[("m7", false, DOUBLE), ("n", false, "there are 200 already")],
+    ),
+];
+
+fn declare(alloc: Global, quiver: &mut Quiver, objects: u32, maps: u32) -> Result<(), QuiverFault> {
+    for number in 0..objects {
+        quiver.add_object(&format!(in alloc; "V{number}")?)?;
+    }
+    for number in 0..maps {
+        if quiver.objects() > 0 {
+            let name = format!(in alloc; "m{number}")?;
+            quiver.add_map(&name, Object(0), Object(0), false)?;
+        }
+    }
+    Ok(())
+}
+
+#[test]
+fn a_refused_declaration_leaves_the_quiver(rt: HostRuntime) -> Result<(), Fail> {
+    let alloc = rt.alloc();
+    for (objects, maps, rows) in &REFUSALS {
+        let mut quiver = small(alloc)?;
+        declare(alloc, &mut quiver, *objects, *maps)?;
+        let letters = quiver.letters();
+        for (name, object, want) in *rows {
+            let got = refusal(alloc, &mut quiver, name, *object)?;
+            assert_eq!(rt; got.as_str(), *want, "{name}");
+        }
+        assert_eq!(rt; quiver.letters(), letters);
+        for name in ["q", "n", "W"] {
+            assert_eq!(rt; quiver.find(name), None, "{name}");
+        }
+    }
+    Ok(())
+}
+
+#[test]
+fn the_last_names_are_found(rt: HostRuntime) -> Result<(), Fail> {
+    let mut quiver = small(rt.alloc())?;
+    declare(rt.alloc(), &mut quiver, 62, 198)?;
+    assert_eq!(rt; quiver.find("V61"), Some(Named::Object(Object(63))));
+    assert_eq!(rt; quiver.find("m197"), Some(Named::Map(Letter(461))));
+    Ok(())
+}
+
+// A polynomial as its words, and its signature.
+type Signed = (&'static [&'static [u16]], Option<Sig>);
+
+const UU: Option<Sig> = Some(Sig {
+    source: Object(0),
+    target: Object(0),
+});
+
+const UV: Option<Sig> = Some(Sig {
+    source: Object(0),
+    target: Object(1),
+});
+
+const VV: Option<Sig> = Some(Sig {
+    source: Object(1),
+    target: Object(1),
+});
+
+// One word, and sums.
+const SIGNED: [Signed; 14] = [
+    (&[&[]], None),
+    (&[&[0]], UU),
+    (&[&[4, 2]], UV),
+    (&[&[3, 4, 2, 0]], UU),
+    (&[&[2, 3]], VV),
+    (&[&[2, 4]], None),
+    (&[&[3, 0, 2]], None),
+    (&[], None),
+    (&[&[2]], UV),
+    (&[&[4, 2], &[2]], UV),
+    (&[&[3, 2], &[0], &[0, 0]], UU),
+    (&[&[4], &[2]], None),
+    (&[&[4, 2], &[4]], None),
+    (&[&[2, 4], &[2]], None),
+];
+
+#[test]
+fn letters_of_a_path_meet_and_words_of_a_polynomial_agree(rt: HostRuntime) -> Result<(), Fail> {
+    let quiver = small(rt.alloc())?;
+    for (words, want) in &SIGNED {
+        let poly = sum(rt.alloc(), words)?;
+        assert!(rt; all_over(&poly, quiver.letters()));
+        assert_eq!(rt; quiver.poly_signature(&poly), *want, "{words:?}");
+        if let [letters] = *words {
+            let path = word(rt.alloc(), letters)?;
+            assert!(rt; is_over(&path, quiver.letters()));
+            assert_eq!(rt; quiver.word_signature(&path), *want, "{words:?}");
+        }
+    }
+    Ok(())
+}

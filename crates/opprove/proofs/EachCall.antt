@@ -1,0 +1,100 @@
+-- Each call has an ending over the contents of its files.
+use Rattle.std.proofs.Common.{◌≡◌, ◌⊎◌, inl, inr, ℕ, ◌+◌, List, [], ◌∷◌, ◌++◌, Some, None, Result, Ok, Err, refl, arith}
+use Rattle.statement_syntax.specs.declared.place.Spot.{Spot}
+use Rattle.statement_syntax.specs.declared.tree.Statement.{Statement}
+use Rattle.statement_syntax.specs.declared.fault.Fault.{Fault}
+use Rattle.statement_syntax.specs.Fault.{IsTreeOf, IsFirstFault, code_of}
+use Rattle.statement_syntax.proofs.EachText.{each_text_is_read}
+use Rattle.quiver.specs.Declarations.{Declaration}
+use Rattle.adjoint_rules.specs.declared.problem.Problem.{Problem}
+use Rattle.signature_typing.specs.declared.fault.TypeFault.{TypeFault}
+use Rattle.signature_typing.specs.declared.fault.TypeFault.TheVariants as typing
+use Rattle.signature_typing.specs.Fault.{IsMemory}
+use Rattle.signature_typing.specs.Typing.{fault_of, IsProblemOf}
+use Rattle.signature_typing.proofs.EachStatement.{each_statement_has_a_problem_or_a_fault}
+use Rattle.cofactor_trace.specs.declared.Certificate.{Certificate}
+use Rattle.cofactor_checker.specs.declared.Refusal.{Refusal}
+use Rattle.cofactor_checker.specs.declared.Refusal.TheVariants as refusal
+use Rattle.cofactor_checker.specs.Acceptance.{Accepts, Refuses}
+use Rattle.cofactor_checker.specs.Acceptance as acceptance
+use Rattle.cofactor_checker.proofs.Judged.{each_certificate_is_judged}
+use Rattle.certificate_text.specs.Evidence.{certificates_of}
+use Rattle.certificate_text.specs.Fault as evidence
+use Rattle.opprove.specs.declared.call.Call.TheVariants.{Check}
+use Rattle.opprove.specs.Ending.{Ending, line, refused_statement, refused_evidence}
+use Rattle.opprove.specs.Texts.{statement_fault, evidence_fault}
+use Rattle.opprove.specs.Refusals.{claim_text, accepted_text, refused_text, cause_text}
+use Rattle.opprove.specs.Statement.{IsRefusedStatement, no_tree, no_problem, typing_text}
+use Rattle.opprove.specs.Statement as statements
+use Rattle.opprove.specs.Blocks.{JudgesFrom, Judges}
+use Rattle.opprove.specs.Blocks as blocks
+use Rattle.opprove.specs.Check.{Question, question_of, AcceptsCertificate, RefusesCertificate, AnswersEvidence, AnswersCheck}
+use Rattle.opprove.specs.Laws.{EachCallHasAnEnding}
+
+-- ---- the blocks
+
+-- a refusal that isn't want of memory has a text
+refusal_text : (ds : List Declaration) (r : Refusal) → (acceptance.IsMemory r → ⊥) → (cause : List ℕ) × (cause_text ds r ≡ Some cause)
+refusal_text ds refusal.NoSuchClaim h = (_, refl)
+refusal_text ds (refusal.NoSuchGenerator row) h = (_, refl)
+refusal_text ds refusal.ZeroDenominator h = (_, refl)
+refusal_text ds (refusal.Overflow row o) h = (_, refl)
+refusal_text ds (refusal.Size row) h = (_, refl)
+refusal_text ds (refusal.Differs word want got) h = (_, refl)
+refusal_text ds (refusal.Memory failed) h = absurd (h tt)
+
+module _ (question : Question) where
+  abbrev IsJudged : ℕ → List Certificate → Type 0
+  IsJudged number cs = (ending : Ending) × JudgesFrom (AcceptsCertificate question) (RefusesCertificate question) number cs ending.report ending.status
+
+  judge_one : (number : ℕ) (c : Certificate) (cs : List Certificate) → IsJudged (number + 1) cs
+      → Accepts question.claims question.generators c ⊎ ((r : Refusal) × Refuses question.claims question.generators c r × (acceptance.IsMemory r → ⊥)) → IsJudged number (c ∷ cs)
+  judge_one number c cs rest (inl holds) =
+      let text : List ℕ = claim_text c.claim c.denominator in
+      (record { status = rest.0.status; report = line (accepted_text number text) ++ rest.0.report }, blocks.accepted text (record { holds = holds; says = refl }) rest.0.report rest.1 refl)
+  judge_one number c cs rest (inr fails) =
+      let told = refusal_text question.declared fails.0 fails.2 in
+      (record { status = 7; report = line (refused_text number told.0) }, blocks.refused told.0 (record { refusal = fails.0; fails = fails.1; says = told.1 }) refl refl)
+
+  judge_all : (number : ℕ) (cs : List Certificate) → IsJudged number cs
+  judge_all number [] = (record { status = 0; report = [] }, (refl, refl))
+  judge_all number (c ∷ cs) = judge_one number c cs (judge_all (number + 1) cs) (each_certificate_is_judged question.claims question.generators c)
+
+-- ---- the evidence text
+
+evidence_ends : (bytes : List ℕ) (problem : Problem) → (ending : Ending) × AnswersEvidence bytes problem ending
+evidence_ends bytes problem = by (certificates_of problem.parts.quiver bytes) refl
+  where
+    by : (read : Result (List Certificate) evidence.Fault) → certificates_of problem.parts.quiver bytes ≡ read → (ending : Ending) × AnswersEvidence bytes problem ending
+    by (Err fault) is = (refused_evidence (evidence_fault fault.code fault.line fault.limit), blocks.faulty fault.code fault.line fault.limit is refl)
+    by (Ok cs) is = let judged = judge_all (question_of problem) 1 cs in (judged.0, blocks.read cs is judged.1)
+
+-- ---- the statement
+
+-- a fault that isn't want of memory has a text
+fault_text : (f : TypeFault) → (IsMemory f → ⊥) → (text : List ℕ) × (typing_text f ≡ Some text)
+fault_text (typing.Fault code at column left right limit) h = (_, refl)
+fault_text (typing.Memory failed) h = absurd (h tt)
+
+refused_ends : (statement bytes text : List ℕ) → IsRefusedStatement statement text → (ending : Ending) × AnswersCheck statement bytes ending
+refused_ends statement bytes text refused = (refused_statement text, statements.faulty text refused refl)
+
+check_ends : (statement bytes : List ℕ) → (ending : Ending) × AnswersCheck statement bytes ending
+check_ends statement bytes = by_text (each_text_is_read statement)
+  where
+    by_tree : (tree : List Statement) → IsTreeOf statement tree → ((fault : TypeFault) × (fault_of tree ≡ Some fault) × (IsMemory fault → ⊥)) ⊎ ((problem : Problem) × IsProblemOf tree problem)
+        → (ending : Ending) × AnswersCheck statement bytes ending
+    by_tree tree is (inl wrong) = let text = fault_text wrong.0 wrong.2 in refused_ends statement bytes text.0 (no_problem tree wrong.0 is wrong.1 text.1)
+    by_tree tree is (inr right) =
+        let over = evidence_ends bytes right.0 in
+        (over.0, statements.stated right.0 (record { statements = tree; tree = is; elaborated = right.1 }) over.1)
+
+    by_text : ((tree : List Statement) × IsTreeOf statement tree) ⊎ ((fault : Fault) × ((at : Spot) × IsFirstFault statement fault at)) → (ending : Ending) × AnswersCheck statement bytes ending
+    by_text (inl read) = by_tree read.0 read.1 (each_statement_has_a_problem_or_a_fault read.0)
+    by_text (inr wrong) = refused_ends statement bytes (statement_fault (code_of wrong.0) wrong.1.0.line wrong.1.0.column 0 None None) (no_tree wrong.0 wrong.1.0 wrong.1.1 refl)
+
+pub each_call_has_an_ending : EachCallHasAnEnding
+each_call_has_an_ending (Check p) [] as_many = absurd (omega arith)
+each_call_has_an_ending (Check p) (statement ∷ []) as_many = absurd (omega arith)
+each_call_has_an_ending (Check p) (statement ∷ bytes ∷ []) as_many = check_ends statement bytes
+each_call_has_an_ending (Check p) (statement ∷ bytes ∷ third ∷ more) as_many = absurd (omega arith)

@@ -1,0 +1,25 @@
+-- What an evidence text leads to: its first fault, or its blocks, judged one after another.
+use Rattle.std.specs.Prelude.{ℕ, ◌+◌, ◌≡◌, List, [], ◌∷◌, ◌++◌, Result, Ok, Err}
+use Rattle.certificate_text.specs.Fault.{Fault}
+use Rattle.opprove.specs.Ending.{Ending, line, refused_evidence}
+use Rattle.opprove.specs.Texts.{evidence_fault}
+use Rattle.opprove.specs.Refusals.{accepted_text, refused_text}
+
+-- The evidence text is refused, for its first fault, or its blocks lead to the ending.
+pub data OverEvidence {Block : Type 0} (read : Result (List Block) Fault) (next : List Block → Ending → Type 0) (ending : Ending) : Type 0 where
+  faulty : (code at limit : ℕ) → read ≡ Err (record { code = code; line = at; limit = limit }) → ending ≡ refused_evidence (evidence_fault code at limit) → OverEvidence read next ending
+  read : (blocks : List Block) → read ≡ Ok blocks → next blocks ending → OverEvidence read next ending
+
+-- A block is accepted, and the next ones follow; or it is refused, and it is the last one of the report. What accepting and refusing it says is told by its text.
+pub data JudgesBlock {Block : Type 0} (accepts refuses : Block → List ℕ → Type 0) (number : ℕ) (block : Block) (next : List ℕ → ℕ → Type 0) (lines : List ℕ) (status : ℕ) : Type 0 where
+  accepted : (text : List ℕ) → accepts block text → (rest : List ℕ) → next rest status → lines ≡ line (accepted_text number text) ++ rest → JudgesBlock accepts refuses number block next lines status
+  refused : (cause : List ℕ) → refuses block cause → lines ≡ line (refused_text number cause) → status ≡ 7 → JudgesBlock accepts refuses number block next lines status
+
+-- the blocks in their order, counted from this number on: the lines on them, and the status
+abbrev pub JudgesFrom : {Block : Type 0} → (Block → List ℕ → Type 0) → (Block → List ℕ → Type 0) → ℕ → List Block → List ℕ → ℕ → Type 0
+JudgesFrom accepts refuses number [] lines status = (lines ≡ []) × (status ≡ 0)
+JudgesFrom accepts refuses number (block ∷ blocks) lines status = JudgesBlock accepts refuses number block (JudgesFrom accepts refuses (number + 1) blocks) lines status
+
+-- how a run ends over blocks
+abbrev pub Judges : {Block : Type 0} → (Block → List ℕ → Type 0) → (Block → List ℕ → Type 0) → List Block → Ending → Type 0
+Judges accepts refuses blocks ending = JudgesFrom accepts refuses 1 blocks ending.report ending.status

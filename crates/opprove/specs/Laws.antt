@@ -1,0 +1,62 @@
+-- What users ask of the answers.
+use Rattle.std.specs.Prelude.{ℕ, ◌≡◌, List, length, Ok}
+use Rattle.std.specs.List.{AllByRecursion}
+use Rattle.definitions.specs.Category.{Structure}
+use Rattle.adjoint_rules.specs.declared.problem.Problem.{Problem}
+use Rattle.cofactor_trace.specs.declared.Certificate.{Certificate}
+use Rattle.certificate_text.specs.Evidence.{certificates_of}
+use Rattle.opprove.specs.declared.call.Call.{Call}
+use Rattle.opprove.specs.Call.{files_of}
+use Rattle.opprove.specs.Ending.{Ending, refused_statement}
+use Rattle.opprove.specs.Statement.{IsStated, IsRefusedStatement}
+use Rattle.opprove.specs.Check.{question_of, IsAccepted, accepted_lines, AnswersCheck}
+use Rattle.opprove.specs.Answers.{Answers}
+use Rattle.opprove.specs.Headline.{CheckedMeans, SaysChecked}
+
+-- certificates that are all accepted are answered by 0 and a line on each
+abbrev pub AcceptedAreAnswered : Type 0
+AcceptedAreAnswered = (statement evidence : List ℕ) (problem : Problem) (certificates : List Certificate)
+    → IsStated statement problem → certificates_of problem.parts.quiver evidence ≡ Ok certificates → AllByRecursion (IsAccepted (question_of problem)) certificates
+    → AnswersCheck statement evidence (record { status = 0; report = accepted_lines 1 certificates })
+
+-- 0 and the lines on certificates of the statement, all of which are accepted
+pub record AllAccepted (statement evidence : List ℕ) (ending : Ending) : Type 0 where
+  pub problem : Problem
+  pub certificates : List Certificate
+  pub stated : IsStated statement problem
+  pub read : certificates_of problem.parts.quiver evidence ≡ Ok certificates
+  pub accepted : AllByRecursion (IsAccepted (question_of problem)) certificates
+  pub report : ending.report ≡ accepted_lines 1 certificates
+
+-- 0 is answered to no others
+abbrev pub ZeroIsAccepted : Type 0
+ZeroIsAccepted = (statement evidence : List ℕ) (ending : Ending) → AnswersCheck statement evidence ending → ending.status ≡ 0 → AllAccepted statement evidence ending
+
+-- certificates of the statement, each with its meaning
+pub record AllMean {Object Arrow : Type 0} (s : Structure Object Arrow) (statement evidence : List ℕ) : Type 0 where
+  pub problem : Problem
+  pub certificates : List Certificate
+  pub stated : IsStated statement problem
+  pub read : certificates_of problem.parts.quiver evidence ≡ Ok certificates
+  pub each : AllByRecursion (CheckedMeans s problem) certificates
+
+-- 0, by the main theorem: each certificate has its meaning
+abbrev pub ZeroMeans : {Object Arrow : Type 0} → Structure Object Arrow → Type 0
+ZeroMeans s = (statement evidence : List ℕ) (ending : Ending) → AnswersCheck statement evidence ending → SaysChecked s statement evidence ending.report → ending.status ≡ 0 → AllMean s statement evidence
+
+-- a statement with a fault is answered by 3 and the line on its first fault, whatever the evidence text
+abbrev pub FaultsAreAnswered : Type 0
+FaultsAreAnswered = (statement evidence text : List ℕ) → IsRefusedStatement statement text → AnswersCheck statement evidence (refused_statement text)
+
+-- 3 is answered to no others
+abbrev pub ThreeIsFaulty : Type 0
+ThreeIsFaulty = (statement evidence : List ℕ) (ending : Ending) → AnswersCheck statement evidence ending → ending.status ≡ 3
+    → (text : List ℕ) × IsRefusedStatement statement text × (ending ≡ refused_statement text)
+
+-- a call has at most one ending over the contents of its files
+abbrev pub AnswersOnce : Type 0
+AnswersOnce = (call : Call) (contents : List (List ℕ)) (one other : Ending) → Answers call contents one → Answers call contents other → one ≡ other
+
+-- and it has one, where there are as many contents as files
+abbrev pub EachCallHasAnEnding : Type 0
+EachCallHasAnEnding = (call : Call) (contents : List (List ℕ)) → length contents ≡ length (files_of call) → (ending : Ending) × Answers call contents ending

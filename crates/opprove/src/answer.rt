@@ -1,0 +1,34 @@
+// What a call answers.
+ghost use Rattle.std.specs.Prelude.{◌≡◌, ◌≤◌, length};
+ghost use Rattle.std.specs.List.{AllZip};
+ghost use Rattle.opprove.specs.Call.{files_of};
+ghost use Rattle.opprove.specs.Answers.{Answers};
+ghost use Rattle.opprove.specs.Stop.{EndsAs};
+
+use crate::call::Call;
+use crate::check::check_evidence;
+use crate::ending::Ending;
+use crate::stop::Stop;
+use in_order_parallel::Gate;
+use lists::Listing;
+use std::alloc::Global;
+use std::thread::Threads;
+
+/// How a run of the call ends that has loaded the contents of its files.
+pub fn answer<R: Threads + Sync, G: Gate + Sync>(
+    _rt: &R,
+    alloc: Global,
+    call: &Call,
+    contents: &[Listing<u8>],
+    _gate: &G,
+) -> Result<Ending, Stop>
+    requires { AllZip (λ file bytes. length bytes ≤ file.limit) (files_of call.now) contents.now }
+    ensures { EndsAs (Answers call.now contents.now) result }
+{
+    match (call, contents) {
+        (Call::Check(_), [statement, evidence]) => {
+            check_evidence(alloc, statement.as_slice(), evidence.as_slice())
+        }
+        _ => unreachable!(),
+    }
+}

@@ -1,0 +1,53 @@
+// What words call for.
+ghost use Rattle.std.specs.Prelude.{◌≡◌, IfOk};
+ghost use Rattle.opprove.specs.Call.{file_word, files_of};
+
+use lists::{Duplicate, Listing, Text};
+use std::alloc::{AllocError, Global};
+
+const STATEMENT_LIMIT: u32 = 1_048_576;
+
+const EVIDENCE_LIMIT: u32 = 67_108_864;
+
+/// A file of a call, and the greatest number of bytes that it may have.
+#[derive(Drop)]
+pub struct FileWord {
+    pub name: Text,
+    pub limit: u32,
+}
+
+/// A statement and a second file.
+#[derive(Drop)]
+pub struct PairCall {
+    pub statement: Text,
+    pub evidence: Text,
+}
+
+/// A command with its words.
+#[derive(Drop)]
+pub enum Call {
+    Check(PairCall),
+}
+
+impl Call {
+    /// The files, in the order in which they are loaded.
+    pub fn files(&self, alloc: Global) -> Result<Listing<FileWord>, AllocError>
+        ensures { IfOk result (λ files. files ≡ files_of self.now) }
+    {
+        let mut files = Listing::new(alloc);
+        match self {
+            Call::Check(pair) => {
+                files.push(file_word(&pair.statement, STATEMENT_LIMIT)?)?;
+                files.push(file_word(&pair.evidence, EVIDENCE_LIMIT)?)?;
+            }
+        }
+        Ok(files)
+    }
+}
+
+fn file_word(name: &Text, limit: u32) -> Result<FileWord, AllocError>
+    ensures { IfOk result (λ file. file ≡ file_word name.now limit) }
+{
+    let name = name.duplicate()?;
+    Ok(FileWord { name, limit })
+}

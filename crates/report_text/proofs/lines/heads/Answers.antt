@@ -1,0 +1,10 @@
+use Rattle.std.proofs.Common.{rules, ◌≡◌, ◌++◌, ◌+◌, length}
+use Rattle.report_text.specs.Heads.{head_line}
+use Rattle.report_text.proofs.Verdicts.{head_put}
+use Rattle.report_text.proofs.lines.heads.Goals as goal
+
+pub loop-place-preserved : goal.loop-place-preserved
+loop-place-preserved c =
+    let head : c.put_head.new.out.items ≡ c.loop-place.out.items ++ head_line c.args.quiver.now (length c.args.rules.now) (c.loop-place.place + 1) c.index-verdicts-place.result = search rules in
+    head_put c.args.quiver.now (length c.args.rules.now) c.args.verdicts.now c.loop-place.place c.index-verdicts-place.result c.index-verdicts-place.result c.loop-place.out.items c.put_head.new.out.items
+    c.loop-place-test.true c.index-verdicts-place.is c.loop-place.invariant head

@@ -1,0 +1,6 @@
+use Rattle.std.proofs.Common.{◌≡◌, ◌++◌, take, length}
+use Rattle.report_text.specs.Report.{report_from}
+use Rattle.report_text.proofs.lines.report.Given as goal
+
+abbrev pub invariant-loop-place : goal.invariant-loop-place
+invariant-loop-place l = l.out.items ≡ report_from l.quiver l.rules 1 (take l.place l.verdicts)

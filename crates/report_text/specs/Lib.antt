@@ -1,0 +1,3 @@
+pub mod Heads
+pub mod Report
+pub mod Bench

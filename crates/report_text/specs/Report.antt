@@ -1,0 +1,74 @@
+-- The report of the verdicts on claims, and its status.
+use Rattle.std.specs.Prelude.{ℕ, suc, ℤ, Bool, true, false, List, [], ◌∷◌, ◌++◌, length, decimal, codes, if◌then◌else◌, Option, Some, None, ⊤}
+use Rattle.std.specs.List.{All, flat_map, list_all, list_any}
+use Rattle.word_core.specs.Letters.{IsOver}
+use Rattle.nc_polynomial.specs.declared.poly.Poly.{Poly}
+use Rattle.quiver.specs.Declarations.{Declaration, letter_count}
+use Rattle.certificate_text.specs.Written.{poly_text, evidence_text, IsEvidenceOver}
+use Rattle.report_text.specs.declared.verdict.Verdict.{Verdict}
+use Rattle.report_text.specs.declared.verdict.Verdict.TheVariants as verdict
+use Rattle.report_text.specs.Heads.{head_line}
+
+-- ---- the block of a verdict
+
+abbrev pub rule_line : List Declaration → Poly → List ℕ
+rule_line ds p = codes "rule " ++ poly_text ds p.terms ++ codes "\n"
+
+-- all rules, and what is left of the claim by them
+abbrev pub basis_text : List Declaration → List Poly → ℕ → Poly → List ℕ
+basis_text ds rules claim rest = codes "basis 1\nclaim " ++ decimal claim ++ codes "\n" ++ flat_map (rule_line ds) rules ++ codes "rest " ++ poly_text ds rest.terms ++ codes "\nend\n"
+
+abbrev pub block_text : List Declaration → List Poly → ℕ → Verdict → List ℕ
+block_text ds rules claim (verdict.Proved e) = evidence_text ds e
+block_text ds rules claim (verdict.NotDerivable rest) = basis_text ds rules claim rest
+block_text ds rules claim (verdict.Undecided h) = []
+
+-- ---- the report
+
+-- the verdicts on the claim with this number and the next ones, each by its head line and its block
+abbrev pub report_from : List Declaration → List Poly → ℕ → List Verdict → List ℕ
+report_from ds rules claim [] = []
+report_from ds rules claim (v ∷ verdicts) = head_line ds (length rules) claim v ++ block_text ds rules claim v ++ report_from ds rules (suc claim) verdicts
+
+abbrev pub report_of : List Declaration → List Poly → List Verdict → List ℕ
+report_of ds rules verdicts = report_from ds rules 1 verdicts
+
+-- the head lines alone
+abbrev pub heads_from : List Declaration → ℕ → ℕ → List Verdict → List ℕ
+heads_from ds rules claim [] = []
+heads_from ds rules claim (v ∷ verdicts) = head_line ds rules claim v ++ heads_from ds rules (suc claim) verdicts
+
+abbrev pub heads_of : List Declaration → List Poly → List Verdict → List ℕ
+heads_of ds rules verdicts = heads_from ds (length rules) 1 verdicts
+
+-- ---- the status
+
+abbrev pub is_proved : Verdict → Bool
+is_proved (verdict.Proved e) = true
+is_proved (verdict.NotDerivable rest) = false
+is_proved (verdict.Undecided h) = false
+
+abbrev pub is_undecided : Verdict → Bool
+is_undecided (verdict.Proved e) = false
+is_undecided (verdict.NotDerivable rest) = false
+is_undecided (verdict.Undecided h) = true
+
+-- 12 where some claim is undecided, else 0 where each is proved, else 10
+abbrev pub status_of : List Verdict → ℕ
+status_of verdicts = if list_any is_undecided verdicts then 12 else (if list_all is_proved verdicts then 0 else 10)
+
+-- ---- what can be written
+
+-- the letters of the polynomial are letters of the quiver
+abbrev pub IsPolyOver : List Declaration → Poly → Type 0
+IsPolyOver ds p = All (λ t. IsOver (letter_count ds) t.1) p.terms
+
+abbrev pub IsLeastOver : List Declaration → Option (List ℕ) → Type 0
+IsLeastOver ds None = ⊤
+IsLeastOver ds (Some word) = IsOver (letter_count ds) word
+
+-- and those of a verdict
+abbrev pub IsVerdictOver : List Declaration → Verdict → Type 0
+IsVerdictOver ds (verdict.Proved e) = IsEvidenceOver ds e
+IsVerdictOver ds (verdict.NotDerivable rest) = IsPolyOver ds rest
+IsVerdictOver ds (verdict.Undecided h) = IsLeastOver ds h.least

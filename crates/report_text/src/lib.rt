@@ -1,0 +1,11 @@
+//! The report of a call that decides claims: verdicts, their lines and blocks, and the status.
+#![tactic(auto)]
+
+mod bench;
+mod head;
+mod lines;
+mod verdict;
+
+pub use bench::write_bench;
+pub use lines::{heads, report, status_of};
+pub use verdict::Verdict;

@@ -1,0 +1,143 @@
+//! The report of all verdicts, its head lines alone, and the status.
+
+ghost use Rattle.std.specs.Prelude.{◌≡◌, ◌++◌, IfOk, OnOk, length, IsTrue};
+ghost use Rattle.std.specs.List.{All, flat_map, list_all, list_any};
+ghost use Rattle.report_text.specs.Report.{rule_line, basis_text, block_text, report_of, heads_of, is_proved, is_undecided, status_of, IsPolyOver, IsVerdictOver};
+
+use crate::Verdict;
+use crate::head::put_head;
+use certificate_text::{put, put_evidence, put_number, put_poly};
+use nc_polynomial::Poly;
+use quiver::Quiver;
+use std::alloc::{AllocError, Global};
+
+fn put_rule(out: &mut Vec<u8>, quiver: &Quiver, rule: &Poly) -> Result<(), AllocError>
+    requires { IsPolyOver quiver.now rule.now }
+    ensures { OnOk result (out.new.items ≡ out.old.items ++ rule_line quiver.now rule.now) }
+{
+    put(out, "rule ")?;
+    put_poly(out, quiver, rule)?;
+    put(out, "\n")
+}
+
+fn put_rules(out: &mut Vec<u8>, quiver: &Quiver, rules: &[Poly]) -> Result<(), AllocError>
+    requires { All (IsPolyOver quiver.now) rules.now }
+    ensures { OnOk result (out.new.items ≡ out.old.items ++ flat_map (rule_line quiver.now) rules.now) }
+{
+    for rule in rules {
+        put_rule(out, quiver, rule)?;
+    }
+    Ok(())
+}
+
+fn put_basis(
+    out: &mut Vec<u8>,
+    quiver: &Quiver,
+    rules: &[Poly],
+    claim: usize,
+    rest: &Poly,
+) -> Result<(), AllocError>
+    requires rules { All (IsPolyOver quiver.now) rules.now }
+    requires rest { IsPolyOver quiver.now rest.now }
+    ensures { OnOk result (out.new.items ≡ out.old.items ++ basis_text quiver.now rules.now claim rest.now) }
+{
+    put(out, "basis 1\nclaim ")?;
+    put_number(out, claim as u128)?;
+    put(out, "\n")?;
+    put_rules(out, quiver, rules)?;
+    put(out, "rest ")?;
+    put_poly(out, quiver, rest)?;
+    put(out, "\nend\n")
+}
+
+fn put_block(
+    out: &mut Vec<u8>,
+    quiver: &Quiver,
+    rules: &[Poly],
+    claim: usize,
+    verdict: &Verdict,
+) -> Result<(), AllocError>
+    requires rules { All (IsPolyOver quiver.now) rules.now }
+    requires verdict { IsVerdictOver quiver.now verdict.now }
+    ensures { OnOk result (out.new.items ≡ out.old.items ++ block_text quiver.now rules.now claim verdict.now) }
+{
+    match verdict {
+        Verdict::Proved(evidence) => put_evidence(out, quiver, evidence),
+        Verdict::NotDerivable { rest } => put_basis(out, quiver, rules, claim, rest),
+        Verdict::Undecided(_) => Ok(()),
+    }
+}
+
+/// The report of the verdicts on the claims, in their order: for each a head line, and a block with its evidence, or
+/// with all rules and what is left of the claim by them.
+pub fn report(
+    alloc: Global,
+    quiver: &Quiver,
+    verdicts: &[Verdict],
+    rules: &[Poly],
+) -> Result<Vec<u8>, AllocError>
+    requires rules { All (IsPolyOver quiver.now) rules.now }
+    requires verdicts { All (IsVerdictOver quiver.now) verdicts.now }
+    ensures { IfOk result (λ text. text.items ≡ report_of quiver.now rules.now verdicts.now) }
+{
+    let mut out = Vec::new(alloc);
+    for (place, verdict) in verdicts.iter().enumerate() {
+        put_head(&mut out, quiver, rules.len(), place + 1, verdict)?;
+        put_block(&mut out, quiver, rules, place + 1, verdict)?;
+    }
+    Ok(out)
+}
+
+/// The head lines of that report alone.
+pub fn heads(
+    alloc: Global,
+    quiver: &Quiver,
+    verdicts: &[Verdict],
+    rules: &[Poly],
+) -> Result<Vec<u8>, AllocError>
+    requires verdicts { All (IsVerdictOver quiver.now) verdicts.now }
+    ensures { IfOk result (λ text. text.items ≡ heads_of quiver.now rules.now verdicts.now) }
+{
+    let mut out = Vec::new(alloc);
+    for (place, verdict) in verdicts.iter().enumerate() {
+        put_head(&mut out, quiver, rules.len(), place + 1, verdict)?;
+    }
+    Ok(out)
+}
+
+fn is_proved(verdict: &Verdict) -> bool
+    ensures { result ≡ is_proved verdict.now }
+{
+    matches!(verdict, Verdict::Proved(_))
+}
+
+fn is_undecided(verdict: &Verdict) -> bool
+    ensures { result ≡ is_undecided verdict.now }
+{
+    matches!(verdict, Verdict::Undecided(_))
+}
+
+fn all_are_proved(verdicts: &[Verdict]) -> bool
+    ensures { result ≡ list_all is_proved verdicts.now }
+{
+    verdicts.iter().all(|verdict| is_proved(verdict))
+}
+
+fn some_is_undecided(verdicts: &[Verdict]) -> bool
+    ensures { result ≡ list_any is_undecided verdicts.now }
+{
+    verdicts.iter().any(|verdict| is_undecided(verdict))
+}
+
+/// The status of a call with these verdicts: 12 where some claim is undecided, else 0 where each is proved, else 10.
+pub fn status_of(verdicts: &[Verdict]) -> u8
+    ensures { result ≡ status_of verdicts.now }
+{
+    if some_is_undecided(verdicts) {
+        12
+    } else if all_are_proved(verdicts) {
+        0
+    } else {
+        10
+    }
+}

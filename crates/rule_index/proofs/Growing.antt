@@ -1,0 +1,278 @@
+-- One word more, and the links, the ends and the first entries.
+use Rattle.std.proofs.Common.{◌≡◌, ◌≢◌, ◌⊎◌, inl, inr, ℕ, ◌+◌, ◌<◌, ◌≤◌, ◌||◌, Bool, true, false, List, [], ◌∷◌, ◌++◌, length, get_or, take, drop, Option, None, refl, sym, ap, ◌∙◌, subst, arith}
+use Rattle.std.specs.List.{AllByRecursion}
+use Rattle.std.proofs.Math.Seq.{take-length, take-append_seam}
+use Rattle.std.proofs.lemmas.List.{length_push, length-drop, get_or_past}
+use Rattle.std.proofs.lemmas.List.Elements.{All-weaker, recursion_from_All}
+use Rattle.std.proofs.lemmas.Bool.{cases_lt}
+use Rattle.rule_index.specs.declared.tree.Node.{Node}
+use Rattle.rule_index.specs.declared.tree.Tree.{Tree}
+use Rattle.rule_index.specs.Prefixes.{same_word, has, word_at}
+use Rattle.rule_index.specs.Automaton.{longest, ends_with, first_of, node_at, added_node, letters_of, words_of, Lists, ListsBelow, IsChild, IsTree, IsChained, IsSpelled, IsLinked, IsLongest, IsMarked, IsEnds, IsRelinked, IsGrown, HasRoom}
+use Rattle.rule_index.proofs.Suffixes.{has-push, ends-longest, ends-short, longest-other, longest-new, longest-old, same-true}
+use Rattle.rule_index.proofs.Firsts.{same_first}
+use Rattle.rule_index.proofs.Pushing.{push-old, push-new, Same, is_same, is_other, same_or, spelled-push, letters_of-push, words-push}
+use Rattle.rule_index.proofs.Spelled.{child-has, child-word, child-absent}
+
+pub clash : {b : Bool} → b ≡ true → b ≡ false → ⊥
+clash p q = cc
+
+or_true : (b c : Bool) → b ≡ true → (b || c) ≡ true
+or_true true c e = refl
+or_true false c e = absurd (cc)
+
+module _ (words : List (List ℕ)) (s : List ℕ) (some : 0 < length s) (absent : has words s ≡ false) where
+  abbrev more : List (List ℕ)
+  more = words ++ s ∷ []
+
+  more-old : (k : ℕ) → k < length words → word_at more k ≡ word_at words k
+  more-old k below = push-old words s [] k (λ e. omega arith)
+
+  more-new : (k : ℕ) → k ≡ length words → word_at more k ≡ s
+  more-new k e = push-new words s [] k e
+
+  no_self : ends_with (drop 1 s) s ≡ false
+  no_self = go (ends_with (drop 1 s) s) refl
+    where
+      go : (b : Bool) → ends_with (drop 1 s) s ≡ b → b ≡ false
+      go true e = absurd (omega (arith, ends-short (drop 1 s) s e, length-drop 1 s))
+      go false e = refl
+
+  pub ends-push : (ends : List ℕ) → IsEnds words s ends → IsEnds more s ends
+  ends-push ends h = record {
+    above = h.above;
+    inside = λ k l. omega (arith, h.inside k l, length_push words s);
+    sound = λ k l. subst (λ w. ends_with (drop 1 w) s ≡ true) (sym (more-old k (h.inside k l))) (h.sound k l);
+    complete = λ k above within ends'. complete k above within ends' (same_or k (length words));
+  }
+    where
+      complete : (k : ℕ) → 0 < k → k < length more → ends_with (drop 1 (word_at more k)) s ≡ true → Same k (length words) → Lists ends k
+      complete k above within e (is_same a) = absurd (clash (subst (λ w. ends_with (drop 1 w) s ≡ true) (more-new k a) e) no_self)
+      complete k above within e (is_other o) =
+          let below : k < length words = omega (arith, length_push words s, o) in
+          h.complete k above below (subst (λ w. ends_with (drop 1 w) s ≡ true) (more-old k below) e)
+
+  -- the links
+  module _ (nodes : List Node) (ends links new_links : List ℕ) (link : ℕ)
+      (depths : (k : ℕ) → k < length more → (node_at nodes k).depth ≡ length (word_at more k))
+      (linked : IsLinked words links) (h : IsEnds words s ends)
+      (link_in : link < length words) (link_is : word_at words link ≡ longest words (drop 1 s))
+      (size : length new_links ≡ length (links ++ link ∷ []))
+      (moved : (k : ℕ) → k < length (links ++ link ∷ []) → IsRelinked nodes ends (length ends) (length words) (get_or (links ++ link ∷ []) k 0) (get_or new_links k 0) k) where
+    sizes : length (links ++ link ∷ []) ≡ length more
+    sizes = length_push links link ∙ ap (λ x. x + 1) linked.sized ∙ sym (length_push words s)
+
+    before-old : (k : ℕ) → k ≢ length words → get_or (links ++ link ∷ []) k 0 ≡ get_or links k 0
+    before-old k o = push-old links link 0 k (λ e. o (e ∙ linked.sized))
+
+    before-new : (k : ℕ) → k ≡ length words → get_or (links ++ link ∷ []) k 0 ≡ link
+    before-new k e = push-new links link 0 k (e ∙ sym linked.sized)
+
+    before-in : (k : ℕ) → get_or (links ++ link ∷ []) k 0 < length words
+    before-in k = go (same_or k (length words))
+      where
+        go : Same k (length words) → get_or (links ++ link ∷ []) k 0 < length words
+        go (is_same e) = omega (arith, before-new k e)
+        go (is_other o) = omega (arith, before-old k o, linked.link_in k)
+
+    new_in : (k : ℕ) → get_or new_links k 0 < length more
+    new_in k = go (cases_lt k (length new_links))
+      where
+        both : IsRelinked nodes ends (length ends) (length words) (get_or (links ++ link ∷ []) k 0) (get_or new_links k 0) k → get_or new_links k 0 < length more
+        both m = either m.either
+          where
+            either : ((get_or new_links k 0 ≡ length words) × ListsBelow (length ends) ends k × ((node_at nodes (get_or (links ++ link ∷ []) k 0)).depth < (node_at nodes (length words)).depth))
+                ⊎ ((get_or new_links k 0 ≡ get_or (links ++ link ∷ []) k 0) × (ListsBelow (length ends) ends k → (node_at nodes (length words)).depth ≤ (node_at nodes (get_or (links ++ link ∷ []) k 0)).depth))
+                → get_or new_links k 0 < length more
+            either (inl l) = omega (arith, l.0, length_push words s)
+            either (inr r) = omega (arith, r.0, before-in k, length_push words s)
+
+        go : (k < length new_links) ⊎ (length new_links ≤ k) → get_or new_links k 0 < length more
+        go (inl below) = both (moved k (omega (arith, size)))
+        go (inr above) = omega (arith, get_or_past new_links k 0 above, length_push words s)
+
+    depth_old : (k : ℕ) → k < length words → (node_at nodes k).depth ≡ length (word_at words k)
+    depth_old k below = depths k (omega (arith, length_push words s)) ∙ ap length (more-old k below)
+
+    depth_new : (node_at nodes (length words)).depth ≡ length s
+    depth_new = depths (length words) (omega (arith, length_push words s)) ∙ ap length (more-new (length words) refl)
+
+    -- an old node
+    link_old : (k : ℕ) → 0 < k → k < length words → IsRelinked nodes ends (length ends) (length words) (get_or links k 0) (get_or new_links k 0) k
+        → word_at more (get_or new_links k 0) ≡ longest more (drop 1 (word_at words k))
+    link_old k above below m = go m.either
+      where
+        t : List ℕ
+        t = drop 1 (word_at words k)
+
+        before : (node_at nodes (get_or links k 0)).depth ≡ length (longest words (drop 1 (word_at words k)))
+        before = depth_old (get_or links k 0) (linked.link_in k) ∙ ap length (linked.link_is k above below)
+
+        stays : get_or new_links k 0 ≡ get_or links k 0 → longest more (drop 1 (word_at words k)) ≡ longest words (drop 1 (word_at words k)) → word_at more (get_or new_links k 0) ≡ longest more (drop 1 (word_at words k))
+        stays e same = ap (word_at more) e ∙ more-old (get_or links k 0) (linked.link_in k) ∙ linked.link_is k above below ∙ sym same
+
+        by_test : (b : Bool) → ends_with (drop 1 (word_at words k)) s ≡ b → (ListsBelow (length ends) ends k → (node_at nodes (length words)).depth ≤ (node_at nodes (get_or links k 0)).depth)
+            → longest more (drop 1 (word_at words k)) ≡ longest words (drop 1 (word_at words k))
+        by_test true e deep = longest-old words s (drop 1 (word_at words k)) e (omega (arith, deep (h.complete k above below e), before, depth_new))
+        by_test false e deep = longest-other words s (drop 1 (word_at words k)) e
+
+        go : ((get_or new_links k 0 ≡ length words) × ListsBelow (length ends) ends k × ((node_at nodes (get_or links k 0)).depth < (node_at nodes (length words)).depth))
+            ⊎ ((get_or new_links k 0 ≡ get_or links k 0) × (ListsBelow (length ends) ends k → (node_at nodes (length words)).depth ≤ (node_at nodes (get_or links k 0)).depth))
+            → word_at more (get_or new_links k 0) ≡ longest more (drop 1 (word_at words k))
+        go (inl l) = more-new (get_or new_links k 0) l.0 ∙ sym (longest-new words s (drop 1 (word_at words k)) (h.sound k l.1) (omega (arith, l.2, before, depth_new)))
+        go (inr r) = stays r.0 (by_test (ends_with (drop 1 (word_at words k)) s) refl r.1)
+
+    -- the new one
+    link_new : (k : ℕ) → k ≡ length words → IsRelinked nodes ends (length ends) (length words) link (get_or new_links k 0) k → word_at more (get_or new_links k 0) ≡ longest more (drop 1 s)
+    link_new k e m = go m.either
+      where
+        go : ((get_or new_links k 0 ≡ length words) × ListsBelow (length ends) ends k × ((node_at nodes link).depth < (node_at nodes (length words)).depth))
+            ⊎ ((get_or new_links k 0 ≡ link) × (ListsBelow (length ends) ends k → (node_at nodes (length words)).depth ≤ (node_at nodes link).depth))
+            → word_at more (get_or new_links k 0) ≡ longest more (drop 1 s)
+        go (inl l) = absurd (omega (arith, h.inside k l.1))
+        go (inr r) = ap (word_at more) r.0 ∙ more-old link link_in ∙ link_is ∙ sym (longest-other words s (drop 1 s) no_self)
+
+    pub linked-push : IsLinked more new_links
+    linked-push = record {
+      sized = size ∙ sizes;
+      link_in = new_in;
+      link_is = λ k above within. go k above within (same_or k (length words));
+    }
+      where
+        go : (k : ℕ) → 0 < k → k < length more → Same k (length words) → word_at more (get_or new_links k 0) ≡ longest more (drop 1 (word_at more k))
+        go k above within (is_same e) =
+            link_new k e (subst (λ b. IsRelinked nodes ends (length ends) (length words) b (get_or new_links k 0) k) (before-new k e) (moved k (omega (arith, within, sizes))))
+            ∙ ap (λ w. longest more (drop 1 w)) (sym (more-new k e))
+        go k above within (is_other o) =
+            let below : k < length words = omega (arith, length_push words s, o) in
+            link_old k above below (subst (λ b. IsRelinked nodes ends (length ends) (length words) b (get_or new_links k 0) k) (before-old k o) (moved k (omega (arith, within, sizes))))
+            ∙ ap (λ w. longest more (drop 1 w)) (sym (more-old k below))
+
+  -- the first entries
+  pub marked-push : (entries : List (List ℕ × ℕ)) (leasts : List (Option ℕ)) (link : ℕ) → IsMarked entries words leasts → link < length words → word_at words link ≡ longest words (drop 1 s)
+      → IsMarked entries more (leasts ++ get_or leasts link None ∷ [])
+  marked-push entries leasts link h link_in link_is = record {
+    sized = length_push leasts (get_or leasts link None) ∙ ap (λ x. x + 1) h.sized ∙ sym (length_push words s);
+    least_is = λ k within. go k within (same_or k (length words));
+    listed = All-weaker (λ e. has words e.0 ≡ true) (λ e. has more e.0 ≡ true) (λ e listed. has-push words s e.0 ∙ or_true (has words e.0) (same_word e.0 s) listed) entries h.listed;
+  }
+    where
+      agree : (t : List ℕ) → 0 < length t → has words t ≡ false → (rest : List (List ℕ × ℕ)) → AllByRecursion (λ e. has words e.0 ≡ true) rest → AllByRecursion (λ e. ends_with (longest words (drop 1 t)) e.0 ≡ ends_with t e.0) rest
+      agree [] some_t absent_t rest l = absurd (omega arith)
+      agree (x ∷ t) some_t absent_t [] l = tt
+      agree (x ∷ t) some_t absent_t (e ∷ rest) l =
+          (ends-longest words t e.0 l.0 ∙ sym (ap (λ b. b || ends_with t e.0) (apart (same_word (x ∷ t) e.0) refl)), agree (x ∷ t) some_t absent_t rest l.1)
+        where
+          apart : (b : Bool) → same_word (x ∷ t) e.0 ≡ b → same_word (x ∷ t) e.0 ≡ false
+          apart true same = absurd (clash (subst (λ w. has words w ≡ true) (sym (same-true (x ∷ t) e.0 same)) l.0) absent_t)
+          apart false same = same
+
+      go : (k : ℕ) → k < length more → Same k (length words) → get_or (leasts ++ get_or leasts link None ∷ []) k None ≡ first_of (ends_with (word_at more k)) entries
+      go k within (is_same e) =
+          push-new leasts (get_or leasts link None) None k (e ∙ sym h.sized)
+          ∙ h.least_is link link_in
+          ∙ ap (λ w. first_of (ends_with w) entries) link_is
+          ∙ same_first (ends_with (longest words (drop 1 s))) (ends_with s) entries (agree s some absent entries (recursion_from_All (λ e. has words e.0 ≡ true) entries h.listed))
+          ∙ ap (λ w. first_of (ends_with w) entries) (sym (more-new k e))
+      go k within (is_other o) =
+          let below : k < length words = omega (arith, length_push words s, o) in
+          push-old leasts (get_or leasts link None) None k (λ e. o (e ∙ h.sized))
+          ∙ h.least_is k below
+          ∙ ap (λ w. first_of (ends_with w) entries) (sym (more-old k below))
+
+has_too : (words : List (List ℕ)) (w word : List ℕ) → has words word ≡ true → has words w ≡ (has words w || same_word w word)
+has_too words w word e = go (has words w) (same_word w word) refl refl
+  where
+    go : (b d : Bool) → has words w ≡ b → same_word w word ≡ d → b ≡ (b || d)
+    go true d h s = refl
+    go false true h s = absurd (clash (subst (λ v. has words v ≡ true) (sym (same-true w word s)) e) h)
+    go false false h s = refl
+
+-- the node is there already
+pub grown-same : (tree : Tree) → IsTree tree.nodes.items tree.heads.items tree.nexts.items tree.links.items → length tree.leasts.items ≡ length tree.nodes.items → (at letter node : ℕ) (ends : List ℕ)
+    → IsEnds (words_of tree.nodes.items) (word_at (words_of tree.nodes.items) at ++ letter ∷ []) ends → IsChild tree.nodes.items at letter node
+    → IsGrown tree tree (word_at (words_of tree.nodes.items) at ++ letter ∷ []) ends node
+grown-same tree h size at letter node ends are child =
+    let nodes = tree.nodes.items in
+    let words = words_of nodes in
+    record {
+      tree = h;
+      inside = child.inside;
+      word_is = child-word nodes words h.spelled at letter node child;
+      ends_are = are;
+      sized = size;
+      marked = λ entries m. m;
+      only = λ w. has_too words w (word_at words at ++ letter ∷ []) (child-has nodes words h.spelled at letter node child);
+      room = λ count r. record { nodes = omega (arith, r.nodes); letters = omega (arith, r.letters); nexts = omega (arith, r.nexts); links = omega (arith, r.links); leasts = omega (arith, r.leasts) };
+      front = take-length nodes;
+      lettered = λ e. e;
+    }
+
+-- the node is new
+module _ (old new : Tree) (h : IsTree old.nodes.items old.heads.items old.nexts.items old.links.items) (size : length old.leasts.items ≡ length old.nodes.items)
+    (at letter link : ℕ) (ends : List ℕ) (inside : at < length old.nodes.items) (none : (k : ℕ) → IsChild old.nodes.items at letter k → ⊥)
+    (are : IsEnds (words_of old.nodes.items) (word_at (words_of old.nodes.items) at ++ letter ∷ []) ends)
+    (link_is : IsLongest old.nodes.items (drop 1 (word_at (words_of old.nodes.items) at ++ letter ∷ [])) link)
+    (nodes_are : new.nodes.items ≡ old.nodes.items ++ added_node old.nodes.items at letter ∷ [])
+    (chained : IsChained new.nodes.items (length new.nodes.items) new.heads.items new.nexts.items)
+    (letters_are : new.letters.items ≡ old.letters.items ++ letter ∷ [])
+    (leasts_are : new.leasts.items ≡ old.leasts.items ++ get_or old.leasts.items link None ∷ [])
+    (links_size : length new.links.items ≡ length (old.links.items ++ link ∷ []))
+    (moved : (k : ℕ) → k < length (old.links.items ++ link ∷ []) → IsRelinked new.nodes.items ends (length ends) (length old.nodes.items) (get_or (old.links.items ++ link ∷ []) k 0) (get_or new.links.items k 0) k)
+    (room : (count : ℕ) → HasRoom old (count + 1) → HasRoom new count) where
+  abbrev nodes : List Node
+  nodes = old.nodes.items
+
+  abbrev words : List (List ℕ)
+  words = words_of nodes
+
+  abbrev word : List ℕ
+  word = word_at words at ++ letter ∷ []
+
+  abbrev n : Node
+  n = added_node nodes at letter
+
+  absent_word : has words word ≡ false
+  absent_word = child-absent nodes words h.spelled at letter inside none
+
+  some_letter : 0 < length word
+  some_letter = omega (arith, length_push (word_at words at) letter)
+
+  words_are : words_of new.nodes.items ≡ words ++ word ∷ []
+  words_are = ap words_of nodes_are ∙ words-push nodes n h.chained.some
+
+  new_spelled : IsSpelled (nodes ++ n ∷ []) (words ++ word ∷ [])
+  new_spelled = spelled-push nodes words h.spelled n inside absent_word refl
+
+  both_spelled : IsSpelled new.nodes.items (words ++ word ∷ [])
+  both_spelled = subst (λ ns. IsSpelled ns (words ++ word ∷ [])) (sym nodes_are) new_spelled
+
+  at_end : length nodes ≡ length words
+  at_end = sym h.spelled.sized
+
+  new_linked : IsLinked (words ++ word ∷ []) new.links.items
+  new_linked =
+      linked-push words word some_letter absent_word new.nodes.items ends old.links.items new.links.items link
+      (λ k below. both_spelled.depth_is k (omega (arith, below, both_spelled.sized)))
+      h.linked are (omega (arith, link_is.inside, at_end)) link_is.word_is links_size
+      (λ k below. subst (λ node. IsRelinked new.nodes.items ends (length ends) node (get_or (old.links.items ++ link ∷ []) k 0) (get_or new.links.items k 0) k) at_end (moved k below))
+
+  pub grown-new : IsGrown old new (word_at (words_of old.nodes.items) at ++ letter ∷ []) ends (length old.nodes.items)
+  grown-new = record {
+    tree = record {
+      chained = chained;
+      spelled = subst (λ ws. IsSpelled new.nodes.items ws) (sym words_are) both_spelled;
+      linked = subst (λ ws. IsLinked ws new.links.items) (sym words_are) new_linked;
+    };
+    inside = omega (arith, ap length nodes_are, length_push nodes n);
+    word_is = ap (λ ws. word_at ws (length nodes)) words_are ∙ push-new words word [] (length nodes) at_end;
+    ends_are = subst (λ ws. IsEnds ws word ends) (sym words_are) (ends-push words word some_letter absent_word ends are);
+    sized = omega (arith, ap length leasts_are, length_push old.leasts.items (get_or old.leasts.items link None), size, ap length nodes_are, length_push nodes n);
+    marked = λ entries m.
+        subst (λ ws. IsMarked entries ws new.leasts.items) (sym words_are)
+        (subst (λ ls. IsMarked entries (words ++ word ∷ []) ls) (sym leasts_are) (marked-push words word some_letter absent_word entries old.leasts.items link m (omega (arith, link_is.inside, at_end)) link_is.word_is));
+    only = λ w. ap (λ ws. has ws w) words_are ∙ has-push words word w;
+    room = room;
+    front = ap (take (length nodes)) nodes_are ∙ take-append_seam nodes (n ∷ []);
+    lettered = λ e. letters_are ∙ ap (λ ls. ls ++ letter ∷ []) e ∙ sym (ap letters_of nodes_are ∙ letters_of-push nodes n);
+  }

@@ -1,0 +1,62 @@
+use Rattle.std.proofs.Common.{◌≡◌, ◌⊎◌, ◌<◌, true, ◌++◌, ◌∷◌, [], ◌∙◌, ℕ, List, length, get_or, take, subst, sym, ap, arith}
+use Rattle.std.proofs.lemmas.List.Quantifiers.{all_pairs_push}
+use Rattle.rule_index.specs.Matches.{IsAscending, begins_with}
+use Rattle.rule_index.specs.Prefixes.{has}
+use Rattle.rule_index.specs.Automaton.{IsStarts, IsMarked, IsWithin, letters_of, words_of}
+use Rattle.rule_index.specs.Cuts.{IsCounted}
+use Rattle.rule_index.proofs.Counting.{within-push}
+use Rattle.rule_index.proofs.Counted.{counted-within, counted-push}
+use Rattle.rule_index.proofs.FrontNodes.{words_of-take}
+use Rattle.rule_index.proofs.index.Index.insert.Goals as goal
+
+pub insert-requires-clause-starts : goal.insert-requires-clause-starts
+insert-requires-clause-starts c =
+    let ends = c.in_ok-ends.ends.items in
+    let letter = get_or c.args.word.now 0 0 in
+    subst (λ ns. IsStarts ns (length ns) letter ends) c.deref.ensures.value
+    (subst (λ x. IsStarts c.deref.result.now (length c.deref.result.now) x ends) c.letter-first.ensures c.in_ok-ends.ensures)
+
+pub invariant_of-self-inside-2 : goal.invariant_of-self-inside-2
+invariant_of-self-inside-2 c =
+    let i = c.self.inside in
+    let word = c.args.word.now in
+    let number = c.args.number in
+    let entries = c.args.self.now in
+    let tree = c.insert.new.tree in
+    let old = words_of i.tree.nodes.items in
+    let words = words_of tree.nodes.items in
+    let seen : i.entries ≡ entries = c.self.view_is in
+    let copied : c.in_ok-copy.copy ≡ word = c.in_ok-copy.ensures in
+    let pushed : c.push.new.self ≡ i.entries ++ (c.in_ok-copy.copy, number) ∷ [] = c.in_ok-push.ensures.ok in
+    let added : c.push.new.self ≡ entries ++ (word, number) ∷ [] = pushed ∙ ap (λ w. i.entries ++ (w, number) ∷ []) copied ∙ ap (λ es. es ++ (word, number) ∷ []) seen in
+    let same = c.reserve.ensures.same in
+    let done = c.insert.ensures in
+    let ascending : IsAscending (entries ++ (word, number) ∷ []) =
+    all_pairs_push (λ e f. e.1 < f.1) entries (word, number) (subst IsAscending seen i.ascending) (λ k d inside. c.requires.above k d inside) in
+    let marked : IsMarked (entries ++ (word, number) ∷ []) words tree.leasts.items =
+    done.marked entries number (sym (c.len-place.ensures ∙ ap length seen))
+    (subst (λ ns. IsMarked entries (words_of ns) c.reserve.new.tree.leasts.items) (sym same.nodes)
+    (subst (λ ls. IsMarked entries old ls) (sym same.leasts) (subst (λ es. IsMarked es old i.tree.leasts.items) seen i.marked))) in
+    let counted_before : IsCounted entries old i.sizes.items = subst (λ es. IsCounted es old i.sizes.items) seen i.counted in
+    let within : IsWithin (entries ++ (word, number) ∷ []) words =
+    within-push entries word number old words (counted-within entries old i.sizes.items counted_before)
+    (subst (λ ns. (w : List ℕ) → has words w ≡ true → (has (words_of ns) w ≡ true) ⊎ (begins_with word w ≡ true)) same.nodes done.only) in
+    let nodes_front : take (length i.tree.nodes.items) tree.nodes.items ≡ i.tree.nodes.items =
+    subst (λ ns. take (length ns) tree.nodes.items ≡ ns) same.nodes done.front in
+    let front : take (length old) words ≡ old =
+    ap (λ n. take n words) i.grown.spelled.sized ∙ sym (words_of-take (length i.tree.nodes.items) tree.nodes.items i.grown.chained.some) ∙ ap words_of nodes_front in
+    let counted : IsCounted (entries ++ (word, number) ∷ []) words (i.sizes.items ++ length words ∷ []) =
+    counted-push entries old i.sizes.items counted_before (word, number) words front within marked.listed in
+    let lettered : tree.letters.items ≡ letters_of tree.nodes.items = done.lettered (same.letters ∙ i.lettered ∙ ap letters_of (sym same.nodes)) in
+    let count : c.len-2.result ≡ length words = omega (arith, c.len-2.ensures, done.tree.spelled.sized) in
+    let sizes_are : c.put.new.items.items ≡ i.sizes.items ++ length words ∷ [] =
+    c.put.ensures.items ∙ ap (λ ns. ns ++ c.len-2.result ∷ []) c.reserve-2.ensures.items ∙ ap (λ n. i.sizes.items ++ n ∷ []) count in (
+      subst IsAscending (sym added) ascending,
+      (
+        done.tree,
+        (
+          subst (λ es. IsMarked es words tree.leasts.items) (sym added) marked,
+          (lettered, (subst (λ es. IsCounted es words c.put.new.items.items) (sym added) (subst (IsCounted (entries ++ (word, number) ∷ []) words) (sym sizes_are) counted), tt)),
+        ),
+      ),
+    )

@@ -1,0 +1,23 @@
+use Rattle.std.proofs.Common.{◌≡◌, ◌∙◌, ◌+◌, ◌++◌, ◌∷◌, [], ℕ, length, refl, subst, sym, ap, arith}
+use Rattle.std.proofs.lemmas.List.{get_or_read}
+use Rattle.rule_index.specs.declared.tree.Node.{Node}
+use Rattle.rule_index.specs.Automaton.{IsChained, added_node, node_at, root}
+use Rattle.rule_index.proofs.Chained.{chained-longer}
+use Rattle.rule_index.proofs.insertion.add.Goals as goal
+
+pub chain_one-requires-clause-chained : goal.chain_one-requires-clause-chained
+chain_one-requires-clause-chained c =
+    let old = c.args.tree.now in
+    let nodes = old.nodes.items in
+    let new = added_node nodes c.args.at c.args.letter in
+    let count : c.len-node.result ≡ length nodes = omega (arith, c.len-node.ensures) in
+    let read : c.index.result.now ≡ node_at nodes c.args.at = get_or_read nodes c.args.at c.index.result.now c.requires.inside c.index.ensures root in
+    let nodes_are : c.deref.result.now ≡ nodes ++ new ∷ [] =
+    c.deref.ensures.value ∙ c.put.ensures.items ∙ ap (λ (m : Node). nodes ++ record { parent = c.args.at; letter = c.args.letter; depth = m.depth + 1 } ∷ []) read in
+    let heads_are : c.deref_mut.result.now ≡ old.heads.items = c.deref_mut.ensures.value in
+    let nexts_are : c.deref_mut-2.result.now ≡ old.nexts.items ++ 0 ∷ [] = c.deref_mut-2.ensures.value ∙ c.put-2.ensures.items in
+    subst (λ ns. IsChained ns c.len-node.result c.deref_mut.result.now c.deref_mut-2.result.now) (sym nodes_are)
+    (subst (λ (n : ℕ). IsChained (nodes ++ new ∷ []) n c.deref_mut.result.now c.deref_mut-2.result.now) (sym count)
+    (subst (λ hs. IsChained (nodes ++ new ∷ []) (length nodes) hs c.deref_mut-2.result.now) (sym heads_are)
+    (subst (λ xs. IsChained (nodes ++ new ∷ []) (length nodes) old.heads.items xs) (sym nexts_are)
+    (chained-longer nodes (length nodes) old.heads.items old.nexts.items c.requires.tree.chained new refl))))

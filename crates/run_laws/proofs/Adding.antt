@@ -1,0 +1,51 @@
+-- What is added for a rest is appended, as what is kept asks.
+use Rattle.std.proofs.Common.{◌≢◌, ◌<◌, ◌<ℤ◌, ℕ, pos, Bool, List, [], ◌∷◌, length, refl, sym, ap, ◌∙◌, arith}
+use Rattle.std.specs.List.{All}
+use Rattle.std.proofs.lemmas.List.Elements.{All-from_recursion, recursion_from_All}
+use Rattle.definitions.specs.Poly.{Term, coefficient_of}
+use Rattle.definitions.specs.Quiver.{Quiver}
+use Rattle.word_core.specs.Letters.{IsOver}
+use Rattle.word_orders.specs.Admissible.{Compare}
+use Rattle.nc_polynomial.specs.Shape.{IsShaped}
+use Rattle.nc_polynomial.proofs.Distinct.{distinct-descending, words_listed, first_coefficient}
+use Rattle.nc_polynomial.proofs.Shapes.{recursion_from_IsDescending}
+use Rattle.cofactor_trace.specs.declared.Row.{Row}
+use Rattle.cofactor_trace.specs.declared.Made.{Made}
+use Rattle.rule_reduce.specs.declared.rule.Rule.{Rule}
+use Rattle.confluence.specs.Reductions.{IsNonzero}
+use Rattle.completion_laws.specs.Rests.{IsMadeOf, IsAppended, nothing_left, rule_made}
+use Rattle.completion_laws.specs.Typed.{IsTypedInPlay}
+use Rattle.completion_laws.proofs.MakingLaws.{scale_positive, pushed_rules_are_made}
+use Rattle.completion_laws.proofs.TypedLaws.{typed_has_no_empty_word}
+use Rattle.traced_completion.specs.Making.{Recorded, rest_with, leads_negative, IsMadeFrom, Adds}
+use Rattle.traced_completion.proofs.Quotients.{quotient_words, leading_positive}
+
+-- what holds of each word with a coefficient holds of each term
+listed : (P : List ℕ → Type 0) (p : List Term) → IsShaped p → ((w : List ℕ) → coefficient_of p w ≢ pos 0 → P w) → All (λ t. P t.1) p
+listed P p shaped each = All-from_recursion (λ t. P t.1) p (words_listed P p (distinct-descending p (recursion_from_IsDescending p shaped.descending)) (recursion_from_All (λ (t : Term). t.0 ≢ pos 0) p shaped.nonzero) each)
+
+-- a sorted list with a term isn't zero
+nonzero : (t : Term) (p : List Term) → IsShaped (t ∷ p) → IsNonzero (t ∷ p)
+nonzero t p shaped = record { word = t.1; occurs = λ none. (recursion_from_All (λ (u : Term). u.0 ≢ pos 0) (t ∷ p) shaped.nonzero).0 (sym (first_coefficient t p (distinct-descending (t ∷ p) (recursion_from_IsDescending (t ∷ p) shaped.descending)).0) ∙ none) }
+
+module _ (q : Quiver) (play : ℕ → Bool) (letters : ℕ) (compare : Compare) where
+  made_of : (t : Term) (p : List Term) (rows : List Row) (g : Rule) (m : Made) → IsShaped (t ∷ p) → All (λ u. IsOver letters u.1) (t ∷ p) → IsTypedInPlay q play (t ∷ p)
+      → IsMadeFrom compare (record { polynomial = t ∷ p; rows = rows }) g m → IsMadeOf letters compare (t ∷ p) rows g m
+  made_of t p rows g m shaped over typed from =
+      pushed_rules_are_made letters compare (t ∷ p) rows (leads_negative compare (t ∷ p)) g m some from.content from.divided from.leading
+      (leading_positive compare m.scale g.poly.terms (t ∷ p) scale from.divided (omega arith) shaped.nonzero)
+      (quotient_words (λ w. 0 < length w) _ g.poly.terms (t ∷ p) from.divided (listed (λ w. 0 < length w) (t ∷ p) shaped (typed_has_no_empty_word q play (t ∷ p) typed).at))
+      (quotient_words (IsOver letters) _ g.poly.terms (t ∷ p) from.divided over)
+      from.rows
+    where
+      some : IsNonzero (t ∷ p)
+      some = nonzero t p shaped
+
+      scale : pos 0 <ℤ m.scale
+      scale = scale_positive (t ∷ p) g.poly.terms (leads_negative compare (t ∷ p)) m.scale some from.content from.divided
+
+  pub appended : (p : List Term) (rows : List Row) (before after : Recorded) → IsShaped p → All (λ u. IsOver letters u.1) p → IsTypedInPlay q play p → Adds compare (rest_with p rows) before after → IsAppended letters compare p rows before.rules before.made after.rules after.made
+  appended [] rows before after shaped over typed same = nothing_left (record { at = λ w. refl }) (ap (λ (r : Recorded). r.rules) same) (ap (λ (r : Recorded). r.made) same)
+  appended (t ∷ p) rows before after shaped over typed extended =
+      rule_made extended.rule extended.made (made_of t p rows extended.rule extended.made shaped over typed extended.made_from)
+      (ap (λ (r : Recorded). r.rules) extended.appended) (ap (λ (r : Recorded). r.made) extended.appended)

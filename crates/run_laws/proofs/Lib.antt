@@ -1,0 +1,5 @@
+pub mod Adding
+pub mod RunsKept
+pub mod LaterRounds
+pub mod WholeRuns
+pub mod Turns

@@ -1,0 +1,241 @@
+-- Each statement has a problem or a fault.
+use Rattle.std.proofs.Common.{◌≡◌, ◌⊎◌, inl, inr, ℕ, ◌+◌, Bool, true, false, cond, not, ◌&&◌, nat_lt, List, [], ◌∷◌, ◌++◌, Option, Some, None, Result, Ok, Err, refl, ap}
+use Rattle.std.specs.Prelude.{⊤, is_some, sum_by}
+use Rattle.std.specs.List.{AllByRecursion}
+use Rattle.std.specs.Option.{option_or, option_map}
+use Rattle.definitions.specs.Poly.{Poly}
+use Rattle.definitions.specs.Quiver.{IsQuiver}
+use Rattle.definitions.proofs.UnitSound.{all-append}
+use Rattle.nc_polynomial.specs.declared.fault.PolyFault.{PolyFault}
+use Rattle.nc_polynomial.specs.declared.fault.PolyFault.TheVariants as polynomial
+use Rattle.nc_polynomial.specs.Faults as poly
+use Rattle.nc_polynomial.specs.Shape.{IsCanonical}
+use Rattle.quiver.specs.Declarations.{Declaration, quiver_of}
+use Rattle.quiver.proofs.Identities.{is_quiver}
+use Rattle.statement_syntax.specs.declared.place.Spot.{Spot}
+use Rattle.statement_syntax.specs.declared.tree.Statement.{Statement}
+use Rattle.statement_names.specs.declared.written.Equation.{Equation}
+use Rattle.statement_names.specs.declared.fault.NameFault.{NameFault}
+use Rattle.statement_names.specs.declared.fault.NameFault.TheVariants as name
+use Rattle.statement_names.specs.declared.kinds.Kind.{Kind}
+use Rattle.statement_names.specs.Occurrences as occurrence
+use Rattle.statement_names.specs.Faults.{fault_behind, first_fault, name_fault_of, kind_in, declared_in}
+use Rattle.statement_names.specs.Faults as names
+use Rattle.statement_names.specs.Ready.{IsReady}
+use Rattle.statement_names.specs.Numbered.{declarations_of}
+use Rattle.statement_names.specs.Written.{assumptions_of, claims_of}
+use Rattle.statement_names.specs.Ordered.{order_of}
+use Rattle.statement_names.specs.Marked.{is_starred, marked_of}
+use Rattle.statement_names.specs.Shapes.{shapes_of}
+use Rattle.statement_names.specs.Solved.{solved_of}
+use Rattle.statement_names.proofs.FileReady.{file_ready}
+use Rattle.expressions.specs.declared.fault.SignatureFault.{SignatureFault}
+use Rattle.expressions.specs.declared.fault.SignatureFault.TheVariants as signature
+use Rattle.expressions.proofs.Typed.{equations_are_typed}
+use Rattle.expressions.proofs.Written.{letters_are_written}
+use Rattle.adjoint_rules.specs.declared.parts.Parts.{Parts}
+use Rattle.adjoint_rules.specs.declared.problem.Problem.{Problem}
+use Rattle.adjoint_rules.proofs.Counted.{few_closed}
+use Rattle.signature_typing.specs.declared.fault.TypeFault.{TypeFault}
+use Rattle.signature_typing.specs.First.{first_among}
+use Rattle.signature_typing.specs.Fault.{told_name, told_signature, told_polynomial, IsMemory}
+use Rattle.signature_typing.specs.Typing.{signature_in, polynomial_in, fault_in, value_in, signatures_of, polynomials_of, equations_in, signature_fault, polynomial_fault, wrong_signature, wrong_polynomial, wrong_claims, fault_of, ArePartsOf, IsProblemOf}
+use Rattle.signature_typing.specs.Laws.{EachStatementHasAProblemOrAFault}
+use Rattle.signature_typing.proofs.Posed.{posed}
+use Rattle.signature_typing.proofs.Results.{Gives, equation_poly-gives}
+use Rattle.signature_typing.proofs.Generated.{Made, make, generators_exist}
+
+-- ---- no fault is want of memory
+
+abbrev IsTold : Option TypeFault → Type 0
+IsTold None = ⊤
+IsTold (Some f) = IsMemory f → ⊥
+
+told-or : (o p : Option TypeFault) → IsTold o → IsTold p → IsTold (option_or o p)
+told-or None p h k = k
+told-or (Some f) p h k = h
+
+told-first : {A : Type 0} (f : A → Option TypeFault) → ((x : A) → IsTold (f x)) → (xs : List A) → IsTold (first_among f xs)
+told-first f h [] = tt
+told-first f h (x ∷ xs) = told-or (f x) (first_among f xs) (h x) (told-first f h xs)
+
+-- of names
+abbrev IsNamed : Option NameFault → Type 0
+IsNamed None = ⊤
+IsNamed (Some f) = names.IsMemory f → ⊥
+
+if-fault : (b : Bool) (f : NameFault) (p : Option NameFault) → (names.IsMemory f → ⊥) → IsNamed p → IsNamed (cond b (Some f) p)
+if-fault true f p h k = h
+if-fault false f p h k = k
+
+if-none : (b : Bool) (f : NameFault) → (names.IsMemory f → ⊥) → IsNamed (cond b None (Some f))
+if-none true f h = tt
+if-none false f h = h
+
+named-or : (o p : Option NameFault) → IsNamed o → IsNamed p → IsNamed (option_or o p)
+named-or None p h k = k
+named-or (Some f) p h k = h
+
+named-behind : (kind : List ℕ → Option Kind) (before : List occurrence.Occurrence) (o : occurrence.Occurrence) → IsNamed (fault_behind kind before o)
+named-behind kind before (occurrence.declares_object n) = go (is_some (kind_in (declared_in before) n.text)) (nat_lt 64 (sum_by names.objects_by before + 1))
+  where
+    go : (double many : Bool) → IsNamed (cond double (Some (name.Double n.at)) (cond many (Some (name.TooMany n.at 64)) None))
+    go true many = λ m. m
+    go false true = λ m. m
+    go false false = tt
+named-behind kind before (occurrence.declares_map n source target selfmade) = go (is_some (kind_in (declared_in before) n.text)) (nat_lt 200 (sum_by names.maps_by before + 1)) (selfmade && names.are_two_objects kind source target)
+  where
+    go : (double many apart : Bool) → IsNamed (cond double (Some (name.Double n.at)) (cond many (Some (name.TooMany n.at 200)) (cond apart (Some (name.NotSquare n.at)) None)))
+    go true many apart = λ m. m
+    go false true apart = λ m. m
+    go false false true = λ m. m
+    go false false false = tt
+named-behind kind before (occurrence.uses u) = if-none (names.is_kind (kind u.name.text) u.kind) (name.Unknown u.name.at) (λ m. m)
+named-behind kind before (occurrence.lists front u) = go (not (names.is_kind (kind u.name.text) u.kind)) (names.is_among front u.name.text)
+  where
+    go : (unknown double : Bool) → IsNamed (cond unknown (Some (name.Unknown u.name.at)) (cond double (Some (name.Double u.name.at)) None))
+    go true double = λ m. m
+    go false true = λ m. m
+    go false false = tt
+named-behind kind before (occurrence.counts most n) = if-none (names.is_between 1 most (names.value_of n.value)) (name.BadNumber n.at) (λ m. m)
+named-behind kind before (occurrence.modulus n) = if-none (names.is_modulus (names.value_of n.value)) (name.BadNumber n.at) (λ m. m)
+named-behind kind before (occurrence.begins_order at) = if-fault (nat_lt 1 (sum_by names.orders_by before + 1)) (name.Double at) None (λ m. m) tt
+named-behind kind before (occurrence.begins_assumptions count at) = if-fault (nat_lt 500 (sum_by names.assumptions_by before + count)) (name.TooMany at 500) None (λ m. m) tt
+named-behind kind before (occurrence.begins_claim at) = if-fault (nat_lt 100 (sum_by names.claims_by before + 1)) (name.TooMany at 100) None (λ m. m) tt
+named-behind kind before (occurrence.begins_shape at) = if-fault (nat_lt 16 (sum_by names.shapes_by before + 1)) (name.TooMany at 16) None (λ m. m) tt
+
+named-first : (kind : List ℕ → Option Kind) (before os : List occurrence.Occurrence) → IsNamed (first_fault kind before os)
+named-first kind before [] = tt
+named-first kind before (o ∷ os) = named-or (fault_behind kind before o) (first_fault kind (before ++ o ∷ []) os) (named-behind kind before o) (named-first kind (before ++ o ∷ []) os)
+
+told-name : (f : NameFault) → (names.IsMemory f → ⊥) → IsMemory (told_name f) → ⊥
+told-name (name.Unknown at) h = λ m. m
+told-name (name.Double at) h = λ m. m
+told-name (name.TooMany at limit) h = λ m. m
+told-name (name.NotSquare at) h = λ m. m
+told-name (name.BadNumber at) h = λ m. m
+told-name (name.Memory e) h = h
+
+-- of signatures
+told-signature : (ds : List Declaration) (f : SignatureFault) → IsMemory (told_signature ds f) → ⊥
+told-signature ds (signature.NotComposable at left right) = λ m. m
+told-signature ds (signature.SumMismatch at left right) = λ m. m
+told-signature ds (signature.OpenZero at) = λ m. m
+
+told-signatures : (ds : List Declaration) (e : Equation) → IsTold (signature_fault ds e)
+told-signatures ds e = go (signature_in ds e)
+  where
+    go : {A : Type 0} (r : Result A SignatureFault) → IsTold (fault_in (told_signature ds) r)
+    go (Ok x) = tt
+    go (Err f) = told-signature ds f
+
+-- of arithmetic
+told-arithmetic : (at : Spot) (f : PolyFault) → (poly.IsMemory f → ⊥) → IsMemory (told_polynomial at f) → ⊥
+told-arithmetic at (polynomial.Overflow o) h = λ m. m
+told-arithmetic at (polynomial.Size s) h = λ m. m
+told-arithmetic at (polynomial.Memory e) h = h
+
+told-polynomials : (ds : List Declaration) → IsQuiver (quiver_of ds) → (at : Spot) (e : Equation) → IsTold (polynomial_fault ds at e)
+told-polynomials ds quiver at e = go (polynomial_in ds e) (equation_poly-gives ds quiver e.left e.right)
+  where
+    go : (r : Result Poly PolyFault) → Gives IsCanonical r → IsTold (fault_in (told_polynomial at) r)
+    go (Ok p) h = tt
+    go (Err f) h = told-arithmetic at f h
+
+-- ---- equations of which none is wrong have polynomials within the limits
+
+values-canonical : (ds : List Declaration) → IsQuiver (quiver_of ds) → (es : List Equation) → AllByRecursion IsCanonical (polynomials_of ds es)
+values-canonical ds quiver [] = tt
+values-canonical ds quiver (e ∷ es) = all-append IsCanonical (value_in (polynomial_in ds e)) (polynomials_of ds es) (go (polynomial_in ds e) (equation_poly-gives ds quiver e.left e.right)) (values-canonical ds quiver es)
+  where
+    go : (r : Result Poly PolyFault) → Gives IsCanonical r → AllByRecursion IsCanonical (value_in r)
+    go (Ok p) h = (h, tt)
+    go (Err f) h = tt
+
+-- ---- a file whose names are in order
+
+module _ (statements : List Statement) (clean : name_fault_of statements ≡ None) where
+  abbrev ds : List Declaration
+  ds = declarations_of statements
+
+  ready : IsReady (declarations_of statements) statements
+  ready = file_ready statements clean
+
+  quiver : IsQuiver (quiver_of (declarations_of statements))
+  quiver = is_quiver (declarations_of statements) ready.declared ready.objects_first
+
+  told : (o : Option NameFault) → o ≡ None
+      → IsTold (option_or (option_map told_name o) (option_or (first_among (wrong_signature (declarations_of statements)) statements) (option_or (first_among (wrong_polynomial (declarations_of statements)) statements) (wrong_claims (claims_of statements)))))
+  told None is =
+      told-or (first_among (wrong_signature ds) statements) _ (told-first (wrong_signature ds) (λ s. told-first (signature_fault ds) (told-signatures ds) (equations_in ds s)) statements)
+      (told-or (first_among (wrong_polynomial ds) statements) _ (told-first (wrong_polynomial ds) (λ s. told-first (polynomial_fault ds s.at) (told-polynomials ds quiver s.at) (equations_in ds s)) statements) (claims (claims_of statements)))
+    where
+      claims : (es : List Equation) → IsTold (wrong_claims es)
+      claims [] = λ m. m
+      claims (e ∷ es) = tt
+  told (Some f) is = absurd (cc)
+
+  -- where nothing else is wrong either
+  module _ (fine : fault_of statements ≡ None) where
+    later : (o : Option NameFault) (a b c : Option TypeFault) → option_or (option_map told_name o) (option_or a (option_or b c)) ≡ None → (a ≡ None) × (b ≡ None)
+    later None None None c e = (refl, refl)
+    later None None (Some f) c e = absurd (cc)
+    later None (Some f) b c e = absurd (cc)
+    later (Some f) a b c e = absurd (cc)
+
+    none_wrong : (first_among (wrong_signature (declarations_of statements)) statements ≡ None) × (first_among (wrong_polynomial (declarations_of statements)) statements ≡ None)
+    none_wrong = later (name_fault_of statements) (first_among (wrong_signature (declarations_of statements)) statements) (first_among (wrong_polynomial (declarations_of statements)) statements) (wrong_claims (claims_of statements)) fine
+
+    assumed : Made (polynomials_of (declarations_of statements) (assumptions_of (declarations_of statements) statements))
+    assumed = make _ (values-canonical (declarations_of statements) quiver (assumptions_of (declarations_of statements) statements))
+
+    claimed : Made (polynomials_of (declarations_of statements) (claims_of statements))
+    claimed = make _ (values-canonical (declarations_of statements) quiver (claims_of statements))
+
+    parts : Parts
+    parts = record {
+      quiver = declarations_of statements;
+      order = order_of (declarations_of statements) statements;
+      starred = is_starred statements;
+      marked = marked_of (declarations_of statements) statements;
+      assumptions = assumed.polys;
+      sigs = signatures_of (declarations_of statements) (assumptions_of (declarations_of statements) statements);
+      claims = claimed.polys;
+      claim_sigs = signatures_of (declarations_of statements) (claims_of statements);
+      shapes = shapes_of (declarations_of statements) statements;
+      solved = solved_of (declarations_of statements) statements;
+    }
+
+    are_parts : ArePartsOf statements parts
+    unfolding parts
+    are_parts = record {
+      quiver = refl;
+      order = refl;
+      starred = refl;
+      marked = refl;
+      assumptions = assumed.are;
+      signatures = refl;
+      claims = claimed.are;
+      claim_signatures = refl;
+      shapes = refl;
+      solved = refl;
+    }
+
+    problem : (p : Problem) × IsProblemOf statements p
+    unfolding parts
+    problem =
+        let is_posed = posed equations_are_typed letters_are_written statements parts are_parts ready none_wrong.0 none_wrong.1 in
+        let g = generators_exist parts is_posed in
+        (record { parts = parts; generators = g.list; posed = is_posed; closed = g.closed; few = few_closed parts g.list is_posed g.closed }, record { no_fault = fine; parts = are_parts })
+
+  by_fault : (o : Option TypeFault) → fault_of statements ≡ o → IsTold o → ((fault : TypeFault) × (fault_of statements ≡ Some fault) × (IsMemory fault → ⊥)) ⊎ ((p : Problem) × IsProblemOf statements p)
+  by_fault None fine h = inr (problem fine)
+  by_fault (Some f) is h = inl (f, is, h)
+
+pub each_statement_has_a_problem_or_a_fault : EachStatementHasAProblemOrAFault
+each_statement_has_a_problem_or_a_fault statements = by (name_fault_of statements) refl (named-first (kind_in (declared_in (occurrence.occurrences_of statements))) [] (occurrence.occurrences_of statements))
+  where
+    by : (o : Option NameFault) → name_fault_of statements ≡ o → IsNamed o → ((fault : TypeFault) × (fault_of statements ≡ Some fault) × (IsMemory fault → ⊥)) ⊎ ((p : Problem) × IsProblemOf statements p)
+    by None clean h = by_fault statements clean (fault_of statements) refl (told statements clean (name_fault_of statements) clean)
+    by (Some f) is h =
+        inl (told_name f, ap (λ o. option_or (option_map told_name o) (option_or (first_among (wrong_signature (declarations_of statements)) statements) (option_or (first_among (wrong_polynomial (declarations_of statements)) statements) (wrong_claims (claims_of statements))))) is, told-name f h)

@@ -1,0 +1,173 @@
+-- What is asked of the parts of a statement has generators.
+use Rattle.std.proofs.Common.{◌≡◌, ◌≢◌, ℕ, zero, suc, ◌+◌, ◌≤◌, ℤ, pos, negsuc, ◌+ℤ◌, Bool, true, false, cond, ◌||◌, eqb, leb, List, [], ◌∷◌, ◌++◌, length, map, refl, sym, ap, subst, arith}
+use Rattle.std.specs.List.{AllByRecursion, AllZip, flat_map, range_with_len}
+use Rattle.std.specs.declared.cmp.Ordering.{Ordering}
+use Rattle.std.specs.declared.cmp.Ordering.TheVariants.{Less, Equal, Greater}
+use Rattle.std.proofs.lemmas.List.{length-append, length-map}
+use Rattle.std.proofs.lemmas.List.Elements.{All-from_recursion, recursion_from_All}
+use Rattle.coef_int.specs.Range.{IsCoefficient}
+use Rattle.word_core.specs.Canonical.{word_cmp}
+use Rattle.definitions.specs.Poly.{Poly, Term, SamePolynomial, poly_eq, poly_multiple}
+use Rattle.definitions.specs.Quiver.{Quiver, IsQuiver, source, target, star}
+use Rattle.definitions.specs.Generators.{adjoint_word, adjoint_poly, new_adjoint, left_unit, right_unit, letter_units, units, generators_of}
+use Rattle.definitions.proofs.UnitSound.{all-append, all-flat_map}
+use Rattle.nc_polynomial.specs.declared.poly.Poly as made
+use Rattle.nc_polynomial.specs.Terms.{Pair, only_right, keep, by_order, aligned, aligned_at, totals}
+use Rattle.nc_polynomial.specs.Collected.{collected}
+use Rattle.nc_polynomial.specs.Shape.{IsCanonical}
+use Rattle.nc_polynomial.proofs.CollectedTerms.{coefficient_of-collected}
+use Rattle.nc_polynomial.proofs.Shapes.{IsDescending-from_recursion, all-totals, all-aligned}
+use Rattle.adjoint_rules.specs.declared.parts.Parts.{Parts}
+use Rattle.adjoint_rules.specs.Problem.{polynomials, numbers, IsPosed, IsClosed, generators_in}
+use Rattle.adjoint_rules.proofs.Generators.{posed_quiver}
+use Rattle.adjoint_rules.proofs.NewAdjoints.{AllZip-append, each_same}
+use Rattle.quiver.specs.Declarations.{quiver_of}
+use Rattle.signature_typing.proofs.Results.{shaped-adjoint}
+
+-- ---- polynomials of lists that are within the limits
+
+pub record Made (ps : List Poly) : Type 0 where
+  pub polys : List made.Poly
+  pub are : polynomials polys ≡ ps
+
+pub make : (ps : List Poly) → AllByRecursion IsCanonical ps → Made ps
+make [] h = record { polys = []; are = refl }
+make (p ∷ ps) h = let rest = make ps h.1 in record { polys = record { terms = p; canonical = h.0 } ∷ rest.polys; are = ap (λ others. p ∷ others) rest.are }
+
+pub canonical_polynomials : (ps : List made.Poly) → AllByRecursion IsCanonical (polynomials ps)
+canonical_polynomials [] = tt
+canonical_polynomials (p ∷ ps) = (p.canonical, canonical_polynomials ps)
+
+-- ---- the size of an adjoint
+
+length-keep : (z : ℤ) (w : List ℕ) (p : Poly) → length (keep z w p) ≤ length p + 1
+length-keep (pos zero) w p = omega arith
+length-keep (pos (suc n)) w p = omega arith
+length-keep (negsuc n) w p = omega arith
+
+length-totals : (pairs : List Pair) → length (totals pairs) ≤ length pairs
+length-totals [] = omega arith
+length-totals (a ∷ rest) = omega (arith, length-keep (a.0 +ℤ a.1) a.2 (totals rest), length-totals rest)
+
+length-aligned_at : (x : Term) (n : ℕ) (rest : Poly → List Pair) → ((q : Poly) → length (rest q) ≤ n + length q) → (q : Poly) → length (aligned_at x q rest) ≤ n + length q + 1
+length-aligned_at x n rest h [] = omega (arith, h [])
+length-aligned_at x n rest h (y ∷ q) = go (word_cmp x.1 y.1) (length-aligned_at x n rest h q) (h q) (h (y ∷ q))
+  where
+    go : (o : Ordering) → length (aligned_at x q rest) ≤ n + length q + 1 → length (rest q) ≤ n + length q → length (rest (y ∷ q)) ≤ n + length (y ∷ q)
+        → length (by_order o ((pos 0, y.0, y.1) ∷ aligned_at x q rest) ((x.0, y.0, x.1) ∷ rest q) ((x.0, pos 0, x.1) ∷ rest (y ∷ q))) ≤ n + length (y ∷ q) + 1
+    go Less a b c = omega arith
+    go Equal a b c = omega arith
+    go Greater a b c = omega arith
+
+length-aligned : (p q : Poly) → length (aligned p q) ≤ length p + length q
+length-aligned [] q = let same : length (map only_right q) ≡ length q = length-map q only_right in omega (arith, same)
+length-aligned (x ∷ p) q = omega (arith, length-aligned_at x (length p) (aligned p) (length-aligned p) q)
+
+length-collected : (p : Poly) → length (collected p) ≤ length p
+length-collected [] = omega arith
+length-collected (t ∷ p) = omega (arith, length-totals (aligned (t ∷ []) (collected p)), length-aligned (t ∷ []) (collected p), length-collected p)
+
+words-collected : (P : List ℕ → Type 0) (p : Poly) → AllByRecursion (λ t. P t.1) p → AllByRecursion (λ t. P t.1) (collected p)
+words-collected P [] h = tt
+words-collected P (t ∷ p) h = all-totals P (aligned (t ∷ []) (collected p)) (all-aligned P (t ∷ []) (collected p) (h.0, tt) (words-collected P p h.1))
+
+length-adjoint_word : (q : Quiver) (w : List ℕ) → length (adjoint_word q w) ≡ length w
+length-adjoint_word q [] = refl
+length-adjoint_word q (a ∷ w) = let more : length (adjoint_word q w ++ (star q a ∷ [])) ≡ length (adjoint_word q w) + 1 = length-append (adjoint_word q w) (star q a ∷ []) in omega (arith, more, length-adjoint_word q w)
+
+short-adjoint : (q : Quiver) (p : Poly) → AllByRecursion (λ t. length t.1 ≤ 500) p → AllByRecursion (λ t. length t.1 ≤ 500) (adjoint_poly q p)
+short-adjoint q [] h = tt
+short-adjoint q (t ∷ p) h = (omega (arith, h.0, length-adjoint_word q t.1), short-adjoint q p h.1)
+
+canonical-adjoint : (q : Quiver) → IsQuiver q → (p : Poly) → IsCanonical p → IsCanonical (collected (adjoint_poly q p))
+canonical-adjoint q quiver p h = record {
+  shaped = shaped-adjoint q quiver p h.shaped;
+  short = All-from_recursion (λ (t : Term). length t.1 ≤ 500) (collected (adjoint_poly q p)) (words-collected (λ w. length w ≤ 500) (adjoint_poly q p) (short-adjoint q p (recursion_from_All (λ (t : Term). length t.1 ≤ 500) p h.short)));
+  few = let same : length (adjoint_poly q p) ≡ length p = length-map p _ in omega (arith, h.few, same, length-collected (adjoint_poly q p));
+}
+
+-- ---- the relations of identities
+
+canonical-unit : (u : List ℕ) (a : ℕ) → length u ≡ 2 → word_cmp u (a ∷ []) ≡ Greater → IsCanonical ((pos 1, u) ∷ (negsuc 0, a ∷ []) ∷ [])
+canonical-unit u a two above =
+    let p : Poly = (pos 1, u) ∷ (negsuc 0, a ∷ []) ∷ [] in
+    record {
+      shaped = record {
+        descending = IsDescending-from_recursion p ((above, tt), (tt, tt));
+        nonzero = All-from_recursion (λ (t : Term). t.0 ≢ pos 0) p ((λ e. cc), ((λ e. cc), tt));
+        in_range = All-from_recursion (λ (t : Term). IsCoefficient t.0) p (omega arith, (omega arith, tt));
+      };
+      short = All-from_recursion (λ (t : Term). length t.1 ≤ 500) p (omega (arith, two), (omega arith, tt));
+      few = omega arith;
+    }
+
+canonical-left : (v a : ℕ) → IsCanonical (left_unit v a)
+canonical-left v a = canonical-unit (v ∷ a ∷ []) a refl refl
+
+canonical-right : (v a : ℕ) → IsCanonical (right_unit v a)
+canonical-right v a = canonical-unit (a ∷ v ∷ []) a refl refl
+
+canonical-letter_units : (q : Quiver) (starred : Bool) (v a : ℕ) → AllByRecursion IsCanonical (letter_units q starred v a)
+canonical-letter_units q starred v a = outer (starred || leb a (star q a))
+  where
+    left : (b : Bool) → AllByRecursion IsCanonical (cond b (left_unit v a ∷ []) [])
+    left true = (canonical-left v a, tt)
+    left false = tt
+
+    right : (b : Bool) → AllByRecursion IsCanonical (cond b (right_unit v a ∷ []) [])
+    right true = (canonical-right v a, tt)
+    right false = tt
+
+    outer : (b : Bool) → AllByRecursion IsCanonical (cond b ((cond (eqb (target q a) v) (left_unit v a ∷ []) []) ++ (cond (eqb (source q a) v) (right_unit v a ∷ []) [])) [])
+    outer true = all-append IsCanonical _ _ (left (eqb (target q a) v)) (right (eqb (source q a) v))
+    outer false = tt
+
+canonical-units : (q : Quiver) (starred : Bool) (v : ℕ) → AllByRecursion IsCanonical (units q starred v)
+canonical-units q starred v = (canonical-left v v, all-flat_map IsCanonical (letter_units q starred v) (λ a. canonical-letter_units q starred v a) (range_with_len q.objects _))
+
+-- ---- lists that say the same
+
+record Closed (target : List Poly) : Type 0 where
+  list : List Poly
+  canonical : AllByRecursion IsCanonical list
+  same : AllZip SamePolynomial list target
+
+closed-itself : (ps : List Poly) → AllByRecursion IsCanonical ps → Closed ps
+closed-itself ps h = record { list = ps; canonical = h; same = each_same ps }
+
+closed-append : (ps qs : List Poly) → Closed ps → Closed qs → Closed (ps ++ qs)
+closed-append ps qs c d = record { list = c.list ++ d.list; canonical = all-append IsCanonical c.list d.list c.canonical d.canonical; same = AllZip-append SamePolynomial c.list d.list ps qs c.same d.same }
+
+module _ (q : Quiver) (quiver : IsQuiver q) where
+  closed-adjoint : (p : Poly) → IsCanonical p → Closed (new_adjoint q p)
+  closed-adjoint p h = go (poly_eq (adjoint_poly q p) p || poly_eq (adjoint_poly q p) (poly_multiple (negsuc 0) p))
+    where
+      go : (b : Bool) → Closed (cond b [] (adjoint_poly q p ∷ []))
+      go true = record { list = []; canonical = tt; same = tt }
+      go false = record {
+        list = collected (adjoint_poly q p) ∷ [];
+        canonical = (canonical-adjoint q quiver p h, tt);
+        same = (record { at = coefficient_of-collected (adjoint_poly q p) }, tt);
+      }
+
+  closed-adjoints : (ps : List Poly) → AllByRecursion IsCanonical ps → Closed (flat_map (new_adjoint q) ps)
+  closed-adjoints [] h = closed-itself [] tt
+  closed-adjoints (p ∷ ps) h = closed-append (new_adjoint q p) (flat_map (new_adjoint q) ps) (closed-adjoint p h.0) (closed-adjoints ps h.1)
+
+  closed-generators : (starred : Bool) (marked : List ℕ) (ps : List Poly) → AllByRecursion IsCanonical ps → Closed (generators_of q starred marked ps)
+  closed-generators starred marked ps h =
+      closed-append ps _ (closed-itself ps h) (closed-append _ (flat_map (units q starred) marked) (adjoints starred) (closed-itself (flat_map (units q starred) marked) (all-flat_map IsCanonical (units q starred) (canonical-units q starred) marked)))
+    where
+      adjoints : (b : Bool) → Closed (cond b (flat_map (new_adjoint q) ps) [])
+      adjoints true = closed-adjoints ps h
+      adjoints false = closed-itself [] tt
+
+pub record Generators (p : Parts) : Type 0 where
+  pub list : List made.Poly
+  pub closed : IsClosed p list
+
+pub generators_exist : (p : Parts) → IsPosed p → Generators p
+generators_exist p posed =
+    let c = closed-generators (quiver_of p.quiver) (posed_quiver p posed) p.starred (numbers p.marked) (polynomials p.assumptions) (canonical_polynomials p.assumptions) in
+    let m = make c.list c.canonical in
+    record { list = m.polys; closed = record { same = subst (λ l. AllZip SamePolynomial l (generators_in p)) (sym m.are) c.same } }

@@ -1,0 +1,68 @@
+-- Each text has a tree or a first fault.
+use Rattle.std.proofs.Common.{◌≡◌, ◌⊎◌, inl, inr, ℕ, Bool, true, false, List, [], ◌∷◌, ◌++◌, Result, Ok, Err, refl, sym, subst, ◌∙◌, append_assoc, append-nil, true≢false}
+use Rattle.std.specs.Str.{IsUtf8, is_utf8, chars}
+use Rattle.std.specs.Str.Lossy.{utf8_valid_len}
+use Rattle.std.proofs.lemmas.Str.{IsUtf8-from_is_utf8, is_utf8-from_IsUtf8}
+use Rattle.statement_syntax.specs.declared.place.Spot.{Spot}
+use Rattle.statement_syntax.specs.declared.token.Token.{Token}
+use Rattle.statement_syntax.specs.declared.tree.Statement.{Statement}
+use Rattle.statement_syntax.specs.declared.expression.Misfit.{Misfit}
+use Rattle.statement_syntax.specs.declared.read.Progress.{Progress}
+use Rattle.statement_syntax.specs.declared.scan.Placed.{Placed}
+use Rattle.statement_syntax.specs.declared.scan.ScanFault.{ScanFault}
+use Rattle.statement_syntax.specs.declared.scan.ScanFault.TheVariants as scan
+use Rattle.statement_syntax.specs.declared.fault.Fault.{Fault}
+use Rattle.statement_syntax.specs.declared.fault.Fault.TheVariants as fault
+use Rattle.statement_syntax.specs.Steps.{run}
+use Rattle.statement_syntax.specs.Lines.{beginning, file_step}
+use Rattle.statement_syntax.specs.Token.{tokens_of}
+use Rattle.statement_syntax.specs.Fault.{IsTreeOf, IsFirstFault, TellsFirstFault, fault_at, misfit_fault}
+use Rattle.statement_syntax.specs.Stages.{StoppedAt, AllRead}
+use Rattle.statement_syntax.specs.Laws.{EachTextIsRead}
+use Rattle.statement_syntax.proofs.Stopping.{goes_on, is_found, is_first}
+
+-- all tokens are read, or one is the first that isn't
+data Comes (ts : List Token) : Type 0 where
+  to_end : (statements : List Statement) → AllRead ts statements → Comes ts
+  to_misfit : (misfit : Misfit) (at : Spot) → StoppedAt ts (fault_at (misfit_fault misfit) at) → Comes ts
+
+comes_from : (front rest : List Token) (p : Progress) → run file_step beginning front ≡ Ok p → Comes (front ++ rest)
+comes_from front [] p ran = subst Comes (sym (append-nil front)) (to_end p.statements (p, ran, refl))
+comes_from front (t ∷ rest) p ran = by (file_step p t) refl (λ next steps. comes_from (front ++ t ∷ []) rest next (goes_on front t p next ran steps))
+  where
+    by : (next : Result Progress Misfit) → file_step p t ≡ next → ((state : Progress) → file_step p t ≡ Ok state → Comes ((front ++ t ∷ []) ++ rest)) → Comes (front ++ t ∷ rest)
+    by (Ok next) steps more = subst Comes (append_assoc front (t ∷ []) rest) (more next steps)
+    by (Err misfit) stops more = to_misfit misfit t.at (record { front = front; token = t; rest = rest; splits = refl; progress = p; ran = ran; misfit = misfit; stops = stops; tells = refl })
+
+comes : (ts : List Token) → Comes ts
+unfolding run
+comes ts = comes_from [] ts beginning refl
+
+-- what is told of a text
+abbrev IsRead : List ℕ → Type 0
+IsRead bytes = ((statements : List Statement) × IsTreeOf bytes statements) ⊎ ((f : Fault) × ((at : Spot) × IsFirstFault bytes f at))
+
+module _ (bytes : List ℕ) (utf8 : IsUtf8 bytes) where
+  scanned : (placed : Placed) → tokens_of (chars bytes) ≡ Err placed → IsRead bytes
+  scanned placed fails = by placed.fault refl
+    where
+      by : (f : ScanFault) → placed.fault ≡ f → IsRead bytes
+      by scan.BadToken is = inr (fault.BadToken, (placed.at, (utf8, fails ∙ (λ i. Err (record { fault = is i; at = placed.at })))))
+      by scan.LiteralTooLarge is = inr (fault.LiteralTooLarge, (placed.at, (utf8, fails ∙ (λ i. Err (record { fault = is i; at = placed.at })))))
+
+  read_on : (ts : List Token) → tokens_of (chars bytes) ≡ Ok ts → Comes ts → IsRead bytes
+  read_on ts read (to_end statements all) = inl (statements, is_found bytes ts statements utf8 read all)
+  read_on ts read (to_misfit misfit at stopped) =
+      let first : TellsFirstFault bytes (fault_at (misfit_fault misfit) at) = is_first bytes ts (fault_at (misfit_fault misfit) at) utf8 read stopped in
+      inr (first.0, (at, first.2))
+
+  by_tokens : (tokens : Result (List Token) Placed) → tokens_of (chars bytes) ≡ tokens → IsRead bytes
+  by_tokens (Ok ts) read = read_on ts read (comes ts)
+  by_tokens (Err placed) fails = scanned placed fails
+
+pub each_text_is_read : EachTextIsRead
+each_text_is_read bytes = by (is_utf8 bytes) refl
+  where
+    by : (b : Bool) → is_utf8 bytes ≡ b → IsRead bytes
+    by true is = by_tokens bytes (IsUtf8-from_is_utf8 bytes is) (tokens_of (chars bytes)) refl
+    by false is = inr (fault.NotUtf8, (record { line = 0; column = utf8_valid_len bytes }, ((λ utf8. true≢false (sym (is_utf8-from_IsUtf8 bytes utf8) ∙ is)), refl)))

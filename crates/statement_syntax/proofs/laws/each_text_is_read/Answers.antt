@@ -1,0 +1,5 @@
+use Rattle.statement_syntax.proofs.EachText as lemma
+use Rattle.statement_syntax.proofs.laws.each_text_is_read.Goals as goal
+
+pub returns : goal.returns
+returns c = lemma.each_text_is_read

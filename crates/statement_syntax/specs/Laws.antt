@@ -1,0 +1,10 @@
+-- Each text is read.
+use Rattle.std.specs.Prelude.{ℕ, ◌⊎◌, List}
+use Rattle.statement_syntax.specs.declared.place.Spot.{Spot}
+use Rattle.statement_syntax.specs.declared.tree.Statement.{Statement}
+use Rattle.statement_syntax.specs.declared.fault.Fault.{Fault}
+use Rattle.statement_syntax.specs.Fault.{IsTreeOf, IsFirstFault}
+
+-- Each text has a tree or a first fault.
+abbrev pub EachTextIsRead : Type 0
+EachTextIsRead = (bytes : List ℕ) → ((statements : List Statement) × IsTreeOf bytes statements) ⊎ ((fault : Fault) × ((at : Spot) × IsFirstFault bytes fault at))

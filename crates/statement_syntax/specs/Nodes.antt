@@ -1,0 +1,26 @@
+-- The nodes of trees, by their parts.
+use Rattle.std.specs.Prelude.{ℕ, Bool, List, [], ◌∷◌, ◌++◌, Option}
+use Rattle.statement_syntax.specs.declared.place.Spot.{Spot}
+use Rattle.statement_syntax.specs.declared.tree.Name.{Name}
+use Rattle.statement_syntax.specs.declared.tree.Number.{Number}
+use Rattle.statement_syntax.specs.declared.tree.Mark.{Mark}
+use Rattle.statement_syntax.specs.declared.tree.Mark.TheVariants.{Adjoint}
+use Rattle.statement_syntax.specs.declared.tree.Primary.{Primary}
+use Rattle.statement_syntax.specs.declared.tree.Factor.{Factor, roll-Factor, out-Factor}
+use Rattle.statement_syntax.specs.declared.tree.Term.{Term, roll-Term}
+use Rattle.statement_syntax.specs.declared.tree.Sum.{Sum, roll-Sum}
+
+abbrev pub name_with : List ℕ → Spot → Name
+name_with text at = record { text = text; at = at }
+
+abbrev pub factor_of : Spot → Primary → List Mark → Factor
+factor_of at primary marks = roll-Factor (record { at = at; primary = primary; marks = marks })
+
+abbrev pub term_of : Spot → Bool → Option Number → List Factor → Term
+term_of at negative l fs = roll-Term (record { at = at; negative = negative; literal = l; factors = fs })
+
+abbrev pub sum_of : Spot → List Term → Sum
+sum_of at terms = roll-Sum (record { at = at; terms = terms })
+
+abbrev pub marked_factor : Factor → Factor
+marked_factor f = factor_of (out-Factor f).at (out-Factor f).primary ((out-Factor f).marks ++ Adjoint ∷ [])

@@ -1,0 +1,43 @@
+-- Rows that are written over one after another.
+use Rattle.std.proofs.Common.{◌≡◌, ◌<◌, ℕ, ◌+◌, ◌-◌, ℤ, ◌*ℤ◌, List, ◌∷◌, ◌++◌, length, map, take, drop, set, get_or, Some, sym, ap, ◌∙◌, arith}
+use Rattle.std.proofs.lemmas.Bool.Decides.{nat_tests}
+use Rattle.std.proofs.lemmas.List.{drop_more, get_or-append_right, get_or-drop, length-map, length-take-le}
+use Rattle.std.proofs.lemmas.List.Edits.{map_over_more}
+use Rattle.coef_int.specs.declared.Overflow.{Overflow}
+use Rattle.coef_int.specs.Range.{IsCoefficient}
+use Rattle.coef_int.specs.Operations.{product_of, first_overflow}
+use Rattle.nc_polynomial.proofs.Chains.{first-fits}
+use Rattle.cofactor_trace.specs.declared.Row.{Row}
+use Rattle.rule_reduce.specs.Steps.{row_operations}
+
+-- one row more is written over
+pub written_more : (f : Row → Row) (xs ys : List Row) (i : ℕ) (row written : Row) → i < length xs → ys ≡ map f (take i xs) ++ drop i xs → row ≡ get_or ys i row → written ≡ f row
+    → set ys i written ≡ map f (take (i + 1) xs) ++ drop (i + 1) xs
+written_more f xs ys i row written below so_far is same = ap (set ys i) same ∙ map_over_more f xs ys i row below so_far is
+
+-- the row that is written over is the one that stood there at first
+pub still_there : (f : Row → Row) (xs ys : List Row) (i : ℕ) (row : Row) → i < length xs → ys ≡ map f (take i xs) ++ drop i xs → row ≡ get_or ys i row → row ≡ get_or xs i row
+still_there f xs ys i row below so_far is =
+    let front : length (map f (take i xs)) ≡ i = length-map (take i xs) f ∙ length-take-le i xs (omega arith) in
+    is ∙ ap (λ zs. get_or zs i row) so_far ∙ get_or-append_right (map f (take i xs)) (drop i xs) i i row front (omega arith)
+    ∙ get_or-drop i xs (i - i) row ∙ ap (λ n. get_or xs n row) (no_more i)
+  where
+    no_more : (n : ℕ) → n + (n - n) ≡ n
+    no_more n = omega arith
+
+-- no product before it overflows, nor its own
+pub none_before : (xs : List Row) (i : ℕ) (row : Row) (by : ℤ) → i < length xs → row ≡ get_or xs i row → IsCoefficient (row.coef *ℤ by)
+    → first_overflow (row_operations (drop i xs) by) ≡ first_overflow (row_operations (drop (i + 1) xs) by)
+none_before xs i row by below is fits =
+    ap (λ rows. first_overflow (row_operations rows by)) (drop_more xs i row below ∙ ap (λ r. r ∷ drop (i + 1) xs) (sym is))
+    ∙ first-fits (product_of row.coef by) (row_operations (drop (i + 1) xs) by) fits
+
+-- the product of a row that is no coefficient is the first from it on
+first-overflows : (x y : ℤ) (os : List Overflow) → (IsCoefficient (x *ℤ y) → ⊥) → first_overflow (product_of x y ∷ os) ≡ Some (product_of x y)
+first-overflows x y os too_large = grind (arith, nat_tests)
+
+pub overflow_at : (xs : List Row) (i : ℕ) (row : Row) (by : ℤ) → i < length xs → row ≡ get_or xs i row → (IsCoefficient (row.coef *ℤ by) → ⊥)
+    → first_overflow (row_operations (drop i xs) by) ≡ Some (product_of row.coef by)
+overflow_at xs i row by below is too_large =
+    ap (λ rows. first_overflow (row_operations rows by)) (drop_more xs i row below ∙ ap (λ r. r ∷ drop (i + 1) xs) (sym is))
+    ∙ first-overflows row.coef by (row_operations (drop (i + 1) xs) by) too_large

@@ -1,0 +1,75 @@
+-- The laws of the store.
+use Rattle.std.proofs.Common.{◌≡◌, ◌⊎◌, inl, inr, List, [], ◌∷◌, ◌++◌, take, sym, ap, subst, arith}
+use Rattle.std.specs.List.{All, Contains}
+use Rattle.std.proofs.lemmas.List.Elements.{All-weaker, All-append, All-take, All-map, All-contains_itself}
+use Rattle.std.specs.declared.cmp.Ordering.TheVariants.{Less}
+use Rattle.word_core.specs.Letters.{IsOver}
+use Rattle.word_orders.specs.Admissible.{Compare}
+use Rattle.rule_reduce.specs.declared.rule.Rule.{Rule}
+use Rattle.ambiguities.specs.declared.ambiguity.Ambiguity.{Ambiguity}
+use Rattle.ambiguities.specs.Ambiguities.{IsAmbiguity}
+use Rattle.ambiguities.proofs.Bounds.{over_overlap_word}
+use Rattle.ambiguities.proofs.Numbers.{rule_at-first, rule_at-last}
+use Rattle.traced_completion.specs.declared.pending.waiting.Waiting.{Waiting}
+use Rattle.traced_completion.specs.Pending.{IsBeforeInStore, IsPending, AreAllPending, ambiguities_of}
+use Rattle.traced_completion.specs.StoreLaws.{StoresAreUnique, LeastWordsAreLeast, NothingIsPendingAtFirst, TakenOnesAreAmbiguities, PendingWordsAreOver}
+use Rattle.traced_completion.proofs.Comparing.{not_before_itself, not_before_each_other}
+use Rattle.traced_completion.proofs.Ascending.{ascending-same, contains-cases, contains-first, first-before}
+use Rattle.traced_completion.proofs.Staying.{ambiguity-append}
+
+pub stores-unique : StoresAreUnique
+stores-unique letters compare rank rules treated one other laws left right =
+    ascending-same (IsBeforeInStore compare) (not_before_itself compare laws.total) (not_before_each_other compare laws.total) one other left.ascending right.ascending
+    (λ z at. (right.members z).1 ((left.members z).0 at)) (λ z at. (left.members z).1 ((right.members z).0 at))
+
+pub least-words : LeastWordsAreLeast
+least-words compare rules treated [] all = λ w pending. none w ((all.members w).1 pending)
+  where
+    none : (w : Waiting) → Contains [] w → ⊥
+    none w (k, inside, is) = omega (arith, inside)
+least-words compare rules treated (v ∷ store) all = record {
+  which = v.which;
+  pending = (all.members v).0 (contains-first v store);
+  least = λ w pending. least w (contains-cases v store w ((all.members w).1 pending));
+}
+  where
+    by : (w : Waiting) → IsBeforeInStore compare v w → (w.word ≡ v.word) ⊎ (compare v.word w.word ≡ Less)
+    by w (inl less) = inr less
+    by w (inr (same, before)) = inl (sym same)
+
+    least : (w : Waiting) → (v ≡ w) ⊎ Contains store w → (w.word ≡ v.word) ⊎ (compare v.word w.word ≡ Less)
+    least w (inl same) = inl (ap (λ (x : Waiting). x.word) (sym same))
+    least w (inr at) = by w (first-before (IsBeforeInStore compare) v store all.ascending w at)
+
+-- what is pending is an ambiguity of the rules
+pub pending-all : (P : Waiting → Type 0) (compare : Compare) (rules : List Rule) (treated : List Ambiguity) (store : List Waiting) → AreAllPending compare rules treated store
+    → ((w : Waiting) → IsPending rules treated w → P w) → All P store
+pending-all P compare rules treated store all each = All-weaker (Contains store) P (λ w at. each w ((all.members w).0 at)) store (All-contains_itself store)
+
+pub nothing-at_first : NothingIsPendingAtFirst
+nothing-at_first compare treated = record {
+  members = λ w. (λ at. absurd (none w at), λ pending. absurd (no_rule w pending));
+  ascending = λ i j d before inside. absurd (omega (arith, inside));
+}
+  where
+    none : (w : Waiting) → Contains [] w → ⊥
+    none w (k, inside, is) = omega (arith, inside)
+
+    no_rule : (w : Waiting) → IsPending [] treated w → ⊥
+    no_rule w pending =
+        let is = pending.is in
+        omega (arith, rule_at-first [] w.which.i is.first is.first_numbered, rule_at-last [] w.which.i is.first is.first_numbered)
+
+pub taken-ambiguities : TakenOnesAreAmbiguities
+taken-ambiguities compare rules more treated store taken each all =
+    let still : (a : Ambiguity) → IsAmbiguity rules a → IsAmbiguity (rules ++ more) a = ambiguity-append rules more in
+    All-append (IsAmbiguity (rules ++ more)) treated (ambiguities_of (take taken store))
+    (All-weaker (IsAmbiguity rules) (IsAmbiguity (rules ++ more)) still treated each)
+    (All-map (IsAmbiguity (rules ++ more)) (λ (w : Waiting). w.which) (take taken store)
+    (All-take (λ (w : Waiting). IsAmbiguity (rules ++ more) w.which) taken store
+    (pending-all (λ (w : Waiting). IsAmbiguity (rules ++ more) w.which) compare rules treated store all (λ w pending. still w.which pending.is))))
+
+pub pending-over : PendingWordsAreOver
+pending-over letters compare rules treated store each all =
+    pending-all (λ (w : Waiting). IsOver letters w.word) compare rules treated store all
+    (λ w pending. subst (IsOver letters) (sym pending.overlap) (over_overlap_word letters compare rules w.which each pending.is))

@@ -1,0 +1,85 @@
+use Rattle.std.proofs.Common.{rules, ◌≡◌, ◌<◌, ◌+◌, ◌++◌, length, take, Ok, ap, ◌∙◌, subst, arith}
+use Rattle.std.proofs.lemmas.Result.{IfOk-weaker}
+use Rattle.std.proofs.lemmas.List.{length-append}
+use Rattle.word_orders.specs.Specified.{made_cmp, letters_of}
+use Rattle.ambiguities.specs.Ambiguities.{IsAmbiguity}
+use Rattle.traced_completion.specs.declared.pending.waiting.Waiting.{Waiting}
+use Rattle.traced_completion.specs.Results.{each_in_turn}
+use Rattle.traced_completion.specs.Works.{first_of, InTwoPasses}
+use Rattle.traced_completion.specs.Pending.{ambiguities_of, first_word}
+use Rattle.traced_completion.specs.PlainRun.{RunState, taken_count, went, recorded}
+use Rattle.traced_completion.specs.Completions.{state_of, IsGivingUp}
+use Rattle.traced_completion.proofs.StoreLemmas.{pending-all, pending-over}
+use Rattle.traced_completion.proofs.Transitions.{waiting_made, treated_outcome, next_run, given_up, not_spent, taken_length}
+use Rattle.traced_completion.proofs.completion.Completion.round.Goals as goal
+
+pub try_later_round-requires-clause-ambiguities : goal.try_later_round-requires-clause-ambiguities
+try_later_round-requires-clause-ambiguities g c κs within =
+    let old = c.args.self.now in
+    let is = c.requires.of_problem in
+    let all = waiting_made c.args.problem.now old.budget old.rules.order old.rounds (state_of old) old.waiting is in
+    pending-all (λ (w : Waiting). IsAmbiguity old.rules.rules w.which) (made_cmp old.rules.order) old.rules.rules old.treated old.waiting all (λ w pending. pending.is)
+
+pub try_later_round-requires-clause-over : goal.try_later_round-requires-clause-over
+try_later_round-requires-clause-over g c κs within =
+    let old = c.args.self.now in
+    let is = c.requires.of_problem in
+    let all = waiting_made c.args.problem.now old.budget old.rules.order old.rounds (state_of old) old.waiting is in
+    pending-over (letters_of old.rules.order) (made_cmp old.rules.order) old.rules.rules old.treated old.waiting old.rules.each all
+
+pub returns-in-Ok-clause-exact : goal.returns-in-Ok-clause-exact
+returns-in-Ok-clause-exact g c =
+    let old = c.args.self.now in
+    let new = c.try_later_round.new.self in
+    let problem = c.args.problem.now in
+    let is = c.requires.of_problem in
+    let count = c.next_count-count.result in
+    let later : 0 < old.rounds = search rules in
+    let some : 0 < length old.waiting = search rules in
+    let left : length old.treated < old.budget.pairs = search rules in
+    let counted : count ≡ taken_count old.budget (state_of old) old.waiting = search rules in
+    let t : RunState = record { rules = new.rules.rules; made = new.made; treated = new.treated } in
+    let treated : new.treated ≡ old.treated ++ ambiguities_of (take count old.waiting) = c.in-Ok.ensures.treated in
+    treated_outcome problem old.budget old.rules.order old.rounds (state_of old) old.waiting is later some (not_spent old.budget.pairs (length old.treated) left) count counted (Ok (recorded t)) c.in-Ok.ensures.exact (went t)
+    (λ i. went (record { rules = new.rules.rules; made = new.made; treated = treated i }))
+
+pub returns-in-Ok-clause-of_problem : goal.returns-in-Ok-clause-of_problem
+returns-in-Ok-clause-of_problem g c =
+    let old = c.args.self.now in
+    let new = c.try_later_round.new.self in
+    let problem = c.args.problem.now in
+    let is = c.requires.of_problem in
+    let count = c.next_count-count.result in
+    let later : 0 < old.rounds = search rules in
+    let some : 0 < length old.waiting = search rules in
+    let left : length old.treated < old.budget.pairs = search rules in
+    let counted : count ≡ taken_count old.budget (state_of old) old.waiting = search rules in
+    let t : RunState = record { rules = new.rules.rules; made = new.made; treated = new.treated } in
+    let treated : new.treated ≡ old.treated ++ ambiguities_of (take count old.waiting) = c.in-Ok.ensures.treated in
+    let size : length new.treated ≡ length old.treated + count = ap length treated ∙ length-append old.treated (ambiguities_of (take count old.waiting)) ∙ ap (λ n. length old.treated + n) (taken_length count old.waiting (omega (arith, counted))) in
+    let round =
+    treated_outcome problem old.budget old.rules.order old.rounds (state_of old) old.waiting is later some (not_spent old.budget.pairs (length old.treated) left) count counted (Ok (recorded t)) c.in-Ok.ensures.exact (went t)
+    (λ i. went (record { rules = new.rules.rules; made = new.made; treated = treated i })) in
+    next_run problem old.budget old.rules.order old.rounds (state_of old) old.waiting is t new.waiting count c.try_later_round.ensures.rules_front treated c.in-Ok.ensures.next c.in-Ok.ensures.records
+    (omega (arith, size, counted, left)) (omega (arith, size, is.few_rules, c.try_later_round.ensures.most)) (omega (arith, size, counted, left, some, is.few_rounds)) round
+    new.budget new.rules.order (new.rounds + 1) c.try_later_round.ensures.budget c.try_later_round.ensures.order (omega (arith, c.try_later_round.ensures.rounds))
+
+pub returns-in-Err-clause-exact : goal.returns-in-Err-clause-exact
+returns-in-Err-clause-exact g c =
+    let old = c.args.self.now in
+    let problem = c.args.problem.now in
+    let is = c.requires.of_problem in
+    let count = c.next_count-count.result in
+    let compare = made_cmp old.rules.order in
+    let later : 0 < old.rounds = search rules in
+    let some : 0 < length old.waiting = search rules in
+    let left : length old.treated < old.budget.pairs = search rules in
+    let counted : count ≡ taken_count old.budget (state_of old) old.waiting = search rules in
+    let tried = c.in-Err.ensures in
+    let word = ap first_word tried.waiting_back in
+    IfOk-weaker c.give_up.result _ _ (λ step giving.
+    let there : IsGivingUp c.in-Err.fault old.rounds (first_word old.waiting) step = subst (λ n. IsGivingUp c.in-Err.fault n (first_word old.waiting) step) tried.rounds (subst (λ w. IsGivingUp c.in-Err.fault c.try_later_round.new.self.rounds w step) word giving) in
+    let ending =
+    given_up (InTwoPasses compare old.budget.steps (each_in_turn (first_of compare old.budget.steps old.rules.rules) (ambiguities_of (take count old.waiting))) (recorded (state_of old))) old.rounds (first_word old.waiting)
+    (old.treated ++ ambiguities_of (take count old.waiting)) c.in-Err.fault step _ tried.fault there in
+    treated_outcome problem old.budget old.rules.order old.rounds (state_of old) old.waiting is later some (not_spent old.budget.pairs (length old.treated) left) count counted ending.result ending.holds _ ending.ends) c.give_up.ensures.stops

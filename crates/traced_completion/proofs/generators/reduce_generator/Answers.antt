@@ -1,0 +1,66 @@
+use Rattle.std.proofs.Common.{rules, ◌≡◌, ◌<◌, ◌-◌, length, get_or, List, sym, subst, arith}
+use Rattle.cofactor_trace.specs.declared.Row.{Row}
+use Rattle.adjoint_rules.specs.Problem.{polynomials}
+use Rattle.traced_completion.specs.Making.{Recorded, IsExtended}
+use Rattle.traced_completion.specs.Works.{generator_rows}
+use Rattle.traced_completion.specs.Reductions.{plain, IsKept, IsReducible}
+use Rattle.traced_completion.proofs.GeneratorWorks.{generator_is, generator_fault, nothing_left, rest_made}
+use Rattle.traced_completion.proofs.Records.{AreNamed, generator_named}
+use Rattle.traced_completion.proofs.generators.reduce_generator.Goals as goal
+
+pub reduce-requires-clause-over : goal.reduce-requires-clause-over
+reduce-requires-clause-over g c =
+    let p = c.index-generators-number.result in
+    let at : p ≡ get_or c.args.generators.now (c.args.number - 1) p = search rules in
+    let reducible : IsReducible (g.O.WordOrder.letters c.args.rules.now.order) p = subst (IsReducible (g.O.WordOrder.letters c.args.rules.now.order)) (sym at) (c.requires.reducible (c.args.number - 1) p (omega (arith, c.requires.first, c.requires.last))) in
+    reducible.over
+
+pub reduce-requires-clause-nonempty : goal.reduce-requires-clause-nonempty
+reduce-requires-clause-nonempty g c =
+    let p = c.index-generators-number.result in
+    let at : p ≡ get_or c.args.generators.now (c.args.number - 1) p = search rules in
+    let reducible : IsReducible (g.O.WordOrder.letters c.args.rules.now.order) p = subst (IsReducible (g.O.WordOrder.letters c.args.rules.now.order)) (sym at) (c.requires.reducible (c.args.number - 1) p (omega (arith, c.requires.first, c.requires.last))) in
+    reducible.nonempty
+
+pub returns-in-Err-clause-fault : goal.returns-in-Err-clause-fault
+returns-in-Err-clause-fault g c =
+    let given = c.args.rules.now in
+    let p = c.index-generators-number.result in
+    let at : p ≡ get_or c.args.generators.now (c.args.number - 1) p = search rules in
+    let is = generator_is c.args.generators.now c.args.number p c.requires.first at c.requires.last in
+    generator_fault (g.O.WordOrder.compare given.order) c.args.steps (polynomials c.args.generators.now) c.args.number given.rules p.terms is c.in-Err.fault c.in-Err.ensures.exact
+
+pub returns-then-terms-eq0-clause-exact : goal.returns-then-terms-eq0-clause-exact
+returns-then-terms-eq0-clause-exact g c =
+    let given = c.args.rules.now in
+    let p = c.index-generators-number.result in
+    let at : p ≡ get_or c.args.generators.now (c.args.number - 1) p = search rules in
+    let is = generator_is c.args.generators.now c.args.number p c.requires.first at c.requires.last in
+    let none : length c.in-Ok.reduced.rest.terms ≡ 0 = search rules in
+    nothing_left (g.O.WordOrder.compare given.order) c.args.steps (polynomials c.args.generators.now) c.args.number given.rules p.terms is (plain c.in-Ok.reduced) (record { rules = given.rules; made = c.args.made.now }) c.in-Ok.ensures.exact none
+
+pub push_rule-requires-clause-rows : goal.push_rule-requires-clause-rows
+push_rule-requires-clause-rows g c =
+    let given = c.args.rules.now in
+    let kept : IsKept (g.O.WordOrder.letters given.order) (length given.rules) (plain c.in-Ok.reduced) = c.in-Ok.ensures.kept in
+    let same : c.in_ok-rows.rows ≡ generator_rows c.args.number c.in-Ok.reduced.multiplier c.in-Ok.reduced.rows = search rules in
+    record {
+      in_range = c.in_ok-rows.ensures.in_range;
+      named = subst (AreNamed (length given.rules)) (sym same) (generator_named (length given.rules) c.args.number c.in-Ok.reduced.multiplier c.in-Ok.reduced.rows kept.rows.named);
+    }
+
+pub returns-clause-exact : goal.returns-clause-exact
+returns-clause-exact g c =
+    let given = c.args.rules.now in
+    let compare = g.O.WordOrder.compare given.order in
+    let p = c.index-generators-number.result in
+    let at : p ≡ get_or c.args.generators.now (c.args.number - 1) p = search rules in
+    let is = generator_is c.args.generators.now c.args.number p c.requires.first at c.requires.last in
+    let some : 0 < length c.in-Ok.reduced.rest.terms = search rules in
+    let same : c.in_ok-rows.rows ≡ generator_rows c.args.number c.in-Ok.reduced.multiplier c.in-Ok.reduced.rows = search rules in
+    let before : Recorded = record { rules = given.rules; made = c.args.made.now } in
+    let after : Recorded = record { rules = c.push_rule.new.rules.rules; made = c.push_rule.new.made } in
+    let pushed : IsExtended compare (record { polynomial = c.in-Ok.reduced.rest.terms; rows = c.in_ok-rows.rows }) before after = search rules in
+    let extended : IsExtended compare (record { polynomial = c.in-Ok.reduced.rest.terms; rows = generator_rows c.args.number c.in-Ok.reduced.multiplier c.in-Ok.reduced.rows }) before after =
+    subst (λ (rows : List Row). IsExtended compare (record { polynomial = c.in-Ok.reduced.rest.terms; rows = rows }) before after) same pushed in
+    rest_made compare c.args.steps (polynomials c.args.generators.now) c.args.number given.rules p.terms is (plain c.in-Ok.reduced) before after c.in-Ok.ensures.exact some extended

@@ -1,0 +1,39 @@
+use Rattle.std.proofs.Common.{rules, ◌≡◌, ◌<ℤ◌, pos, neg_ℤ, to_z, of_z, sym, subst}
+use Rattle.std.specs.Int.{w128}
+use Rattle.std.specs.Int.RustNames.{unsigned_abs}
+use Rattle.nc_polynomial.specs.Content.{IsContent, DividesEach}
+use Rattle.std.specs.List.{All}
+use Rattle.coef_int.specs.Range.{IsCoefficient}
+use Rattle.cofactor_trace.specs.declared.Row.{Row}
+use Rattle.traced_completion.specs.Making.{negated_rows}
+use Rattle.traced_completion.proofs.Records.{AreNamed, negated_named}
+use Rattle.traced_completion.proofs.Quotients.{negative_divides}
+use Rattle.traced_completion.proofs.making.divide_rest.Goals as goal
+
+pub divide-requires-clause-divides : goal.divide-requires-clause-divides
+divide-requires-clause-divides g c =
+    let content : IsContent c.args.rest.now.terms c.content-scale.result = search rules in
+    let divides : DividesEach (unsigned_abs (neg_ℤ c.content-scale.result)) c.args.rest.now.terms = negative_divides c.content-scale.result c.args.rest.now.terms content.divides in
+    let same : to_z w128 (of_z w128 c.negate.result) ≡ neg_ℤ c.content-scale.result = search rules in
+    subst (λ z. DividesEach (unsigned_abs z) c.args.rest.now.terms) (sym same) divides
+
+pub divide-requires-2-clause-divides : goal.divide-requires-2-clause-divides
+divide-requires-2-clause-divides g c =
+    let content : IsContent c.args.rest.now.terms c.content-scale.result = search rules in
+    let same : to_z w128 (of_z w128 c.content-scale.result) ≡ c.content-scale.result = search rules in
+    subst (λ z. DividesEach (unsigned_abs z) c.args.rest.now.terms) (sym same) content.divides
+
+pub returns-then-is_led_by_negative-clause-record : goal.returns-then-is_led_by_negative-clause-record
+returns-then-is_led_by_negative-clause-record g c =
+    let scale = c.content-scale.result in
+    let same : to_z w128 (of_z w128 scale) ≡ scale = search rules in
+    let positive : pos 0 <ℤ scale = search rules in
+    let scale_in : IsCoefficient scale = search rules in
+    let negated : c.negate_rows-rows.result ≡ negated_rows c.args.rows = search rules in
+    let in_range : All (λ (r : Row). IsCoefficient r.coef) c.negate_rows-rows.result = search rules in
+    λ count are. record {
+      positive = subst (λ z. pos 0 <ℤ z) (sym same) positive;
+      scale_in = subst IsCoefficient (sym same) scale_in;
+      coefficients_in = in_range;
+      earlier = subst (AreNamed count) (sym negated) (negated_named count c.args.rows are.named);
+    }

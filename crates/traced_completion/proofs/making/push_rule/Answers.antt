@@ -1,0 +1,73 @@
+use Rattle.std.proofs.Common.{rules, ◌≡◌, ◌<◌, ◌<ℤ◌, ◌++◌, pos, [], ◌∷◌, length, if◌then◌else◌, option_to_list, ap, ◌∙◌}
+use Rattle.definitions.specs.Poly.{poly_multiple}
+use Rattle.word_core.specs.Letters.{IsOver}
+use Rattle.nc_polynomial.specs.Content.{IsContent}
+use Rattle.rule_reduce.specs.RuleLists.{rule_from}
+use Rattle.traced_completion.specs.Making.{leads_negative, negated_rows}
+use Rattle.traced_completion.proofs.Quotients.{signed, quotient_words, quotient_primitive, leading_positive}
+use Rattle.cofactor_trace.specs.Needed.{IsRecord}
+use Rattle.traced_completion.proofs.Extended.{extended, pushed_rule}
+use Rattle.traced_completion.proofs.Records.{records_push}
+use Rattle.traced_completion.proofs.making.push_rule.Goals as goal
+
+pub push-requires-2-clause-primitive : goal.push-requires-2-clause-primitive
+push-requires-2-clause-primitive g c =
+    let p = c.args.rest.now.terms in
+    let m = c.in_ok-poly.record in
+    let content : IsContent p m.scale = search rules in
+    let positive : pos 0 <ℤ m.scale = search rules in
+    let divided : poly_multiple (signed (leads_negative (g.O.WordOrder.compare c.args.rules.now.order) p) m.scale) c.in_ok-poly.poly.terms ≡ p = search rules in
+    quotient_primitive (leads_negative (g.O.WordOrder.compare c.args.rules.now.order) p) m.scale c.in_ok-poly.poly.terms p positive content divided
+
+pub push-requires-2-clause-positive : goal.push-requires-2-clause-positive
+push-requires-2-clause-positive g c =
+    let p = c.args.rest.now.terms in
+    let m = c.in_ok-poly.record in
+    let positive : pos 0 <ℤ m.scale = search rules in
+    let divided : poly_multiple (signed (leads_negative (g.O.WordOrder.compare c.args.rules.now.order) p) m.scale) c.in_ok-poly.poly.terms ≡ p = search rules in
+    leading_positive (g.O.WordOrder.compare c.args.rules.now.order) m.scale c.in_ok-poly.poly.terms p positive divided c.requires.nonzero c.args.rest.now.canonical.shaped.nonzero
+
+pub push-requires-2-clause-nonempty : goal.push-requires-2-clause-nonempty
+push-requires-2-clause-nonempty g c =
+    let p = c.args.rest.now.terms in
+    let by = signed (leads_negative (g.O.WordOrder.compare c.args.rules.now.order) p) c.in_ok-poly.record.scale in
+    let divided : poly_multiple by c.in_ok-poly.poly.terms ≡ p = search rules in
+    quotient_words (λ w. 0 < length w) by c.in_ok-poly.poly.terms p divided c.requires.nonempty
+
+pub push-requires-2-clause-over : goal.push-requires-2-clause-over
+push-requires-2-clause-over g c =
+    let p = c.args.rest.now.terms in
+    let by = signed (leads_negative (g.O.WordOrder.compare c.args.rules.now.order) p) c.in_ok-poly.record.scale in
+    let divided : poly_multiple by c.in_ok-poly.poly.terms ≡ p = search rules in
+    quotient_words (IsOver (g.O.WordOrder.letters c.args.rules.now.order)) by c.in_ok-poly.poly.terms p divided c.requires.over
+
+pub returns-in-Ok-clause-exact : goal.returns-in-Ok-clause-exact
+returns-in-Ok-clause-exact g c =
+    let p = c.args.rest.now.terms in
+    let compare = g.O.WordOrder.compare c.args.rules.now.order in
+    let m = c.in_ok-poly.record in
+    let poly = c.in_ok-poly.poly in
+    let content : IsContent p m.scale = search rules in
+    let positive : pos 0 <ℤ m.scale = search rules in
+    let divided : poly_multiple (signed (leads_negative compare p) m.scale) poly.terms ≡ p = search rules in
+    let rows : m.rows ≡ (if leads_negative compare p then negated_rows c.args.rows else c.args.rows) = search rules in
+    let leads = leading_positive compare m.scale poly.terms p positive divided c.requires.nonzero c.args.rest.now.canonical.shaped.nonzero in
+    let rules_are : c.push-2.new.self.rules ≡ c.args.rules.now.rules ++ option_to_list (rule_from compare poly) = search rules in
+    let made_are : c.push.new.self ≡ c.args.made.now ++ m ∷ [] = search rules in
+    extended compare (record { polynomial = p; rows = c.args.rows }) poly m content positive divided rows c.args.rules.now.rules c.push-2.new.self.rules c.args.made.now c.push.new.self leads rules_are made_are
+
+pub returns-in-Ok-clause-records : goal.returns-in-Ok-clause-records
+returns-in-Ok-clause-records g c =
+    let p = c.args.rest.now.terms in
+    let compare = g.O.WordOrder.compare c.args.rules.now.order in
+    let m = c.in_ok-poly.record in
+    let poly = c.in_ok-poly.poly in
+    let positive : pos 0 <ℤ m.scale = search rules in
+    let divided : poly_multiple (signed (leads_negative compare p) m.scale) poly.terms ≡ p = search rules in
+    let leads = leading_positive compare m.scale poly.terms p positive divided c.requires.nonzero c.args.rest.now.canonical.shaped.nonzero in
+    let rules_are : c.push-2.new.self.rules ≡ c.args.rules.now.rules ++ option_to_list (rule_from compare poly) = search rules in
+    let made_are : c.push.new.self ≡ c.args.made.now ++ m ∷ [] = search rules in
+    let is : IsRecord (length c.args.rules.now.rules) m = c.in_ok-poly.ensures.record (length c.args.rules.now.rules) c.requires.rows in
+    let one = pushed_rule compare poly leads in
+    records_push c.args.rules.now.rules c.push-2.new.self.rules one.rule c.args.made.now c.push.new.self m c.requires.records is
+    (rules_are ∙ ap (λ o. c.args.rules.now.rules ++ option_to_list o) one.is) made_are

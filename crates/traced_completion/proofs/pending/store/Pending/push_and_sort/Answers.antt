@@ -1,0 +1,45 @@
+use Rattle.std.proofs.Common.{rules, ◌≡◌, length, drop, sym, subst}
+use Rattle.std.specs.List.{All}
+use Rattle.std.specs.List.Sorted.{IsPermutation, IsSorted}
+use Rattle.std.proofs.lemmas.List.Elements.{All-drop}
+use Rattle.std.proofs.lemmas.List.Sorted.{All-permutation}
+use Rattle.word_core.specs.Letters.{IsOver}
+use Rattle.traced_completion.specs.declared.pending.waiting.Waiting.{Waiting}
+use Rattle.traced_completion.specs.Pending.{IsNextStore}
+use Rattle.traced_completion.specs.StoreOrder.{IsExtended, waiting_cmp}
+use Rattle.traced_completion.proofs.Advancing.{next-store, rest-store}
+use Rattle.traced_completion.proofs.pending.store.Pending.push_and_sort.Goals as goal
+
+pub returns-then-len-count-clause-ok : goal.returns-then-len-count-clause-ok
+returns-then-len-count-clause-ok g c =
+    let order = c.args.rules.now.order in
+    let laws = g.met.O.WordOrder.admissible order in
+    let extended = c.push_new.new.items.items in
+    let extends : IsExtended c.args.rules.now.rules c.args.known c.args.self.now extended = search rules in
+    let long : length extended ≡ length c.args.self.now = search rules in
+    subst (IsNextStore (g.O.WordOrder.compare order) c.args.rules.now.rules c.args.known c.args.taken c.args.self.now) (sym c.drop_first.ensures)
+    (rest-store (g.O.WordOrder.compare order) laws.total laws.same c.args.rules.now.rules c.args.known c.args.taken c.args.self.now extended c.requires.taken extends long)
+
+pub returns-then-len-count-clause-over : goal.returns-then-len-count-clause-over
+returns-then-len-count-clause-over g c =
+    let letters = g.O.WordOrder.letters c.args.rules.now.order in
+    let over : All (λ (w : Waiting). IsOver letters w.word) c.push_new.new.items.items = search rules in
+    subst (All (λ (w : Waiting). IsOver letters w.word)) (sym c.drop_first.ensures) (All-drop (λ (w : Waiting). IsOver letters w.word) c.args.taken c.push_new.new.items.items over)
+
+pub returns-clause-ok : goal.returns-clause-ok
+returns-clause-ok g c =
+    let order = c.args.rules.now.order in
+    let by = g.O.WordOrder.compare order in
+    let laws = g.met.O.WordOrder.admissible order in
+    let extends : IsExtended c.args.rules.now.rules c.args.known c.args.self.now c.push_new.new.items.items = search rules in
+    let moved : IsPermutation (drop c.args.taken c.push_new.new.items.items) c.in_ok-self-inside.field-0.items = search rules in
+    let sorted : IsSorted (waiting_cmp by) c.in_ok-self-inside.field-0.items = search rules in
+    next-store by laws.total laws.same c.args.rules.now.rules c.args.known c.args.taken c.args.self.now c.push_new.new.items.items c.in_ok-self-inside.field-0.items c.requires.taken extends moved sorted
+
+pub returns-clause-over : goal.returns-clause-over
+returns-clause-over g c =
+    let letters = g.O.WordOrder.letters c.args.rules.now.order in
+    let over : All (λ (w : Waiting). IsOver letters w.word) c.push_new.new.items.items = search rules in
+    let moved : IsPermutation (drop c.args.taken c.push_new.new.items.items) c.in_ok-self-inside.field-0.items = search rules in
+    All-permutation (λ (w : Waiting). IsOver letters w.word) (drop c.args.taken c.push_new.new.items.items) c.in_ok-self-inside.field-0.items moved
+    (All-drop (λ (w : Waiting). IsOver letters w.word) c.args.taken c.push_new.new.items.items over)

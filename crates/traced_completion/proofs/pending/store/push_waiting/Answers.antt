@@ -1,0 +1,25 @@
+use Rattle.std.proofs.Common.{rules, ◌≡◌, [], ◌∷◌, ◌++◌, get_or, sym, subst, ◌∙◌}
+use Rattle.std.specs.List.{All}
+use Rattle.std.proofs.lemmas.List.Elements.{All-push}
+use Rattle.word_core.specs.Letters.{IsOver}
+use Rattle.ambiguities.specs.declared.ambiguity.Ambiguity.{Ambiguity}
+use Rattle.ambiguities.specs.declared.ambiguity.Kind.TheVariants.{Overlap}
+use Rattle.ambiguities.specs.Ambiguities.{overlap_word_of}
+use Rattle.traced_completion.specs.declared.pending.waiting.Waiting.{Waiting}
+use Rattle.traced_completion.proofs.Appending.{appended-more}
+use Rattle.traced_completion.proofs.pending.store.push_waiting.Goals as goal
+
+pub loop-which-preserved : goal.loop-which-preserved
+loop-which-preserved g c =
+    let all = c.args.rules.now.rules in
+    let kept = c.loop-which.invariant in
+    let which : Ambiguity = get_or c.args.found.now c.loop-which.which-index (record { i = 0; j = 0; kind = Overlap; place = 0 }) in
+    let next : Waiting = record { which = which; word = c.in_ok-word.word } in
+    let word : c.in_ok-word.word ≡ overlap_word_of all which = search rules in
+    let over : IsOver (g.O.WordOrder.letters c.args.rules.now.order) c.in_ok-word.word = search rules in
+    let pushed : c.push.new.self.items ≡ c.loop-which.items.items ++ next ∷ [] = search rules in
+    record {
+      passed = pushed ∙ appended-more all c.args.items.now.items c.loop-which.items.items c.args.found.now c.loop-which.which-index next c.loop-which-test.true kept.passed (search rules) word;
+      over = subst (All (λ (w : Waiting). IsOver (g.O.WordOrder.letters c.args.rules.now.order) w.word)) (sym pushed)
+          (All-push (λ (w : Waiting). IsOver (g.O.WordOrder.letters c.args.rules.now.order) w.word) c.loop-which.items.items next kept.over over);
+    }

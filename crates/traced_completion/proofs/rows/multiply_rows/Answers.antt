@@ -1,0 +1,44 @@
+use Rattle.std.proofs.Common.{rules, ◌≡◌, ◌<◌, ◌++◌, ◌*ℤ◌, map, take, drop, get_or, length, Some, ◌∙◌}
+use Rattle.std.proofs.lemmas.List.Elements.{All-set}
+use Rattle.coef_int.specs.Range.{IsCoefficient}
+use Rattle.coef_int.specs.Operations.{first_overflow, product_of}
+use Rattle.cofactor_trace.specs.declared.Row.{Row}
+use Rattle.rule_reduce.specs.Steps.{multiplied_row, row_operations}
+use Rattle.traced_completion.proofs.RowLists.{written_more, still_there, none_before, overflow_at}
+use Rattle.traced_completion.proofs.rows.multiply_rows.Goals as goal
+
+pub returns-in_err-row-clause-exact : goal.returns-in_err-row-clause-exact
+returns-in_err-row-clause-exact c =
+    let xs = c.args.rows in
+    let ys = c.loop-row.row-items in
+    let i = c.loop-row.row-index in
+    let row = c.row-item.result in
+    let so_far : ys ≡ map (multiplied_row c.args.by) (take i xs) ++ drop i xs = search rules in
+    let none_yet : first_overflow (row_operations xs c.args.by) ≡ first_overflow (row_operations (drop i xs) c.args.by) = search rules in
+    let here : row ≡ get_or ys i row = search rules in
+    let below : i < length xs = search rules in
+    let is = still_there (multiplied_row c.args.by) xs ys i row below so_far here in
+    let too_large : IsCoefficient (row.coef *ℤ c.args.by) → ⊥ = search rules in
+    let at = overflow_at xs i row c.args.by below is too_large in
+    let first : first_overflow (row_operations xs c.args.by) ≡ Some (product_of row.coef c.args.by) = none_yet ∙ at in
+    search (rules, first)
+
+pub loop-row-preserved : goal.loop-row-preserved
+loop-row-preserved c =
+    let xs = c.args.rows in
+    let ys = c.loop-row.row-items in
+    let i = c.loop-row.row-index in
+    let row = c.row-item.result in
+    let so_far : ys ≡ map (multiplied_row c.args.by) (take i xs) ++ drop i xs = search rules in
+    let none_yet : first_overflow (row_operations xs c.args.by) ≡ first_overflow (row_operations (drop i xs) c.args.by) = search rules in
+    let here : row ≡ get_or ys i row = search rules in
+    let below : i < length xs = search rules in
+    let more = written_more (multiplied_row c.args.by) xs ys i row (multiplied_row c.args.by row) below so_far here (λ _. multiplied_row c.args.by row) in
+    let is = still_there (multiplied_row c.args.by) xs ys i row below so_far here in
+    let fits : IsCoefficient (row.coef *ℤ c.args.by) = search rules in
+    let none = none_yet ∙ none_before xs i row c.args.by below is fits in
+    record {
+      so_far = search (rules, more);
+      in_range = All-set (λ (r : Row). IsCoefficient r.coef) ys i _ (search rules) c.loop-row.invariant.in_range;
+      none_yet = search (rules, none);
+    }

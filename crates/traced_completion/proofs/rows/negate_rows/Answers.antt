@@ -1,0 +1,21 @@
+use Rattle.std.proofs.Common.{rules, ◌≡◌, ◌<◌, get_or, length}
+use Rattle.std.proofs.lemmas.List.Elements.{All-set}
+use Rattle.coef_int.specs.Range.{IsCoefficient}
+use Rattle.cofactor_trace.specs.declared.Row.{Row}
+use Rattle.traced_completion.specs.Making.{negated_row}
+use Rattle.traced_completion.proofs.RowLists.{written_more}
+use Rattle.traced_completion.proofs.rows.negate_rows.Goals as goal
+
+pub loop-row-preserved : goal.loop-row-preserved
+loop-row-preserved c =
+    let xs = c.args.rows in
+    let ys = c.loop-row.row-items in
+    let i = c.loop-row.row-index in
+    let row = c.row-item.result in
+    let is : row ≡ get_or ys i row = search rules in
+    let below : i < length xs = search rules in
+    let more = written_more negated_row xs ys i row (negated_row row) below c.loop-row.invariant.so_far is (λ _. negated_row row) in
+    record {
+      so_far = search (rules, more);
+      in_range = All-set (λ (r : Row). IsCoefficient r.coef) ys i _ (search rules) c.loop-row.invariant.in_range;
+    }

@@ -1,0 +1,11 @@
+use Rattle.std.proofs.Common.{◌≡◌, ◌++◌, map, take, drop}
+use Rattle.std.specs.List.{All}
+use Rattle.coef_int.specs.Range.{IsCoefficient}
+use Rattle.traced_completion.specs.Making.{negated_row}
+use Rattle.traced_completion.proofs.rows.negate_rows.Given as goal
+
+abbrev pub invariant-loop-row : goal.invariant-loop-row
+invariant-loop-row l = record {
+  so_far : l.row-items ≡ map negated_row (take l.row-index l.fn.rows) ++ drop l.row-index l.fn.rows;
+  in_range : All (λ r. IsCoefficient r.coef) l.row-items;
+}

@@ -1,0 +1,52 @@
+-- The ambiguities that were not treated, in the order in which they are taken.
+use Rattle.std.specs.Prelude.{◌≡◌, ◌⊎◌, ℕ, List, [], ◌∷◌, ◌++◌, map, take, Contains, Option, Some, None}
+use Rattle.std.specs.List.{All}
+use Rattle.std.specs.declared.cmp.Ordering.TheVariants.{Less}
+use Rattle.word_orders.specs.Admissible.{Compare}
+use Rattle.rule_reduce.specs.declared.rule.Rule.{Rule}
+use Rattle.ambiguities.specs.declared.ambiguity.Ambiguity.{Ambiguity}
+use Rattle.ambiguities.specs.Ambiguities.{IsAmbiguity, overlap_word_of}
+use Rattle.ambiguities.specs.Listed.{IsBefore, ListsExactly}
+use Rattle.traced_completion.specs.declared.pending.waiting.Waiting.{Waiting}
+
+-- The first one is taken before the second: by the overlap word, and where they have the same one by the first rule,
+-- then by the second rule, then overlaps before inclusions, then by the place.
+abbrev pub IsBeforeInStore : Compare → Waiting → Waiting → Type 0
+IsBeforeInStore compare a b = (compare a.word b.word ≡ Less) ⊎ ((a.word ≡ b.word) × IsBefore a.which b.which)
+
+-- An ambiguity of the rules, which is not among the treated ones, with its overlap word.
+pub record IsPending (rules : List Rule) (treated : List Ambiguity) (w : Waiting) : Type 0 where
+  pub is : IsAmbiguity rules w.which
+  pub untreated : ¬ Contains treated w.which
+  pub overlap : w.word ≡ overlap_word_of rules w.which
+
+-- The list has exactly the pending ones, each before all later ones.
+abbrev pub AreAllPending : Compare → List Rule → List Ambiguity → List Waiting → Type 0
+AreAllPending compare rules treated store = ListsExactly (IsBeforeInStore compare) (IsPending rules treated) store
+
+-- the ambiguities of a list, without their words
+abbrev pub ambiguities_of : List Waiting → List Ambiguity
+ambiguities_of store = map (λ w. w.which) store
+
+-- Where the old list had all pending ones of the first rules, as many as are known, the new list has all pending ones of
+-- all rules, once the first ones of the old list count as treated, as many as were taken.
+abbrev pub IsNextStore : Compare → List Rule → ℕ → ℕ → List Waiting → List Waiting → Type 0
+IsNextStore compare rules known taken old new = (treated : List Ambiguity)
+    → All (IsAmbiguity (take known rules)) treated → AreAllPending compare (take known rules) treated old
+    → AreAllPending compare rules (treated ++ ambiguities_of (take taken old)) new
+
+-- the first overlap word of a list
+abbrev pub first_word : List Waiting → Option (List ℕ)
+first_word [] = None
+first_word (w ∷ store) = Some w.word
+
+-- a pending ambiguity has this overlap word, and that of no pending one is below it
+pub record IsLeastWord (compare : Compare) (rules : List Rule) (treated : List Ambiguity) (word : List ℕ) : Type 0 where
+  pub which : Ambiguity
+  pub pending : IsPending rules treated (record { which = which; word = word })
+  pub least : (w : Waiting) → IsPending rules treated w → (w.word ≡ word) ⊎ (compare word w.word ≡ Less)
+
+-- the least overlap word of the pending ones, and none where nothing is pending
+abbrev pub IsLeastPending : Compare → List Rule → List Ambiguity → Option (List ℕ) → Type 0
+IsLeastPending compare rules treated None = (w : Waiting) → ¬ IsPending rules treated w
+IsLeastPending compare rules treated (Some word) = IsLeastWord compare rules treated word

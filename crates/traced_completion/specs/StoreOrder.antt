@@ -1,0 +1,32 @@
+-- The order of the store as a comparison, and the store with the ambiguities of new rules at its end.
+use Rattle.std.specs.Prelude.{◌≡◌, ℕ, ◌+◌, List, ◌++◌, map}
+use Rattle.std.specs.Ordering.{nat_cmp, then_cmp, on}
+use Rattle.std.specs.declared.cmp.Ordering.{Ordering}
+use Rattle.word_orders.specs.Admissible.{Compare}
+use Rattle.ambiguities.specs.declared.ambiguity.Ambiguity.{Ambiguity}
+use Rattle.rule_reduce.specs.declared.rule.Rule.{Rule}
+use Rattle.ambiguities.specs.Ambiguities.{overlap_word_of}
+use Rattle.ambiguities.specs.Listed.{kind_number, IsBefore, ListsExactly, IsAmbiguityFrom}
+use Rattle.traced_completion.specs.declared.pending.waiting.Waiting.{Waiting}
+
+-- by the first rule, then by the second rule, then overlaps before inclusions, then by the place
+abbrev pub ambiguity_cmp : Ambiguity → Ambiguity → Ordering
+ambiguity_cmp = then_cmp (then_cmp (on (λ a. a.i) nat_cmp) (on (λ a. a.j) nat_cmp)) (then_cmp (on (λ a. kind_number a.kind) nat_cmp) (on (λ a. a.place) nat_cmp))
+
+-- by the overlap word, and then as their ambiguities
+abbrev pub waiting_cmp : Compare → Waiting → Waiting → Ordering
+waiting_cmp compare = then_cmp (on (λ w. w.word) compare) (on (λ w. w.which) ambiguity_cmp)
+
+-- the ambiguity with its overlap word
+abbrev pub waiting_of : List Rule → Ambiguity → Waiting
+waiting_of rules a = record { which = a; word = overlap_word_of rules a }
+
+-- the list with these ambiguities at its end
+abbrev pub appended_waiting : List Rule → List Waiting → List Ambiguity → List Waiting
+appended_waiting rules old found = old ++ map (waiting_of rules) found
+
+-- What is appended has exactly the ambiguities in which a rule after the known ones is.
+pub record IsExtended (rules : List Rule) (known : ℕ) (old new : List Waiting) : Type 0 where
+  pub found : List Ambiguity
+  pub exact : ListsExactly IsBefore (IsAmbiguityFrom (known + 1) rules) found
+  pub appended : new ≡ appended_waiting rules old found

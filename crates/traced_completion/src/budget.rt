@@ -1,0 +1,10 @@
+//! What a completion may spend.
+
+/// How many ambiguities are treated at most, and how many steps a reduction makes.
+#[derive(Clone, Copy, Debug, PartialEq, Eq)]
+pub struct Budget {
+    /// From 1 to 1,000,000.
+    pub pairs: u32,
+    /// From 1 to 1,000,000.
+    pub steps: u32,
+}

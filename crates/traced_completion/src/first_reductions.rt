@@ -1,0 +1,127 @@
+//! The first reductions of a round, on several threads.
+ghost use Rattle.std.specs.Prelude.{◌≡◌, ◌<◌, ◌≤◌, map, length, MatchResult, IfOk, Ok};
+ghost use Rattle.std.specs.List.{All};
+ghost use Rattle.ambiguities.specs.Ambiguities.{IsAmbiguity};
+ghost use Rattle.traced_completion.specs.Results.{Explains, each_in_turn};
+ghost use Rattle.traced_completion.specs.Works.{first_of};
+ghost use Rattle.traced_completion.specs.Pending.{ambiguities_of};
+ghost use Rattle.traced_completion.specs.Reductions.{plain_first, IsKeptFirst, IsAnswer};
+
+use crate::Waiting;
+use crate::reduction::{halt, reduce};
+use ambiguities::{Ambiguity, s_poly};
+use cofactor_trace::Row;
+use in_order_parallel::{Gate, Job, map_in_order};
+use lists::Listing;
+use rule_reduce::{ReduceFault, Reduced, Rules};
+use std::alloc::{AllocError, Global};
+use std::collections::VecDeque;
+use std::thread::Threads;
+use word_orders::WordOrder;
+
+// The rows of an S-polynomial, and its reduction.
+#[derive(Drop)]
+pub(crate) struct First {
+    pub rows: Listing<Row>,
+    pub reduced: Reduced,
+}
+
+// The S-polynomial of an ambiguity, reduced.
+fn reduce_first<O: WordOrder + Drop>(
+    rules: &Rules<O>,
+    which: &Ambiguity,
+    steps: u32,
+) -> Result<First, ReduceFault>
+    requires { IsAmbiguity rules.now.rules which.now }
+    ensures exact { MatchResult result (λ f. first_of (O.compare rules.now.order) steps rules.now.rules which.now ≡ Ok (plain_first f))
+        (Explains (first_of (O.compare rules.now.order) steps rules.now.rules which.now)) }
+    ensures kept { IfOk result (λ f. IsKeptFirst (O.letters rules.now.order) (length rules.now.rules) (plain_first f)) }
+{
+    let s_polynomial = match s_poly(rules, which) {
+        Ok(s_polynomial) => s_polynomial,
+        Err(fault) => return Err(halt(fault)),
+    };
+    match reduce(rules, &s_polynomial.poly, steps) {
+        Ok(reduced) => Ok(First {
+            rows: s_polynomial.rows,
+            reduced,
+        }),
+        Err(fault) => Err(fault),
+    }
+}
+
+// First reductions by borrowed rules.
+#[derive(Clone, Copy)]
+struct Reducer<'a, O: WordOrder> {
+    rules: &'a Rules<O>,
+    steps: u32,
+}
+
+impl<O: WordOrder + Drop> Job for Reducer<'_, O> {
+    type In = Waiting;
+
+    type Out = Result<First, ReduceFault>;
+
+    ghost can_go = { λ job w. IsAmbiguity job.rules.now.rules w.which };
+
+    ghost gives = { λ job w answer. IsAnswer (O.letters job.rules.now.order) (O.compare job.rules.now.order) job.steps job.rules.now.rules w.which answer };
+
+    fn go(&self, waiting: &Waiting) -> Result<First, ReduceFault> {
+        reduce_first(self.rules, &waiting.which, self.steps)
+    }
+}
+
+// Whether memory was short for one of the answers.
+fn is_memory_short(answers: &[Result<First, ReduceFault>]) -> bool {
+    for answer in answers {
+        if let Err(ReduceFault::Memory(_)) = answer {
+            return true;
+        }
+    }
+    false
+}
+
+// The values of the answers, or the first fault.
+fn collect_answers(
+    alloc: Global,
+    answers: Vec<Result<First, ReduceFault>>,
+) -> Result<Listing<First>, ReduceFault>
+    ensures { MatchResult result (λ firsts. each_in_turn (λ answer. answer) answers.items ≡ Ok firsts) (Explains (each_in_turn (λ answer. answer) answers.items)) }
+{
+    if is_memory_short(&answers) {
+        return Err(ReduceFault::Memory(AllocError));
+    }
+    let mut firsts = Listing::new(alloc);
+    let mut rest = VecDeque::from_vec(answers);
+    while let Some(answer) = rest.pop_front() {
+        match answer {
+            Ok(first) => firsts.push(first)?,
+            Err(fault) => return Err(fault),
+        }
+    }
+    Ok(firsts)
+}
+
+// The first reductions of the ambiguities, in their order, on at most as many threads as there are workers. The fault is
+// the first one in this order, whichever ended first.
+pub(crate) fn reduce_all<R: Threads + Sync, O: WordOrder + Drop + Sync, G: Gate + Sync>(
+    rt: &R,
+    alloc: Global,
+    rules: &Rules<O>,
+    taken: &[Waiting],
+    steps: u32,
+    workers: u32,
+    gate: &G,
+) -> Result<Listing<First>, ReduceFault>
+    requires ambiguities { All (λ w. IsAmbiguity rules.now.rules w.which) taken.now }
+    requires some_worker { 0 < workers }
+    requires at_most_64 { workers ≤ 64 }
+    ensures exact { MatchResult result (λ firsts. each_in_turn (first_of (O.compare rules.now.order) steps rules.now.rules) (ambiguities_of taken.now) ≡ Ok (map plain_first firsts))
+        (Explains (each_in_turn (first_of (O.compare rules.now.order) steps rules.now.rules) (ambiguities_of taken.now))) }
+    ensures kept { IfOk result (All (λ f. IsKeptFirst (O.letters rules.now.order) (length rules.now.rules) (plain_first f))) }
+    ensures one_each { IfOk result (λ firsts. length firsts ≡ length taken.now) }
+{
+    let reducer = Reducer { rules, steps };
+    let answers = map_in_order(rt, alloc, taken, &reducer, workers, gate)?;
+    collect_answers(alloc, answers)
+}

@@ -1,0 +1,24 @@
+//! Completion of the generators of a problem in rounds: rules, and records of how each was made.
+#![tactic(auto)]
+
+mod budget;
+mod completion;
+mod first_reductions;
+mod generators;
+mod laws;
+mod making;
+mod passes;
+mod pending;
+mod reduction;
+mod rounds;
+mod rows;
+mod second_reduction;
+mod units;
+
+pub use budget::Budget;
+pub use completion::{Completion, Step};
+pub use laws::{rounds_are_unique, states_are_bounded, states_are_unique, states_have_rules};
+pub use pending::{
+    Pending, Waiting, ambiguities_stay, least_words_are_least, nothing_is_pending_at_first,
+    pending_words_are_over, stores_are_unique, taken_ones_are_ambiguities,
+};
