@@ -1,28 +1,28 @@
 mod Examples
-mod Divisors
-mod Lists
-mod Gathering
-mod Operations
-mod Halts
-mod SizeLaws
-mod TableLaws
-mod RecordLaws
-mod NeededLaws
+pub mod Divisors
+pub mod Lists
+pub mod Gathering
+pub mod Operations
+pub mod Halts
+pub mod SizeLaws
+pub mod TableLaws
+pub mod RecordLaws
+pub mod NeededLaws
 pub mod Between
-mod Values
-mod Balance
-mod Closure
-mod Passes
-mod Kept
-mod Limits
-mod NamedGenerators
-mod NamedRecords
-mod NamingLaws
-mod LemmaHalts
-mod LemmaLimits
-mod LemmaLaws
+pub mod Values
+pub mod Balance
+pub mod Closure
+pub mod Passes
+pub mod Kept
+pub mod Limits
+pub mod NamedGenerators
+pub mod NamedRecords
+pub mod NamingLaws
+pub mod LemmaHalts
+pub mod LemmaLimits
+pub mod LemmaLaws
 pub mod GatheredParts
-mod LemmaSources
+pub mod LemmaSources
 pub mod LemmaSums
 pub mod LemmaBalance
 pub mod LemmaNames
