@@ -1,19 +1,15 @@
 //! Adjoints of words and polynomials.
-use crate::texts::{all_over, is_over, poly, poly_text, same, word};
+use crate::texts::{all_over, is_over, poly, poly_text, quiver_of, same, word};
 use adjoint_rules::{adjoint_poly, adjoint_word, generators_are_unique};
-use quiver::{Quiver, QuiverFault};
+use quiver::Quiver;
 use std::alloc::Global;
 use std::test::Fail;
 use word_core::Word;
 
 // One object with the letter 0 as its identity, a map a with the letter 1, whose adjoint is 2, and a map p, its own adjoint, with
 // the letter 3.
-fn small(alloc: Global) -> Result<Quiver, QuiverFault> {
-    let mut quiver = Quiver::new(alloc)?;
-    let object = quiver.add_object("U")?;
-    quiver.add_map("a", object, object, false)?;
-    quiver.add_map("p", object, object, true)?;
-    Ok(quiver)
+fn small(alloc: Global) -> Result<Quiver, Fail> {
+    quiver_of(alloc, &["U"], &[("a", 0, 0, false), ("p", 0, 0, true)])
 }
 
 // Polynomials over [U] = 0, a = 1, a' = 2 and p = 3, and their adjoints.
