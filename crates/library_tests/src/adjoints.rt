@@ -1,8 +1,16 @@
 //! Adjoints of words and polynomials.
-use crate::texts::{all_over, is_over, poly, poly_text, same, word};
+use crate::texts::{all_over, is_over, poly, poly_text, quiver_of, same, word};
 use adjoint_rules::{adjoint_poly, adjoint_word, generators_are_unique};
 use quiver::Quiver;
+use std::alloc::Global;
 use std::test::Fail;
+use word_core::Word;
+
+// One object with the letter 0 as its identity, a map a with the letter 1, whose adjoint is 2, and a map p, its own adjoint, with
+// the letter 3.
+fn small(alloc: Global) -> Result<Quiver, Fail> {
+    quiver_of(alloc, &["U"], &[("a", 0, 0, false), ("p", 0, 0, true)])
+}
 
 // Polynomials over [U] = 0, a = 1, a' = 2 and p = 3, and their adjoints.
 const ADJOINTS: &[(&[(i128, &[u16])], &str)] = &[
@@ -12,23 +20,40 @@ const ADJOINTS: &[(&[(i128, &[u16])], &str)] = &[
     (&[(2, &[0, 3, 1]), (3, &[1, 0])], "2 a' p [U] + 3 [U] a'"),
 ];
 
+// What is written of the adjoint of the sum of the terms.
+fn adjoint_text(alloc: Global, quiver: &Quiver, terms: &[(i128, &[u16])]) -> Result<String, Fail> {
+    let poly = poly(alloc, terms)?;
+    if !all_over(&poly, quiver.letters()) {
+        return Err(Fail::new("a letter is not of the quiver"));
+    }
+    let adjoint = adjoint_poly(alloc, quiver, &poly)?;
+    poly_text(alloc, quiver, &adjoint)
+}
+
 #[test]
 fn an_adjoint_reverses_words(rt: HostRuntime) -> Result<(), Fail> {
     generators_are_unique();
-    let alloc = rt.alloc();
-    let mut quiver = Quiver::new(alloc)?;
-    let object = quiver.add_object("U")?;
-    quiver.add_map("a", object, object, false)?;
-    quiver.add_map("p", object, object, true)?;
+    let quiver = small(rt.alloc())?;
     for (terms, want) in ADJOINTS {
-        let poly = poly(alloc, terms)?;
-        assert!(rt; all_over(&poly, quiver.letters()));
-        let adjoint = adjoint_poly(alloc, &quiver, &poly)?;
-        let got = poly_text(alloc, &quiver, &adjoint)?;
+        let got = adjoint_text(rt.alloc(), &quiver, terms)?;
         same(&rt, got.as_str(), want, want);
     }
-    let path = word(alloc, &[1, 2, 2])?;
-    assert!(rt; is_over(&path, quiver.letters()));
-    assert!(rt; adjoint_word(alloc, &quiver, &path)? == word(alloc, &[1, 1, 2])?);
+    Ok(())
+}
+
+// The adjoint of the word with these letters.
+fn adjoint_of(alloc: Global, quiver: &Quiver, letters: &[u16]) -> Result<Word, Fail> {
+    let path = word(alloc, letters)?;
+    if !is_over(&path, quiver.letters()) {
+        return Err(Fail::new("a letter is not of the quiver"));
+    }
+    Ok(adjoint_word(alloc, quiver, &path)?)
+}
+
+#[test]
+fn an_adjoint_of_a_word_is_a_word(rt: HostRuntime) -> Result<(), Fail> {
+    let quiver = small(rt.alloc())?;
+    let adjoint = adjoint_of(rt.alloc(), &quiver, &[1, 2, 2])?;
+    assert!(rt; adjoint == word(rt.alloc(), &[1, 1, 2])?);
     Ok(())
 }

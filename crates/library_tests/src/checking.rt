@@ -3,12 +3,12 @@ ghost use Rattle.std.specs.Prelude.{◌≤◌, All, IfOk, length};
 ghost use Rattle.coef_int.specs.Range.{IsCoefficient};
 
 use crate::notation::{number, polys, row, write_number, write_overflow, write_word};
-use crate::texts::tree_of;
+use crate::texts::{problem_of, same};
+use adjoint_rules::Problem;
 use certificate_text::read_certificates;
 use cofactor_checker::{Accepted, Refusal, check, check_over, refusal_is_unique};
 use cofactor_trace::{CertRow, Certificate, Origin};
 use lists::Listing;
-use signature_typing::elaborate;
 use std::alloc::{AllocError, Global};
 use std::test::Fail;
 
@@ -168,25 +168,32 @@ const TEXTS: [(&str, &str, &str); 2] = [
     ),
 ];
 
-fn told_of_texts(alloc: Global, statement: &str, evidence: &str) -> Result<String, Fail> {
+// What is told of each of the certificates over the problem.
+fn told_of_each(alloc: Global, problem: &Problem, evidence: &str) -> Result<String, Fail> {
     if evidence.len() > 100_000 {
         return Err(Fail::new("the text is too long for a test"));
     }
-    let problem = elaborate(alloc, &tree_of(alloc, statement)?)?;
     let certificates = read_certificates(alloc, evidence.as_bytes(), &problem.parts.quiver)?;
     let mut text = String::new(alloc);
     for certificate in certificates.as_slice() {
-        text.push_str(&told(alloc, &check(alloc, &problem, certificate))?)?;
+        text.push_str(&told(alloc, &check(alloc, problem, certificate))?)?;
         text.push_str("; ")?;
     }
     Ok(text)
+}
+
+fn told_of_texts(alloc: Global, statement: &str, evidence: &str) -> Result<String, Fail> {
+    match problem_of(alloc, statement)? {
+        Ok(problem) => told_of_each(alloc, &problem, evidence),
+        Err(fault) => Err(Fail::new(fault)),
+    }
 }
 
 #[test]
 fn certificates_are_checked_over_the_problem_of_a_text(rt: HostRuntime) -> Result<(), Fail> {
     for (statement, evidence, want) in &TEXTS {
         let got = told_of_texts(rt.alloc(), statement, evidence)?;
-        assert_eq!(rt; got.as_str(), *want, "{evidence}");
+        same(&rt, got.as_str(), want, evidence);
     }
     Ok(())
 }

@@ -1,41 +1,48 @@
 //! The names of statement files: what they stand for, and what abbreviations are written out as.
 use crate::texts::{same, tree_of};
+use adjoint_rules::Shape;
 use quiver::Quiver;
 use statement_names::{Names, abbreviation, read_names};
 use statement_syntax::Tree;
-use std::alloc::Global;
+use std::alloc::{AllocError, Global};
 use std::test::Fail;
 use word_orders::OrderSpec;
 
+fn order_text(alloc: Global, order: &OrderSpec) -> Result<String, AllocError> {
+    match order {
+        OrderSpec::Degree => String::from_str(alloc, "degree"),
+        OrderSpec::Weight(weights) => format!(in alloc; "{:?}", weights.as_slice()),
+        OrderSpec::Block(block) => format!(in alloc; "{:?}", block.as_slice()),
+    }
+}
+
+fn shapes_text(alloc: Global, shapes: &[Shape]) -> Result<String, AllocError> {
+    let mut text = String::new(alloc);
+    for shape in shapes {
+        write!(
+            text,
+            " shape {} {:?}",
+            shape.modulus,
+            shape.sides.as_slice()
+        )?;
+    }
+    Ok(text)
+}
+
 // All that the names of a file stand for.
-fn told(alloc: Global, names: &Names) -> Result<String, Fail> {
-    let mut text = format!(in alloc;
-        "objects {} letters {} starred {} marked {:?} solved {:?} order ",
+fn told(alloc: Global, names: &Names) -> Result<String, AllocError> {
+    let order = order_text(alloc, &names.order)?;
+    let shapes = shapes_text(alloc, names.shapes.as_slice())?;
+    format!(in alloc;
+        "objects {} letters {} starred {} marked {:?} solved {:?} order {}{}",
         names.quiver.objects(),
         names.quiver.letters(),
         names.starred,
         names.marked.as_slice(),
         names.solved.as_slice(),
-    )?;
-    match &names.order {
-        OrderSpec::Degree => text.push_str("degree")?,
-        OrderSpec::Weight(weights) => text.push_str(format!(in alloc;
-            "{:?}",
-            weights.as_slice()
-        )?.as_str())?,
-        OrderSpec::Block(block) => text.push_str(format!(in alloc;
-            "{:?}",
-            block.as_slice()
-        )?.as_str())?,
-    }
-    for shape in names.shapes.as_slice() {
-        text.push_str(format!(in alloc;
-            " shape {} {:?}",
-            shape.modulus,
-            shape.sides.as_slice()
-        )?.as_str())?;
-    }
-    Ok(text)
+        order.as_str(),
+        shapes.as_str(),
+    )
 }
 
 type Row = (&'static str, &'static str);

@@ -4,29 +4,29 @@ ghost use Rattle.std.specs.Prelude.{◌<◌, length};
 use crate::evidence_rows::{
     CERTIFICATES, EMPTY, FAULTS, HEAD, LIMITS, NOT_UTF8, ROWS, Row, WORDS, WRITTEN,
 };
-use crate::texts::{poly, poly_text, repeated, same, word, word_text};
+use crate::texts::{Map, poly, poly_text, quiver_of, repeated, same, word, word_text};
 use certificate_text::{
     CertFault, certificates_are_read_back, read_certificates, write_certificate,
 };
-use quiver::{Quiver, QuiverFault};
+use quiver::Quiver;
 use std::alloc::{AllocError, Global};
 use std::process::Abort;
 use std::test::Fail;
 
 // The identities U and V have the letters 0 and 1, a and a' 2 and 3, l and l' 4 and 5, r and r' 6 and 7, p 8, жар_2 and its
 // adjoint 9 and 10, and 日 11 and 12.
-fn small(alloc: Global) -> Result<Quiver, QuiverFault> {
-    let mut quiver = Quiver::new(alloc)?;
-    let first = quiver.add_object("U")?;
-    let second = quiver.add_object("V")?;
-    quiver.add_map("a", first, second, false)?;
-    quiver.add_map("l", second, first, false)?;
-    quiver.add_map("r", second, first, false)?;
-    quiver.add_map("p", second, second, true)?;
-    quiver.add_map("жар_2", first, first, false)?;
-    quiver.add_map("日", first, first, false)?;
-    Ok(quiver)
+fn small(alloc: Global) -> Result<Quiver, Fail> {
+    quiver_of(alloc, &["U", "V"], MAPS)
 }
+
+const MAPS: &[Map] = &[
+    ("a", 0, 1, false),
+    ("l", 1, 0, false),
+    ("r", 1, 0, false),
+    ("p", 1, 1, true),
+    ("жар_2", 0, 0, false),
+    ("日", 0, 0, false),
+];
 
 // The certificates of the text, written one after another.
 fn written(alloc: Global, quiver: &Quiver, text: &[u8]) -> Result<Vec<u8>, CertFault>

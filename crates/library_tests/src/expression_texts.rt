@@ -4,30 +4,30 @@ ghost use Rattle.quiver.specs.Declarations.{named_in};
 ghost use Rattle.expressions.specs.Names.{are_names, are_names_of_term, are_names_of_primary, is_map, is_object};
 
 use crate::expression_rows::{MARKS, OVERFLOWS, POLYNOMIALS, SIGNATURES};
-use crate::texts::{poly_text, same, tree_of};
+use crate::texts::{Map, poly_text, quiver_of, same, tree_of};
 use expressions::{
     SignatureFault, equation_poly, equation_signature, equations_are_typed, has_mark, letter_of,
     letters_are_written, object_of,
 };
 use lists::Text;
 use nc_polynomial::{Poly, PolyFault};
-use quiver::{Named, Quiver, QuiverFault, Sig};
+use quiver::{Named, Quiver, Sig};
 use statement_syntax::{Name, Primary, Spot, StatementKind, Sum, Term, Tree};
 use std::alloc::{AllocError, Global};
 use std::test::Fail;
 use word_core::{Letter, Object};
 
 // The objects U and V and the maps a b : U -> V, x : V -> U and p : U -> U, which is its own adjoint.
-fn small(alloc: Global) -> Result<Quiver, QuiverFault> {
-    let mut quiver = Quiver::new(alloc)?;
-    let first = quiver.add_object("U")?;
-    let second = quiver.add_object("V")?;
-    quiver.add_map("a", first, second, false)?;
-    quiver.add_map("b", first, second, false)?;
-    quiver.add_map("x", second, first, false)?;
-    quiver.add_map("p", first, first, true)?;
-    Ok(quiver)
+fn small(alloc: Global) -> Result<Quiver, Fail> {
+    quiver_of(alloc, &["U", "V"], MAPS)
 }
+
+const MAPS: &[Map] = &[
+    ("a", 0, 1, false),
+    ("b", 0, 1, false),
+    ("x", 1, 0, false),
+    ("p", 0, 0, true),
+];
 
 #[cycle(names)]
 fn are_names(quiver: &Quiver, sum: &Sum) -> bool

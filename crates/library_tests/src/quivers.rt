@@ -1,5 +1,5 @@
 //! Quivers: numbers and names of letters, refused declarations, and signatures.
-use crate::texts::{all_over, is_over, word};
+use crate::texts::{all_over, is_over, quiver_of, same, word};
 use nc_polynomial::{Poly, PolyFault};
 use quiver::{Named, Quiver, QuiverFault, Sig};
 use std::alloc::{AllocError, Global};
@@ -7,13 +7,9 @@ use std::test::Fail;
 use word_core::{Letter, Object};
 
 // The objects U and V, a map a : U -> V and a map p : V -> V that is its own adjoint.
-fn small(alloc: Global) -> Result<Quiver, QuiverFault> {
-    let mut quiver = Quiver::new(alloc)?;
-    let first = quiver.add_object("U")?;
-    let second = quiver.add_object("V")?;
-    quiver.add_map("a", first, second, false)?;
-    quiver.add_map("p", second, second, true)?;
-    Ok(quiver)
+fn small(alloc: Global) -> Result<Quiver, Fail> {
+    let maps = [("a", 0, 1, false), ("p", 1, 1, true)];
+    quiver_of(alloc, &["U", "V"], &maps)
 }
 
 fn signature(source: u16, target: u16) -> Sig {
@@ -33,34 +29,45 @@ fn sum(alloc: Global, words: &[&[u16]]) -> Result<Poly, PolyFault> {
     Ok(sum)
 }
 
+// Names, and what they stand for.
+const NAMED: [(&str, Option<Named>); 6] = [
+    ("U", Some(Named::Object(Object(0)))),
+    ("V", Some(Named::Object(Object(1)))),
+    ("a", Some(Named::Map(Letter(2)))),
+    ("p", Some(Named::Map(Letter(4)))),
+    ("u", None),
+    ("", None),
+];
+
+#[test]
+fn names_are_found(rt: HostRuntime) -> Result<(), Fail> {
+    let quiver = small(rt.alloc())?;
+    for (name, want) in &NAMED {
+        assert_eq!(rt; quiver.find(name), *want, "{name}");
+    }
+    Ok(())
+}
+
+// Letters by their numbers, with their names, their adjoints, their sources and their targets.
+const LETTERS: [(u16, &str, u16, u16, u16); 5] = [
+    (0, "U", 0, 0, 0),
+    (1, "V", 1, 1, 1),
+    (2, "a", 3, 0, 1),
+    (3, "a", 2, 1, 0),
+    (4, "p", 4, 1, 1),
+];
+
 #[test]
 fn letters_are_numbered_in_the_order_of_declaration(rt: HostRuntime) -> Result<(), Fail> {
     let quiver = small(rt.alloc())?;
     assert_eq!(rt; (quiver.objects(), quiver.letters()), (2, 5));
-    let names = [
-        ("U", Some(Named::Object(Object(0)))),
-        ("V", Some(Named::Object(Object(1)))),
-        ("a", Some(Named::Map(Letter(2)))),
-        ("p", Some(Named::Map(Letter(4)))),
-        ("u", None),
-        ("", None),
-    ];
-    for (name, want) in names {
-        assert_eq!(rt; quiver.find(name), want, "{name}");
-    }
-    let letters = [
-        (0, "U", 0, signature(0, 0)),
-        (1, "V", 1, signature(1, 1)),
-        (2, "a", 3, signature(0, 1)),
-        (3, "a", 2, signature(1, 0)),
-        (4, "p", 4, signature(1, 1)),
-    ];
-    for (number, name, star, want) in letters {
-        let letter = Letter(number);
+    for (number, name, star, source, target) in &LETTERS {
+        let letter = Letter(*number);
         assert!(rt; u32::from(letter.0) < quiver.letters());
-        assert_eq!(rt; quiver.letter_name(letter), name, "{number}");
-        assert_eq!(rt; quiver.star_of(letter), Letter(star), "{number}");
-        assert_eq!(rt; quiver.signature_of(letter), want, "{number}");
+        same(&rt, quiver.letter_name(letter), name, name);
+        let got = (quiver.star_of(letter), quiver.signature_of(letter));
+        let want = (Letter(*star), signature(*source, *target));
+        assert_eq!(rt; got, want, "{number}");
     }
     Ok(())
 }

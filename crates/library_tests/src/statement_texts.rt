@@ -4,10 +4,10 @@ use crate::problem_rows::{ARITHMETIC, LATE, PROBLEMS, SIGNATURES};
 use crate::statement_rows::{
     FAULTS, LINES, LITERALS, MISFITS, NAMED, NESTED, NOT_UTF8, STATEMENTS,
 };
-use crate::texts::{poly_text, repeated, same, tree_of};
+use crate::texts::{poly_text, problem_of, repeated, same};
 use adjoint_rules::Problem;
 use lists::Text;
-use signature_typing::{TypeFault, elaborate, problem_is_unique};
+use signature_typing::{TypeFault, problem_is_unique};
 use statement_syntax::{Spot, StatementKind, SyntaxFault, read_tree, write_tree};
 use std::alloc::{AllocError, Global};
 use std::test::Fail;
@@ -136,8 +136,7 @@ fn problem_text(alloc: Global, problem: &Problem) -> Result<String, Fail> {
 
 // What is made of the problem of the text, or its first fault.
 fn outcome(alloc: Global, text: &str, whole: bool) -> Result<String, Fail> {
-    let tree = tree_of(alloc, text)?;
-    match elaborate(alloc, &tree) {
+    match problem_of(alloc, text)? {
         Ok(problem) if whole => problem_text(alloc, &problem),
         Ok(_) => Ok(String::from_str(alloc, "read")?),
         Err(fault) => Ok(fault_text(alloc, &fault)?),

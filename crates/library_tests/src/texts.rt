@@ -4,14 +4,16 @@ ghost use Rattle.std.specs.List.{All};
 ghost use Rattle.coef_int.specs.Range.{IsCoefficient};
 ghost use Rattle.word_core.specs.Letters.{IsOver};
 
+use adjoint_rules::Problem;
 use certificate_text::{write_poly, write_word};
 use nc_polynomial::{Poly, PolyFault};
 use quiver::Quiver;
+use signature_typing::{TypeFault, elaborate};
 use statement_syntax::{Tree, read_tree};
 use std::alloc::{AllocError, Global};
 use std::process::Abort;
 use std::test::Fail;
-use word_core::{Letter, Word};
+use word_core::{Letter, Object, Word};
 
 /// Ends the test where what came is not what was expected, and tells both with the name of the row.
 pub fn same(rt: &impl Abort, got: &str, want: &str, row: &str) {
@@ -24,6 +26,37 @@ pub fn tree_of(alloc: Global, text: &str) -> Result<Tree, Fail> {
         return Err(Fail::new("the text is too long for a test"));
     }
     Ok(read_tree(alloc, text.as_bytes())?)
+}
+
+/// The problem of a statement text, or its first fault past the grammar.
+pub fn problem_of(alloc: Global, text: &str) -> Result<Result<Problem, TypeFault>, Fail> {
+    let tree = tree_of(alloc, text)?;
+    Ok(elaborate(alloc, &tree))
+}
+
+/// A map: its name, the numbers of its source and its target, and whether it is its own adjoint.
+pub type Map = (&'static str, u16, u16, bool);
+
+fn declare(quiver: &mut Quiver, map: &Map) -> Result<(), Fail> {
+    let (name, source, target, selfmade) = *map;
+    let objects = quiver.objects();
+    if u32::from(source) >= objects || u32::from(target) >= objects {
+        return Err(Fail::new("an end of a map is no object"));
+    }
+    quiver.add_map(name, Object(source), Object(target), selfmade)?;
+    Ok(())
+}
+
+/// The quiver with these objects and then these maps.
+pub fn quiver_of(alloc: Global, objects: &[&str], maps: &[Map]) -> Result<Quiver, Fail> {
+    let mut quiver = Quiver::new(alloc)?;
+    for name in objects {
+        quiver.add_object(name)?;
+    }
+    for map in maps {
+        declare(&mut quiver, map)?;
+    }
+    Ok(quiver)
 }
 
 /// What a text repeats: a piece, or two pieces with the number of the turn between them, from 0 on.

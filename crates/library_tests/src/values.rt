@@ -89,25 +89,30 @@ fn number(alloc: Global, modulus: u32, entry: u32) -> Result<Matrix, Fail>
 }
 
 // With a = 2 and b = 3 the value of 2 a b - a is 10.
-#[test]
-fn values_are_sums_of_multiples_of_composites(rt: HostRuntime) -> Result<(), Fail> {
-    let alloc = rt.alloc();
-    let (five, seven) = (Matrices { modulus: 5 }, Matrices { modulus: 7 });
-    let plain = value_at_loops(alloc, &five, 1, number(alloc, 5, 2)?, number(alloc, 5, 3)?)?;
-    assert_eq!(rt; plain.entry(0, 0), 0);
-    let opposite = Opposite(five);
-    let turned = value_at_loops(
-        alloc,
-        &opposite,
-        1,
-        number(alloc, 5, 2)?,
-        number(alloc, 5, 3)?,
-    )?;
-    assert_eq!(rt; turned.entry(0, 0), 0);
-    let pair = Pair(five, seven);
+fn modulo_5(alloc: Global) -> Result<u32, Fail> {
+    let category = Matrices { modulus: 5 };
+    let (a, b) = (number(alloc, 5, 2)?, number(alloc, 5, 3)?);
+    Ok(value_at_loops(alloc, &category, 1, a, b)?.entry(0, 0))
+}
+
+fn modulo_5_turned(alloc: Global) -> Result<u32, Fail> {
+    let category = Opposite(Matrices { modulus: 5 });
+    let (a, b) = (number(alloc, 5, 2)?, number(alloc, 5, 3)?);
+    Ok(value_at_loops(alloc, &category, 1, a, b)?.entry(0, 0))
+}
+
+fn modulo_5_and_7(alloc: Global) -> Result<(u32, u32), Fail> {
+    let category = Pair(Matrices { modulus: 5 }, Matrices { modulus: 7 });
     let a = (number(alloc, 5, 2)?, number(alloc, 7, 2)?);
     let b = (number(alloc, 5, 3)?, number(alloc, 7, 3)?);
-    let both = value_at_loops(alloc, &pair, (1, 1), a, b)?;
-    assert_eq!(rt; (both.0.entry(0, 0), both.1.entry(0, 0)), (0, 3));
+    let value = value_at_loops(alloc, &category, (1, 1), a, b)?;
+    Ok((value.0.entry(0, 0), value.1.entry(0, 0)))
+}
+
+#[test]
+fn values_are_sums_of_multiples_of_composites(rt: HostRuntime) -> Result<(), Fail> {
+    assert_eq!(rt; modulo_5(rt.alloc())?, 0);
+    assert_eq!(rt; modulo_5_turned(rt.alloc())?, 0);
+    assert_eq!(rt; modulo_5_and_7(rt.alloc())?, (0, 3));
     Ok(())
 }
