@@ -1,7 +1,7 @@
 use Rattle.std.proofs.Common.{◌≡◌, ℕ, List, Err, subst, sym, rules}
 use Rattle.flow_io.specs.Told.{Told}
 use Rattle.opprove.specs.declared.call.FileWord.{FileWord}
-use Rattle.opprove.specs.declared.call.Call.{Call}
+use Rattle.command_words.specs.declared.call.Call.{Call}
 use Rattle.opprove.specs.Call.{IsCalled, files_of}
 use Rattle.opprove.specs.Ending.{Ending}
 use Rattle.opprove.specs.Files.{AfterFiles, WereLoaded, RoseAt}
