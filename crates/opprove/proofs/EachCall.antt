@@ -1,5 +1,5 @@
 -- Each call has an ending over the contents of its files.
-use Rattle.std.proofs.Common.{◌≡◌, ◌⊎◌, inl, inr, ℕ, ◌+◌, List, [], ◌∷◌, ◌++◌, length, map, string_bytes, Some, None, Result, Ok, Err, refl, arith}
+use Rattle.std.proofs.Common.{◌≡◌, ◌⊎◌, inl, inr, ℕ, ◌+◌, List, [], ◌∷◌, ◌++◌, map, Some, None, Result, Ok, Err, refl, arith}
 use Rattle.statement_syntax.specs.declared.place.Spot.{Spot}
 use Rattle.statement_syntax.specs.declared.tree.Statement.{Statement}
 use Rattle.statement_syntax.specs.declared.fault.Fault.{Fault}
@@ -20,14 +20,7 @@ use Rattle.cofactor_checker.specs.Acceptance as acceptance
 use Rattle.cofactor_checker.proofs.Judged.{each_certificate_is_judged}
 use Rattle.certificate_text.specs.Evidence.{certificates_of}
 use Rattle.certificate_text.specs.Fault as evidence
-use Rattle.clap.specs.Words.{subcommand_of}
-use Rattle.command_words.specs.CommandSet.{command_set}
-use Rattle.command_words.specs.Calls.{IsInRange}
-use Rattle.command_words.specs.declared.call.Call.{Call}
 use Rattle.command_words.specs.declared.call.Call.TheVariants.{Prove, Check, Bench}
-use Rattle.command_words.proofs.Getters.{call_in_range}
-use Rattle.command_words.proofs.Taken.{taken_has}
-use Rattle.traced_completion.specs.Completions.{IsBudget}
 use Rattle.outcome_existence.proofs.Deciding.{each_problem_has_outcomes}
 use Rattle.report_text.specs.declared.verdict.Verdict.{Verdict}
 use Rattle.report_text.specs.Report.{report_of, heads_of, status_of}
@@ -40,8 +33,6 @@ use Rattle.opprove.specs.Statement as statements
 use Rattle.opprove.specs.Blocks.{JudgesFrom, Judges}
 use Rattle.opprove.specs.Blocks as blocks
 use Rattle.opprove.specs.Check.{Question, question_of, AcceptsCertificate, RefusesCertificate, AnswersEvidence}
-use Rattle.opprove.specs.Call.{files_of}
-use Rattle.opprove.specs.Answers.{Answers}
 use Rattle.opprove.specs.Decide.{Asked, Print, asked_by, asked_by_bench, verdict_of, AnswersClaims}
 use Rattle.opprove.specs.Laws.{EachCallHasAnEnding}
 
@@ -110,9 +101,9 @@ statement_ends statement next each = by_text (each_text_is_read statement)
 
 -- ---- the claims
 
-claims_end : (print : Print) (asked : Asked) → IsBudget asked.budget → (problem : Problem) → (ending : Ending) × AnswersClaims print asked problem ending
-claims_end print asked budget problem =
-    let all = each_problem_has_outcomes problem asked.budget asked.form budget in
+claims_end : (print : Print) (asked : Asked) (problem : Problem) → (ending : Ending) × AnswersClaims print asked problem ending
+claims_end print asked problem =
+    let all = each_problem_has_outcomes problem asked.budget asked.form in
     let verdicts : List Verdict = map verdict_of all.outcomes in
     (record { status = status_of verdicts; report = print problem.parts.quiver all.rules verdicts },
         record {
@@ -124,22 +115,13 @@ claims_end print asked budget problem =
 
 -- ---- the calls
 
-call_ends : (call : Call) (contents : List (List ℕ)) → IsInRange call → length contents ≡ length (files_of call) → (ending : Ending) × Answers call contents ending
-call_ends (Prove p) [] in_range as_many = absurd (omega arith)
-call_ends (Prove p) (statement ∷ []) in_range as_many =
-    let budget : IsBudget (asked_by p).budget = record { some_pairs = in_range.0.0; most_pairs = in_range.0.1; some_steps = in_range.1.0; most_steps = in_range.1.1 } in
-    statement_ends statement (AnswersClaims report_of (asked_by p)) (claims_end report_of (asked_by p) budget)
-call_ends (Prove p) (statement ∷ second ∷ more) in_range as_many = absurd (omega arith)
-call_ends (Check p) [] in_range as_many = absurd (omega arith)
-call_ends (Check p) (statement ∷ []) in_range as_many = absurd (omega arith)
-call_ends (Check p) (statement ∷ bytes ∷ []) in_range as_many = statement_ends statement (AnswersEvidence bytes) (evidence_ends bytes)
-call_ends (Check p) (statement ∷ bytes ∷ third ∷ more) in_range as_many = absurd (omega arith)
-call_ends (Bench b) [] in_range as_many =
-    let budget : IsBudget asked_by_bench.budget = record { some_pairs = omega arith; most_pairs = omega arith; some_steps = omega arith; most_steps = omega arith } in
-    statement_ends (bench_statement b.size) (AnswersClaims heads_of asked_by_bench) (claims_end heads_of asked_by_bench budget)
-call_ends (Bench b) (first ∷ more) in_range as_many = absurd (omega arith)
-
 pub each_call_has_an_ending : EachCallHasAnEnding
-each_call_has_an_ending words call contents is as_many =
-    let texts = map string_bytes words in
-    call_ends call contents (call_in_range (subcommand_of command_set texts) call (taken_has texts is.taken) is.names) as_many
+each_call_has_an_ending (Prove p) [] as_many = absurd (omega arith)
+each_call_has_an_ending (Prove p) (statement ∷ []) as_many = statement_ends statement (AnswersClaims report_of (asked_by p)) (claims_end report_of (asked_by p))
+each_call_has_an_ending (Prove p) (statement ∷ second ∷ more) as_many = absurd (omega arith)
+each_call_has_an_ending (Check p) [] as_many = absurd (omega arith)
+each_call_has_an_ending (Check p) (statement ∷ []) as_many = absurd (omega arith)
+each_call_has_an_ending (Check p) (statement ∷ bytes ∷ []) as_many = statement_ends statement (AnswersEvidence bytes) (evidence_ends bytes)
+each_call_has_an_ending (Check p) (statement ∷ bytes ∷ third ∷ more) as_many = absurd (omega arith)
+each_call_has_an_ending (Bench b) [] as_many = statement_ends (bench_statement b.size) (AnswersClaims heads_of asked_by_bench) (claims_end heads_of asked_by_bench)
+each_call_has_an_ending (Bench b) (first ∷ more) as_many = absurd (omega arith)

@@ -1,13 +1,12 @@
 -- What users ask of the answers.
-use Rattle.std.specs.Prelude.{ℕ, ◌≡◌, List, length, Ok, String}
-use Rattle.std.specs.declared.alloc.Global.{Global}
+use Rattle.std.specs.Prelude.{ℕ, ◌≡◌, List, length, Ok}
 use Rattle.std.specs.List.{AllByRecursion}
 use Rattle.definitions.specs.Category.{Structure}
 use Rattle.adjoint_rules.specs.declared.problem.Problem.{Problem}
 use Rattle.cofactor_trace.specs.declared.Certificate.{Certificate}
 use Rattle.certificate_text.specs.Evidence.{certificates_of}
 use Rattle.command_words.specs.declared.call.Call.{Call}
-use Rattle.opprove.specs.Call.{IsCalled, files_of}
+use Rattle.opprove.specs.Call.{files_of}
 use Rattle.opprove.specs.Ending.{Ending, refused_statement}
 use Rattle.opprove.specs.Statement.{IsStated, IsRefusedStatement}
 use Rattle.opprove.specs.Check.{question_of, IsAccepted, accepted_lines, AnswersCheck}
@@ -58,6 +57,6 @@ ThreeIsFaulty = (statement evidence : List ℕ) (ending : Ending) → AnswersChe
 abbrev pub AnswersOnce : Type 0
 AnswersOnce = (call : Call) (contents : List (List ℕ)) (one other : Ending) → Answers call contents one → Answers call contents other → one ≡ other
 
--- and a call that words name has one, where there are as many contents as files
+-- and it has one, where there are as many contents as files
 abbrev pub EachCallHasAnEnding : Type 0
-EachCallHasAnEnding = (words : List (String Global)) (call : Call) (contents : List (List ℕ)) → IsCalled words call → length contents ≡ length (files_of call) → (ending : Ending) × Answers call contents ending
+EachCallHasAnEnding = (call : Call) (contents : List (List ℕ)) → length contents ≡ length (files_of call) → (ending : Ending) × Answers call contents ending

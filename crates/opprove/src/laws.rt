@@ -26,7 +26,7 @@ pub fn a_call_is_answered_once()
     ensures { AnswersOnce }
 {}
 
-/// Each call that words name has an ending over the contents of its files.
+/// Each call has an ending over the contents of its files.
 pub fn each_call_has_an_ending()
     ensures { EachCallHasAnEnding }
 {}
