@@ -21,7 +21,7 @@ use Rattle.cofactor_checker.proofs.Judged.{each_certificate_is_judged}
 use Rattle.certificate_text.specs.Evidence.{certificates_of}
 use Rattle.certificate_text.specs.Fault as evidence
 use Rattle.command_words.specs.declared.call.Call.TheVariants.{Prove, Check, Bench}
-use Rattle.outcome_existence.proofs.Deciding.{each_problem_has_outcomes}
+use Rattle.outcome_existence.proofs.Problems.{each_problem_has_outcomes}
 use Rattle.report_text.specs.declared.verdict.Verdict.{Verdict}
 use Rattle.report_text.specs.Report.{report_of, heads_of, status_of}
 use Rattle.report_text.specs.Bench.{bench_statement}
