@@ -1,0 +1,7 @@
+pub mod RangedReductions
+pub mod RangedRuns
+pub mod AskedOrders
+pub mod ProblemPolynomials
+pub mod OpenRuns
+pub mod Derivations
+pub mod Meanings
