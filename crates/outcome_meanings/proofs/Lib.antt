@@ -5,3 +5,4 @@ pub mod ProblemPolynomials
 pub mod OpenRuns
 pub mod Derivations
 pub mod Meanings
+pub mod DerivedClaims
