@@ -3,10 +3,12 @@ use Rattle.std.proofs.Common.{◌≡◌, ℕ, zero, suc, ℤ, pos, ◌<ℤ◌, L
 use Rattle.std.specs.List.{All}
 use Rattle.std.proofs.lemmas.Int.{ints}
 use Rattle.std.proofs.lemmas.List.Elements.{All-from_recursion}
+use Rattle.std.proofs.lemmas.Nat.Gcd.{dvd_refl}
 use Rattle.definitions.specs.Poly.{Term}
 use Rattle.definitions.specs.Combination.{IsCombination}
 use Rattle.cofactor_trace.specs.declared.Made.{Made}
 use Rattle.cofactor_trace.specs.declared.Cofactors.{Cofactors}
+use Rattle.cofactor_trace.specs.declared.evidence.Lemma.{Lemma}
 use Rattle.cofactor_trace.specs.declared.evidence.LemmaCertificate.{LemmaCertificate}
 use Rattle.cofactor_trace.specs.declared.evidence.Format.{Format}
 use Rattle.cofactor_trace.specs.declared.evidence.Format.TheVariants as format
@@ -44,6 +46,13 @@ no_word word e = cc
 not_certificate : (n round : ℕ) → place.Claim n ≡ place.Certificate round → ⊥
 not_certificate n round e = cc
 
+-- the certificate with lemmas of a claim without terms
+abbrev zero_goal : Lemma
+zero_goal = record { scale = pos 1; rows = [] }
+
+abbrev zero_certificate : ℕ → LemmaCertificate
+zero_certificate number = record { claim = number; denominator = pos 1; lemmas = []; goal = zero_goal }
+
 module _ (problem : Problem) (budget : Budget) (number : ℕ) where
   abbrev Means : Outcome → Type 0
   Means = OutcomeMeans problem number
@@ -57,9 +66,9 @@ module _ (problem : Problem) (budget : Budget) (number : ℕ) where
   zero_means format.Lemmas none = record {
     claim = refl;
     lemmas = [];
-    evidence = subst (IsEvidenceOf (polynomials problem.generators) [] _) (sym none) (record {
+    evidence = subst (IsEvidenceOf (polynomials problem.generators) [] (zero_certificate number)) (sym none) (record {
       positive = omega (arith, ints);
-      shares = All-from_recursion (IsShareOf (pos 1)) _ ((omega (arith, ints), (1, refl)), tt);
+      shares = All-from_recursion (IsShareOf (pos 1)) (zero_goal ∷ []) ((omega (arith, ints), dvd_refl 1), tt);
       lemmas_add_up = tt;
       goal_adds_up = record { at = λ w. refl };
     });
