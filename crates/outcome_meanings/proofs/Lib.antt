@@ -6,3 +6,5 @@ pub mod OpenRuns
 pub mod Derivations
 pub mod Meanings
 pub mod DerivedClaims
+pub mod AllOutcomes
+mod Examples
