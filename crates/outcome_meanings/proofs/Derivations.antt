@@ -1,7 +1,5 @@
 -- What is made of a claim that a run reduces to zero: evidence that adds up, or a halt, and it follows in any case.
-use Rattle.std.proofs.Common.{◌≡◌, ◌≤◌, ◌<ℤ◌, ℕ, suc, ℤ, pos, ◌*ℤ◌, List, [], ◌∷◌, length, slice_get, Option, Some, Result, Ok, Err, refl, sym, ap, ◌∙◌, subst, arith, append-nil}
-use Rattle.std.specs.List.{All}
-use Rattle.std.proofs.lemmas.Int.{ints}
+use Rattle.std.proofs.Common.{◌≡◌, ℕ, List, [], length, Ok, sym, ap, ◌∙◌, subst, append-nil}
 use Rattle.std.proofs.lemmas.List.Elements.{All-weaker, All-from_recursion}
 use Rattle.coef_int.specs.Range.{IsCoefficient}
 use Rattle.definitions.specs.Poly.{Term, coefficient_of, poly_sum}
@@ -37,7 +35,7 @@ use Rattle.completion_laws.specs.Kept.{AreRecorded}
 use Rattle.completion_laws.proofs.Inside.{zero_is_inside}
 use Rattle.completion_laws.proofs.RowSums.{traced_sum-by_rules}
 use Rattle.traced_completion.specs.declared.budget.Budget.{Budget}
-use Rattle.traced_completion.specs.PlainRun.{Setting, RunState, IsRunState, setting_of}
+use Rattle.traced_completion.specs.PlainRun.{RunState, IsRunState, setting_of}
 use Rattle.claim_decider.specs.Outcomes.{record_of}
 use Rattle.claim_decider.specs.Decided.{claim_at}
 use Rattle.claim_decider.proofs.Judging.{claim_record}

@@ -1,5 +1,5 @@
 -- Meanings that are refused.
-use Rattle.std.proofs.Common.{◌≡◌, pos, [], refl, arith}
+use Rattle.std.proofs.Common.{pos, [], refl, arith}
 use Rattle.std.proofs.lemmas.Int.{ints}
 use Rattle.nc_polynomial.specs.declared.poly.Poly.{Poly}
 use Rattle.cofactor_trace.specs.declared.evidence.Evidence.TheVariants as evidence

@@ -1,12 +1,10 @@
 -- Each outcome means what it says.
-use Rattle.std.proofs.Common.{◌≡◌, ℕ, zero, suc, ℤ, pos, ◌<ℤ◌, List, [], ◌∷◌, Option, Some, None, Result, Ok, Err, refl, sym, ap, ◌∙◌, subst, arith}
-use Rattle.std.specs.List.{All}
+use Rattle.std.proofs.Common.{◌≡◌, ℕ, suc, pos, List, [], ◌∷◌, Option, Some, None, Result, Ok, Err, refl, sym, subst, arith}
 use Rattle.std.proofs.lemmas.Int.{ints}
 use Rattle.std.proofs.lemmas.List.Elements.{All-from_recursion}
 use Rattle.std.proofs.lemmas.Nat.Gcd.{dvd_refl}
 use Rattle.definitions.specs.Poly.{Term}
 use Rattle.definitions.specs.Combination.{IsCombination}
-use Rattle.cofactor_trace.specs.declared.Made.{Made}
 use Rattle.cofactor_trace.specs.declared.Cofactors.{Cofactors}
 use Rattle.cofactor_trace.specs.declared.evidence.Lemma.{Lemma}
 use Rattle.cofactor_trace.specs.declared.evidence.LemmaCertificate.{LemmaCertificate}
@@ -15,8 +13,6 @@ use Rattle.cofactor_trace.specs.declared.evidence.Format.TheVariants as format
 use Rattle.cofactor_trace.specs.declared.fault.ExpandFault.{ExpandFault}
 use Rattle.cofactor_trace.specs.declared.fault.GatherFault.{GatherFault}
 use Rattle.cofactor_trace.specs.declared.halt.Cause.{Cause}
-use Rattle.cofactor_trace.specs.declared.halt.Halt.{Halt}
-use Rattle.cofactor_trace.specs.declared.halt.Place.{Place}
 use Rattle.cofactor_trace.specs.declared.halt.Place.TheVariants as place
 use Rattle.cofactor_trace.specs.Needed.{expansion_of}
 use Rattle.cofactor_trace.specs.Lemmas.{gathered_of}
@@ -30,12 +26,12 @@ use Rattle.rule_reduce.specs.NormalForms.{normal_form_of}
 use Rattle.adjoint_rules.specs.declared.problem.Problem.{Problem}
 use Rattle.adjoint_rules.specs.Problem.{polynomials}
 use Rattle.traced_completion.specs.declared.budget.Budget.{Budget}
-use Rattle.traced_completion.specs.PlainRun.{RunState, IsRound, IsRunState, went, setting_of, IsCauseOf}
+use Rattle.traced_completion.specs.PlainRun.{RunState, IsRunState, setting_of}
 use Rattle.claim_decider.specs.declared.outcome.Outcome.{Outcome}
 use Rattle.claim_decider.specs.declared.outcome.Outcome.TheVariants as outcome
-use Rattle.claim_decider.specs.Outcomes.{halted_at, IsHalted, record_of, certificate_of, Expands, Gathers, IsProved, evidence_of_zero, IsOpen, IsDone, IsDoneBy, IsDoneWith, GetsOutcome, at_once, after_round, by_closing, by_stop, IsOutcomeOf}
+use Rattle.claim_decider.specs.Outcomes.{record_of, Expands, Gathers, IsProved, evidence_of_zero, IsDoneBy, IsDoneWith, GetsOutcome, at_once, after_round, by_closing, by_stop}
 use Rattle.claim_decider.specs.Decided.{claim_at}
-use Rattle.outcome_meanings.specs.Meanings.{Follows, OutcomeMeans, HaltMeans, EvidenceAddsUp, DerivedClaimsAddUp, ClosedClaimsAreOutside, LeastWordsBoundDerivations, HaltedCertificatesAreInside, OutcomesMeanWhatTheySay}
+use Rattle.outcome_meanings.specs.Meanings.{OutcomeMeans, HaltMeans, EvidenceAddsUp, DerivedClaimsAddUp, ClosedClaimsAreOutside, LeastWordsBoundDerivations, HaltedCertificatesAreInside, OutcomesMeanWhatTheySay}
 use Rattle.outcome_meanings.proofs.OpenRuns.{open_run, closed_outside, stop_means}
 use Rattle.outcome_meanings.proofs.Derivations.{follows, expansion_adds_up, gathering_adds_up, gathering_names}
 

@@ -1,8 +1,7 @@
 -- What holds of a run while a claim is open, where it closes, and where it stops.
-use Rattle.std.proofs.Common.{◌≡◌, ◌≢◌, ◌<◌, ◌≤◌, ℕ, zero, suc, pos, Bool, true, false, List, [], ◌∷◌, ◌++◌, length, nat_le, take, Option, Some, None, Result, Ok, Err, refl, sym, ap, ◌∙◌, subst, arith}
-use Rattle.std.specs.List.{All}
+use Rattle.std.proofs.Common.{◌≡◌, ◌≢◌, ◌<◌, ℕ, zero, suc, pos, Bool, true, false, List, [], ◌∷◌, ◌++◌, length, nat_le, take, Option, Some, None, Result, Ok, Err, sym, ap, ◌∙◌, subst, arith}
 use Rattle.std.proofs.lemmas.List.Elements.{recursion_from_All}
-use Rattle.definitions.specs.Poly.{Term, coefficient_of}
+use Rattle.definitions.specs.Poly.{Term}
 use Rattle.definitions.specs.Combination.{InRationalIdeal}
 use Rattle.nc_polynomial.specs.Shape.{IsShaped}
 use Rattle.nc_polynomial.proofs.Distinct.{distinct-descending, first_coefficient}

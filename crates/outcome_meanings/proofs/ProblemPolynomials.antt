@@ -1,10 +1,10 @@
 -- The generators and the claims of a problem are sorted and typed, and their letters are its letters.
-use Rattle.std.proofs.Common.{◌≡◌, ◌≢◌, ◌≤◌, ◌<◌, ℕ, zero, suc, pos, Bool, true, IsTrue, List, [], ◌∷◌, length, get_or, Contains, refl, sym, subst, arith}
+use Rattle.std.proofs.Common.{◌≡◌, ◌≢◌, ◌≤◌, ◌<◌, ℕ, zero, suc, pos, Bool, true, IsTrue, List, [], ◌∷◌, length, get_or, refl, sym, subst, arith}
 use Rattle.std.specs.List.{All, AllByRecursion, list_all}
 use Rattle.std.proofs.lemmas.List.{length-map}
 use Rattle.std.proofs.lemmas.List.Elements.{All-from_recursion, recursion_from_All}
 use Rattle.coef_int.specs.Range.{IsCoefficient}
-use Rattle.definitions.specs.Poly.{Term, coefficient_of}
+use Rattle.definitions.specs.Poly.{Term}
 use Rattle.definitions.specs.Combination.{generator_at}
 use Rattle.definitions.specs.Quiver.{Quiver, letters, source, leads, is_path}
 use Rattle.definitions.specs.Soundness.{HasSignature}

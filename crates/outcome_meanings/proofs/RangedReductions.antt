@@ -1,17 +1,16 @@
 -- What a reduction that ends leaves has coefficients in range: its multiplier, and those of its rest and of its rows.
-use Rattle.std.proofs.Common.{◌≡◌, ◌<◌, ◌/◌, ◌^◌, ℕ, zero, suc, ℤ, pos, negsuc, neg_ℤ, ◌*ℤ◌, int_div, Bool, true, false, List, [], ◌∷◌, ◌++◌, map, Option, Some, None, Result, Ok, Err, refl, sym, ap, ◌∙◌, subst, arith}
+use Rattle.std.proofs.Common.{◌≡◌, ◌<◌, ◌/◌, ◌^◌, ℕ, zero, suc, ℤ, pos, negsuc, neg_ℤ, int_div, Bool, true, false, List, [], ◌∷◌, ◌++◌, map, Option, Some, None, Result, Ok, Err, refl, sym, ◌∙◌, subst, arith}
 use Rattle.std.specs.List.{All, AllByRecursion}
 use Rattle.std.proofs.lemmas.Bool.Decides.{nat_tests}
 use Rattle.std.proofs.lemmas.List.Elements.{All-contains}
 use Rattle.std.proofs.Math.Nat.{div-le_self}
 use Rattle.coef_int.specs.declared.Overflow.{Overflow}
 use Rattle.coef_int.specs.Range.{IsCoefficient, is_coefficient}
-use Rattle.coef_int.specs.Divisor.{gcd_of}
 use Rattle.coef_int.specs.Operations.{product_of, exact_value, first_overflow}
 use Rattle.definitions.specs.Poly.{Term}
 use Rattle.nc_polynomial.specs.declared.fault.PolyFault.{PolyFault}
 use Rattle.nc_polynomial.specs.declared.fault.PolyFault.TheVariants as fault
-use Rattle.nc_polynomial.specs.Terms.{multiplied, multiplications, negated, shifted, products, added, sums}
+use Rattle.nc_polynomial.specs.Terms.{multiplied, multiplications, negated, shifted, products, sums}
 use Rattle.nc_polynomial.specs.Faults.{unless_overflow, sized}
 use Rattle.nc_polynomial.proofs.Chains.{or_first, first-append}
 use Rattle.nc_polynomial.proofs.Shapes.{in_range-added}
