@@ -29,7 +29,7 @@ use Rattle.claim_decider.specs.Decided.{claim_at}
 abbrev pub Follows : Problem → ℕ → Type 0
 Follows problem number = InRationalIdeal (polynomials problem.generators) (claim_at problem number)
 
--- of a combination in which all words are below the word, in the order that is asked for
+-- some positive multiple of it is a combination in which all words are below the word, in the order that is asked for
 abbrev pub FollowsBelow : Problem → List ℕ → ℕ → Type 0
 FollowsBelow problem word number =
     ComesBelow (letter_count problem.parts.quiver) (asked_cmp problem.parts.order) (polynomials problem.generators) word (claim_at problem number)
@@ -57,14 +57,15 @@ pub record HaltMeans (problem : Problem) (number : ℕ) (h : Halt) : Type 0 wher
   pub not_below : (word : List ℕ) → h.least ≡ Some word → FollowsBelow problem word number → ⊥
   pub inside : (round : ℕ) → h.place ≡ place.Certificate round → Follows problem number
 
--- A claim that is derived has evidence that adds up, one that is closed does not follow, and one that is halted is bounded.
+-- A claim that is derived has evidence that adds up, one that is closed does not follow, and of one that is halted holds what its halt means.
 abbrev pub OutcomeMeans : Problem → ℕ → Outcome → Type 0
 OutcomeMeans problem number (outcome.Derived e) = EvidenceAddsUp problem number e
 OutcomeMeans problem number (outcome.Closed rest) = Follows problem number → ⊥
 OutcomeMeans problem number (outcome.Halted h) = HaltMeans problem number h
 
 -- ---- the laws
--- the outcome of the problem's claim with this number
+-- The laws have one premise, that this is the outcome of the problem's claim with this number. `decide_all` and `decide` ensure it of
+-- each outcome that they give, in `outcomes`. That generators and claims are typed comes from the fields of a problem.
 abbrev pub IsOutcomeAt : Problem → Budget → Format → ℕ → Outcome → Type 0
 IsOutcomeAt problem budget form number o = IsOutcomeOf (setting_of problem budget) form number (claim_at problem number) o
 
