@@ -6,15 +6,6 @@ use Rattle.definitions.specs.Category.{Structure, PreadditiveLaws}
 use Rattle.definitions.specs.Poly.{Term}
 use Rattle.definitions.specs.Soundness.{HasSignature, IsSound, MakesZero}
 use Rattle.definitions.specs.Quiver.{Quiver}
-use Rattle.word_orders.specs.declared.any.OrderSpec.{OrderSpec}
-use Rattle.word_orders.specs.declared.any.OrderSpec.TheVariants as asked
-use Rattle.word_orders.specs.CanonicalLaws.{word_cmp-admissible}
-use Rattle.word_orders.specs.Lists.{is_listed, weight_of}
-use Rattle.word_orders.specs.Measured.{weight_rank, block_rank}
-use Rattle.word_orders.specs.MeasuredLaws.{weight_cmp-admissible, block_cmp-admissible}
-use Rattle.word_orders.specs.Rank.{rank_of}
-use Rattle.word_orders.specs.Specified.{asked_cmp}
-use Rattle.word_orders.specs.Admissible.{IsAdmissible}
 use Rattle.nc_polynomial.specs.declared.poly.Poly.{Poly}
 use Rattle.quiver.specs.Declarations.{Declaration, quiver_of}
 use Rattle.cofactor_trace.specs.Rows.{rows_of}
@@ -37,7 +28,8 @@ use Rattle.claim_decider.proofs.UniqueOutcomes.{outcomes_unique}
 use Rattle.claim_decider.proofs.UniqueRules.{last_rules_unique}
 use Rattle.representations.specs.Evidence.{IsEvidenceSound}
 use Rattle.outcome_meanings.specs.Meanings.{OutcomeMeans, EvidenceAddsUp}
-use Rattle.outcome_meanings.proofs.Outcomes.{outcomes_mean_what_they_say}
+use Rattle.outcome_meanings.proofs.AskedOrders.{asked_rank, asked_cmp-admissible}
+use Rattle.outcome_meanings.proofs.Meanings.{outcomes_mean_what_they_say}
 use Rattle.report_text.specs.declared.verdict.Verdict.{Verdict}
 use Rattle.report_text.specs.Heads.{denominator_of}
 use Rattle.report_text.specs.Report.{status_of, is_undecided, is_proved}
@@ -114,12 +106,6 @@ module _ (p q : Problem) (same : AreSame p q) where
 
 -- ---- one ending
 
--- an order that is asked for is admissible
-asked_laws : (order : OrderSpec) → (rank : List ℕ → List ℕ) × IsAdmissible 0 (asked_cmp order) rank
-asked_laws asked.Degree = (rank_of 0, word_cmp-admissible 0)
-asked_laws (asked.Weight weights) = (weight_rank (weight_of weights) 0, weight_cmp-admissible (weight_of weights) 0)
-asked_laws (asked.Block block) = (block_rank (is_listed block) 0, block_cmp-admissible (is_listed block) 0)
-
 module _ (problem : Problem) (asked : Asked) where
   zip_once : (ns : List ℕ) (one other : List Outcome) → AreOutcomesOf (setting_of problem asked.budget) asked.form problem ns one → AreOutcomesOf (setting_of problem asked.budget) asked.form problem ns other → one ≡ other
   zip_once [] [] [] first second = refl
@@ -128,16 +114,16 @@ module _ (problem : Problem) (asked : Asked) where
   zip_once (n ∷ ns) [] other first second = absurd first
   zip_once (n ∷ ns) (o ∷ os) [] first second = absurd second
   zip_once (n ∷ ns) (o ∷ os) (o' ∷ os') first second =
-      let laws = asked_laws problem.parts.order in
-      let here : o ≡ o' = outcomes_unique 0 laws.0 (setting_of problem asked.budget) asked.form n (claim_at problem n) o o' laws.1 first.0 second.0 in
+      let order = problem.parts.order in
+      let here : o ≡ o' = outcomes_unique 0 (asked_rank 0 order) (setting_of problem asked.budget) asked.form n (claim_at problem n) o o' (asked_cmp-admissible 0 order) first.0 second.0 in
       let rest : os ≡ os' = zip_once ns os os' first.1 second.1 in
       λ i. here i ∷ rest i
 
   rules_once : (one other : List Poly) → AreLastRules (setting_of problem asked.budget) asked.form problem (claim_numbers problem) one
       → AreLastRules (setting_of problem asked.budget) asked.form problem (claim_numbers problem) other → one ≡ other
   rules_once one other first second =
-      let laws = asked_laws problem.parts.order in
-      last_rules_unique 0 laws.0 (setting_of problem asked.budget) asked.form problem (claim_numbers problem) one other laws.1 first second
+      let order = problem.parts.order in
+      last_rules_unique 0 (asked_rank 0 order) (setting_of problem asked.budget) asked.form problem (claim_numbers problem) one other (asked_cmp-admissible 0 order) first second
 
 -- two problems that say the same have the same ending
 claims_once : (print : Print) (asked : Asked) (ending ending' : Ending) (p q : Problem) → AreSame p q → AnswersClaims print asked p ending → AnswersClaims print asked q ending' → ending ≡ ending'
