@@ -1,0 +1,5 @@
+pub mod Results
+pub mod RowsOfRuns
+pub mod OutcomeWays
+pub mod EvidenceWords
+pub mod OutcomeLetters
