@@ -14,7 +14,6 @@ use Rattle.cofactor_trace.specs.declared.Cofactors.{Cofactors}
 use Rattle.cofactor_trace.specs.declared.evidence.LemmaRow.{LemmaRow}
 use Rattle.cofactor_trace.specs.declared.evidence.Lemma.{Lemma}
 use Rattle.cofactor_trace.specs.declared.evidence.LemmaCertificate.{LemmaCertificate}
-use Rattle.cofactor_trace.specs.declared.table.Multiple.{Multiple}
 use Rattle.cofactor_trace.specs.declared.fault.ExpandFault.{ExpandFault}
 use Rattle.cofactor_trace.specs.Expansion.{Known, common_denominator, joined, joined_rows, joined_row, share, record_expansion}
 use Rattle.cofactor_trace.specs.Needed.{Numbered, Expansions, none, known_from, and_then, expansion_from, expansion_of, needed_from, needed_rules, is_named}
@@ -26,6 +25,16 @@ use Rattle.cofactor_trace.proofs.NeededLaws.{records_of}
 use Rattle.cofactor_trace.proofs.Passes.{each_with}
 use Rattle.cofactor_trace.proofs.RecordLaws.{primitive_is}
 
+-- what holds of each record holds of those that are needed
+pub needed_each : (P : Made → Type 0) (target : Made) (number : ℕ) (made : List Made) → AllByRecursion P made → AllByRecursion (λ e. P e.1) (needed_from target number made)
+needed_each P target number [] each = tt
+needed_each P target number (m ∷ made) each = go (is_named number (target ∷ records_of (needed_from target (suc number) made))) (needed_each P target (suc number) made each.1)
+  where
+    go : (b : Bool) → AllByRecursion (λ e. P e.1) (needed_from target (suc number) made)
+        → AllByRecursion (λ e. P e.1) (cond b ((number, m) ∷ needed_from target (suc number) made) (needed_from target (suc number) made))
+    go true later = (each.0, later)
+    go false later = later
+
 module _ (P : List ℕ → Type 0) (empty : P []) (together : (u v : List ℕ) → P u → P v → P (u ++ v)) where
   -- both words of a row of a record
   abbrev pub HasWords : Row → Type 0
@@ -35,11 +44,8 @@ module _ (P : List ℕ → Type 0) (empty : P []) (together : (u v : List ℕ) �
   RecordHasWords m = AllByRecursion HasWords m.rows
 
   -- of a row of an expansion
-  abbrev IsBetween : Multiple → Type 0
-  IsBetween m = P m.left × P m.right
-
   abbrev AreBetween : List CertRow → Type 0
-  AreBetween rows = Each IsBetween rows
+  AreBetween rows = Each (λ m. P m.left × P m.right) rows
 
   joined_between : (k : ℤ) (outer : Row) → HasWords outer → (inner : List CertRow) → AreBetween inner → AreBetween (map (joined_row k outer) inner)
   joined_between k outer has [] each = tt
@@ -48,7 +54,7 @@ module _ (P : List ℕ → Type 0) (empty : P []) (together : (u v : List ℕ) �
   all_between : (known : Known) (common : ℤ) (rows : List Row) → AllByRecursion HasWords rows → AllByRecursion (λ r. AreBetween (known r.from).rows) rows → AreBetween (joined known common rows)
   all_between known common [] has each = tt
   all_between known common (r ∷ rows) has each =
-      each_append IsBetween (joined_rows known common r) (joined known common rows)
+      each_append (λ m. P m.left × P m.right) (joined_rows known common r) (joined known common rows)
       (joined_between (r.coef *ℤ share known common r) r has.0 (known r.from).rows each.0) (all_between known common rows has.1 each.1)
 
   -- ---- the list of expansions
@@ -77,7 +83,7 @@ module _ (P : List ℕ → Type 0) (empty : P []) (together : (u v : List ℕ) �
       let common = common_denominator known m.rows in
       let rows = joined known common m.rows in
       subst (λ (x : Cofactors). AreBetween x.rows) (primitive_is known m c ends).1
-      (each_primitive IsBetween (m.scale *ℤ common) rows (all_between known common m.rows has (known_between expansions each m.rows)))
+      (each_primitive (λ m. P m.left × P m.right) (m.scale *ℤ common) rows (all_between known common m.rows has (known_between expansions each m.rows)))
 
   between_from : (expansions : Expansions) (rest : List Numbered) (target : Made) (c : Cofactors) → EachBetween expansions → AllByRecursion (λ e. RecordHasWords e.1) rest → RecordHasWords target
       → expansion_from expansions rest target ≡ Ok c → AreBetween c.rows
@@ -92,18 +98,9 @@ module _ (P : List ℕ → Type 0) (empty : P []) (together : (u v : List ℕ) �
       go (Ok x) between ends next = next x (between x each rules.0 (λ i. Ok x)) ends
       go (Err f) between ends next = absurd (cc)
 
-  needed_have : (target : Made) (number : ℕ) (made : List Made) → AllByRecursion RecordHasWords made → AllByRecursion (λ e. RecordHasWords e.1) (needed_from target number made)
-  needed_have target number [] each = tt
-  needed_have target number (m ∷ made) each = go (is_named number (target ∷ records_of (needed_from target (suc number) made))) (needed_have target (suc number) made each.1)
-    where
-      go : (b : Bool) → AllByRecursion (λ e. RecordHasWords e.1) (needed_from target (suc number) made)
-          → AllByRecursion (λ e. RecordHasWords e.1) (cond b ((number, m) ∷ needed_from target (suc number) made) (needed_from target (suc number) made))
-      go true later = (each.0, later)
-      go false later = later
-
   pub expanded_words : (made : List Made) (target : Made) (c : Cofactors) → AllByRecursion RecordHasWords made → RecordHasWords target → expansion_of made target ≡ Ok c → All (λ (r : CertRow). P r.left × P r.right) c.rows
   expanded_words made target c rules has ends =
-      All-from_recursion (λ (r : CertRow). P r.left × P r.right) c.rows (between_from [] (needed_rules made target) target c tt (needed_have target 1 made rules) has ends)
+      All-from_recursion (λ (r : CertRow). P r.left × P r.right) c.rows (between_from [] (needed_rules made target) target c tt (needed_each RecordHasWords target 1 made rules) has ends)
 
 -- what holds of the words of records holds of those of a gathered certificate
 module _ (P : List ℕ → Type 0) where

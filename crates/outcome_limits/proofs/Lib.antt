@@ -3,3 +3,8 @@ pub mod RowsOfRuns
 pub mod OutcomeWays
 pub mod EvidenceWords
 pub mod OutcomeLetters
+pub mod EvidenceRanges
+pub mod ReducedWithin
+pub mod AmbiguitiesWithin
+pub mod LimitedRuns
+pub mod EvidenceFits

@@ -64,6 +64,7 @@ use Rattle.claim_decider.specs.Decided.{claim_at, polynomials_in}
 use Rattle.outcome_limits.specs.OutcomeLetters.{IsPolyOver, IsLeastOver, IsOutcomeOver, OutcomesHaveLetters, LastRulesHaveLetters}
 use Rattle.outcome_limits.proofs.EvidenceWords.{expanded_words, gathered_words}
 use Rattle.outcome_limits.proofs.OutcomeWays.{Way, no_terms, expanded, gathered, left_over, given_up, with_run, way, IsProvedBy}
+use Rattle.outcome_limits.proofs.Results.{split_last}
 use Rattle.outcome_limits.proofs.RowsOfRuns.{IsKept, IsKeptGenerator, MadeFrom, states_held}
 
 -- ---- reductions
@@ -107,7 +108,7 @@ module _ (letters : ℕ) where
 
 -- ---- records of a run
 module _ (letters : ℕ) (setting : Setting) (generators : All (HasWords letters) setting.generators) where
-  generator_words : (ps : List (List Term)) → AllByRecursion (HasWords letters) ps → (number : ℕ) → AreWords letters (generator_at ps number)
+  pub generator_words : (ps : List (List Term)) → AllByRecursion (HasWords letters) ps → (number : ℕ) → AreWords letters (generator_at ps number)
   generator_words ps each zero = tt
   generator_words [] each (suc n) = tt
   generator_words (p ∷ ps) each (suc zero) = words_from letters p (recursion_from_All (λ t. 0 < length t.1) p each.0.nonempty) (recursion_from_All (λ t. IsOver letters t.1) p each.0.over)
@@ -262,15 +263,11 @@ module _ (problem : Problem) (budget : Budget) where
         All-weaker (λ (r : LemmaRow). IsOver letters_in r.left × IsOver letters_in r.right) (IsLemmaRowOver ds) (λ r both. record { left = both.0; right = both.1 }) l.rows
         (All-from_recursion (λ (r : LemmaRow). IsOver letters_in r.left × IsOver letters_in r.right) l.rows each)
 
-    with_goal : (ls : List Lemma) (goal : Lemma) → AllByRecursion (IsLemmaOver ds) (ls ++ goal ∷ []) → AllByRecursion (IsLemmaOver ds) ls × IsLemmaOver ds goal
-    with_goal [] goal each = (tt, each.0)
-    with_goal (l ∷ ls) goal each = let rest = with_goal ls goal each.1 in ((each.0, rest.0), rest.1)
-
     gathered_over : (by : IsProvedBy setting_in claim) (c : LemmaCertificate) → gathered_of number by.state.made (record_of by.reduced) ≡ Ok c → IsEvidenceOver ds (evidence.Lemmas c)
     gathered_over by c ends =
         let words = gathered_words (IsOver letters_in) number by.state.made (record_of by.reduced) c (records_over letters_in setting_in generators_have_words by.rounds by.state by.run) (target_over by) ends in
         let each = All-weaker (λ (l : Lemma). AllByRecursion (λ (r : LemmaRow). IsOver letters_in r.left × IsOver letters_in r.right) l.rows) (IsLemmaOver ds) lemma_over (parts_of c) words in
-        let both = with_goal c.lemmas c.goal (recursion_from_All (IsLemmaOver ds) (parts_of c) each) in
+        let both = split_last (IsLemmaOver ds) c.lemmas c.goal (recursion_from_All (IsLemmaOver ds) (parts_of c) each) in
         (All-from_recursion (IsLemmaOver ds) c.lemmas both.0, both.1)
 
     least_is_over : (o : Option (List ℕ)) → ((word : List ℕ) → o ≡ Some word → IsOver letters_in word) → IsLeastOver ds o

@@ -14,10 +14,10 @@ module _ {A E : Type 0} where
   pub no_error : (x : A) (e : E) → ◌≡◌ {A = Result A E} (Err e) (Ok x) → ⊥
   no_error x e same = cc
 
--- what is listed behind
-pub all_append : {X : Type 0} (P : X → Type 0) (xs ys : List X) → AllByRecursion P xs → AllByRecursion P ys → AllByRecursion P (xs ++ ys)
-all_append P [] ys each more = more
-all_append P (x ∷ xs) ys each more = (each.0, all_append P xs ys each.1 more)
+-- the last of a list, and the others
+pub split_last : {X : Type 0} (P : X → Type 0) (xs : List X) (x : X) → AllByRecursion P (xs ++ x ∷ []) → AllByRecursion P xs × P x
+split_last P [] x each = (tt, each.0)
+split_last P (y ∷ xs) x each = let rest = split_last P xs x each.1 in ((each.0, rest.0), rest.1)
 
 -- the first of them fits, and then the others
 pub fits_first : (o : Overflow) (os : List Overflow) → first_overflow (o ∷ os) ≡ None → IsCoefficient (exact_value o) × (first_overflow os ≡ None)

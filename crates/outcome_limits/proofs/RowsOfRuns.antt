@@ -8,6 +8,7 @@ use Rattle.coef_int.specs.Range.{IsCoefficient}
 use Rattle.coef_int.specs.Operations.{product_of, first_overflow}
 use Rattle.definitions.specs.Poly.{Term}
 use Rattle.definitions.specs.Combination.{generator_at}
+use Rattle.definitions.proofs.UnitSound.{all-append}
 use Rattle.nc_polynomial.specs.declared.fault.PolyFault.{PolyFault}
 use Rattle.cofactor_trace.specs.declared.Origin.TheVariants as origin
 use Rattle.cofactor_trace.specs.declared.Row.{Row}
@@ -30,7 +31,7 @@ use Rattle.traced_completion.specs.Pending.{AreAllPending, ambiguities_of}
 use Rattle.traced_completion.specs.PlainRun.{Setting, RunState, went, closed, stopped, start, recorded, Ends, taken_count, IsTreated, TreatsFirst, TreatsPending, IsRoundZero, IsLaterRound, IsRunState}
 use Rattle.traced_completion.proofs.StoreLemmas.{pending-all}
 use Rattle.traced_completion.proofs.RunRules.{AreWords, made_is_rule}
-use Rattle.outcome_limits.proofs.Results.{same_ok, no_error, all_append, fits_first, none_append}
+use Rattle.outcome_limits.proofs.Results.{same_ok, no_error, fits_first, none_append}
 
 some_is : (x y : Rest) → ◌≡◌ {A = Option Rest} (Some x) (Some y) → x ≡ y
 some_is x y same = cc
@@ -80,7 +81,7 @@ module _ (letters : ℕ) (setting : Setting) (IsPoly : List Term → Type 0) (Is
 
   rows_less : (count : ℕ) (rows : List Row) (by : ℤ) (taken : List Row) → first_overflow (row_operations rows by) ≡ None → Rows count rows → Rows count taken → Rows count (less_rows rows by taken)
   rows_less count rows by taken none each also =
-      all_append (IsRow count) (map (multiplied_row by) rows) (negated_rows taken) (rows_multiplied count by rows none each) (rows_negated count taken also)
+      all-append (IsRow count) (map (multiplied_row by) rows) (negated_rows taken) (rows_multiplied count by rows none each) (rows_negated count taken also)
 
   some_less : (rows : List Row) (by : ℤ) (taken : List Row) → 1 ≤ length rows → 1 ≤ length (less_rows rows by taken)
   some_less rows by taken some = omega (arith, length-append (map (multiplied_row by) rows) (negated_rows taken), length-map rows (multiplied_row by), some)

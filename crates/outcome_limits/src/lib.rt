@@ -3,4 +3,4 @@
 
 mod laws;
 
-pub use laws::{last_rules_have_letters, outcomes_have_letters};
+pub use laws::{evidence_fits, last_rules_have_letters, outcomes_have_letters};
