@@ -2,6 +2,7 @@ pub mod Results
 pub mod RowsOfRuns
 pub mod OutcomeWays
 pub mod EvidenceWords
+pub mod OverRuns
 pub mod OutcomeLetters
 pub mod EvidenceRanges
 pub mod ReducedWithin

@@ -42,9 +42,8 @@ use Rattle.traced_completion.specs.RunLaws.{HasWords}
 use Rattle.traced_completion.specs.PlainRun.{Setting, RunState, IsRunState}
 use Rattle.traced_completion.proofs.RunRules.{AreWords, normal_words, s_words}
 use Rattle.outcome_limits.proofs.AmbiguitiesWithin.{s_polynomial_fits, s_rows_short}
-use Rattle.outcome_limits.proofs.OutcomeLetters.{generator_words}
 use Rattle.outcome_limits.proofs.ReducedWithin.{Fits, IsShortRow, FitsState, reduced_within}
-use Rattle.outcome_limits.proofs.RowsOfRuns.{IsKeptGenerator, IsKept, MadeFrom, Held, states_held}
+use Rattle.outcome_limits.proofs.RowsOfRuns.{generator_words, IsKeptGenerator, IsKept, MadeFrom, Held, states_held}
 
 -- ---- rows
 -- a short row over so many rules, and over the first generators, as many as the other number says
@@ -118,7 +117,7 @@ factor_fits k x nonzero fits =
 scale_fits : (compare : Compare) (rest : Rest) (g : Rule) (m : Made) → IsMadeFrom compare rest g m → Fits rest.polynomial → IsCoefficient m.scale
 scale_fits compare rest g m made fits =
     unsigned (leads_negative compare rest.polynomial)
-    (go g.poly.terms made.leading (recursion_from_All (λ (t : Term). t.0 ≢ pos 0) g.poly.terms g.poly.canonical.shaped.nonzero) (subst (AllByRecursion (λ (t : Term). IsCoefficient t.0)) (sym made.divided) fits.in_range))
+    (go (cond (leads_negative compare rest.polynomial) (neg_ℤ m.scale) m.scale) g.poly.terms made.leading (recursion_from_All (λ (t : Term). t.0 ≢ pos 0) g.poly.terms g.poly.canonical.shaped.nonzero) (subst (AllByRecursion (λ (t : Term). IsCoefficient t.0)) (sym made.divided) fits.in_range))
   where
     unsigned : (negative : Bool) → IsCoefficient (cond negative (neg_ℤ m.scale) m.scale) → IsCoefficient m.scale
     unsigned true fits = omega (arith, ints, fits)
@@ -127,10 +126,10 @@ scale_fits compare rest g m made fits =
     none_some : {f : Rule} → ◌≡◌ {A = Option Rule} None (Some f) → ⊥
     none_some same = cc
 
-    go : {k : ℤ} (terms : List Term) → option_map (λ (t : Term). record { leading = t.0; lead = t.1; poly = g.poly }) (leading_term compare terms) ≡ Some g
+    go : (k : ℤ) (terms : List Term) → option_map (λ (t : Term). record { leading = t.0; lead = t.1; poly = g.poly }) (leading_term compare terms) ≡ Some g
         → AllByRecursion (λ t. t.0 ≢ pos 0) terms → AllByRecursion (λ t. IsCoefficient t.0) (poly_multiple k terms) → IsCoefficient k
-    go [] leading nonzero each = absurd (none_some leading)
-    go {k = k} (t ∷ terms) leading nonzero each = factor_fits k t.0 nonzero.0 each.0
+    go k [] leading nonzero each = absurd (none_some leading)
+    go k (t ∷ terms) leading nonzero each = factor_fits k t.0 nonzero.0 each.0
 
 -- ---- a run
 -- short words, and numbers that are coefficients
@@ -159,7 +158,7 @@ module _ (letters : ℕ) (setting : Setting) (generators : All (HasWords letters
   each_generator [] each = tt
   each_generator (n ∷ ns) each = (
     record {
-      polynomial = (generator_words letters setting generators setting.generators (recursion_from_All (HasWords letters) setting.generators generators) n, fit n);
+      polynomial = (generator_words letters setting.generators (recursion_from_All (HasWords letters) setting.generators generators) n, fit n);
       row = λ rules s are ends.
           let within = reduced_within letters setting.compare rules are (generator_at setting.generators n) setting.budget.steps s (fit n) ends in
           record { short = record { coefficient = within.multiplier; left = omega arith; right = omega arith }; among = tt; up_to = each.0 };

@@ -1,5 +1,5 @@
 -- What is kept of polynomials and rows by reductions and S-polynomials is kept by the records of a run.
-use Rattle.std.proofs.Common.{◌≡◌, ◌≤◌, ℕ, zero, suc, ◌+◌, ℤ, ◌*ℤ◌, List, [], ◌∷◌, ◌++◌, map, length, take, Bool, true, false, cond, nat_le, Option, Some, None, Result, Ok, Err, refl, sym, ap, ◌∙◌, subst, arith}
+use Rattle.std.proofs.Common.{◌≡◌, ◌<◌, ◌≤◌, ℕ, zero, suc, ◌+◌, ℤ, ◌*ℤ◌, List, [], ◌∷◌, ◌++◌, map, length, take, Bool, true, false, cond, nat_le, Option, Some, None, Result, Ok, Err, refl, sym, ap, ◌∙◌, subst, arith}
 use Rattle.std.specs.List.{All, AllByRecursion}
 use Rattle.std.proofs.lemmas.List.{length-append, length-map}
 use Rattle.std.proofs.lemmas.List.Elements.{All-nil, All-from_recursion, recursion_from_All, All-append, All-map, All-take}
@@ -7,6 +7,7 @@ use Rattle.coef_int.specs.declared.Overflow.{Overflow}
 use Rattle.coef_int.specs.Range.{IsCoefficient}
 use Rattle.coef_int.specs.Operations.{product_of, first_overflow}
 use Rattle.definitions.specs.Poly.{Term}
+use Rattle.word_core.specs.Letters.{IsOver}
 use Rattle.definitions.specs.Combination.{generator_at}
 use Rattle.definitions.proofs.UnitSound.{all-append}
 use Rattle.nc_polynomial.specs.declared.fault.PolyFault.{PolyFault}
@@ -28,9 +29,10 @@ use Rattle.traced_completion.specs.Results.{and_then, halted, each_in_turn, unle
 use Rattle.traced_completion.specs.Making.{Recorded, Rest, rest_with, negated_row, negated_rows, leads_negative, IsMadeFrom, Adds}
 use Rattle.traced_completion.specs.Works.{Work, generator_rows, generator_work, First, first_of, less_rows, first_rows, second_rows, rows_operations, second_rest, second_reduction, second_work, Goes, InTurn, InTwoPasses}
 use Rattle.traced_completion.specs.Pending.{AreAllPending, ambiguities_of}
+use Rattle.traced_completion.specs.RunLaws.{HasWords}
 use Rattle.traced_completion.specs.PlainRun.{Setting, RunState, went, closed, stopped, start, recorded, Ends, taken_count, IsTreated, TreatsFirst, TreatsPending, IsRoundZero, IsLaterRound, IsRunState}
 use Rattle.traced_completion.proofs.StoreLemmas.{pending-all}
-use Rattle.traced_completion.proofs.RunRules.{AreWords, made_is_rule}
+use Rattle.traced_completion.proofs.RunRules.{AreWords, words_from, made_is_rule}
 use Rattle.outcome_limits.proofs.Results.{same_ok, no_error, fits_first, none_append}
 
 some_is : (x y : Rest) → ◌≡◌ {A = Option Rest} (Some x) (Some y) → x ≡ y
@@ -38,6 +40,13 @@ some_is x y same = cc
 
 none_some : (x : Rest) → ◌≡◌ {A = Option Rest} None (Some x) → ⊥
 none_some x same = cc
+
+-- the words of generators, by their numbers
+pub generator_words : (letters : ℕ) (ps : List (List Term)) → AllByRecursion (HasWords letters) ps → (number : ℕ) → AreWords letters (generator_at ps number)
+generator_words letters ps each zero = tt
+generator_words letters [] each (suc n) = tt
+generator_words letters (p ∷ ps) each (suc zero) = words_from letters p (recursion_from_All (λ t. 0 < length t.1) p each.0.nonempty) (recursion_from_All (λ t. IsOver letters t.1) p each.0.over)
+generator_words letters (p ∷ ps) each (suc (suc n)) = generator_words letters ps each.1 (suc n)
 
 -- the generator with this number is one that is kept, and so is its row with the multiplier of its reduction
 pub record IsKeptGenerator (letters : ℕ) (setting : Setting) (IsPoly : List Term → Type 0) (IsRow : ℕ → Row → Type 0) (number : ℕ) : Type 0 where
