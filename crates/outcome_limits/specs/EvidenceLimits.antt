@@ -11,7 +11,7 @@ use Rattle.cofactor_trace.specs.declared.evidence.Evidence.{Evidence}
 use Rattle.cofactor_trace.specs.declared.evidence.Evidence.TheVariants as evidence
 use Rattle.cofactor_trace.specs.declared.evidence.Format.{Format}
 use Rattle.cofactor_trace.specs.Expansion.{letter_count}
-use Rattle.cofactor_trace.specs.Lemmas as lemmas
+use Rattle.cofactor_trace.specs.Lemmas as gathering
 use Rattle.cofactor_trace.specs.GatheringLaws.{parts_of, NamesWithin, NameEarlier}
 use Rattle.adjoint_rules.specs.declared.problem.Problem.{Problem}
 use Rattle.traced_completion.specs.declared.budget.Budget.{Budget}
@@ -64,8 +64,8 @@ pub record IsLemmaCertificateWithin (generators number : ℕ) (c : LemmaCertific
   pub earlier : NameEarlier generators 0 c.lemmas
   pub goal_names : NamesWithin generators (length c.lemmas) c.goal
   pub few_lemmas : length c.lemmas ≤ 200000
-  pub few_rows : lemmas.row_count (parts_of c) ≤ 200000
-  pub letters : lemmas.letter_count (parts_of c) ≤ 1000000
+  pub few_rows : gathering.row_count (parts_of c) ≤ 200000
+  pub letters : gathering.letter_count (parts_of c) ≤ 1000000
 
 -- ---- evidence of either format
 -- The evidence is of the claim with this number, is over the generators of the problem, and is within the limits of its format.
