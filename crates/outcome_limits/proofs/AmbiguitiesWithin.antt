@@ -1,5 +1,5 @@
 -- S-polynomials are within the limits, and so are their rows.
-use Rattle.std.proofs.Common.{◌≡◌, ◌<◌, ◌≤◌, ◌<ℤ◌, ℕ, ◌+◌, ℤ, pos, neg_ℤ, int_div, List, [], ◌∷◌, ◌++◌, length, take, drop, Option, Some, None, Result, Ok, Err, refl, sym, ap, ◌∙◌, subst, arith}
+use Rattle.std.proofs.Common.{◌≡◌, ◌≤◌, ◌<ℤ◌, ℕ, ◌+◌, ℤ, pos, neg_ℤ, int_div, List, ◌++◌, length, take, drop, Option, Some, None, Ok, refl, sym, ap, subst, arith}
 use Rattle.std.specs.List.{All, AllByRecursion}
 use Rattle.std.proofs.lemmas.Int.{ints}
 use Rattle.std.proofs.lemmas.List.{length-append, length-take, length-drop}
@@ -10,14 +10,12 @@ use Rattle.coef_int.specs.Operations.{first_overflow}
 use Rattle.coef_int.proofs.Divisors.{gcd_of-positive}
 use Rattle.definitions.specs.Poly.{Term}
 use Rattle.nc_polynomial.specs.declared.fault.PolyFault.TheVariants as fault
-use Rattle.nc_polynomial.specs.declared.fault.PolyFault.{PolyFault}
 use Rattle.nc_polynomial.specs.Terms.{scaled, products, added, sums}
 use Rattle.nc_polynomial.specs.Faults.{unless_overflow, sized, finished}
 use Rattle.nc_polynomial.specs.Arithmetic.{combined}
 use Rattle.nc_polynomial.specs.Product.{and_then}
 use Rattle.nc_polynomial.proofs.Chains.{no_error, sized-value}
 use Rattle.nc_polynomial.proofs.Shapes.{in_range-added}
-use Rattle.word_core.specs.Overlap.{OverlapsAt}
 use Rattle.word_orders.specs.Admissible.{Compare}
 use Rattle.rule_reduce.specs.declared.rule.Rule.{Rule}
 use Rattle.rule_reduce.specs.RuleLists.{IsRule}
@@ -75,10 +73,10 @@ short_parts Overlap i j p q place meets p_short q_short =
       omega (arith, length-drop (place + length q) (take place p ++ q), whole, front, place_in),
     )
 short_parts Inclusion i j p q place meets p_short q_short = (
-    omega (arith, length-drop (length p) p),
-    omega (arith, length-take place p, p_short),
-    omega (arith, length-drop (place + length q) p, p_short),
-  )
+  omega (arith, length-drop (length p) p),
+  omega (arith, length-take place p, p_short),
+  omega (arith, length-drop (place + length q) p, p_short),
+)
 
 negative_in_range : (z : ℤ) → IsCoefficient z → IsCoefficient (neg_ℤ z)
 negative_in_range z fits = omega (arith, ints, fits)

@@ -1,12 +1,10 @@
 -- The evidence of derived claims is within the limits.
-use Rattle.std.proofs.Common.{◌≡◌, ◌<◌, ◌≤◌, ◌<ℤ◌, ℕ, pos, List, [], ◌∷◌, ◌++◌, length, Ok, refl, sym, ap, ◌∙◌, subst, arith}
+use Rattle.std.proofs.Common.{◌≡◌, ◌≤◌, ◌<ℤ◌, ℕ, pos, List, [], ◌∷◌, length, Ok, refl, sym, ap, subst, arith}
 use Rattle.std.specs.List.{All, AllByRecursion}
 use Rattle.std.proofs.lemmas.Int.{ints}
 use Rattle.std.proofs.lemmas.List.{length-map}
 use Rattle.std.proofs.lemmas.List.Elements.{All-nil, All-from_recursion, recursion_from_All}
-use Rattle.coef_int.specs.Range.{IsCoefficient}
 use Rattle.definitions.specs.Poly.{Term}
-use Rattle.definitions.specs.Combination.{generator_at}
 use Rattle.nc_polynomial.specs.declared.poly.Poly.{Poly}
 use Rattle.cofactor_trace.specs.declared.Row.{Row}
 use Rattle.cofactor_trace.specs.declared.Made.{Made}
@@ -35,15 +33,14 @@ use Rattle.quiver.specs.Declarations.{letter_count}
 use Rattle.traced_completion.specs.declared.budget.Budget.{Budget}
 use Rattle.traced_completion.specs.PlainRun.{Setting, setting_of}
 use Rattle.traced_completion.proofs.UnitCounts.{few_units}
-use Rattle.claim_decider.specs.declared.outcome.Outcome.{Outcome}
 use Rattle.claim_decider.specs.declared.outcome.Outcome.TheVariants as outcome
 use Rattle.claim_decider.specs.Outcomes.{evidence_of_zero, record_of, certificate_of}
 use Rattle.claim_decider.specs.Decided.{claim_at}
-use Rattle.outcome_limits.specs.EvidenceLimits.{IsRowWithin, IsCertificateWithin, IsLemmaRowWithin, IsLemmaWithin, IsLemmaCertificateWithin, IsWithinLimits, EvidenceFits}
+use Rattle.outcome_limits.specs.EvidenceLimits.{IsRowWithin, IsLemmaRowWithin, IsLemmaWithin, IsWithinLimits, EvidenceFits}
 use Rattle.outcome_limits.proofs.EvidenceRanges.{expansion_ranged, gathered_positive}
 use Rattle.outcome_limits.proofs.EvidenceWords.{gathered_words}
 use Rattle.outcome_limits.proofs.LimitedRuns.{IsLimitedRow, record_of_rows, named_of_rows, reduced_limited, LimitedRecords, records_limited, turns_in_range, numbered_fits}
-use Rattle.outcome_limits.proofs.OutcomeLetters.{generators_have_words, rules_of}
+use Rattle.outcome_limits.proofs.OutcomeLetters.{generators_have_words}
 use Rattle.outcome_limits.proofs.OutcomeWays.{Way, no_terms, expanded, gathered, left_over, given_up, with_run, way, IsProvedBy}
 use Rattle.outcome_limits.proofs.ReducedWithin.{Fits, IsShortRow, reduced_within}
 use Rattle.outcome_limits.proofs.Results.{split_last}

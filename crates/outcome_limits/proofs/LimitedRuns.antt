@@ -1,5 +1,5 @@
 -- The records of a run are within the limits: their numbers are coefficients, their words are short, and they name what is there.
-use Rattle.std.proofs.Common.{◌≡◌, ◌≢◌, ◌<◌, ◌≤◌, ◌<ℤ◌, ℕ, zero, suc, ◌+◌, ◌-◌, ◌*◌, ◌^◌, ℤ, pos, neg_ℤ, ◌*ℤ◌, Bool, true, false, cond, List, [], ◌∷◌, ◌++◌, length, get_or, slice_get, Option, Some, None, Ok, refl, sym, ap, ◌∙◌, subst, arith}
+use Rattle.std.proofs.Common.{◌≡◌, ◌≢◌, ◌<◌, ◌≤◌, ◌<ℤ◌, ℕ, zero, suc, ◌+◌, ◌-◌, ◌*◌, ◌^◌, ℤ, pos, neg_ℤ, ◌*ℤ◌, Bool, true, false, cond, List, [], ◌∷◌, length, get_or, slice_get, Option, Some, None, Ok, sym, subst, arith}
 use Rattle.std.specs.List.{All, AllByRecursion, range_with_len}
 use Rattle.std.specs.Option.{option_map}
 use Rattle.std.specs.Int.RustNames.{unsigned_abs}
@@ -25,25 +25,21 @@ use Rattle.rule_reduce.specs.declared.state.State.{State}
 use Rattle.rule_reduce.specs.Laws.{IsByRule}
 use Rattle.rule_reduce.specs.Leading.{leading_term}
 use Rattle.rule_reduce.specs.RuleLists.{IsRule}
-use Rattle.rule_reduce.specs.Steps.{multiplied_row}
 use Rattle.rule_reduce.specs.NormalForms.{normal_form_of}
-use Rattle.rule_reduce.proofs.Multipliers.{multipliers_are_positive}
 use Rattle.rule_reduce.proofs.RowsByRules.{rows_are_by_rules}
 use Rattle.ambiguities.specs.declared.ambiguity.Ambiguity.{Ambiguity}
 use Rattle.ambiguities.specs.Ambiguities.{IsAmbiguity}
 use Rattle.ambiguities.specs.SPolynomials.{s_rows_of}
 use Rattle.ambiguities.proofs.Numbers.{rule_at-first, rule_at-last}
-use Rattle.adjoint_rules.specs.declared.problem.Problem.{Problem}
 use Rattle.adjoint_rules.specs.Problem.{polynomials}
-use Rattle.traced_completion.specs.declared.budget.Budget.{Budget}
 use Rattle.traced_completion.specs.UnitsFirst.{units_first}
-use Rattle.traced_completion.specs.Making.{Rest, negated_row, leads_negative, IsMadeFrom}
+use Rattle.traced_completion.specs.Making.{Rest, leads_negative, IsMadeFrom}
 use Rattle.traced_completion.specs.RunLaws.{HasWords}
 use Rattle.traced_completion.specs.PlainRun.{Setting, RunState, IsRunState}
 use Rattle.traced_completion.proofs.RunRules.{AreWords, normal_words, s_words}
 use Rattle.outcome_limits.proofs.AmbiguitiesWithin.{s_polynomial_fits, s_rows_short}
-use Rattle.outcome_limits.proofs.ReducedWithin.{Fits, IsShortRow, FitsState, reduced_within}
-use Rattle.outcome_limits.proofs.RowsOfRuns.{generator_words, IsKeptGenerator, IsKept, MadeFrom, Held, states_held}
+use Rattle.outcome_limits.proofs.ReducedWithin.{Fits, IsShortRow, reduced_within}
+use Rattle.outcome_limits.proofs.RowsOfRuns.{generator_words, IsKeptGenerator, IsKept, MadeFrom, states_held}
 
 -- ---- rows
 -- a short row over so many rules, and over the first generators, as many as the other number says

@@ -1,31 +1,26 @@
 -- The letters of outcomes and of last rules are letters of the quiver.
-use Rattle.std.proofs.Common.{◌≡◌, ◌<◌, ◌≤◌, ℕ, zero, suc, ◌+◌, ℤ, List, [], ◌∷◌, ◌++◌, length, map, take, drop, Bool, true, false, IsTrue, nat_lt, nat_le, Option, Some, None, Result, Ok, Err, refl, sym, ap, ◌∙◌, subst, arith}
+use Rattle.std.proofs.Common.{◌≡◌, ◌<◌, ℕ, zero, suc, List, [], ◌∷◌, true, nat_lt, Option, Some, None, Ok, refl, sym, subst, arith}
 use Rattle.std.specs.List.{All, AllByRecursion}
 use Rattle.std.proofs.lemmas.Bool.{and_parts}
 use Rattle.std.proofs.lemmas.Bool.Decides.{nat_tests}
-use Rattle.std.proofs.lemmas.List.Elements.{All-nil, All-head, All-append, All-take, All-drop, All-map, All-weaker, All-from_recursion, recursion_from_All, All-contains}
+use Rattle.std.proofs.lemmas.List.Elements.{All-nil, All-append, All-map, All-weaker, All-from_recursion, recursion_from_All}
 use Rattle.definitions.specs.Poly.{Term}
 use Rattle.definitions.specs.Combination.{generator_at}
 use Rattle.word_core.specs.Letters.{IsOver}
 use Rattle.nc_polynomial.specs.declared.poly.Poly.{Poly}
-use Rattle.cofactor_trace.specs.declared.Row.{Row}
-use Rattle.cofactor_trace.specs.declared.Made.{Made}
 use Rattle.cofactor_trace.specs.declared.Cofactors.{Cofactors}
 use Rattle.cofactor_trace.specs.declared.CertRow.{CertRow}
 use Rattle.cofactor_trace.specs.declared.evidence.LemmaRow.{LemmaRow}
 use Rattle.cofactor_trace.specs.declared.evidence.Lemma.{Lemma}
 use Rattle.cofactor_trace.specs.declared.evidence.LemmaCertificate.{LemmaCertificate}
-use Rattle.cofactor_trace.specs.declared.evidence.Evidence.{Evidence}
 use Rattle.cofactor_trace.specs.declared.evidence.Evidence.TheVariants as evidence
 use Rattle.cofactor_trace.specs.declared.evidence.Format.{Format}
 use Rattle.cofactor_trace.specs.declared.evidence.Format.TheVariants as format
-use Rattle.cofactor_trace.specs.declared.halt.Halt.{Halt}
 use Rattle.cofactor_trace.specs.Needed.{expansion_of}
 use Rattle.cofactor_trace.specs.Lemmas.{gathered_of}
 use Rattle.cofactor_trace.specs.GatheringLaws.{parts_of}
 use Rattle.rule_reduce.specs.declared.rule.Rule.{Rule}
 use Rattle.rule_reduce.specs.RuleLists.{IsRule}
-use Rattle.rule_reduce.specs.declared.state.State.{State}
 use Rattle.quiver.specs.Declarations.{Declaration, letter_count}
 use Rattle.adjoint_rules.specs.declared.problem.Problem.{Problem}
 use Rattle.adjoint_rules.specs.Problem.{polynomials, HasLettersInPlay, IsInPlay, numbers}
@@ -38,9 +33,8 @@ use Rattle.traced_completion.specs.PlainRun.{Setting, RunState, IsRunState, sett
 use Rattle.traced_completion.proofs.ReducibleGenerators.{generators_reducible}
 use Rattle.traced_completion.proofs.RunStates.{states_rules}
 use Rattle.claim_decider.specs.declared.outcome.Outcome.{Outcome}
-use Rattle.claim_decider.specs.declared.outcome.Outcome.TheVariants as outcome
 use Rattle.claim_decider.specs.Outcomes.{evidence_of_zero, record_of, certificate_of}
-use Rattle.claim_decider.specs.Decided.{claim_at, polynomials_in}
+use Rattle.claim_decider.specs.Decided.{claim_at}
 use Rattle.outcome_limits.specs.OutcomeLetters.{IsPolyOver, IsLeastOver, IsOutcomeOver, OutcomesHaveLetters, LastRulesHaveLetters}
 use Rattle.outcome_limits.proofs.EvidenceWords.{expanded_words, gathered_words}
 use Rattle.outcome_limits.proofs.OutcomeWays.{Way, no_terms, expanded, gathered, left_over, given_up, with_run, way, IsProvedBy}
@@ -146,6 +140,6 @@ pub last_rules_have_letters : LastRulesHaveLetters
 last_rules_have_letters problem budget form ns polys are =
     let rules = rules_of problem budget are.rounds are.state are.run in
     subst (All (IsPolyOver problem.parts.quiver)) (sym are.are) (
-      All-map (IsPolyOver problem.parts.quiver) (λ (g : Rule). g.poly) are.state.rules
-      (All-weaker (IsRule (letter_count problem.parts.quiver) (setting_of problem budget).compare) (λ (g : Rule). IsPolyOver problem.parts.quiver g.poly) (λ g is. is.over) are.state.rules rules)
+    All-map (IsPolyOver problem.parts.quiver) (λ (g : Rule). g.poly) are.state.rules
+    (All-weaker (IsRule (letter_count problem.parts.quiver) (setting_of problem budget).compare) (λ (g : Rule). IsPolyOver problem.parts.quiver g.poly) (λ g is. is.over) are.state.rules rules)
     )

@@ -1,11 +1,8 @@
 -- The letters of records are letters of the generators, and so are those of the least overlap word.
-use Rattle.std.proofs.Common.{◌≡◌, ◌<◌, ◌≤◌, ℕ, zero, suc, ◌+◌, ℤ, List, [], ◌∷◌, ◌++◌, length, map, take, drop, Bool, true, false, IsTrue, nat_lt, nat_le, Option, Some, None, Result, Ok, Err, refl, sym, ap, ◌∙◌, subst, arith}
+use Rattle.std.proofs.Common.{◌≡◌, ◌<◌, ℕ, zero, suc, ◌+◌, List, [], ◌∷◌, ◌++◌, length, take, drop, Bool, true, false, nat_le, Option, Some, None, Result, Ok, Err, sym, ap, ◌∙◌, subst}
 use Rattle.std.specs.List.{All, AllByRecursion}
-use Rattle.std.proofs.lemmas.Bool.{and_parts}
-use Rattle.std.proofs.lemmas.Bool.Decides.{nat_tests}
-use Rattle.std.proofs.lemmas.List.Elements.{All-nil, All-head, All-append, All-take, All-drop, All-map, All-weaker, All-from_recursion, recursion_from_All, All-contains}
+use Rattle.std.proofs.lemmas.List.Elements.{All-nil, All-head, All-append, All-take, All-drop, All-from_recursion, recursion_from_All, All-contains}
 use Rattle.definitions.specs.Poly.{Term}
-use Rattle.definitions.specs.Combination.{generator_at}
 use Rattle.word_core.specs.Letters.{IsOver}
 use Rattle.cofactor_trace.specs.declared.Row.{Row}
 use Rattle.cofactor_trace.specs.declared.Made.{Made}
@@ -30,10 +27,10 @@ use Rattle.ambiguities.specs.SPolynomials.{s_rows_of}
 use Rattle.ambiguities.proofs.Bounds.{over_overlap_word}
 use Rattle.traced_completion.specs.declared.pending.waiting.Waiting.{Waiting}
 use Rattle.traced_completion.specs.Making.{Recorded}
-use Rattle.traced_completion.specs.Pending.{AreAllPending, IsPending, ambiguities_of}
+use Rattle.traced_completion.specs.Pending.{IsPending, ambiguities_of}
 use Rattle.traced_completion.specs.RunLaws.{HasWords}
-use Rattle.traced_completion.specs.PlainRun.{Setting, RunState, went, closed, stopped, recorded, Ends, taken_count, TreatsFirst, TreatsPending, IsRound, IsRunState, setting_of}
-use Rattle.traced_completion.proofs.RunRules.{AreWords, words_from, words_over, normal_words, s_words}
+use Rattle.traced_completion.specs.PlainRun.{Setting, RunState, went, closed, stopped, Ends, taken_count, TreatsFirst, TreatsPending, IsRound, IsRunState}
+use Rattle.traced_completion.proofs.RunRules.{AreWords, words_over, normal_words, s_words}
 use Rattle.traced_completion.proofs.RunStates.{states_rules}
 use Rattle.traced_completion.proofs.StoreLemmas.{pending-all}
 use Rattle.outcome_limits.proofs.RowsOfRuns.{generator_words, IsKept, IsKeptGenerator, MadeFrom, states_held}

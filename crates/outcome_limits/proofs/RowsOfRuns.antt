@@ -30,7 +30,7 @@ use Rattle.traced_completion.specs.Making.{Recorded, Rest, rest_with, negated_ro
 use Rattle.traced_completion.specs.Works.{Work, generator_rows, generator_work, First, first_of, less_rows, first_rows, second_rows, rows_operations, second_rest, second_reduction, second_work, Goes, InTurn, InTwoPasses}
 use Rattle.traced_completion.specs.Pending.{AreAllPending, ambiguities_of}
 use Rattle.traced_completion.specs.RunLaws.{HasWords}
-use Rattle.traced_completion.specs.PlainRun.{Setting, RunState, went, closed, stopped, start, recorded, Ends, taken_count, IsTreated, TreatsFirst, TreatsPending, IsRoundZero, IsLaterRound, IsRunState}
+use Rattle.traced_completion.specs.PlainRun.{Setting, RunState, went, closed, stopped, recorded, Ends, taken_count, IsTreated, TreatsFirst, TreatsPending, IsRoundZero, IsLaterRound, IsRunState}
 use Rattle.traced_completion.proofs.StoreLemmas.{pending-all}
 use Rattle.traced_completion.proofs.RunRules.{AreWords, words_from, made_is_rule}
 use Rattle.outcome_limits.proofs.Results.{same_ok, no_error, fits_first, none_append}
