@@ -9,6 +9,7 @@ pub mod Evidences
 pub mod Checking
 pub mod Meaning
 pub mod Deciding
+pub mod Writing
 pub mod BenchSize
 pub mod Commands
 pub mod Endings
