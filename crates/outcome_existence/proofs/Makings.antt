@@ -72,4 +72,4 @@ has_rule compare rest canonical some = record {
     poly = record { terms = terms; canonical = canonical_back divisor (signed_nonzero negative scale positive) terms rest.polynomial multiple canonical }
 
     top : (t : Term) × (leading_term compare terms ≡ Some t)
-    top = leads compare terms (omega (arith, some, length-map rest.polynomial (λ (t : Term). (int_div t.0 divisor, t.1))))
+    top = let divide : Term → Term = λ t. (int_div t.0 divisor, t.1) in leads compare terms (omega (arith, some, length-map rest.polynomial divide))

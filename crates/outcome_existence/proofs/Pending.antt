@@ -52,7 +52,7 @@ module _ (rules : List Rule) where
 
 -- ---- lists with all of them
 numbers_below : (n k : ℕ) → k < n → Contains (range_with_len 0 n) k
-numbers_below n k below = (k, omega (arith, length-range_with_len 0 n, below), get_or-range_with_len 0 n k k below)
+numbers_below n k below = let first : 0 + k ≡ k = omega arith in (k, omega (arith, length-range_with_len 0 n, below), get_or-range_with_len 0 n k k below ∙ first)
 
 contains_flat : {X Y : Type 0} (f : X → List Y) (xs : List X) (x : X) (y : Y) → Contains xs x → Contains (f x) y → Contains (flat_map f xs) y
 contains_flat f [] x y (k, inside, is) at = absurd (omega (arith, inside))
