@@ -11,7 +11,6 @@ use Rattle.cofactor_trace.specs.declared.Cofactors.{Cofactors}
 use Rattle.cofactor_trace.specs.declared.evidence.Lemma.{Lemma}
 use Rattle.cofactor_trace.specs.declared.fault.ExpandFault.{ExpandFault}
 use Rattle.cofactor_trace.specs.declared.fault.ExpandFault.TheVariants as expand
-use Rattle.cofactor_trace.specs.declared.fault.GatherFault.{GatherFault}
 use Rattle.cofactor_trace.specs.declared.fault.GatherFault.TheVariants as gather
 use Rattle.cofactor_trace.specs.Expansion.{Known, common_denominator, denominator_products, joined, joined_products, has_long_word, letter_count, limit_fault, unless, overflow_in, primitive, record_expansion, multiple_products, common_multiple}
 use Rattle.cofactor_trace.specs.Gathered.{gathered, sums_of_gathering}

@@ -1,6 +1,5 @@
 -- Each rest other than zero can be made a rule.
-use Rattle.std.proofs.Common.{◌≡◌, ◌≢◌, ◌<◌, ◌<ℤ◌, ℤ, pos, Bool, true, false, cond, List, [], ◌∷◌, length, Option, Some, refl, sym, ap, subst, arith}
-use Rattle.std.specs.List.{AllByRecursion}
+use Rattle.std.proofs.Common.{◌≡◌, ◌≢◌, ◌<◌, ◌<ℤ◌, ℤ, pos, Bool, true, false, cond, List, [], ◌∷◌, length, Some, refl, ap, arith}
 use Rattle.std.specs.Option.{option_map}
 use Rattle.std.specs.Int.{◌∣◌}
 use Rattle.std.specs.Int.RustNames.{unsigned_abs, int_div}

@@ -1,5 +1,5 @@
 -- All pending ambiguities of any rules can be listed in the order of the store.
-use Rattle.std.proofs.Common.{◌≡◌, ◌≢◌, ◌⊎◌, inl, inr, ℕ, zero, suc, ◌+◌, ◌-◌, ◌<◌, ◌≤◌, List, [], ◌∷◌, length, map, Option, Some, None, refl, sym, ap, ◌∙◌, subst, arith}
+use Rattle.std.proofs.Common.{◌≡◌, ◌⊎◌, inl, inr, ℕ, zero, suc, ◌+◌, ◌<◌, List, [], ◌∷◌, length, map, Option, Some, None, refl, sym, ap, ◌∙◌, subst, arith}
 use Rattle.std.specs.Cmp.{IsTotalOrder}
 use Rattle.std.specs.List.{Contains, flat_map, range_with_len}
 use Rattle.std.specs.Ordering.{ordering_reverse}
@@ -25,9 +25,9 @@ use Rattle.completion_laws.proofs.Outside.{listed_or_not}
 use Rattle.traced_completion.specs.declared.pending.waiting.Waiting.{Waiting}
 use Rattle.traced_completion.specs.Pending.{IsBeforeInStore, IsPending, AreAllPending}
 use Rattle.traced_completion.specs.StoreOrder.{waiting_cmp, waiting_of}
-use Rattle.traced_completion.proofs.Ascending.{contains-cases, contains-first, contains-rest}
+use Rattle.traced_completion.proofs.Ascending.{contains-cases}
 use Rattle.traced_completion.proofs.Comparing.{waiting_cmp-total, less-waiting, waiting-less, waiting-equal}
-use Rattle.outcome_existence.proofs.Sorted.{Decided, Listing, listing}
+use Rattle.outcome_existence.proofs.Sorted.{Decided, listing}
 use Rattle.outcome_existence.proofs.Meetings.{meeting_decided}
 
 -- ---- an ambiguity is decided

@@ -8,7 +8,7 @@ use Rattle.word_orders.specs.Admissible.{Compare}
 use Rattle.nc_polynomial.specs.declared.fault.PolyFault.{PolyFault}
 use Rattle.nc_polynomial.specs.declared.fault.PolyFault.TheVariants as fault
 use Rattle.nc_polynomial.specs.Terms.{scaled, products, added, sums}
-use Rattle.nc_polynomial.specs.Faults.{unless_overflow, size_fault, has_long_word, sized, finished, IsMemory}
+use Rattle.nc_polynomial.specs.Faults.{unless_overflow, size_fault, has_long_word, sized, IsMemory}
 use Rattle.nc_polynomial.specs.Shape.{IsCanonical}
 use Rattle.nc_polynomial.specs.Product.{and_then}
 use Rattle.nc_polynomial.specs.Arithmetic.{combined}
@@ -17,7 +17,6 @@ use Rattle.rule_reduce.specs.declared.rule.Rule.{Rule}
 use Rattle.rule_reduce.specs.declared.state.State.{State}
 use Rattle.rule_reduce.specs.declared.state.Choice.{Choice}
 use Rattle.rule_reduce.specs.declared.fault.ReduceFault.{ReduceFault}
-use Rattle.rule_reduce.specs.declared.fault.ReduceFault.TheVariants as halt
 use Rattle.rule_reduce.specs.RuleLists.{rule_at, polynomials_of, entries_of}
 use Rattle.rule_reduce.specs.Choices.{choice_of}
 use Rattle.rule_reduce.specs.Steps.{Move, moved, move_of, move_operations, move_result, if_sized, step_by, step_result}

@@ -1,5 +1,5 @@
 -- Each round has an outcome, from whatever state.
-use Rattle.std.proofs.Common.{◌≡◌, ℕ, zero, suc, ◌++◌, Bool, true, false, leb, List, [], ◌∷◌, length, map, take, Option, Some, None, Result, Ok, Err, refl}
+use Rattle.std.proofs.Common.{ℕ, zero, suc, ◌++◌, Bool, true, false, leb, List, [], ◌∷◌, length, map, take, Option, Some, None, Result, Ok, Err, refl}
 use Rattle.std.specs.List.{AllByRecursion}
 use Rattle.definitions.specs.Combination.{generator_at}
 use Rattle.word_orders.specs.Admissible.{IsAdmissible}
@@ -14,9 +14,9 @@ use Rattle.ambiguities.specs.declared.ambiguity.Ambiguity.{Ambiguity}
 use Rattle.traced_completion.specs.declared.pending.waiting.Waiting.{Waiting}
 use Rattle.traced_completion.specs.Results.{each_in_turn}
 use Rattle.traced_completion.specs.Making.{Recorded}
-use Rattle.traced_completion.specs.Works.{Work, generator_work, first_of}
+use Rattle.traced_completion.specs.Works.{generator_work, first_of}
 use Rattle.traced_completion.specs.Pending.{ambiguities_of}
-use Rattle.traced_completion.specs.PlainRun.{Setting, RunState, Outcome, went, closed, stopped, IsCauseOf, Ends, recorded, IsTreated, TreatsFirst, TreatsPending, taken_count, IsRoundZero, IsLaterRound, IsRound}
+use Rattle.traced_completion.specs.PlainRun.{Setting, RunState, Outcome, went, closed, stopped, IsCauseOf, Ends, recorded, IsTreated, TreatsFirst, TreatsPending, taken_count, IsRoundZero, IsLaterRound}
 use Rattle.outcome_existence.specs.Existence.{HasRound}
 use Rattle.outcome_existence.proofs.Reductions.{Gives}
 use Rattle.outcome_existence.proofs.Works.{IsFitWork, fit_generator, fit_firsts, has_turn, has_passes}

@@ -1,5 +1,5 @@
 -- Works that are done in order end with rules, or with a fault that isn't want of memory.
-use Rattle.std.proofs.Common.{◌≡◌, ◌<◌, ℕ, List, [], ◌∷◌, ◌++◌, length, map, Option, Some, None, Result, Ok, Err, refl, arith}
+use Rattle.std.proofs.Common.{◌<◌, ℕ, List, [], ◌∷◌, ◌++◌, length, map, Option, Some, None, Result, Ok, Err, refl, arith}
 use Rattle.std.specs.List.{AllByRecursion}
 use Rattle.coef_int.specs.declared.Overflow.{Overflow}
 use Rattle.coef_int.specs.Operations.{first_overflow}
@@ -13,9 +13,7 @@ use Rattle.cofactor_trace.specs.declared.Row.{Row}
 use Rattle.rule_reduce.specs.declared.rule.Rule.{Rule}
 use Rattle.rule_reduce.specs.declared.state.State.{State}
 use Rattle.rule_reduce.specs.declared.fault.ReduceFault.{ReduceFault}
-use Rattle.rule_reduce.specs.declared.fault.ReduceFault.TheVariants as fault
-use Rattle.rule_reduce.specs.NormalForms.{halt_of, normal_form_of}
-use Rattle.rule_reduce.specs.NormalForms as reduce
+use Rattle.rule_reduce.specs.NormalForms.{normal_form_of}
 use Rattle.ambiguities.specs.declared.ambiguity.Ambiguity.{Ambiguity}
 use Rattle.ambiguities.specs.SPolynomials.{s_rows_of, s_polynomial_of}
 use Rattle.traced_completion.specs.Results.{and_then, halted, unless_overflow, each_in_turn}
