@@ -37,7 +37,7 @@ has_rule compare rest canonical some = record {
   rule = record { leading = top.0.0; lead = top.0.1; poly = poly };
   made = record { scale = scale; rows = cond negative (negated_rows rest.rows) rest.rows };
   is = record {
-    content = has.is;
+    content = found.is;
     positive = positive;
     divided = multiple;
     leading = ap (option_map (λ (t : Term). record { leading = t.0; lead = t.1; poly = poly })) top.1;
@@ -48,14 +48,14 @@ has_rule compare rest canonical some = record {
     negative : Bool
     negative = leads_negative compare rest.polynomial
 
-    has : HasContent rest.polynomial
-    has = has_content rest.polynomial
+    found : HasContent rest.polynomial
+    found = has_content rest.polynomial
 
     scale : ℤ
-    scale = has.content
+    scale = found.content
 
     positive : pos 0 <ℤ scale
-    positive = positive_content rest.polynomial scale some (recursion_from_All (λ (t : Term). t.0 ≢ pos 0) rest.polynomial canonical.shaped.nonzero) has.is
+    positive = positive_content rest.polynomial scale some (recursion_from_All (λ (t : Term). t.0 ≢ pos 0) rest.polynomial canonical.shaped.nonzero) found.is
 
     divisor : ℤ
     divisor = signed negative scale
@@ -65,7 +65,7 @@ has_rule compare rest canonical some = record {
 
     multiple : poly_multiple divisor terms ≡ rest.polynomial
     multiple = multiple_of_quotient divisor rest.polynomial
-        (recursion_from_All (λ (t : Term). unsigned_abs divisor ∣ unsigned_abs t.0) rest.polynomial (signed_divides negative scale rest.polynomial has.is.divides))
+        (recursion_from_All (λ (t : Term). unsigned_abs divisor ∣ unsigned_abs t.0) rest.polynomial (signed_divides negative scale rest.polynomial found.is.divides))
 
     poly : Poly
     poly = record { terms = terms; canonical = canonical_back divisor (signed_nonzero negative scale positive) terms rest.polynomial multiple canonical }

@@ -24,6 +24,7 @@ use Rattle.adjoint_rules.specs.Problem.{polynomials}
 use Rattle.traced_completion.specs.declared.budget.Budget.{Budget}
 use Rattle.traced_completion.specs.PlainRun.{Setting, RunState, start, setting_of, IsRunState}
 use Rattle.traced_completion.proofs.Ascending.{contains-first, contains-rest}
+use Rattle.traced_completion.proofs.RunStates.{states_bounded}
 use Rattle.claim_decider.specs.declared.outcome.Outcome.{Outcome}
 use Rattle.claim_decider.specs.Decided.{claim_at, claim_numbers, AreOutcomesOf, GetsOutcomeBy, OneGetsOutcomeAt, polynomials_in}
 use Rattle.outcome_existence.specs.Existence.{EachStateHasARound, EachClaimHasAnOutcome, EachProblemHasOutcomes}
@@ -126,7 +127,9 @@ module _ (problem : Problem) (budget : Budget) (form : Format) where
 pub each_claim_has_an_outcome : EachClaimHasAnOutcome
 each_claim_has_an_outcome problem budget form number =
     let one = got_of problem budget form number in
-    record { outcome = one.outcome; is = record { rounds = one.rounds; state = one.state; gets = one.gets } }
+    let bounded =
+    states_bounded (setting_of problem budget) one.rounds one.state (run_of (setting_of problem budget) (claim_at problem number) form number one.rounds one.state one.outcome one.gets) in
+    record { outcome = one.outcome; is = record { rounds = one.rounds; state = one.state; gets = one.gets }; few_rounds = omega (arith, bounded.few_rounds, bounded.few_treated) }
 
 pub each_problem_has_outcomes : EachProblemHasOutcomes
 each_problem_has_outcomes problem budget form =

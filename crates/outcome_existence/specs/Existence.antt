@@ -1,5 +1,5 @@
--- That there is what the definitions of runs and outcomes ask for, for each problem, budget and format. Want of memory is none of it.
-use Rattle.std.specs.Prelude.{ℕ, List}
+-- That there is what the definitions of runs and outcomes ask for, for each problem, budget and format. Want of memory is no part of them.
+use Rattle.std.specs.Prelude.{◌≤◌, ℕ, suc, List}
 use Rattle.definitions.specs.Poly.{Term}
 use Rattle.nc_polynomial.specs.declared.poly.Poly.{Poly}
 use Rattle.cofactor_trace.specs.declared.evidence.Format.{Format}
@@ -19,12 +19,13 @@ pub record HasRound (setting : Setting) (number : ℕ) (s : RunState) : Type 0 w
 abbrev pub EachStateHasARound : Type 0
 EachStateHasARound = (problem : Problem) (budget : Budget) (number : ℕ) (s : RunState) → HasRound (setting_of problem budget) number s
 
--- There is an outcome of the claim with this number.
+-- There is an outcome of the claim with this number, and it comes when at most one round more is made whole than the budget has pairs.
 pub record HasOutcome (setting : Setting) (form : Format) (number : ℕ) (claim : List Term) : Type 0 where
   pub outcome : Outcome
   pub is : IsOutcomeOf setting form number claim outcome
+  pub few_rounds : is.rounds ≤ suc setting.budget.pairs
 
--- Each claim has an outcome: after finitely many rounds it is derived, or halted, or closed.
+-- Each claim has an outcome: it is derived, or halted, or closed.
 abbrev pub EachClaimHasAnOutcome : Type 0
 EachClaimHasAnOutcome = (problem : Problem) (budget : Budget) (form : Format) (number : ℕ) → HasOutcome (setting_of problem budget) form number (claim_at problem number)
 

@@ -6,7 +6,7 @@ pub fn each_state_has_a_round()
     ensures { EachStateHasARound }
 {}
 
-/// Each claim has an outcome, after finitely many rounds.
+/// Each claim has an outcome, after at most one round more than the budget has pairs.
 pub fn each_claim_has_an_outcome()
     ensures { EachClaimHasAnOutcome }
 {}
