@@ -1,5 +1,5 @@
 -- What `prove` and `bench` answer: one ending, its status, and what its verdicts mean.
-use Rattle.std.proofs.Common.{◌≡◌, ◌≤◌, ◌⊎◌, inl, inr, ℕ, zero, suc, ◌+◌, Bool, true, false, List, [], ◌∷◌, length, map, refl, sym, ap, subst, ◌∙◌, arith}
+use Rattle.std.proofs.Common.{◌≡◌, ◌≤◌, ◌⊎◌, inl, inr, ℕ, zero, suc, ◌+◌, Bool, true, false, List, [], ◌∷◌, length, map, if◌then◌else◌, refl, sym, ap, subst, ◌∙◌, arith}
 use Rattle.std.specs.List.{All, AllZip, range_with_len, list_any, list_all}
 use Rattle.std.proofs.lemmas.List.{length-map}
 use Rattle.definitions.specs.Category.{Structure, PreadditiveLaws}
@@ -36,7 +36,8 @@ use Rattle.report_text.specs.Report.{status_of, is_undecided, is_proved}
 use Rattle.opprove.specs.Ending.{Ending}
 use Rattle.opprove.specs.Statement.{OverStatement}
 use Rattle.opprove.specs.Statement as statements
-use Rattle.opprove.specs.Decide.{Asked, Print, verdict_of, Decides, AnswersClaims}
+use Rattle.opprove.specs.declared.decide.Asked.{Asked}
+use Rattle.opprove.specs.Decide.{Print, verdict_of, Decides, AnswersClaims}
 use Rattle.opprove.specs.Headline.{ProvedMeans, VerdictMeans, PrintsMeant, SaysDecided}
 use Rattle.opprove.proofs.Statements.{statement_once}
 use Rattle.opprove.proofs.Stops.{over_statement}

@@ -33,7 +33,8 @@ use Rattle.opprove.specs.Statement as statements
 use Rattle.opprove.specs.Blocks.{JudgesFrom, Judges}
 use Rattle.opprove.specs.Blocks as blocks
 use Rattle.opprove.specs.Check.{Question, question_of, AcceptsCertificate, RefusesCertificate, AnswersEvidence}
-use Rattle.opprove.specs.Decide.{Asked, Print, asked_by, asked_by_bench, verdict_of, AnswersClaims}
+use Rattle.opprove.specs.declared.decide.Asked.{Asked}
+use Rattle.opprove.specs.Decide.{Print, asked_by, asked_by_bench, verdict_of, AnswersClaims}
 use Rattle.opprove.specs.Laws.{EachCallHasAnEnding}
 
 -- ---- the blocks

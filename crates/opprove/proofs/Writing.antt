@@ -1,5 +1,5 @@
 -- Verdicts and rules that can be written: their letters are letters of the quiver.
-use Rattle.std.proofs.Common.{◌≡◌, ℕ, List, [], ◌∷◌, map}
+use Rattle.std.proofs.Common.{◌≡◌, ℕ, List, [], ◌∷◌, map, arith}
 use Rattle.std.specs.List.{All}
 use Rattle.std.proofs.lemmas.List.Elements.{All-cons}
 use Rattle.cofactor_trace.specs.declared.evidence.Format.{Format}
@@ -23,7 +23,7 @@ module _ (problem : Problem) (budget : Budget) (form : Format) where
   verdict_over (outcome.Halted halt) over = over
 
   pub verdicts_over : (numbers : List ℕ) (os : List Outcome) → AreOutcomesOf (setting_of problem budget) form problem numbers os → All (IsVerdictOver problem.parts.quiver) (map verdict_of os)
-  verdicts_over [] [] are = λ k d below. absurd (omega below)
+  verdicts_over [] [] are = λ k d below. absurd (omega (arith, below))
   verdicts_over [] (o ∷ os) are = absurd are
   verdicts_over (n ∷ numbers) [] are = absurd are
   verdicts_over (n ∷ numbers) (o ∷ os) are =
