@@ -26,8 +26,11 @@ const LARGE: &[u8] = b"object V\nmap a b : V -> V\nassume 1701411834604692317316
 const WEIGHTED: &[u8] =
     b"object V\nmap a b : V -> V\norder weight b 3\nassume a a = b\nclaim b b = a a a a\n";
 
-// A letter 34 times, which overlaps itself at 33 places.
-const POWER: &[u8] = b"object U\nmap a : U -> U\nassume a a a a a a a a a a a a a a a a a a a a a a a a a a a a a a a a a a = 0\nclaim a = 0\n";
+/// A letter 34 times, which overlaps itself at 33 places.
+pub const POWER: &[u8] = b"object U\nmap a : U -> U\nassume a a a a a a a a a a a a a a a a a a a a a a a a a a a a a a a a a a = 0\nclaim a = 0\n";
+
+/// The same with its claim twice.
+pub const POWER_TWICE: &[u8] = b"object U\nmap a : U -> U\nassume a a a a a a a a a a a a a a a a a a a a a a a a a a a a a a a a a a = 0\nclaim a = 0\nclaim a = 0\n";
 
 const BRACKETS_64: &[u8] = b"object U\nmap a : U -> U\nclaim ((((((((((((((((((((((((((((((((((((((((((((((((((((((((((((((((a)))))))))))))))))))))))))))))))))))))))))))))))))))))))))))))))) = a\n";
 
@@ -42,17 +45,12 @@ const USAGE: &str = "2 # usage: opprove prove|check|refute|model|bench\n";
 const BENCH: &str =
     "10 # claim 1 proved denominator 1 rows 79\n# claim 2 not derivable rules 241\n";
 
-/// Claims that are proved.
+/// Claims that are proved, by evidence with lemmas.
 pub const PROVED: &[Row] = &[
     (
         PROVE,
         REFLEXIVE,
         "0 # claim 1 proved denominator 1 rows 0\ncertificate 2\nclaim 1\ndenominator 1\ngoal scale 1\nend\n",
-    ),
-    (
-        PLAIN,
-        REFLEXIVE,
-        "0 # claim 1 proved denominator 1 rows 0\ncertificate 1\nclaim 1\ndenominator 1\nend\n",
     ),
     (
         PROVE,
@@ -65,14 +63,23 @@ pub const PROVED: &[Row] = &[
         "0 # claim 1 proved denominator 2 rows 2\ncertificate 2\nclaim 1\ndenominator 2\nlemma 1 scale 2\nrow 1 () 1 ()\ngoal scale 1\nrow 1 () lemma 1 ()\nend\n",
     ),
     (
-        PLAIN,
-        DOUBLED,
-        "0 # claim 1 proved denominator 2 rows 1\ncertificate 1\nclaim 1\ndenominator 2\nrow 1 () 1 ()\nend\n",
-    ),
-    (
         PROVE,
         PSEUDOINVERSE,
         "0 # claim 1 proved denominator 1 rows 4\ncertificate 2\nclaim 1\ndenominator 1\nlemma 1 scale 1\nrow 1 () 5 ()\nrow -1 (a') 3 ()\ngoal scale 1\nrow 1 (a') 3 ()\nrow 1 () lemma 1 ()\nend\n",
+    ),
+];
+
+/// Claims that are proved, by rows over generators alone.
+pub const PROVED_PLAINLY: &[Row] = &[
+    (
+        PLAIN,
+        REFLEXIVE,
+        "0 # claim 1 proved denominator 1 rows 0\ncertificate 1\nclaim 1\ndenominator 1\nend\n",
+    ),
+    (
+        PLAIN,
+        DOUBLED,
+        "0 # claim 1 proved denominator 2 rows 1\ncertificate 1\nclaim 1\ndenominator 2\nrow 1 () 1 ()\nend\n",
     ),
     (
         PLAIN,
