@@ -105,14 +105,15 @@ statement_ends statement next each = by_text (each_text_is_read statement)
 claims_end : (print : Print) (asked : Asked) (problem : Problem) → (ending : Ending) × AnswersClaims print asked problem ending
 claims_end print asked problem =
     let all = each_problem_has_outcomes problem asked.budget asked.form in
-    let verdicts : List Verdict = map verdict_of all.outcomes in
-    (record { status = status_of verdicts; report = print problem.parts.quiver all.rules verdicts },
-        record {
-          verdicts = verdicts;
-          rules = all.rules;
-          decides = record { outcomes = all.outcomes; are_outcomes = all.are_outcomes; are_verdicts = refl; are_rules = all.are_rules };
-          says = refl;
-        })
+    let verdicts : List Verdict = map verdict_of all.outcomes in (
+      record { status = status_of verdicts; report = print problem.parts.quiver all.rules verdicts },
+      record {
+        verdicts = verdicts;
+        rules = all.rules;
+        decides = record { outcomes = all.outcomes; are_outcomes = all.are_outcomes; are_verdicts = refl; are_rules = all.are_rules };
+        says = refl;
+      },
+    )
 
 -- ---- the calls
 

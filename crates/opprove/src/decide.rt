@@ -79,10 +79,7 @@ fn verdict_of(outcome: Outcome) -> Verdict
     }
 }
 
-fn verdicts_of(
-    alloc: Global,
-    outcomes: Listing<Outcome>,
-) -> Result<Listing<Verdict>, AllocError>
+fn verdicts_of(alloc: Global, outcomes: Listing<Outcome>) -> Result<Listing<Verdict>, AllocError>
     ensures { IfOk result (λ verdicts. verdicts ≡ map verdict_of outcomes) }
 {
     let mut verdicts = Listing::new(alloc);
@@ -129,9 +126,21 @@ pub fn prove<R: Threads + Sync, G: Gate + Sync>(
     ensures { EndsAs (AnswersProve call.now statement.now) result }
 {
     let problem = read_statement(alloc, statement)?;
-    let said = decide(rt, alloc, &problem, asked_by(call), call.workers as u32, gate)?;
+    let said = decide(
+        rt,
+        alloc,
+        &problem,
+        asked_by(call),
+        call.workers as u32,
+        gate,
+    )?;
     let verdicts = said.verdicts.as_slice();
-    let report = report(alloc, &problem.parts.quiver, verdicts, said.rules.as_slice())?;
+    let report = report(
+        alloc,
+        &problem.parts.quiver,
+        verdicts,
+        said.rules.as_slice(),
+    )?;
     Ok(Ending::decided(status_of(verdicts), report))
 }
 
@@ -153,6 +162,11 @@ pub fn bench<R: Threads + Sync, G: Gate + Sync>(
     };
     let said = decide(rt, alloc, &problem, asked, call.workers as u32, gate)?;
     let verdicts = said.verdicts.as_slice();
-    let heads = heads(alloc, &problem.parts.quiver, verdicts, said.rules.as_slice())?;
+    let heads = heads(
+        alloc,
+        &problem.parts.quiver,
+        verdicts,
+        said.rules.as_slice(),
+    )?;
     Ok(Ending::decided(status_of(verdicts), heads))
 }

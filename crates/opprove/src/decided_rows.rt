@@ -17,24 +17,30 @@ const PROJECTION: &[u8] =
 const ZERO_OBJECT: &[u8] =
     b"object U V\nmap z : V -> V\nmap x : U -> U\nassume z = [V]\nassume z = 0\nclaim x = 0\n";
 
-const ONE_SIDED: &[u8] = b"object U V\nmap a : U -> V\nmap b : V -> U\nassume a b = [V]\nclaim b a = [U]\nmodel 2 U 2 V 1\n";
+const ONE_SIDED: &[u8] =
+    b"object U V\nmap a : U -> V\nmap b : V -> U\nassume a b = [V]\nclaim b a = [U]\nmodel 2 U 2 V 1\n";
 
 const BRAID: &[u8] = b"object V\nmap a b : V -> V\nassume b a b = a b a\nclaim a = b\n";
 
-const LARGE: &[u8] = b"object V\nmap a b : V -> V\nassume 170141183460469231731687303715884105727 a = b\nclaim b b = 0\n";
+const LARGE: &[u8] =
+    b"object V\nmap a b : V -> V\nassume 170141183460469231731687303715884105727 a = b\nclaim b b = 0\n";
 
 const WEIGHTED: &[u8] =
     b"object V\nmap a b : V -> V\norder weight b 3\nassume a a = b\nclaim b b = a a a a\n";
 
 /// A letter 34 times, which overlaps itself at 33 places.
-pub const POWER: &[u8] = b"object U\nmap a : U -> U\nassume a a a a a a a a a a a a a a a a a a a a a a a a a a a a a a a a a a = 0\nclaim a = 0\n";
+pub const POWER: &[u8] =
+    b"object U\nmap a : U -> U\nassume a a a a a a a a a a a a a a a a a a a a a a a a a a a a a a a a a a = 0\nclaim a = 0\n";
 
 /// The same with its claim twice.
-pub const POWER_TWICE: &[u8] = b"object U\nmap a : U -> U\nassume a a a a a a a a a a a a a a a a a a a a a a a a a a a a a a a a a a = 0\nclaim a = 0\nclaim a = 0\n";
+pub const POWER_TWICE: &[u8] =
+    b"object U\nmap a : U -> U\nassume a a a a a a a a a a a a a a a a a a a a a a a a a a a a a a a a a a = 0\nclaim a = 0\nclaim a = 0\n";
 
-const BRACKETS_64: &[u8] = b"object U\nmap a : U -> U\nclaim ((((((((((((((((((((((((((((((((((((((((((((((((((((((((((((((((a)))))))))))))))))))))))))))))))))))))))))))))))))))))))))))))))) = a\n";
+const BRACKETS_64: &[u8] =
+    b"object U\nmap a : U -> U\nclaim ((((((((((((((((((((((((((((((((((((((((((((((((((((((((((((((((a)))))))))))))))))))))))))))))))))))))))))))))))))))))))))))))))) = a\n";
 
-const BRACKETS_65: &[u8] = b"object U\nmap a : U -> U\nclaim (((((((((((((((((((((((((((((((((((((((((((((((((((((((((((((((((a))))))))))))))))))))))))))))))))))))))))))))))))))))))))))))))))) = a\n";
+const BRACKETS_65: &[u8] =
+    b"object U\nmap a : U -> U\nclaim (((((((((((((((((((((((((((((((((((((((((((((((((((((((((((((((((a))))))))))))))))))))))))))))))))))))))))))))))))))))))))))))))))) = a\n";
 
 const PROVE: &[&str] = &["prove", "s"];
 

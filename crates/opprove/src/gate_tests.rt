@@ -40,10 +40,8 @@ struct Meeting {
 
 impl Meeting {
     fn sees_another(&self, item: usize) -> bool {
-        self.flags
-            .iter()
-            .enumerate()
-            .any(|(place, flag)| place != item && flag.load(Ordering::SeqCst) == 1)
+        self.flags.iter().enumerate().any(|(place, flag)| place != item
+            && flag.load(Ordering::SeqCst) == 1)
     }
 }
 
@@ -81,9 +79,7 @@ fn status<R: Threads + Sync, G: Gate + Sync>(
     }
     let mut shelf = shelf_of(alloc, statement)?;
     let mut sink = MemorySink::new(alloc, 8, 1000, Listing::new(alloc))?;
-    Ok(run(
-        rt, alloc, &Parity, &words, &mut shelf, &mut sink, gate,
-    ))
+    Ok(run(rt, alloc, &Parity, &words, &mut shelf, &mut sink, gate))
 }
 
 #[test]

@@ -81,7 +81,9 @@ fn reports_are_evidence(rt: HostRuntime) -> Result<(), Fail> {
     for (_, statement, told) in PROVED_PLAINLY {
         let report = told.strip_prefix("0 ").unwrap_or("");
         let got = answer(&rt, rt.alloc(), CHECK, statement, report.as_bytes(), &[])?;
-        let is_accepted = got.as_str().starts_with("0 # block 1 accepted claim 1 denominator ");
+        let is_accepted = got
+            .as_str()
+            .starts_with("0 # block 1 accepted claim 1 denominator ");
         assert!(rt; is_accepted, "{got:?}");
     }
     let (_, statement, told) = OTHERS[0];
