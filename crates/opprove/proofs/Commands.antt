@@ -2,13 +2,18 @@
 use Rattle.std.proofs.Common.{◌≡◌, ◌≢◌, ℕ, List, [], ◌∷◌, arith}
 use Rattle.definitions.specs.Category.{Structure, PreadditiveLaws}
 use Rattle.definitions.specs.Soundness.{IsSound}
-use Rattle.opprove.specs.declared.call.Call.{Call}
-use Rattle.opprove.specs.declared.call.Call.TheVariants.{Check}
+use Rattle.representations.specs.Evidence.{IsEvidenceSound}
+use Rattle.report_text.specs.Report.{report_of, heads_of}
+use Rattle.report_text.specs.Bench.{bench_statement}
+use Rattle.command_words.specs.declared.call.Call.{Call}
+use Rattle.command_words.specs.declared.call.Call.TheVariants.{Prove, Check, Bench}
 use Rattle.opprove.specs.Ending.{Ending}
 use Rattle.opprove.specs.Answers.{Answers}
+use Rattle.opprove.specs.Decide.{asked_by, asked_by_bench}
 use Rattle.opprove.specs.Headline.{Says}
 use Rattle.opprove.proofs.Checking.{check_once, CheckStatus, zero, three, seven, check_status}
 use Rattle.opprove.proofs.Meaning.{says_checked}
+use Rattle.opprove.proofs.Deciding.{decided_once, DecidedStatus, refused, proved, not_derivable, undecided, decided_status, says_decided}
 
 -- no status that the run gives by itself
 pub record IsOwn (status : ℕ) : Type 0 where
@@ -22,20 +27,42 @@ own_check (zero is) = record { not_usage = λ e. omega arith; not_loading = λ e
 own_check (three is) = record { not_usage = λ e. omega arith; not_loading = λ e. omega arith; not_cut = λ e. omega arith; not_memory = λ e. omega arith }
 own_check (seven is) = record { not_usage = λ e. omega arith; not_loading = λ e. omega arith; not_cut = λ e. omega arith; not_memory = λ e. omega arith }
 
+own_decided : {status : ℕ} → DecidedStatus status → IsOwn status
+own_decided (refused is) = record { not_usage = λ e. omega arith; not_loading = λ e. omega arith; not_cut = λ e. omega arith; not_memory = λ e. omega arith }
+own_decided (proved is) = record { not_usage = λ e. omega arith; not_loading = λ e. omega arith; not_cut = λ e. omega arith; not_memory = λ e. omega arith }
+own_decided (not_derivable is) = record { not_usage = λ e. omega arith; not_loading = λ e. omega arith; not_cut = λ e. omega arith; not_memory = λ e. omega arith }
+own_decided (undecided is) = record { not_usage = λ e. omega arith; not_loading = λ e. omega arith; not_cut = λ e. omega arith; not_memory = λ e. omega arith }
+
 pub answers_once : (call : Call) (contents : List (List ℕ)) (ending ending' : Ending) → Answers call contents ending → Answers call contents ending' → ending ≡ ending'
+answers_once (Prove p) [] ending ending' one other = absurd one
+answers_once (Prove p) (statement ∷ []) ending ending' one other = decided_once report_of (asked_by p) statement ending ending' one other
+answers_once (Prove p) (statement ∷ second ∷ more) ending ending' one other = absurd one
 answers_once (Check p) [] ending ending' one other = absurd one
 answers_once (Check p) (statement ∷ []) ending ending' one other = absurd one
 answers_once (Check p) (statement ∷ evidence ∷ []) ending ending' one other = check_once statement evidence ending ending' one other
 answers_once (Check p) (statement ∷ evidence ∷ third ∷ more) ending ending' one other = absurd one
+answers_once (Bench b) [] ending ending' one other = decided_once heads_of asked_by_bench (bench_statement b.size) ending ending' one other
+answers_once (Bench b) (first ∷ more) ending ending' one other = absurd one
 
 pub answer_status : (call : Call) (contents : List (List ℕ)) (ending : Ending) → Answers call contents ending → IsOwn ending.status
+answer_status (Prove p) [] ending answer = absurd answer
+answer_status (Prove p) (statement ∷ []) ending answer = own_decided (decided_status report_of (asked_by p) statement ending answer)
+answer_status (Prove p) (statement ∷ second ∷ more) ending answer = absurd answer
 answer_status (Check p) [] ending answer = absurd answer
 answer_status (Check p) (statement ∷ []) ending answer = absurd answer
 answer_status (Check p) (statement ∷ evidence ∷ []) ending answer = own_check (check_status statement evidence ending answer)
 answer_status (Check p) (statement ∷ evidence ∷ third ∷ more) ending answer = absurd answer
+answer_status (Bench b) [] ending answer = own_decided (decided_status heads_of asked_by_bench (bench_statement b.size) ending answer)
+answer_status (Bench b) (first ∷ more) ending answer = absurd answer
 
-pub answers_say : {Object Arrow : Type 0} {s : Structure Object Arrow} → PreadditiveLaws s → IsSound s → (call : Call) (contents : List (List ℕ)) (ending : Ending) → Answers call contents ending → Says s call contents ending
-answers_say laws sound (Check p) [] ending answer = absurd answer
-answers_say laws sound (Check p) (statement ∷ []) ending answer = absurd answer
-answers_say laws sound (Check p) (statement ∷ evidence ∷ []) ending answer = says_checked laws sound statement evidence ending answer
-answers_say laws sound (Check p) (statement ∷ evidence ∷ third ∷ more) ending answer = absurd answer
+pub answers_say : {Object Arrow : Type 0} {s : Structure Object Arrow} → PreadditiveLaws s → IsSound s → IsEvidenceSound s → (call : Call) (contents : List (List ℕ)) (ending : Ending)
+    → Answers call contents ending → Says s call contents ending
+answers_say laws sound with_lemmas (Prove p) [] ending answer = absurd answer
+answers_say laws sound with_lemmas (Prove p) (statement ∷ []) ending answer = says_decided laws sound with_lemmas report_of (asked_by p) statement ending answer
+answers_say laws sound with_lemmas (Prove p) (statement ∷ second ∷ more) ending answer = absurd answer
+answers_say laws sound with_lemmas (Check p) [] ending answer = absurd answer
+answers_say laws sound with_lemmas (Check p) (statement ∷ []) ending answer = absurd answer
+answers_say laws sound with_lemmas (Check p) (statement ∷ evidence ∷ []) ending answer = says_checked laws sound statement evidence ending answer
+answers_say laws sound with_lemmas (Check p) (statement ∷ evidence ∷ third ∷ more) ending answer = absurd answer
+answers_say laws sound with_lemmas (Bench b) [] ending answer = says_decided laws sound with_lemmas heads_of asked_by_bench (bench_statement b.size) ending answer
+answers_say laws sound with_lemmas (Bench b) (first ∷ more) ending answer = absurd answer

@@ -1,5 +1,5 @@
 -- Each call has an ending over the contents of its files.
-use Rattle.std.proofs.Common.{◌≡◌, ◌⊎◌, inl, inr, ℕ, ◌+◌, List, [], ◌∷◌, ◌++◌, Some, None, Result, Ok, Err, refl, arith}
+use Rattle.std.proofs.Common.{◌≡◌, ◌⊎◌, inl, inr, ℕ, ◌+◌, List, [], ◌∷◌, ◌++◌, map, Some, None, Result, Ok, Err, refl, arith}
 use Rattle.statement_syntax.specs.declared.place.Spot.{Spot}
 use Rattle.statement_syntax.specs.declared.tree.Statement.{Statement}
 use Rattle.statement_syntax.specs.declared.fault.Fault.{Fault}
@@ -20,15 +20,21 @@ use Rattle.cofactor_checker.specs.Acceptance as acceptance
 use Rattle.cofactor_checker.proofs.Judged.{each_certificate_is_judged}
 use Rattle.certificate_text.specs.Evidence.{certificates_of}
 use Rattle.certificate_text.specs.Fault as evidence
-use Rattle.opprove.specs.declared.call.Call.TheVariants.{Check}
+use Rattle.command_words.specs.declared.call.Call.TheVariants.{Prove, Check, Bench}
+use Rattle.outcome_existence.proofs.Problems.{each_problem_has_outcomes}
+use Rattle.report_text.specs.declared.verdict.Verdict.{Verdict}
+use Rattle.report_text.specs.Report.{report_of, heads_of, status_of}
+use Rattle.report_text.specs.Bench.{bench_statement}
 use Rattle.opprove.specs.Ending.{Ending, line, refused_statement, refused_evidence}
 use Rattle.opprove.specs.Texts.{statement_fault, evidence_fault}
 use Rattle.opprove.specs.Refusals.{claim_text, accepted_text, refused_text, cause_text}
-use Rattle.opprove.specs.Statement.{IsRefusedStatement, no_tree, no_problem, typing_text}
+use Rattle.opprove.specs.Statement.{IsRefusedStatement, no_tree, no_problem, typing_text, OverStatement}
 use Rattle.opprove.specs.Statement as statements
 use Rattle.opprove.specs.Blocks.{JudgesFrom, Judges}
 use Rattle.opprove.specs.Blocks as blocks
-use Rattle.opprove.specs.Check.{Question, question_of, AcceptsCertificate, RefusesCertificate, AnswersEvidence, AnswersCheck}
+use Rattle.opprove.specs.Check.{Question, question_of, AcceptsCertificate, RefusesCertificate, AnswersEvidence}
+use Rattle.opprove.specs.declared.decide.Asked.{Asked}
+use Rattle.opprove.specs.Decide.{Print, asked_by, asked_by_bench, verdict_of, AnswersClaims}
 use Rattle.opprove.specs.Laws.{EachCallHasAnEnding}
 
 -- ---- the blocks
@@ -76,25 +82,48 @@ fault_text : (f : TypeFault) → (IsMemory f → ⊥) → (text : List ℕ) × (
 fault_text (typing.Fault code at column left right limit) h = (_, refl)
 fault_text (typing.Memory failed) h = absurd (h tt)
 
-refused_ends : (statement bytes text : List ℕ) → IsRefusedStatement statement text → (ending : Ending) × AnswersCheck statement bytes ending
-refused_ends statement bytes text refused = (refused_statement text, statements.faulty text refused refl)
+refused_ends : (statement text : List ℕ) (next : Problem → Ending → Type 0) → IsRefusedStatement statement text → (ending : Ending) × OverStatement statement next ending
+refused_ends statement text next refused = (refused_statement text, statements.faulty text refused refl)
 
-check_ends : (statement bytes : List ℕ) → (ending : Ending) × AnswersCheck statement bytes ending
-check_ends statement bytes = by_text (each_text_is_read statement)
+-- where each problem leads to an ending
+statement_ends : (statement : List ℕ) (next : Problem → Ending → Type 0) → ((problem : Problem) → (ending : Ending) × next problem ending) → (ending : Ending) × OverStatement statement next ending
+statement_ends statement next each = by_text (each_text_is_read statement)
   where
     by_tree : (tree : List Statement) → IsTreeOf statement tree → ((fault : TypeFault) × (fault_of tree ≡ Some fault) × (IsMemory fault → ⊥)) ⊎ ((problem : Problem) × IsProblemOf tree problem)
-        → (ending : Ending) × AnswersCheck statement bytes ending
-    by_tree tree is (inl wrong) = let text = fault_text wrong.0 wrong.2 in refused_ends statement bytes text.0 (no_problem tree wrong.0 is wrong.1 text.1)
+        → (ending : Ending) × OverStatement statement next ending
+    by_tree tree is (inl wrong) = let text = fault_text wrong.0 wrong.2 in refused_ends statement text.0 next (no_problem tree wrong.0 is wrong.1 text.1)
     by_tree tree is (inr right) =
-        let over = evidence_ends bytes right.0 in
+        let over = each right.0 in
         (over.0, statements.stated right.0 (record { statements = tree; tree = is; elaborated = right.1 }) over.1)
 
-    by_text : ((tree : List Statement) × IsTreeOf statement tree) ⊎ ((fault : Fault) × ((at : Spot) × IsFirstFault statement fault at)) → (ending : Ending) × AnswersCheck statement bytes ending
+    by_text : ((tree : List Statement) × IsTreeOf statement tree) ⊎ ((fault : Fault) × ((at : Spot) × IsFirstFault statement fault at)) → (ending : Ending) × OverStatement statement next ending
     by_text (inl read) = by_tree read.0 read.1 (each_statement_has_a_problem_or_a_fault read.0)
-    by_text (inr wrong) = refused_ends statement bytes (statement_fault (code_of wrong.0) wrong.1.0.line wrong.1.0.column 0 None None) (no_tree wrong.0 wrong.1.0 wrong.1.1 refl)
+    by_text (inr wrong) = refused_ends statement (statement_fault (code_of wrong.0) wrong.1.0.line wrong.1.0.column 0 None None) next (no_tree wrong.0 wrong.1.0 wrong.1.1 refl)
+
+-- ---- the claims
+
+claims_end : (print : Print) (asked : Asked) (problem : Problem) → (ending : Ending) × AnswersClaims print asked problem ending
+claims_end print asked problem =
+    let all = each_problem_has_outcomes problem asked.budget asked.form in
+    let verdicts : List Verdict = map verdict_of all.outcomes in (
+      record { status = status_of verdicts; report = print problem.parts.quiver all.rules verdicts },
+      record {
+        verdicts = verdicts;
+        rules = all.rules;
+        decides = record { outcomes = all.outcomes; are_outcomes = all.are_outcomes; are_verdicts = refl; are_rules = all.are_rules };
+        says = refl;
+      },
+    )
+
+-- ---- the calls
 
 pub each_call_has_an_ending : EachCallHasAnEnding
+each_call_has_an_ending (Prove p) [] as_many = absurd (omega arith)
+each_call_has_an_ending (Prove p) (statement ∷ []) as_many = statement_ends statement (AnswersClaims report_of (asked_by p)) (claims_end report_of (asked_by p))
+each_call_has_an_ending (Prove p) (statement ∷ second ∷ more) as_many = absurd (omega arith)
 each_call_has_an_ending (Check p) [] as_many = absurd (omega arith)
 each_call_has_an_ending (Check p) (statement ∷ []) as_many = absurd (omega arith)
-each_call_has_an_ending (Check p) (statement ∷ bytes ∷ []) as_many = check_ends statement bytes
+each_call_has_an_ending (Check p) (statement ∷ bytes ∷ []) as_many = statement_ends statement (AnswersEvidence bytes) (evidence_ends bytes)
 each_call_has_an_ending (Check p) (statement ∷ bytes ∷ third ∷ more) as_many = absurd (omega arith)
+each_call_has_an_ending (Bench b) [] as_many = statement_ends (bench_statement b.size) (AnswersClaims heads_of asked_by_bench) (claims_end heads_of asked_by_bench)
+each_call_has_an_ending (Bench b) (first ∷ more) as_many = absurd (omega arith)

@@ -1,9 +1,13 @@
 -- What follows of an ending that is allowed, once it is put.
-use Rattle.std.proofs.Common.{take, ◌≡◌, ◌≢◌, ◌⊎◌, inl, inr, ℕ, List, Some, refl, sym, ◌∙◌, ap, subst, arith, String, Global}
+use Rattle.std.proofs.Common.{take, ◌≡◌, ◌≢◌, ◌⊎◌, inl, inr, ℕ, List, map, string_bytes, refl, sym, ◌∙◌, ap, subst, arith, String, Global}
 use Rattle.definitions.specs.Category.{Structure, PreadditiveLaws}
 use Rattle.definitions.specs.Soundness.{IsSound}
+use Rattle.representations.specs.Evidence.{IsEvidenceSound}
+use Rattle.clap.specs.Words.{subcommand_of}
+use Rattle.command_words.specs.CommandSet.{command_set}
+use Rattle.command_words.proofs.Unique.{one_call}
 use Rattle.opprove.specs.declared.call.FileWord.{FileWord}
-use Rattle.opprove.specs.declared.call.Call.{Call}
+use Rattle.command_words.specs.declared.call.Call.{Call}
 use Rattle.opprove.specs.Call.{IsCalled, IsTaken, files_of}
 use Rattle.opprove.specs.Ending.{Ending, usage, too_long}
 use Rattle.opprove.specs.Files.{AfterFiles, AreHeld, IsMissing, IsFirstTooLong}
@@ -20,7 +24,7 @@ status_is same = ap (λ (e : Ending). e.status) same
 
 -- the words of two calls
 same_call : (words : List (String Global)) (call other : Call) → IsCalled words call → IsCalled words other → call ≡ other
-same_call words call other one two = let both : Some call ≡ Some other = sym one ∙ two in cc
+same_call words call other one two = one_call (subcommand_of command_set (map string_bytes words)) call other one.names two.names
 
 module _ (words : List (String Global)) (run : Run) (ending : Ending) (status : ℕ) (may : MayEnd words run.told run.rose ending) (put : IsPut run.put run.finished run.sink_rose ending status) where
   -- the ending of a call goes by its files
@@ -28,7 +32,7 @@ module _ (words : List (String Global)) (run : Run) (ending : Ending) (status : 
   at_files call is = by may
     where
       by : MayEnd words run.told run.rose ending → AfterFiles run.told run.rose (files_of call) (Answers call) ending
-      by (other_words not_taken ends) = absurd (not_taken (call, is))
+      by (other_words not_taken ends) = absurd (not_taken is.taken)
       by (called other is' after) = let P : Call → Type 0 = λ c. AfterFiles run.told run.rose (files_of c) (Answers c) ending in subst P (same_call words other call is' is) after
 
   -- where it is put with the status of an end that isn't 5
@@ -122,9 +126,9 @@ module _ (words : List (String Global)) (run : Run) (ending : Ending) (status : 
       by : Way → IsPut run.put run.finished run.sink_rose ending status → (status ≡ 2) ⊎ (status ≡ 5) ⊎ (status ≡ 6)
       by _ (in_part five rose count first) = inr (inl five)
       by (by_words _ is) (whole same report finished) = inl (same ∙ status_is is)
-      by (by_load call is f) (whole same report finished) = absurd (not_taken (call, is))
-      by (by_limit call is l) (whole same report finished) = absurd (not_taken (call, is))
-      by (by_answer call is a) (whole same report finished) = absurd (not_taken (call, is))
+      by (by_load call is f) (whole same report finished) = absurd (not_taken is.taken)
+      by (by_limit call is l) (whole same report finished) = absurd (not_taken is.taken)
+      by (by_answer call is a) (whole same report finished) = absurd (not_taken is.taken)
 
   says_load_failed : (call : Call) → Failed run.told run.rose (files_of call) ending → status ≢ 5 → SaysLoadFailed run (files_of call)
   says_load_failed call f other = record { file = f.file; reached = f.reached; cause = f.cause; printed = (as_put _ f.is other).1 }
@@ -187,11 +191,11 @@ module _ (words : List (String Global)) (run : Run) (ending : Ending) (status : 
       by (whole at report finished) = let P : Ending → Type 0 = λ e. (status ≡ e.status) × run.put e.report × run.finished in subst P same (at, report, finished)
       by (in_part five rose count first) = absurd (steady rose)
 
-  pub meaning : {Object Arrow : Type 0} {s : Structure Object Arrow} → PreadditiveLaws s → IsSound s → HasMeaning s words run status
-  meaning {s} laws sound = record { ending = ending; put = put; ends = by may }
+  pub meaning : {Object Arrow : Type 0} {s : Structure Object Arrow} → PreadditiveLaws s → IsSound s → IsEvidenceSound s → HasMeaning s words run status
+  meaning {s} laws sound with_lemmas = record { ending = ending; put = put; ends = by may }
     where
       by : MayEnd words run.told run.rose ending → EndsBy (λ call contents end. Answers call contents end × Says s call contents end) words run.told run.rose ending
       by (other_words not_taken ends) = other_words not_taken ends
       by (called call is after) =
           called call is
-          (after_weaker run.told run.rose (files_of call) (Answers call) (λ contents end. Answers call contents end × Says s call contents end) ending (λ contents answer. (answer, answers_say laws sound call contents ending answer)) after)
+          (after_weaker run.told run.rose (files_of call) (Answers call) (λ contents end. Answers call contents end × Says s call contents end) ending (λ contents answer. (answer, answers_say laws sound with_lemmas call contents ending answer)) after)

@@ -8,6 +8,9 @@ pub mod Statements
 pub mod Evidences
 pub mod Checking
 pub mod Meaning
+pub mod Deciding
+pub mod Writing
+pub mod BenchSize
 pub mod Commands
 pub mod Endings
 pub mod Prefix

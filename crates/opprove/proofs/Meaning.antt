@@ -1,8 +1,8 @@
--- What accepted certificates mean in a category.
+-- What combinations and accepted certificates mean in a category.
 use Rattle.std.proofs.Common.{◌≡◌, ℕ, zero, suc, ◌<◌, ℤ, Bool, false, List, [], ◌∷◌, length, get_or, sym, subst, arith}
 use Rattle.std.specs.List.{AllByRecursion}
 use Rattle.definitions.specs.Category.{Structure, PreadditiveLaws}
-use Rattle.definitions.specs.Combination.{IsCombination, generator_at}
+use Rattle.definitions.specs.Combination.{Row, IsCombination, generator_at}
 use Rattle.definitions.specs.Quiver.{Quiver}
 use Rattle.definitions.specs.Representation.{Representation, Represents}
 use Rattle.definitions.specs.Soundness.{HasSignature, HasValueZero, IsSound, MakesZero}
@@ -19,7 +19,7 @@ use Rattle.adjoint_rules.specs.Problem.{polynomials, numbers, generators_in}
 use Rattle.adjoint_rules.proofs.Generators.{posed_quiver, claims_have_signatures, marked_are_objects, generators_have_signatures, generators_are_zero, makes_zero}
 use Rattle.opprove.specs.Ending.{Ending}
 use Rattle.opprove.specs.Check.{question_of, IsAccepted, AnswersCheck}
-use Rattle.opprove.specs.Headline.{stated_claim, MakesZeroByStar, CheckedMeans, SaysChecked}
+use Rattle.opprove.specs.Headline.{stated_claim, MakesZeroByStar, MeansZero, CheckedMeans, SaysChecked}
 use Rattle.opprove.proofs.Checking.{told_accepted}
 
 -- the polynomial with a number from 1 to the count has what each of them has
@@ -28,22 +28,17 @@ get_one q [] n inside all = absurd (omega arith)
 get_one q (p ∷ ps) zero inside all = all.0
 get_one q (p ∷ ps) (suc n) inside all = get_one q ps n (omega arith) all.1
 
-numbered : (q : Quiver) (ps : List (List (ℤ × List ℕ))) (n : ℕ) → IsNumberUpTo (length ps) n → AllByRecursion (HasSignature q) ps → HasSignature q (generator_at ps n)
+pub numbered : (q : Quiver) (ps : List (List (ℤ × List ℕ))) (n : ℕ) → IsNumberUpTo (length ps) n → AllByRecursion (HasSignature q) ps → HasSignature q (generator_at ps n)
 numbered q ps zero is all = let least = is.least in absurd (omega arith)
 numbered q ps (suc n) is all = let most = is.most in get_one q ps n (omega arith) all
 
-module _ {Object Arrow : Type 0} {s : Structure Object Arrow} (laws : PreadditiveLaws s) (sound : IsSound s) (problem : Problem) (c : Certificate) (accepted : IsAccepted (question_of problem) c) where
-  sum : IsCombination (polynomials problem.generators) (rows_of c.rows) c.denominator (stated_claim problem c)
-  sum = combination_from_accepts (polynomials problem.parts.claims) (polynomials problem.generators) c accepted
+-- what makes a claim zero over the generators makes it zero over what the statement says
+module _ {Object Arrow : Type 0} {s : Structure Object Arrow} (laws : PreadditiveLaws s) (problem : Problem) (d : ℤ) (claim : List (ℤ × List ℕ))
+    (makes : MakesZero s (quiver_of problem.parts.quiver) (polynomials problem.generators) d claim) where
+  zero_made : MakesZero s (quiver_of problem.parts.quiver) (generators_in problem.parts) d claim
+  zero_made = makes_zero laws problem.parts problem.generators problem.closed d claim makes
 
-  makes : MakesZero s (quiver_of problem.parts.quiver) (polynomials problem.generators) c.denominator (stated_claim problem c)
-  makes = sound.certificate (quiver_of problem.parts.quiver) (polynomials problem.generators) (rows_of c.rows) c.denominator (stated_claim problem c)
-      (posed_quiver problem.parts problem.posed) (generators_have_signatures problem.parts problem.posed problem.generators problem.closed) sum
-
-  zero_made : MakesZero s (quiver_of problem.parts.quiver) (generators_in problem.parts) c.denominator (stated_claim problem c)
-  zero_made = makes_zero laws problem.parts problem.generators problem.closed c.denominator (stated_claim problem c) makes
-
-  by_star_made : MakesZeroByStar s (quiver_of problem.parts.quiver) (polynomials problem.parts.assumptions) c.denominator (stated_claim problem c)
+  by_star_made : MakesZeroByStar s (quiver_of problem.parts.quiver) (polynomials problem.parts.assumptions) d claim
   by_star_made = record {
     zero = λ adjoint involution f rep cancels vanish. makes.zero f rep.represents cancels
         (generators_are_zero laws problem.parts problem.generators problem.closed adjoint (star_sound laws involution) problem.posed f rep vanish);
@@ -58,14 +53,31 @@ module _ {Object Arrow : Type 0} {s : Structure Object Arrow} (laws : Preadditiv
       subst P (sym not_starred)
       ((unit_sound laws).generators q (numbers problem.parts.marked) (polynomials problem.parts.assumptions) (posed_quiver problem.parts problem.posed) (marked_are_objects problem.parts problem.posed) f rep vanish)
 
-  pub means : CheckedMeans s problem c
-  means = record {
-    sum = sum;
-    typed = numbered (quiver_of problem.parts.quiver) (polynomials problem.parts.claims) c.claim accepted.adds_up.begins.posed.claim (claims_have_signatures problem.parts problem.posed);
+  pub means_zero : HasSignature (quiver_of problem.parts.quiver) claim → MeansZero s problem d claim
+  means_zero typed = record {
+    typed = typed;
     zero = zero_made;
     by_star = by_star_made;
     plain = λ not_starred. record { zero = λ f rep cancels vanish. zero_made.zero f rep cancels (generators_vanish not_starred f rep vanish) };
   }
+
+-- ---- certificates
+
+module _ {Object Arrow : Type 0} {s : Structure Object Arrow} (laws : PreadditiveLaws s) (sound : IsSound s) (problem : Problem) where
+  -- a combination of the generators makes a claim zero
+  pub combination_makes : (rows : List Row) (d : ℤ) (claim : List (ℤ × List ℕ)) → IsCombination (polynomials problem.generators) rows d claim
+      → MakesZero s (quiver_of problem.parts.quiver) (polynomials problem.generators) d claim
+  combination_makes rows d claim sum = sound.certificate (quiver_of problem.parts.quiver) (polynomials problem.generators) rows d claim
+      (posed_quiver problem.parts problem.posed) (generators_have_signatures problem.parts problem.posed problem.generators problem.closed) sum
+
+  pub means : (c : Certificate) → IsAccepted (question_of problem) c → CheckedMeans s problem c
+  means c accepted =
+      let sum = combination_from_accepts (polynomials problem.parts.claims) (polynomials problem.generators) c accepted in
+      record {
+        sum = sum;
+        means = means_zero laws problem c.denominator (stated_claim problem c) (combination_makes (rows_of c.rows) c.denominator (stated_claim problem c) sum)
+            (numbered (quiver_of problem.parts.quiver) (polynomials problem.parts.claims) c.claim accepted.adds_up.begins.posed.claim (claims_have_signatures problem.parts problem.posed));
+      }
 
 -- what each of them means
 each : (P Q : Certificate → Type 0) → ((c : Certificate) → P c → Q c) → (cs : List Certificate) → AllByRecursion P cs → AllByRecursion Q cs

@@ -1,5 +1,6 @@
 -- What a stop says may say less, and it is handed on.
 use Rattle.std.proofs.Common.{◌≡◌, inl, inr, ℕ, ◌≤◌, List, Result, Ok, Err, IfErr, subst, sym, arith}
+use Rattle.std.specs.Result.{IsErr, IsErrAnd}
 use Rattle.flow_io.specs.Causes.{Rose}
 use Rattle.flow_io.specs.Told.{Told, MayExceed}
 use Rattle.adjoint_rules.specs.declared.problem.Problem.{Problem}
@@ -10,7 +11,7 @@ use Rattle.opprove.specs.Ending.{Ending}
 use Rattle.opprove.specs.Files.{EndsAtFile}
 use Rattle.opprove.specs.Statement.{OverStatement, faulty, stated}
 use Rattle.opprove.specs.Blocks as blocks
-use Rattle.opprove.specs.Stop.{StopsBy, EndsAs}
+use Rattle.opprove.specs.Stop.{IsMemory, StopsBy, EndsAs}
 
 pub stops_weaker : (P Q : Ending → Type 0) → ((ending : Ending) → P ending → Q ending) → (stop : Stop) → StopsBy P stop → StopsBy Q stop
 stops_weaker P Q weaker (Ended ending) holds = weaker ending holds
@@ -26,6 +27,16 @@ handed_on {A} P result stop is holds = let F : Result A Stop → Type 0 = λ r. 
 
 pub ended_by : (P : Ending → Type 0) (result : Result Ending Stop) (stop : Stop) → result ≡ Err stop → StopsBy P stop → EndsAs P result
 ended_by P result stop is holds = let F : Result Ending Stop → Type 0 = λ r. EndsAs P r in subst F (sym is) holds
+
+-- a step that ends the run ends it as is allowed
+pub ended_as : (P : Ending → Type 0) (result : Result Ending Stop) (ending : Ending) → result ≡ Err (Ended ending) → EndsAs P result → P ending
+ended_as P result ending is holds = let F : Result Ending Stop → Type 0 = λ r. EndsAs P r in subst F is holds
+
+-- a step that wants memory has no ending
+pub memory_ends : (P : Ending → Type 0) (result : Result Ending Stop) → IsErr result → IsErrAnd result IsMemory → EndsAs P result
+memory_ends P (Ok ending) fails wants = absurd (cc)
+memory_ends P (Err (Ended ending)) fails wants = absurd wants
+memory_ends P (Err (Memory failed)) fails wants = tt
 
 -- the count was no higher before, and as much is told of the file
 pub ends_earlier : (told told' : Told) (before before' now : ℕ) (name : List ℕ) (limit : ℕ) (ending : Ending) → told' ≡ told → before ≤ before'

@@ -1,11 +1,16 @@
 -- What each command answers, from the contents of its files.
 use Rattle.std.specs.Prelude.{ℕ, List, [], ◌∷◌}
-use Rattle.opprove.specs.declared.call.Call.{Call}
-use Rattle.opprove.specs.declared.call.Call.TheVariants.{Check}
+use Rattle.command_words.specs.declared.call.Call.{Call}
+use Rattle.command_words.specs.declared.call.Call.TheVariants.{Prove, Check, Bench}
 use Rattle.opprove.specs.Ending.{Ending}
 use Rattle.opprove.specs.Check.{AnswersCheck}
+use Rattle.opprove.specs.Decide.{AnswersProve, AnswersBench}
 
 -- one line a command; a call has no answer over more or fewer contents than it has files
 abbrev pub Answers : Call → List (List ℕ) → Ending → Type 0
+Answers (Prove p) (statement ∷ []) ending = AnswersProve p statement ending
+Answers (Prove p) _ ending = ⊥
 Answers (Check p) (statement ∷ evidence ∷ []) ending = AnswersCheck statement evidence ending
 Answers (Check p) _ ending = ⊥
+Answers (Bench b) [] ending = AnswersBench b ending
+Answers (Bench b) _ ending = ⊥

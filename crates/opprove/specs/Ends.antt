@@ -2,7 +2,7 @@
 use Rattle.std.specs.Prelude.{ℕ, ◌≡◌, List, String}
 use Rattle.std.specs.declared.alloc.Global.{Global}
 use Rattle.flow_io.specs.Told.{Told}
-use Rattle.opprove.specs.declared.call.Call.{Call}
+use Rattle.command_words.specs.declared.call.Call.{Call}
 use Rattle.opprove.specs.Call.{IsCalled, IsTaken, files_of}
 use Rattle.opprove.specs.Ending.{Ending, usage}
 use Rattle.opprove.specs.Files.{AfterFiles}

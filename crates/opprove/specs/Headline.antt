@@ -1,7 +1,7 @@
 -- The main theorem: what a report says.
 use Rattle.std.specs.Prelude.{ℕ, ℤ, ◌≡◌, ◌≢◌, false, List, [], ◌∷◌, ◌++◌, Ok, String}
 use Rattle.std.specs.declared.alloc.Global.{Global}
-use Rattle.std.specs.List.{AllByRecursion}
+use Rattle.std.specs.List.{AllByRecursion, AllZip}
 use Rattle.definitions.specs.Category.{Structure, InvolutionLaws}
 use Rattle.definitions.specs.Combination.{IsCombination}
 use Rattle.definitions.specs.Quiver.{Quiver}
@@ -10,26 +10,49 @@ use Rattle.definitions.specs.Soundness.{HasSignature, HasValueZero, MakesZero}
 use Rattle.quiver.specs.Declarations.{quiver_of}
 use Rattle.cofactor_trace.specs.declared.Certificate.{Certificate}
 use Rattle.cofactor_trace.specs.Rows.{rows_of}
+use Rattle.cofactor_trace.specs.declared.evidence.Evidence.{Evidence}
 use Rattle.cofactor_checker.specs.Acceptance.{claim_of}
+use Rattle.nc_polynomial.specs.declared.poly.Poly.{Poly}
 use Rattle.adjoint_rules.specs.declared.problem.Problem.{Problem}
 use Rattle.adjoint_rules.specs.Problem.{polynomials, generators_in}
+use Rattle.claim_decider.specs.Decided.{claim_at, claim_numbers}
+use Rattle.outcome_meanings.specs.Meanings.{Follows, EvidenceAddsUp, HaltMeans}
 use Rattle.certificate_text.specs.Evidence.{certificates_of}
-use Rattle.opprove.specs.declared.call.Call.{Call}
-use Rattle.opprove.specs.declared.call.Call.TheVariants.{Check}
+use Rattle.report_text.specs.declared.verdict.Verdict.{Verdict}
+use Rattle.report_text.specs.declared.verdict.Verdict.TheVariants.{Proved, NotDerivable, Undecided}
+use Rattle.report_text.specs.Heads.{denominator_of}
+use Rattle.report_text.specs.Report.{report_of, heads_of, status_of}
+use Rattle.report_text.specs.Bench.{bench_statement}
+use Rattle.command_words.specs.declared.call.Call.{Call}
+use Rattle.command_words.specs.declared.call.Call.TheVariants.{Prove, Check, Bench}
 use Rattle.opprove.specs.Ending.{Ending}
-use Rattle.opprove.specs.Statement.{IsStated}
+use Rattle.opprove.specs.Statement.{IsStated, OverStatement}
 use Rattle.opprove.specs.Check.{accepted_lines}
+use Rattle.opprove.specs.Decide.{Print}
 use Rattle.opprove.specs.Answers.{Answers}
 use Rattle.opprove.specs.Ends.{EndsBy}
 use Rattle.opprove.specs.Put.{IsPut}
 use Rattle.opprove.specs.Run.{Run}
 
--- ---- `check`
+-- ---- what a combination means
 
 -- Whatever the involution, each star representation in which d cancels and the assumptions have the value zero gives the claim the value zero.
 pub record MakesZeroByStar {Object Arrow : Type 0} (s : Structure Object Arrow) (q : Quiver) (assumptions : List (List (ℤ × List ℕ))) (d : ℤ) (claim : List (ℤ × List ℕ)) : Type 0 where
   pub zero : (adjoint : Arrow → Arrow) → InvolutionLaws s adjoint
       → (f : Representation Object Arrow) → StarRepresents s adjoint q f → Cancels s d → AllByRecursion (HasValueZero s q f) assumptions → HasValueZero s q f claim
+
+-- What it means in a category that d times the claim is a combination of the generators of the problem.
+pub record MeansZero {Object Arrow : Type 0} (s : Structure Object Arrow) (problem : Problem) (d : ℤ) (claim : List (ℤ × List ℕ)) : Type 0 where
+  -- the claim is typed of its signature
+  pub typed : HasSignature (quiver_of problem.parts.quiver) claim
+  -- each representation in which d cancels and all generators of the statement have the value zero gives the claim the value zero
+  pub zero : MakesZero s (quiver_of problem.parts.quiver) (generators_in problem.parts) d claim
+  -- in a star representation it is enough that the assumptions of the statement have the value zero,
+  pub by_star : MakesZeroByStar s (quiver_of problem.parts.quiver) (polynomials problem.parts.assumptions) d claim
+  -- and in a statement that isn't starred it is enough in every representation, without an involution
+  pub plain : problem.parts.starred ≡ false → MakesZero s (quiver_of problem.parts.quiver) (polynomials problem.parts.assumptions) d claim
+
+-- ---- `check`
 
 -- the claim that the certificate names
 abbrev pub stated_claim : Problem → Certificate → List (ℤ × List ℕ)
@@ -39,24 +62,50 @@ stated_claim problem c = claim_of (polynomials problem.parts.claims) c
 pub record CheckedMeans {Object Arrow : Type 0} (s : Structure Object Arrow) (problem : Problem) (c : Certificate) : Type 0 where
   -- the sum of its rows is d times the claim, whether or not the rows are typed
   pub sum : IsCombination (polynomials problem.generators) (rows_of c.rows) c.denominator (stated_claim problem c)
-  -- the claim is typed of its signature
-  pub typed : HasSignature (quiver_of problem.parts.quiver) (stated_claim problem c)
-  -- each representation in which d cancels and all generators of the statement have the value zero gives the claim the value zero
-  pub zero : MakesZero s (quiver_of problem.parts.quiver) (generators_in problem.parts) c.denominator (stated_claim problem c)
-  -- in a star representation it is enough that the assumptions of the statement have the value zero,
-  pub by_star : MakesZeroByStar s (quiver_of problem.parts.quiver) (polynomials problem.parts.assumptions) c.denominator (stated_claim problem c)
-  -- and in a statement that isn't starred it is enough in every representation, without an involution
-  pub plain : problem.parts.starred ≡ false → MakesZero s (quiver_of problem.parts.quiver) (polynomials problem.parts.assumptions) c.denominator (stated_claim problem c)
+  -- which makes the claim zero
+  pub means : MeansZero s problem c.denominator (stated_claim problem c)
 
 -- Where the report begins with the lines that accept the first certificates of the evidence text, each of these has its meaning.
 pub record SaysChecked {Object Arrow : Type 0} (s : Structure Object Arrow) (statement evidence report : List ℕ) : Type 0 where
   pub each : (problem : Problem) (first others : List Certificate) (rest : List ℕ)
       → IsStated statement problem → certificates_of problem.parts.quiver evidence ≡ Ok (first ++ others) → report ≡ accepted_lines 1 first ++ rest → AllByRecursion (CheckedMeans s problem) first
 
+-- ---- `prove` and `bench`
+
+-- What a proved claim with its evidence means in a category.
+pub record ProvedMeans {Object Arrow : Type 0} (s : Structure Object Arrow) (problem : Problem) (number : ℕ) (e : Evidence) : Type 0 where
+  -- the rows of the evidence add up to its denominator d times the claim
+  pub sum : EvidenceAddsUp problem number e
+  -- which makes the claim zero
+  pub means : MeansZero s problem (denominator_of e) (claim_at problem number)
+
+-- What is said of the claim with this number: proved, with its denominator, means so in each category; not derivable means that no
+-- positive multiple of the claim is a combination of the generators; undecided means what its place and its least word say.
+abbrev pub VerdictMeans : {Object Arrow : Type 0} → Structure Object Arrow → Problem → ℕ → Verdict → Type 0
+VerdictMeans s problem number (Proved e) = ProvedMeans s problem number e
+VerdictMeans s problem number (NotDerivable rest) = Follows problem number → ⊥
+VerdictMeans s problem number (Undecided halt) = HaltMeans problem number halt
+
+-- What is printed over a problem are verdicts, one on each claim in order, and each means what it says.
+pub record PrintsMeant {Object Arrow : Type 0} (s : Structure Object Arrow) (print : Print) (problem : Problem) (ending : Ending) : Type 0 where
+  pub verdicts : List Verdict
+  pub rules : List Poly
+  pub printed : ending.report ≡ print problem.parts.quiver rules verdicts
+  pub status : ending.status ≡ status_of verdicts
+  pub each : AllZip (VerdictMeans s problem) (claim_numbers problem) verdicts
+
+-- The statement is refused, and the report says so; or it has a problem, over which this is printed.
+abbrev pub SaysDecided : {Object Arrow : Type 0} → Structure Object Arrow → Print → List ℕ → Ending → Type 0
+SaysDecided s print statement ending = OverStatement statement (PrintsMeant s print) ending
+
 -- ---- all commands
 
 -- what the ending of a call says, by the contents of its files
 abbrev pub Says : {Object Arrow : Type 0} → Structure Object Arrow → Call → List (List ℕ) → Ending → Type 0
+Says s (Prove p) (statement ∷ []) ending = SaysDecided s report_of statement ending
+Says s (Prove p) _ ending = ⊥
+Says s (Bench b) [] ending = SaysDecided s heads_of (bench_statement b.size) ending
+Says s (Bench b) _ ending = ⊥
 Says s (Check p) (statement ∷ evidence ∷ []) ending = SaysChecked s statement evidence ending.report
 Says s (Check p) _ ending = ⊥
 

@@ -5,7 +5,7 @@ use Rattle.definitions.specs.Category.{Structure}
 use Rattle.adjoint_rules.specs.declared.problem.Problem.{Problem}
 use Rattle.cofactor_trace.specs.declared.Certificate.{Certificate}
 use Rattle.certificate_text.specs.Evidence.{certificates_of}
-use Rattle.opprove.specs.declared.call.Call.{Call}
+use Rattle.command_words.specs.declared.call.Call.{Call}
 use Rattle.opprove.specs.Call.{files_of}
 use Rattle.opprove.specs.Ending.{Ending, refused_statement}
 use Rattle.opprove.specs.Statement.{IsStated, IsRefusedStatement}

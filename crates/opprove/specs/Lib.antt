@@ -6,6 +6,7 @@ pub mod Files
 pub mod Statement
 pub mod Blocks
 pub mod Check
+pub mod Decide
 pub mod Answers
 pub mod Ends
 pub mod Put

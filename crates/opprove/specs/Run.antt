@@ -4,7 +4,7 @@ use Rattle.std.specs.declared.alloc.Global.{Global}
 use Rattle.std.specs.Io.KnownBytes.{Appends}
 use Rattle.flow_io.specs.Causes.{Rose}
 use Rattle.flow_io.specs.Told.{Told, MayExceed}
-use Rattle.opprove.specs.declared.call.Call.{Call}
+use Rattle.command_words.specs.declared.call.Call.{Call}
 use Rattle.opprove.specs.declared.call.FileWord.{FileWord}
 use Rattle.opprove.specs.Call.{IsCalled, IsTaken, files_of}
 use Rattle.opprove.specs.Ending.{Ending, load_failed, too_long}

@@ -1,14 +1,16 @@
 // What a call answers.
 ghost use Rattle.std.specs.Prelude.{◌≡◌, ◌≤◌, length};
 ghost use Rattle.std.specs.List.{AllZip};
+ghost use Rattle.command_words.specs.Calls.{IsInRange};
 ghost use Rattle.opprove.specs.Call.{files_of};
 ghost use Rattle.opprove.specs.Answers.{Answers};
 ghost use Rattle.opprove.specs.Stop.{EndsAs};
 
-use crate::call::Call;
 use crate::check::check_evidence;
+use crate::decide::{bench, prove};
 use crate::ending::Ending;
 use crate::stop::Stop;
+use command_words::Call;
 use in_order_parallel::Gate;
 use lists::Listing;
 use std::alloc::Global;
@@ -16,19 +18,22 @@ use std::thread::Threads;
 
 /// How a run of the call ends that has loaded the contents of its files.
 pub fn answer<R: Threads + Sync, G: Gate + Sync>(
-    _rt: &R,
+    rt: &R,
     alloc: Global,
     call: &Call,
     contents: &[Listing<u8>],
-    _gate: &G,
+    gate: &G,
 ) -> Result<Ending, Stop>
-    requires { AllZip (λ file bytes. length bytes ≤ file.limit) (files_of call.now) contents.now }
+    requires in_range { IsInRange call.now }
+    requires contents_fit { AllZip (λ file bytes. length bytes ≤ file.limit) (files_of call.now) contents.now }
     ensures { EndsAs (Answers call.now contents.now) result }
 {
     match (call, contents) {
+        (Call::Prove(call), [statement]) => prove(rt, alloc, call, statement.as_slice(), gate),
         (Call::Check(_), [statement, evidence]) => {
             check_evidence(alloc, statement.as_slice(), evidence.as_slice())
         }
+        (Call::Bench(call), []) => bench(rt, alloc, call, gate),
         _ => unreachable!(),
     }
 }

@@ -1,7 +1,8 @@
-// What words call for.
+// The files of a call.
 ghost use Rattle.std.specs.Prelude.{◌≡◌, IfOk};
 ghost use Rattle.opprove.specs.Call.{file_word, files_of};
 
+use command_words::Call;
 use lists::{Duplicate, Listing, Text};
 use std::alloc::{AllocError, Global};
 
@@ -16,33 +17,20 @@ pub struct FileWord {
     pub limit: u32,
 }
 
-/// A statement and a second file.
-#[derive(Drop)]
-pub struct PairCall {
-    pub statement: Text,
-    pub evidence: Text,
-}
-
-/// A command with its words.
-#[derive(Drop)]
-pub enum Call {
-    Check(PairCall),
-}
-
-impl Call {
-    /// The files, in the order in which they are loaded.
-    pub fn files(&self, alloc: Global) -> Result<Listing<FileWord>, AllocError>
-        ensures { IfOk result (λ files. files ≡ files_of self.now) }
-    {
-        let mut files = Listing::new(alloc);
-        match self {
-            Call::Check(pair) => {
-                files.push(file_word(&pair.statement, STATEMENT_LIMIT)?)?;
-                files.push(file_word(&pair.evidence, EVIDENCE_LIMIT)?)?;
-            }
+/// The files of the call, in the order in which they are loaded.
+pub fn call_files(alloc: Global, call: &Call) -> Result<Listing<FileWord>, AllocError>
+    ensures { IfOk result (λ files. files ≡ files_of call.now) }
+{
+    let mut files = Listing::new(alloc);
+    match call {
+        Call::Prove(prove) => files.push(file_word(&prove.file, STATEMENT_LIMIT)?)?,
+        Call::Check(pair) => {
+            files.push(file_word(&pair.statement, STATEMENT_LIMIT)?)?;
+            files.push(file_word(&pair.evidence, EVIDENCE_LIMIT)?)?;
         }
-        Ok(files)
+        Call::Bench(_) => {}
     }
+    Ok(files)
 }
 
 fn file_word(name: &Text, limit: u32) -> Result<FileWord, AllocError>

@@ -105,4 +105,11 @@ impl Ending {
             report: lines,
         }
     }
+
+    /// Each claim is decided, as the text says, with the status of the verdicts.
+    pub fn decided(status: u8, report: Vec<u8>) -> Ending
+        ensures { result ≡ record { status = status; report = report.items } }
+    {
+        Ending { status, report }
+    }
 }

@@ -4,6 +4,7 @@
 mod answer;
 mod call;
 mod check;
+mod decide;
 mod ending;
 mod fault;
 mod files;
@@ -13,7 +14,6 @@ mod refusal;
 mod run;
 mod statement;
 mod stop;
-mod words;
 
 use flow_io::{RealShelf, RealSink};
 use in_order_parallel::OpenGate;
@@ -49,6 +49,10 @@ fn main(rt: HostRuntime) -> ExitCode {
 
 #[cfg(test)]
 mod call_tests;
+#[cfg(test)]
+mod decided_rows;
+#[cfg(test)]
+mod gate_tests;
 #[cfg(test)]
 mod test_rows;
 #[cfg(test)]

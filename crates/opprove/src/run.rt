@@ -10,14 +10,15 @@ ghost use Rattle.opprove.specs.Run.{seen, IsReported, IsSinkFailure, IsCutShort,
 ghost use Rattle.opprove.specs.Headline.{MeansAsSaid};
 
 use crate::answer::answer;
+use crate::call::call_files;
 use crate::ending::Ending;
 use crate::files::load_files;
 use crate::stop::Stop;
-use crate::words::{Refusal, read_words};
 use category_laws::Preadditive;
+use command_words::{Refusal, read_words};
 use flow_io::{Shelf, Sink, put_all};
 use in_order_parallel::Gate;
-use representations::sound;
+use representations::{lemmas_sound, sound};
 use std::alloc::{AllocError, Global};
 use std::thread::Threads;
 
@@ -40,7 +41,7 @@ fn answer_words<R: Threads + Sync, L: Shelf, G: Gate + Sync>(
         Err(Refusal::Words) => return Ok(Ending::usage(alloc)?),
         Err(Refusal::Memory) => return Err(Stop::Memory(AllocError)),
     };
-    let files = call.files(alloc)?;
+    let files = call_files(alloc, &call)?;
     let contents = load_files(alloc, shelf, files.as_slice())?;
     answer(rt, alloc, &call, contents.as_slice(), gate)
 }
@@ -105,6 +106,7 @@ pub fn run<R: Threads + Sync, C: Preadditive, L: Shelf, K: Sink, G: Gate + Sync>
     ensures meaning { MeansAsSaid (C.structure category.now) words.now (seen L.file L.faults K.written K.is_finished K.faults shelf.old shelf.new sink.old sink.new) result }
 {
     sound(category);
+    lemmas_sound(category);
     match ending_of(rt, alloc, words, shelf, gate) {
         Ok(ending) => put_ending(sink, &ending),
         Err(AllocError) => OUT_OF_MEMORY,

@@ -239,6 +239,7 @@ pub const CALLS: &[(&[&str], &str)] = &[
     (&["check", "s", "g"], "4 # load failed g\n"),
     (&[], USAGE),
     (&["check", "s", "-c"], USAGE),
+    (&["check", "s"], USAGE),
     (&["prove", "s", "c"], USAGE),
     (&["check", "s", "c", "c"], USAGE),
 ];

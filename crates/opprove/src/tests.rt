@@ -1,4 +1,5 @@
 //! Runs of the program over files and a sink in memory.
+use crate::decided_rows::{OTHERS, PROVED, PROVED_PLAINLY, WITHOUT_FILES};
 use crate::run::run;
 use crate::test_rows::{CALLS, EXAMPLES, JUDGED, REFUSED, SOUND};
 use category_laws::Parity;
@@ -64,6 +65,35 @@ fn each_run_has_its_status_and_report(rt: HostRuntime) -> Result<(), Fail> {
 }
 
 #[test]
+fn each_claim_has_its_verdict(rt: HostRuntime) -> Result<(), Fail> {
+    for rows in [PROVED, PROVED_PLAINLY, OTHERS, WITHOUT_FILES] {
+        for (words, statement, want) in rows {
+            let got = answer(&rt, rt.alloc(), words, statement, b"", &[])?;
+            assert_eq!(rt; got.as_str(), *want, "{words:?} {statement:?}");
+        }
+    }
+    Ok(())
+}
+
+// The report of a proved claim is evidence that is accepted, and that of a claim that isn't derivable has none.
+#[test]
+fn reports_are_evidence(rt: HostRuntime) -> Result<(), Fail> {
+    for (_, statement, told) in PROVED_PLAINLY {
+        let report = told.strip_prefix("0 ").unwrap_or("");
+        let got = answer(&rt, rt.alloc(), CHECK, statement, report.as_bytes(), &[])?;
+        let is_accepted = got
+            .as_str()
+            .starts_with("0 # block 1 accepted claim 1 denominator ");
+        assert!(rt; is_accepted, "{got:?}");
+    }
+    let (_, statement, told) = OTHERS[0];
+    let report = told.strip_prefix("10 ").unwrap_or("");
+    let got = answer(&rt, rt.alloc(), CHECK, statement, report.as_bytes(), &[])?;
+    assert_eq!(rt; got.as_str(), "7 # refused K7\n");
+    Ok(())
+}
+
+#[test]
 fn a_file_past_its_limit_is_named(rt: HostRuntime) -> Result<(), Fail> {
     let long = vec![in rt.alloc(); b'x'; 1_048_577]?;
     let got = answer(&rt, rt.alloc(), CHECK, &long, b"", &[])?;
@@ -75,5 +105,8 @@ fn a_file_past_its_limit_is_named(rt: HostRuntime) -> Result<(), Fail> {
 fn a_sink_that_fails_leaves_the_first_bytes(rt: HostRuntime) -> Result<(), Fail> {
     let got = answer(&rt, rt.alloc(), CHECK, SOUND.0, SOUND.1, &[2])?;
     assert_eq!(rt; got.as_str(), "5 # block  not finished");
+    let (words, statement, _) = PROVED[0];
+    let got = answer(&rt, rt.alloc(), words, statement, b"", &[2])?;
+    assert_eq!(rt; got.as_str(), "5 # claim  not finished");
     Ok(())
 }

@@ -1,7 +1,7 @@
 use Rattle.std.proofs.Common.{◌≡◌, ℕ, List, Err, subst, sym, rules}
 use Rattle.flow_io.specs.Told.{Told}
 use Rattle.opprove.specs.declared.call.FileWord.{FileWord}
-use Rattle.opprove.specs.declared.call.Call.{Call}
+use Rattle.command_words.specs.declared.call.Call.{Call}
 use Rattle.opprove.specs.Call.{IsCalled, files_of}
 use Rattle.opprove.specs.Ending.{Ending}
 use Rattle.opprove.specs.Files.{AfterFiles, WereLoaded, RoseAt}
@@ -18,7 +18,7 @@ returns-in_err-contents g c =
     let rose : List ℕ → Type 0 = RoseAt (g.L.Shelf.faults c.args.shelf.now) (g.L.Shelf.faults c.load_files.new.shelf) in
     let call : Call = c.in-Ok.call in
     let may : Ending → Type 0 = MayEnd c.args.words.now told rose in
-    let is_called : IsCalled c.args.words.now call = c.in-Ok.ensures.called in
+    let is_called : IsCalled c.args.words.now call = record { taken = c.in-Ok.ensures.taken; names = c.in-Ok.ensures.matches } in
     let names : c.as_slice.result.now ≡ files_of call = search rules in
     let stop = c.in_err-contents.field-0.0 in
     let back : c.from_residual-in_err-contents.result ≡ Err stop = search rules in
@@ -34,7 +34,7 @@ returns g c =
     let rose : List ℕ → Type 0 = RoseAt (g.L.Shelf.faults c.args.shelf.now) (g.L.Shelf.faults c.load_files.new.shelf) in
     let call : Call = c.in-Ok.call in
     let may : Ending → Type 0 = MayEnd c.args.words.now told rose in
-    let is_called : IsCalled c.args.words.now call = c.in-Ok.ensures.called in
+    let is_called : IsCalled c.args.words.now call = record { taken = c.in-Ok.ensures.taken; names = c.in-Ok.ensures.matches } in
     let names : c.as_slice.result.now ≡ files_of call = search rules in
     let contents : List (List ℕ) = c.as_slice-2.result.now in
     let same : c.in_ok-contents.contents ≡ contents = sym (search rules) in

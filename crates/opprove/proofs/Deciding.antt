@@ -1,0 +1,208 @@
+-- What `prove` and `bench` answer: one ending, its status, and what its verdicts mean.
+use Rattle.std.proofs.Common.{◌≡◌, ◌≤◌, ◌⊎◌, inl, inr, ℕ, zero, suc, ◌+◌, Bool, true, false, List, [], ◌∷◌, length, map, if◌then◌else◌, refl, sym, ap, subst, ◌∙◌, arith}
+use Rattle.std.specs.List.{All, AllZip, range_with_len, list_any, list_all}
+use Rattle.std.proofs.lemmas.List.{length-map}
+use Rattle.definitions.specs.Category.{Structure, PreadditiveLaws}
+use Rattle.definitions.specs.Poly.{Term}
+use Rattle.definitions.specs.Soundness.{HasSignature, IsSound, MakesZero}
+use Rattle.definitions.specs.Quiver.{Quiver}
+use Rattle.nc_polynomial.specs.declared.poly.Poly.{Poly}
+use Rattle.quiver.specs.Declarations.{Declaration, quiver_of}
+use Rattle.cofactor_trace.specs.Rows.{rows_of}
+use Rattle.cofactor_trace.specs.declared.evidence.Evidence.{Evidence}
+use Rattle.cofactor_trace.specs.declared.evidence.Evidence.TheVariants as evidence
+use Rattle.cofactor_trace.specs.declared.evidence.Format.{Format}
+use Rattle.cofactor_checker.specs.Rows.{IsNumberUpTo}
+use Rattle.adjoint_rules.specs.declared.problem.Problem.{Problem}
+use Rattle.adjoint_rules.specs.Problem.{polynomials}
+use Rattle.adjoint_rules.specs.Parts.{units_in}
+use Rattle.adjoint_rules.proofs.Generators.{posed_quiver, claims_have_signatures, generators_have_signatures}
+use Rattle.signature_typing.specs.Unique.{AreSame}
+use Rattle.traced_completion.specs.declared.budget.Budget.{Budget}
+use Rattle.traced_completion.specs.PlainRun.{Setting, IsRunState, setting_of}
+use Rattle.claim_decider.specs.declared.outcome.Outcome.{Outcome}
+use Rattle.claim_decider.specs.declared.outcome.Outcome.TheVariants as outcome
+use Rattle.claim_decider.specs.Outcomes.{GetsOutcome, IsOutcomeOf}
+use Rattle.claim_decider.specs.Decided.{claim_at, claim_numbers, AreOutcomesOf, GetsOutcomeAt, GetsOutcomeBy, OneGetsOutcomeAt, IsLastRound, AreLastRules}
+use Rattle.claim_decider.proofs.UniqueOutcomes.{outcomes_unique}
+use Rattle.claim_decider.proofs.UniqueRules.{last_rules_unique}
+use Rattle.representations.specs.Evidence.{IsEvidenceSound}
+use Rattle.outcome_meanings.specs.Meanings.{OutcomeMeans, EvidenceAddsUp}
+use Rattle.outcome_meanings.proofs.AskedOrders.{asked_rank, asked_cmp-admissible}
+use Rattle.outcome_meanings.proofs.Meanings.{outcomes_mean_what_they_say}
+use Rattle.report_text.specs.declared.verdict.Verdict.{Verdict}
+use Rattle.report_text.specs.Heads.{denominator_of}
+use Rattle.report_text.specs.Report.{status_of, is_undecided, is_proved}
+use Rattle.opprove.specs.Ending.{Ending}
+use Rattle.opprove.specs.Statement.{OverStatement}
+use Rattle.opprove.specs.Statement as statements
+use Rattle.opprove.specs.declared.decide.Asked.{Asked}
+use Rattle.opprove.specs.Decide.{Print, verdict_of, Decides, AnswersClaims}
+use Rattle.opprove.specs.Headline.{ProvedMeans, VerdictMeans, PrintsMeant, SaysDecided}
+use Rattle.opprove.proofs.Statements.{statement_once}
+use Rattle.opprove.proofs.Stops.{over_statement}
+use Rattle.opprove.proofs.Meaning.{numbered, means_zero, combination_makes}
+
+-- ---- two problems that say the same
+
+module _ (p q : Problem) (same : AreSame p q) where
+  counted : (ps qs : List Poly) → polynomials ps ≡ polynomials qs → length ps ≡ length qs
+  counted ps qs is = sym (length-map ps (λ (x : Poly). x.terms)) ∙ ap length is ∙ length-map qs (λ (x : Poly). x.terms)
+
+  same_units : units_in p.parts ≡ units_in q.parts
+  same_units = rw (same.quiver, same.starred, same.marked) refl
+
+  same_setting : (budget : Budget) → setting_of p budget ≡ setting_of q budget
+  same_setting budget = rw (same.order, same.generators, ap length same_units, counted p.generators q.generators same.generators) refl
+
+  same_claim : (number : ℕ) → claim_at p number ≡ claim_at q number
+  same_claim number = rw same.claims refl
+
+  same_numbers : claim_numbers p ≡ claim_numbers q
+  same_numbers = ap (range_with_len 1) (counted p.parts.claims q.parts.claims same.claims)
+
+  module _ (budget : Budget) (form : Format) where
+    -- the outcomes of the claims of the one are those of the other
+    outcome_same : (n : ℕ) (o : Outcome) → IsOutcomeOf (setting_of q budget) form n (claim_at q n) o → IsOutcomeOf (setting_of p budget) form n (claim_at p n) o
+    outcome_same n o is =
+        subst (λ (claim : List Term). IsOutcomeOf (setting_of p budget) form n claim o) (sym (same_claim n))
+        (subst (λ (s : Setting). IsOutcomeOf s form n (claim_at q n) o) (sym (same_setting budget)) is)
+
+    zip_same : (ns : List ℕ) (os : List Outcome) → AreOutcomesOf (setting_of q budget) form q ns os → AreOutcomesOf (setting_of p budget) form p ns os
+    zip_same [] [] are = tt
+    zip_same [] (o ∷ os) are = absurd are
+    zip_same (n ∷ ns) [] are = absurd are
+    zip_same (n ∷ ns) (o ∷ os) are = (outcome_same n o are.0, zip_same ns os are.1)
+
+    outcomes_same : (os : List Outcome) → AreOutcomesOf (setting_of q budget) form q (claim_numbers q) os → AreOutcomesOf (setting_of p budget) form p (claim_numbers p) os
+    outcomes_same os are = zip_same (claim_numbers p) os (subst (λ (ns : List ℕ). AreOutcomesOf (setting_of q budget) form q ns os) (sym same_numbers) are)
+
+    -- and so are the last rules
+    gets_same : (rounds n : ℕ) → GetsOutcomeAt (setting_of q budget) form q rounds n → GetsOutcomeAt (setting_of p budget) form p rounds n
+    gets_same rounds n at = record {
+      state = at.state;
+      outcome = at.outcome;
+      gets = subst (λ (claim : List Term). GetsOutcome (setting_of p budget) form n claim rounds at.state at.outcome) (sym (same_claim n))
+          (subst (λ (s : Setting). GetsOutcome s form n (claim_at q n) rounds at.state at.outcome) (sym (same_setting budget)) at.gets);
+    }
+
+    by_same : (rounds n : ℕ) → GetsOutcomeBy (setting_of q budget) form q rounds n → GetsOutcomeBy (setting_of p budget) form p rounds n
+    by_same rounds n by = record { rounds = by.rounds; gets = gets_same by.rounds n by.gets; early = by.early }
+
+    one_same : (rounds : ℕ) (ns : List ℕ) → (rounds ≡ 0) ⊎ OneGetsOutcomeAt (setting_of q budget) form q ns rounds → (rounds ≡ 0) ⊎ OneGetsOutcomeAt (setting_of p budget) form p ns rounds
+    one_same rounds ns (inl none) = inl none
+    one_same rounds ns (inr one) = inr (record { number = one.number; among = one.among; gets = gets_same rounds one.number one.gets })
+
+    rules_over : (ns : List ℕ) (rules : List Poly) → AreLastRules (setting_of q budget) form q ns rules → AreLastRules (setting_of p budget) form p ns rules
+    rules_over ns rules are = record {
+      rounds = are.rounds;
+      state = are.state;
+      last = record { enough = λ k d below. by_same are.rounds _ (are.last.enough k d below); needed = one_same are.rounds ns are.last.needed };
+      run = subst (λ (s : Setting). IsRunState s are.rounds are.state) (sym (same_setting budget)) are.run;
+      are = are.are;
+    }
+
+    rules_same : (rules : List Poly) → AreLastRules (setting_of q budget) form q (claim_numbers q) rules → AreLastRules (setting_of p budget) form p (claim_numbers p) rules
+    rules_same rules are = rules_over (claim_numbers p) rules (subst (λ (ns : List ℕ). AreLastRules (setting_of q budget) form q ns rules) (sym same_numbers) are)
+
+-- ---- one ending
+
+module _ (problem : Problem) (asked : Asked) where
+  zip_once : (ns : List ℕ) (one other : List Outcome) → AreOutcomesOf (setting_of problem asked.budget) asked.form problem ns one → AreOutcomesOf (setting_of problem asked.budget) asked.form problem ns other → one ≡ other
+  zip_once [] [] [] first second = refl
+  zip_once [] [] (o ∷ os) first second = absurd second
+  zip_once [] (o ∷ os) other first second = absurd first
+  zip_once (n ∷ ns) [] other first second = absurd first
+  zip_once (n ∷ ns) (o ∷ os) [] first second = absurd second
+  zip_once (n ∷ ns) (o ∷ os) (o' ∷ os') first second =
+      let order = problem.parts.order in
+      let here : o ≡ o' = outcomes_unique 0 (asked_rank 0 order) (setting_of problem asked.budget) asked.form n (claim_at problem n) o o' (asked_cmp-admissible 0 order) first.0 second.0 in
+      let rest : os ≡ os' = zip_once ns os os' first.1 second.1 in
+      λ i. here i ∷ rest i
+
+  rules_once : (one other : List Poly) → AreLastRules (setting_of problem asked.budget) asked.form problem (claim_numbers problem) one
+      → AreLastRules (setting_of problem asked.budget) asked.form problem (claim_numbers problem) other → one ≡ other
+  rules_once one other first second =
+      let order = problem.parts.order in
+      last_rules_unique 0 (asked_rank 0 order) (setting_of problem asked.budget) asked.form problem (claim_numbers problem) one other (asked_cmp-admissible 0 order) first second
+
+-- two problems that say the same have the same ending
+claims_once : (print : Print) (asked : Asked) (ending ending' : Ending) (p q : Problem) → AreSame p q → AnswersClaims print asked p ending → AnswersClaims print asked q ending' → ending ≡ ending'
+claims_once print asked ending ending' p q same one other =
+    let outcomes : one.decides.outcomes ≡ other.decides.outcomes =
+    zip_once p asked (claim_numbers p) one.decides.outcomes other.decides.outcomes one.decides.are_outcomes (outcomes_same p q same asked.budget asked.form other.decides.outcomes other.decides.are_outcomes) in
+    let verdicts : one.verdicts ≡ other.verdicts = one.decides.are_verdicts ∙ ap (map verdict_of) outcomes ∙ sym other.decides.are_verdicts in
+    let rules : one.rules ≡ other.rules = rules_once p asked one.rules other.rules one.decides.are_rules (rules_same p q same asked.budget asked.form other.rules other.decides.are_rules) in
+    one.says ∙ (λ i. record { status = status_of (verdicts i); report = print (same.quiver i) (rules i) (verdicts i) }) ∙ sym other.says
+
+pub decided_once : (print : Print) (asked : Asked) (statement : List ℕ) (ending ending' : Ending) → OverStatement statement (AnswersClaims print asked) ending
+    → OverStatement statement (AnswersClaims print asked) ending' → ending ≡ ending'
+decided_once print asked statement ending ending' one other = statement_once statement (AnswersClaims print asked) ending ending' (claims_once print asked ending ending') one other
+
+-- ---- the status
+
+-- 3 for a statement with a fault, and else 0, 10 or 12
+pub data DecidedStatus (status : ℕ) : Type 0 where
+  refused : status ≡ 3 → DecidedStatus status
+  proved : status ≡ 0 → DecidedStatus status
+  not_derivable : status ≡ 10 → DecidedStatus status
+  undecided : status ≡ 12 → DecidedStatus status
+
+verdicts_status : (status : ℕ) (some_undecided all_proved : Bool) → status ≡ (if some_undecided then 12 else (if all_proved then 0 else 10)) → DecidedStatus status
+verdicts_status status true all_proved is = undecided is
+verdicts_status status false true is = proved is
+verdicts_status status false false is = not_derivable is
+
+pub decided_status : (print : Print) (asked : Asked) (statement : List ℕ) (ending : Ending) → OverStatement statement (AnswersClaims print asked) ending → DecidedStatus ending.status
+decided_status print asked statement ending (statements.faulty text wrong ends) = refused (ap (λ (e : Ending). e.status) ends)
+decided_status print asked statement ending (statements.stated problem is answer) =
+    verdicts_status ending.status (list_any is_undecided answer.verdicts) (list_all is_proved answer.verdicts) (ap (λ (e : Ending). e.status) answer.says)
+
+-- ---- what verdicts mean
+
+module _ {Object Arrow : Type 0} {s : Structure Object Arrow} (laws : PreadditiveLaws s) (sound : IsSound s) (with_lemmas : IsEvidenceSound s) (problem : Problem) where
+  -- evidence that adds up makes the claim zero
+  evidence_makes : (number : ℕ) (e : Evidence) → EvidenceAddsUp problem number e → MakesZero s (quiver_of problem.parts.quiver) (polynomials problem.generators) (denominator_of e) (claim_at problem number)
+  evidence_makes number (evidence.Plain c) adds = combination_makes laws sound problem (rows_of c.rows) c.denominator (claim_at problem number) adds.combination
+  evidence_makes number (evidence.Lemmas c) adds = with_lemmas.evidence (quiver_of problem.parts.quiver) (polynomials problem.generators) adds.lemmas c (claim_at problem number)
+      (posed_quiver problem.parts problem.posed) (generators_have_signatures problem.parts problem.posed problem.generators problem.closed) adds.evidence
+
+  -- the claim with a number of the problem is typed
+  claim_typed : (number : ℕ) → IsNumberUpTo (length problem.parts.claims) number → HasSignature (quiver_of problem.parts.quiver) (claim_at problem number)
+  claim_typed number is =
+      let count : length problem.parts.claims ≡ length (polynomials problem.parts.claims) = sym (length-map problem.parts.claims (λ (x : Poly). x.terms)) in
+      numbered (quiver_of problem.parts.quiver) (polynomials problem.parts.claims) number (subst (λ (n : ℕ). IsNumberUpTo n number) count is) (claims_have_signatures problem.parts problem.posed)
+
+  outcome_means : (number : ℕ) (o : Outcome) → IsNumberUpTo (length problem.parts.claims) number → OutcomeMeans problem number o → VerdictMeans s problem number (verdict_of o)
+  outcome_means number (outcome.Derived e) is adds = record {
+    sum = adds;
+    means = means_zero laws problem (denominator_of e) (claim_at problem number) (evidence_makes number e adds) (claim_typed number is);
+  }
+  outcome_means number (outcome.Closed rest) is outside = outside
+  outcome_means number (outcome.Halted halt) is bounded = bounded
+
+  module _ (budget : Budget) (form : Format) where
+    -- the claims from a number on
+    verdicts_mean : (first count : ℕ) (os : List Outcome) → 1 ≤ first → first + count ≤ length problem.parts.claims + 1
+        → AreOutcomesOf (setting_of problem budget) form problem (range_with_len first count) os → AllZip (VerdictMeans s problem) (range_with_len first count) (map verdict_of os)
+    verdicts_mean first zero [] least most are = tt
+    verdicts_mean first zero (o ∷ os) least most are = absurd are
+    verdicts_mean first (suc count) [] least most are = absurd are
+    verdicts_mean first (suc count) (o ∷ os) least most are =
+        (outcome_means first o (record { least = least; most = omega arith }) (outcomes_mean_what_they_say problem budget form first o are.0), verdicts_mean (first + 1) count os (omega arith) (omega arith) are.1)
+
+prints_meant : {Object Arrow : Type 0} {s : Structure Object Arrow} → PreadditiveLaws s → IsSound s → IsEvidenceSound s → (print : Print) (asked : Asked) (ending : Ending) (problem : Problem)
+    → AnswersClaims print asked problem ending → PrintsMeant s print problem ending
+prints_meant {s} laws sound with_lemmas print asked ending problem answer = record {
+  verdicts = answer.verdicts;
+  rules = answer.rules;
+  printed = ap (λ (e : Ending). e.report) answer.says;
+  status = ap (λ (e : Ending). e.status) answer.says;
+  each = subst (AllZip (VerdictMeans s problem) (claim_numbers problem)) (sym answer.decides.are_verdicts)
+      (verdicts_mean laws sound with_lemmas problem asked.budget asked.form 1 (length problem.parts.claims) answer.decides.outcomes (omega arith) (omega arith) answer.decides.are_outcomes);
+}
+
+pub says_decided : {Object Arrow : Type 0} {s : Structure Object Arrow} → PreadditiveLaws s → IsSound s → IsEvidenceSound s → (print : Print) (asked : Asked) (statement : List ℕ) (ending : Ending)
+    → OverStatement statement (AnswersClaims print asked) ending → SaysDecided s print statement ending
+says_decided {s} laws sound with_lemmas print asked statement ending answers =
+    over_statement statement (AnswersClaims print asked) (PrintsMeant s print) ending (prints_meant laws sound with_lemmas print asked ending) answers

@@ -1,0 +1,13 @@
+use Rattle.std.proofs.Common.{◌≡◌, Err, rules}
+use Rattle.opprove.specs.declared.stop.Stop.TheVariants.{Ended}
+use Rattle.opprove.specs.Ending.{Ending}
+use Rattle.opprove.specs.Files.{RoseAt}
+use Rattle.opprove.specs.Ends.{MayEnd}
+use Rattle.opprove.proofs.Stops.{ended_as}
+use Rattle.opprove.proofs.run.ending_of.Goals as goal
+
+pub returns-in-Err-Ended : goal.returns-in-Err-Ended
+returns-in-Err-Ended g c =
+    let may : Ending → Type 0 = MayEnd c.args.words.now (g.L.Shelf.file c.args.shelf.now) (RoseAt (g.L.Shelf.faults c.args.shelf.now) (g.L.Shelf.faults c.answer_words.new.shelf)) in
+    let is : c.answer_words.result ≡ Err (Ended c.in-Err-Ended.ending) = search rules in
+    ended_as may c.answer_words.result c.in-Err-Ended.ending is c.answer_words.ensures

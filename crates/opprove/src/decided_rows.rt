@@ -1,0 +1,168 @@
+//! Runs of `prove` and `bench`: words, a statement, and the status with the report, worked out by hand.
+
+/// The words, the statement that they name by `s`, and the status with the report.
+pub type Row = (&'static [&'static str], &'static [u8], &'static str);
+
+const REFLEXIVE: &[u8] = b"object U\nmap a : U -> U\nclaim a = a\n";
+
+const DOUBLED: &[u8] = b"object U\nmap x : U -> U\nassume 2 x = 0\nclaim x = 0\n";
+
+const PSEUDOINVERSE: &[u8] =
+    b"object U V\nmap a : U -> V\nmap x : V -> U\npinv a x\nclaim a' x' a' = a'\n";
+
+const PROJECTION: &[u8] =
+    b"object U V\nmap a : U -> V\nmap x : V -> U\npinv a x\nclaim (a x)(a x) = a x\n";
+
+// The second assumption makes V a zero object.
+const ZERO_OBJECT: &[u8] =
+    b"object U V\nmap z : V -> V\nmap x : U -> U\nassume z = [V]\nassume z = 0\nclaim x = 0\n";
+
+const ONE_SIDED: &[u8] =
+    b"object U V\nmap a : U -> V\nmap b : V -> U\nassume a b = [V]\nclaim b a = [U]\nmodel 2 U 2 V 1\n";
+
+const BRAID: &[u8] = b"object V\nmap a b : V -> V\nassume b a b = a b a\nclaim a = b\n";
+
+const LARGE: &[u8] =
+    b"object V\nmap a b : V -> V\nassume 170141183460469231731687303715884105727 a = b\nclaim b b = 0\n";
+
+const WEIGHTED: &[u8] =
+    b"object V\nmap a b : V -> V\norder weight b 3\nassume a a = b\nclaim b b = a a a a\n";
+
+/// A letter 34 times, which overlaps itself at 33 places.
+pub const POWER: &[u8] =
+    b"object U\nmap a : U -> U\nassume a a a a a a a a a a a a a a a a a a a a a a a a a a a a a a a a a a = 0\nclaim a = 0\n";
+
+/// The same with its claim twice.
+pub const POWER_TWICE: &[u8] =
+    b"object U\nmap a : U -> U\nassume a a a a a a a a a a a a a a a a a a a a a a a a a a a a a a a a a a = 0\nclaim a = 0\nclaim a = 0\n";
+
+const BRACKETS_64: &[u8] =
+    b"object U\nmap a : U -> U\nclaim ((((((((((((((((((((((((((((((((((((((((((((((((((((((((((((((((a)))))))))))))))))))))))))))))))))))))))))))))))))))))))))))))))) = a\n";
+
+const BRACKETS_65: &[u8] =
+    b"object U\nmap a : U -> U\nclaim (((((((((((((((((((((((((((((((((((((((((((((((((((((((((((((((((a))))))))))))))))))))))))))))))))))))))))))))))))))))))))))))))))) = a\n";
+
+const PROVE: &[&str] = &["prove", "s"];
+
+const PLAIN: &[&str] = &["prove", "s", "--format", "1"];
+
+const USAGE: &str = "2 # usage: opprove prove|check|refute|model|bench\n";
+
+const BENCH: &str =
+    "10 # claim 1 proved denominator 1 rows 79\n# claim 2 not derivable rules 241\n";
+
+/// Claims that are proved, by evidence with lemmas.
+pub const PROVED: &[Row] = &[
+    (
+        PROVE,
+        REFLEXIVE,
+        "0 # claim 1 proved denominator 1 rows 0\ncertificate 2\nclaim 1\ndenominator 1\ngoal scale 1\nend\n",
+    ),
+    (
+        PROVE,
+        BRACKETS_64,
+        "0 # claim 1 proved denominator 1 rows 0\ncertificate 2\nclaim 1\ndenominator 1\ngoal scale 1\nend\n",
+    ),
+    (
+        PROVE,
+        DOUBLED,
+        "0 # claim 1 proved denominator 2 rows 2\ncertificate 2\nclaim 1\ndenominator 2\nlemma 1 scale 2\nrow 1 () 1 ()\ngoal scale 1\nrow 1 () lemma 1 ()\nend\n",
+    ),
+    (
+        PROVE,
+        PSEUDOINVERSE,
+        "0 # claim 1 proved denominator 1 rows 4\ncertificate 2\nclaim 1\ndenominator 1\nlemma 1 scale 1\nrow 1 () 5 ()\nrow -1 (a') 3 ()\ngoal scale 1\nrow 1 (a') 3 ()\nrow 1 () lemma 1 ()\nend\n",
+    ),
+];
+
+/// Claims that are proved, by rows over generators alone.
+pub const PROVED_PLAINLY: &[Row] = &[
+    (
+        PLAIN,
+        REFLEXIVE,
+        "0 # claim 1 proved denominator 1 rows 0\ncertificate 1\nclaim 1\ndenominator 1\nend\n",
+    ),
+    (
+        PLAIN,
+        DOUBLED,
+        "0 # claim 1 proved denominator 2 rows 1\ncertificate 1\nclaim 1\ndenominator 2\nrow 1 () 1 ()\nend\n",
+    ),
+    (
+        PLAIN,
+        PSEUDOINVERSE,
+        "0 # claim 1 proved denominator 1 rows 1\ncertificate 1\nclaim 1\ndenominator 1\nrow 1 () 5 ()\nend\n",
+    ),
+    (
+        PLAIN,
+        PROJECTION,
+        "0 # claim 1 proved denominator 1 rows 1\ncertificate 1\nclaim 1\ndenominator 1\nrow 1 () 1 (x)\nend\n",
+    ),
+    (
+        PLAIN,
+        WEIGHTED,
+        "0 # claim 1 proved denominator 1 rows 2\ncertificate 1\nclaim 1\ndenominator 1\nrow -1 () 1 (b)\nrow -1 (a a) 1 ()\nend\n",
+    ),
+];
+
+/// Claims that no positive multiple of is a combination of the generators, and claims that are left undecided.
+pub const OTHERS: &[Row] = &[
+    (
+        PROVE,
+        ZERO_OBJECT,
+        "10 # claim 1 not derivable rules 5\nbasis 1\nclaim 1\nrule [V] [V] - [V]\nrule [V] z - z\nrule z [V] - z\nrule z - [V]\nrule [V]\nrest x\nend\n",
+    ),
+    (
+        PROVE,
+        ONE_SIDED,
+        "10 # claim 1 not derivable rules 7\nbasis 1\nclaim 1\nrule [U] [U] - [U]\nrule a [U] - a\nrule [U] b - b\nrule [V] [V] - [V]\nrule [V] a - a\nrule b [V] - b\nrule a b - [V]\nrest b a - [U]\nend\n",
+    ),
+    (
+        &["prove", "s", "--pairs", "33", "--no-models"],
+        POWER,
+        "10 # claim 1 not derivable rules 1\nbasis 1\nclaim 1\nrule a a a a a a a a a a a a a a a a a a a a a a a a a a a a a a a a a a\nrest a\nend\n",
+    ),
+    (
+        &["prove", "s", "--pairs", "32", "--no-models"],
+        POWER,
+        "12 # claim 1 undecided pairs 32 least a a a a a a a a a a a a a a a a a a a a a a a a a a a a a a a a a a a a a a a a a a a a a a a a a a a a a a a a a a a a a a a a a a a\n",
+    ),
+    (
+        &["prove", "s", "--pairs", "1", "--no-models"],
+        BRAID,
+        "12 # claim 1 undecided pairs 1 least b a a b a b\n",
+    ),
+    (
+        &["prove", "--no-models", "--pairs", "1", "s"],
+        BRAID,
+        "12 # claim 1 undecided pairs 1 least b a a b a b\n",
+    ),
+    (
+        &["prove", "s", "--no-models"],
+        LARGE,
+        "12 # claim 1 undecided overflow 170141183460469231731687303715884105727 times -170141183460469231731687303715884105727 at claim after round 0\n",
+    ),
+    (PROVE, BRACKETS_65, "3 # refused S5 line 3 column 71\n"),
+];
+
+/// Runs of `bench`, and words that are not taken.
+pub const WITHOUT_FILES: &[Row] = &[
+    (
+        &["bench", "1"],
+        b"",
+        "10 # claim 1 proved denominator 1 rows 1\n# claim 2 not derivable rules 7\n",
+    ),
+    (&["bench", "40", "--workers", "1"], b"", BENCH),
+    (&["bench", "40", "--workers", "7"], b"", BENCH),
+    (&["bench", "0"], b"", USAGE),
+    (&["bench", "61"], b"", USAGE),
+    (&["prove", "s", "--pairs", "0"], b"", USAGE),
+    (&["prove", "s", "--workers", "65"], b"", USAGE),
+    (&["prove", "s", "--format", "3"], b"", USAGE),
+    (&["--help"], b"", USAGE),
+    (&["prove", "--help"], b"", USAGE),
+    (&["-h"], b"", USAGE),
+    (&["--version"], b"", USAGE),
+    (&["-V"], b"", USAGE),
+    (&["prove"], b"", USAGE),
+    (&["prove", "f"], b"", "4 # load failed f\n"),
+];

@@ -1,0 +1,11 @@
+pub mod Sorted
+pub mod Meetings
+pub mod Contents
+pub mod Reductions
+pub mod Evidence
+pub mod Makings
+pub mod Works
+pub mod Pending
+pub mod Rounds
+pub mod Claims
+pub mod Problems

@@ -1,0 +1,11 @@
+pub mod Results
+pub mod RowsOfRuns
+pub mod OutcomeWays
+pub mod EvidenceWords
+pub mod OverRuns
+pub mod OutcomeLetters
+pub mod EvidenceRanges
+pub mod ReducedWithin
+pub mod AmbiguitiesWithin
+pub mod LimitedRuns
+pub mod EvidenceFits

@@ -1,0 +1,36 @@
+-- Results that are values, and operations of which none overflows.
+use Rattle.std.proofs.Common.{◌≡◌, List, [], ◌∷◌, ◌++◌, Bool, true, false, cond, Some, None, Result, Ok, Err, refl, ◌∙◌, arith}
+use Rattle.std.specs.List.{AllByRecursion}
+use Rattle.std.proofs.lemmas.Bool.Decides.{nat_tests}
+use Rattle.coef_int.specs.declared.Overflow.{Overflow}
+use Rattle.coef_int.specs.Range.{IsCoefficient, is_coefficient}
+use Rattle.coef_int.specs.Operations.{exact_value, first_overflow}
+use Rattle.nc_polynomial.proofs.Chains.{first-fits}
+
+module _ {A E : Type 0} where
+  pub same_ok : (x y : A) → ◌≡◌ {A = Result A E} (Ok x) (Ok y) → x ≡ y
+  same_ok x y same = cc
+
+  pub no_error : (x : A) (e : E) → ◌≡◌ {A = Result A E} (Err e) (Ok x) → ⊥
+  no_error x e same = cc
+
+-- the last of a list, and the others
+pub split_last : {X : Type 0} (P : X → Type 0) (xs : List X) (x : X) → AllByRecursion P (xs ++ x ∷ []) → AllByRecursion P xs × P x
+split_last P [] x each = (tt, each.0)
+split_last P (y ∷ xs) x each = let rest = split_last P xs x each.1 in ((each.0, rest.0), rest.1)
+
+-- the first of them fits, and then the others
+pub fits_first : (o : Overflow) (os : List Overflow) → first_overflow (o ∷ os) ≡ None → IsCoefficient (exact_value o) × (first_overflow os ≡ None)
+fits_first o os none = go (is_coefficient (exact_value o)) refl none
+  where
+    go : (b : Bool) → is_coefficient (exact_value o) ≡ b → cond b (first_overflow os) (Some o) ≡ None → IsCoefficient (exact_value o) × (first_overflow os ≡ None)
+    go true fits e = (grind (arith, nat_tests), e)
+    go false fails e = absurd (cc)
+
+-- of two lists
+pub none_append : (os more : List Overflow) → first_overflow (os ++ more) ≡ None → (first_overflow os ≡ None) × (first_overflow more ≡ None)
+none_append [] more none = (refl, none)
+none_append (o ∷ os) more none =
+    let first = fits_first o (os ++ more) none in
+    let rest = none_append os more first.1 in
+    (first-fits o os first.0 ∙ rest.0, rest.1)

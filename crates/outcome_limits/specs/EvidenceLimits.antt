@@ -1,0 +1,79 @@
+-- Within what limits evidence is: those of the texts in which it is written.
+use Rattle.std.specs.Prelude.{◌≡◌, ◌≤◌, ◌<ℤ◌, ℕ, pos, length}
+use Rattle.std.specs.List.{All}
+use Rattle.coef_int.specs.Range.{IsCoefficient}
+use Rattle.cofactor_trace.specs.declared.CertRow.{CertRow}
+use Rattle.cofactor_trace.specs.declared.Certificate.{Certificate}
+use Rattle.cofactor_trace.specs.declared.evidence.LemmaRow.{LemmaRow}
+use Rattle.cofactor_trace.specs.declared.evidence.Lemma.{Lemma}
+use Rattle.cofactor_trace.specs.declared.evidence.LemmaCertificate.{LemmaCertificate}
+use Rattle.cofactor_trace.specs.declared.evidence.Evidence.{Evidence}
+use Rattle.cofactor_trace.specs.declared.evidence.Evidence.TheVariants as evidence
+use Rattle.cofactor_trace.specs.declared.evidence.Format.{Format}
+use Rattle.cofactor_trace.specs.Expansion.{letter_count}
+use Rattle.cofactor_trace.specs.Lemmas as gathering
+use Rattle.cofactor_trace.specs.GatheringLaws.{parts_of, NamesWithin, NameEarlier}
+use Rattle.adjoint_rules.specs.declared.problem.Problem.{Problem}
+use Rattle.traced_completion.specs.declared.budget.Budget.{Budget}
+use Rattle.traced_completion.specs.PlainRun.{setting_of}
+use Rattle.claim_decider.specs.declared.outcome.Outcome.TheVariants as outcome
+use Rattle.claim_decider.specs.Outcomes.{IsOutcomeOf}
+use Rattle.claim_decider.specs.Decided.{claim_at}
+
+-- ---- rows over generators alone
+-- The integer in front is a coefficient, no word has more than 500 letters, and the row is over one of so many generators.
+pub record IsRowWithin (generators : ℕ) (row : CertRow) : Type 0 where
+  pub coefficient : IsCoefficient row.coef
+  pub short_left : length row.left ≤ 500
+  pub short_right : length row.right ≤ 500
+  pub first : 1 ≤ row.generator
+  pub last : row.generator ≤ generators
+
+-- The claim is the one with this number. The denominator is positive and a coefficient. There are at most 200,000 rows, which
+-- have at most 1,000,000 letters.
+pub record IsCertificateWithin (generators number : ℕ) (c : Certificate) : Type 0 where
+  pub claim : c.claim ≡ number
+  pub positive : pos 0 <ℤ c.denominator
+  pub denominator : IsCoefficient c.denominator
+  pub rows : All (IsRowWithin generators) c.rows
+  pub few : length c.rows ≤ 200000
+  pub letters : letter_count c.rows ≤ 1000000
+
+-- ---- rows over generators and lemmas
+-- The integer in front is a coefficient, and no word has more than 500 letters.
+pub record IsLemmaRowWithin (row : LemmaRow) : Type 0 where
+  pub coefficient : IsCoefficient row.coef
+  pub short_left : length row.left ≤ 500
+  pub short_right : length row.right ≤ 500
+
+-- The scale is positive and a coefficient, and each row is within the limits.
+pub record IsLemmaWithin (l : Lemma) : Type 0 where
+  pub positive : pos 0 <ℤ l.scale
+  pub scale : IsCoefficient l.scale
+  pub rows : All IsLemmaRowWithin l.rows
+
+-- The claim is the one with this number. The denominator is positive and a coefficient. Each lemma is over generators, of
+-- which there are so many, and lemmas before it, and the goal over generators and lemmas. There are at most 200,000 lemmas;
+-- with the goal they have at most 200,000 rows, which have at most 1,000,000 letters.
+pub record IsLemmaCertificateWithin (generators number : ℕ) (c : LemmaCertificate) : Type 0 where
+  pub claim : c.claim ≡ number
+  pub positive : pos 0 <ℤ c.denominator
+  pub denominator : IsCoefficient c.denominator
+  pub lemmas : All IsLemmaWithin c.lemmas
+  pub goal : IsLemmaWithin c.goal
+  pub earlier : NameEarlier generators 0 c.lemmas
+  pub goal_names : NamesWithin generators (length c.lemmas) c.goal
+  pub few_lemmas : length c.lemmas ≤ 200000
+  pub few_rows : gathering.row_count (parts_of c) ≤ 200000
+  pub letters : gathering.letter_count (parts_of c) ≤ 1000000
+
+-- ---- evidence of either format
+-- The evidence is of the claim with this number, is over the generators of the problem, and is within the limits of its format.
+abbrev pub IsWithinLimits : Problem → ℕ → Evidence → Type 0
+IsWithinLimits problem number (evidence.Plain c) = IsCertificateWithin (length problem.generators) number c
+IsWithinLimits problem number (evidence.Lemmas c) = IsLemmaCertificateWithin (length problem.generators) number c
+
+-- So is the evidence of each derived claim.
+abbrev pub EvidenceFits : Type 0
+EvidenceFits = (problem : Problem) (budget : Budget) (form : Format) (number : ℕ) (e : Evidence)
+    → IsOutcomeOf (setting_of problem budget) form number (claim_at problem number) (outcome.Derived e) → IsWithinLimits problem number e

@@ -1,0 +1,2 @@
+pub mod OutcomeLetters
+pub mod EvidenceLimits

@@ -1,0 +1,95 @@
+-- What an outcome of a claim means.
+use Rattle.std.specs.Prelude.{◌≡◌, ℕ, List, Some}
+use Rattle.definitions.specs.Poly.{Term}
+use Rattle.definitions.specs.Combination.{IsCombination, InRationalIdeal}
+use Rattle.word_orders.specs.Specified.{asked_cmp}
+use Rattle.nc_polynomial.specs.declared.poly.Poly.{Poly}
+use Rattle.quiver.specs.Declarations.{letter_count}
+use Rattle.cofactor_trace.specs.declared.Certificate.{Certificate}
+use Rattle.cofactor_trace.specs.declared.evidence.LemmaCertificate.{LemmaCertificate}
+use Rattle.cofactor_trace.specs.declared.evidence.Evidence.{Evidence}
+use Rattle.cofactor_trace.specs.declared.evidence.Evidence.TheVariants as evidence
+use Rattle.cofactor_trace.specs.declared.evidence.Format.{Format}
+use Rattle.cofactor_trace.specs.declared.halt.Place.TheVariants as place
+use Rattle.cofactor_trace.specs.declared.halt.Halt.{Halt}
+use Rattle.cofactor_trace.specs.Rows.{rows_of}
+use Rattle.cofactor_trace.specs.LemmaRows.{IsEvidenceOf}
+use Rattle.ambiguities.specs.Resolved.{ComesBelow}
+use Rattle.adjoint_rules.specs.declared.problem.Problem.{Problem}
+use Rattle.adjoint_rules.specs.Problem.{polynomials}
+use Rattle.traced_completion.specs.declared.budget.Budget.{Budget}
+use Rattle.traced_completion.specs.PlainRun.{setting_of}
+use Rattle.claim_decider.specs.declared.outcome.Outcome.{Outcome}
+use Rattle.claim_decider.specs.declared.outcome.Outcome.TheVariants as outcome
+use Rattle.claim_decider.specs.Outcomes.{IsOutcomeOf}
+use Rattle.claim_decider.specs.Decided.{claim_at}
+
+-- ---- claims and generators
+-- some positive multiple of the claim with this number is a combination of the generators; a number of no claim has the claim zero
+abbrev pub Follows : Problem → ℕ → Type 0
+Follows problem number = InRationalIdeal (polynomials problem.generators) (claim_at problem number)
+
+-- some positive multiple of it is a combination in which all words are below the word, in the order that is asked for
+abbrev pub FollowsBelow : Problem → List ℕ → ℕ → Type 0
+FollowsBelow problem word number =
+    ComesBelow (letter_count problem.parts.quiver) (asked_cmp problem.parts.order) (polynomials problem.generators) word (claim_at problem number)
+
+-- ---- evidence
+-- The certificate names the claim, and its rows over the generators add up to its denominator, which is positive, times the claim.
+pub record CertificateAddsUp (problem : Problem) (number : ℕ) (c : Certificate) : Type 0 where
+  pub claim : c.claim ≡ number
+  pub combination : IsCombination (polynomials problem.generators) (rows_of c.rows) c.denominator (claim_at problem number)
+
+-- The certificate names the claim, and there are polynomials of its lemmas with which it is evidence of the claim.
+pub record LemmaCertificateAddsUp (problem : Problem) (number : ℕ) (c : LemmaCertificate) : Type 0 where
+  pub claim : c.claim ≡ number
+  pub lemmas : List (List Term)
+  pub evidence : IsEvidenceOf (polynomials problem.generators) lemmas c (claim_at problem number)
+
+-- The evidence is the claim's, and it adds up.
+abbrev pub EvidenceAddsUp : Problem → ℕ → Evidence → Type 0
+EvidenceAddsUp problem number (evidence.Plain c) = CertificateAddsUp problem number c
+EvidenceAddsUp problem number (evidence.Lemmas c) = LemmaCertificateAddsUp problem number c
+
+-- ---- outcomes
+-- Below the least word that is pending the claim is no combination, and where the work stopped in making its certificate it follows.
+pub record HaltMeans (problem : Problem) (number : ℕ) (h : Halt) : Type 0 where
+  pub not_below : (word : List ℕ) → h.least ≡ Some word → FollowsBelow problem word number → ⊥
+  pub inside : (round : ℕ) → h.place ≡ place.Certificate round → Follows problem number
+
+-- A claim that is derived has evidence that adds up, one that is closed does not follow, and of one that is halted holds what its halt means.
+abbrev pub OutcomeMeans : Problem → ℕ → Outcome → Type 0
+OutcomeMeans problem number (outcome.Derived e) = EvidenceAddsUp problem number e
+OutcomeMeans problem number (outcome.Closed rest) = Follows problem number → ⊥
+OutcomeMeans problem number (outcome.Halted h) = HaltMeans problem number h
+
+-- ---- the laws
+-- The laws have one premise, that this is the outcome of the problem's claim with this number. `decide_all` and `decide` ensure it of
+-- each outcome that they give, in `outcomes`. That generators and claims are typed comes from the fields of a problem.
+abbrev pub IsOutcomeAt : Problem → Budget → Format → ℕ → Outcome → Type 0
+IsOutcomeAt problem budget form number o = IsOutcomeOf (setting_of problem budget) form number (claim_at problem number) o
+
+-- A claim that is derived has evidence that adds up.
+abbrev pub DerivedClaimsAddUp : Type 0
+DerivedClaimsAddUp = (problem : Problem) (budget : Budget) (form : Format) (number : ℕ) (e : Evidence)
+    → IsOutcomeAt problem budget form number (outcome.Derived e) → EvidenceAddsUp problem number e
+
+-- No positive multiple of a claim that is closed is a combination of the generators.
+abbrev pub ClosedClaimsAreOutside : Type 0
+ClosedClaimsAreOutside = (problem : Problem) (budget : Budget) (form : Format) (number : ℕ) (rest : Poly)
+    → IsOutcomeAt problem budget form number (outcome.Closed rest) → Follows problem number → ⊥
+
+-- A claim that is halted with a least pending word is no combination of the generators below that word.
+abbrev pub LeastWordsBoundDerivations : Type 0
+LeastWordsBoundDerivations = (problem : Problem) (budget : Budget) (form : Format) (number : ℕ) (h : Halt) (word : List ℕ)
+    → IsOutcomeAt problem budget form number (outcome.Halted h) → h.least ≡ Some word → FollowsBelow problem word number → ⊥
+
+-- A claim that is halted in making its certificate follows from the generators.
+abbrev pub HaltedCertificatesAreInside : Type 0
+HaltedCertificatesAreInside = (problem : Problem) (budget : Budget) (form : Format) (number : ℕ) (h : Halt) (round : ℕ)
+    → IsOutcomeAt problem budget form number (outcome.Halted h) → h.place ≡ place.Certificate round → Follows problem number
+
+-- Each outcome means what it says, for each problem, each budget, each format and each number.
+abbrev pub OutcomesMeanWhatTheySay : Type 0
+OutcomesMeanWhatTheySay = (problem : Problem) (budget : Budget) (form : Format) (number : ℕ) (o : Outcome)
+    → IsOutcomeAt problem budget form number o → OutcomeMeans problem number o
