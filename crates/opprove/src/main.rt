@@ -52,6 +52,8 @@ mod call_tests;
 #[cfg(test)]
 mod decided_rows;
 #[cfg(test)]
+mod gallery_rows;
+#[cfg(test)]
 mod gate_tests;
 #[cfg(test)]
 mod test_rows;
