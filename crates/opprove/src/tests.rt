@@ -103,7 +103,10 @@ fn is_checked<R: Threads + Sync>(rt: &R, alloc: Global, statement: &[u8]) -> Res
     let told = answer(rt, alloc, PLAIN, statement, b"", &[])?;
     let report = told.as_str().strip_prefix("0 ").unwrap_or("");
     let got = answer(rt, alloc, CHECK, statement, report.as_bytes(), &[])?;
-    Ok(got.as_str().starts_with("0 # block 1 accepted claim 1 denominator 1\n"))
+    Ok(
+        got.as_str()
+            .starts_with("0 # block 1 accepted claim 1 denominator 1\n"),
+    )
 }
 
 #[test]
