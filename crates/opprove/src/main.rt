@@ -54,6 +54,8 @@ mod decided_rows;
 #[cfg(test)]
 mod gate_tests;
 #[cfg(test)]
+mod round_tests;
+#[cfg(test)]
 mod test_rows;
 #[cfg(test)]
 mod tests;
