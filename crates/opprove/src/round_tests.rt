@@ -1,5 +1,5 @@
 // Rounds of completions, told call by call, and the rules that they make: worked out by hand.
-ghost use Rattle.std.specs.Prelude.{◌<◌, ◌≤◌};
+ghost use Rattle.std.specs.Prelude.{◌<◌, ◌≤◌, IfOk};
 ghost use Rattle.traced_completion.specs.Completions.{IsBudget, IsCompletionOf};
 
 use adjoint_rules::Problem;
@@ -219,17 +219,34 @@ fn story<R: Threads + Sync>(
     Ok(story)
 }
 
+// The problem of a statement.
+fn problem_of(alloc: Global, statement: &[u8]) -> Result<Problem, Fail> {
+    if statement.len() > 1000 {
+        return Err(Fail::new("the statement is too long for a test"));
+    }
+    let tree = read_tree(alloc, statement)?;
+    Ok(elaborate(alloc, &tree)?)
+}
+
+// A budget, which must be one.
+fn budget_of(pairs: u32, steps: u32) -> Result<Budget, Fail>
+    ensures { IfOk result IsBudget }
+{
+    let is_budget = 1 <= pairs && pairs <= 1_000_000 && 1 <= steps && steps <= 1_000_000;
+    if is_budget {
+        Ok(Budget { pairs, steps })
+    } else {
+        Err(Fail::new("this is no budget"))
+    }
+}
+
 #[test]
 fn rounds_go_as_worked_out(rt: HostRuntime) -> Result<(), Fail> {
     let alloc = rt.alloc();
     for (statement, (pairs, steps), calls, want) in ROWS {
-        let tree = read_tree(alloc, statement)?;
-        let problem = elaborate(alloc, &tree)?;
-        let budget = Budget {
-            pairs: *pairs,
-            steps: *steps,
-        };
-        for workers in [1, 3] {
+        let problem = problem_of(alloc, statement)?;
+        let budget = budget_of(*pairs, *steps)?;
+        for workers in 1..3 {
             let got = story(&rt, alloc, &problem, budget, workers, *calls)?;
             assert_eq!(rt; got.as_str(), *want, "{statement:?}");
         }
