@@ -190,6 +190,7 @@ fn state_text(alloc: Global, quiver: &Quiver, completion: &Completion) -> Result
     )?)
 }
 
+// The story of so many calls of `round`, and of the rules after them.
 fn story<R: Threads + Sync>(
     rt: &R,
     alloc: Global,
