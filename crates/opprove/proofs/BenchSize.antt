@@ -1,9 +1,9 @@
 -- The statement of `bench` is within the limit of statements.
-use Rattle.std.proofs.Common.{◌≡◌, ◌≤◌, ◌<◌, ℕ, zero, suc, ◌+◌, ◌-◌, ◌*◌, List, [], ◌∷◌, ◌++◌, length, codes, decimal, arith}
+use Rattle.std.proofs.Common.{◌≤◌, ◌<◌, ℕ, zero, suc, ◌+◌, ◌-◌, ◌*◌, List, ◌++◌, length, codes, decimal, arith}
 use Rattle.std.specs.List.{flat_map, range_with_len}
 use Rattle.std.proofs.lemmas.List.{length-append}
 use Rattle.std.proofs.lemmas.Fmt.{length-decimal-le}
-use Rattle.report_text.specs.Bench.{numbered, maps_of_step, assumption_of_step, objects_text, there_and_back, bench_statement}
+use Rattle.report_text.specs.Bench.{numbered, maps_of_step, assumption_of_step, there_and_back, bench_statement}
 
 -- at most so many bytes
 record IsShort (most : ℕ) (bytes : List ℕ) : Type 0 where

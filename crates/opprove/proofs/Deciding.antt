@@ -1,13 +1,12 @@
 -- What `prove` and `bench` answer: one ending, its status, and what its verdicts mean.
 use Rattle.std.proofs.Common.{◌≡◌, ◌≤◌, ◌⊎◌, inl, inr, ℕ, zero, suc, ◌+◌, Bool, true, false, List, [], ◌∷◌, length, map, if◌then◌else◌, refl, sym, ap, subst, ◌∙◌, arith}
-use Rattle.std.specs.List.{All, AllZip, range_with_len, list_any, list_all}
+use Rattle.std.specs.List.{AllZip, range_with_len, list_any, list_all}
 use Rattle.std.proofs.lemmas.List.{length-map}
 use Rattle.definitions.specs.Category.{Structure, PreadditiveLaws}
 use Rattle.definitions.specs.Poly.{Term}
 use Rattle.definitions.specs.Soundness.{HasSignature, IsSound, MakesZero}
-use Rattle.definitions.specs.Quiver.{Quiver}
 use Rattle.nc_polynomial.specs.declared.poly.Poly.{Poly}
-use Rattle.quiver.specs.Declarations.{Declaration, quiver_of}
+use Rattle.quiver.specs.Declarations.{quiver_of}
 use Rattle.cofactor_trace.specs.Rows.{rows_of}
 use Rattle.cofactor_trace.specs.declared.evidence.Evidence.{Evidence}
 use Rattle.cofactor_trace.specs.declared.evidence.Evidence.TheVariants as evidence
@@ -23,22 +22,21 @@ use Rattle.traced_completion.specs.PlainRun.{Setting, IsRunState, setting_of}
 use Rattle.claim_decider.specs.declared.outcome.Outcome.{Outcome}
 use Rattle.claim_decider.specs.declared.outcome.Outcome.TheVariants as outcome
 use Rattle.claim_decider.specs.Outcomes.{GetsOutcome, IsOutcomeOf}
-use Rattle.claim_decider.specs.Decided.{claim_at, claim_numbers, AreOutcomesOf, GetsOutcomeAt, GetsOutcomeBy, OneGetsOutcomeAt, IsLastRound, AreLastRules}
+use Rattle.claim_decider.specs.Decided.{claim_at, claim_numbers, AreOutcomesOf, GetsOutcomeAt, GetsOutcomeBy, OneGetsOutcomeAt, AreLastRules}
 use Rattle.claim_decider.proofs.UniqueOutcomes.{outcomes_unique}
 use Rattle.claim_decider.proofs.UniqueRules.{last_rules_unique}
 use Rattle.representations.specs.Evidence.{IsEvidenceSound}
 use Rattle.outcome_meanings.specs.Meanings.{OutcomeMeans, EvidenceAddsUp}
 use Rattle.outcome_meanings.proofs.AskedOrders.{asked_rank, asked_cmp-admissible}
 use Rattle.outcome_meanings.proofs.Meanings.{outcomes_mean_what_they_say}
-use Rattle.report_text.specs.declared.verdict.Verdict.{Verdict}
 use Rattle.report_text.specs.Heads.{denominator_of}
 use Rattle.report_text.specs.Report.{status_of, is_undecided, is_proved}
 use Rattle.opprove.specs.Ending.{Ending}
 use Rattle.opprove.specs.Statement.{OverStatement}
 use Rattle.opprove.specs.Statement as statements
 use Rattle.opprove.specs.declared.decide.Asked.{Asked}
-use Rattle.opprove.specs.Decide.{Print, verdict_of, Decides, AnswersClaims}
-use Rattle.opprove.specs.Headline.{ProvedMeans, VerdictMeans, PrintsMeant, SaysDecided}
+use Rattle.opprove.specs.Decide.{Print, verdict_of, AnswersClaims}
+use Rattle.opprove.specs.Headline.{VerdictMeans, PrintsMeant, SaysDecided}
 use Rattle.opprove.proofs.Statements.{statement_once}
 use Rattle.opprove.proofs.Stops.{over_statement}
 use Rattle.opprove.proofs.Meaning.{numbered, means_zero, combination_makes}

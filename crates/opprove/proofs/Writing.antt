@@ -1,5 +1,5 @@
 -- Verdicts and rules that can be written: their letters are letters of the quiver.
-use Rattle.std.proofs.Common.{◌≡◌, ℕ, List, [], ◌∷◌, map, arith}
+use Rattle.std.proofs.Common.{ℕ, List, [], ◌∷◌, map, arith}
 use Rattle.std.specs.List.{All}
 use Rattle.std.proofs.lemmas.List.Elements.{All-cons}
 use Rattle.cofactor_trace.specs.declared.evidence.Format.{Format}
@@ -8,11 +8,9 @@ use Rattle.traced_completion.specs.declared.budget.Budget.{Budget}
 use Rattle.traced_completion.specs.PlainRun.{setting_of}
 use Rattle.claim_decider.specs.declared.outcome.Outcome.{Outcome}
 use Rattle.claim_decider.specs.declared.outcome.Outcome.TheVariants as outcome
-use Rattle.claim_decider.specs.Outcomes.{IsOutcomeOf}
-use Rattle.claim_decider.specs.Decided.{claim_at, AreOutcomesOf}
+use Rattle.claim_decider.specs.Decided.{AreOutcomesOf}
 use Rattle.outcome_limits.specs.OutcomeLetters.{IsOutcomeOver}
 use Rattle.outcome_limits.proofs.OutcomeLetters.{outcomes_have_letters}
-use Rattle.report_text.specs.declared.verdict.Verdict.{Verdict}
 use Rattle.report_text.specs.Report.{IsVerdictOver}
 use Rattle.opprove.specs.Decide.{verdict_of}
 

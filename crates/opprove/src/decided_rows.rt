@@ -44,7 +44,8 @@ const BRACKETS_65: &[u8] =
 
 const PROVE: &[&str] = &["prove", "s"];
 
-const PLAIN: &[&str] = &["prove", "s", "--format", "1"];
+/// By rows over generators alone.
+pub const PLAIN: &[&str] = &["prove", "s", "--format", "1"];
 
 const USAGE: &str = "2 # usage: opprove prove|check|refute|model|bench\n";
 

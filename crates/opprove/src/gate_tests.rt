@@ -21,6 +21,7 @@ const WORDS: &[&str] = &[
 ];
 
 // How many reductions passed.
+#[derive(Drop)]
 struct Counting {
     passed: AtomicU64,
 }

@@ -52,7 +52,11 @@ mod call_tests;
 #[cfg(test)]
 mod decided_rows;
 #[cfg(test)]
+mod gallery_rows;
+#[cfg(test)]
 mod gate_tests;
+#[cfg(test)]
+mod round_tests;
 #[cfg(test)]
 mod test_rows;
 #[cfg(test)]

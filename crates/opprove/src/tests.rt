@@ -1,5 +1,6 @@
 //! Runs of the program over files and a sink in memory.
-use crate::decided_rows::{OTHERS, PROVED, PROVED_PLAINLY, WITHOUT_FILES};
+use crate::decided_rows::{OTHERS, PLAIN, PROVED, PROVED_PLAINLY, WITHOUT_FILES};
+use crate::gallery_rows::GALLERY;
 use crate::run::run;
 use crate::test_rows::{CALLS, EXAMPLES, JUDGED, REFUSED, SOUND};
 use category_laws::Parity;
@@ -41,7 +42,7 @@ fn answer<R: Threads + Sync>(
     }
     let mut shelf = shelf_of(alloc, statement, certificate)?;
     let failing = Listing::from_vec(failing.to_vec(alloc)?);
-    let mut sink = MemorySink::new(alloc, 8, 1000, failing)?;
+    let mut sink = MemorySink::new(alloc, 8, 100_000, failing)?;
     let status = run(rt, alloc, &Parity, &all, &mut shelf, &mut sink, &OpenGate);
     let put = String::from_utf8(sink.bytes().to_vec(alloc)?)?;
     let end = if sink.finished() { "" } else { " not finished" };
@@ -70,6 +71,49 @@ fn each_claim_has_its_verdict(rt: HostRuntime) -> Result<(), Fail> {
         for (words, statement, want) in rows {
             let got = answer(&rt, rt.alloc(), words, statement, b"", &[])?;
             assert_eq!(rt; got.as_str(), *want, "{words:?} {statement:?}");
+        }
+    }
+    Ok(())
+}
+
+// The lines of a report that tell of claims, with the status.
+fn heads(alloc: Global, told: &str) -> Result<String, AllocError> {
+    let mut heads = String::new(alloc);
+    for line in told.lines() {
+        if line.contains("# ") {
+            heads.push_str(line)?;
+            heads.push('\n')?;
+        }
+    }
+    Ok(heads)
+}
+
+#[test]
+fn known_identities_are_proved(rt: HostRuntime) -> Result<(), Fail> {
+    for (words, statement, want) in GALLERY {
+        let told = answer(&rt, rt.alloc(), words, statement, b"", &[])?;
+        let got = heads(rt.alloc(), told.as_str())?;
+        assert_eq!(rt; got.as_str(), *want, "{told:?}");
+    }
+    Ok(())
+}
+
+// Whether the report of the statement, by rows over generators alone, is evidence that is accepted.
+fn is_checked<R: Threads + Sync>(rt: &R, alloc: Global, statement: &[u8]) -> Result<bool, Fail> {
+    let told = answer(rt, alloc, PLAIN, statement, b"", &[])?;
+    let report = told.as_str().strip_prefix("0 ").unwrap_or("");
+    let got = answer(rt, alloc, CHECK, statement, report.as_bytes(), &[])?;
+    Ok(
+        got.as_str()
+            .starts_with("0 # block 1 accepted claim 1 denominator 1\n"),
+    )
+}
+
+#[test]
+fn evidence_of_known_identities_is_accepted(rt: HostRuntime) -> Result<(), Fail> {
+    for (_, statement, want) in GALLERY {
+        if want.starts_with("0 ") {
+            assert!(rt; is_checked(&rt, rt.alloc(), statement)?, "{statement:?}");
         }
     }
     Ok(())
