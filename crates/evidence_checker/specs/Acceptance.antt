@@ -42,6 +42,10 @@ HasScale l = pos 1 ≤ℤ l.scale
 abbrev pub IsTight : ℤ → Lemma → Type 0
 IsTight d l = unsigned_abs l.scale ∣ unsigned_abs d
 
+-- The scales of the lemmas divide the denominator.
+pub record AreTight (d : ℤ) (lemmas : List Lemma) : Type 0 where
+  pub each : All (IsTight d) lemmas
+
 -- The denominator and each scale are at least 1.
 pub record IsPositive (c : LemmaCertificate) : Type 0 where
   pub denominator : pos 1 ≤ℤ c.denominator
@@ -53,11 +57,15 @@ pub record IsPosed (claims : List (List (ℤ × List ℕ))) (c : LemmaCertificat
   pub claim : IsNumberUpTo (length claims) c.claim
   pub positive : IsPositive c
 
+-- Each scale divides the denominator.
+pub record HasTightScales (c : LemmaCertificate) : Type 0 where
+  pub lemmas : AreTight c.denominator c.lemmas
+  pub goal : IsTight c.denominator c.goal
+
 -- It is posed, and each scale divides the denominator.
 pub record HasShares (claims : List (List (ℤ × List ℕ))) (c : LemmaCertificate) : Type 0 where
   pub posed : IsPosed claims c
-  pub lemmas : All (IsTight c.denominator) c.lemmas
-  pub goal : IsTight c.denominator c.goal
+  pub tight : HasTightScales c
 
 -- Its scales divide, and no product of the goal's scale with a coefficient of the claim leaves the range.
 pub record Begins (claims : List (List (ℤ × List ℕ))) (c : LemmaCertificate) : Type 0 where
@@ -105,13 +113,13 @@ pub record IsFirstLoose (d : ℤ) (lemmas : List Lemma) (number : ℕ) : Type 0 
   pub lemma : Lemma
   pub numbered : number ≡ before + 1
   pub there : slice_get lemmas before ≡ Some lemma
-  pub earlier : All (IsTight d) (take before lemmas)
+  pub earlier : AreTight d (take before lemmas)
   pub loose : IsTight d lemma → ⊥
 
 -- The scale of each lemma divides the denominator, but that of the goal, which has number 0, does not.
 pub record HasLooseGoal (c : LemmaCertificate) (number : ℕ) : Type 0 where
   pub numbered : number ≡ 0
-  pub lemmas : All (IsTight c.denominator) c.lemmas
+  pub lemmas : AreTight c.denominator c.lemmas
   pub loose : IsTight c.denominator c.goal → ⊥
 
 -- The scales divide, and this is the first product of the goal's scale with a coefficient of the claim that leaves the range. It stands before all rows, and so in row 0.

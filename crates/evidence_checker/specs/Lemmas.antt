@@ -34,10 +34,14 @@ abbrev pub term_total : List (List (ℤ × List ℕ)) → ℕ
 term_total [] = 0
 term_total (p ∷ ps) = length p + term_total ps
 
+-- The scale divides each coefficient.
+pub record IsDivisible (scale : ℤ) (p : List (ℤ × List ℕ)) : Type 0 where
+  pub each : DividesEach (unsigned_abs scale) p
+
 -- The rows of the lemma pass, its scale divides each coefficient of their sum, and its polynomial, whose words are those of the sum, has at most 20,000 terms and no word of more than 500 letters.
 pub record IsMade (generators before : List (List (ℤ × List ℕ))) (l : Lemma) : Type 0 where
   pub rows : LemmaRowsPass generators before l.rows
-  pub divisible : DividesEach (unsigned_abs l.scale) (collected (plain_sum generators before l.rows))
+  pub divisible : IsDivisible l.scale (collected (plain_sum generators before l.rows))
   pub size : sized (collected (plain_sum generators before l.rows)) ≡ Ok (collected (plain_sum generators before l.rows))
 
 -- It is made, and the polynomials up to it have at most 1,000,000 terms together.
@@ -71,6 +75,22 @@ pub record OutgrowsAt (generators lemmas : List (List (ℤ × List ℕ))) (befor
   pub counted : number ≡ before + in_lemma
   pub outgrows : Outgrows (generators ++ lemmas) (plain_rows generators lemmas rows) in_lemma
 
+-- the refusal is want of memory, and not one that is passed on
+abbrev pub IsShort : EvidenceRefusal → Type 0
+IsShort (refusal.Memory failed) = ⊤
+IsShort (refusal.Certificate e) = ⊥
+IsShort refusal.NoSuchClaim = ⊥
+IsShort refusal.ZeroDenominator = ⊥
+IsShort (refusal.LooseScale lemma) = ⊥
+IsShort (refusal.Overflow row overflow) = ⊥
+IsShort (refusal.NoSuchGenerator row) = ⊥
+IsShort (refusal.NoSuchLemma row) = ⊥
+IsShort (refusal.Size row) = ⊥
+IsShort (refusal.NotDivisible lemma word got) = ⊥
+IsShort (refusal.LemmaSize lemma) = ⊥
+IsShort (refusal.Kept row) = ⊥
+IsShort (refusal.Differs word want got) = ⊥
+
 -- what is told of the rows of a lemma or of the goal
 abbrev pub RefusesRows : List (List (ℤ × List ℕ)) → List (List (ℤ × List ℕ)) → ℕ → List LemmaRow → EvidenceRefusal → Type 0
 RefusesRows generators lemmas before rows (refusal.NoSuchGenerator row) = LacksAt generators lemmas before rows IsGenerator row
@@ -92,17 +112,21 @@ abbrev pub IsLeastIndivisible : ℤ → List (ℤ × List ℕ) → List ℕ → 
 IsLeastIndivisible scale [] word got = ⊥
 IsLeastIndivisible scale (t ∷ p) word got = IsLeastIndivisible scale p word got ⊎ (DividesEach (unsigned_abs scale) p × ((unsigned_abs scale ∣ unsigned_abs t.0 → ⊥) × (t ≡ (got, word))))
 
+-- the same as a fact
+pub record HasLeastIndivisible (scale : ℤ) (p : List (ℤ × List ℕ)) (word : List ℕ) (got : ℤ) : Type 0 where
+  pub least : IsLeastIndivisible scale p word got
+
 -- The rows of the lemma with this number pass, and this is the least word, with its coefficient in their sum, that the scale does not divide.
 pub record LeavesRest (generators before : List (List (ℤ × List ℕ))) (l : Lemma) (lemma : ℕ) (word : List ℕ) (got : ℤ) : Type 0 where
   pub numbered : lemma ≡ length before + 1
   pub rows : LemmaRowsPass generators before l.rows
-  pub least : IsLeastIndivisible l.scale (collected (plain_sum generators before l.rows)) word got
+  pub least : HasLeastIndivisible l.scale (collected (plain_sum generators before l.rows)) word got
 
 -- The rows of the lemma with this number pass, its scale divides their sum, and its polynomial has too many terms or too long a word.
 pub record IsTooLarge (generators before : List (List (ℤ × List ℕ))) (l : Lemma) (lemma : ℕ) : Type 0 where
   pub numbered : lemma ≡ length before + 1
   pub rows : LemmaRowsPass generators before l.rows
-  pub divisible : DividesEach (unsigned_abs l.scale) (collected (plain_sum generators before l.rows))
+  pub divisible : IsDivisible l.scale (collected (plain_sum generators before l.rows))
   pub limit : SizeFault
   pub size : sized (collected (plain_sum generators before l.rows)) ≡ Err (fault.Size limit)
 

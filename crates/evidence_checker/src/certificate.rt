@@ -1,7 +1,7 @@
 //! A certificate with lemmas over lists of claims and generators.
-ghost use Rattle.std.specs.Prelude.{◌≡◌, ◌≤◌, ◌↔◌, ◌⊎◌, length, All, IsTrue, IfOk, IfErr, OnOk, IfSome, IfNone};
+ghost use Rattle.std.specs.Prelude.{◌≡◌, ◌≤◌, ◌↔◌, ◌⊎◌, length, IsTrue, IfOk, IfErr, OnOk, IfSome, IfNone};
 ghost use Rattle.adjoint_rules.specs.Problem.{polynomials};
-ghost use Rattle.evidence_checker.specs.Acceptance.{IsPositive, IsTight, IsFirstLoose, HasLooseGoal, AcceptsLemmas, RefusesLemmaCertificate, IsReadable};
+ghost use Rattle.evidence_checker.specs.Acceptance.{IsPositive, HasTightScales, IsFirstLoose, HasLooseGoal, AcceptsLemmas, RefusesLemmaCertificate, IsReadable};
 
 use crate::EvidenceRefusal;
 use crate::lemmas::make_lemmas;
@@ -28,7 +28,7 @@ fn loose_scale(certificate: &LemmaCertificate) -> Option<u32>
     requires positive { IsPositive certificate.now }
     requires count { length certificate.now.lemmas ≤ 4294967295 }
     ensures loose { IfSome result (λ n. IsFirstLoose certificate.now.denominator certificate.now.lemmas n ⊎ HasLooseGoal certificate.now n) }
-    ensures tight { IfNone result (All (IsTight certificate.now.denominator) certificate.now.lemmas × IsTight certificate.now.denominator certificate.now.goal) }
+    ensures tight { IfNone result (HasTightScales certificate.now) }
 {
     if let Some(number) = first_loose(certificate.denominator, certificate.lemmas.as_slice()) {
         return Some(number);

@@ -1,12 +1,9 @@
 //! The polynomial of a lemma.
-ghost use Rattle.std.specs.Prelude.{◌≡◌, ◌+◌, ◌≤◌, ◌≤ℤ◌, [], pos, length, All, OnOk, IfOk, IfErr, IfSome, IfNone};
-ghost use Rattle.std.specs.Int.RustNames.{unsigned_abs};
-ghost use Rattle.coef_int.specs.Range.{IsCoefficient};
+ghost use Rattle.std.specs.Prelude.{◌≡◌, ◌+◌, ◌≤◌, ◌≤ℤ◌, [], pos, length, OnOk, IfOk, IfErr, IfSome, IfNone};
 ghost use Rattle.adjoint_rules.specs.Problem.{polynomials};
 ghost use Rattle.nc_polynomial.specs.Ascending.{reversed};
-ghost use Rattle.nc_polynomial.specs.Content.{DividesEach};
 ghost use Rattle.cofactor_checker.specs.Running.{IsRunning};
-ghost use Rattle.evidence_checker.specs.Lemmas.{IsLeastIndivisible, IsMade, lemma_polynomial, RefusesLemma};
+ghost use Rattle.evidence_checker.specs.Lemmas.{HasLeastIndivisible, IsDivisible, IsMade, lemma_polynomial, RefusesLemma};
 ghost use Rattle.evidence_checker.specs.Acceptance.{HasScale, IsRanged};
 
 use crate::EvidenceRefusal;
@@ -39,8 +36,8 @@ fn descending(
 // The last term whose coefficient the scale doesn't divide.
 fn indivisible<'a>(terms: &'a [(i128, Word)], scale: i128) -> Option<&'a (i128, Word)>
     requires { pos 1 ≤ℤ scale }
-    ensures found { IfSome result (λ t. IsLeastIndivisible scale terms.now t.now.1 t.now.0) }
-    ensures none { IfNone result (DividesEach (unsigned_abs scale) terms.now) }
+    ensures found { IfSome result (λ t. HasLeastIndivisible scale terms.now t.now.1 t.now.0) }
+    ensures none { IfNone result (IsDivisible scale terms.now) }
 {
     let mut rest = terms;
     while let Some((term, greater)) = rest.split_last() {
@@ -81,6 +78,7 @@ pub(crate) fn make_polynomial(
     match Poly::from_descending(terms) {
         Ok(multiple) => Ok(multiple.divide(lemma.scale)?),
         Err(PolyFault::Memory(failed)) => Err(EvidenceRefusal::Memory(failed)),
-        Err(_) => Err(EvidenceRefusal::LemmaSize { lemma: number }),
+        Err(PolyFault::Size(_)) => Err(EvidenceRefusal::LemmaSize { lemma: number }),
+        Err(PolyFault::Overflow(_)) => Err(EvidenceRefusal::LemmaSize { lemma: number }),
     }
 }

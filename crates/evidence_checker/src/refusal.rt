@@ -1,4 +1,4 @@
-ghost use Rattle.evidence_checker.specs.Acceptance.{IsMemory};
+ghost use Rattle.evidence_checker.specs.Lemmas.{IsShort};
 
 use coef_int::Overflow;
 use cofactor_checker::Refusal;
@@ -56,7 +56,7 @@ pub enum EvidenceRefusal {
 }
 
 impl From<AllocError> for EvidenceRefusal {
-    ghost from_gives = { λ _ e. IsMemory e };
+    ghost from_gives = { λ _ e. IsShort e };
 
     fn from(failed: AllocError) -> EvidenceRefusal {
         EvidenceRefusal::Memory(failed)
@@ -64,7 +64,7 @@ impl From<AllocError> for EvidenceRefusal {
 }
 
 impl<T: Drop> From<AllocFailed<T>> for EvidenceRefusal {
-    ghost from_gives = { λ _ e. IsMemory e };
+    ghost from_gives = { λ _ e. IsShort e };
 
     fn from(_failed: AllocFailed<T>) -> EvidenceRefusal {
         EvidenceRefusal::Memory(AllocError)

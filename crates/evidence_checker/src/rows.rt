@@ -27,6 +27,7 @@ use word_core::Word;
 const TERM_LIMIT: usize = 200_000;
 
 // The generator or the lemma that a row is over.
+#[tactic(auto, using(crate::proofs::Places::found_generator, crate::proofs::Places::found_lemma))]
 fn named<'a>(generators: &'a [Poly], lemmas: &'a [Poly], from: CertFrom) -> Option<&'a Poly>
     ensures found { let place = place_of (length generators.now) (length lemmas.now) from in
         IfSome result (λ p. generator_at (polynomials generators.now ++ polynomials lemmas.now) place ≡ p.now.terms) }
