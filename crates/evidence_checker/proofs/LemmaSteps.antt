@@ -16,7 +16,7 @@ pub record LemmasUpTo (gs ps : List (List (ℤ × List ℕ))) (lemmas : List Lem
   pub refuse : (e : EvidenceRefusal) → RefusesLemmas gs ps rows (drop i lemmas) e → RefusesLemmas gs [] 0 lemmas e
 
 pub begins : (gs : List (List (ℤ × List ℕ))) (lemmas : List Lemma) → LemmasUpTo gs [] lemmas 0 0
-begins gs lemmas = record { counted = refl; made = refl; pass = λ all. all; refuse = λ e refused. refused }
+begins gs lemmas = record { counted = omega arith; made = refl; pass = λ all. all; refuse = λ e refused. refused }
 
 module _ (gs ps : List (List (ℤ × List ℕ))) (lemmas : List Lemma) (rows i : ℕ) (so_far : LemmasUpTo gs ps lemmas rows i) where
   module _ (past : length lemmas ≤ i) where

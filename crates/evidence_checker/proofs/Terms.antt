@@ -90,3 +90,8 @@ no_overflow p o is = by (has_long_word p) (nat_lt 20000 (length p)) is
     by true b same = absurd cc
     by false true same = absurd cc
     by false false same = absurd cc
+
+-- a list of no items
+pub empty : {X : Type 0} (xs : List X) → length xs ≡ 0 → xs ≡ []
+empty [] none = refl
+empty (x ∷ xs) none = absurd (omega arith)

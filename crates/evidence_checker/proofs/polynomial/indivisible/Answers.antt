@@ -4,7 +4,7 @@ use Rattle.std.specs.Int.RustNames.{unsigned_abs}
 use Rattle.nc_polynomial.specs.Content.{DividesEach}
 use Rattle.evidence_checker.specs.Lemmas.{IsLeastIndivisible}
 use Rattle.evidence_checker.proofs.Each.{divides_from, not_divides_from}
-use Rattle.evidence_checker.proofs.Terms.{last_indivisible, indivisible_before, all_divisible}
+use Rattle.evidence_checker.proofs.Terms.{empty, last_indivisible, indivisible_before, all_divisible}
 use Rattle.evidence_checker.proofs.polynomial.indivisible.Goals as goal
 
 pub returns-then-not-divides-clause-found : goal.returns-then-not-divides-clause-found
@@ -40,5 +40,5 @@ returns-clause-none c =
     let s = c.args.scale in
     let is : to_z w128 (of_z w128 s) ≡ s = search rules in
     let none = subst (λ z. DividesEach (unsigned_abs z) c.loop-term.rest.now → DividesEach (unsigned_abs z) c.args.terms.now) is c.loop-term.invariant.none in
-    let rest_is : c.loop-term.rest.now ≡ [] = c.in_default.ensures.cases in
+    let rest_is : c.loop-term.rest.now ≡ [] = empty c.loop-term.rest.now c.in_default.ensures.cases in
     record { each = none (subst (DividesEach (unsigned_abs c.args.scale)) (sym rest_is) (λ k d below. absurd (omega arith))) }

@@ -6,7 +6,7 @@ use Rattle.definitions.specs.Poly.{poly_multiple}
 use Rattle.adjoint_rules.specs.Problem.{polynomials}
 use Rattle.nc_polynomial.specs.Ascending.{reversed}
 use Rattle.nc_polynomial.specs.Collected.{collected}
-use Rattle.nc_polynomial.specs.Faults.{sized}
+use Rattle.nc_polynomial.specs.Faults.{sized, Explains}
 use Rattle.nc_polynomial.specs.declared.fault.PolyFault.TheVariants as fault
 use Rattle.nc_polynomial.proofs.Chains.{sized-value}
 use Rattle.nc_polynomial.proofs.Tables.{shaped-table}
@@ -108,12 +108,12 @@ returns-in-Err-Size-clause-refused c =
     let numbered : c.args.number ≡ length ls + 1 = c.requires.numbered ∙ ap (λ n. n + 1) (sym (length-polynomials c.args.lemmas.now)) in
     let each : IsDivisible l.scale c.in_ok-terms.terms = search rules in
     let divisible : IsDivisible l.scale p = subst (IsDivisible l.scale) terms each in
-    let limit = c.in-Err-Size.field-0 in
-    let large : sized c.in_ok-terms.terms ≡ Err (fault.Size limit) = search rules in
+    let limit = c.in-Err-Size.field-0-0 in
+    let large : sized c.in_ok-terms.terms ≡ Err (fault.Size limit) = subst (Explains (sized c.in_ok-terms.terms)) c.in-Err-Size.field-0-is c.in-Err-Size.ensures in
     record { numbered = numbered; rows = passed; divisible = divisible; limit = limit; size = sym (ap sized terms) ∙ large }
 
 pub returns-in-Err-Overflow-clause-refused : goal.returns-in-Err-Overflow-clause-refused
 returns-in-Err-Overflow-clause-refused c =
-    let o = c.in-Err-Overflow.field-0 in
-    let large : sized c.in_ok-terms.terms ≡ Err (fault.Overflow o) = search rules in
+    let o = c.in-Err-Overflow.field-0-0 in
+    let large : sized c.in_ok-terms.terms ≡ Err (fault.Overflow o) = subst (Explains (sized c.in_ok-terms.terms)) c.in-Err-Overflow.field-0-is c.in-Err-Overflow.ensures in
     absurd (no_overflow c.in_ok-terms.terms o large)
