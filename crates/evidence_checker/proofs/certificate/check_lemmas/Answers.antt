@@ -104,7 +104,10 @@ returns-in-None-clause-accepts c =
     let lemmas : LemmasPass gs [] certificate.lemmas = search rules in
     let has : HasLemmas cs gs certificate = record { begins = begins; lemmas = lemmas } in
     let m = c.in_ok-sum.sum in
-    let rows : LemmaRowsPass gs (polynomials made.polynomials) certificate.goal.rows = search rules in
+    let list_is : c.as_slice-lemmas.result.now ≡ made.polynomials = search rules in
+    let rows_are : c.as_slice-rows.result.now ≡ certificate.goal.rows = search rules in
+    let rows_there : LemmaRowsPass gs (polynomials c.as_slice-lemmas.result.now) c.as_slice-rows.result.now = c.in_ok-sum.ensures.passed in
+    let rows : LemmaRowsPass gs (polynomials made.polynomials) certificate.goal.rows = subst (λ q. LemmaRowsPass gs (polynomials q) certificate.goal.rows) list_is (subst (LemmaRowsPass gs (polynomials c.as_slice-lemmas.result.now)) rows_are rows_there) in
     let adds_up : AddsUp cs gs certificate = record { lemmas = has; rows = subst (λ q. LemmaRowsPass gs q certificate.goal.rows) same rows } in
     let sum_there : IsSumOf m (plain_sum gs (polynomials made.polynomials) certificate.goal.rows) = search rules in
     let sum = subst (λ q. IsSumOf m (plain_sum gs q certificate.goal.rows)) same sum_there in
@@ -133,7 +136,10 @@ returns-clause-refuses c =
     let lemmas : LemmasPass gs [] certificate.lemmas = search rules in
     let has : HasLemmas cs gs certificate = record { begins = begins; lemmas = lemmas } in
     let m = c.in_ok-sum.sum in
-    let rows : LemmaRowsPass gs (polynomials made.polynomials) certificate.goal.rows = search rules in
+    let list_is : c.as_slice-lemmas.result.now ≡ made.polynomials = search rules in
+    let rows_are : c.as_slice-rows.result.now ≡ certificate.goal.rows = search rules in
+    let rows_there : LemmaRowsPass gs (polynomials c.as_slice-lemmas.result.now) c.as_slice-rows.result.now = c.in_ok-sum.ensures.passed in
+    let rows : LemmaRowsPass gs (polynomials made.polynomials) certificate.goal.rows = subst (λ q. LemmaRowsPass gs (polynomials q) certificate.goal.rows) list_is (subst (LemmaRowsPass gs (polynomials c.as_slice-lemmas.result.now)) rows_are rows_there) in
     let adds_up : AddsUp cs gs certificate = record { lemmas = has; rows = subst (λ q. LemmaRowsPass gs q certificate.goal.rows) same rows } in
     let sum_there : IsSumOf m (plain_sum gs (polynomials made.polynomials) certificate.goal.rows) = search rules in
     let sum = subst (λ q. IsSumOf m (plain_sum gs q certificate.goal.rows)) same sum_there in
