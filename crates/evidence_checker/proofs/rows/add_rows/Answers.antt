@@ -27,8 +27,8 @@ returns-in_default-clause-refused c =
     let counted : c.loop-row.number + 1 ≡ c.args.before + (i + 1) = omega arith in
     let none : IsNumberUpTo (length gs + length ls) (place_of (length gs) (length ls) row.from) → ⊥ = search rules in
     elim c.match-row.branch [
-      in-Generator w ↦ let kind : IsGenerator row.from = search rules in rw w.result-is (lacks_at gs ls c.args.before rows m i row c.loop-row-test.true c.row-item.is c.loop-row.invariant.sums (c.loop-row.number + 1) counted IsGenerator kind none)
-    | in-Lemma w ↦ let kind : IsLemma row.from = search rules in rw w.result-is (lacks_at gs ls c.args.before rows m i row c.loop-row-test.true c.row-item.is c.loop-row.invariant.sums (c.loop-row.number + 1) counted IsLemma kind none)
+      | in-Generator w ↦ let kind : IsGenerator row.from = search rules in rw w.result-is (lacks_at gs ls c.args.before rows m i row c.loop-row-test.true c.row-item.is c.loop-row.invariant.sums (c.loop-row.number + 1) counted IsGenerator kind none)
+      | in-Lemma w ↦ let kind : IsLemma row.from = search rules in rw w.result-is (lacks_at gs ls c.args.before rows m i row c.loop-row-test.true c.row-item.is c.loop-row.invariant.sums (c.loop-row.number + 1) counted IsLemma kind none)
     ]
 
 pub returns-in-Err-Overflow-clause-refused : goal.returns-in-Err-Overflow-clause-refused

@@ -21,6 +21,6 @@ returns-clause-exact c =
     let right : c.in_ok-copy-2.field-0 ≡ c.args.row.now.right = search rules in
     let is : to_z w128 (of_z w128 c.args.row.now.coef) ≡ c.args.row.now.coef = search rules in
     subst (λ z.
-        let first = first_overflow (adding_operations (coefficient_in c.args.sum.now) z c.args.row.now.left c.args.terms.now c.args.row.now.right) in
-        MatchResult c.add_row.result (λ _. first ≡ None) (IsStoppedBy first)) is
+    let first = first_overflow (adding_operations (coefficient_in c.args.sum.now) z c.args.row.now.left c.args.terms.now c.args.row.now.right) in
+    MatchResult c.add_row.result (λ _. first ≡ None) (IsStoppedBy first)) is
     (rw (← left, ← right) c.add_row.ensures.exact)
