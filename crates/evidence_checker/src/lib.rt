@@ -6,6 +6,7 @@ ghost use Rattle.adjoint_rules.specs.Problem.{polynomials};
 ghost use Rattle.evidence_checker.specs.Acceptance.{AcceptsEvidence, RefusesEvidence, ShowsClaim, NamesClaim, IsMemory, IsReadableEvidence};
 
 mod certificate;
+mod laws;
 mod lemmas;
 mod polynomial;
 mod refusal;
@@ -16,6 +17,7 @@ use adjoint_rules::Problem;
 use certificate::check_lemmas;
 use cofactor_checker::{Accepted, check};
 use cofactor_trace::Evidence;
+pub use laws::accepted_evidence_adds_up;
 pub use refusal::EvidenceRefusal;
 use std::alloc::Global;
 

@@ -1,3 +1,4 @@
+//! What evidence is refused for.
 ghost use Rattle.evidence_checker.specs.Lemmas.{IsShort};
 
 use coef_int::Overflow;
