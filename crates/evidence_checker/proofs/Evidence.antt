@@ -1,18 +1,18 @@
 -- what an accepted certificate with lemmas shows
-use Rattle.std.proofs.Common.{◌≡◌, ℕ, ℤ, pos, ◌*ℤ◌, ◌<ℤ◌, List, [], ◌∷◌, ◌++◌, map, int_div, All, refl, sym, ap, ap₂, subst, ◌∙◌, arith}
+use Rattle.std.proofs.Common.{◌≡◌, ℕ, ℤ, List, [], ◌∷◌, ◌++◌, map, int_div, refl, sym, ap, ap₂, ◌∙◌, arith}
 use Rattle.std.specs.List.{AllByRecursion}
 use Rattle.std.specs.Int.{◌∣◌}
 use Rattle.std.specs.Int.RustNames.{unsigned_abs}
 use Rattle.std.proofs.lemmas.Int.{ints}
 use Rattle.std.proofs.lemmas.List.Elements.{All-push, recursion_from_All}
-use Rattle.definitions.specs.Poly.{SamePolynomial, coefficient_of, poly_multiple, poly_sum, poly_between}
+use Rattle.definitions.specs.Poly.{coefficient_of, poly_multiple, poly_sum, poly_between}
 use Rattle.nc_polynomial.specs.Collected.{collected}
 use Rattle.nc_polynomial.proofs.CollectedTerms.{coefficient_of-collected}
 use Rattle.nc_polynomial.proofs.Divisors.{quotient_times}
 use Rattle.cofactor_trace.specs.declared.evidence.Lemma.{Lemma}
 use Rattle.cofactor_trace.specs.declared.evidence.LemmaRow.{LemmaRow}
 use Rattle.cofactor_trace.specs.declared.evidence.LemmaCertificate.{LemmaCertificate}
-use Rattle.cofactor_trace.specs.LemmaRows.{lemma_sum, lemma_row_poly, AddsUpTo, AreOfLemmas, IsShareOf, IsEvidenceOf}
+use Rattle.cofactor_trace.specs.LemmaRows.{lemma_sum, AddsUpTo, AreOfLemmas, IsShareOf, IsEvidenceOf}
 use Rattle.evidence_checker.specs.Rows.{plain_sum}
 use Rattle.evidence_checker.specs.Lemmas.{lemma_polynomial, lemma_polynomials, LemmaPasses, LemmasPass}
 use Rattle.evidence_checker.specs.Acceptance.{goal_claim, all_polynomials, AcceptsLemmas}

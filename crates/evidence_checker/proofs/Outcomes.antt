@@ -1,7 +1,6 @@
 -- what the steps of a check mean for its outcome
-use Rattle.std.proofs.Common.{◌≡◌, ◌⊎◌, inl, inr, ℕ, ℤ, ◌*ℤ◌, ◌+◌, List, [], ◌∷◌, ◌++◌, length, slice_get, Some, None, Result, Ok, Err, OnOk, IfErr, sym, subst, ◌∙◌, arith}
+use Rattle.std.proofs.Common.{◌≡◌, inl, inr, ℕ, ℤ, ◌*ℤ◌, ◌+◌, List, [], ◌∷◌, ◌++◌, length, Result, Ok, Err, OnOk, sym, ◌∙◌}
 use Rattle.std.specs.BTreeMap.{BTreeMap}
-use Rattle.std.proofs.lemmas.Option.{slice_get_within, get_or_from_slice_get}
 use Rattle.definitions.specs.Poly.{coefficient_of, poly_multiple}
 use Rattle.definitions.proofs.Coefficients.{coefficient_of-multiple}
 use Rattle.nc_polynomial.specs.Collected.{coefficient_in}
@@ -12,8 +11,8 @@ use Rattle.cofactor_checker.specs.Difference.{IsLeastDifference}
 use Rattle.cofactor_checker.specs.Running.{IsSumOf}
 use Rattle.cofactor_trace.specs.LemmaRows.{IsEvidenceOf}
 use Rattle.evidence_checker.specs.Rows.{plain_sum}
-use Rattle.evidence_checker.specs.Lemmas.{lemma_polynomial, LemmasPass, RefusesLemma, RefusesRows, RefusesLemmas, row_count}
-use Rattle.evidence_checker.specs.Acceptance.{goal_claim, all_polynomials, Begins, HasLemmas, AddsUp, AcceptsLemmas, SumDiffers, RefusesBlock, RefusesLemmaCertificate}
+use Rattle.evidence_checker.specs.Lemmas.{lemma_polynomial, RefusesLemma, RefusesRows, RefusesLemmas, row_count}
+use Rattle.evidence_checker.specs.Acceptance.{goal_claim, all_polynomials, Begins, HasLemmas, AddsUp, AcceptsLemmas, SumDiffers, RefusesLemmaCertificate}
 use Rattle.evidence_checker.specs.declared.refusal.EvidenceRefusal.{EvidenceRefusal}
 use Rattle.evidence_checker.specs.declared.refusal.EvidenceRefusal.TheVariants as refusal
 use Rattle.evidence_checker.proofs.Evidence.{shows}

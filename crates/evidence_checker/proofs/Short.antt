@@ -1,5 +1,5 @@
 -- what is accepted is refused for want of memory alone
-use Rattle.std.proofs.Common.{◌≡◌, inl, inr, ℕ, suc, ℤ, ◌+◌, List, [], ◌∷◌, ◌++◌, length, Result, Ok, Err, IfErr, sym, subst, ◌∙◌, arith}
+use Rattle.std.proofs.Common.{inl, inr, ℕ, suc, ℤ, ◌+◌, List, [], ◌∷◌, ◌++◌, length, Result, Ok, Err, IfErr, sym, subst, ◌∙◌, arith}
 use Rattle.std.proofs.lemmas.Option.{slice_get_within, get_or_from_slice_get}
 use Rattle.std.specs.Int.RustNames.{unsigned_abs}
 use Rattle.nc_polynomial.specs.Content.{DividesEach}

@@ -13,7 +13,7 @@ use Rattle.nc_polynomial.proofs.Tables.{shaped-table}
 use Rattle.cofactor_checker.specs.Running.{IsRunning, IsSumOf}
 use Rattle.cofactor_checker.proofs.RowSums.{length-polynomials}
 use Rattle.evidence_checker.specs.Rows.{plain_sum}
-use Rattle.evidence_checker.specs.Lemmas.{LemmaRowsPass, HasLeastIndivisible, IsDivisible, IsMade}
+use Rattle.evidence_checker.specs.Lemmas.{LemmaRowsPass, HasLeastIndivisible, IsDivisible}
 use Rattle.evidence_checker.proofs.Terms.{collected_is, quotient_back, no_overflow}
 use Rattle.evidence_checker.proofs.polynomial.make_polynomial.Goals as goal
 

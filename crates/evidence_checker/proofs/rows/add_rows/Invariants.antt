@@ -1,4 +1,4 @@
-use Rattle.std.proofs.Common.{◌≡◌, ◌+◌, ◌++◌, length}
+use Rattle.std.proofs.Common.{◌≡◌, ◌+◌, ◌++◌}
 use Rattle.std.specs.BTreeMap.{IsOrdered}
 use Rattle.word_core.specs.Canonical.{word_cmp}
 use Rattle.adjoint_rules.specs.Problem.{polynomials}
