@@ -5,7 +5,7 @@ pub type Row = (&'static [&'static str], &'static [u8], &'static str);
 
 const PROVE: &[&str] = &["prove", "s"];
 
-// Without a bound the completion of the braid relation goes on for hours.
+// The completion of the braid relation has no end.
 const BRIEFLY: &[&str] = &["prove", "s", "--pairs", "1", "--no-models"];
 
 /// The verdicts are known from algebra, and the numbers of rows from another program.
