@@ -17,7 +17,6 @@ use Rattle.nc_polynomial.specs.Collected.{collected}
 use Rattle.nc_polynomial.specs.Content.{DividesEach}
 use Rattle.nc_polynomial.specs.Faults.{sized, size_fault, has_long_word}
 use Rattle.nc_polynomial.specs.Terms.{products}
-use Rattle.cofactor_trace.specs.declared.Certificate.{Certificate}
 use Rattle.cofactor_trace.specs.declared.evidence.CertFrom.{CertFrom}
 use Rattle.cofactor_trace.specs.declared.evidence.CertFrom.TheVariants as cert
 use Rattle.cofactor_trace.specs.declared.evidence.Lemma.{Lemma}
@@ -32,7 +31,7 @@ use Rattle.cofactor_checker.specs.declared.Refusal.TheVariants as stop
 use Rattle.cofactor_checker.proofs.Judged.{each_certificate_is_judged}
 use Rattle.evidence_checker.specs.Rows.{plain_row, plain_rows, plain_sum, IsGenerator, IsLemma}
 use Rattle.evidence_checker.specs.Lemmas.{LemmaRowsPass, lemma_polynomial, term_total, IsDivisible, IsMade, LemmaPasses, LemmasPass, RefusesRows, IsLeastIndivisible, RefusesLemma, RefusesLemmas, row_count}
-use Rattle.evidence_checker.specs.Acceptance.{goal_claim, all_polynomials, HasScale, IsTight, IsPositive, IsPosed, HasTightScales, HasShares, Begins, HasLemmas, AddsUp, AcceptsLemmas, RefusesLemmaCertificate, RefusesEvidence, IsMemory}
+use Rattle.evidence_checker.specs.Acceptance.{goal_claim, all_polynomials, HasScale, IsTight, IsPositive, IsPosed, HasShares, Begins, HasLemmas, AcceptsLemmas, RefusesLemmaCertificate, RefusesEvidence, IsMemory}
 use Rattle.evidence_checker.specs.Laws.{EvidenceIsJudged}
 use Rattle.evidence_checker.specs.declared.refusal.EvidenceRefusal.{EvidenceRefusal}
 use Rattle.evidence_checker.specs.declared.refusal.EvidenceRefusal.TheVariants as refusal

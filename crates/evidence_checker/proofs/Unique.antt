@@ -10,14 +10,12 @@ use Rattle.definitions.specs.Poly.{poly_multiple, SamePolynomial}
 use Rattle.nc_polynomial.specs.Collected.{collected}
 use Rattle.nc_polynomial.specs.Faults.{sized}
 use Rattle.nc_polynomial.specs.Terms.{products}
-use Rattle.nc_polynomial.specs.declared.fault.PolyFault.TheVariants as fault
 use Rattle.cofactor_trace.specs.declared.Certificate.{Certificate}
 use Rattle.cofactor_trace.specs.declared.evidence.CertFrom.{CertFrom}
 use Rattle.cofactor_trace.specs.declared.evidence.CertFrom.TheVariants as cert
 use Rattle.cofactor_trace.specs.declared.evidence.Lemma.{Lemma}
 use Rattle.cofactor_trace.specs.declared.evidence.LemmaRow.{LemmaRow}
 use Rattle.cofactor_trace.specs.declared.evidence.LemmaCertificate.{LemmaCertificate}
-use Rattle.cofactor_trace.specs.declared.evidence.Evidence.{Evidence}
 use Rattle.cofactor_trace.specs.declared.evidence.Evidence.TheVariants.{Plain, Lemmas}
 use Rattle.cofactor_checker.specs.Rows.{IsNumberUpTo}
 use Rattle.cofactor_checker.specs.Acceptance.{Refuses}
@@ -26,8 +24,8 @@ use Rattle.cofactor_checker.specs.declared.Refusal.TheVariants as stop
 use Rattle.cofactor_checker.proofs.Outcomes.{accepted_is_not_refused}
 use Rattle.cofactor_checker.proofs.Unique.{refusal_is_unique}
 use Rattle.evidence_checker.specs.Rows.{plain_rows, plain_sum, IsGenerator, IsLemma}
-use Rattle.evidence_checker.specs.Lemmas.{LemmaRowsPass, lemma_polynomial, term_total, IsDivisible, LemmaPasses, LemmasPass, RefusesRows, IsLeastIndivisible, RefusesLemma, RefusesLemmas, row_count}
-use Rattle.evidence_checker.specs.Acceptance.{goal_claim, all_polynomials, IsTight, IsPositive, IsPosed, HasTightScales, HasShares, Begins, HasLemmas, IsFirstLoose, HasLooseGoal, AcceptsEvidence, RefusesBlock, RefusesLemmaCertificate, RefusesEvidence, IsMemory}
+use Rattle.evidence_checker.specs.Lemmas.{LemmaRowsPass, lemma_polynomial, term_total, IsDivisible, LemmasPass, RefusesRows, IsLeastIndivisible, RefusesLemma, RefusesLemmas, row_count}
+use Rattle.evidence_checker.specs.Acceptance.{goal_claim, all_polynomials, IsTight, IsPositive, IsPosed, HasTightScales, HasShares, Begins, HasLemmas, IsFirstLoose, HasLooseGoal, RefusesBlock, RefusesLemmaCertificate, RefusesEvidence, IsMemory}
 use Rattle.evidence_checker.specs.Laws.{EvidenceRefusalIsUnique, AcceptedEvidenceIsNotRefused}
 use Rattle.evidence_checker.specs.declared.refusal.EvidenceRefusal.{EvidenceRefusal}
 use Rattle.evidence_checker.specs.declared.refusal.EvidenceRefusal.TheVariants as refusal
