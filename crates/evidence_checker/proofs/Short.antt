@@ -15,7 +15,7 @@ use Rattle.evidence_checker.specs.declared.refusal.EvidenceRefusal.{EvidenceRefu
 use Rattle.evidence_checker.specs.declared.refusal.EvidenceRefusal.TheVariants as refusal
 
 module _ (gs : List (List (ℤ × List ℕ))) where
-  short_row : (ps : List (List (ℤ × List ℕ))) (before : ℕ) (rows : List LemmaRow) → LemmaRowsPass gs ps rows → (e : EvidenceRefusal) → RefusesRows gs ps before rows e → IsMemory e
+  pub short_row : (ps : List (List (ℤ × List ℕ))) (before : ℕ) (rows : List LemmaRow) → LemmaRowsPass gs ps rows → (e : EvidenceRefusal) → RefusesRows gs ps before rows e → IsMemory e
   short_row ps before rows pass (refusal.NoSuchGenerator row) h = h.lacks.generator (passes_there (plain_rows gs ps rows) pass h.lacks.before h.lacks.row h.lacks.reached.row).generator
   short_row ps before rows pass (refusal.NoSuchLemma row) h = h.lacks.generator (passes_there (plain_rows gs ps rows) pass h.lacks.before h.lacks.row h.lacks.reached.row).generator
   short_row ps before rows pass (refusal.Overflow row o) h =
@@ -33,12 +33,12 @@ module _ (gs : List (List (ℤ × List ℕ))) where
   short_row ps before rows pass (refusal.Certificate e) h = absurd h
 
   -- where the scale divides all, it leaves no rest
-  no_rest : (s : ℤ) (p : List (ℤ × List ℕ)) (word : List ℕ) (got : ℤ) → DividesEach (unsigned_abs s) p → IsLeastIndivisible s p word got → ⊥
+  pub no_rest : (s : ℤ) (p : List (ℤ × List ℕ)) (word : List ℕ) (got : ℤ) → DividesEach (unsigned_abs s) p → IsLeastIndivisible s p word got → ⊥
   no_rest s [] word got each found = found
   no_rest s (t ∷ p) word got each (inl later) = no_rest s p word got (λ k d below. each (suc k) d (omega arith)) later
   no_rest s (t ∷ p) word got each (inr here) = here.1.0 (each 0 t (omega arith))
 
-  short_lemma : (ps : List (List (ℤ × List ℕ))) (before : ℕ) (l : Lemma) → LemmaPasses gs ps l → (e : EvidenceRefusal) → RefusesLemma gs ps before l e → IsMemory e
+  pub short_lemma : (ps : List (List (ℤ × List ℕ))) (before : ℕ) (l : Lemma) → LemmaPasses gs ps l → (e : EvidenceRefusal) → RefusesLemma gs ps before l e → IsMemory e
   short_lemma ps before l pass (refusal.NoSuchGenerator row) h = short_row ps before l.rows pass.made.rows (refusal.NoSuchGenerator row) h
   short_lemma ps before l pass (refusal.NoSuchLemma row) h = short_row ps before l.rows pass.made.rows (refusal.NoSuchLemma row) h
   short_lemma ps before l pass (refusal.Overflow row o) h = short_row ps before l.rows pass.made.rows (refusal.Overflow row o) h
@@ -53,7 +53,7 @@ module _ (gs : List (List (ℤ × List ℕ))) where
   short_lemma ps before l pass (refusal.Differs word want got) h = absurd h
   short_lemma ps before l pass (refusal.Certificate e) h = absurd h
 
-  short_lemmas : (ps : List (List (ℤ × List ℕ))) (rows : ℕ) (lemmas : List Lemma) → LemmasPass gs ps lemmas → (e : EvidenceRefusal) → RefusesLemmas gs ps rows lemmas e → IsMemory e
+  pub short_lemmas : (ps : List (List (ℤ × List ℕ))) (rows : ℕ) (lemmas : List Lemma) → LemmasPass gs ps lemmas → (e : EvidenceRefusal) → RefusesLemmas gs ps rows lemmas e → IsMemory e
   short_lemmas ps rows [] pass e h = absurd h
   short_lemmas ps rows (l ∷ lemmas) pass e (inl here) = short_lemma ps rows l pass.0 e here
   short_lemmas ps rows (l ∷ lemmas) pass e (inr later) = short_lemmas (ps ++ lemma_polynomial gs ps l ∷ []) (rows + length l.rows) lemmas pass.1 e later.1
@@ -63,7 +63,7 @@ module _ (claims gs : List (List (ℤ × List ℕ))) (c : LemmaCertificate) (acc
   short_block e (inl h) = short_lemmas gs [] 0 c.lemmas accepted.adds_up.lemmas.lemmas e h.1
   short_block e (inr h) = short_row gs (all_polynomials gs c) _ c.goal.rows accepted.adds_up.rows e h.1
 
-  short : (e : EvidenceRefusal) → RefusesLemmaCertificate claims gs c e → IsMemory e
+  pub short : (e : EvidenceRefusal) → RefusesLemmaCertificate claims gs c e → IsMemory e
   short refusal.NoSuchClaim h = h accepted.adds_up.lemmas.begins.shares.posed.claim
   short refusal.ZeroDenominator h = h.positive accepted.adds_up.lemmas.begins.shares.posed.positive
   short (refusal.LooseScale lemma) (posed, inl h) =

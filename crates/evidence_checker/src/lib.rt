@@ -17,7 +17,10 @@ use adjoint_rules::Problem;
 use certificate::check_lemmas;
 use cofactor_checker::{Accepted, check};
 use cofactor_trace::Evidence;
-pub use laws::accepted_evidence_adds_up;
+pub use laws::{
+    accepted_evidence_adds_up, accepted_evidence_is_not_refused, evidence_is_judged,
+    evidence_refusal_is_unique,
+};
 pub use refusal::EvidenceRefusal;
 use std::alloc::Global;
 
