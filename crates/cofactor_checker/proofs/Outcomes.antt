@@ -18,7 +18,7 @@ use Rattle.cofactor_checker.specs.declared.Refusal.{Refusal}
 use Rattle.cofactor_checker.specs.declared.Refusal.TheVariants as refusal
 
 -- a row that is there passes, where all do
-passes_there : {generators : List (List (ℤ × List ℕ))} (rows : List Row) → RowsPass generators rows (length rows) → (i : ℕ) (r : Row) → slice_get rows i ≡ Some r → RowPasses generators rows i r
+pub passes_there : {generators : List (List (ℤ × List ℕ))} (rows : List Row) → RowsPass generators rows (length rows) → (i : ℕ) (r : Row) → slice_get rows i ≡ Some r → RowPasses generators rows i r
 passes_there rows pass i r there = pass.at i r (slice_get_within rows i r there) there
 
 module _ (claims generators : List (List (ℤ × List ℕ))) (c : Certificate) where

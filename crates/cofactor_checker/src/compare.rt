@@ -16,7 +16,7 @@ use std::collections::BTreeMap;
 use word_core::Word;
 
 /// The first product of the denominator with a coefficient that leaves the range.
-pub(crate) fn overflow_of_multiple(denominator: i128, claim: &[(i128, Word)]) -> Option<Overflow>
+pub fn overflow_of_multiple(denominator: i128, claim: &[(i128, Word)]) -> Option<Overflow>
     requires denominator { IsCoefficient denominator }
     requires coefficients { All (λ t. IsCoefficient t.0) claim.now }
     ensures { result ≡ first_overflow (products denominator claim.now) }
@@ -31,14 +31,14 @@ pub(crate) fn overflow_of_multiple(denominator: i128, claim: &[(i128, Word)]) ->
 
 /// A word with one coefficient where another is wanted.
 #[derive(Drop)]
-pub(crate) struct Difference {
+pub struct Difference {
     pub word: Word,
     pub want: i128,
     pub got: i128,
 }
 
 /// The least word at which the sum isn't the denominator times the claim.
-pub(crate) fn least_difference(
+pub fn least_difference(
     sum: &BTreeMap<Word, i128>,
     denominator: i128,
     claim: &[(i128, Word)],

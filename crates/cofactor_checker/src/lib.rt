@@ -9,9 +9,9 @@ ghost use Rattle.cofactor_checker.specs.Laws.{EachCertificateIsJudged};
 ghost use Rattle.cofactor_trace.specs.Rows.{rows_of};
 ghost use Rattle.definitions.specs.Combination.{IsCombination};
 
-mod compare;
-mod rows;
-mod sum;
+pub mod compare;
+pub mod rows;
+pub mod sum;
 
 use adjoint_rules::Problem;
 use coef_int::Overflow;

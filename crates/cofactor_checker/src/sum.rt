@@ -15,7 +15,7 @@ use word_core::Word;
 
 /// What stops a sum.
 #[derive(Debug, Drop)]
-pub(crate) enum SumFault {
+pub enum SumFault {
     Overflow(Overflow),
     Memory(AllocError),
 }
@@ -51,7 +51,7 @@ fn add_term(sum: &mut BTreeMap<Word, i128>, word: Word, product: i128) -> Result
 }
 
 /// Adds the row c l G r to the sum, where G has these terms.
-pub(crate) fn add_row(
+pub fn add_row(
     sum: &mut BTreeMap<Word, i128>,
     row: &CertRow,
     generator: &[(i128, Word)],

@@ -1,0 +1,4 @@
+pub mod Rows
+pub mod Lemmas
+pub mod Acceptance
+pub mod Laws

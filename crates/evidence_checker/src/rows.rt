@@ -1,0 +1,112 @@
+//! The rows of a lemma or of the goal, added up.
+ghost use Rattle.std.specs.Prelude.{◌≡◌, ◌≤◌, ◌+◌, ◌++◌, length, All, OnOk, IfOk, IfErr, IfSome, IfNone, MatchResult, None};
+ghost use Rattle.std.specs.BTreeMap.{IsOrdered};
+ghost use Rattle.coef_int.specs.Operations.{first_overflow};
+ghost use Rattle.coef_int.specs.Range.{IsCoefficient};
+ghost use Rattle.definitions.specs.Combination.{generator_at};
+ghost use Rattle.definitions.specs.Poly.{poly_multiple, poly_between};
+ghost use Rattle.adjoint_rules.specs.Problem.{polynomials};
+ghost use Rattle.nc_polynomial.specs.Shape.{IsShaped};
+ghost use Rattle.nc_polynomial.specs.Collected.{coefficient_in};
+ghost use Rattle.word_core.specs.Canonical.{word_cmp};
+ghost use Rattle.cofactor_checker.specs.Operations.{adding_operations};
+ghost use Rattle.cofactor_checker.specs.Rows.{IsNumberUpTo};
+ghost use Rattle.cofactor_checker.specs.Running.{IsRunning, IsSumOf, Adds, IsStoppedBy};
+ghost use Rattle.evidence_checker.specs.Rows.{place_of, plain_sum};
+ghost use Rattle.evidence_checker.specs.Lemmas.{LemmaRowsPass, RefusesRows};
+
+use crate::EvidenceRefusal;
+use cofactor_checker::rows::numbered;
+use cofactor_checker::sum::{SumFault, add_row};
+use cofactor_trace::{CertFrom, CertRow, LemmaRow};
+use nc_polynomial::Poly;
+use std::alloc::Global;
+use std::collections::BTreeMap;
+use word_core::Word;
+
+const TERM_LIMIT: usize = 200_000;
+
+// The generator or the lemma that a row is over.
+#[tactic(auto, using(crate::proofs::Places::found_generator, crate::proofs::Places::found_lemma))]
+fn named<'a>(generators: &'a [Poly], lemmas: &'a [Poly], from: CertFrom) -> Option<&'a Poly>
+    ensures found { let place = place_of (length generators.now) (length lemmas.now) from in
+        IfSome result (λ p. generator_at (polynomials generators.now ++ polynomials lemmas.now) place ≡ p.now.terms) }
+    ensures in_range { let place = place_of (length generators.now) (length lemmas.now) from in
+        IfSome result (λ _. IsNumberUpTo (length generators.now + length lemmas.now) place) }
+    ensures absent { let place = place_of (length generators.now) (length lemmas.now) from in
+        IfNone result (IsNumberUpTo (length generators.now + length lemmas.now) place → ⊥) }
+{
+    match from {
+        CertFrom::Generator(number) => numbered(generators, number),
+        CertFrom::Lemma(number) => numbered(lemmas, number),
+    }
+}
+
+// Adds the row c l G r to the sum, where G has these terms.
+fn add_terms(
+    sum: &mut BTreeMap<Word, i128>,
+    row: &LemmaRow,
+    terms: &[(i128, Word)],
+) -> Result<(), SumFault>
+    requires coefficient { IsCoefficient row.now.coef }
+    requires shaped { IsShaped terms.now }
+    requires running { IsRunning sum.old }
+    ensures running { OnOk result (IsRunning sum.new) }
+    ensures added { let r = row.now in
+        OnOk result (Adds sum.old sum.new (poly_multiple r.coef (poly_between r.left terms.now r.right))) }
+    ensures exact { let r = row.now in
+        let first = first_overflow (adding_operations (coefficient_in sum.old) r.coef r.left terms.now r.right) in
+        MatchResult result (λ _. first ≡ None) (IsStoppedBy first) }
+{
+    let plain = CertRow {
+        coef: row.coef,
+        left: row.left.copy()?,
+        generator: 0,
+        right: row.right.copy()?,
+    };
+    add_row(sum, &plain, terms)
+}
+
+/// The sum of the rows of a lemma or of the goal, before which so many rows stand, or the first refusal among
+/// them.
+pub(crate) fn add_rows(
+    alloc: Global,
+    generators: &[Poly],
+    lemmas: &[Poly],
+    rows: &[LemmaRow],
+    before: u32,
+) -> Result<BTreeMap<Word, i128>, EvidenceRefusal>
+    requires count { before + length rows.now ≤ 4294967295 }
+    requires coefficients { All (λ r. IsCoefficient r.coef) rows.now }
+    ensures running { IfOk result IsRunning }
+    ensures ordered { IfOk result (IsOrdered word_cmp) }
+    ensures sum { IfOk result (λ m. IsSumOf m (plain_sum (polynomials generators.now) (polynomials lemmas.now) rows.now)) }
+    ensures passed { OnOk result (LemmaRowsPass (polynomials generators.now) (polynomials lemmas.now) rows.now) }
+    ensures refused { IfErr result (RefusesRows (polynomials generators.now) (polynomials lemmas.now) before rows.now) }
+{
+    let mut sum = BTreeMap::new(alloc);
+    let mut number = before;
+    for row in rows {
+        number += 1;
+        let Some(named) = named(generators, lemmas, row.from) else {
+            return match row.from {
+                CertFrom::Generator(_) => Err(EvidenceRefusal::NoSuchGenerator { row: number }),
+                CertFrom::Lemma(_) => Err(EvidenceRefusal::NoSuchLemma { row: number }),
+            };
+        };
+        match add_terms(&mut sum, row, named.terms.as_slice()) {
+            Ok(()) => {}
+            Err(SumFault::Overflow(overflow)) => {
+                return Err(EvidenceRefusal::Overflow {
+                    row: number,
+                    overflow,
+                });
+            }
+            Err(SumFault::Memory(failed)) => return Err(EvidenceRefusal::Memory(failed)),
+        }
+        if sum.len() > TERM_LIMIT {
+            return Err(EvidenceRefusal::Size { row: number });
+        }
+    }
+    Ok(sum)
+}
