@@ -1,13 +1,19 @@
--- The lines of a certificate.
-use Rattle.std.specs.Prelude.{ℕ, ◌+◌, ◌-◌, ◌^◌, ◌&&◌, ◌||◌, Bool, false, List, [], ◌∷◌, ◌++◌, length, nat_le, nat_lt, ℤ, pos, Option, Some, None, Result, Ok, Err, if◌then◌else◌, codes}
+-- The lines of certificates of both formats.
+use Rattle.std.specs.Prelude.{ℕ, ◌+◌, ◌-◌, ◌^◌, ◌==◌, ◌&&◌, ◌||◌, Bool, true, false, not, List, [], ◌∷◌, length, nat_le, nat_lt, ℤ, pos, Option, Some, None, Result, Ok, Err, if◌then◌else◌, codes}
 use Rattle.std.specs.List.{list_all}
 use Rattle.std.specs.Option.{option_map, option_and_then}
 use Rattle.std.specs.Str.{bytes_eq}
+use Rattle.std.specs.Str.Parse.{digits_value}
 use Rattle.quiver.specs.Declarations.{Declaration}
 use Rattle.cofactor_trace.specs.declared.CertRow.{CertRow}
-use Rattle.cofactor_trace.specs.declared.Certificate.{Certificate}
+use Rattle.cofactor_trace.specs.declared.evidence.CertFrom.{CertFrom}
+use Rattle.cofactor_trace.specs.declared.evidence.CertFrom.TheVariants as over
+use Rattle.cofactor_trace.specs.declared.evidence.LemmaRow.{LemmaRow}
+use Rattle.cofactor_trace.specs.declared.evidence.Format.{Format}
+use Rattle.cofactor_trace.specs.declared.evidence.Format.TheVariants.{Plain, Lemmas}
 use Rattle.certificate_text.specs.declared.fault.Flaw.{Flaw}
 use Rattle.certificate_text.specs.declared.fault.Flaw.TheVariants.{BadLine, UnknownName, NumberTooLarge, TooMany}
+use Rattle.certificate_text.specs.declared.place.Size.{Size}
 use Rattle.certificate_text.specs.Fault.{◌>>=◌, asked}
 use Rattle.certificate_text.specs.Letters.{is_letter, letter_of, is_number, number_within, is_integer, integer_within}
 
@@ -20,7 +26,7 @@ number_limit = 2 ^ 32 - 1
 abbrev pub integer_limit : ℕ
 integer_limit = 2 ^ 127 - 1
 
--- of the letters of a word, of the rows of a block and of the letters in them, and of the blocks
+-- of the letters of a word, of the rows and the lemmas of a block, of the letters in its rows, and of the blocks
 abbrev pub word_limit : ℕ
 word_limit = 500
 
@@ -39,6 +45,11 @@ block_limit = 100
 abbrev pub is : List ℕ → List ℕ → Bool
 is word token = bytes_eq token word
 
+-- whether the line begins with this word
+abbrev pub begins : List ℕ → List (List ℕ) → Bool
+begins word [] = false
+begins word (token ∷ tokens) = is word token
+
 -- whether the line is these two words
 abbrev pub is_pair : List ℕ → List ℕ → List (List ℕ) → Bool
 is_pair first second (a ∷ b ∷ []) = is first a && is second b
@@ -47,13 +58,16 @@ is_pair first second (a ∷ []) = false
 is_pair first second (a ∷ b ∷ c ∷ tokens) = false
 
 -- `certificate 1`
-abbrev pub is_head : List (List ℕ) → Bool
-is_head = is_pair (codes "certificate") (codes "1")
+abbrev pub is_plain_head : List (List ℕ) → Bool
+is_plain_head = is_pair (codes "certificate") (codes "1")
+
+-- `certificate 2`
+abbrev pub is_lemmas_head : List (List ℕ) → Bool
+is_lemmas_head = is_pair (codes "certificate") (codes "2")
 
 -- whether a block of another kind begins
 abbrev pub is_other_head : List (List ℕ) → Bool
-is_other_head [] = false
-is_other_head (token ∷ tokens) = is (codes "model") token || is (codes "basis") token
+is_other_head line = begins (codes "model") line || begins (codes "basis") line
 
 -- `end`
 abbrev pub is_end : List (List ℕ) → Bool
@@ -73,16 +87,54 @@ number_behind word (a ∷ b ∷ c ∷ tokens) = None
 abbrev pub claim_of : List (List ℕ) → Result ℕ Flaw
 claim_of line = asked BadLine (number_behind (codes "claim") line) >>= λ digits. asked NumberTooLarge (number_within number_limit digits)
 
+-- a number as a positive integer or 0
+abbrev pub integer_of : List ℕ → Result ℤ Flaw
+integer_of digits = asked NumberTooLarge (option_map pos (number_within integer_limit digits))
+
 abbrev pub denominator_of : List (List ℕ) → Result ℤ Flaw
-denominator_of line = asked BadLine (number_behind (codes "denominator") line) >>= λ digits. asked NumberTooLarge (option_map pos (number_within integer_limit digits))
+denominator_of line = asked BadLine (number_behind (codes "denominator") line) >>= integer_of
 
--- ---- `row C (LETTERS) G (LETTERS)`
+-- ---- `lemma K scale S` and `goal scale S`
 
--- the tokens of C, of the letters in front of G, of G, and of the letters behind it
+-- the number behind `scale`
+abbrev pub scale_digits : List (List ℕ) → Option (List ℕ)
+scale_digits = number_behind (codes "scale")
+
+-- whether the token is a number with this value
+abbrev pub is_value : ℕ → List ℕ → Bool
+is_value n token = is_number token && (digits_value 10 token == n)
+
+-- what stands behind the scale of the lemma with this number
+abbrev pub lemma_digits : ℕ → List (List ℕ) → Option (List ℕ)
+lemma_digits number [] = None
+lemma_digits number (word ∷ []) = None
+lemma_digits number (word ∷ k ∷ tokens) = if is (codes "lemma") word && is_value number k then scale_digits tokens else None
+
+-- the scale of the lemma behind so many others; there are at most as many as rows
+abbrev pub lemma_scale_of : ℕ → List (List ℕ) → Result ℤ Flaw
+lemma_scale_of before line =
+    asked BadLine (lemma_digits (before + 1) line) >>= λ digits.
+    (integer_of digits >>= λ scale.
+    if nat_le row_limit before then Err (TooMany row_limit) else Ok scale)
+
+-- what stands behind `goal`
+abbrev pub goal_digits : List (List ℕ) → Option (List ℕ)
+goal_digits [] = None
+goal_digits (word ∷ tokens) = if is (codes "goal") word then scale_digits tokens else None
+
+-- the scale of the goal
+abbrev pub goal_scale_of : List (List ℕ) → Result ℤ Flaw
+goal_scale_of line = asked BadLine (goal_digits line) >>= integer_of
+
+-- ---- `row C (LETTERS) G (LETTERS)` and `row C (LETTERS) lemma K (LETTERS)`
+
+-- the tokens of C, of the letters in front, of the number of the generator or lemma, and of the letters behind it
 pub record RowTokens : Type 0 where
   pub coefficient : List ℕ
   pub left : List (List ℕ)
-  pub generator : List ℕ
+  -- whether `lemma` stands in front of the number
+  pub lemma : Bool
+  pub number : List ℕ
   pub right : List (List ℕ)
 
 abbrev pub is_open : List ℕ → Bool
@@ -102,51 +154,76 @@ bracketed [] = None
 bracketed (token ∷ tokens) = if is_open token then closed tokens else None
 
 -- nothing stands behind the second bracket
-abbrev pub row_end : List ℕ → List (List ℕ) → List ℕ → List (List ℕ) → List (List ℕ) → Option RowTokens
-row_end coefficient left generator right [] = Some (record { coefficient = coefficient; left = left; generator = generator; right = right })
-row_end coefficient left generator right (token ∷ tokens) = None
+abbrev pub row_end : List ℕ → List (List ℕ) → Bool → List ℕ → List (List ℕ) → List (List ℕ) → Option RowTokens
+row_end coefficient left lemma number right [] = Some (record { coefficient = coefficient; left = left; lemma = lemma; number = number; right = right })
+row_end coefficient left lemma number right (token ∷ tokens) = None
 
--- G ( .. )
-abbrev pub generator_part : List ℕ → List (List ℕ) → List (List ℕ) → Option RowTokens
-generator_part coefficient left [] = None
-generator_part coefficient left (generator ∷ tokens) = option_and_then (λ right. row_end coefficient left generator right.0 right.1) (bracketed tokens)
+-- N ( .. )
+abbrev pub number_part : List ℕ → List (List ℕ) → Bool → List (List ℕ) → Option RowTokens
+number_part coefficient left lemma [] = None
+number_part coefficient left lemma (number ∷ tokens) = option_and_then (λ right. row_end coefficient left lemma number right.0 right.1) (bracketed tokens)
 
--- row C ( .. ) G ( .. )
+-- N ( .. ) or lemma N ( .. )
+abbrev pub origin_part : List ℕ → List (List ℕ) → List (List ℕ) → Option RowTokens
+origin_part coefficient left [] = None
+origin_part coefficient left (word ∷ tokens) = if is (codes "lemma") word then number_part coefficient left true tokens else number_part coefficient left false (word ∷ tokens)
+
+-- row C ( .. ) and a generator or a lemma
 abbrev pub row_parts : List (List ℕ) → Option RowTokens
 row_parts [] = None
 row_parts (word ∷ []) = None
-row_parts (word ∷ coefficient ∷ tokens) = if is (codes "row") word then option_and_then (λ left. generator_part coefficient left.0 left.1) (bracketed tokens) else None
+row_parts (word ∷ coefficient ∷ tokens) = if is (codes "row") word then option_and_then (λ left. origin_part coefficient left.0 left.1) (bracketed tokens) else None
 
 -- numbers stand at the places of numbers, and letters in the brackets
 abbrev pub is_row : RowTokens → Bool
-is_row r = is_integer r.coefficient && (list_all is_letter r.left && (is_number r.generator && list_all is_letter r.right))
+is_row r = is_integer r.coefficient && (list_all is_letter r.left && (is_number r.number && list_all is_letter r.right))
 
-abbrev pub row_tokens : List (List ℕ) → Option RowTokens
-row_tokens line = option_and_then (λ r. if is_row r then Some r else None) (row_parts line)
+-- the tokens of a row; rows over lemmas are in certificates of format 2 alone
+abbrev pub row_tokens : Format → List (List ℕ) → Option RowTokens
+row_tokens Plain line = option_and_then (λ r. if not r.lemma && is_row r then Some r else None) (row_parts line)
+row_tokens Lemmas line = option_and_then (λ r. if is_row r then Some r else None) (row_parts line)
 
 -- the letters that the tokens spell, if each spells one
 abbrev pub word_of : List Declaration → List (List ℕ) → Option (List ℕ)
 word_of ds [] = Some []
 word_of ds (token ∷ tokens) = option_and_then (λ a. option_map (λ w. a ∷ w) (word_of ds tokens)) (letter_of ds token)
 
--- the grammar comes first, then the names, and then the numbers
-abbrev pub row_of : List Declaration → List (List ℕ) → Result CertRow Flaw
-row_of ds line =
-    asked BadLine (row_tokens line) >>= λ r.
-    (asked UnknownName (word_of ds r.left) >>= λ left.
+-- the values of the tokens, by the number of the generator or lemma: first the names, and then the numbers
+abbrev pub row_values : List Declaration → RowTokens → Result CertRow Flaw
+row_values ds r =
+    asked UnknownName (word_of ds r.left) >>= λ left.
     (asked UnknownName (word_of ds r.right) >>= λ right.
     (asked NumberTooLarge (integer_within integer_limit r.coefficient) >>= λ coefficient.
-    (asked NumberTooLarge (number_within number_limit r.generator) >>= λ generator.
-    Ok (record { coef = coefficient; left = left; generator = generator; right = right })))))
+    (asked NumberTooLarge (number_within number_limit r.number) >>= λ number.
+    Ok (record { coef = coefficient; left = left; generator = number; right = right }))))
 
--- how many letters the row has
-abbrev pub letters_in : CertRow → ℕ
-letters_in row = length row.left + length row.right
+-- the grammar comes first
+abbrev pub row_of : List Declaration → List (List ℕ) → Result CertRow Flaw
+row_of ds line = asked BadLine (row_tokens Plain line) >>= row_values ds
 
--- the rows of a block and the number of letters in them, with one row more, within the limits
-abbrev pub with_row : List CertRow → ℕ → CertRow → Result (List CertRow × ℕ) Flaw
-with_row rows letters row =
-    if nat_lt word_limit (length row.left) || nat_lt word_limit (length row.right) then Err (TooMany word_limit)
-    else if nat_le row_limit (length rows) then Err (TooMany row_limit)
-    else if nat_lt letter_limit (letters + letters_in row) then Err (TooMany letter_limit)
-    else Ok (rows ++ row ∷ [], letters + letters_in row)
+-- what the row is over
+abbrev pub from : Bool → ℕ → CertFrom
+from true n = over.Lemma n
+from false n = over.Generator n
+
+-- the same with a lemma in the generator's place
+abbrev pub over_lemma : Bool → CertRow → LemmaRow
+over_lemma lemma row = record { coef = row.coef; left = row.left; from = from lemma row.generator; right = row.right }
+
+-- a row of a certificate of format 2
+abbrev pub lemma_row_of : List Declaration → List (List ℕ) → Result LemmaRow Flaw
+lemma_row_of ds line = asked BadLine (row_tokens Lemmas line) >>= λ r. (row_values ds r >>= λ row. Ok (over_lemma r.lemma row))
+
+-- ---- the size of a block
+
+-- no rows
+abbrev pub no_rows : Size
+no_rows = record { rows = 0; letters = 0 }
+
+-- with one row more, of these words, within the limits
+abbrev pub grown : Size → List ℕ → List ℕ → Result Size Flaw
+grown size left right =
+    if nat_lt word_limit (length left) || nat_lt word_limit (length right) then Err (TooMany word_limit)
+    else if nat_le row_limit size.rows then Err (TooMany row_limit)
+    else if nat_lt letter_limit (size.letters + (length left + length right)) then Err (TooMany letter_limit)
+    else Ok (record { rows = size.rows + 1; letters = size.letters + (length left + length right) })

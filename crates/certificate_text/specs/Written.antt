@@ -17,7 +17,7 @@ use Rattle.cofactor_trace.specs.declared.evidence.LemmaCertificate.{LemmaCertifi
 use Rattle.cofactor_trace.specs.declared.evidence.Evidence.{Evidence}
 use Rattle.cofactor_trace.specs.declared.evidence.Evidence.TheVariants.{Plain, Lemmas}
 use Rattle.word_core.specs.Letters.{IsOver}
-use Rattle.certificate_text.specs.Evidence.{IsRowOver}
+use Rattle.certificate_text.specs.Evidence.{IsRowOver, IsLemmaRowOver}
 
 -- of a letter that comes from what its name stands for: an identity, a map, or the adjoint of a map
 abbrev pub spelled_as : List ℕ → ℕ → Option Named → List ℕ
@@ -108,10 +108,6 @@ evidence_text ds (Plain c) = certificate_text ds c
 evidence_text ds (Lemmas c) = lemma_certificate_text ds c
 
 -- ---- the letters of evidence are letters of the quiver
-
-pub record IsLemmaRowOver (ds : List Declaration) (row : LemmaRow) : Type 0 where
-  pub left : IsOver (letter_count ds) row.left
-  pub right : IsOver (letter_count ds) row.right
 
 abbrev pub IsLemmaOver : List Declaration → Lemma → Type 0
 IsLemmaOver ds l = All (IsLemmaRowOver ds) l.rows

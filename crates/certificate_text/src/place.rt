@@ -1,5 +1,23 @@
-use cofactor_trace::Certificate;
+use cofactor_trace::{Certificate, Evidence, Format, Lemma};
 use lists::Listing;
+
+/// How many rows a block has so far, and how many letters stand in them.
+#[derive(Clone, Copy)]
+pub struct Size {
+    pub rows: u32,
+    pub letters: u32,
+}
+
+/// What was read of a certificate with lemmas whose rows go on.
+#[derive(Drop)]
+pub struct Opened {
+    pub claim: u32,
+    pub denominator: i128,
+    /// The lemmas all of whose rows were read.
+    pub lemmas: Listing<Lemma>,
+    /// Of the rows of all lemmas and of the goal.
+    pub size: Size,
+}
 
 /// Where a line stands.
 #[derive(Drop)]
@@ -9,21 +27,38 @@ pub enum Place {
     /// In a block of another kind.
     Skipped,
     /// Behind the head of a certificate.
-    Headed,
+    Headed {
+        form: Format,
+    },
     /// Behind its claim.
     Claimed {
+        form: Format,
         claim: u32,
     },
-    /// Behind its denominator, with the rows so far and the number of letters in them.
+    /// In the rows of a certificate without lemmas.
     Rows {
         certificate: Certificate,
-        letters: u32,
+        size: Size,
+    },
+    /// Behind the denominator of a certificate with lemmas.
+    Opened {
+        opened: Opened,
+    },
+    /// In the rows of a lemma.
+    Lemma {
+        opened: Opened,
+        lemma: Lemma,
+    },
+    /// In the rows of the goal.
+    Goal {
+        opened: Opened,
+        goal: Lemma,
     },
 }
 
-/// The certificates that were read, and where the next line stands.
+/// The blocks that were read, and where the next line stands.
 #[derive(Drop)]
 pub struct Progress {
-    pub certificates: Listing<Certificate>,
+    pub blocks: Listing<Evidence>,
     pub place: Place,
 }
