@@ -1,40 +1,40 @@
 -- The certificates that are read can be checked.
-use Rattle.std.proofs.Common.{◌≡◌, ◌<◌, ◌≤◌, ◌+◌, ◌-◌, ◌^◌, ℕ, zero, suc, ℤ, pos, neg_ℤ, Bool, true, false, cond, ◌&&◌, ◌||◌, List, [], ◌∷◌, ◌++◌, Option, Some, None, Result, Ok, Err, IfOk, arith, refl, sym, ap, ◌∙◌, subst, length, nat_lt, nat_le, codes}
-use Rattle.std.specs.List.{All}
-use Rattle.std.specs.Option.{option_map, option_and_then}
-use Rattle.std.specs.Str.{is_utf8}
-use Rattle.std.specs.Str.Lines.{lines}
+use Rattle.std.proofs.Common.{◌≡◌, ◌<◌, ◌≤◌, ◌+◌, ℕ, zero, suc, ℤ, pos, Bool, true, false, cond, ◌||◌, List, [], ◌∷◌, ◌++◌, Option, Some, None, Ok, arith, refl, sym, ap, ◌∙◌, subst, length, nat_lt, nat_le, codes}
+use Rattle.std.specs.List.{All, flat_map}
 use Rattle.std.proofs.lemmas.Bool.{leb-true, leb-false}
-use Rattle.std.proofs.lemmas.List.{length-append}
+use Rattle.std.proofs.lemmas.Grind.{flat_map-append}
+use Rattle.std.proofs.lemmas.List.{length-append, append-nil}
 use Rattle.std.proofs.lemmas.List.Elements.{All-nil, All-cons, All-push}
 use Rattle.std.proofs.lemmas.Option.{option_and_then_some}
 use Rattle.coef_int.specs.Range.{IsCoefficient}
-use Rattle.definitions.specs.Quiver.{star}
 use Rattle.word_core.specs.Letters.{IsOver}
 use Rattle.quiver.specs.declared.named.Named.{Named}
 use Rattle.quiver.specs.declared.named.Named.TheVariants.{Object, Map}
-use Rattle.quiver.specs.Declarations.{Declaration, letter_count, named_in, identity_in, quiver_of, IsNamed}
+use Rattle.quiver.specs.Declarations.{Declaration, letter_count, named_in, identity_in, IsNamed}
 use Rattle.quiver.proofs.Found.{is_named}
 use Rattle.quiver.proofs.Identities.{identity_in_range}
 use Rattle.cofactor_trace.specs.declared.CertRow.{CertRow}
 use Rattle.cofactor_trace.specs.declared.Certificate.{Certificate}
-use Rattle.certificate_text.specs.declared.fault.CertFault.{CertFault}
-use Rattle.certificate_text.specs.declared.fault.Flaw.{Flaw}
+use Rattle.cofactor_trace.specs.declared.evidence.LemmaRow.{LemmaRow}
+use Rattle.cofactor_trace.specs.declared.evidence.Lemma.{Lemma}
+use Rattle.cofactor_trace.specs.declared.evidence.Evidence.{Evidence}
+use Rattle.cofactor_trace.specs.declared.evidence.Evidence.TheVariants as block
+use Rattle.cofactor_trace.specs.declared.evidence.Format.{Format}
+use Rattle.cofactor_trace.specs.declared.evidence.Format.TheVariants as format
 use Rattle.certificate_text.specs.declared.fault.Flaw.TheVariants.{BadLine, UnknownName, NumberTooLarge}
+use Rattle.certificate_text.specs.declared.place.Size.{Size}
+use Rattle.certificate_text.specs.declared.place.Opened.{Opened}
 use Rattle.certificate_text.specs.declared.place.Place.{Place}
-use Rattle.certificate_text.specs.declared.place.Place.TheVariants.{Outside, Skipped, Headed, Claimed, Rows}
+use Rattle.certificate_text.specs.declared.place.Place.TheVariants as at
 use Rattle.certificate_text.specs.declared.place.Progress.{Progress}
-use Rattle.certificate_text.specs.Fault.{Fault, ◌>>=◌, asked, at_line, not_utf8, ReadsText}
-use Rattle.certificate_text.specs.Tokens.{tokens_of, is_skipped}
-use Rattle.certificate_text.specs.Letters.{Spelled, spelled_by, letter_named, starred, letter_of, number_within, is_negative, digits_of, signed, integer_within}
-use Rattle.certificate_text.specs.Lines.{RowTokens, is_head, is_other_head, is_end, number_behind, claim_of, denominator_of, integer_limit, number_limit, row_limit, block_limit, row_tokens, word_of, row_of, with_row}
-use Rattle.certificate_text.specs.Evidence.{progress, outside, rows_of, in_rows, step, read_tokens, read_lines, beginning, ended, blocks_of, one_or_more, certificates_of, IsRowOver, IsCheckable}
-use Rattle.certificate_text.proofs.Results.{bind_ok, asked_ok, at_line_ok}
+use Rattle.certificate_text.specs.Fault.{asked}
+use Rattle.certificate_text.specs.Letters.{spelled_by, letter_named, starred, letter_of, number_within, is_negative, digits_of, signed, integer_within}
+use Rattle.certificate_text.specs.Lines.{RowTokens, begins, is_plain_head, is_lemmas_head, is_other_head, is_end, number_behind, claim_of, integer_of, denominator_of, lemma_digits, lemma_scale_of, goal_digits, goal_scale_of, integer_limit, number_limit, row_limit, word_limit, letter_limit, block_limit, row_tokens, word_of, row_values, row_of, over_lemma, lemma_row_of, grown}
+use Rattle.certificate_text.specs.Reading.{progress, headed, lemmas_headed, outside, certificate_of, begun, in_rows, lemma_of, closed_by, resized, scaled, lemma_row, in_lemma, lemma_certificate_of, in_goal, step, evidence_of}
+use Rattle.certificate_text.specs.Evidence.{IsRowOver, IsLemmaRowOver, IsCheckable, IsCheckableLemma, IsCheckableByLemmas, IsCheckableEvidence}
+use Rattle.certificate_text.proofs.Results.{bind_ok, asked_ok, cond_ok, else_ok, ok_has, map_some}
+use Rattle.certificate_text.proofs.Kept.{kept_by_text}
 use Rattle.certificate_text.proofs.Stars.{star_in_range}
-
-map_some : {A B P : Type 0} (f : A → B) (o : Option A) (y : B) → option_map f o ≡ Some y → ((x : A) → o ≡ Some x → f x ≡ y → P) → P
-map_some f (Some x) y e k = k x refl (cc)
-map_some f None y e k = absurd (cc)
 
 -- ---- numbers
 
@@ -55,11 +55,28 @@ integer_in_range token z read =
     map_some (signed (is_negative token)) (number_within integer_limit (digits_of token)) z read
     (λ n is same. subst IsCoefficient same (signed_in_range (is_negative token) n (number_is_within integer_limit (digits_of token) n is)))
 
+positive_in_range : (digits : List ℕ) (z : ℤ) → integer_of digits ≡ Ok z → IsCoefficient z
+positive_in_range digits z read =
+    map_some pos (number_within integer_limit digits) z (asked_ok NumberTooLarge _ z read)
+    (λ n within same. subst IsCoefficient same (signed_in_range false n (number_is_within integer_limit digits n within)))
+
 denominator_in_range : (line : List (List ℕ)) (d : ℤ) → denominator_of line ≡ Ok d → IsCoefficient d
-denominator_in_range line d read =
-    bind_ok (asked BadLine (number_behind (codes "denominator") line)) _ d read (λ digits there is.
-    map_some pos (number_within integer_limit digits) d (asked_ok NumberTooLarge _ d is)
-    (λ n within same. subst IsCoefficient same (signed_in_range false n (number_is_within integer_limit digits n within))))
+denominator_in_range line d read = bind_ok (asked BadLine (number_behind (codes "denominator") line)) _ d read (λ digits there is. positive_in_range digits d is)
+
+goal_scale_in_range : (line : List (List ℕ)) (s : ℤ) → goal_scale_of line ≡ Ok s → IsCoefficient s
+goal_scale_in_range line s read = bind_ok (asked BadLine (goal_digits line)) _ s read (λ digits there is. positive_in_range digits s is)
+
+-- the scale of a lemma, before which there was room for one more
+record IsLemmaScale (before : ℕ) (s : ℤ) : Type 0 where
+  room : before < 200000
+  scale : IsCoefficient s
+
+lemma_scale_in_range : (before : ℕ) (line : List (List ℕ)) (s : ℤ) → lemma_scale_of before line ≡ Ok s → IsLemmaScale before s
+lemma_scale_in_range before line s read =
+    bind_ok (asked BadLine (lemma_digits (before + 1) line)) _ s read (λ digits there read_on.
+    bind_ok (integer_of digits) _ s read_on (λ scale scale_is counted.
+    else_ok (nat_le row_limit before) _ _ s counted (λ few made.
+    ok_has (IsLemmaScale before) scale s made (record { room = leb-false row_limit before few; scale = positive_in_range digits scale scale_is }))))
 
 -- ---- letters
 
@@ -94,148 +111,242 @@ record IsGoodRow (ds : List Declaration) (row : CertRow) : Type 0 where
   coefficient : IsCoefficient row.coef
   letters : IsRowOver ds row
 
-row_is_good : (ds : List Declaration) (line : List (List ℕ)) (row : CertRow) → row_of ds line ≡ Ok row → IsGoodRow ds row
-row_is_good ds line row read =
-    bind_ok (asked BadLine (row_tokens line)) _ row read (λ r there read_left.
+values_are_good : (ds : List Declaration) (r : RowTokens) (row : CertRow) → row_values ds r ≡ Ok row → IsGoodRow ds row
+values_are_good ds r row read_left =
     bind_ok (asked UnknownName (word_of ds r.left)) _ row read_left (λ left left_is read_right.
     bind_ok (asked UnknownName (word_of ds r.right)) _ row read_right (λ right right_is read_coefficient.
-    bind_ok (asked NumberTooLarge (integer_within integer_limit r.coefficient)) _ row read_coefficient (λ coefficient coefficient_is read_generator.
-    bind_ok (asked NumberTooLarge (number_within number_limit r.generator)) _ row read_generator (λ generator generator_is made.
-    let same : record { coef = coefficient; left = left; generator = generator; right = right } ≡ row = cc in
-    subst (IsGoodRow ds) same (record {
+    bind_ok (asked NumberTooLarge (integer_within integer_limit r.coefficient)) _ row read_coefficient (λ coefficient coefficient_is read_number.
+    bind_ok (asked NumberTooLarge (number_within number_limit r.number)) _ row read_number (λ number number_is made.
+    ok_has (IsGoodRow ds) (record { coef = coefficient; left = left; generator = number; right = right }) row made (record {
       coefficient = integer_in_range r.coefficient coefficient (asked_ok NumberTooLarge _ coefficient coefficient_is);
       letters = record {
         left = word_is_over ds r.left left (asked_ok UnknownName _ left left_is);
         right = word_is_over ds r.right right (asked_ok UnknownName _ right right_is);
       };
-    }))))))
+    })))))
 
-record IsLonger (rows : List CertRow) (row : CertRow) (longer : List CertRow × ℕ) : Type 0 where
-  is : longer.0 ≡ rows ++ row ∷ []
-  few : length longer.0 ≤ 200000
+row_is_good : (ds : List Declaration) (line : List (List ℕ)) (row : CertRow) → row_of ds line ≡ Ok row → IsGoodRow ds row
+row_is_good ds line row read = bind_ok (asked BadLine (row_tokens format.Plain line)) _ row read (λ r there values. values_are_good ds r row values)
 
-longer_by : (rows : List CertRow) (n : ℕ) (row : CertRow) (longer : List CertRow × ℕ) (long full many : Bool) (e f g : Flaw) → nat_le row_limit (length rows) ≡ full
-    → ◌≡◌ {A = Result (List CertRow × ℕ) Flaw} (cond long (Err e) (cond full (Err f) (cond many (Err g) (Ok (rows ++ row ∷ [], n))))) (Ok longer) → IsLonger rows row longer
-longer_by rows n row longer true full many e f g room read = absurd (cc)
-longer_by rows n row longer false true many e f g room read = absurd (cc)
-longer_by rows n row longer false false true e f g room read = absurd (cc)
-longer_by rows n row longer false false false e f g room read =
-    let same : (rows ++ row ∷ [], n) ≡ longer = cc in
-    let below : length rows < row_limit = leb-false row_limit (length rows) room in
-    subst (IsLonger rows row) same (record { is = refl; few = omega (arith, below, length-append rows (row ∷ [])) })
+record IsGoodLemmaRow (ds : List Declaration) (row : LemmaRow) : Type 0 where
+  coefficient : IsCoefficient row.coef
+  letters : IsLemmaRowOver ds row
 
-is_longer : (rows : List CertRow) (letters : ℕ) (row : CertRow) (longer : List CertRow × ℕ) → with_row rows letters row ≡ Ok longer → IsLonger rows row longer
-is_longer rows letters row longer read = longer_by rows _ row longer _ _ _ _ _ _ refl read
+lemma_row_is_good : (ds : List Declaration) (line : List (List ℕ)) (row : LemmaRow) → lemma_row_of ds line ≡ Ok row → IsGoodLemmaRow ds row
+lemma_row_is_good ds line row read =
+    bind_ok (asked BadLine (row_tokens format.Lemmas line)) _ row read (λ r there values.
+    bind_ok (row_values ds r) _ row values (λ plain plain_is made.
+    let good = values_are_good ds r plain plain_is in
+    ok_has (IsGoodLemmaRow ds) (over_lemma r.lemma plain) row made (record { coefficient = good.coefficient; letters = record { left = good.letters.left; right = good.letters.right } })))
 
--- ---- blocks
+-- one row more, within the limit
+record HasGrown (size next : Size) : Type 0 where
+  more : next.rows ≡ size.rows + 1
+  few : next.rows ≤ 200000
+
+has_grown : (size : Size) (left right : List ℕ) (next : Size) → grown size left right ≡ Ok next → HasGrown size next
+has_grown size left right next read =
+    else_ok (nat_lt word_limit (length left) || nat_lt word_limit (length right)) _ _ next read (λ short read_on.
+    else_ok (nat_le row_limit size.rows) _ _ next read_on (λ room counted.
+    else_ok (nat_lt letter_limit (size.letters + (length left + length right))) _ _ next counted (λ fits made.
+    let below : size.rows < row_limit = leb-false row_limit size.rows room in
+    ok_has (HasGrown size) _ next made (record { more = refl; few = omega (arith, below) }))))
+
+-- ---- certificates without lemmas
+
+-- with as many rows as its size says
+record IsGoodPlain (ds : List Declaration) (c : Certificate) (size : Size) : Type 0 where
+  checkable : IsCheckable ds c
+  counted : length c.rows ≡ size.rows
+
+with_row : (ds : List Declaration) (c : Certificate) (size : Size) (row : CertRow) (next : Size) → IsGoodPlain ds c size → IsGoodRow ds row → HasGrown size next
+    → IsGoodPlain ds (certificate_of c.claim c.denominator (c.rows ++ row ∷ [])) next
+with_row ds c size row next good fits more = record {
+  checkable = record {
+    few = omega (arith, length-append c.rows (row ∷ []), good.counted, more.more, more.few);
+    denominator = good.checkable.denominator;
+    coefficients = All-push (λ r. IsCoefficient r.coef) c.rows row good.checkable.coefficients fits.coefficient;
+    letters = All-push (IsRowOver ds) c.rows row good.checkable.letters fits.letters;
+  };
+  counted = omega (arith, length-append c.rows (row ∷ []), good.counted, more.more);
+}
+
+-- ---- certificates with lemmas
+
+-- how many rows the lemmas have
+abbrev rows_in : List Lemma → ℕ
+rows_in lemmas = length (flat_map (λ l. l.rows) lemmas)
+
+rows_in-push : (lemmas : List Lemma) (l : Lemma) → rows_in (lemmas ++ l ∷ []) ≡ rows_in lemmas + length l.rows
+rows_in-push lemmas l = ap length (flat_map-append (λ l. l.rows) lemmas (l ∷ [])) ∙ length-append _ _ ∙ ap (λ n. rows_in lemmas + n) (ap length (append-nil l.rows))
+
+-- what was read of one, whose rows that are not those of its lemmas are as many as this
+record IsGoodOpened (ds : List Declaration) (o : Opened) (rows : ℕ) : Type 0 where
+  few_lemmas : length o.lemmas ≤ 200000
+  few_rows : o.size.rows ≤ 200000
+  counted : rows_in o.lemmas + rows ≡ o.size.rows
+  denominator : IsCoefficient o.denominator
+  lemmas : All (IsCheckableLemma ds) o.lemmas
+
+-- the same where the rows are those of a lemma or of the goal
+record IsGoodAt (ds : List Declaration) (o : Opened) (l : Lemma) : Type 0 where
+  opened : IsGoodOpened ds o (length l.rows)
+  lemma : IsCheckableLemma ds l
+
+-- the same of a lemma for which there is room
+record IsGoodLemma (ds : List Declaration) (o : Opened) (l : Lemma) : Type 0 where
+  here : IsGoodAt ds o l
+  room : length o.lemmas < 200000
+
+without_rows : (ds : List Declaration) (s : ℤ) → IsCoefficient s → IsCheckableLemma ds (lemma_of s [])
+without_rows ds s scale = record { scale = scale; coefficients = All-nil (λ r. IsCoefficient r.coef); letters = All-nil (IsLemmaRowOver ds) }
+
+-- a row more
+record IsNextOf (ds : List Declaration) (o : Opened) (next : Opened × Lemma) : Type 0 where
+  here : IsGoodAt ds next.0 next.1
+  lemmas : next.0.lemmas ≡ o.lemmas
+
+with_lemma_row : (ds : List Declaration) (o : Opened) (l : Lemma) (row : LemmaRow) (size : Size) → IsGoodAt ds o l → IsGoodLemmaRow ds row → HasGrown o.size size
+    → IsNextOf ds o (resized o size, lemma_of l.scale (l.rows ++ row ∷ []))
+with_lemma_row ds o l row size good fits more = record {
+  here = record {
+    opened = record {
+      few_lemmas = good.opened.few_lemmas;
+      few_rows = more.few;
+      counted = omega (arith, length-append l.rows (row ∷ []), good.opened.counted, more.more);
+      denominator = good.opened.denominator;
+      lemmas = good.opened.lemmas;
+    };
+    lemma = record {
+      scale = good.lemma.scale;
+      coefficients = All-push (λ r. IsCoefficient r.coef) l.rows row good.lemma.coefficients fits.coefficient;
+      letters = All-push (IsLemmaRowOver ds) l.rows row good.lemma.letters fits.letters;
+    };
+  };
+  lemmas = refl;
+}
+
+lemma_row_good : (ds : List Declaration) (o : Opened) (l : Lemma) (line : List (List ℕ)) (next : Opened × Lemma) → IsGoodAt ds o l → lemma_row ds o l line ≡ Ok next → IsNextOf ds o next
+lemma_row_good ds o l line next good read =
+    bind_ok (lemma_row_of ds line) _ next read (λ row row_is read_on.
+    bind_ok (grown o.size row.left row.right) _ next read_on (λ size size_is made.
+    ok_has (IsNextOf ds o) _ next made (with_lemma_row ds o l row size good (lemma_row_is_good ds line row row_is) (has_grown o.size row.left row.right size size_is))))
+
+-- the lemma is one of those whose rows were read
+closed_good : (ds : List Declaration) (o : Opened) (l : Lemma) → IsGoodLemma ds o l → IsGoodOpened ds (closed_by o l) 0
+closed_good ds o l good = record {
+  few_lemmas = omega (arith, length-append o.lemmas (l ∷ []), good.room);
+  few_rows = good.here.opened.few_rows;
+  counted = omega (arith, rows_in-push o.lemmas l, good.here.opened.counted);
+  denominator = good.here.opened.denominator;
+  lemmas = All-push (IsCheckableLemma ds) o.lemmas l good.here.opened.lemmas good.here.lemma;
+}
+
+made_checkable : (ds : List Declaration) (o : Opened) (goal : Lemma) → IsGoodAt ds o goal → IsCheckableByLemmas ds (lemma_certificate_of o goal)
+made_checkable ds o goal good = record {
+  few_lemmas = good.opened.few_lemmas;
+  few_rows = omega (arith, good.opened.counted, good.opened.few_rows);
+  denominator = good.opened.denominator;
+  lemmas = good.opened.lemmas;
+  goal = good.lemma;
+}
+
+-- ---- lines
 
 -- what is read of a block
 abbrev IsGoodPlace : List Declaration → Place → Type 0
-IsGoodPlace ds Outside = Unit {0}
-IsGoodPlace ds Skipped = Unit {0}
-IsGoodPlace ds Headed = Unit {0}
-IsGoodPlace ds (Claimed n) = Unit {0}
-IsGoodPlace ds (Rows certificate letters) = IsCheckable ds certificate
+IsGoodPlace ds at.Outside = Unit {0}
+IsGoodPlace ds at.Skipped = Unit {0}
+IsGoodPlace ds (at.Headed form) = Unit {0}
+IsGoodPlace ds (at.Claimed form n) = Unit {0}
+IsGoodPlace ds (at.Rows c size) = IsGoodPlain ds c size
+IsGoodPlace ds (at.Opened o) = IsGoodOpened ds o 0
+IsGoodPlace ds (at.Lemma o l) = IsGoodLemma ds o l
+IsGoodPlace ds (at.Goal o goal) = IsGoodAt ds o goal
 
 record IsGood (ds : List Declaration) (p : Progress) : Type 0 where
-  done : All (IsCheckable ds) p.certificates
+  done : All (IsCheckableEvidence ds) p.blocks
   place : IsGoodPlace ds p.place
 
-outside_by : (ds : List Declaration) (done : List Certificate) (q : Progress) (head full other : Bool) (e f : Flaw) → All (IsCheckable ds) done
-    → ◌≡◌ {A = Result Progress Flaw} (cond head (cond full (Err e) (Ok (progress done Headed))) (cond other (Ok (progress done Skipped)) (Err f))) (Ok q) → IsGood ds q
-outside_by ds done q true true other e f good read = absurd (cc)
-outside_by ds done q true false other e f good read = let same : progress done Headed ≡ q = cc in subst (IsGood ds) same (record { done = good; place = tt })
-outside_by ds done q false full true e f good read = let same : progress done Skipped ≡ q = cc in subst (IsGood ds) same (record { done = good; place = tt })
-outside_by ds done q false full false e f good read = absurd (cc)
+module _ (ds : List Declaration) (done : List Evidence) (good : All (IsCheckableEvidence ds) done) where
+  good_at : (place : Place) → IsGoodPlace ds place → IsGood ds (progress done place)
+  good_at place here = record { done = good; place = here }
 
-skipped_by : (ds : List Declaration) (end : Bool) → IsGoodPlace ds (cond end Outside Skipped)
-skipped_by ds true = tt
-skipped_by ds false = tt
+  one_more : (e : Evidence) → IsCheckableEvidence ds e → IsGood ds (progress (done ++ e ∷ []) at.Outside)
+  one_more e checkable = record { done = All-push (IsCheckableEvidence ds) done e good checkable; place = tt }
 
-with_row_good : (ds : List Declaration) (certificate : Certificate) (row : CertRow) (longer : List CertRow × ℕ) → IsCheckable ds certificate → IsGoodRow ds row → IsLonger certificate.rows row longer
-    → IsCheckable ds (record { claim = certificate.claim; denominator = certificate.denominator; rows = longer.0 })
-with_row_good ds certificate row longer good fits more = record {
-  few = more.few;
-  denominator = good.denominator;
-  coefficients = subst (λ (rows : List CertRow). All (λ r. IsCoefficient r.coef) rows) (sym more.is) (All-push (λ r. IsCoefficient r.coef) certificate.rows row good.coefficients fits.coefficient);
-  letters = subst (λ (rows : List CertRow). All (IsRowOver ds) rows) (sym more.is) (All-push (IsRowOver ds) certificate.rows row good.letters fits.letters);
-}
+  headed_good : (form : Format) (q : Progress) → headed done form ≡ Ok q → IsGood ds q
+  headed_good form q read = else_ok (nat_le block_limit (length done)) _ _ q read (λ room made. ok_has (IsGood ds) _ q made (good_at (at.Headed form) tt))
 
-rows_by : (ds : List Declaration) (done : List Certificate) (certificate : Certificate) (letters : ℕ) (line : List (List ℕ)) (q : Progress) (end : Bool) → All (IsCheckable ds) done → IsCheckable ds certificate
-    → cond end (Ok (progress (done ++ certificate ∷ []) Outside)) (row_of ds line >>= λ row. (with_row certificate.rows letters row >>= λ rows.
-    Ok (progress done (rows_of certificate.claim certificate.denominator rows)))) ≡ Ok q → IsGood ds q
-rows_by ds done certificate letters line q true good here read =
-    let same : progress (done ++ certificate ∷ []) Outside ≡ q = cc in
-    subst (IsGood ds) same (record { done = All-push (IsCheckable ds) done certificate good here; place = tt })
-rows_by ds done certificate letters line q false good here read =
-    bind_ok (row_of ds line) _ q read (λ row row_is read_on.
-    bind_ok (with_row certificate.rows letters row) _ q read_on (λ longer longer_is made.
-    let same : progress done (rows_of certificate.claim certificate.denominator longer) ≡ q = cc in
-    subst (IsGood ds) same (record {
-      done = good;
-      place = with_row_good ds certificate row longer here (row_is_good ds line row row_is) (is_longer certificate.rows letters row longer longer_is);
-    })))
+  lemmas_headed_good : (most : Format) (q : Progress) → lemmas_headed most done ≡ Ok q → IsGood ds q
+  lemmas_headed_good format.Plain q read = absurd (cc)
+  lemmas_headed_good format.Lemmas q read = headed_good format.Lemmas q read
 
-step_good : (ds : List Declaration) (done : List Certificate) (place : Place) (line : List (List ℕ)) (q : Progress) → All (IsCheckable ds) done → IsGoodPlace ds place → step ds done place line ≡ Ok q → IsGood ds q
-step_good ds done Outside line q good here read = outside_by ds done q _ _ _ _ _ good read
-step_good ds done Skipped line q good here read =
-    let same : progress done (cond (is_end line) Outside Skipped) ≡ q = cc in
-    subst (IsGood ds) same (record { done = good; place = skipped_by ds (is_end line) })
-step_good ds done Headed line q good here read =
-    bind_ok (claim_of line) _ q read (λ n n_is made.
-    let same : progress done (Claimed n) ≡ q = cc in subst (IsGood ds) same (record { done = good; place = tt }))
-step_good ds done (Claimed n) line q good here read =
-    bind_ok (denominator_of line) _ q read (λ d d_is made.
-    let same : progress done (rows_of n d ([], 0)) ≡ q = cc in
-    subst (IsGood ds) same (record {
-      done = good;
-      place = record {
-        few = omega arith;
-        denominator = denominator_in_range line d d_is;
-        coefficients = All-nil (λ r. IsCoefficient r.coef);
-        letters = All-nil (IsRowOver ds);
-      };
-    }))
-step_good ds done (Rows certificate letters) line q good here read = rows_by ds done certificate letters line q _ good here read
+  outside_good : (most : Format) (line : List (List ℕ)) (q : Progress) → outside most done line ≡ Ok q → IsGood ds q
+  outside_good most line q read =
+      cond_ok (is_plain_head line) _ _ q read (λ head made. headed_good format.Plain q made) (λ not_plain others.
+      cond_ok (is_lemmas_head line) _ _ q others (λ head made. lemmas_headed_good most q made) (λ not_lemmas other.
+      cond_ok (is_other_head line) _ _ q other (λ head made. ok_has (IsGood ds) _ q made (good_at at.Skipped tt)) (λ neither refused. absurd (cc))))
 
-tokens_by : (ds : List Declaration) (p q : Progress) (line : List (List ℕ)) (blank : Bool) → IsGood ds p → cond blank (Ok p) (step ds p.certificates p.place line) ≡ Ok q → IsGood ds q
-tokens_by ds p q line true good read = let same : p ≡ q = cc in subst (IsGood ds) same good
-tokens_by ds p q line false good read = step_good ds p.certificates p.place line q good.done good.place read
+  skipped_good : (end : Bool) → IsGoodPlace ds (cond end at.Outside at.Skipped)
+  skipped_good true = tt
+  skipped_good false = tt
 
-lines_good : (ds : List Declaration) (number : ℕ) (p q : Progress) (ls : List (List ℕ)) → IsGood ds p → read_lines ds number p ls ≡ Ok q → IsGood ds q
-lines_good ds number p q [] good read = let same : p ≡ q = cc in subst (IsGood ds) same good
-lines_good ds number p q (line ∷ ls) good read =
-    bind_ok (at_line number (read_tokens ds p (tokens_of line))) _ q read (λ next next_is read_on.
-    lines_good ds (number + 1) next q ls (tokens_by ds p next (tokens_of line) _ good (at_line_ok number _ next next_is)) read_on)
+  begun_good : (form : Format) (n : ℕ) (d : ℤ) → IsCoefficient d → IsGoodPlace ds (begun form n d)
+  begun_good format.Plain n d denominator = record {
+    checkable = record { few = omega arith; denominator = denominator; coefficients = All-nil (λ r. IsCoefficient r.coef); letters = All-nil (IsRowOver ds) };
+    counted = refl;
+  }
+  begun_good format.Lemmas n d denominator = record { few_lemmas = omega arith; few_rows = omega arith; counted = refl; denominator = denominator; lemmas = All-nil (IsCheckableLemma ds) }
+
+  rows_good : (c : Certificate) (size : Size) (line : List (List ℕ)) (q : Progress) → IsGoodPlain ds c size → in_rows ds done c size line ≡ Ok q → IsGood ds q
+  rows_good c size line q here read =
+      cond_ok (is_end line) _ _ q read (λ ends made. ok_has (IsGood ds) _ q made (one_more (block.Plain c) here.checkable)) (λ goes_on another.
+      bind_ok (row_of ds line) _ q another (λ row row_is read_on.
+      bind_ok (grown size row.left row.right) _ q read_on (λ next next_is made.
+      ok_has (IsGood ds) _ q made (good_at (at.Rows (certificate_of c.claim c.denominator (c.rows ++ row ∷ [])) next)
+      (with_row ds c size row next here (row_is_good ds line row row_is) (has_grown size row.left row.right next next_is))))))
+
+  scaled_good : (o : Opened) (line : List (List ℕ)) (q : Progress) → IsGoodOpened ds o 0 → scaled done o line ≡ Ok q → IsGood ds q
+  scaled_good o line q here read =
+      cond_ok (begins (codes "goal") line) _ _ q read
+      (λ goal goal_read.
+      bind_ok (goal_scale_of line) _ q goal_read (λ s s_is made.
+      ok_has (IsGood ds) _ q made (good_at (at.Goal o (lemma_of s [])) (record { opened = here; lemma = without_rows ds s (goal_scale_in_range line s s_is) }))))
+      (λ other lemma_read.
+      bind_ok (lemma_scale_of (length o.lemmas) line) _ q lemma_read (λ s s_is made.
+      let fits = lemma_scale_in_range (length o.lemmas) line s s_is in
+      ok_has (IsGood ds) _ q made (good_at (at.Lemma o (lemma_of s [])) (record { here = record { opened = here; lemma = without_rows ds s fits.scale }; room = fits.room }))))
+
+  in_lemma_good : (o : Opened) (l : Lemma) (line : List (List ℕ)) (q : Progress) → IsGoodLemma ds o l → in_lemma ds done o l line ≡ Ok q → IsGood ds q
+  in_lemma_good o l line q here read =
+      cond_ok (begins (codes "row") line) _ _ q read
+      (λ row row_read.
+      bind_ok (lemma_row ds o l line) _ q row_read (λ next next_is made.
+      let good_next = lemma_row_good ds o l line next here.here next_is in
+      ok_has (IsGood ds) _ q made (good_at (at.Lemma next.0 next.1) (record { here = good_next.here; room = subst (λ (ls : List Lemma). length ls < 200000) (sym good_next.lemmas) here.room }))))
+      (λ other closed. scaled_good (closed_by o l) line q (closed_good ds o l here) closed)
+
+  in_goal_good : (o : Opened) (goal : Lemma) (line : List (List ℕ)) (q : Progress) → IsGoodAt ds o goal → in_goal ds done o goal line ≡ Ok q → IsGood ds q
+  in_goal_good o goal line q here read =
+      cond_ok (is_end line) _ _ q read (λ ends made. ok_has (IsGood ds) _ q made (one_more (block.Lemmas (lemma_certificate_of o goal)) (made_checkable ds o goal here))) (λ goes_on another.
+      bind_ok (lemma_row ds o goal line) _ q another (λ next next_is made.
+      ok_has (IsGood ds) _ q made (good_at (at.Goal next.0 next.1) (lemma_row_good ds o goal line next here next_is).here)))
+
+  step_good : (most : Format) (place : Place) (line : List (List ℕ)) (q : Progress) → IsGoodPlace ds place → step most ds done place line ≡ Ok q → IsGood ds q
+  step_good most at.Outside line q here read = outside_good most line q read
+  step_good most at.Skipped line q here read = ok_has (IsGood ds) _ q read (good_at (cond (is_end line) at.Outside at.Skipped) (skipped_good (is_end line)))
+  step_good most (at.Headed form) line q here read = bind_ok (claim_of line) _ q read (λ n n_is made. ok_has (IsGood ds) _ q made (good_at (at.Claimed form n) tt))
+  step_good most (at.Claimed form n) line q here read =
+      bind_ok (denominator_of line) _ q read (λ d d_is made. ok_has (IsGood ds) _ q made (good_at (begun form n d) (begun_good form n d (denominator_in_range line d d_is))))
+  step_good most (at.Rows c size) line q here read = rows_good c size line q here read
+  step_good most (at.Opened o) line q here read = scaled_good o line q here read
+  step_good most (at.Lemma o l) line q here read = in_lemma_good o l line q here read
+  step_good most (at.Goal o goal) line q here read = in_goal_good o goal line q here read
 
 -- ---- the text
 
-ended_is : (done : List Certificate) (place : Place) (cs : List Certificate) → ended done place ≡ Ok cs → done ≡ cs
-ended_is done Outside cs read = cc
-ended_is done Skipped cs read = absurd (cc)
-ended_is done Headed cs read = absurd (cc)
-ended_is done (Claimed n) cs read = absurd (cc)
-ended_is done (Rows certificate letters) cs read = absurd (cc)
-
-some_are : (found cs : List Certificate) → one_or_more found ≡ Ok cs → found ≡ cs
-some_are [] cs read = absurd (cc)
-some_are (certificate ∷ found) cs read = cc
-
-blocks_by : (ds : List Declaration) (bytes : List ℕ) (cs : List Certificate) (text : Bool) (e : Fault)
-    → cond text (read_lines ds 1 beginning (lines bytes) >>= λ p. ended p.certificates p.place) (Err e) ≡ Ok cs → All (IsCheckable ds) cs
-blocks_by ds bytes cs false e read = absurd (cc)
-blocks_by ds bytes cs true e read =
-    bind_ok (read_lines ds 1 beginning (lines bytes)) _ cs read (λ p p_is ends.
-    let good = lines_good ds 1 beginning p (lines bytes) (record { done = All-nil (IsCheckable ds); place = tt }) p_is in
-    subst (λ (found : List Certificate). All (IsCheckable ds) found) (ended_is p.certificates p.place cs ends) good.done)
-
-are_checkable : (ds : List Declaration) (bytes : List ℕ) (cs : List Certificate) → certificates_of ds bytes ≡ Ok cs → All (IsCheckable ds) cs
-are_checkable ds bytes cs read =
-    bind_ok (blocks_of ds bytes) _ cs read (λ found found_is some.
-    subst (λ (found : List Certificate). All (IsCheckable ds) found) (some_are found cs some) (blocks_by ds bytes found _ not_utf8 found_is))
-
--- what a reader returns that has found these
-pub checkable_result : (ds : List Declaration) (bytes : List ℕ) (found : List Certificate) (r : Result (List Certificate) CertFault) → blocks_of ds bytes ≡ Ok found
-    → ReadsText (λ cs. cs) r (one_or_more found) → IfOk r (All (IsCheckable ds))
-checkable_result ds bytes found (Ok cs) there read = are_checkable ds bytes cs (rw there read)
-checkable_result ds bytes found (Err e) there read = tt
+pub are_checkable : (most : Format) (ds : List Declaration) (bytes : List ℕ) (es : List Evidence) → evidence_of most ds bytes ≡ Ok es → All (IsCheckableEvidence ds) es
+are_checkable most ds =
+    kept_by_text most ds (IsGood ds) (λ p q line fine. step_good ds p.blocks fine.done most p.place line q fine.place) (All (IsCheckableEvidence ds)) (λ p fine. fine.done)
+    (record { done = All-nil (IsCheckableEvidence ds); place = tt })

@@ -1,10 +1,9 @@
 -- The first closing bracket of a line.
-use Rattle.std.proofs.Common.{◌≡◌, ◌<◌, ◌≤◌, ◌+◌, ◌-◌, ℕ, suc, Bool, true, false, List, [], ◌∷◌, Some, None, arith, refl, sym, ap, ◌∙◌, length, take, drop, nat_lt, Bor}
+use Rattle.std.proofs.Common.{◌≡◌, ◌<◌, ◌≤◌, ◌+◌, ◌-◌, ℕ, suc, Bool, true, false, List, [], ◌∷◌, Some, None, arith, refl, length, take, drop, nat_lt, Bor}
 use Rattle.std.proofs.lemmas.Bool.Decides.{nat_tests}
 use Rattle.std.proofs.lemmas.List.{take_rest}
 use Rattle.std.proofs.lemmas.Option.{cond_some}
 use Rattle.std.specs.List.{position, position_or_len}
-use Rattle.std.specs.Option.{option_map}
 use Rattle.certificate_text.specs.Lines.{is_close, closed}
 use Rattle.certificate_text.specs.Views.{texts}
 

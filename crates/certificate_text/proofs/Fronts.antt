@@ -1,6 +1,6 @@
 -- What a loop has read of a list, in front of what the rest gives.
 use Rattle.std.proofs.Common.{◌≡◌, List, [], ◌∷◌, ◌++◌, Option, Some, None, refl, ap}
-use Rattle.std.proofs.lemmas.List.{append_assoc, append-nil}
+use Rattle.std.proofs.lemmas.List.{append_assoc}
 use Rattle.std.specs.Option.{option_map}
 
 abbrev pub behind : {B : Type 0} → List B → Option (List B) → Option (List B)

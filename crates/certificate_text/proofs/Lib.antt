@@ -5,18 +5,13 @@ pub mod Fronts
 pub mod Reading
 pub mod Joins
 pub mod Results
-pub mod Stars
+pub mod Kept
+pub mod PlainBlocks
 pub mod Checkable
+pub mod Answered
+pub mod Stars
 pub mod NameBytes
 pub mod TokensBack
-pub mod LinesBack
-pub mod NumbersBack
 pub mod LettersBack
-pub mod LetterNames
-pub mod TextsBack
-pub mod RowsBack
-pub mod BlocksBack
 pub mod LemmaTexts
-pub mod Shifted
-pub mod ReadBack
 mod Examples

@@ -1,5 +1,5 @@
 -- The value of digits, read from the left.
-use Rattle.std.proofs.Common.{◌≡◌, ◌<◌, ◌≤◌, ◌+◌, ◌*◌, ℕ, List, [], ◌∷◌, None, arith, refl, length, drop, get_or, subst}
+use Rattle.std.proofs.Common.{◌≡◌, ◌<◌, ◌≤◌, ◌+◌, ◌*◌, ℕ, List, [], ◌∷◌, None, arith, refl, length, drop, get_or}
 use Rattle.std.proofs.lemmas.Bool.{lt-leb}
 use Rattle.std.proofs.lemmas.List.{drop_more}
 use Rattle.std.specs.Char.{digit_value}

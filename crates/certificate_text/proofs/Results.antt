@@ -1,7 +1,8 @@
 -- What was read where a reading went well.
-use Rattle.std.proofs.Common.{◌≡◌, ℕ, Option, Some, None, Result, Ok, Err, refl}
+use Rattle.std.proofs.Common.{◌≡◌, ℕ, Bool, true, false, cond, Option, Some, None, Result, Ok, Err, refl, subst}
+use Rattle.std.specs.Option.{option_map}
 use Rattle.certificate_text.specs.declared.fault.Flaw.{Flaw}
-use Rattle.certificate_text.specs.Fault.{Fault, ◌>>=◌, asked, at_line}
+use Rattle.certificate_text.specs.Fault.{◌>>=◌, asked, at_line}
 
 pub bind_ok : {A B F P : Type 0} (r : Result A F) (f : A → Result B F) (y : B) → (r >>= f) ≡ Ok y → ((x : A) → r ≡ Ok x → f x ≡ Ok y → P) → P
 bind_ok (Ok x) f y read use_it = use_it x refl read
@@ -14,3 +15,21 @@ asked_ok f None x read = absurd (cc)
 pub at_line_ok : {A : Type 0} (number : ℕ) (r : Result A Flaw) (x : A) → at_line number r ≡ Ok x → r ≡ Ok x
 at_line_ok number (Ok y) x read = cc
 at_line_ok number (Err f) x read = absurd (cc)
+
+-- one of two readings, by a test
+pub cond_ok : {A F P : Type 0} (b : Bool) (r s : Result A F) (y : A) → cond b r s ≡ Ok y → (b ≡ true → r ≡ Ok y → P) → (b ≡ false → s ≡ Ok y → P) → P
+cond_ok true r s y read use_first use_second = use_first refl read
+cond_ok false r s y read use_first use_second = use_second refl read
+
+-- a test that refuses
+pub else_ok : {A F P : Type 0} (b : Bool) (e : F) (s : Result A F) (y : A) → cond b (Err e) s ≡ Ok y → (b ≡ false → s ≡ Ok y → P) → P
+else_ok true e s y read use_it = absurd (cc)
+else_ok false e s y read use_it = use_it refl read
+
+-- what holds of the value that is there holds of what was read
+pub ok_has : {A F : Type 0} (P : A → Type 0) (x y : A) → ◌≡◌ {A = Result A F} (Ok x) (Ok y) → P x → P y
+ok_has P x y read holds = let same : x ≡ y = cc in subst P same holds
+
+pub map_some : {A B P : Type 0} (f : A → B) (o : Option A) (y : B) → option_map f o ≡ Some y → ((x : A) → o ≡ Some x → f x ≡ y → P) → P
+map_some f (Some x) y e k = k x refl (cc)
+map_some f None y e k = absurd (cc)

@@ -1,9 +1,9 @@
 -- The adjoint of a letter is a letter.
-use Rattle.std.proofs.Common.{◌≡◌, ◌<◌, ◌+◌, ℕ, Bool, true, false, List, [], ◌∷◌, arith, sym, ap, ◌∙◌, subst, length, get_or}
+use Rattle.std.proofs.Common.{◌≡◌, ◌<◌, ◌+◌, ℕ, true, false, List, [], ◌∷◌, arith, sym, subst, length}
 use Rattle.std.specs.List.{AllByRecursion, flat_map}
 use Rattle.std.proofs.lemmas.List.Elements.{All-from_recursion, All-get_or}
 use Rattle.definitions.specs.Quiver.{star}
-use Rattle.quiver.specs.Declarations.{Declaration, object, arrow, letter_count, LetterEntry, letter_table, letters_made, turns_from, letter_at, no_letter, quiver_of}
+use Rattle.quiver.specs.Declarations.{Declaration, object, arrow, letter_count, LetterEntry, letter_table, letters_made, turns_from, no_letter, quiver_of}
 use Rattle.quiver.proofs.Counts.{length-letter_table}
 use Rattle.quiver.proofs.Letters.{star-quiver_of}
 

@@ -4,6 +4,8 @@ use Rattle.certificate_text.specs.declared.fault.Flaw.{Flaw}
 use Rattle.certificate_text.specs.declared.fault.Flaw.TheVariants as flaw
 use Rattle.certificate_text.specs.declared.fault.LineFault.{LineFault}
 use Rattle.certificate_text.specs.declared.fault.LineFault.TheVariants as line_fault
+use Rattle.certificate_text.specs.declared.fault.TextFlaw.{TextFlaw}
+use Rattle.certificate_text.specs.declared.fault.TextFlaw.TheVariants as text_flaw
 use Rattle.certificate_text.specs.declared.fault.CertFault.{CertFault}
 use Rattle.certificate_text.specs.declared.fault.CertFault.TheVariants as cert_fault
 
@@ -43,6 +45,12 @@ truncated = record { code = 6; line = 0; limit = 0 }
 abbrev pub no_block : Fault
 no_block = record { code = 7; line = 0; limit = 0 }
 
+-- what is wrong with a text as a whole
+abbrev pub in_text : TextFlaw → Fault
+in_text text_flaw.NotUtf8 = not_utf8
+in_text text_flaw.Truncated = truncated
+in_text text_flaw.NoBlock = no_block
+
 -- ---- results
 
 -- the value behind another, where neither is wrong
@@ -61,7 +69,17 @@ abbrev pub at_line : {A : Type 0} → ℕ → Result A Flaw → Result A Fault
 at_line number (Ok x) = Ok x
 at_line number (Err f) = Err (in_line number f)
 
+-- what is wrong with a text as a whole has no number of a line
+abbrev pub at_text : {A : Type 0} → Result A TextFlaw → Result A Fault
+at_text (Ok x) = Ok x
+at_text (Err f) = Err (in_text f)
+
 -- ---- how the code tells it; want of memory may come at any time
+
+-- it tells of a fault for which this holds
+abbrev pub ExplainsBy : (Fault → Type 0) → CertFault → Type 0
+ExplainsBy IsFault (cert_fault.Fault code line limit) = IsFault (record { code = code; line = line; limit = limit })
+ExplainsBy IsFault (cert_fault.Memory e) = ⊤
 
 abbrev pub ExplainsLine : {A : Type 0} → Result A Flaw → LineFault → Type 0
 ExplainsLine read (line_fault.Flaw f) = read ≡ Err f
@@ -88,6 +106,10 @@ IsLineMemory (line_fault.Memory e) = ⊤
 abbrev pub IsMemory : CertFault → Type 0
 IsMemory (cert_fault.Fault code line limit) = ⊥
 IsMemory (cert_fault.Memory e) = ⊤
+
+-- how a reader tells what is wrong with a text as a whole
+abbrev pub TellsText : TextFlaw → CertFault → Type 0
+TellsText f told = told ≡ cert_fault.Fault (in_text f).code (in_text f).line (in_text f).limit
 
 -- how a reader of lines tells what is wrong with one
 abbrev pub TellsLine : ℕ → LineFault → CertFault → Type 0

@@ -1,5 +1,5 @@
 -- How a reader goes over the lines of evidence text, and what it has made of the first ones. Only the reader's functions and proofs use it: what an evidence text is, Evidence says.
-use Rattle.std.specs.Prelude.{ℕ, ◌+◌, List, [], ◌∷◌, ◌++◌, length, nat_le, ℤ, Result, Ok, Err, if◌then◌else◌, codes}
+use Rattle.std.specs.Prelude.{⊤, ℕ, ◌+◌, List, [], ◌∷◌, ◌++◌, length, nat_le, ℤ, Result, Ok, Err, if◌then◌else◌, codes}
 use Rattle.std.specs.Str.{is_utf8}
 use Rattle.std.specs.Str.Lines.{lines}
 use Rattle.quiver.specs.Declarations.{Declaration}
@@ -22,6 +22,11 @@ use Rattle.certificate_text.specs.declared.place.Progress.{Progress}
 use Rattle.certificate_text.specs.Fault.{Fault, ◌>>=◌, at_line, not_utf8, truncated, no_block}
 use Rattle.certificate_text.specs.Tokens.{tokens_of, is_skipped}
 use Rattle.certificate_text.specs.Lines.{block_limit, begins, is_plain_head, is_lemmas_head, is_other_head, is_end, claim_of, denominator_of, lemma_scale_of, goal_scale_of, row_of, lemma_row_of, no_rows, grown}
+
+-- the block is of format 1
+abbrev pub IsPlain : Evidence → Type 0
+IsPlain (block.Plain c) = ⊤
+IsPlain (block.Lemmas c) = ⊥
 
 -- the blocks that were read, and where the next line stands
 abbrev pub progress : List Evidence → Place → Progress

@@ -13,5 +13,5 @@ texts tokens = map (λ token. token.now) tokens
 abbrev pub spelled : code_letter.Spelled → Spelled
 spelled s = record { name = s.name.now; identity = s.identity; adjoint = s.adjoint }
 
-abbrev pub row_tokens : code_line.RowTokens → RowTokens
-row_tokens r = record { coefficient = r.coefficient.now; left = texts r.left.now; generator = r.generator.now; right = texts r.right.now }
+abbrev pub parts_of : code_line.RowTokens → RowTokens
+parts_of r = record { coefficient = r.coefficient.now; left = texts r.left.now; lemma = r.lemma; number = r.number.now; right = texts r.right.now }

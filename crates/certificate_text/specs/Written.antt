@@ -1,12 +1,12 @@
 -- How words, polynomials and evidence of both formats are written.
-use Rattle.std.specs.Prelude.{ℕ, suc, ◌==◌, Bool, List, [], ◌∷◌, ◌++◌, map, nat_eq, decimal, ℤ, Option, Some, None, if◌then◌else◌, codes}
+use Rattle.std.specs.Prelude.{ℕ, suc, ◌==◌, List, [], ◌∷◌, ◌++◌, map, nat_eq, decimal, ℤ, Option, Some, None, if◌then◌else◌, codes}
 use Rattle.std.specs.Fmt.{signed_decimal}
 use Rattle.std.specs.Int.{is_negative}
 use Rattle.std.specs.Int.RustNames.{unsigned_abs}
 use Rattle.std.specs.List.{All, flat_map, join_with_byte}
 use Rattle.quiver.specs.declared.named.Named.{Named}
 use Rattle.quiver.specs.declared.named.Named.TheVariants.{Object, Map}
-use Rattle.quiver.specs.Declarations.{Declaration, letter_count, named_in, letter_name}
+use Rattle.quiver.specs.Declarations.{Declaration, named_in, letter_name}
 use Rattle.cofactor_trace.specs.declared.CertRow.{CertRow}
 use Rattle.cofactor_trace.specs.declared.Certificate.{Certificate}
 use Rattle.cofactor_trace.specs.declared.evidence.CertFrom.{CertFrom}
@@ -16,7 +16,6 @@ use Rattle.cofactor_trace.specs.declared.evidence.Lemma.{Lemma}
 use Rattle.cofactor_trace.specs.declared.evidence.LemmaCertificate.{LemmaCertificate}
 use Rattle.cofactor_trace.specs.declared.evidence.Evidence.{Evidence}
 use Rattle.cofactor_trace.specs.declared.evidence.Evidence.TheVariants.{Plain, Lemmas}
-use Rattle.word_core.specs.Letters.{IsOver}
 use Rattle.certificate_text.specs.Evidence.{IsRowOver, IsLemmaRowOver}
 
 -- of a letter that comes from what its name stands for: an identity, a map, or the adjoint of a map

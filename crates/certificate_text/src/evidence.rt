@@ -2,7 +2,8 @@
 
 ghost use Rattle.std.specs.Prelude.{◌≡◌, ◌<◌, ◌+◌, ◌^◌, ◌++◌, IfOk, OnOk, length};
 ghost use Rattle.std.specs.List.{All, flat_map};
-ghost use Rattle.certificate_text.specs.Written.{IsLemmaRowOver, IsLemmaOver, IsEvidenceOver, origin_text, lemma_row_text, scaled_text, lemma_text, lemmas_text, goal_text, lemma_certificate_text, evidence_text};
+ghost use Rattle.certificate_text.specs.Evidence.{IsLemmaRowOver};
+ghost use Rattle.certificate_text.specs.Written.{IsLemmaOver, IsEvidenceOver, origin_text, lemma_row_text, scaled_text, lemma_text, lemmas_text, goal_text, lemma_certificate_text, evidence_text};
 
 use crate::write::{put, put_certificate, put_integer, put_number, put_opening, put_word};
 use cofactor_trace::{CertFrom, Evidence, Lemma, LemmaCertificate, LemmaRow};

@@ -1,5 +1,7 @@
+//! What can be wrong with a line and with a text, and how it is told.
+
 ghost use Rattle.std.specs.Prelude.{◌≡◌};
-ghost use Rattle.certificate_text.specs.Fault.{code_of, limit_of, TellsLine, IsLineMemory};
+ghost use Rattle.certificate_text.specs.Fault.{code_of, limit_of, TellsLine, TellsText, IsLineMemory, IsMemory};
 ghost use Rattle.certificate_text.specs.declared.fault.LineFault.TheVariants as line_fault;
 
 use std::alloc::{AllocError, AllocFailed};
@@ -30,6 +32,17 @@ pub enum Flaw {
     TooMany(u32),
 }
 
+/// What can be wrong with a text as a whole.
+#[derive(Clone, Copy, Debug, PartialEq, Eq)]
+pub enum TextFlaw {
+    /// It is not UTF-8.
+    NotUtf8,
+    /// It ends inside a block.
+    Truncated,
+    /// It has no block.
+    NoBlock,
+}
+
 /// Why a line is not read.
 #[derive(Debug, Drop)]
 pub enum LineFault {
@@ -58,6 +71,31 @@ impl From<Flaw> for LineFault {
 
     fn from(flaw: Flaw) -> LineFault {
         LineFault::Flaw(flaw)
+    }
+}
+
+impl From<AllocError> for CertFault {
+    ghost from_gives = { λ _ e. IsMemory e };
+
+    fn from(failed: AllocError) -> CertFault {
+        CertFault::Memory(failed)
+    }
+}
+
+impl From<TextFlaw> for CertFault {
+    ghost from_gives = { λ flaw e. TellsText flaw e };
+
+    fn from(flaw: TextFlaw) -> CertFault {
+        let code = match flaw {
+            TextFlaw::NotUtf8 => 1,
+            TextFlaw::Truncated => 6,
+            TextFlaw::NoBlock => 7,
+        };
+        CertFault::Fault {
+            code,
+            line: 0,
+            limit: 0,
+        }
     }
 }
 

@@ -4,18 +4,17 @@
 mod cut;
 mod evidence;
 mod fault;
-mod laws;
 mod letter;
 mod line;
 mod number;
 mod place;
 mod read;
+mod step;
 mod write;
 
 pub use evidence::{put_evidence, write_evidence};
 pub use fault::CertFault;
-pub use laws::certificates_are_read_back;
-pub use read::read_certificates;
+pub use read::{read_certificates, read_evidence};
 pub use write::{
     put, put_certificate, put_integer, put_number, put_poly, put_word, write_certificate,
     write_poly, write_word,

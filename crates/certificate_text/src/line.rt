@@ -1,19 +1,19 @@
-//! The lines of a certificate.
+//! The lines of certificates of both formats.
 
-ghost use Rattle.std.specs.Prelude.{◌≡◌, ◌<◌, length, position, IsTrue, IfSome};
+ghost use Rattle.std.specs.Prelude.{◌≡◌, ◌<◌, ◌^◌, length, position, IsTrue, IfSome};
 ghost use Rattle.std.specs.List.{list_all};
 ghost use Rattle.std.specs.Option.{option_copied, option_map};
 ghost use Rattle.certificate_text.specs.declared.fault.Flaw.TheVariants as flaw;
 ghost use Rattle.certificate_text.specs.Fault.{Reads, asked};
 ghost use Rattle.certificate_text.specs.Letters.{is_letter, is_number};
-ghost use Rattle.certificate_text.specs.Lines.{is, is_head, is_other_head, is_end, number_behind, claim_of, denominator_of, is_close, closed, bracketed, generator_part, row_parts, is_row, word_of, row_of, with_row};
-ghost use Rattle.certificate_text.specs.Views.{texts, row_tokens};
+ghost use Rattle.certificate_text.specs.Lines.{is, begins, is_pair, is_plain_head, is_lemmas_head, is_other_head, is_end, number_behind, claim_of, integer_of, denominator_of, scale_digits, is_value, lemma_digits, lemma_scale_of, goal_digits, goal_scale_of, is_close, closed, bracketed, number_part, origin_part, row_parts, is_row, row_tokens, word_of, row_values, row_of, over_lemma, lemma_row_of, grown};
+ghost use Rattle.certificate_text.specs.Views.{texts, parts_of};
 
 use crate::fault::{Flaw, LineFault};
 use crate::letter::{is_letter, letter_of};
 use crate::number::{integer_within, is_integer, is_number, number_within};
-use cofactor_trace::CertRow;
-use lists::Listing;
+use crate::place::Size;
+use cofactor_trace::{CertFrom, CertRow, Format, LemmaRow};
 use quiver::Quiver;
 use std::alloc::Global;
 use word_core::Word;
@@ -28,12 +28,14 @@ const ROW_LIMIT: u32 = 200000;
 
 const LETTER_LIMIT: u32 = 1000000;
 
-/// The tokens of C, of the letters in front of G, of G, and of the letters behind it.
+/// The tokens of C, of the letters in front, of the number of the generator or lemma, and of the letters behind it.
 #[derive(Drop)]
 struct RowTokens<'a, 'b> {
     coefficient: &'a [u8],
     left: &'b [&'a [u8]],
-    generator: &'a [u8],
+    /// Whether `lemma` stands in front of the number.
+    lemma: bool,
+    number: &'a [u8],
     right: &'b [&'a [u8]],
 }
 
@@ -44,24 +46,45 @@ fn is(word: &str, token: &[u8]) -> bool
     word.as_bytes() == token
 }
 
-/// Whether the line is `certificate 1`.
-pub fn is_head(line: &[&[u8]]) -> bool
-    ensures { result ≡ is_head (texts line.now) }
+/// Whether the line begins with this word.
+pub fn begins(word: &str, line: &[&[u8]]) -> bool
+    ensures { result ≡ begins word.now (texts line.now) }
 {
     match line {
-        [first, second] => is("certificate", first) && is("1", second),
+        [first, ..] => is(word, first),
+        [] => false,
+    }
+}
+
+// Whether the line is these two words.
+fn is_pair(first: &str, second: &str, line: &[&[u8]]) -> bool
+    ensures { result ≡ is_pair first.now second.now (texts line.now) }
+{
+    match line {
+        [word, other] => is(first, word) && is(second, other),
         _ => false,
     }
+}
+
+/// Whether the line is `certificate 1`.
+pub fn is_plain_head(line: &[&[u8]]) -> bool
+    ensures { result ≡ is_plain_head (texts line.now) }
+{
+    is_pair("certificate", "1", line)
+}
+
+/// Whether the line is `certificate 2`.
+pub fn is_lemmas_head(line: &[&[u8]]) -> bool
+    ensures { result ≡ is_lemmas_head (texts line.now) }
+{
+    is_pair("certificate", "2", line)
 }
 
 /// Whether a block of another kind begins.
 pub fn is_other_head(line: &[&[u8]]) -> bool
     ensures { result ≡ is_other_head (texts line.now) }
 {
-    match line {
-        [first, ..] => is("model", first) || is("basis", first),
-        [] => false,
-    }
+    begins("model", line) || begins("basis", line)
 }
 
 /// Whether the line is `end`.
@@ -86,28 +109,107 @@ fn number_behind<'a>(word: &str, line: &[&'a [u8]]) -> Option<&'a [u8]>
 }
 
 /// The number of `claim N`.
-pub fn claim_of(line: &[&[u8]]) -> Result<u32, LineFault>
-    ensures { Reads (λ n. n) result (claim_of (texts line.now)) }
+pub fn claim_of(line: &[&[u8]]) -> Result<u32, Flaw>
+    ensures { result ≡ claim_of (texts line.now) }
 {
     let Some(digits) = number_behind("claim", line) else {
-        return Err(LineFault::Flaw(Flaw::BadLine));
+        return Err(Flaw::BadLine);
     };
     match number_within(NUMBER_LIMIT, digits) {
         Some(value) => Ok(value as u32),
-        None => Err(LineFault::Flaw(Flaw::NumberTooLarge)),
+        None => Err(Flaw::NumberTooLarge),
+    }
+}
+
+// A number as a positive integer or 0.
+fn integer_of(digits: &[u8]) -> Result<i128, Flaw>
+    requires { IsTrue (is_number digits.now) }
+    ensures { result ≡ integer_of digits.now }
+{
+    match number_within(INTEGER_LIMIT, digits) {
+        Some(value) => Ok(value as i128),
+        None => Err(Flaw::NumberTooLarge),
     }
 }
 
 /// The number of `denominator D`.
-pub fn denominator_of(line: &[&[u8]]) -> Result<i128, LineFault>
-    ensures { Reads (λ d. d) result (denominator_of (texts line.now)) }
+pub fn denominator_of(line: &[&[u8]]) -> Result<i128, Flaw>
+    ensures { result ≡ denominator_of (texts line.now) }
 {
-    let Some(digits) = number_behind("denominator", line) else {
-        return Err(LineFault::Flaw(Flaw::BadLine));
+    match number_behind("denominator", line) {
+        Some(digits) => integer_of(digits),
+        None => Err(Flaw::BadLine),
+    }
+}
+
+// The number of `scale S`.
+fn scale_digits<'a>(line: &[&'a [u8]]) -> Option<&'a [u8]>
+    ensures exact { option_copied result ≡ scale_digits (texts line.now) }
+    ensures number { IfSome result (λ digits. IsTrue (is_number digits.now)) }
+{
+    number_behind("scale", line)
+}
+
+// Whether the token is a number with this value.
+fn is_value(number: u128, token: &[u8]) -> bool
+    requires { number < 2 ^ 127 }
+    ensures { result ≡ is_value number token.now }
+{
+    if !is_number(token) {
+        return false;
+    }
+    match number_within(number, token) {
+        Some(value) => value == number,
+        None => false,
+    }
+}
+
+// What stands behind the scale of the lemma with this number.
+fn lemma_digits<'a>(number: u128, line: &[&'a [u8]]) -> Option<&'a [u8]>
+    requires { number < 2 ^ 127 }
+    ensures exact { option_copied result ≡ lemma_digits number (texts line.now) }
+    ensures number { IfSome result (λ digits. IsTrue (is_number digits.now)) }
+{
+    match line {
+        [word, token, rest @ ..] if is("lemma", word) && is_value(number, token) => {
+            scale_digits(rest)
+        }
+        _ => None,
+    }
+}
+
+/// The scale of the lemma behind so many others. There are at most as many lemmas as rows.
+pub fn lemma_scale_of(before: usize, line: &[&[u8]]) -> Result<i128, Flaw>
+    ensures { result ≡ lemma_scale_of before (texts line.now) }
+{
+    let Some(digits) = lemma_digits(before as u128 + 1, line) else {
+        return Err(Flaw::BadLine);
     };
-    match number_within(INTEGER_LIMIT, digits) {
-        Some(value) => Ok(value as i128),
-        None => Err(LineFault::Flaw(Flaw::NumberTooLarge)),
+    let scale = integer_of(digits)?;
+    if before >= ROW_LIMIT as usize {
+        return Err(Flaw::TooMany(ROW_LIMIT));
+    }
+    Ok(scale)
+}
+
+// What stands behind `goal scale`.
+fn goal_digits<'a>(line: &[&'a [u8]]) -> Option<&'a [u8]>
+    ensures exact { option_copied result ≡ goal_digits (texts line.now) }
+    ensures number { IfSome result (λ digits. IsTrue (is_number digits.now)) }
+{
+    match line {
+        [word, rest @ ..] if is("goal", word) => scale_digits(rest),
+        _ => None,
+    }
+}
+
+/// The scale of the goal.
+pub fn goal_scale_of(line: &[&[u8]]) -> Result<i128, Flaw>
+    ensures { result ≡ goal_scale_of (texts line.now) }
+{
+    match goal_digits(line) {
+        Some(digits) => integer_of(digits),
+        None => Err(Flaw::BadLine),
     }
 }
 
@@ -138,14 +240,16 @@ fn bracketed<'a, 'b>(line: &'b [&'a [u8]]) -> Option<(&'b [&'a [u8]], &'b [&'a [
     }
 }
 
-fn generator_part<'a, 'b>(
+// `N ( .. )` at the end of a row, behind `lemma` or not.
+fn number_part<'a, 'b>(
     coefficient: &'a [u8],
     left: &'b [&'a [u8]],
+    lemma: bool,
     line: &'b [&'a [u8]],
 ) -> Option<RowTokens<'a, 'b>>
-    ensures { option_map row_tokens result ≡ generator_part coefficient.now (texts left.now) (texts line.now) }
+    ensures { option_map parts_of result ≡ number_part coefficient.now (texts left.now) lemma (texts line.now) }
 {
-    let [generator, rest @ ..] = line else {
+    let [number, rest @ ..] = line else {
         return None;
     };
     let (right, behind) = bracketed(rest)?;
@@ -155,13 +259,28 @@ fn generator_part<'a, 'b>(
     Some(RowTokens {
         coefficient,
         left,
-        generator,
+        lemma,
+        number,
         right,
     })
 }
 
+// `N ( .. )` or `lemma N ( .. )` at the end of a row.
+fn origin_part<'a, 'b>(
+    coefficient: &'a [u8],
+    left: &'b [&'a [u8]],
+    line: &'b [&'a [u8]],
+) -> Option<RowTokens<'a, 'b>>
+    ensures { option_map parts_of result ≡ origin_part coefficient.now (texts left.now) (texts line.now) }
+{
+    match line {
+        [word, rest @ ..] if is("lemma", word) => number_part(coefficient, left, true, rest),
+        _ => number_part(coefficient, left, false, line),
+    }
+}
+
 fn row_parts<'a, 'b>(line: &'b [&'a [u8]]) -> Option<RowTokens<'a, 'b>>
-    ensures { option_map row_tokens result ≡ row_parts (texts line.now) }
+    ensures { option_map parts_of result ≡ row_parts (texts line.now) }
 {
     let [word, coefficient, rest @ ..] = line else {
         return None;
@@ -170,7 +289,7 @@ fn row_parts<'a, 'b>(line: &'b [&'a [u8]]) -> Option<RowTokens<'a, 'b>>
         return None;
     }
     let (left, behind) = bracketed(rest)?;
-    generator_part(coefficient, left, behind)
+    origin_part(coefficient, left, behind)
 }
 
 fn are_letters(tokens: &[&[u8]]) -> bool
@@ -180,12 +299,25 @@ fn are_letters(tokens: &[&[u8]]) -> bool
 }
 
 fn is_row(row: &RowTokens<'_, '_>) -> bool
-    ensures { result ≡ is_row (row_tokens row.now) }
+    ensures { result ≡ is_row (parts_of row.now) }
 {
     is_integer(row.coefficient)
         && are_letters(row.left)
-        && is_number(row.generator)
+        && is_number(row.number)
         && are_letters(row.right)
+}
+
+// The tokens of a row. Rows over lemmas are in certificates of format 2 alone.
+fn row_tokens<'a, 'b>(format: Format, line: &'b [&'a [u8]]) -> Option<RowTokens<'a, 'b>>
+    ensures exact { option_map parts_of result ≡ row_tokens format (texts line.now) }
+    ensures row { IfSome result (λ row. IsTrue (is_row (parts_of row))) }
+{
+    let row = row_parts(line)?;
+    let fits = match format {
+        Format::Plain => !row.lemma && is_row(&row),
+        Format::Lemmas => is_row(&row),
+    };
+    if fits { Some(row) } else { None }
 }
 
 fn word_of(alloc: Global, quiver: &Quiver, tokens: &[&[u8]]) -> Result<Word, LineFault>
@@ -201,51 +333,86 @@ fn word_of(alloc: Global, quiver: &Quiver, tokens: &[&[u8]]) -> Result<Word, Lin
     Ok(word)
 }
 
-/// The row that the line is.
-pub fn row_of(alloc: Global, quiver: &Quiver, line: &[&[u8]]) -> Result<CertRow, LineFault>
-    ensures { Reads (λ row. row) result (row_of quiver.now (texts line.now)) }
+// The values of the tokens, by the number of the generator or lemma.
+fn row_values(
+    alloc: Global,
+    quiver: &Quiver,
+    tokens: &RowTokens<'_, '_>,
+) -> Result<CertRow, LineFault>
+    requires { IsTrue (is_row (parts_of tokens.now)) }
+    ensures { Reads (λ row. row) result (row_values quiver.now (parts_of tokens.now)) }
 {
-    let Some(tokens) = row_parts(line) else {
-        return Err(LineFault::Flaw(Flaw::BadLine));
-    };
-    if !is_row(&tokens) {
-        return Err(LineFault::Flaw(Flaw::BadLine));
-    }
     let left = word_of(alloc, quiver, tokens.left)?;
     let right = word_of(alloc, quiver, tokens.right)?;
     let Some(coef) = integer_within(INTEGER_LIMIT, tokens.coefficient) else {
         return Err(LineFault::Flaw(Flaw::NumberTooLarge));
     };
-    let Some(generator) = number_within(NUMBER_LIMIT, tokens.generator) else {
+    let Some(number) = number_within(NUMBER_LIMIT, tokens.number) else {
         return Err(LineFault::Flaw(Flaw::NumberTooLarge));
     };
     Ok(CertRow {
         coef,
         left,
-        generator: generator as u32,
+        generator: number as u32,
         right,
     })
 }
 
-/// The rows of a block and the number of letters in them, with one row more, within the limits.
-pub fn with_row(
-    mut rows: Listing<CertRow>,
-    letters: u32,
-    row: CertRow,
-) -> Result<(Listing<CertRow>, u32), LineFault>
-    ensures { Reads (λ rows. rows) result (with_row rows letters row) }
+/// The row that the line is, in a certificate of format 1.
+pub fn row_of(alloc: Global, quiver: &Quiver, line: &[&[u8]]) -> Result<CertRow, LineFault>
+    ensures { Reads (λ row. row) result (row_of quiver.now (texts line.now)) }
 {
-    let (left, right) = (row.left.len(), row.right.len());
+    let Some(tokens) = row_tokens(Format::Plain, line) else {
+        return Err(LineFault::Flaw(Flaw::BadLine));
+    };
+    row_values(alloc, quiver, &tokens)
+}
+
+// The row with a lemma or a generator of its number.
+fn over_lemma(lemma: bool, row: CertRow) -> LemmaRow
+    ensures { result ≡ over_lemma lemma row }
+{
+    let from = if lemma {
+        CertFrom::Lemma(row.generator)
+    } else {
+        CertFrom::Generator(row.generator)
+    };
+    LemmaRow {
+        coef: row.coef,
+        left: row.left,
+        from,
+        right: row.right,
+    }
+}
+
+/// The row that the line is, in a certificate of format 2.
+pub fn lemma_row_of(alloc: Global, quiver: &Quiver, line: &[&[u8]]) -> Result<LemmaRow, LineFault>
+    ensures { Reads (λ row. row) result (lemma_row_of quiver.now (texts line.now)) }
+{
+    let Some(tokens) = row_tokens(Format::Lemmas, line) else {
+        return Err(LineFault::Flaw(Flaw::BadLine));
+    };
+    let row = row_values(alloc, quiver, &tokens)?;
+    Ok(over_lemma(tokens.lemma, row))
+}
+
+/// The size of a block with one row more, of these words, within the limits.
+pub fn grown(size: Size, left: &Word, right: &Word) -> Result<Size, Flaw>
+    ensures { result ≡ grown size left.now right.now }
+{
+    let (left, right) = (left.len(), right.len());
     if left > WORD_LIMIT as usize || right > WORD_LIMIT as usize {
-        return Err(LineFault::Flaw(Flaw::TooMany(WORD_LIMIT)));
+        return Err(Flaw::TooMany(WORD_LIMIT));
     }
-    if rows.len() >= ROW_LIMIT as usize {
-        return Err(LineFault::Flaw(Flaw::TooMany(ROW_LIMIT)));
+    if size.rows >= ROW_LIMIT {
+        return Err(Flaw::TooMany(ROW_LIMIT));
     }
-    let letters = letters as usize + left + right;
+    let letters = size.letters as usize + left + right;
     if letters > LETTER_LIMIT as usize {
-        return Err(LineFault::Flaw(Flaw::TooMany(LETTER_LIMIT)));
+        return Err(Flaw::TooMany(LETTER_LIMIT));
     }
-    rows.push(row)?;
-    Ok((rows, letters as u32))
+    Ok(Size {
+        rows: size.rows + 1,
+        letters: letters as u32,
+    })
 }

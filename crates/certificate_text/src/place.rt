@@ -1,3 +1,5 @@
+//! What a reader has made of the lines before one.
+
 use cofactor_trace::{Certificate, Evidence, Format, Lemma};
 use lists::Listing;
 

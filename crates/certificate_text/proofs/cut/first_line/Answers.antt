@@ -1,4 +1,4 @@
-use Rattle.std.proofs.Common.{rules, sym, ◌∙◌}
+use Rattle.std.proofs.Common.{sym, ◌∙◌}
 use Rattle.certificate_text.proofs.Cuts.{line_before, last_line}
 use Rattle.certificate_text.proofs.cut.first_line.Goals as goal
 

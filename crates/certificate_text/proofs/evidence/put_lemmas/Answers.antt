@@ -1,4 +1,4 @@
-use Rattle.std.proofs.Common.{rules, arith, ◌≡◌, ◌++◌, ap, sym, subst}
+use Rattle.std.proofs.Common.{rules, arith, ◌≡◌, ◌++◌, sym, subst}
 use Rattle.std.proofs.lemmas.List.Elements.{All-get_or}
 use Rattle.certificate_text.specs.Written.{IsLemmaOver, lemma_text}
 use Rattle.certificate_text.proofs.LemmaTexts.{lemma_put}
