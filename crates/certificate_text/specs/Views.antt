@@ -2,7 +2,7 @@
 use Rattle.std.specs.Prelude.{ℕ, List, map}
 use Rattle.std.specs.Borrow.{Bor}
 use Rattle.certificate_text.specs.declared.letter.Spelled as code_letter
-use Rattle.certificate_text.specs.declared.line.RowTokens as code_line
+use Rattle.certificate_text.specs.declared.row.RowTokens as code_row
 use Rattle.certificate_text.specs.Letters.{Spelled}
 use Rattle.certificate_text.specs.Lines.{RowTokens}
 
@@ -13,5 +13,5 @@ texts tokens = map (λ token. token.now) tokens
 abbrev pub spelled : code_letter.Spelled → Spelled
 spelled s = record { name = s.name.now; identity = s.identity; adjoint = s.adjoint }
 
-abbrev pub parts_of : code_line.RowTokens → RowTokens
+abbrev pub parts_of : code_row.RowTokens → RowTokens
 parts_of r = record { coefficient = r.coefficient.now; left = texts r.left.now; lemma = r.lemma; number = r.number.now; right = texts r.right.now }

@@ -33,7 +33,7 @@ pub enum Flaw {
 }
 
 /// What can be wrong with a text as a whole.
-#[derive(Clone, Copy, Debug, PartialEq, Eq)]
+#[derive(Clone, Copy)]
 pub enum TextFlaw {
     /// It is not UTF-8.
     NotUtf8,

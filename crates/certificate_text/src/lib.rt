@@ -9,6 +9,7 @@ mod line;
 mod number;
 mod place;
 mod read;
+mod row;
 mod step;
 mod write;
 

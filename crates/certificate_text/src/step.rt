@@ -9,10 +9,11 @@ ghost use Rattle.cofactor_trace.specs.declared.evidence.Format.TheVariants as fo
 
 use crate::fault::{Flaw, LineFault};
 use crate::line::{
-    begins, claim_of, denominator_of, goal_scale_of, grown, is_end, is_lemmas_head, is_other_head,
-    is_plain_head, lemma_row_of, lemma_scale_of, row_of,
+    begins, claim_of, denominator_of, goal_scale_of, is_end, is_lemmas_head, is_other_head,
+    is_plain_head, lemma_scale_of,
 };
 use crate::place::{Opened, Place, Progress, Size};
+use crate::row::{grown, lemma_row_of, row_of};
 use cofactor_trace::{Certificate, Evidence, Format, Lemma, LemmaCertificate};
 use lists::Listing;
 use quiver::Quiver;

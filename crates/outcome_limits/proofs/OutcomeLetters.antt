@@ -24,8 +24,8 @@ use Rattle.rule_reduce.specs.RuleLists.{IsRule}
 use Rattle.quiver.specs.Declarations.{Declaration, letter_count}
 use Rattle.adjoint_rules.specs.declared.problem.Problem.{Problem}
 use Rattle.adjoint_rules.specs.Problem.{polynomials, HasLettersInPlay, IsInPlay, numbers}
-use Rattle.certificate_text.specs.Evidence.{IsRowOver}
-use Rattle.certificate_text.specs.Written.{IsLemmaRowOver, IsLemmaOver, IsEvidenceOver}
+use Rattle.certificate_text.specs.Evidence.{IsRowOver, IsLemmaRowOver}
+use Rattle.certificate_text.specs.Written.{IsLemmaOver, IsEvidenceOver}
 use Rattle.traced_completion.specs.declared.budget.Budget.{Budget}
 use Rattle.traced_completion.specs.Reductions.{IsReducible}
 use Rattle.traced_completion.specs.RunLaws.{HasWords}

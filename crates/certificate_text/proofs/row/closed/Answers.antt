@@ -1,6 +1,6 @@
 use Rattle.std.proofs.Common.{sym, ◌∙◌}
 use Rattle.certificate_text.proofs.Closing.{closed_at, never_closed}
-use Rattle.certificate_text.proofs.line.closed.Goals as goal
+use Rattle.certificate_text.proofs.row.closed.Goals as goal
 
 pub returns-in-Some : goal.returns-in-Some
 returns-in-Some c = sym (closed_at c.args.line.now c.in-Some.place (sym c.close_place.ensures.first ∙ c.in-Some.is) c.in-Some.ensures.within)

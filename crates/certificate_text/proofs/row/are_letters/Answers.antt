@@ -4,7 +4,7 @@ use Rattle.std.proofs.lemmas.Iterator.{YieldsList-from_slice}
 use Rattle.std.proofs.lemmas.Iterator.Search.{all_from_yields_List}
 use Rattle.std.proofs.lemmas.List.Folds.{list_all-map}
 use Rattle.certificate_text.specs.Letters.{is_letter}
-use Rattle.certificate_text.proofs.line.are_letters.Goals as goal
+use Rattle.certificate_text.proofs.row.are_letters.Goals as goal
 
 pub returns : goal.returns
 returns c =

@@ -1,0 +1,239 @@
+//! The rows of certificates of both formats.
+
+ghost use Rattle.std.specs.Prelude.{◌≡◌, ◌<◌, length, position, IsTrue, IfSome};
+ghost use Rattle.std.specs.List.{list_all};
+ghost use Rattle.std.specs.Option.{option_map};
+ghost use Rattle.certificate_text.specs.declared.fault.Flaw.TheVariants as flaw;
+ghost use Rattle.certificate_text.specs.Fault.{Reads, asked};
+ghost use Rattle.certificate_text.specs.Letters.{is_letter};
+ghost use Rattle.certificate_text.specs.Lines.{is_close, closed, bracketed, number_part, origin_part, row_parts, is_row, row_tokens, word_of, row_values, row_of, over_lemma, lemma_row_of, grown};
+ghost use Rattle.certificate_text.specs.Views.{texts, parts_of};
+
+use crate::fault::{Flaw, LineFault};
+use crate::letter::{is_letter, letter_of};
+use crate::line::{INTEGER_LIMIT, NUMBER_LIMIT, ROW_LIMIT, is};
+use crate::number::{integer_within, is_integer, is_number, number_within};
+use crate::place::Size;
+use cofactor_trace::{CertFrom, CertRow, Format, LemmaRow};
+use quiver::Quiver;
+use std::alloc::Global;
+use word_core::Word;
+
+const WORD_LIMIT: u32 = 500;
+
+const LETTER_LIMIT: u32 = 1000000;
+
+/// The tokens of C, of the letters in front, of the number of the generator or lemma, and of the letters behind it.
+#[derive(Drop)]
+struct RowTokens<'a, 'b> {
+    coefficient: &'a [u8],
+    left: &'b [&'a [u8]],
+    /// Whether `lemma` stands in front of the number.
+    lemma: bool,
+    number: &'a [u8],
+    right: &'b [&'a [u8]],
+}
+
+fn close_place(line: &[&[u8]]) -> Option<usize>
+    ensures first { result ≡ position (λ token. is_close token.now) line.now }
+    ensures within { IfSome result (λ place. place < length line.now) }
+{
+    line.iter().position(|token| is(")", token))
+}
+
+// What stands before the first `)` and what stands behind it.
+fn closed<'a, 'b>(line: &'b [&'a [u8]]) -> Option<(&'b [&'a [u8]], &'b [&'a [u8]])>
+    ensures { option_map (λ parts. (texts parts.0.now, texts parts.1.now)) result ≡ closed (texts line.now) }
+{
+    match close_place(line) {
+        Some(place) => Some((&line[..place], &line[place + 1..])),
+        None => None,
+    }
+}
+
+// What stands in a `( .. )` that begins the line and what stands behind it.
+fn bracketed<'a, 'b>(line: &'b [&'a [u8]]) -> Option<(&'b [&'a [u8]], &'b [&'a [u8]])>
+    ensures { option_map (λ parts. (texts parts.0.now, texts parts.1.now)) result ≡ bracketed (texts line.now) }
+{
+    match line {
+        [first, rest @ ..] if is("(", first) => closed(rest),
+        _ => None,
+    }
+}
+
+// `N ( .. )` at the end of a row, behind `lemma` or not.
+fn number_part<'a, 'b>(
+    coefficient: &'a [u8],
+    left: &'b [&'a [u8]],
+    lemma: bool,
+    line: &'b [&'a [u8]],
+) -> Option<RowTokens<'a, 'b>>
+    ensures { option_map parts_of result ≡ number_part coefficient.now (texts left.now) lemma (texts line.now) }
+{
+    let [number, rest @ ..] = line else {
+        return None;
+    };
+    let (right, behind) = bracketed(rest)?;
+    if !behind.is_empty() {
+        return None;
+    }
+    Some(RowTokens {
+        coefficient,
+        left,
+        lemma,
+        number,
+        right,
+    })
+}
+
+// `N ( .. )` or `lemma N ( .. )` at the end of a row.
+fn origin_part<'a, 'b>(
+    coefficient: &'a [u8],
+    left: &'b [&'a [u8]],
+    line: &'b [&'a [u8]],
+) -> Option<RowTokens<'a, 'b>>
+    ensures { option_map parts_of result ≡ origin_part coefficient.now (texts left.now) (texts line.now) }
+{
+    match line {
+        [word, rest @ ..] if is("lemma", word) => number_part(coefficient, left, true, rest),
+        _ => number_part(coefficient, left, false, line),
+    }
+}
+
+fn row_parts<'a, 'b>(line: &'b [&'a [u8]]) -> Option<RowTokens<'a, 'b>>
+    ensures { option_map parts_of result ≡ row_parts (texts line.now) }
+{
+    let [word, coefficient, rest @ ..] = line else {
+        return None;
+    };
+    if !is("row", word) {
+        return None;
+    }
+    let (left, behind) = bracketed(rest)?;
+    origin_part(coefficient, left, behind)
+}
+
+fn are_letters(tokens: &[&[u8]]) -> bool
+    ensures { result ≡ list_all is_letter (texts tokens.now) }
+{
+    tokens.iter().all(|token| is_letter(token))
+}
+
+fn is_row(row: &RowTokens<'_, '_>) -> bool
+    ensures { result ≡ is_row (parts_of row.now) }
+{
+    is_integer(row.coefficient)
+        && are_letters(row.left)
+        && is_number(row.number)
+        && are_letters(row.right)
+}
+
+// The tokens of a row. Rows over lemmas are in certificates of format 2 alone.
+fn row_tokens<'a, 'b>(format: Format, line: &'b [&'a [u8]]) -> Option<RowTokens<'a, 'b>>
+    ensures exact { option_map parts_of result ≡ row_tokens format (texts line.now) }
+    ensures row { IfSome result (λ row. IsTrue (is_row (parts_of row))) }
+{
+    let row = row_parts(line)?;
+    let fits = match format {
+        Format::Plain => !row.lemma && is_row(&row),
+        Format::Lemmas => is_row(&row),
+    };
+    if fits { Some(row) } else { None }
+}
+
+fn word_of(alloc: Global, quiver: &Quiver, tokens: &[&[u8]]) -> Result<Word, LineFault>
+    ensures { Reads (λ w. w) result (asked flaw.UnknownName (word_of quiver.now (texts tokens.now))) }
+{
+    let mut word = Word::new(alloc);
+    for token in tokens {
+        let Some(letter) = letter_of(quiver, token) else {
+            return Err(LineFault::Flaw(Flaw::UnknownName));
+        };
+        word.push(letter)?;
+    }
+    Ok(word)
+}
+
+// The values of the tokens, by the number of the generator or lemma.
+fn row_values(
+    alloc: Global,
+    quiver: &Quiver,
+    tokens: &RowTokens<'_, '_>,
+) -> Result<CertRow, LineFault>
+    requires { IsTrue (is_row (parts_of tokens.now)) }
+    ensures { Reads (λ row. row) result (row_values quiver.now (parts_of tokens.now)) }
+{
+    let left = word_of(alloc, quiver, tokens.left)?;
+    let right = word_of(alloc, quiver, tokens.right)?;
+    let Some(coef) = integer_within(INTEGER_LIMIT, tokens.coefficient) else {
+        return Err(LineFault::Flaw(Flaw::NumberTooLarge));
+    };
+    let Some(number) = number_within(NUMBER_LIMIT, tokens.number) else {
+        return Err(LineFault::Flaw(Flaw::NumberTooLarge));
+    };
+    Ok(CertRow {
+        coef,
+        left,
+        generator: number as u32,
+        right,
+    })
+}
+
+/// The row that the line is, in a certificate of format 1.
+pub fn row_of(alloc: Global, quiver: &Quiver, line: &[&[u8]]) -> Result<CertRow, LineFault>
+    ensures { Reads (λ row. row) result (row_of quiver.now (texts line.now)) }
+{
+    let Some(tokens) = row_tokens(Format::Plain, line) else {
+        return Err(LineFault::Flaw(Flaw::BadLine));
+    };
+    row_values(alloc, quiver, &tokens)
+}
+
+// The row with a lemma or a generator of its number.
+fn over_lemma(lemma: bool, row: CertRow) -> LemmaRow
+    ensures { result ≡ over_lemma lemma row }
+{
+    let from = if lemma {
+        CertFrom::Lemma(row.generator)
+    } else {
+        CertFrom::Generator(row.generator)
+    };
+    LemmaRow {
+        coef: row.coef,
+        left: row.left,
+        from,
+        right: row.right,
+    }
+}
+
+/// The row that the line is, in a certificate of format 2.
+pub fn lemma_row_of(alloc: Global, quiver: &Quiver, line: &[&[u8]]) -> Result<LemmaRow, LineFault>
+    ensures { Reads (λ row. row) result (lemma_row_of quiver.now (texts line.now)) }
+{
+    let Some(tokens) = row_tokens(Format::Lemmas, line) else {
+        return Err(LineFault::Flaw(Flaw::BadLine));
+    };
+    let row = row_values(alloc, quiver, &tokens)?;
+    Ok(over_lemma(tokens.lemma, row))
+}
+
+/// The size of a block with one row more, of these words, within the limits.
+pub fn grown(size: Size, left: &Word, right: &Word) -> Result<Size, Flaw>
+    ensures { result ≡ grown size left.now right.now }
+{
+    let (left, right) = (left.len(), right.len());
+    if left > WORD_LIMIT as usize || right > WORD_LIMIT as usize {
+        return Err(Flaw::TooMany(WORD_LIMIT));
+    }
+    if size.rows >= ROW_LIMIT {
+        return Err(Flaw::TooMany(ROW_LIMIT));
+    }
+    let letters = size.letters as usize + left + right;
+    if letters > LETTER_LIMIT as usize {
+        return Err(Flaw::TooMany(LETTER_LIMIT));
+    }
+    Ok(Size {
+        rows: size.rows + 1,
+        letters: letters as u32,
+    })
+}
