@@ -13,15 +13,16 @@ use Rattle.certificate_text.specs.Fault.{ReadsText, Explains, ExplainsBy}
 use Rattle.certificate_text.specs.Reading.{evidence_of}
 use Rattle.certificate_text.specs.Evidence.{IsEvidence, IsFirstFault, IsCheckable, IsCheckableEvidence}
 use Rattle.certificate_text.proofs.Checkable.{are_checkable}
+use Rattle.certificate_text.proofs.EachText.{evidence_read, fault_read}
 
 module _ (most : Format) (ds : List Declaration) (bytes : List ℕ) where
   -- what was read is what the bytes are
   pub blocks_told : (es : List Evidence) → evidence_of most ds bytes ≡ Ok es → IsEvidence most ds bytes es
-  blocks_told es read = read
+  blocks_told es read = evidence_read most ds bytes es read
 
   -- what was told is the first thing that is wrong with them
   pub fault_told : (e : CertFault) → Explains (evidence_of most ds bytes) e → ExplainsBy (IsFirstFault most ds bytes) e
-  fault_told (cert_fault.Fault code line limit) told = told
+  fault_told (cert_fault.Fault code line limit) told = fault_read most ds bytes (record { code = code; line = line; limit = limit }) told
   fault_told (cert_fault.Memory e) told = tt
 
   pub evidence_told : (r : Result (List Evidence) CertFault) → ReadsText (λ es. es) r (evidence_of most ds bytes)

@@ -32,7 +32,7 @@ use Rattle.certificate_text.specs.Letters.{spelled_by, letter_named, starred, le
 use Rattle.certificate_text.specs.Lines.{RowTokens, begins, is_plain_head, is_lemmas_head, is_other_head, is_end, number_behind, claim_of, integer_of, denominator_of, lemma_digits, lemma_scale_of, goal_digits, goal_scale_of, integer_limit, number_limit, row_limit, word_limit, letter_limit, block_limit, row_tokens, word_of, row_values, row_of, over_lemma, lemma_row_of, grown}
 use Rattle.certificate_text.specs.Reading.{progress, headed, lemmas_headed, outside, certificate_of, begun, in_rows, lemma_of, closed_by, resized, scaled, lemma_row, in_lemma, lemma_certificate_of, in_goal, step, evidence_of}
 use Rattle.certificate_text.specs.Evidence.{IsRowOver, IsLemmaRowOver, IsCheckable, IsCheckableLemma, IsCheckableByLemmas, IsCheckableEvidence}
-use Rattle.certificate_text.proofs.Results.{bind_ok, asked_ok, cond_ok, else_ok, ok_has, map_some}
+use Rattle.certificate_text.proofs.Results.{bind_ok, asked_ok, by_test, else_ok, ok_has, option_map_some}
 use Rattle.certificate_text.proofs.Kept.{kept_by_text}
 use Rattle.certificate_text.proofs.Stars.{star_in_range}
 
@@ -52,12 +52,12 @@ signed_in_range false n small = omega (arith, small)
 
 integer_in_range : (token : List ℕ) (z : ℤ) → integer_within integer_limit token ≡ Some z → IsCoefficient z
 integer_in_range token z read =
-    map_some (signed (is_negative token)) (number_within integer_limit (digits_of token)) z read
+    option_map_some (signed (is_negative token)) (number_within integer_limit (digits_of token)) z read
     (λ n is same. subst IsCoefficient same (signed_in_range (is_negative token) n (number_is_within integer_limit (digits_of token) n is)))
 
 positive_in_range : (digits : List ℕ) (z : ℤ) → integer_of digits ≡ Ok z → IsCoefficient z
 positive_in_range digits z read =
-    map_some pos (number_within integer_limit digits) z (asked_ok NumberTooLarge _ z read)
+    option_map_some pos (number_within integer_limit digits) z (asked_ok NumberTooLarge _ z read)
     (λ n within same. subst IsCoefficient same (signed_in_range false n (number_is_within integer_limit digits n within)))
 
 denominator_in_range : (line : List (List ℕ)) (d : ℤ) → denominator_of line ≡ Ok d → IsCoefficient d
@@ -93,7 +93,7 @@ starred_in_range ds false a below = below
 letter_in_range : (ds : List Declaration) (token : List ℕ) (a : ℕ) → letter_of ds token ≡ Some a → a < letter_count ds
 letter_in_range ds token a read =
     option_and_then_some _ (spelled_by token) a read (λ spelled is read_on.
-    map_some (starred ds spelled.adjoint) _ a read_on (λ b found same.
+    option_map_some (starred ds spelled.adjoint) _ a read_on (λ b found same.
     option_and_then_some (letter_named ds spelled.identity) (named_in ds spelled.name) b found (λ named there letter.
     subst (λ c. c < letter_count ds) same
     (starred_in_range ds spelled.adjoint b (named_in_range ds spelled.identity spelled.name named b (is_named ds spelled.name named there) letter)))))
@@ -102,7 +102,7 @@ word_is_over : (ds : List Declaration) (tokens : List (List ℕ)) (w : List ℕ)
 word_is_over ds [] w read = let same : [] ≡ w = cc in subst (IsOver (letter_count ds)) same (All-nil (λ b. b < letter_count ds))
 word_is_over ds (token ∷ tokens) w read =
     option_and_then_some _ (letter_of ds token) w read (λ a here rest.
-    map_some (λ v. a ∷ v) (word_of ds tokens) w rest (λ v there same.
+    option_map_some (λ v. a ∷ v) (word_of ds tokens) w rest (λ v there same.
     subst (IsOver (letter_count ds)) same (All-cons (λ b. b < letter_count ds) a v (letter_in_range ds token a here) (word_is_over ds tokens v there))))
 
 -- ---- rows
@@ -284,9 +284,9 @@ module _ (ds : List Declaration) (done : List Evidence) (good : All (IsCheckable
 
   outside_good : (most : Format) (line : List (List ℕ)) (q : Progress) → outside most done line ≡ Ok q → IsGood ds q
   outside_good most line q read =
-      cond_ok (is_plain_head line) _ _ q read (λ head made. headed_good format.Plain q made) (λ not_plain others.
-      cond_ok (is_lemmas_head line) _ _ q others (λ head made. lemmas_headed_good most q made) (λ not_lemmas other.
-      cond_ok (is_other_head line) _ _ q other (λ head made. ok_has (IsGood ds) _ q made (good_at at.Skipped tt)) (λ neither refused. absurd (cc))))
+      by_test (is_plain_head line) _ _ (Ok q) read (λ head made. headed_good format.Plain q made) (λ not_plain others.
+      by_test (is_lemmas_head line) _ _ (Ok q) others (λ head made. lemmas_headed_good most q made) (λ not_lemmas other.
+      by_test (is_other_head line) _ _ (Ok q) other (λ head made. ok_has (IsGood ds) _ q made (good_at at.Skipped tt)) (λ neither refused. absurd (cc))))
 
   skipped_good : (end : Bool) → IsGoodPlace ds (cond end at.Outside at.Skipped)
   skipped_good true = tt
@@ -301,7 +301,7 @@ module _ (ds : List Declaration) (done : List Evidence) (good : All (IsCheckable
 
   rows_good : (c : Certificate) (size : Size) (line : List (List ℕ)) (q : Progress) → IsGoodPlain ds c size → in_rows ds done c size line ≡ Ok q → IsGood ds q
   rows_good c size line q here read =
-      cond_ok (is_end line) _ _ q read (λ ends made. ok_has (IsGood ds) _ q made (one_more (block.Plain c) here.checkable)) (λ goes_on another.
+      by_test (is_end line) _ _ (Ok q) read (λ ends made. ok_has (IsGood ds) _ q made (one_more (block.Plain c) here.checkable)) (λ goes_on another.
       bind_ok (row_of ds line) _ q another (λ row row_is read_on.
       bind_ok (grown size row.left row.right) _ q read_on (λ next next_is made.
       ok_has (IsGood ds) _ q made (good_at (at.Rows (certificate_of c.claim c.denominator (c.rows ++ row ∷ [])) next)
@@ -309,7 +309,7 @@ module _ (ds : List Declaration) (done : List Evidence) (good : All (IsCheckable
 
   scaled_good : (o : Opened) (line : List (List ℕ)) (q : Progress) → IsGoodOpened ds o 0 → scaled done o line ≡ Ok q → IsGood ds q
   scaled_good o line q here read =
-      cond_ok (begins (codes "goal") line) _ _ q read
+      by_test (begins (codes "goal") line) _ _ (Ok q) read
       (λ goal goal_read.
       bind_ok (goal_scale_of line) _ q goal_read (λ s s_is made.
       ok_has (IsGood ds) _ q made (good_at (at.Goal o (lemma_of s [])) (record { opened = here; lemma = without_rows ds s (goal_scale_in_range line s s_is) }))))
@@ -320,7 +320,7 @@ module _ (ds : List Declaration) (done : List Evidence) (good : All (IsCheckable
 
   in_lemma_good : (o : Opened) (l : Lemma) (line : List (List ℕ)) (q : Progress) → IsGoodLemma ds o l → in_lemma ds done o l line ≡ Ok q → IsGood ds q
   in_lemma_good o l line q here read =
-      cond_ok (begins (codes "row") line) _ _ q read
+      by_test (begins (codes "row") line) _ _ (Ok q) read
       (λ row row_read.
       bind_ok (lemma_row ds o l line) _ q row_read (λ next next_is made.
       let good_next = lemma_row_good ds o l line next here.here next_is in
@@ -329,7 +329,7 @@ module _ (ds : List Declaration) (done : List Evidence) (good : All (IsCheckable
 
   in_goal_good : (o : Opened) (goal : Lemma) (line : List (List ℕ)) (q : Progress) → IsGoodAt ds o goal → in_goal ds done o goal line ≡ Ok q → IsGood ds q
   in_goal_good o goal line q here read =
-      cond_ok (is_end line) _ _ q read (λ ends made. ok_has (IsGood ds) _ q made (one_more (block.Lemmas (lemma_certificate_of o goal)) (made_checkable ds o goal here))) (λ goes_on another.
+      by_test (is_end line) _ _ (Ok q) read (λ ends made. ok_has (IsGood ds) _ q made (one_more (block.Lemmas (lemma_certificate_of o goal)) (made_checkable ds o goal here))) (λ goes_on another.
       bind_ok (lemma_row ds o goal line) _ q another (λ next next_is made.
       ok_has (IsGood ds) _ q made (good_at (at.Goal next.0 next.1) (lemma_row_good ds o goal line next here next_is).here)))
 

@@ -11,7 +11,7 @@ use Rattle.certificate_text.specs.declared.place.Progress.{Progress}
 use Rattle.certificate_text.specs.Fault.{at_line, not_utf8}
 use Rattle.certificate_text.specs.Tokens.{tokens_of, is_skipped}
 use Rattle.certificate_text.specs.Reading.{step, read_tokens, read_lines, beginning, ended, blocks_of, one_or_more, evidence_of}
-use Rattle.certificate_text.proofs.Results.{bind_ok, at_line_ok, cond_ok, ok_has}
+use Rattle.certificate_text.proofs.Results.{bind_ok, at_line_ok, by_test, ok_has}
 
 ended_is : (done : List Evidence) (place : Place) (es : List Evidence) → ended done place ≡ Ok es → done ≡ es
 ended_is done at.Outside es read = cc
@@ -34,7 +34,7 @@ Keeps most ds IsFine = (p q : Progress) (line : List (List ℕ)) → IsFine p �
 module _ (most : Format) (ds : List Declaration) (IsFine : Progress → Type 0) (keeps : Keeps most ds IsFine) where
   kept_by_line : (p q : Progress) (line : List (List ℕ)) → IsFine p → read_tokens most ds p line ≡ Ok q → IsFine q
   kept_by_line p q line fine read =
-      cond_ok (is_skipped line) (Ok p) (step most ds p.blocks p.place line) q read (λ blank same. ok_has IsFine p q same fine) (λ other stepped. keeps p q line fine stepped)
+      by_test (is_skipped line) (Ok p) (step most ds p.blocks p.place line) (Ok q) read (λ blank same. ok_has IsFine p q same fine) (λ other stepped. keeps p q line fine stepped)
 
   kept_by_lines : (number : ℕ) (p q : Progress) (ls : List (List ℕ)) → IsFine p → read_lines most ds number p ls ≡ Ok q → IsFine q
   kept_by_lines number p q [] fine read = ok_has IsFine p q read fine
@@ -45,7 +45,7 @@ module _ (most : Format) (ds : List Declaration) (IsFine : Progress → Type 0) 
   kept_by_blocks : (IsGood : List Evidence → Type 0) → ((p : Progress) → IsFine p → IsGood p.blocks) → IsFine beginning
       → (bytes : List ℕ) (es : List Evidence) → blocks_of most ds bytes ≡ Ok es → IsGood es
   kept_by_blocks IsGood shown begins bytes es read =
-      cond_ok (is_utf8 bytes) _ (Err not_utf8) es read
+      by_test (is_utf8 bytes) _ (Err not_utf8) (Ok es) read
       (λ text of_text. bind_ok (read_lines most ds 1 beginning (lines bytes)) _ es of_text (λ p p_is ends.
       subst IsGood (ended_is p.blocks p.place es ends) (shown p (kept_by_lines 1 beginning p (lines bytes) begins p_is))))
       (λ other none. absurd (cc))

@@ -1,15 +1,14 @@
 -- Letters that are written are read.
-use Rattle.std.proofs.Common.{◌≡◌, ◌≢◌, ◌<◌, ◌≤◌, ◌+◌, ◌-◌, ◌==◌, ℕ, zero, suc, Bool, true, false, cond, nat_eq, ◌&&◌, List, [], ◌∷◌, ◌++◌, Option, Some, None, arith, refl, sym, ap, ◌∙◌, subst, length, take, drop, get_or, codes}
+use Rattle.std.proofs.Common.{◌≡◌, ◌<◌, ◌+◌, ◌-◌, ℕ, Bool, true, false, cond, nat_eq, ◌&&◌, List, [], ◌∷◌, ◌++◌, Option, Some, None, arith, refl, sym, ap, length, take, drop, get_or, codes}
 use Rattle.std.specs.List.{list_all, ends_with, starts_with}
-use Rattle.std.specs.Option.{option_map, option_and_then}
-use Rattle.std.proofs.lemmas.Bool.{and_parts, ne_eqb, true_from_ne_false}
+use Rattle.std.proofs.lemmas.Bool.{ne_eqb, true_from_ne_false}
 use Rattle.std.proofs.lemmas.List.{drop_more, drop_all, take_at, drop_at, length-append}
 use Rattle.std.proofs.lemmas.List.Folds.{list_all_at}
 use Rattle.definitions.specs.Quiver.{star}
 use Rattle.quiver.specs.declared.named.Named.{Named}
 use Rattle.quiver.specs.declared.named.Named.TheVariants.{Object, Map}
 use Rattle.quiver.specs.Declarations.{Declaration, named_in, letter_name, identity_in, quiver_of}
-use Rattle.certificate_text.specs.Letters.{Spelled, is_name, name_in, named_by, without_brackets, spelled_by, letter_named, starred, letter_of}
+use Rattle.certificate_text.specs.Letters.{Spelled, is_name, name_in, without_brackets, spelled_by, letter_named, letter_of}
 use Rattle.certificate_text.specs.Written.{spelled_as, letter_text}
 use Rattle.certificate_text.proofs.NameBytes.{is_name_byte, IsNameText, name_text, differs}
 

@@ -5,6 +5,24 @@ pub mod Fronts
 pub mod Reading
 pub mod Joins
 pub mod Results
+mod Zips
+mod LineTrees
+mod RowTrees
+mod BlockTrees
+mod OpenBlocks
+mod FlawedLines
+mod NextLines
+mod Standing
+mod Meets
+mod RowLines
+mod RowValues
+mod BlockLines
+mod TextLines
+mod NumberedLines
+mod FirstBounds
+mod OneCertificate
+mod ReadLines
+pub mod EachText
 pub mod Kept
 pub mod PlainBlocks
 pub mod Checkable
@@ -12,6 +30,19 @@ pub mod Answered
 pub mod Stars
 pub mod NameBytes
 pub mod TokensBack
+pub mod LinesBack
+pub mod NumbersBack
 pub mod LettersBack
+pub mod LetterNames
+pub mod TextsBack
+pub mod ContentBack
+pub mod RowsBack
+pub mod SizesBack
+pub mod Joined
+pub mod BlocksBack
+pub mod LemmasBack
+pub mod ReadBack
+pub mod PartsBack
+pub mod PolysBack
 pub mod LemmaTexts
 mod Examples

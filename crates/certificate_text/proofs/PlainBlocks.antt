@@ -15,7 +15,7 @@ use Rattle.certificate_text.specs.declared.place.Place.TheVariants as at
 use Rattle.certificate_text.specs.declared.place.Progress.{Progress}
 use Rattle.certificate_text.specs.Lines.{is_plain_head, is_lemmas_head, is_other_head, is_end, claim_of, denominator_of, row_of, grown, block_limit}
 use Rattle.certificate_text.specs.Reading.{IsPlain, progress, headed, outside, certificate_of, begun, in_rows, step, evidence_of}
-use Rattle.certificate_text.proofs.Results.{bind_ok, cond_ok, else_ok, ok_has}
+use Rattle.certificate_text.proofs.Results.{bind_ok, by_test, else_ok, ok_has}
 use Rattle.certificate_text.proofs.Kept.{kept_by_text}
 
 -- the line stands in no certificate of format 2
@@ -42,9 +42,9 @@ headed_plain done q plain read =
 
 outside_plain : (done : List Evidence) (line : List (List ℕ)) (q : Progress) → All IsPlain done → outside format.Plain done line ≡ Ok q → AreAllPlain q
 outside_plain done line q plain read =
-    cond_ok (is_plain_head line) _ _ q read (λ head made. headed_plain done q plain made) (λ not_plain others.
+    by_test (is_plain_head line) _ _ (Ok q) read (λ head made. headed_plain done q plain made) (λ not_plain others.
     else_ok (is_lemmas_head line) BadLine _ q others (λ not_lemmas other.
-    cond_ok (is_other_head line) _ _ q other (λ head made. ok_has AreAllPlain _ q made (plain_at done at.Skipped plain tt)) (λ neither refused. absurd (cc))))
+    by_test (is_other_head line) _ _ (Ok q) other (λ head made. ok_has AreAllPlain _ q made (plain_at done at.Skipped plain tt)) (λ neither refused. absurd (cc))))
 
 skipped_plain : (end : Bool) → IsPlainPlace (cond end at.Outside at.Skipped)
 skipped_plain true = tt
@@ -55,7 +55,7 @@ begun_plain form n d plain = rw plain tt
 
 rows_plain : (ds : List Declaration) (done : List Evidence) (c : Certificate) (size : Size) (line : List (List ℕ)) (q : Progress) → All IsPlain done → in_rows ds done c size line ≡ Ok q → AreAllPlain q
 rows_plain ds done c size line q plain read =
-    cond_ok (is_end line) _ _ q read
+    by_test (is_end line) _ _ (Ok q) read
     (λ ends made. ok_has AreAllPlain _ q made (plain_at (done ++ block.Plain c ∷ []) at.Outside (All-push IsPlain done (block.Plain c) plain tt) tt))
     (λ goes_on one_more.
     bind_ok (row_of ds line) _ q one_more (λ row row_is read_on.

@@ -2,7 +2,11 @@ pub mod Fault
 pub mod Tokens
 pub mod Letters
 pub mod Lines
-pub mod Reading
+pub mod Blocks
+pub mod Bounds
 pub mod Evidence
+pub mod EachText
 pub mod Written
+pub mod Back
+pub mod Reading
 pub mod Views

@@ -1,0 +1,117 @@
+-- A certificate of format 1 that is written is a block of evidence text.
+use Rattle.std.proofs.Common.{◌≡◌, ◌<◌, ◌^◌, ℕ, true, List, [], ◌∷◌, Some, Ok, arith, refl, IsTrue}
+use Rattle.std.specs.Prelude.{decimal}
+use Rattle.std.specs.Fmt.{signed_decimal}
+use Rattle.std.specs.List.{All, AllByRecursion, list_all}
+use Rattle.std.proofs.lemmas.List.{length-map}
+use Rattle.std.proofs.lemmas.List.Elements.{All-head, All-tail, All-weaker, All-map, recursion_from_All}
+use Rattle.word_core.specs.Letters.{IsOver}
+use Rattle.quiver.specs.Declarations.{Declaration, letter_count, IsDeclared}
+use Rattle.cofactor_trace.specs.declared.CertRow.{CertRow}
+use Rattle.cofactor_trace.specs.declared.Certificate.{Certificate}
+use Rattle.cofactor_trace.specs.declared.evidence.LemmaRow.{LemmaRow}
+use Rattle.cofactor_trace.specs.declared.evidence.Evidence.TheVariants as evidence
+use Rattle.cofactor_trace.specs.declared.evidence.Format.{Format}
+use Rattle.cofactor_trace.specs.declared.evidence.Format.TheVariants as format
+use Rattle.certificate_text.specs.Letters.{number_within}
+use Rattle.certificate_text.specs.Lines.{RowTokens, number_limit, row_values}
+use Rattle.certificate_text.specs.Blocks.{PlainTokens, plain, block_lines, IsPlainRow, IsPlainBlock}
+use Rattle.certificate_text.specs.Bounds.{Bound, names, numbers, words, rows, letters, blocks, IsPlainOf, KeepsOne}
+use Rattle.certificate_text.specs.Evidence.{HasCertificates}
+use Rattle.certificate_text.specs.Written.{certificate_text}
+use Rattle.certificate_text.specs.Back.{IsWritableRow, IsWritable, IsWritableLemmaRow, is_named, is_whole}
+use Rattle.certificate_text.proofs.ContentBack.{IsTextOf, text-append}
+use Rattle.certificate_text.proofs.Joined.{text_of_block}
+use Rattle.certificate_text.proofs.LetterNames.{letter_is_spelled}
+use Rattle.certificate_text.proofs.NumbersBack.{integer_read, decimal_number, decimal_within}
+use Rattle.certificate_text.proofs.RowsBack.{row_tree, over_generator, IsWrittenRow, row_is_row, row_says, AreRows, zip_by, trees, rows_are_text, rows_are_rows, letters_in-trees}
+use Rattle.certificate_text.proofs.SizesBack.{IsSize, size_written, opening_is_text, end_is_text}
+use Rattle.certificate_text.proofs.TextsBack.{IsWrittenLetter, letter_written, word_written}
+
+-- ---- rows
+
+module _ (ds : List Declaration) (declared : IsDeclared ds) (known : IsTrue (list_all is_named ds)) where
+  pub letters_written : (w : List ℕ) → IsOver (letter_count ds) w → AllByRecursion (IsWrittenLetter ds) w
+  letters_written [] over = tt
+  letters_written (a ∷ w) over = (
+    letter_written ds a (letter_is_spelled ds a declared known (All-head (λ b. b < letter_count ds) a w over)),
+    letters_written w (All-tail (λ b. b < letter_count ds) a w over),
+  )
+
+  pub lemma_row_written : (row : LemmaRow) → IsWritableLemmaRow ds row → IsWrittenRow ds row
+  lemma_row_written row writable = record {
+    coefficient = integer_read row.coef writable.coefficient;
+    number = writable.number;
+    left = word_written ds row.left (letters_written row.left writable.letters.left);
+    right = word_written ds row.right (letters_written row.right writable.letters.right);
+    short_left = writable.short_left;
+    short_right = writable.short_right;
+  }
+
+  row_written : (row : CertRow) → IsWritableRow ds row → IsWrittenRow ds (over_generator row)
+  row_written row writable =
+      lemma_row_written (over_generator row) (record {
+        coefficient = writable.coefficient;
+        number = writable.generator;
+        letters = record { left = writable.letters.left; right = writable.letters.right };
+        short_left = writable.short_left;
+        short_right = writable.short_right;
+      })
+
+  pub rows_written : (c : Certificate) → IsWritable ds c → All (λ row. IsWrittenRow ds (over_generator row)) c.rows
+  rows_written c writable = All-weaker (IsWritableRow ds) (λ row. IsWrittenRow ds (over_generator row)) row_written c.rows writable.rows
+
+-- ---- the block
+
+abbrev plain_tree : List Declaration → Certificate → PlainTokens
+plain_tree ds c = record { claim = decimal c.claim; denominator = signed_decimal c.denominator; rows = trees ds over_generator c.rows }
+
+module _ (ds : List Declaration) (c : Certificate) (writable : IsWritable ds c) (each : All (λ row. IsWrittenRow ds (over_generator row)) c.rows) where
+  size : IsSize c.denominator
+  size = size_written c.denominator writable.size writable.denominator writable.in_range
+
+  small : c.claim < 10 ^ 64
+  small = omega (arith, writable.claim)
+
+  claim_value : number_within number_limit (decimal c.claim) ≡ Some c.claim
+  claim_value = decimal_within number_limit c.claim (omega (arith, writable.claim)) small
+
+  of_rows : AreRows ds (trees ds over_generator c.rows)
+  of_rows = rows_are_rows ds over_generator c.rows each
+
+  block_is_text : IsTextOf (certificate_text ds c) (block_lines (plain (plain_tree ds c)))
+  block_is_text =
+      let listed = rows_are_text ds over_generator c.rows (recursion_from_All (λ row. IsWrittenRow ds (over_generator row)) c.rows each) in
+      text-append _ _ _ _ (text-append _ _ _ _ (opening_is_text format.Plain c.claim c.denominator writable.claim size) listed) end_is_text
+
+  is_block : IsPlainBlock (plain_tree ds c)
+  is_block = record {
+    claim = decimal_number c.claim small;
+    denominator = size.number;
+    rows =
+        All-map IsPlainRow (λ row. row_tree ds (over_generator row)) c.rows
+        (All-weaker (λ row. IsWrittenRow ds (over_generator row)) (λ row. IsPlainRow (row_tree ds (over_generator row))) (λ row written. record { row = row_is_row ds (over_generator row) written; generator = refl }) c.rows each);
+  }
+
+  keeps : (bound : Bound) → KeepsOne ds bound (plain (plain_tree ds c))
+  keeps names = of_rows.names
+  keeps numbers = (((c.claim, claim_value), size.within), of_rows.numbers)
+  keeps words = of_rows.words
+  keeps rows = (rw length-map writable.few, omega arith)
+  keeps letters = rw (letters_in-trees ds over_generator c.rows) writable.letters
+  keeps blocks = tt
+
+  says : IsPlainOf ds (plain_tree ds c) c
+  says = record {
+    claim = claim_value;
+    denominator = size.value;
+    rows =
+        zip_by (λ (r : RowTokens) row. row_values ds r ≡ Ok row) (λ row. row_tree ds (over_generator row)) c.rows
+        (recursion_from_All _ c.rows (All-weaker (λ row. IsWrittenRow ds (over_generator row)) _ (λ row. row_says ds (over_generator row)) c.rows each));
+  }
+
+  pub plain_has : (most : Format) → HasCertificates most ds (certificate_text ds c) (evidence.Plain c ∷ [])
+  plain_has most = text_of_block most ds (certificate_text ds c) (plain (plain_tree ds c)) (evidence.Plain c ∷ []) block_is_text is_block keeps (says, tt) (omega arith)
+
+  pub plain_is_whole : is_whole (certificate_text ds c) ≡ true
+  plain_is_whole = block_is_text.whole

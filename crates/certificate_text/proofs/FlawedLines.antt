@@ -1,0 +1,239 @@
+-- A line that is wrong at its place in a block: it does not fit the grammar, or it is the first that passes a bound.
+use Rattle.std.proofs.Common.{◌≡◌, ◌+◌, ℕ, ℤ, pos, List, [], ◌∷◌, ◌++◌, Some, None, Ok, Err, IsTrue, arith, refl, sym, ap, ap₂, ◌∙◌, subst, length, nat_le, append_assoc, append-nil, codes}
+use Rattle.std.specs.List.{All}
+use Rattle.std.specs.Option.{option_map}
+use Rattle.std.proofs.lemmas.List.Elements.{All-nil, All-push, All-from_recursion}
+use Rattle.quiver.specs.Declarations.{Declaration}
+use Rattle.cofactor_trace.specs.declared.CertRow.{CertRow}
+use Rattle.cofactor_trace.specs.declared.Certificate.{Certificate}
+use Rattle.cofactor_trace.specs.declared.evidence.Lemma.{Lemma}
+use Rattle.cofactor_trace.specs.declared.evidence.LemmaRow.{LemmaRow}
+use Rattle.cofactor_trace.specs.declared.evidence.Evidence.{Evidence}
+use Rattle.cofactor_trace.specs.declared.evidence.Format.{Format}
+use Rattle.cofactor_trace.specs.declared.evidence.Format.TheVariants.{Plain, Lemmas}
+use Rattle.certificate_text.specs.declared.fault.Flaw.{Flaw}
+use Rattle.certificate_text.specs.declared.fault.Flaw.TheVariants.{BadLine, NumberTooLarge, TooMany}
+use Rattle.certificate_text.specs.declared.place.Size.{Size}
+use Rattle.certificate_text.specs.declared.place.Opened.{Opened}
+use Rattle.certificate_text.specs.declared.place.Place.{Place}
+use Rattle.certificate_text.specs.declared.place.Place.TheVariants as at
+use Rattle.certificate_text.specs.Fault.{asked}
+use Rattle.certificate_text.specs.Letters.{is_number, number_within}
+use Rattle.certificate_text.specs.Lines.{RowTokens, block_limit, begins, is_plain_head, is_lemmas_head, is_other_head, is_end, number_limit, integer_limit, row_limit, is_value, is_row, integer_of, number_behind, claim_of, denominator_of, lemma_digits, lemma_scale_of, goal_digits, goal_scale_of, row_tokens, row_values, row_of, over_lemma, lemma_row_of, grown}
+use Rattle.certificate_text.specs.Blocks.{Line, ScaledTokens, PlainTokens, BlockTokens, plain, lemmas, row_line, head_line, IsPlainRow, IsPlainBlock}
+use Rattle.certificate_text.specs.Bounds.{Bound, names, numbers, words, rows, blocks, rows_in, HasNames, IsScaledOf, flaw_of, before, KeepsOne}
+use Rattle.certificate_text.specs.Reading.{headed, lemmas_headed, outside, in_rows, closed_by, scaled, lemma_row, in_lemma, in_goal, step}
+use Rattle.certificate_text.proofs.Results.{by_test, bind_ok, bind_err, asked_ok, asked_err}
+use Rattle.certificate_text.proofs.LineTrees.{plain_head_is, lemmas_head_is, number_is, lemma_is, goal_is, plain_row_is, lemma_row_is}
+use Rattle.certificate_text.proofs.RowTrees.{RowsWithin, Pass, passes_unvalued, passes_full, integer_is_within}
+use Rattle.certificate_text.proofs.Zips.{zip_length}
+use Rattle.certificate_text.proofs.BlockTrees.{keeps_one, Begin}
+use Rattle.certificate_text.proofs.OpenBlocks.{IsRead, lemmas_read, IsOpen, begin_headed, IsHeaded, IsClaimed, IsInPlain, IsOpened, IsInside, Lead, lead_lines, IsNext, rows_of, lemmas_front, rows_behind, rows_are, rows_outside, rows_keep_one, begin_rows, begin_plain, begin_claimed, begin_shortest, shortest, plain_outside}
+use Rattle.certificate_text.proofs.NextLines.{lemma_finished, plain_push, plain_front-push, scaled_push, lead_lines-push}
+
+-- a line that doesn't fit, or with which a block begins that keeps the bounds before one
+pub data IsStopped (most : Format) (ds : List Declaration) (flaw : Flaw) (front : List Line) : Type 0 where
+  misfit : flaw ≡ BadLine → IsStopped most ds flaw front
+  passes : (bound : Bound) → flaw ≡ flaw_of bound → Begin most ds (before bound) front → IsStopped most ds flaw front
+
+too_large : (digits : List ℕ) (flaw : Flaw) → integer_of digits ≡ Err flaw → flaw ≡ NumberTooLarge
+too_large digits flaw read = asked_err NumberTooLarge (option_map pos (number_within integer_limit digits)) flaw read
+
+module _ (most : Format) (ds : List Declaration) (flaw : Flaw) (front : List Line) (line : Line) where
+  abbrev Stopped : Type 0
+  Stopped = IsStopped most ds flaw (front ++ line ∷ [])
+
+  -- ---- the head
+
+  shortest_names : (form : Format) (claim denominator : List ℕ) → All (λ bound. KeepsOne ds bound (shortest form claim denominator)) (before numbers)
+  shortest_names Plain claim denominator = All-from_recursion (λ bound. KeepsOne ds bound (shortest Plain claim denominator)) (before numbers) (All-nil (HasNames ds), tt)
+  shortest_names Lemmas claim denominator = All-from_recursion (λ bound. KeepsOne ds bound (shortest Lemmas claim denominator)) (before numbers) (All-nil (HasNames ds), tt)
+
+  stopped_headed : (form : Format) → IsHeaded most form front → claim_of line ≡ Err flaw → Stopped
+  stopped_headed form headed read =
+      bind_err (asked BadLine (number_behind (codes "claim") line)) _ flaw read (λ e. misfit (asked_err BadLine (number_behind (codes "claim") line) flaw e)) (λ digits there large.
+      let known = number_is (codes "claim") line digits (asked_ok BadLine (number_behind (codes "claim") line) digits there) in
+      passes numbers (asked_err NumberTooLarge (number_within number_limit digits) flaw large)
+      (subst (Begin most ds (before numbers)) (ap₂ (λ (ls : List Line) (l : Line). ls ++ l ∷ []) (sym headed.are) (sym known.0))
+      (begin_claimed most ds form digits (before numbers) headed.read known.1 (shortest_names form digits (codes "1")))))
+
+  stopped_claimed : (form : Format) (n : ℕ) → IsClaimed most form n front → denominator_of line ≡ Err flaw → Stopped
+  stopped_claimed form n claimed read =
+      bind_err (asked BadLine (number_behind (codes "denominator") line)) _ flaw read (λ e. misfit (asked_err BadLine (number_behind (codes "denominator") line) flaw e)) (λ digits there large.
+      let known = number_is (codes "denominator") line digits (asked_ok BadLine (number_behind (codes "denominator") line) digits there) in
+      passes numbers (too_large digits flaw large)
+      (subst (Begin most ds (before numbers)) (ap₂ (λ (ls : List Line) (l : Line). ls ++ l ∷ []) (sym claimed.are) (sym known.0))
+      (begin_shortest most ds form claimed.claim digits (before numbers) claimed.read claimed.claim_number known.1 (shortest_names form claimed.claim digits))))
+
+  -- ---- rows
+
+  -- the block with the row that passes a bound
+  stopped_by_plain : (c : Certificate) (size : Size) (inside : IsInPlain ds c size front) (r : RowTokens) → row_tokens Plain line ≡ Some r → Pass ds flaw (inside.tokens.rows ++ r ∷ []) → Stopped
+  stopped_by_plain c size inside r there pass =
+      let known = plain_row_is line r there in
+      let b : PlainTokens = inside.tokens in
+      let pushed : PlainTokens = plain_push b r in
+      let is_block : IsPlainBlock pushed = record {
+        claim = inside.is_block.claim;
+        denominator = inside.is_block.denominator;
+        rows = All-push IsPlainRow b.rows r inside.is_block.rows (record { row = known.1; generator = known.2 });
+      } in
+      passes pass.bound pass.flaw_is
+      (subst (Begin most ds (before pass.bound)) (sym (plain_front-push b r) ∙ ap₂ (λ (ls : List Line) (l : Line). ls ++ l ∷ []) (sym inside.are) (sym known.0))
+      (begin_plain most ds (before pass.bound) pushed is_block
+      (λ k d below. keeps_one ds (plain pushed) (plain_outside ds b c inside.values) (omega arith) _ (pass.keep k d below))))
+
+  stopped_unread : (c : Certificate) (size : Size) → IsInPlain ds c size front → row_of ds line ≡ Err flaw → Stopped
+  stopped_unread c size inside read =
+      bind_err (asked BadLine (row_tokens Plain line)) _ flaw read (λ e. misfit (asked_err BadLine (row_tokens Plain line) flaw e)) (λ r there unvalued.
+      stopped_by_plain c size inside r (asked_ok BadLine (row_tokens Plain line) r there) (passes_unvalued ds size inside.tokens.rows inside.have r flaw unvalued))
+
+  stopped_full : (c : Certificate) (size : Size) (row : CertRow) → IsInPlain ds c size front → row_of ds line ≡ Ok row → grown size row.left row.right ≡ Err flaw → Stopped
+  stopped_full c size row inside read full =
+      bind_ok (asked BadLine (row_tokens Plain line)) (row_values ds) row read (λ r there values.
+      stopped_by_plain c size inside r (asked_ok BadLine (row_tokens Plain line) r there) (passes_full ds size inside.tokens.rows inside.have r row values flaw full))
+
+  module _ (o : Opened) (l : Lemma) (lead : Lead) (inside : IsInside most ds o l lead front) where
+    abbrev rows_before : List RowTokens
+    rows_before = rows_of inside.finished ++ inside.tokens.rows
+
+    stopped_by_row : (r : RowTokens) → row_tokens Lemmas line ≡ Some r → Pass ds flaw (rows_before ++ r ∷ []) → Stopped
+    stopped_by_row r there pass =
+        let known = lemma_row_is line r there in
+        let claim : List ℕ = inside.claim in
+        let denominator : List ℕ = inside.denominator in
+        let s : ScaledTokens = inside.tokens in
+        let fronts : lemmas_front claim denominator inside.finished ++ lead_lines lead (scaled_push s r) ≡ front ++ line ∷ [] =
+        ap (λ ls. lemmas_front claim denominator inside.finished ++ ls) (sym (lead_lines-push lead s r))
+        ∙ sym (append_assoc (lemmas_front claim denominator inside.finished) (lead_lines lead s) (row_line r ∷ []))
+        ∙ ap₂ (λ (ls : List Line) (x : Line). ls ++ x ∷ []) (sym inside.are) (sym known.0) in
+        let keep : All (RowsWithin ds (rows_of inside.finished ++ (s.rows ++ r ∷ []))) (before pass.bound) =
+        subst (λ rs. All (RowsWithin ds rs) (before pass.bound)) (append_assoc (rows_of inside.finished) s.rows (r ∷ [])) pass.keep in
+        passes pass.bound pass.flaw_is
+        (subst (Begin most ds (before pass.bound)) fronts
+        (begin_rows most ds claim denominator inside.finished (before pass.bound) lead (scaled_push s r) inside.read inside.begun.head inside.next
+        (record { scale = inside.scaled.scale; rows = All-push (λ t. IsTrue (is_row t)) s.rows r inside.scaled.rows known.1 })
+        (λ k d below. rows_keep_one most ds claim denominator inside.finished lead (scaled_push s r) inside.begun.within inside.few
+        (integer_is_within s.scale l.scale inside.values.scale) _ (keep k d below))))
+
+    stopped_row_unread : lemma_row_of ds line ≡ Err flaw → Stopped
+    stopped_row_unread read =
+        bind_err (asked BadLine (row_tokens Lemmas line)) _ flaw read (λ e. misfit (asked_err BadLine (row_tokens Lemmas line) flaw e)) (λ r there read_values.
+        bind_err (row_values ds r) _ flaw read_values
+        (λ e. stopped_by_row r (asked_ok BadLine (row_tokens Lemmas line) r there) (passes_unvalued ds o.size rows_before inside.have r flaw e))
+        (λ row values made. absurd (cc)))
+
+    stopped_row_full : (row : LemmaRow) → lemma_row_of ds line ≡ Ok row → grown o.size row.left row.right ≡ Err flaw → Stopped
+    stopped_row_full lemma_row read full =
+        bind_ok (asked BadLine (row_tokens Lemmas line)) _ lemma_row read (λ r there read_values.
+        bind_ok (row_values ds r) _ lemma_row read_values (λ row values made.
+        let same : over_lemma r.lemma row ≡ lemma_row = cc in
+        stopped_by_row r (asked_ok BadLine (row_tokens Lemmas line) r there)
+        (passes_full ds o.size rows_before inside.have r row values flaw (ap (λ (w : LemmaRow). grown o.size w.left w.right) same ∙ full))))
+
+    stopped_row : lemma_row ds o l line ≡ Err flaw → Stopped
+    stopped_row read =
+        bind_err (lemma_row_of ds line) _ flaw read stopped_row_unread (λ row row_is read_size.
+        bind_err (grown o.size row.left row.right) _ flaw read_size (stopped_row_full row row_is) (λ size fits made. absurd (cc)))
+
+  -- ---- lemmas and the goal
+
+  module _ (o : Opened) (opened : IsOpened most ds o front) where
+    -- the block with this first line of a lemma or of the goal
+    stopped_by_lead : (lead : Lead) (digits : List ℕ) (bound : Bound) → IsNext lead opened.finished → IsTrue (is_number digits) → line ∷ [] ≡ lead_lines lead (record { scale = digits; rows = [] })
+        → flaw ≡ flaw_of bound → All (λ k. KeepsOne ds k (lemmas (rows_behind opened.claim opened.denominator opened.finished lead (record { scale = digits; rows = [] })))) (before bound) → Stopped
+    stopped_by_lead lead digits bound next number line_is flaw_is keeps =
+        passes bound flaw_is
+        (subst (Begin most ds (before bound)) (ap₂ (λ (ls ms : List Line). ls ++ ms) (sym opened.are) (sym line_is))
+        (begin_rows most ds opened.claim opened.denominator opened.finished (before bound) lead (record { scale = digits; rows = [] }) opened.read opened.begun.head next
+        (record { scale = number; rows = All-nil (λ t. IsTrue (is_row t)) }) keeps))
+
+    module _ (lead : Lead) (digits : List ℕ) where
+      abbrev led : BlockTokens
+      led = lemmas (rows_behind opened.claim opened.denominator opened.finished lead (record { scale = digits; rows = [] }))
+
+      led_rows : (bound : Bound) → RowsWithin ds (rows_in led) bound
+      led_rows bound =
+          subst (λ rs. RowsWithin ds rs bound) (sym (append-nil (rows_of opened.finished)) ∙ sym (rows_are opened.claim opened.denominator opened.finished lead (record { scale = digits; rows = [] }))) (opened.have.keep bound)
+
+      stopped_large : IsNext lead opened.finished → IsTrue (is_number digits) → line ∷ [] ≡ lead_lines lead (record { scale = digits; rows = [] }) → integer_of digits ≡ Err flaw → Stopped
+      stopped_large next number line_is large =
+          stopped_by_lead lead digits numbers next number line_is (too_large digits flaw large) (All-from_recursion (λ bound. KeepsOne ds bound led) (before numbers) (led_rows names, tt))
+
+      stopped_many : (scale : ℤ) → IsNext lead opened.finished → IsTrue (is_number digits) → line ∷ [] ≡ lead_lines lead (record { scale = digits; rows = [] }) → integer_of digits ≡ Ok scale
+          → flaw ≡ TooMany row_limit → Stopped
+      stopped_many scale next number line_is value many =
+          let outside = rows_outside most ds opened.claim opened.denominator opened.finished lead (record { scale = digits; rows = [] }) opened.begun.within (integer_is_within digits scale value) in
+          stopped_by_lead lead digits rows next number line_is many
+          (All-from_recursion (λ bound. KeepsOne ds bound led) (before rows) (led_rows names, ((outside, led_rows numbers), (led_rows words, tt))))
+
+    stopped_goal : goal_scale_of line ≡ Err flaw → Stopped
+    stopped_goal read =
+        bind_err (asked BadLine (goal_digits line)) integer_of flaw read (λ e. misfit (asked_err BadLine (goal_digits line) flaw e)) (λ digits there large.
+        let known = goal_is line digits (asked_ok BadLine (goal_digits line) digits there) in
+        stopped_large None digits tt known.1 (ap (λ l. l ∷ []) known.0) large)
+
+    stopped_lemma : lemma_scale_of (length o.lemmas) line ≡ Err flaw → Stopped
+    stopped_lemma read =
+        bind_err (asked BadLine (lemma_digits (length o.lemmas + 1) line)) _ flaw read (λ e. misfit (asked_err BadLine (lemma_digits (length o.lemmas + 1) line) flaw e)) (λ digits there read_scale.
+        let known = lemma_is (length o.lemmas + 1) line digits (asked_ok BadLine (lemma_digits (length o.lemmas + 1) line) digits there) in
+        let count : length opened.finished ≡ length o.lemmas = zip_length (λ k lemma. IsScaledOf ds k.scaled lemma) opened.finished o.lemmas opened.begun.values in
+        let next : IsNext (Some known.0) opened.finished = subst (λ n. IsTrue (is_value (n + 1) known.0)) (sym count) known.2 in
+        bind_err (integer_of digits) _ flaw read_scale (stopped_large (Some known.0) digits next known.3 (ap (λ l. l ∷ []) known.1)) (λ scale value read_room.
+        by_test (nat_le row_limit (length o.lemmas)) _ _ (Err flaw) read_room
+        (λ many e. stopped_many (Some known.0) digits scale next known.3 (ap (λ l. l ∷ []) known.1) value (cc)) (λ few e. absurd (cc))))
+
+-- ---- at each place
+
+module _ (most : Format) (ds : List Declaration) (done : List Evidence) (flaw : Flaw) (line : Line) where
+  abbrev StoppedBehind : List Line → Type 0
+  StoppedBehind front = IsStopped most ds flaw (front ++ line ∷ [])
+
+  head_stops : (form : Format) (front : List Line) → front ≡ [] → IsRead most form → line ≡ head_line form → headed done form ≡ Err flaw → StoppedBehind front
+  head_stops form front none is_read line_is read =
+      by_test (nat_le block_limit (length done)) _ _ (Err flaw) read
+      (λ full e. passes blocks (cc) (subst (Begin most ds (before blocks)) (ap₂ (λ (ls : List Line) (l : Line). ls ++ l ∷ []) (sym none) (sym line_is)) (begin_headed most ds form (before blocks) is_read)))
+      (λ room e. absurd (cc))
+
+  lemmas_head_stops : (form : Format) (front : List Line) → most ≡ form → front ≡ [] → line ≡ head_line Lemmas → lemmas_headed form done ≡ Err flaw → StoppedBehind front
+  lemmas_head_stops Plain front is none line_is read = misfit (cc)
+  lemmas_head_stops Lemmas front is none line_is read = head_stops Lemmas front none (lemmas_read most is) line_is read
+
+  outside_stops : (front : List Line) → front ≡ [] → outside most done line ≡ Err flaw → StoppedBehind front
+  outside_stops front none read =
+      by_test (is_plain_head line) _ _ (Err flaw) read (λ is. head_stops Plain front none tt (plain_head_is line is)) (λ no_plain read_lemmas.
+      by_test (is_lemmas_head line) _ _ (Err flaw) read_lemmas (λ is. lemmas_head_stops most front refl none (lemmas_head_is line is)) (λ no_lemmas read_other.
+      by_test (is_other_head line) _ _ (Err flaw) read_other (λ is e. absurd (cc)) (λ no_other e. misfit (cc))))
+
+  rows_stop : (c : Certificate) (size : Size) (front : List Line) → IsInPlain ds c size front → in_rows ds done c size line ≡ Err flaw → StoppedBehind front
+  rows_stop c size front inside read =
+      by_test (is_end line) _ _ (Err flaw) read (λ is e. absurd (cc)) (λ more read_row.
+      bind_err (row_of ds line) _ flaw read_row (stopped_unread most ds flaw front line c size inside) (λ row row_is read_size.
+      bind_err (grown size row.left row.right) _ flaw read_size (stopped_full most ds flaw front line c size row inside row_is) (λ next fits made. absurd (cc))))
+
+  scaled_stops : (o : Opened) (front : List Line) → IsOpened most ds o front → scaled done o line ≡ Err flaw → StoppedBehind front
+  scaled_stops o front opened read =
+      by_test (begins (codes "goal") line) _ _ (Err flaw) read
+      (λ is read_goal. bind_err (goal_scale_of line) _ flaw read_goal (stopped_goal most ds flaw front line o opened) (λ scale scale_is made. absurd (cc)))
+      (λ more read_lemma. bind_err (lemma_scale_of (length o.lemmas) line) _ flaw read_lemma (stopped_lemma most ds flaw front line o opened) (λ scale scale_is made. absurd (cc)))
+
+  lemma_stops : (o : Opened) (l : Lemma) (front : List Line) (number : List ℕ) → IsInside most ds o l (Some number) front → in_lemma ds done o l line ≡ Err flaw → StoppedBehind front
+  lemma_stops o l front number inside read =
+      by_test (begins (codes "row") line) _ _ (Err flaw) read
+      (λ is read_row. bind_err (lemma_row ds o l line) _ flaw read_row (stopped_row most ds flaw front line o l (Some number) inside) (λ next row_is made. absurd (cc)))
+      (λ more. scaled_stops (closed_by o l) front (lemma_finished most ds o l number front inside))
+
+  goal_stops : (o : Opened) (goal : Lemma) (front : List Line) → IsInside most ds o goal None front → in_goal ds done o goal line ≡ Err flaw → StoppedBehind front
+  goal_stops o goal front inside read =
+      by_test (is_end line) _ _ (Err flaw) read (λ is e. absurd (cc)) (λ more read_row.
+      bind_err (lemma_row ds o goal line) _ flaw read_row (stopped_row most ds flaw front line o goal None inside) (λ next row_is made. absurd (cc)))
+
+  pub stops_at : (place : Place) (front : List Line) → IsOpen most ds place front → step most ds done place line ≡ Err flaw → StoppedBehind front
+  stops_at at.Outside front is_open read = outside_stops front is_open read
+  stops_at at.Skipped front is_open read = absurd (cc)
+  stops_at (at.Headed form) front is_open read = bind_err (claim_of line) _ flaw read (stopped_headed most ds flaw front line form is_open) (λ n n_is made. absurd (cc))
+  stops_at (at.Claimed form n) front is_open read = bind_err (denominator_of line) _ flaw read (stopped_claimed most ds flaw front line form n is_open) (λ d d_is made. absurd (cc))
+  stops_at (at.Rows c size) front is_open read = rows_stop c size front is_open read
+  stops_at (at.Opened o) front is_open read = scaled_stops o front is_open read
+  stops_at (at.Lemma o l) front is_open read = lemma_stops o l front is_open.0 is_open.1 read
+  stops_at (at.Goal o goal) front is_open read = goal_stops o goal front is_open read

@@ -1,0 +1,166 @@
+-- A line that is read is the line of what is read.
+use Rattle.std.proofs.Common.{◌≡◌, ℕ, Bool, true, false, not, cond, ◌&&◌, List, [], ◌∷◌, ◌++◌, Some, None, IsTrue, refl, sym, ap, ap₂, ◌∙◌, subst, codes}
+use Rattle.std.specs.Option.{option_and_then}
+use Rattle.std.proofs.lemmas.Bool.{and_parts}
+use Rattle.std.proofs.lemmas.Option.{option_and_then_some, cond_some}
+use Rattle.std.proofs.lemmas.Slice.Eq.{bytes_eq-Decides}
+use Rattle.cofactor_trace.specs.declared.evidence.Format.TheVariants.{Plain, Lemmas}
+use Rattle.certificate_text.specs.Letters.{is_number}
+use Rattle.certificate_text.specs.Lines.{RowTokens, is, is_pair, is_plain_head, is_lemmas_head, is_end, number_behind, is_value, scale_digits, lemma_digits, goal_digits, is_open, is_close, closed, bracketed, row_end, number_part, origin_part, row_parts, is_row, row_tokens}
+use Rattle.certificate_text.specs.Blocks.{Line, origin_tokens, row_line, head_line, end_line}
+use Rattle.certificate_text.proofs.Results.{by_test, option_map_some, cond_option}
+
+-- ---- words
+
+is_word : (word token : List ℕ) → is word token ≡ true → token ≡ word
+is_word word token same = (bytes_eq-Decides token word).0 same
+
+pair_is : (first second : List ℕ) (line : Line) → is_pair first second line ≡ true → line ≡ first ∷ second ∷ []
+pair_is first second [] same = absurd (cc)
+pair_is first second (a ∷ []) same = absurd (cc)
+pair_is first second (a ∷ b ∷ []) same =
+    let parts = and_parts (is first a) (is second b) same in
+    ap₂ (λ x y. x ∷ y ∷ []) (is_word first a parts.0) (is_word second b parts.1)
+pair_is first second (a ∷ b ∷ c ∷ tokens) same = absurd (cc)
+
+pub plain_head_is : (line : Line) → is_plain_head line ≡ true → line ≡ head_line Plain
+plain_head_is line same = pair_is (codes "certificate") (codes "1") line same
+
+pub lemmas_head_is : (line : Line) → is_lemmas_head line ≡ true → line ≡ head_line Lemmas
+lemmas_head_is line same = pair_is (codes "certificate") (codes "2") line same
+
+pub end_is : (line : Line) → is_end line ≡ true → line ≡ end_line
+end_is [] same = absurd (cc)
+end_is (token ∷ []) same = ap (λ t. t ∷ []) (is_word (codes "end") token same)
+end_is (token ∷ other ∷ tokens) same = absurd (cc)
+
+-- ---- numbers behind words
+
+-- a word and a number
+pub number_is : (word : List ℕ) (line : Line) (n : List ℕ) → number_behind word line ≡ Some n → (line ≡ word ∷ n ∷ []) × IsTrue (is_number n)
+number_is word [] n read = absurd (cc)
+number_is word (a ∷ []) n read = absurd (cc)
+number_is word (a ∷ b ∷ []) n read =
+    let found : ((is word a && is_number b) ≡ true) × (b ≡ n) = cond_some (is word a && is_number b) b n read in
+    let parts = and_parts (is word a) (is_number b) found.0 in
+    (ap₂ (λ x y. x ∷ y ∷ []) (is_word word a parts.0) found.1, subst (λ m. IsTrue (is_number m)) found.1 parts.1)
+number_is word (a ∷ b ∷ c ∷ tokens) n read = absurd (cc)
+
+-- lemma K scale S, with this K
+pub lemma_is : (number : ℕ) (line : Line) (s : List ℕ) → lemma_digits number line ≡ Some s
+    → (k : List ℕ) × (line ≡ codes "lemma" ∷ k ∷ codes "scale" ∷ s ∷ []) × IsTrue (is_value number k) × IsTrue (is_number s)
+lemma_is number [] s read = absurd (cc)
+lemma_is number (word ∷ []) s read = absurd (cc)
+lemma_is number (word ∷ k ∷ tokens) s read =
+    let found = cond_option (is (codes "lemma") word && is_value number k) (scale_digits tokens) s read in
+    let parts = and_parts (is (codes "lemma") word) (is_value number k) found.0 in
+    let scale = number_is (codes "scale") tokens s found.1 in
+    (k, ap₂ (λ x y. x ∷ k ∷ y) (is_word (codes "lemma") word parts.0) scale.0, parts.1, scale.1)
+
+-- goal scale S
+pub goal_is : (line : Line) (s : List ℕ) → goal_digits line ≡ Some s → (line ≡ codes "goal" ∷ codes "scale" ∷ s ∷ []) × IsTrue (is_number s)
+goal_is [] s read = absurd (cc)
+goal_is (word ∷ tokens) s read =
+    let found = cond_option (is (codes "goal") word) (scale_digits tokens) s read in
+    let scale = number_is (codes "scale") tokens s found.1 in
+    (ap₂ (λ x y. x ∷ y) (is_word (codes "goal") word found.0) scale.0, scale.1)
+
+-- ---- rows
+
+abbrev Parts : Type 0
+Parts = List (List ℕ) × List (List ℕ)
+
+closed_is : (tokens : Line) (parts : Parts) → closed tokens ≡ Some parts → tokens ≡ parts.0 ++ codes ")" ∷ parts.1
+closed_is [] parts read = absurd (cc)
+closed_is (token ∷ tokens) parts read =
+    by_test (is_close token) _ _ (Some parts) read
+    (λ close read_on.
+    let same : ([], tokens) ≡ parts = cc in
+    subst (λ (p : Parts). token ∷ tokens ≡ p.0 ++ codes ")" ∷ p.1) same (ap (λ t. t ∷ tokens) (is_word (codes ")") token close)))
+    (λ inside read_on.
+    option_map_some (λ (inner : Parts). (token ∷ inner.0, inner.1)) (closed tokens) parts read_on (λ inner found same.
+    subst (λ (p : Parts). token ∷ tokens ≡ p.0 ++ codes ")" ∷ p.1) same (ap (λ ts. token ∷ ts) (closed_is tokens inner found))))
+
+bracketed_is : (tokens : Line) (parts : Parts) → bracketed tokens ≡ Some parts → tokens ≡ codes "(" ∷ (parts.0 ++ codes ")" ∷ parts.1)
+bracketed_is [] parts read = absurd (cc)
+bracketed_is (token ∷ tokens) parts read =
+    let found = cond_option (is_open token) (closed tokens) parts read in
+    ap₂ (λ t ts. t ∷ ts) (is_word (codes "(") token found.0) (closed_is tokens parts found.1)
+
+abbrev made : List ℕ → List (List ℕ) → Bool → List ℕ → List (List ℕ) → RowTokens
+made coefficient left lemma number right = record { coefficient = coefficient; left = left; lemma = lemma; number = number; right = right }
+
+row_end_is : (coefficient : List ℕ) (left : Line) (lemma : Bool) (number : List ℕ) (right behind : Line) (r : RowTokens) → row_end coefficient left lemma number right behind ≡ Some r
+    → (behind ≡ []) × (made coefficient left lemma number right ≡ r)
+row_end_is coefficient left lemma number right [] r read = (refl, cc)
+row_end_is coefficient left lemma number right (token ∷ behind) r read = absurd (cc)
+
+-- the tokens behind the first bracket, without `lemma`, are those of a row
+record IsOrigin (coefficient : List ℕ) (left : Line) (lemma : Bool) (tokens : Line) (r : RowTokens) : Type 0 where
+  number : List ℕ
+  right : Line
+  same : made coefficient left lemma number right ≡ r
+  tokens_are : tokens ≡ number ∷ codes "(" ∷ (right ++ codes ")" ∷ [])
+
+number_part_is : (coefficient : List ℕ) (left : Line) (lemma : Bool) (tokens : Line) (r : RowTokens) → number_part coefficient left lemma tokens ≡ Some r → IsOrigin coefficient left lemma tokens r
+number_part_is coefficient left lemma [] r read = absurd (cc)
+number_part_is coefficient left lemma (number ∷ tokens) r read =
+    option_and_then_some (λ (right : Parts). row_end coefficient left lemma number right.0 right.1) (bracketed tokens) r read (λ right found ended.
+    let end = row_end_is coefficient left lemma number right.0 right.1 r ended in
+    record {
+      number = number;
+      right = right.0;
+      same = end.1;
+      tokens_are = ap (λ ts. number ∷ ts) (bracketed_is tokens right found ∙ ap (λ (behind : Line). codes "(" ∷ (right.0 ++ codes ")" ∷ behind)) end.0);
+    })
+
+-- the line of the row behind the first bracket
+abbrev origin_line : RowTokens → Line
+origin_line r = origin_tokens r ++ (codes "(" ∷ (r.right ++ codes ")" ∷ []))
+
+record IsBehind (coefficient : List ℕ) (left tokens : Line) (r : RowTokens) : Type 0 where
+  coefficient_is : r.coefficient ≡ coefficient
+  left_is : r.left ≡ left
+  tokens_are : tokens ≡ origin_line r
+
+behind_is : (coefficient : List ℕ) (left tokens : Line) (r : RowTokens) → origin_part coefficient left tokens ≡ Some r → IsBehind coefficient left tokens r
+behind_is coefficient left [] r read = absurd (cc)
+behind_is coefficient left (word ∷ tokens) r read =
+    by_test (is (codes "lemma") word) _ _ (Some r) read
+    (λ there read_on.
+    let origin = number_part_is coefficient left true tokens r read_on in
+    subst (IsBehind coefficient left (word ∷ tokens)) origin.same
+    (record { coefficient_is = refl; left_is = refl; tokens_are = ap₂ (λ t ts. t ∷ ts) (is_word (codes "lemma") word there) origin.tokens_are }))
+    (λ absent read_on.
+    let origin = number_part_is coefficient left false (word ∷ tokens) r read_on in
+    subst (IsBehind coefficient left (word ∷ tokens)) origin.same (record { coefficient_is = refl; left_is = refl; tokens_are = origin.tokens_are }))
+
+parts_are : (line : Line) (r : RowTokens) → row_parts line ≡ Some r → line ≡ row_line r
+parts_are [] r read = absurd (cc)
+parts_are (word ∷ []) r read = absurd (cc)
+parts_are (word ∷ coefficient ∷ tokens) r read =
+    let found = cond_option (is (codes "row") word) (option_and_then (λ (left : Parts). origin_part coefficient left.0 left.1) (bracketed tokens)) r read in
+    option_and_then_some (λ (left : Parts). origin_part coefficient left.0 left.1) (bracketed tokens) r found.1 (λ left there rest.
+    let behind = behind_is coefficient left.0 left.1 r rest in
+    let bracket : tokens ≡ codes "(" ∷ (r.left ++ codes ")" ∷ origin_line r) =
+    bracketed_is tokens left there ∙ ap₂ (λ (l ts : Line). codes "(" ∷ (l ++ codes ")" ∷ ts)) (sym behind.left_is) behind.tokens_are in
+    ap₂ (λ w (ts : Line). w ∷ ts) (is_word (codes "row") word found.0) (ap₂ (λ (c : List ℕ) (ts : Line). c ∷ ts) (sym behind.coefficient_is) bracket))
+
+-- the line of a row over generators
+pub plain_row_is : (line : Line) (r : RowTokens) → row_tokens Plain line ≡ Some r → (line ≡ row_line r) × IsTrue (is_row r) × (r.lemma ≡ false)
+plain_row_is line r read =
+    option_and_then_some (λ s. cond (not s.lemma && is_row s) (Some s) None) (row_parts line) r read (λ s found kept.
+    let known = cond_some (not s.lemma && is_row s) s r kept in
+    let parts = and_parts (not s.lemma) (is_row s) known.0 in
+    subst (λ (t : RowTokens). (line ≡ row_line t) × IsTrue (is_row t) × (t.lemma ≡ false)) known.1 (parts_are line s found, parts.1, not_true s.lemma parts.0))
+  where
+    not_true : (b : Bool) → not b ≡ true → b ≡ false
+    not_true true same = absurd (cc)
+    not_true false same = refl
+
+-- the line of a row over generators and lemmas
+pub lemma_row_is : (line : Line) (r : RowTokens) → row_tokens Lemmas line ≡ Some r → (line ≡ row_line r) × IsTrue (is_row r)
+lemma_row_is line r read =
+    option_and_then_some (λ s. cond (is_row s) (Some s) None) (row_parts line) r read (λ s found kept.
+    let known = cond_some (is_row s) s r kept in
+    subst (λ (t : RowTokens). (line ≡ row_line t) × IsTrue (is_row t)) known.1 (parts_are line s found, known.0))

@@ -1,0 +1,269 @@
+-- A line that is read at its place in a block.
+use Rattle.std.proofs.Common.{◌≡◌, ◌<◌, ◌+◌, ℕ, ℤ, List, [], ◌∷◌, ◌++◌, Some, None, Ok, IsTrue, arith, sym, ap, ap₂, ◌∙◌, subst, length, map, nat_le, leb-false, append_assoc, append-nil, codes}
+use Rattle.std.specs.List.{flat_map}
+use Rattle.std.proofs.lemmas.Grind.{flat_map-append}
+use Rattle.std.proofs.lemmas.List.{length-append, map-append}
+use Rattle.std.proofs.lemmas.List.Elements.{All-nil, All-push}
+use Rattle.quiver.specs.Declarations.{Declaration}
+use Rattle.cofactor_trace.specs.declared.CertRow.{CertRow}
+use Rattle.cofactor_trace.specs.declared.Certificate.{Certificate}
+use Rattle.cofactor_trace.specs.declared.evidence.Lemma.{Lemma}
+use Rattle.cofactor_trace.specs.declared.evidence.LemmaRow.{LemmaRow}
+use Rattle.cofactor_trace.specs.declared.evidence.Format.{Format}
+use Rattle.cofactor_trace.specs.declared.evidence.Format.TheVariants.{Plain, Lemmas}
+use Rattle.certificate_text.specs.declared.fault.Flaw.TheVariants.{BadLine, NumberTooLarge}
+use Rattle.certificate_text.specs.declared.place.Size.{Size}
+use Rattle.certificate_text.specs.declared.place.Opened.{Opened}
+use Rattle.certificate_text.specs.Fault.{asked}
+use Rattle.certificate_text.specs.Letters.{is_number, number_within}
+use Rattle.certificate_text.specs.Lines.{RowTokens, number_limit, integer_limit, row_limit, is_value, is_row, integer_of, number_behind, claim_of, denominator_of, lemma_digits, lemma_scale_of, goal_digits, goal_scale_of, row_tokens, row_values, row_of, over_lemma, lemma_row_of, grown}
+use Rattle.certificate_text.specs.Blocks.{Line, ScaledTokens, LemmaTokens, PlainTokens, row_line, head_line, claim_line, denominator_line, lemma_lines, IsPlainRow}
+use Rattle.certificate_text.specs.Bounds.{IsWithin, IsScaledOf, IsLemmaRowOf}
+use Rattle.certificate_text.specs.Reading.{certificate_of, begun, lemma_of, closed_by, resized, lemma_row}
+use Rattle.certificate_text.proofs.Results.{by_test, bind_ok, asked_ok}
+use Rattle.certificate_text.proofs.LineTrees.{number_is, lemma_is, goal_is, plain_row_is, lemma_row_is}
+use Rattle.certificate_text.proofs.RowTrees.{HaveSize, no_rows_size, size_push, integer_is_within}
+use Rattle.certificate_text.proofs.Zips.{zip_push, zip_length}
+use Rattle.certificate_text.proofs.OpenBlocks.{IsHeaded, IsClaimed, IsInPlain, IsBegun, IsOpened, IsInside, IsOpen, Lead, lemma_tokens, lead_lines, IsNext, IsFew, rows_of, lemmas_front, are_lemmas-push, plain_front}
+
+-- two lists of lines with one line more
+behind : (front other : List Line) (line last : Line) → front ≡ other → line ≡ last → front ++ line ∷ [] ≡ other ++ last ∷ []
+behind front other line last same same_line = ap₂ (λ ls l. ls ++ l ∷ []) same same_line
+
+-- ---- what the lines say
+
+pub claim_read : (line : Line) (n : ℕ) → claim_of line ≡ Ok n → (digits : List ℕ) × (line ≡ claim_line digits) × IsTrue (is_number digits) × (number_within number_limit digits ≡ Some n)
+claim_read line n read =
+    bind_ok (asked BadLine (number_behind (codes "claim") line)) (λ digits. asked NumberTooLarge (number_within number_limit digits)) n read (λ digits there within.
+    let known = number_is (codes "claim") line digits (asked_ok BadLine (number_behind (codes "claim") line) digits there) in
+    (digits, known.0, known.1, asked_ok NumberTooLarge (number_within number_limit digits) n within))
+
+pub denominator_read : (line : Line) (d : ℤ) → denominator_of line ≡ Ok d → (digits : List ℕ) × (line ≡ denominator_line digits) × IsTrue (is_number digits) × (integer_of digits ≡ Ok d)
+denominator_read line d read =
+    bind_ok (asked BadLine (number_behind (codes "denominator") line)) integer_of d read (λ digits there within.
+    let known = number_is (codes "denominator") line digits (asked_ok BadLine (number_behind (codes "denominator") line) digits there) in
+    (digits, known.0, known.1, within))
+
+pub goal_read : (line : Line) (scale : ℤ) → goal_scale_of line ≡ Ok scale → (digits : List ℕ) × (line ≡ codes "goal" ∷ codes "scale" ∷ digits ∷ []) × IsTrue (is_number digits) × (integer_of digits ≡ Ok scale)
+goal_read line scale read =
+    bind_ok (asked BadLine (goal_digits line)) integer_of scale read (λ digits there within.
+    let known = goal_is line digits (asked_ok BadLine (goal_digits line) digits there) in
+    (digits, known.0, known.1, within))
+
+-- the next lemma, behind so many
+pub record IsLemmaRead (before : ℕ) (line : Line) (scale : ℤ) : Type 0 where
+  pub number : List ℕ
+  pub digits : List ℕ
+  pub line_is : line ≡ codes "lemma" ∷ number ∷ codes "scale" ∷ digits ∷ []
+  pub next : IsTrue (is_value (before + 1) number)
+  pub scale_number : IsTrue (is_number digits)
+  pub scale_value : integer_of digits ≡ Ok scale
+  pub few : before < row_limit
+
+lemma_read : (before : ℕ) (line : Line) (scale : ℤ) → lemma_scale_of before line ≡ Ok scale → IsLemmaRead before line scale
+lemma_read before line scale read =
+    bind_ok (asked BadLine (lemma_digits (before + 1) line)) _ scale read (λ digits there read_scale.
+    bind_ok (integer_of digits) _ scale read_scale (λ value value_is read_room.
+    by_test (nat_le row_limit before) _ _ (Ok scale) read_room (λ many e. absurd (cc)) (λ few same.
+    let known = lemma_is (before + 1) line digits (asked_ok BadLine (lemma_digits (before + 1) line) digits there) in
+    record {
+      number = known.0;
+      digits = digits;
+      line_is = known.1;
+      next = known.2;
+      scale_number = known.3;
+      scale_value = value_is ∙ same;
+      few = leb-false row_limit before few;
+    })))
+
+-- ---- the head
+
+pub next_headed : (most form : Format) (front : List Line) (line : Line) (n : ℕ) → IsHeaded most form front → claim_of line ≡ Ok n → IsClaimed most form n (front ++ line ∷ [])
+next_headed most form front line n headed read =
+    let known = claim_read line n read in
+    record {
+      read = headed.read;
+      claim = known.0;
+      claim_number = known.2;
+      claim_value = known.3;
+      are = behind front (head_line form ∷ []) line (claim_line known.0) headed.are known.1;
+    }
+
+pub next_claimed : (most : Format) (ds : List Declaration) (form : Format) (front : List Line) (line : Line) (n : ℕ) (d : ℤ) → IsClaimed most form n front → denominator_of line ≡ Ok d
+    → IsOpen most ds (begun form n d) (front ++ line ∷ [])
+next_claimed most ds Plain front line n d claimed read =
+    let known = denominator_read line d read in
+    record {
+      tokens = record { claim = claimed.claim; denominator = known.0; rows = [] };
+      is_block = record { claim = claimed.claim_number; denominator = known.2; rows = All-nil IsPlainRow };
+      values = record { claim = claimed.claim_value; denominator = known.3; rows = tt };
+      have = no_rows_size ds;
+      are = behind front (head_line Plain ∷ claim_line claimed.claim ∷ []) line (denominator_line known.0) claimed.are known.1;
+    }
+next_claimed most ds Lemmas front line n d claimed read =
+    let known = denominator_read line d read in
+    record {
+      read = claimed.read;
+      claim = claimed.claim;
+      denominator = known.0;
+      finished = [];
+      begun = record {
+        head = record { claim_number = claimed.claim_number; denominator_number = known.2; numbered = tt };
+        within = record {
+          claim_within = (n, claimed.claim_value);
+          denominator_within = integer_is_within known.0 d known.3;
+          scales = All-nil (λ (l : LemmaTokens). IsWithin integer_limit l.scaled.scale);
+        };
+        claim_value = claimed.claim_value;
+        denominator_value = known.3;
+        values = tt;
+      };
+      few = omega arith;
+      have = no_rows_size ds;
+      are = behind front (head_line Lemmas ∷ claim_line claimed.claim ∷ []) line (denominator_line known.0) claimed.are known.1;
+    }
+
+-- ---- rows
+
+-- the lines of rows with one row more
+pub rows_push : (rs : List RowTokens) (r : RowTokens) → map row_line (rs ++ r ∷ []) ≡ map row_line rs ++ row_line r ∷ []
+rows_push rs r = map-append row_line rs (r ∷ [])
+
+abbrev pub plain_push : PlainTokens → RowTokens → PlainTokens
+plain_push b r = record { claim = b.claim; denominator = b.denominator; rows = b.rows ++ r ∷ [] }
+
+pub plain_front-push : (b : PlainTokens) (r : RowTokens) → plain_front b ++ row_line r ∷ [] ≡ plain_front (plain_push b r)
+plain_front-push b r = ap (λ ls. head_line Plain ∷ claim_line b.claim ∷ denominator_line b.denominator ∷ ls) (sym (rows_push b.rows r))
+
+pub next_plain : (ds : List Declaration) (c : Certificate) (size : Size) (front : List Line) (line : Line) (row : CertRow) (next : Size) → IsInPlain ds c size front → row_of ds line ≡ Ok row
+    → grown size row.left row.right ≡ Ok next → IsInPlain ds (certificate_of c.claim c.denominator (c.rows ++ row ∷ [])) next (front ++ line ∷ [])
+next_plain ds c size front line row next inside read fits =
+    bind_ok (asked BadLine (row_tokens Plain line)) (row_values ds) row read (λ r there read_values.
+    let known = plain_row_is line r (asked_ok BadLine (row_tokens Plain line) r there) in
+    let b : PlainTokens = inside.tokens in
+    record {
+      tokens = plain_push b r;
+      is_block = record {
+        claim = inside.is_block.claim;
+        denominator = inside.is_block.denominator;
+        rows = All-push IsPlainRow b.rows r inside.is_block.rows (record { row = known.1; generator = known.2 });
+      };
+      values = record {
+        claim = inside.values.claim;
+        denominator = inside.values.denominator;
+        rows = zip_push (λ s v. row_values ds s ≡ Ok v) b.rows c.rows r row inside.values.rows read_values;
+      };
+      have = size_push ds size b.rows inside.have r row read_values next fits;
+      are = behind front (plain_front b) line (row_line r) inside.are known.0 ∙ plain_front-push b r;
+    })
+
+abbrev pub scaled_push : ScaledTokens → RowTokens → ScaledTokens
+scaled_push s r = record { scale = s.scale; rows = s.rows ++ r ∷ [] }
+
+pub lead_lines-push : (lead : Lead) (s : ScaledTokens) (r : RowTokens) → lead_lines lead s ++ row_line r ∷ [] ≡ lead_lines lead (scaled_push s r)
+lead_lines-push None s r = ap (λ (ls : List Line). (codes "goal" ∷ codes "scale" ∷ s.scale ∷ []) ∷ ls) (sym (rows_push s.rows r))
+lead_lines-push (Some number) s r = ap (λ (ls : List Line). (codes "lemma" ∷ number ∷ codes "scale" ∷ s.scale ∷ []) ∷ ls) (sym (rows_push s.rows r))
+
+-- ---- lemmas and the goal
+
+module _ (most : Format) (ds : List Declaration) where
+  -- another size
+  begun_resized : (claim denominator : List ℕ) (finished : List LemmaTokens) (o : Opened) (size : Size) → IsBegun ds claim denominator finished o → IsBegun ds claim denominator finished (resized o size)
+  begun_resized claim denominator finished o size begun =
+      record { head = begun.head; within = begun.within; claim_value = begun.claim_value; denominator_value = begun.denominator_value; values = begun.values }
+
+  pub next_row : (o : Opened) (l : Lemma) (lead : Lead) (front : List Line) (line : Line) (next : Opened × Lemma) → IsInside most ds o l lead front → lemma_row ds o l line ≡ Ok next
+      → IsInside most ds next.0 next.1 lead (front ++ line ∷ [])
+  next_row o l lead front line next inside read =
+      bind_ok (lemma_row_of ds line) _ next read (λ lemma_row row_is read_size.
+      bind_ok (grown o.size lemma_row.left lemma_row.right) _ next read_size (λ size fits made.
+      bind_ok (asked BadLine (row_tokens Lemmas line)) _ lemma_row row_is (λ r there read_row.
+      bind_ok (row_values ds r) _ lemma_row read_row (λ row read_values over.
+      let known = lemma_row_is line r (asked_ok BadLine (row_tokens Lemmas line) r there) in
+      let row_same : over_lemma r.lemma row ≡ lemma_row = cc in
+      let s : ScaledTokens = inside.tokens in
+      let same : (resized o size, lemma_of l.scale (l.rows ++ lemma_row ∷ [])) ≡ next = cc in
+      subst (λ (n : Opened × Lemma). IsInside most ds n.0 n.1 lead (front ++ line ∷ [])) same (record {
+        read = inside.read;
+        claim = inside.claim;
+        denominator = inside.denominator;
+        finished = inside.finished;
+        begun = begun_resized inside.claim inside.denominator inside.finished o size inside.begun;
+        next = inside.next;
+        few = inside.few;
+        tokens = scaled_push s r;
+        scaled = record { scale = inside.scaled.scale; rows = All-push (λ t. IsTrue (is_row t)) s.rows r inside.scaled.rows known.1 };
+        values = record { scale = inside.values.scale; rows = zip_push (IsLemmaRowOf ds) s.rows l.rows r lemma_row inside.values.rows (row, read_values, sym row_same) };
+        have = subst (HaveSize ds size) (append_assoc (rows_of inside.finished) s.rows (r ∷ []))
+            (size_push ds o.size (rows_of inside.finished ++ s.rows) inside.have r row read_values size (ap (λ (w : LemmaRow). grown o.size w.left w.right) row_same ∙ fits));
+        are =
+            behind front (lemmas_front inside.claim inside.denominator inside.finished ++ lead_lines lead s) line (row_line r) inside.are known.0
+            ∙ append_assoc (lemmas_front inside.claim inside.denominator inside.finished) (lead_lines lead s) (row_line r ∷ [])
+            ∙ ap (λ ls. lemmas_front inside.claim inside.denominator inside.finished ++ ls) (lead_lines-push lead s r);
+      })))))
+
+  -- behind the last row of a lemma
+  pub lemma_finished : (o : Opened) (l : Lemma) (number : List ℕ) (front : List Line) → IsInside most ds o l (Some number) front → IsOpened most ds (closed_by o l) front
+  lemma_finished o l number front inside =
+      let last : LemmaTokens = lemma_tokens number inside.tokens in
+      let finished : List LemmaTokens = inside.finished in
+      let head = inside.begun.head in
+      let within = inside.begun.within in
+      record {
+        read = inside.read;
+        claim = inside.claim;
+        denominator = inside.denominator;
+        finished = finished ++ last ∷ [];
+        begun = record {
+          head = record {
+            claim_number = head.claim_number;
+            denominator_number = head.denominator_number;
+            numbered = are_lemmas-push 1 (length finished + 1) finished last (omega arith) head.numbered inside.next inside.scaled;
+          };
+          within = record {
+            claim_within = within.claim_within;
+            denominator_within = within.denominator_within;
+            scales = All-push (λ (k : LemmaTokens). IsWithin integer_limit k.scaled.scale) finished last within.scales (integer_is_within inside.tokens.scale l.scale inside.values.scale);
+          };
+          claim_value = inside.begun.claim_value;
+          denominator_value = inside.begun.denominator_value;
+          values = zip_push (λ k lemma. IsScaledOf ds k.scaled lemma) finished o.lemmas last l inside.begun.values inside.values;
+        };
+        few = omega (arith, inside.few, length-append finished (last ∷ []));
+        have = subst (HaveSize ds o.size) (ap (λ rs. rows_of finished ++ rs) (sym (append-nil inside.tokens.rows)) ∙ sym (flat_map-append (λ (k : LemmaTokens). k.scaled.rows) finished (last ∷ []))) inside.have;
+        are = inside.are ∙ ap (λ ls. head_line Lemmas ∷ claim_line inside.claim ∷ denominator_line inside.denominator ∷ ls)
+            (ap (λ ls. flat_map lemma_lines finished ++ ls) (sym (append-nil (lemma_lines last))) ∙ sym (flat_map-append lemma_lines finished (last ∷ [])));
+      }
+
+  -- the first line of a lemma or of the goal
+  next_lead : (o : Opened) (front : List Line) (line : Line) (lead : Lead) (digits : List ℕ) (scale : ℤ) (opened : IsOpened most ds o front) → IsNext lead opened.finished → IsFew lead opened.finished
+      → IsTrue (is_number digits) → integer_of digits ≡ Ok scale → line ∷ [] ≡ lead_lines lead (record { scale = digits; rows = [] }) → IsInside most ds o (lemma_of scale []) lead (front ++ line ∷ [])
+  next_lead o front line lead digits scale opened next few number value line_is = record {
+    read = opened.read;
+    claim = opened.claim;
+    denominator = opened.denominator;
+    finished = opened.finished;
+    begun = opened.begun;
+    next = next;
+    few = few;
+    tokens = record { scale = digits; rows = [] };
+    scaled = record { scale = number; rows = All-nil (λ t. IsTrue (is_row t)) };
+    values = record { scale = value; rows = tt };
+    have = subst (HaveSize ds o.size) (sym (append-nil (rows_of opened.finished))) opened.have;
+    are = ap₂ (λ (ls ms : List Line). ls ++ ms) opened.are line_is;
+  }
+
+  pub next_goal : (o : Opened) (front : List Line) (line : Line) (scale : ℤ) → IsOpened most ds o front → goal_scale_of line ≡ Ok scale → IsInside most ds o (lemma_of scale []) None (front ++ line ∷ [])
+  next_goal o front line scale opened read =
+      let known = goal_read line scale read in
+      next_lead o front line None known.0 scale opened tt opened.few known.2 known.3 (ap (λ l. l ∷ []) known.1)
+
+  pub next_lemma : (o : Opened) (front : List Line) (line : Line) (scale : ℤ) → IsOpened most ds o front → lemma_scale_of (length o.lemmas) line ≡ Ok scale
+      → (number : List ℕ) × IsInside most ds o (lemma_of scale []) (Some number) (front ++ line ∷ [])
+  next_lemma o front line scale opened read =
+      let known = lemma_read (length o.lemmas) line scale read in
+      let count : length opened.finished ≡ length o.lemmas = zip_length (λ k lemma. IsScaledOf ds k.scaled lemma) opened.finished o.lemmas opened.begun.values in (
+        known.number,
+        next_lead o front line (Some known.number) known.digits scale opened
+            (subst (λ n. IsTrue (is_value (n + 1) known.number)) (sym count) known.next) (omega (arith, count, known.few)) known.scale_number known.scale_value (ap (λ l. l ∷ []) known.line_is),
+      )

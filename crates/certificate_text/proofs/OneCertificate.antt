@@ -1,0 +1,59 @@
+-- Blocks say one list of certificates.
+use Rattle.std.proofs.Common.{◌≡◌, List, Option, Some, Result, Ok, refl, sym, ap, ◌∙◌}
+use Rattle.quiver.specs.Declarations.{Declaration}
+use Rattle.cofactor_trace.specs.declared.Certificate.{Certificate}
+use Rattle.cofactor_trace.specs.declared.evidence.LemmaRow.{LemmaRow}
+use Rattle.cofactor_trace.specs.declared.evidence.Lemma.{Lemma}
+use Rattle.cofactor_trace.specs.declared.evidence.LemmaCertificate.{LemmaCertificate}
+use Rattle.cofactor_trace.specs.declared.evidence.Evidence.{Evidence}
+use Rattle.cofactor_trace.specs.declared.evidence.Evidence.TheVariants as evidence
+use Rattle.certificate_text.specs.declared.fault.Flaw.{Flaw}
+use Rattle.certificate_text.specs.Lines.{RowTokens, number_limit, row_values, over_lemma, integer_of}
+use Rattle.certificate_text.specs.Letters.{number_within}
+use Rattle.certificate_text.specs.Blocks.{ScaledTokens, PlainTokens, LemmasTokens, BlockTokens, plain, lemmas, other}
+use Rattle.certificate_text.specs.Bounds.{IsLemmaRowOf, IsScaledOf, IsPlainOf, IsLemmasOf, IsCertificateOf, AreCertificatesOf, certificates_in}
+use Rattle.certificate_text.proofs.Zips.{AllZip-unique}
+
+same_value : {A : Type 0} (o : Option A) (x y : A) → o ≡ Some x → o ≡ Some y → x ≡ y
+same_value o x y left right = cc
+
+same_result : {A : Type 0} (r : Result A Flaw) (x y : A) → r ≡ Ok x → r ≡ Ok y → x ≡ y
+same_result r x y left right = cc
+
+module _ (ds : List Declaration) where
+  same_lemma_row : (r : RowTokens) (x y : LemmaRow) → IsLemmaRowOf ds r x → IsLemmaRowOf ds r y → x ≡ y
+  same_lemma_row r x y left right = left.2 ∙ ap (over_lemma r.lemma) (same_result (row_values ds r) left.0 right.0 left.1 right.1) ∙ sym right.2
+
+  same_scaled : (s : ScaledTokens) (x y : Lemma) → IsScaledOf ds s x → IsScaledOf ds s y → x ≡ y
+  same_scaled s x y left right =
+      let scale : x.scale ≡ y.scale = same_result (integer_of s.scale) x.scale y.scale left.scale right.scale in
+      let rows : x.rows ≡ y.rows = AllZip-unique (IsLemmaRowOf ds) same_lemma_row s.rows x.rows y.rows left.rows right.rows in
+      let same : ◌≡◌ {A = Lemma} (record { scale = x.scale; rows = x.rows }) (record { scale = y.scale; rows = y.rows }) = rw (scale, rows) refl in same
+
+  same_plain : (b : PlainTokens) (x y : Certificate) → IsPlainOf ds b x → IsPlainOf ds b y → x ≡ y
+  same_plain b x y left right =
+      let claim : x.claim ≡ y.claim = same_value (number_within number_limit b.claim) x.claim y.claim left.claim right.claim in
+      let denominator : x.denominator ≡ y.denominator = same_result (integer_of b.denominator) x.denominator y.denominator left.denominator right.denominator in
+      let rows : x.rows ≡ y.rows = AllZip-unique (λ r row. row_values ds r ≡ Ok row) (λ r. same_result (row_values ds r)) b.rows x.rows y.rows left.rows right.rows in
+      let same : ◌≡◌ {A = Certificate} (record { claim = x.claim; denominator = x.denominator; rows = x.rows }) (record { claim = y.claim; denominator = y.denominator; rows = y.rows }) = rw (claim, denominator, rows) refl in same
+
+  same_lemmas : (b : LemmasTokens) (x y : LemmaCertificate) → IsLemmasOf ds b x → IsLemmasOf ds b y → x ≡ y
+  same_lemmas b x y left right =
+      let claim : x.claim ≡ y.claim = same_value (number_within number_limit b.claim) x.claim y.claim left.claim right.claim in
+      let denominator : x.denominator ≡ y.denominator = same_result (integer_of b.denominator) x.denominator y.denominator left.denominator right.denominator in
+      let each : x.lemmas ≡ y.lemmas = AllZip-unique (λ l lemma. IsScaledOf ds l.scaled lemma) (λ l. same_scaled l.scaled) b.lemmas x.lemmas y.lemmas left.lemmas right.lemmas in
+      let goal : x.goal ≡ y.goal = same_scaled b.goal x.goal y.goal left.goal right.goal in
+      let same : ◌≡◌ {A = LemmaCertificate} (record { claim = x.claim; denominator = x.denominator; lemmas = x.lemmas; goal = x.goal }) (record { claim = y.claim; denominator = y.denominator; lemmas = y.lemmas; goal = y.goal }) =
+      rw (claim, denominator, each, goal) refl in same
+
+  same_certificate : (b : BlockTokens) (x y : Evidence) → IsCertificateOf ds b x → IsCertificateOf ds b y → x ≡ y
+  same_certificate (plain b) (evidence.Plain x) (evidence.Plain y) left right = ap evidence.Plain (same_plain b x y left right)
+  same_certificate (plain b) (evidence.Plain x) (evidence.Lemmas y) left right = absurd right
+  same_certificate (plain b) (evidence.Lemmas x) y left right = absurd left
+  same_certificate (lemmas b) (evidence.Lemmas x) (evidence.Lemmas y) left right = ap evidence.Lemmas (same_lemmas b x y left right)
+  same_certificate (lemmas b) (evidence.Lemmas x) (evidence.Plain y) left right = absurd right
+  same_certificate (lemmas b) (evidence.Plain x) y left right = absurd left
+  same_certificate (other b) x y left right = absurd left
+
+  pub same_certificates : (text : List BlockTokens) (xs ys : List Evidence) → AreCertificatesOf ds text xs → AreCertificatesOf ds text ys → xs ≡ ys
+  same_certificates text xs ys left right = AllZip-unique (IsCertificateOf ds) same_certificate (certificates_in text) xs ys left right

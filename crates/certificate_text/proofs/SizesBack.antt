@@ -1,0 +1,77 @@
+-- Lines of words and numbers that are written are lines of tokens.
+use Rattle.std.proofs.Common.{◌≡◌, ◌<◌, ◌^◌, ℕ, ℤ, pos, true, false, List, [], ◌∷◌, ◌++◌, Ok, arith, refl, sym, ap, ◌∙◌, subst, codes, eq-eqb}
+use Rattle.std.specs.Prelude.{decimal}
+use Rattle.std.specs.Fmt.{signed_decimal}
+use Rattle.std.specs.Str.Parse.{digits_value}
+use Rattle.std.proofs.lemmas.Fmt.{decimal_is_IsNumeral_wide}
+use Rattle.std.proofs.lemmas.List.{append_assoc, append-nil}
+use Rattle.cofactor_trace.specs.declared.evidence.Format.{Format}
+use Rattle.cofactor_trace.specs.declared.evidence.Format.TheVariants.{Plain, Lemmas}
+use Rattle.certificate_text.specs.Tokens.{tokens_of, is_skipped}
+use Rattle.certificate_text.specs.Letters.{is_number}
+use Rattle.certificate_text.specs.Lines.{integer_limit, is_value, integer_of}
+use Rattle.certificate_text.specs.Blocks.{Line, head_line, claim_line, denominator_line, end_line}
+use Rattle.certificate_text.specs.Bounds.{IsWithin}
+use Rattle.certificate_text.specs.Written.{opening_text}
+use Rattle.certificate_text.specs.Back.{IsLineText}
+use Rattle.certificate_text.proofs.ContentBack.{IsTextOf, text-append, text_of_tokens}
+use Rattle.certificate_text.proofs.NameBytes.{IsNameText}
+use Rattle.certificate_text.proofs.NumbersBack.{decimal_text, decimal_number, decimal_within}
+use Rattle.certificate_text.proofs.TextsBack.{line_text-append, literal, plain_name}
+use Rattle.certificate_text.proofs.TokensBack.{token_read, name_token}
+
+-- ---- numbers
+
+-- what is read of an integer that is written and not negative
+pub record IsSize (z : ℤ) : Type 0 where
+  pub number : is_number (signed_decimal z) ≡ true
+  pub value : integer_of (signed_decimal z) ≡ Ok z
+  pub within : IsWithin integer_limit (signed_decimal z)
+  pub text : IsNameText (signed_decimal z)
+
+size_read : (n : ℕ) → n < 2 ^ 127 → IsSize (pos n)
+size_read n small =
+    let below : n < 10 ^ 64 = omega (arith, small) in
+    let value = decimal_within integer_limit n (omega (arith, small)) below in
+    record { number = decimal_number n below; value = rw value refl; within = (n, value); text = decimal_text n below }
+
+pub size_written : (z : ℤ) (n : ℕ) → z ≡ pos n → n < 2 ^ 127 → IsSize z
+size_written z n is small = subst IsSize (sym is) (size_read n small)
+
+pub number_is_value : (n : ℕ) → n < 10 ^ 64 → is_value n (decimal n) ≡ true
+number_is_value n below =
+    let value : digits_value 10 (decimal n) ≡ n = (decimal_is_IsNumeral_wide n below).1 in
+    rw (decimal_number n below, value) (eq-eqb n n refl)
+
+-- ---- lines that end with a number
+
+pub text_of_number : (front : List ℕ) (words : Line) (number : List ℕ) → IsLineText front → IsNameText number → tokens_of (front ++ number) ≡ words ++ tokens_of number
+    → is_skipped (words ++ number ∷ []) ≡ false → IsTextOf ((front ++ number) ++ 10 ∷ []) ((words ++ number ∷ []) ∷ [])
+text_of_number front words number line text split stands =
+    let alone : tokens_of number ≡ number ∷ [] = ap tokens_of (sym (append-nil number)) ∙ token_read number [] (name_token number text) refl in
+    text_of_tokens (front ++ number) (words ++ number ∷ []) (line_text-append front number line (plain_name number text).line) (split ∙ ap (λ ts. words ++ ts) alone) stands
+
+-- ---- the first lines of a certificate, and the last one
+
+abbrev pub head_text : Format → List ℕ
+head_text Plain = codes "certificate 1"
+head_text Lemmas = codes "certificate 2"
+
+head_is_text : (form : Format) → IsTextOf (head_text form ++ 10 ∷ []) (head_line form ∷ [])
+head_is_text Plain = text_of_tokens (head_text Plain) (head_line Plain) (literal (head_text Plain) refl refl) refl refl
+head_is_text Lemmas = text_of_tokens (head_text Lemmas) (head_line Lemmas) (literal (head_text Lemmas) refl refl) refl refl
+
+opening_is : (head end first claim second denominator : List ℕ) → (head ++ (end ++ first)) ++ claim ++ (end ++ second) ++ denominator ++ end ≡ (head ++ end) ++ (((first ++ claim) ++ end) ++ ((second ++ denominator) ++ end))
+opening_is head end first claim second denominator = simp append_assoc refl
+
+pub opening_is_text : (form : Format) (claim : ℕ) (denominator : ℤ) → claim < 2 ^ 32 → IsSize denominator
+    → IsTextOf (opening_text (head_text form ++ codes "\nclaim ") claim denominator) (head_line form ∷ claim_line (decimal claim) ∷ denominator_line (signed_decimal denominator) ∷ [])
+opening_is_text form claim denominator small size =
+    let number = text_of_number (codes "claim ") (codes "claim" ∷ []) (decimal claim) (literal (codes "claim ") refl refl) (decimal_text claim (omega (arith, small))) refl refl in
+    let multiple = text_of_number (codes "denominator ") (codes "denominator" ∷ []) (signed_decimal denominator) (literal (codes "denominator ") refl refl) size.text refl refl in
+    let lines = head_line form ∷ claim_line (decimal claim) ∷ denominator_line (signed_decimal denominator) ∷ [] in
+    subst (λ (text : List ℕ). IsTextOf text lines) (sym (opening_is (head_text form) (10 ∷ []) (codes "claim ") (decimal claim) (codes "denominator ") (signed_decimal denominator)))
+    (text-append _ _ _ _ (head_is_text form) (text-append _ _ _ _ number multiple))
+
+pub end_is_text : IsTextOf (codes "end\n") (end_line ∷ [])
+end_is_text = text_of_tokens (codes "end") end_line (literal (codes "end") refl refl) refl refl

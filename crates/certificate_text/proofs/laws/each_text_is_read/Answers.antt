@@ -1,0 +1,5 @@
+use Rattle.certificate_text.proofs.EachText as lemma
+use Rattle.certificate_text.proofs.laws.each_text_is_read.Goals as goal
+
+pub returns : goal.returns
+returns c = lemma.each_text_is_read

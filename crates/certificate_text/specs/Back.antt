@@ -1,0 +1,159 @@
+-- What is read of evidence that is written, whatever stands around it.
+use Rattle.std.specs.Prelude.{◌≡◌, ◌<◌, ◌≤◌, ◌+◌, ◌^◌, ◌==◌, ◌&&◌, not, ⊤, ℕ, pos, Bool, true, false, List, [], ◌∷◌, ◌++◌, length, IsTrue, codes}
+use Rattle.std.specs.List.{All, list_all, flat_map}
+use Rattle.std.specs.Str.{IsUtf8}
+use Rattle.coef_int.specs.Range.{IsCoefficient}
+use Rattle.quiver.specs.Declarations.{Declaration, name_of, IsDeclared}
+use Rattle.cofactor_trace.specs.declared.CertRow.{CertRow}
+use Rattle.cofactor_trace.specs.declared.Certificate.{Certificate}
+use Rattle.cofactor_trace.specs.declared.evidence.CertFrom.{CertFrom}
+use Rattle.cofactor_trace.specs.declared.evidence.CertFrom.TheVariants.{Generator, Lemma as Derived}
+use Rattle.cofactor_trace.specs.declared.evidence.LemmaRow.{LemmaRow}
+use Rattle.cofactor_trace.specs.declared.evidence.Lemma.{Lemma}
+use Rattle.cofactor_trace.specs.declared.evidence.LemmaCertificate.{LemmaCertificate}
+use Rattle.cofactor_trace.specs.declared.evidence.Evidence.{Evidence}
+use Rattle.cofactor_trace.specs.declared.evidence.Evidence.TheVariants as evidence
+use Rattle.cofactor_trace.specs.declared.evidence.Format.{Format}
+use Rattle.cofactor_trace.specs.declared.evidence.Format.TheVariants as format
+use Rattle.cofactor_trace.specs.Expansion.{letter_count}
+use Rattle.cofactor_trace.specs.Lemmas.{row_count, letter_count as letters_of_lemmas}
+use Rattle.cofactor_trace.specs.GatheringLaws.{parts_of}
+use Rattle.certificate_text.specs.Letters.{is_name}
+use Rattle.certificate_text.specs.Tokens.{tokens_of}
+use Rattle.certificate_text.specs.Lines.{is_other_head, is_end}
+use Rattle.certificate_text.specs.Evidence.{IsRowOver, IsLemmaRowOver, HasCertificates}
+use Rattle.certificate_text.specs.Written.{evidence_text}
+
+-- ---- certificates within the limits
+
+pub record IsWritableRow (ds : List Declaration) (row : CertRow) : Type 0 where
+  pub coefficient : IsCoefficient row.coef
+  pub generator : row.generator < 2 ^ 32
+  pub letters : IsRowOver ds row
+  pub short_left : length row.left ≤ 500
+  pub short_right : length row.right ≤ 500
+
+pub record IsWritable (ds : List Declaration) (c : Certificate) : Type 0 where
+  pub claim : c.claim < 2 ^ 32
+  -- the denominator is not negative
+  pub size : ℕ
+  pub denominator : c.denominator ≡ pos size
+  pub in_range : size < 2 ^ 127
+  pub rows : All (IsWritableRow ds) c.rows
+  pub few : length c.rows ≤ 200000
+  pub letters : letter_count c.rows ≤ 1000000
+
+-- ---- certificates with lemmas within the limits
+
+-- the number of the generator or of the lemma
+abbrev pub number_of : CertFrom → ℕ
+number_of (Generator n) = n
+number_of (Derived n) = n
+
+pub record IsWritableLemmaRow (ds : List Declaration) (row : LemmaRow) : Type 0 where
+  pub coefficient : IsCoefficient row.coef
+  pub number : number_of row.from < 2 ^ 32
+  pub letters : IsLemmaRowOver ds row
+  pub short_left : length row.left ≤ 500
+  pub short_right : length row.right ≤ 500
+
+pub record IsWritableLemma (ds : List Declaration) (l : Lemma) : Type 0 where
+  -- the scale is not negative
+  pub size : ℕ
+  pub scale : l.scale ≡ pos size
+  pub in_range : size < 2 ^ 127
+  pub rows : All (IsWritableLemmaRow ds) l.rows
+
+-- the rows and the letters of the lemmas and of the goal count together
+pub record IsWritableByLemmas (ds : List Declaration) (c : LemmaCertificate) : Type 0 where
+  pub claim : c.claim < 2 ^ 32
+  -- the denominator is not negative
+  pub size : ℕ
+  pub denominator : c.denominator ≡ pos size
+  pub in_range : size < 2 ^ 127
+  pub lemmas : All (IsWritableLemma ds) c.lemmas
+  pub goal : IsWritableLemma ds c.goal
+  pub few_lemmas : length c.lemmas ≤ 200000
+  pub few_rows : row_count (parts_of c) ≤ 200000
+  pub letters : letters_of_lemmas (parts_of c) ≤ 1000000
+
+-- ---- evidence of either format
+
+abbrev pub IsWritableEvidence : List Declaration → Evidence → Type 0
+IsWritableEvidence ds (evidence.Plain c) = IsWritable ds c
+IsWritableEvidence ds (evidence.Lemmas c) = IsWritableByLemmas ds c
+
+-- it is of this format or of one before it
+abbrev pub IsOfFormat : Format → Evidence → Type 0
+IsOfFormat most (evidence.Plain c) = ⊤
+IsOfFormat format.Plain (evidence.Lemmas c) = ⊥
+IsOfFormat format.Lemmas (evidence.Lemmas c) = ⊤
+
+-- ---- what stands around it
+
+-- whether the text is empty or ends with LF
+abbrev pub is_whole : List ℕ → Bool
+is_whole [] = true
+is_whole (c ∷ []) = c == 10
+is_whole (c ∷ d ∷ cs) = is_whole (d ∷ cs)
+
+-- each object and map has a name of the language
+abbrev pub is_named : Declaration → Bool
+is_named d = is_name (name_of d)
+
+-- Evidence that is written between whole lines and other lines is read as it is, behind the certificates that those before it
+-- have and before those that the others have.
+abbrev pub IsReadBack : Type 0
+IsReadBack = (most : Format) (ds : List Declaration) (e : Evidence) (before after : List ℕ) (first last : List Evidence)
+    → IsDeclared ds → IsTrue (list_all is_named ds) → IsOfFormat most e → IsWritableEvidence ds e
+    → IsTrue (is_whole before) → HasCertificates most ds before first → HasCertificates most ds after last → length first + length last < 100
+    → HasCertificates most ds (before ++ evidence_text ds e ++ after) (first ++ e ∷ last)
+
+-- ---- texts of several parts
+
+-- neither LF nor CR
+abbrev pub is_inside : ℕ → Bool
+is_inside c = not (c == 10) && not (c == 13)
+
+-- UTF-8 without line ends
+pub record IsLineText (text : List ℕ) : Type 0 where
+  pub utf8 : IsUtf8 text
+  pub inside : IsTrue (list_all is_inside text)
+
+-- a certificate, a comment without its # and LF, or a block of another kind by its first line and those before `end`
+pub data Part : Type 0 where
+  certificate : Evidence → Part
+  comment : List ℕ → Part
+  other : List ℕ → List (List ℕ) → Part
+
+-- a line with its LF
+abbrev pub ended : List ℕ → List ℕ
+ended line = line ++ codes "\n"
+
+abbrev pub part_text : List Declaration → Part → List ℕ
+part_text ds (certificate e) = evidence_text ds e
+part_text ds (comment text) = ended (codes "#" ++ text)
+part_text ds (other head lines) = ended head ++ flat_map ended lines ++ codes "end\n"
+
+-- the text is a line, and not the line `end`
+pub record IsBodyLine (line : List ℕ) : Type 0 where
+  pub text : IsLineText line
+  pub goes_on : is_end (tokens_of line) ≡ false
+
+abbrev pub IsPart : Format → List Declaration → Part → Type 0
+IsPart most ds (certificate e) = IsOfFormat most e × IsWritableEvidence ds e
+IsPart most ds (comment text) = IsLineText text
+IsPart most ds (other head lines) = IsLineText head × IsTrue (is_other_head (tokens_of head)) × All IsBodyLine lines
+
+-- the certificates among the parts
+abbrev pub evidence_in : List Part → List Evidence
+evidence_in [] = []
+evidence_in (certificate e ∷ parts) = e ∷ evidence_in parts
+evidence_in (comment text ∷ parts) = evidence_in parts
+evidence_in (other head lines ∷ parts) = evidence_in parts
+
+-- The certificates of a text of such parts are those among the parts, in their order.
+abbrev pub ArePartsReadBack : Type 0
+ArePartsReadBack = (most : Format) (ds : List Declaration) (parts : List Part)
+    → IsDeclared ds → IsTrue (list_all is_named ds) → All (IsPart most ds) parts → length (evidence_in parts) ≤ 100
+    → HasCertificates most ds (flat_map (part_text ds) parts) (evidence_in parts)

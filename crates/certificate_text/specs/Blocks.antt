@@ -1,0 +1,133 @@
+-- The grammar of evidence text: blocks as trees of tokens, and the lines that they are.
+use Rattle.std.specs.Prelude.{◌≡◌, ⊤, ℕ, ◌+◌, ◌∷◌, ◌++◌, false, IsTrue, List, [], map, codes, if◌then◌else◌}
+use Rattle.std.specs.List.{All, flat_map}
+use Rattle.cofactor_trace.specs.declared.evidence.Format.{Format}
+use Rattle.cofactor_trace.specs.declared.evidence.Format.TheVariants.{Plain, Lemmas}
+use Rattle.certificate_text.specs.Letters.{is_number}
+use Rattle.certificate_text.specs.Lines.{RowTokens, is_value, is_row, is_other_head, is_end}
+
+-- a line is the list of its tokens
+abbrev pub Line : Type 0
+Line = List (List ℕ)
+
+-- ---- the trees
+
+-- scale S and the rows behind it
+pub record ScaledTokens : Type 0 where
+  pub scale : List ℕ
+  pub rows : List RowTokens
+
+-- lemma K with its scale and its rows
+pub record LemmaTokens : Type 0 where
+  pub number : List ℕ
+  pub scaled : ScaledTokens
+
+-- a certificate of format 1
+pub record PlainTokens : Type 0 where
+  pub claim : List ℕ
+  pub denominator : List ℕ
+  pub rows : List RowTokens
+
+-- a certificate of format 2
+pub record LemmasTokens : Type 0 where
+  pub claim : List ℕ
+  pub denominator : List ℕ
+  pub lemmas : List LemmaTokens
+  pub goal : ScaledTokens
+
+-- a block of another kind, without the line that ends it
+pub record OtherTokens : Type 0 where
+  pub head : Line
+  pub lines : List Line
+
+pub data BlockTokens : Type 0 where
+  plain : PlainTokens → BlockTokens
+  lemmas : LemmasTokens → BlockTokens
+  other : OtherTokens → BlockTokens
+
+-- ---- the lines that they are
+
+-- a number, or `lemma` and a number
+abbrev pub origin_tokens : RowTokens → Line
+origin_tokens r = if r.lemma then codes "lemma" ∷ r.number ∷ [] else r.number ∷ []
+
+-- row C (LETTERS) G (LETTERS), or with lemma K for G
+abbrev pub row_line : RowTokens → Line
+row_line r = codes "row" ∷ r.coefficient ∷ codes "(" ∷ (r.left ++ (codes ")" ∷ (origin_tokens r ++ (codes "(" ∷ (r.right ++ codes ")" ∷ [])))))
+
+-- certificate 1, or certificate 2
+abbrev pub head_line : Format → Line
+head_line Plain = codes "certificate" ∷ codes "1" ∷ []
+head_line Lemmas = codes "certificate" ∷ codes "2" ∷ []
+
+-- claim N
+abbrev pub claim_line : List ℕ → Line
+claim_line n = codes "claim" ∷ n ∷ []
+
+-- denominator D
+abbrev pub denominator_line : List ℕ → Line
+denominator_line d = codes "denominator" ∷ d ∷ []
+
+-- lemma K scale S, and its rows
+abbrev pub lemma_lines : LemmaTokens → List Line
+lemma_lines l = (codes "lemma" ∷ l.number ∷ codes "scale" ∷ l.scaled.scale ∷ []) ∷ map row_line l.scaled.rows
+
+-- goal scale S, and its rows
+abbrev pub goal_lines : ScaledTokens → List Line
+goal_lines g = (codes "goal" ∷ codes "scale" ∷ g.scale ∷ []) ∷ map row_line g.rows
+
+-- end
+abbrev pub end_line : Line
+end_line = codes "end" ∷ []
+
+abbrev pub block_lines : BlockTokens → List Line
+block_lines (plain b) = head_line Plain ∷ claim_line b.claim ∷ denominator_line b.denominator ∷ (map row_line b.rows ++ end_line ∷ [])
+block_lines (lemmas b) = head_line Lemmas ∷ claim_line b.claim ∷ denominator_line b.denominator ∷ (flat_map lemma_lines b.lemmas ++ (goal_lines b.goal ++ end_line ∷ []))
+block_lines (other b) = b.head ∷ (b.lines ++ end_line ∷ [])
+
+-- ---- which tokens stand where
+
+-- numbers and letters stand at their places, and the row is over a generator
+pub record IsPlainRow (r : RowTokens) : Type 0 where
+  pub row : IsTrue (is_row r)
+  pub generator : r.lemma ≡ false
+
+-- a number behind scale, and rows over generators and lemmas
+pub record IsScaled (s : ScaledTokens) : Type 0 where
+  pub scale : IsTrue (is_number s.scale)
+  pub rows : All (λ r. IsTrue (is_row r)) s.rows
+
+-- each lemma has the number behind that of the lemma before it
+abbrev pub AreLemmas : ℕ → List LemmaTokens → Type 0
+AreLemmas number [] = ⊤
+AreLemmas number (l ∷ ls) = IsTrue (is_value number l.number) × IsScaled l.scaled × AreLemmas (number + 1) ls
+
+-- a claim and a denominator, and rows over generators
+pub record IsPlainBlock (b : PlainTokens) : Type 0 where
+  pub claim : IsTrue (is_number b.claim)
+  pub denominator : IsTrue (is_number b.denominator)
+  pub rows : All IsPlainRow b.rows
+
+-- a claim and a denominator, lemmas numbered from 1, and a goal
+pub record IsLemmasBlock (b : LemmasTokens) : Type 0 where
+  pub claim : IsTrue (is_number b.claim)
+  pub denominator : IsTrue (is_number b.denominator)
+  pub lemmas : AreLemmas 1 b.lemmas
+  pub goal : IsScaled b.goal
+
+-- the head of another kind, and the first line `end` ends it
+pub record IsOtherBlock (b : OtherTokens) : Type 0 where
+  pub head : IsTrue (is_other_head b.head)
+  pub lines : All (λ line. is_end line ≡ false) b.lines
+
+-- a block of a text in which certificates of this format and of the formats before it may stand
+abbrev pub IsBlock : Format → BlockTokens → Type 0
+IsBlock most (plain b) = IsPlainBlock b
+IsBlock Plain (lemmas b) = ⊥
+IsBlock Lemmas (lemmas b) = IsLemmasBlock b
+IsBlock most (other b) = IsOtherBlock b
+
+-- The lines are these blocks, one after another.
+pub record AreBlocks (most : Format) (lines : List Line) (blocks : List BlockTokens) : Type 0 where
+  pub are : lines ≡ flat_map block_lines blocks
+  pub each : All (IsBlock most) blocks

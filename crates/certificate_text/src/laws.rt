@@ -1,0 +1,35 @@
+//! The laws of evidence text. They have nothing to run.
+ghost use Rattle.certificate_text.specs.Back.{IsReadBack, ArePartsReadBack};
+ghost use Rattle.certificate_text.specs.EachText.{EachTextIsRead, EvidenceIsUnique, FirstFaultIsUnique, EvidenceHasNoFault};
+
+/// Each text is evidence, or has a first fault.
+pub fn each_text_is_read()
+    ensures { EachTextIsRead }
+{}
+
+/// A text is evidence of one list of certificates.
+pub fn evidence_is_unique()
+    ensures { EvidenceIsUnique }
+{}
+
+/// A text has one first fault.
+pub fn first_fault_is_unique()
+    ensures { FirstFaultIsUnique }
+{}
+
+/// A text that is evidence has no fault.
+pub fn evidence_has_no_fault()
+    ensures { EvidenceHasNoFault }
+{}
+
+/// The law that evidence that is written is read as it is, in either format, whatever whole lines stand before it and whatever
+/// follows. It has nothing to run.
+pub fn certificates_are_read_back()
+    ensures { IsReadBack }
+{}
+
+/// The law that the certificates of a text of written certificates, comments and blocks of other kinds are those certificates,
+/// in their order. It has nothing to run.
+pub fn parts_are_read_back()
+    ensures { ArePartsReadBack }
+{}
