@@ -1,3 +1,7 @@
 pub mod Building
 pub mod Products
+pub mod Congruences
+pub mod Primes
+pub mod Rows
+pub mod BackSolving
 mod Examples
