@@ -10,26 +10,18 @@ use Rattle.matrix_models.specs.Totals.{total_same}
 use Rattle.matrix_models.specs.declared.system.System.{System}
 use Rattle.matrix_models.specs.Systems.{Solves}
 use Rattle.matrix_models.specs.Greedy.{Extends, CanTake, IsGreedy}
-use Rattle.matrix_models.specs.Elimination.{Meets, MeetsAll, IsPivot, ArePivots, IsBackSolved}
+use Rattle.matrix_models.specs.Elimination.{Meets, MeetsAll, IsPivot, ArePivots, IsSolvedTo}
 use Rattle.matrix_models.proofs.Congruences.{add_cancel}
 
 -- ---- as far as a place
--- the values of the unknowns before a place are what is asked of them
-pub record IsSolvedTo (m n to : ℕ) (pivots : List (Option (List ℕ))) (prefer values : List ℕ) : Type 0 where
-  pub size : length values ≡ to
-  pub below : All (λ value. value < m) values
-  pub free : (place : ℕ) → place < to → get_or pivots place None ≡ None → get_or values place 0 ≡ get_or prefer place 0
-  pub fixed : (place : ℕ) (row : List ℕ) → place < to → get_or pivots place None ≡ Some row
-      → (total place (λ k. get_or row k 0 * get_or values k 0) + get_or values place 0) % m ≡ get_or row n 0 % m
-
 -- the value at the next place
-pub solved_more : (m n to : ℕ) (pivots : List (Option (List ℕ))) (prefer values : List ℕ) (value : ℕ) → IsSolvedTo m n to pivots prefer values → value < m
+solved_more : (m n to : ℕ) (pivots : List (Option (List ℕ))) (prefer values : List ℕ) (value : ℕ) → IsSolvedTo m n to pivots prefer values → value < m
     → (get_or pivots to None ≡ None → value ≡ get_or prefer to 0)
     → ((row : List ℕ) → get_or pivots to None ≡ Some row → (total to (λ k. get_or row k 0 * get_or values k 0) + value) % m ≡ get_or row n 0 % m)
     → IsSolvedTo m n (to + 1) pivots prefer (values ++ value ∷ [])
 solved_more m n to pivots prefer values value solved small free_value fixed_value = record {
   size = length_push values value ∙ ap (λ x. x + 1) solved.size;
-  below = All-push _ values value solved.below small;
+  below = All-push (λ x. x < m) values value solved.below small;
   free = λ place within none. go_free place (cases_eq place to) within none;
   fixed = λ place row within found. go_fixed place row (cases_eq place to) within found;
 }
@@ -59,6 +51,23 @@ solved_more m n to pivots prefer values value solved small free_value fixed_valu
         let l : place < to = omega arith in
         ap₂ (λ x y. (x + y) % m) (sum_before place row (omega arith)) (before place l) ∙ solved.fixed place row l found
 
+-- a place with no pivot
+pub solved_free : (m n to : ℕ) (pivots : List (Option (List ℕ))) (prefer values : List ℕ) → IsSolvedTo m n to pivots prefer values → get_or pivots to None ≡ None
+    → get_or prefer to 0 < m → IsSolvedTo m n (to + 1) pivots prefer (values ++ get_or prefer to 0 ∷ [])
+solved_free m n to pivots prefer values solved none small =
+    solved_more m n to pivots prefer values _ solved small (λ _. refl) (λ row found. absurd (none-some row (sym none ∙ found)))
+
+-- a place with a pivot
+pub solved_fixed : (m n to : ℕ) (pivots : List (Option (List ℕ))) (prefer values row : List ℕ) (value : ℕ) → IsSolvedTo m n to pivots prefer values → get_or pivots to None ≡ Some row
+    → value < m → (total to (λ k. get_or row k 0 * get_or values k 0) + value) % m ≡ get_or row n 0 % m
+    → IsSolvedTo m n (to + 1) pivots prefer (values ++ value ∷ [])
+solved_fixed m n to pivots prefer values row value solved found small left =
+    solved_more m n to pivots prefer values value solved small (λ none. absurd (none-some row (sym none ∙ found)))
+    (λ other other_found.
+        let both : Some row ≡ Some other = sym found ∙ other_found in
+        let same : row ≡ other = cc in
+        subst (λ x. (total to (λ k. get_or x k 0 * get_or values k 0) + value) % m ≡ get_or x n 0 % m) same left)
+
 -- ---- as far as all
 -- a sum whose terms after a place are 0
 total_to : (n place : ℕ) (f : ℕ → ℕ) → place < n → ((k : ℕ) → place < k → k < n → f k ≡ 0) → total n f ≡ total place f + f place
@@ -81,7 +90,7 @@ pivot_sum n place w row within is_pivot =
     total_to n place (λ k. get_or row k 0 * w k) within (λ k after k_within. ap (λ x. x * w k) (is_pivot.last k after k_within) ∙ zero-mul (w k))
     ∙ ap (λ x. total place (λ k. get_or row k 0 * w k) + x) (ap (λ x. x * w place) is_pivot.one ∙ one-mul (w place))
 
-pub meets-solved : (m n : ℕ) (pivots : List (Option (List ℕ))) (prefer values : List ℕ) → ArePivots n pivots → length pivots ≡ n → IsBackSolved m n pivots prefer values
+pub meets-solved : (m n : ℕ) (pivots : List (Option (List ℕ))) (prefer values : List ℕ) → ArePivots n pivots → length pivots ≡ n → IsSolvedTo m n n pivots prefer values
     → MeetsAll m n (λ k. get_or values k 0) pivots
 meets-solved m n pivots prefer values pivots_are size solved place row found =
     ap (λ x. x % m) (pivot_sum n place (λ k. get_or values k 0) row within (pivots_are place row found)) ∙ solved.fixed place row within found

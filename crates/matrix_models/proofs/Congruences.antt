@@ -1,6 +1,6 @@
 -- Sums and products of numbers that are congruent modulo m.
 use Rattle.std.proofs.Common.{◌≡◌, ℕ, ◌+◌, ◌-◌, ◌*◌, ◌/◌, ◌%◌, ◌<◌, ◌≤◌, sym, refl, ap, ap₂, ◌∙◌, arith, mod-lt, div-add-mod', mul_comm, mul_assoc, add-mul, one-mul}
-use Rattle.std.proofs.Math.Nat.{add-mul-mod_self_right, mod-le}
+use Rattle.std.proofs.Math.Nat.{add-mul-mod_self_right, add-mod-mod}
 use Rattle.std.proofs.lemmas.Nat.{mul-mod_second, mul-mod_first}
 use Rattle.matrix_models.specs.Totals.{add_mod}
 
@@ -33,3 +33,10 @@ undone m a u f inverse =
 
 pub mul_cancel : (m a b u f : ℕ) → (f * u) % m ≡ 1 → (a * u) % m ≡ (b * u) % m → a % m ≡ b % m
 mul_cancel m a b u f inverse products = sym (undone m a u f inverse) ∙ mul_alike m f (a * u) (b * u) products ∙ undone m b u f inverse
+
+-- what a sum leaves of a number
+pub left_over : (m a b : ℕ) → 0 < m → (a + (b + m - a % m) % m) % m ≡ b % m
+left_over m a b positive =
+    let small : a % m < m = mod-lt a positive in
+    let turned : a + (b + m - a % m) ≡ b + a + (m - a % m) = omega (arith, small) in
+    add-mod-mod a (b + m - a % m) m ∙ ap (λ x. x % m) turned ∙ complete m b a positive

@@ -46,10 +46,11 @@ IsAdded m n row old new = (w : ℕ → ℕ) → (MeetsAll m n w old × Meets m n
 abbrev pub IsAgainst : ℕ → ℕ → List ℕ → List (Option (List ℕ)) → Type 0
 IsAgainst m n row pivots = (w : ℕ → ℕ) → MeetsAll m n w pivots → ¬ Meets m n w row
 
--- Unknowns with no pivot have their preferred values, and with the values before it the value of one with a pivot is what its pivot asks for.
-pub record IsBackSolved (m n : ℕ) (pivots : List (Option (List ℕ))) (prefer values : List ℕ) : Type 0 where
-  pub size : length values ≡ n
+-- The values of the unknowns before `to`: one with no pivot has its preferred value, and one with a pivot the value that its
+-- pivot asks for with the values before it.
+pub record IsSolvedTo (m n to : ℕ) (pivots : List (Option (List ℕ))) (prefer values : List ℕ) : Type 0 where
+  pub size : length values ≡ to
   pub below : All (λ value. value < m) values
-  pub free : (place : ℕ) → place < n → get_or pivots place None ≡ None → get_or values place 0 ≡ get_or prefer place 0
-  pub fixed : (place : ℕ) (row : List ℕ) → place < n → get_or pivots place None ≡ Some row
+  pub free : (place : ℕ) → place < to → get_or pivots place None ≡ None → get_or values place 0 ≡ get_or prefer place 0
+  pub fixed : (place : ℕ) (row : List ℕ) → place < to → get_or pivots place None ≡ Some row
       → (total place (λ k. get_or row k 0 * get_or values k 0) + get_or values place 0) % m ≡ get_or row n 0 % m

@@ -1,8 +1,8 @@
-ghost use Rattle.std.specs.Prelude.{◌≡◌, ◌↔◌, ℕ, ◌+◌, ◌*◌, ◌%◌, ◌<◌, [], ◌∷◌, ◌++◌, length, get_or, replicate, Option, None, IfOk, IfSome};
+ghost use Rattle.std.specs.Prelude.{◌≡◌, ◌↔◌, ℕ, ◌+◌, ◌*◌, ◌%◌, ◌<◌, [], ◌∷◌, ◌++◌, length, get_or, replicate, All, None, IfOk, IfSome};
 ghost use Rattle.matrix_models.specs.Matrices.{total};
 ghost use Rattle.matrix_models.specs.Systems.{IsSystem, AreValues, HasNoSolution};
 ghost use Rattle.matrix_models.specs.Greedy.{IsGreedy};
-ghost use Rattle.matrix_models.specs.Elimination.{ArePivots, IsBackSolved};
+ghost use Rattle.matrix_models.specs.Elimination.{ArePivots, IsSolvedTo};
 
 use crate::elimination::insert;
 use crate::{LinearRow, System};
@@ -64,7 +64,7 @@ fn values_of(
     requires pivots { ArePivots (length pivots.now) pivots.now }
     requires prefer { length prefer.now ≡ length pivots.now }
     requires below { All (λ value. value < modulus) prefer.now }
-    ensures { IfOk result (IsBackSolved modulus (length pivots.now) pivots.now prefer.now) }
+    ensures { IfOk result (IsSolvedTo modulus (length pivots.now) (length pivots.now) pivots.now prefer.now) }
 {
     let mut values = Vec::with_capacity(alloc, pivots.len())?;
     for place in 0..pivots.len() {

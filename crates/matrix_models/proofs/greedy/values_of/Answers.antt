@@ -1,0 +1,51 @@
+use Rattle.std.proofs.Common.{◌≡◌, ◌+◌, ◌*◌, ◌%◌, ◌<◌, [], ◌∷◌, ◌++◌, List, ℕ, length, get_or, Some, None, sym, ap, subst, ◌∙◌, arith}
+use Rattle.std.proofs.lemmas.List.{get_or_read}
+use Rattle.std.proofs.lemmas.List.Elements.{All-get_or}
+use Rattle.matrix_models.specs.Matrices.{total}
+use Rattle.matrix_models.specs.Elimination.{IsSolvedTo}
+use Rattle.matrix_models.proofs.BackSolving.{solved_free, solved_fixed}
+use Rattle.matrix_models.proofs.greedy.values_of.Goals as goal
+use Rattle.matrix_models.proofs.greedy.values_of.Goals.{in-Some, in-None}
+
+-- the pivot is that of the place, and has its right side
+pub value_left-value-requires-clause-right : goal.value_left-value-requires-clause-right
+value_left-value-requires-clause-right c =
+    let found : get_or c.args.pivots.now c.loop-place.place None ≡ Some c.in-Some.pivot =
+        sym (get_or_read c.args.pivots.now _ _ c.loop-place-test.true c.index-pivots-place.is None) ∙ c.in-Some.is in
+    let size = (c.requires.pivots _ _ found).size in
+    let row_is = c.as_slice.ensures in
+    rw row_is omega (arith, size)
+
+pub value_left-value-requires-clause-within : goal.value_left-value-requires-clause-within
+value_left-value-requires-clause-within c =
+    let found : get_or c.args.pivots.now c.loop-place.place None ≡ Some c.in-Some.pivot =
+        sym (get_or_read c.args.pivots.now _ _ c.loop-place-test.true c.index-pivots-place.is None) ∙ c.in-Some.is in
+    let size = (c.requires.pivots _ _ found).size in
+    let row_is = c.as_slice.ensures in
+    let values_are = c.as_slice-in-Some.ensures.value in
+    rw (row_is, values_are) omega (arith, size, c.loop-place.invariant.size, c.loop-place-test.true)
+
+pub loop-place-preserved : goal.loop-place-preserved
+loop-place-preserved c = 
+    let before = c.loop-place.invariant in
+    let m = c.args.modulus in
+    let n = length c.args.pivots.now in
+    let place = c.loop-place.place in
+    let values = c.loop-place.values.items in
+    let here : c.index-pivots-place.result ≡ get_or c.args.pivots.now place None =
+        get_or_read c.args.pivots.now _ _ c.loop-place-test.true c.index-pivots-place.is None in
+    let Solved : ℕ → Type 0 = λ value. IsSolvedTo m n (place + 1) c.args.pivots.now c.args.prefer.now (values ++ value ∷ []) in
+    subst (IsSolvedTo m n (place + 1) c.args.pivots.now c.args.prefer.now) (sym c.in_ok-push.ensures.items)
+    (elim c.match-pivots-place.branch [
+      in-Some w ↦
+          let row = w.in-Some.pivot in
+          let value = w.value_left-value.result in
+          let by_row = subst (λ r. (total (length w.as_slice-in-Some.result.now) (λ k. get_or r k 0 * get_or w.as_slice-in-Some.result.now k 0) + value) % m ≡ get_or r n 0 % m)
+              w.as_slice.ensures w.value_left-value.ensures.left in
+          let by_values = subst (λ v. (total (length v) (λ k. get_or row k 0 * get_or v k 0) + value) % m ≡ get_or row n 0 % m) w.as_slice-in-Some.ensures.value by_row in
+          let left = subst (λ p. (total p (λ k. get_or row k 0 * get_or values k 0) + value) % m ≡ get_or row n 0 % m) before.size by_values in
+          subst Solved (sym w.value-is) (solved_fixed m n place _ _ values row value before (sym here ∙ w.in-Some.is) w.value_left-value.ensures.below left)
+      | in-None w ↦
+          subst Solved (sym w.value-is) (solved_free m n place _ _ values before (sym here ∙ w.in-None.is)
+              (All-get_or (λ value. value < m) c.args.prefer.now place 0 (omega (arith, c.requires.prefer, c.loop-place-test.true)) c.requires.below))
+    ])
