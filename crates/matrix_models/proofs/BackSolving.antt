@@ -84,7 +84,7 @@ total_to (suc n) place f within none = go (cases_eq place n) (total_to n place f
         omega (arith, rest, last)
 
 -- what the equation of a pivot says of the value at its place
-pivot_sum : (n place : ℕ) (w : ℕ → ℕ) (row : List ℕ) → place < n → IsPivot n place row
+pub pivot_sum : (n place : ℕ) (w : ℕ → ℕ) (row : List ℕ) → place < n → IsPivot n place row
     → total n (λ k. get_or row k 0 * w k) ≡ total place (λ k. get_or row k 0 * w k) + w place
 pivot_sum n place w row within is_pivot =
     total_to n place (λ k. get_or row k 0 * w k) within (λ k after k_within. ap (λ x. x * w k) (is_pivot.last k after k_within) ∙ zero-mul (w k))

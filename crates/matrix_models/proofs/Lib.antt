@@ -4,4 +4,7 @@ pub mod Congruences
 pub mod Primes
 pub mod Rows
 pub mod BackSolving
+pub mod Reduction
+pub mod GreedySolutions
+pub mod GreedyExistence
 mod Examples

@@ -1,6 +1,7 @@
 -- What elimination keeps, for private functions: a row is a list of factors with the right side behind them.
-use Rattle.std.specs.Prelude.{◌≡◌, ◌≢◌, ◌↔◌, ℕ, ◌+◌, ◌*◌, ◌%◌, ◌<◌, List, length, get_or, Option, Some, None, All}
+use Rattle.std.specs.Prelude.{◌≡◌, ◌↔◌, ℕ, ◌+◌, ◌*◌, ◌%◌, ◌<◌, List, [], ◌∷◌, ◌++◌, length, get_or, Option, Some, None, All}
 use Rattle.matrix_models.specs.Matrices.{total}
+use Rattle.matrix_models.specs.declared.system.LinearRow.{LinearRow}
 
 -- the equation of a row with n unknowns holds modulo m at these numbers
 abbrev pub Meets : ℕ → ℕ → (ℕ → ℕ) → List ℕ → Type 0
@@ -45,6 +46,16 @@ IsAdded m n row old new = (w : ℕ → ℕ) → (MeetsAll m n w old × Meets m n
 -- the row never holds where the pivots do
 abbrev pub IsAgainst : ℕ → ℕ → List ℕ → List (Option (List ℕ)) → Type 0
 IsAgainst m n row pivots = (w : ℕ → ℕ) → MeetsAll m n w pivots → ¬ Meets m n w row
+
+-- the row of an equation
+abbrev pub row_of : LinearRow → List ℕ
+row_of equation = equation.factors ++ equation.right ∷ []
+
+-- The pivots say what the equations do.
+pub record StandFor (m n : ℕ) (equations : List LinearRow) (pivots : List (Option (List ℕ))) : Type 0 where
+  pub size : length pivots ≡ n
+  pub are_pivots : ArePivots n pivots
+  pub same : (w : ℕ → ℕ) → MeetsAll m n w pivots ↔ All (λ equation. Meets m n w (row_of equation)) equations
 
 -- The values of the unknowns before `to`: one with no pivot has its preferred value, and one with a pivot the value that its
 -- pivot asks for with the values before it.

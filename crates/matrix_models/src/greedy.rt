@@ -1,8 +1,8 @@
-ghost use Rattle.std.specs.Prelude.{◌≡◌, ◌↔◌, ℕ, ◌+◌, ◌*◌, ◌%◌, ◌<◌, [], ◌∷◌, ◌++◌, length, get_or, replicate, All, None, IfOk, IfSome};
+ghost use Rattle.std.specs.Prelude.{◌≡◌, ◌↔◌, ◌+◌, ◌-◌, ◌*◌, ◌%◌, ◌<◌, length, get_or, replicate, None, IfOk, IfSome, IfNone};
 ghost use Rattle.matrix_models.specs.Matrices.{total};
 ghost use Rattle.matrix_models.specs.Systems.{IsSystem, AreValues, HasNoSolution};
 ghost use Rattle.matrix_models.specs.Greedy.{IsGreedy};
-ghost use Rattle.matrix_models.specs.Elimination.{ArePivots, IsSolvedTo};
+ghost use Rattle.matrix_models.specs.Elimination.{row_of, StandFor};
 
 use crate::elimination::insert;
 use crate::{LinearRow, System};
@@ -22,6 +22,18 @@ pub fn solve(
     ensures none { IfOk result (λ found. (found ≡ None) ↔ HasNoSolution system.now) }
     ensures greedy { IfOk result (λ found. IfSome found (IsGreedy system.now prefer.now)) }
 {
+    match pivots_of(alloc, system)? {
+        Some(pivots) => Ok(Some(values_of(alloc, system, &pivots, prefer)?)),
+        None => Ok(None),
+    }
+}
+
+// Pivots that say what the equations do, and `None` where there is no solution.
+fn pivots_of(alloc: Global, system: &System) -> Result<Option<Vec<Option<Listing<u32>>>>, AllocError>
+    requires { IsSystem system.now }
+    ensures pivots { IfOk result (λ found. IfSome found (λ v. StandFor system.now.modulus system.now.unknowns system.now.rows v.items)) }
+    ensures none { IfOk result (λ found. IfNone found (HasNoSolution system.now)) }
+{
     let mut pivots = no_pivots(alloc, system.unknowns)?;
     for equation in system.rows.as_slice() {
         let row = row_of(alloc, equation)?;
@@ -29,7 +41,7 @@ pub fn solve(
             return Ok(None);
         }
     }
-    Ok(Some(values_of(alloc, system.modulus, &pivots, prefer)?))
+    Ok(Some(pivots))
 }
 
 // For each unknown that it has no pivot.
@@ -45,31 +57,31 @@ fn no_pivots(alloc: Global, unknowns: u32) -> Result<Vec<Option<Listing<u32>>>, 
 
 // The factors, and the right side behind them.
 fn row_of(alloc: Global, equation: &LinearRow) -> Result<Vec<u32>, AllocError>
-    ensures { IfOk result (λ v. v.items ≡ equation.now.factors ++ equation.now.right ∷ []) }
+    ensures { IfOk result (λ v. v.items ≡ row_of equation.now) }
 {
     let mut row = Vec::from_slice(alloc, equation.factors.as_slice())?;
     row.push(equation.right)?;
     Ok(row)
 }
 
-// From the first unknown to the last: one with no pivot takes its preference, and one with a pivot the value that its
+// From the first unknown to the last: one with no pivot takes its preferred value, and one with a pivot the value that its
 // pivot leaves for it.
 fn values_of(
     alloc: Global,
-    modulus: u32,
+    system: &System,
     pivots: &[Option<Listing<u32>>],
     prefer: &[u32],
 ) -> Result<Listing<u32>, AllocError>
-    requires modulus { 0 < modulus }
-    requires pivots { ArePivots (length pivots.now) pivots.now }
-    requires prefer { length prefer.now ≡ length pivots.now }
-    requires below { All (λ value. value < modulus) prefer.now }
-    ensures { IfOk result (IsSolvedTo modulus (length pivots.now) (length pivots.now) pivots.now prefer.now) }
+    requires system { IsSystem system.now }
+    requires prefer { AreValues system.now prefer.now }
+    requires pivots { StandFor system.now.modulus system.now.unknowns system.now.rows pivots.now }
+    ensures { IfOk result (IsGreedy system.now prefer.now) }
 {
+    let modulus = system.modulus;
     let mut values = Vec::with_capacity(alloc, pivots.len())?;
     for place in 0..pivots.len() {
         let value = match &pivots[place] {
-            Some(pivot) => value_left(modulus, pivot.as_slice(), pivots.len(), values.as_slice()),
+            Some(pivot) => value_left(modulus, pivot.as_slice(), values.as_slice()),
             None => prefer[place],
         };
         values.push(value)?;
@@ -77,14 +89,13 @@ fn values_of(
     Ok(Listing::from_vec(values))
 }
 
-// What the values leave of the row's right side, which stands at `unknowns`.
-fn value_left(modulus: u32, row: &[u32], unknowns: usize, values: &[u32]) -> u32
+// What the values leave of the row's right side, which stands at its end.
+fn value_left(modulus: u32, row: &[u32], values: &[u32]) -> u32
     requires modulus { 0 < modulus }
-    requires right { unknowns < length row.now }
     requires within { length values.now < length row.now }
     ensures below { result < modulus }
     ensures left { (total (length values.now) (λ k. get_or row.now k 0 * get_or values.now k 0) + result) % modulus
-        ≡ get_or row.now unknowns 0 % modulus }
+        ≡ get_or row.now (length row.now - 1) 0 % modulus }
 {
     let modulus = u64::from(modulus);
     let mut sum = 0;
@@ -92,5 +103,5 @@ fn value_left(modulus: u32, row: &[u32], unknowns: usize, values: &[u32]) -> u32
         let product = u64::from(row[k]) * u64::from(values[k]);
         sum = (sum + product) % modulus;
     }
-    ((u64::from(row[unknowns]) + modulus - sum) % modulus) as u32
+    ((u64::from(row[row.len() - 1]) + modulus - sum) % modulus) as u32
 }

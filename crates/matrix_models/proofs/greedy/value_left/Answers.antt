@@ -20,5 +20,5 @@ returns-clause-left c =
     let sum = total (length c.args.values.now) (λ k. get_or c.args.row.now k 0 * get_or c.args.values.now k 0) in
     let sum_is : c.loop-k.sum ≡ sum % m =
         c.loop-k.invariant.sum_is ∙ ap (λ x. total x (λ k. get_or c.args.row.now k 0 * get_or c.args.values.now k 0) % m) (omega (arith, c.loop-k-test.false, c.loop-k.auto.k-end)) in
-    subst (λ y. (sum + (c.from-2.result + m - c.loop-k.sum) % m) % y ≡ get_or c.args.row.now c.args.unknowns 0 % y) c.from-modulus.ensures
+    subst (λ y. (sum + (c.from-2.result + m - c.loop-k.sum) % m) % y ≡ get_or c.args.row.now (length c.args.row.now - 1) 0 % y) c.from-modulus.ensures
         (ap (λ x. (sum + (c.from-2.result + m - x) % m) % m) sum_is ∙ left_over m sum c.from-2.result (omega (arith, c.loop-k.invariant.sum_below)) ∙ ap (λ x. x % m) c.from-2.ensures)
