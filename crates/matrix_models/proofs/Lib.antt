@@ -8,3 +8,4 @@ pub mod Reduction
 pub mod GreedySolutions
 pub mod GreedyExistence
 mod Examples
+mod SystemExamples
