@@ -1,17 +1,12 @@
 -- The values that pivots and preferences give, and that they are the greedy solution.
-use Rattle.std.proofs.Common.{◌≡◌, ◌↔◌, ℕ, zero, suc, ◌+◌, ◌*◌, ◌%◌, ◌<◌, ◌≤◌, List, [], ◌∷◌, ◌++◌, length, get_or, take, Option, Some, None, All, ◌⊎◌, inl, inr, sym, refl, ap, ap₂, subst, ◌∙◌, arith, zero-mul, one-mul}
+use Rattle.std.proofs.Common.{◌≡◌, ℕ, zero, suc, ◌+◌, ◌*◌, ◌%◌, ◌<◌, ◌≤◌, List, [], ◌∷◌, ◌++◌, length, get_or, Option, Some, None, ◌⊎◌, inl, inr, sym, refl, ap, ap₂, subst, ◌∙◌, arith, zero-mul, one-mul}
 use Rattle.std.proofs.lemmas.Bool.{cases_eq, cases_lt}
 use Rattle.std.proofs.lemmas.Option.{none-some}
-use Rattle.std.proofs.lemmas.List.{get_or_past, get_or_push, get_or_append_left, length_push, get_or_at, length-take-le, get_or-take, append_assoc}
-use Rattle.std.proofs.lemmas.List.Elements.{All-push, All-get_or}
-use Rattle.std.proofs.Math.Nat.{mod-eq_of_lt}
+use Rattle.std.proofs.lemmas.List.{get_or_past, get_or_push, get_or_append_left, length_push}
+use Rattle.std.proofs.lemmas.List.Elements.{All-push}
 use Rattle.matrix_models.specs.Matrices.{total}
 use Rattle.matrix_models.specs.Totals.{total_same}
-use Rattle.matrix_models.specs.declared.system.System.{System}
-use Rattle.matrix_models.specs.Systems.{Solves}
-use Rattle.matrix_models.specs.Greedy.{Extends, CanTake, IsGreedy}
-use Rattle.matrix_models.specs.Elimination.{Meets, MeetsAll, IsPivot, ArePivots, IsSolvedTo}
-use Rattle.matrix_models.proofs.Congruences.{add_cancel}
+use Rattle.matrix_models.specs.Elimination.{MeetsAll, IsPivot, ArePivots, IsSolvedTo}
 
 -- ---- as far as a place
 -- the value at the next place
@@ -44,7 +39,7 @@ solved_more m n to pivots prefer values value solved small free_value fixed_valu
         → (total place (λ k. get_or row k 0 * get_or (values ++ value ∷ []) k 0) + get_or (values ++ value ∷ []) place 0) % m ≡ get_or row n 0 % m
     go_fixed place row (inl here) within found =
         let sum : total place (λ k. get_or row k 0 * get_or (values ++ value ∷ []) k 0) ≡ total to (λ k. get_or row k 0 * get_or values k 0) =
-            sum_before place row (omega arith) ∙ ap (λ x. total x (λ k. get_or row k 0 * get_or values k 0)) here in
+        sum_before place row (omega arith) ∙ ap (λ x. total x (λ k. get_or row k 0 * get_or values k 0)) here in
         ap₂ (λ x y. (x + y) % m) sum (ap (λ x. get_or (values ++ value ∷ []) x 0) here ∙ last)
         ∙ fixed_value row (ap (λ x. get_or pivots x None) (sym here) ∙ found)
     go_fixed place row (inr other) within found =
@@ -64,9 +59,9 @@ pub solved_fixed : (m n to : ℕ) (pivots : List (Option (List ℕ))) (prefer va
 solved_fixed m n to pivots prefer values row value solved found small left =
     solved_more m n to pivots prefer values value solved small (λ none. absurd (none-some row (sym none ∙ found)))
     (λ other other_found.
-        let both : Some row ≡ Some other = sym found ∙ other_found in
-        let same : row ≡ other = cc in
-        subst (λ x. (total to (λ k. get_or x k 0 * get_or values k 0) + value) % m ≡ get_or x n 0 % m) same left)
+    let both : Some row ≡ Some other = sym found ∙ other_found in
+    let same : row ≡ other = cc in
+    subst (λ x. (total to (λ k. get_or x k 0 * get_or values k 0) + value) % m ≡ get_or x n 0 % m) same left)
 
 -- ---- as far as all
 -- a sum whose terms after a place are 0

@@ -1,12 +1,11 @@
 -- A system that has a solution has a greedy one: values below the modulus are tried, in order.
-use Rattle.std.proofs.Common.{◌≡◌, ℕ, zero, suc, ◌+◌, ◌*◌, ◌%◌, ◌<◌, ◌≤◌, List, [], ◌∷◌, ◌++◌, length, get_or, take, All, ◌⊎◌, inl, inr, sym, refl, ap, subst, ◌∙◌, arith}
+use Rattle.std.proofs.Common.{◌≡◌, ℕ, zero, suc, ◌+◌, ◌<◌, ◌≤◌, List, [], ◌∷◌, ◌++◌, length, get_or, take, All, ◌⊎◌, inl, inr, sym, refl, ap, subst, ◌∙◌, arith}
 use Rattle.std.proofs.lemmas.Bool.{cases_eq, cases_lt}
 use Rattle.std.proofs.lemmas.List.{get_or_at, take_at, append_assoc, append-nil, length-append, length_push}
 use Rattle.std.proofs.lemmas.List.Elements.{All-get_or, All-nil, All-cons, All-head, All-tail}
-use Rattle.matrix_models.specs.declared.system.LinearRow.{LinearRow}
 use Rattle.matrix_models.specs.declared.system.System.{System}
-use Rattle.matrix_models.specs.Systems.{Holds, AreValues, Solves}
-use Rattle.matrix_models.specs.Greedy.{Extends, CanTake, IsGreedy, HasGreedySolution}
+use Rattle.matrix_models.specs.Systems.{Holds, Solves}
+use Rattle.matrix_models.specs.Greedy.{Extends, CanTake, HasGreedySolution}
 
 -- ---- what can be told
 all_or_not : {X : Type 0} (P : X → Type 0) → ((x : X) → P x ⊎ (P x → ⊥)) → (xs : List X) → All P xs ⊎ (All P xs → ⊥)
@@ -71,11 +70,12 @@ longer_extends s front short extends = go extends.rest extends.solves
   where
     go : (rest : List ℕ) → Solves s (front ++ rest) → (value : ℕ) × (value < s.modulus) × Extends s (front ++ value ∷ [])
     go [] solves = absurd (omega (arith, short, ap length (append-nil front), solves.are_values.one_each))
-    go (x ∷ rest) solves =
-        (x,
-         subst (λ y. y < s.modulus) (get_or_at front x rest 0 (length front) refl)
-             (All-get_or (λ y. y < s.modulus) (front ++ x ∷ rest) (length front) 0 (omega (arith, short, solves.are_values.one_each)) solves.are_values.below),
-         record { rest = rest; solves = subst (Solves s) (sym (append_assoc front (x ∷ []) rest)) solves })
+    go (x ∷ rest) solves = (
+      x,
+      subst (λ y. y < s.modulus) (get_or_at front x rest 0 (length front) refl)
+          (All-get_or (λ y. y < s.modulus) (front ++ x ∷ rest) (length front) 0 (omega (arith, short, solves.are_values.one_each)) solves.are_values.below),
+      record { rest = rest; solves = subst (Solves s) (sym (append_assoc front (x ∷ []) rest)) solves },
+    )
 
 shorter_extends : (s : System) (front : List ℕ) (value : ℕ) → Extends s (front ++ value ∷ []) → Extends s front
 shorter_extends s front value extends = record { rest = value ∷ extends.rest; solves = subst (Solves s) (append_assoc front (value ∷ []) extends.rest) extends.solves }
@@ -145,13 +145,16 @@ chosen_before s prefer front values value greedy preferred_here least_here = rec
     least_at place other (inr apart) from within cannot can = greedy.least place other (omega (arith, length_push front value)) within cannot can
 
 greedy_from : (s : System) (prefer : List ℕ) (left : ℕ) (front : List ℕ) → length front + left ≡ s.unknowns → Extends s front → (values : List ℕ) × IsGreedyFrom s prefer front values
-greedy_from s prefer zero front size extends = (front, record {
-  rest = [];
-  splits = sym (append-nil front);
-  solves = whole_solves s front (omega (arith, size)) extends;
-  preferred = λ place from within can. absurd (omega (arith, size));
-  least = λ place value from within cannot can. absurd (omega (arith, size));
-})
+greedy_from s prefer zero front size extends = (
+  front,
+  record {
+    rest = [];
+    splits = sym (append-nil front);
+    solves = whole_solves s front (omega (arith, size)) extends;
+    preferred = λ place from within can. absurd (omega (arith, size));
+    least = λ place value from within cannot can. absurd (omega (arith, size));
+  },
+)
 greedy_from s prefer (suc left) front size extends =
     go (extends_or_not s left (front ++ liked ∷ []) (next liked)) (λ value. greedy_from s prefer left (front ++ value ∷ []) (next value))
   where

@@ -1,15 +1,14 @@
 -- Greedy solutions: what is left by pivots is one, there is at most one, and a solvable system has one.
-use Rattle.std.proofs.Common.{◌≡◌, ℕ, zero, suc, ◌+◌, ◌*◌, ◌%◌, ◌<◌, ◌≤◌, List, [], ◌∷◌, ◌++◌, length, get_or, take, drop, Option, Some, None, All, ◌⊎◌, inl, inr, sym, refl, ap, ap₂, subst, ◌∙◌, arith}
-use Rattle.std.proofs.lemmas.Bool.{cases_eq, cases_lt}
-use Rattle.std.proofs.lemmas.List.{get_or_at, get_or_append_left, get_or-take, length-take-le, take_all, take_more, take_more_same, take-append-drop, ext_get_or, append_assoc, append-nil, length-append, length_push}
-use Rattle.std.proofs.lemmas.List.Elements.{All-get_or, All-nil, All-cons, All-head, All-tail}
+use Rattle.std.proofs.Common.{◌≡◌, ℕ, zero, suc, ◌+◌, ◌*◌, ◌%◌, ◌<◌, ◌≤◌, List, [], ◌∷◌, ◌++◌, length, get_or, take, drop, Option, Some, None, ◌⊎◌, inl, inr, sym, refl, ap, ap₂, subst, ◌∙◌, arith}
+use Rattle.std.proofs.lemmas.Bool.{cases_eq}
+use Rattle.std.proofs.lemmas.List.{get_or_at, get_or_append_left, get_or-take, length-take-le, take_all, take_more, take_more_same, take-append-drop, append_assoc}
+use Rattle.std.proofs.lemmas.List.Elements.{All-get_or}
 use Rattle.std.proofs.Math.Nat.{mod-eq_of_lt}
 use Rattle.matrix_models.specs.Matrices.{total}
 use Rattle.matrix_models.specs.Totals.{total_same}
-use Rattle.matrix_models.specs.declared.system.LinearRow.{LinearRow}
 use Rattle.matrix_models.specs.declared.system.System.{System}
-use Rattle.matrix_models.specs.Systems.{Holds, AreValues, Solves, IsSystem}
-use Rattle.matrix_models.specs.Greedy.{Extends, CanTake, IsGreedy, HasGreedySolution}
+use Rattle.matrix_models.specs.Systems.{Solves, IsSystem}
+use Rattle.matrix_models.specs.Greedy.{Extends, CanTake, IsGreedy}
 use Rattle.matrix_models.specs.Elimination.{MeetsAll, ArePivots, IsSolvedTo, StandFor}
 use Rattle.matrix_models.proofs.Congruences.{add_cancel}
 use Rattle.matrix_models.proofs.Primes.{field_positive}
@@ -87,7 +86,7 @@ greedy-solved s pivots prefer values positive are_pivots solved meets solves = r
         let same = taken_is s pivots prefer values row place value positive are_pivots solved meets within found can in omega (arith, same)
 
 -- the values that the pivots of all equations leave
-pub greedy-left : (s : System) (pivots : List (Option (List ℕ))) (prefer values : List ℕ) → IsSystem s → StandFor s.modulus s.unknowns s.rows pivots
+pub greedy-left : (s : System) (pivots : List (Option (List ℕ))) (prefer values : List ℕ) → IsSystem s → StandFor s s.rows pivots
     → IsSolvedTo s.modulus s.unknowns s.unknowns pivots prefer values → IsGreedy s prefer values
 greedy-left s pivots prefer values is_system stand solved =
     greedy-solved s pivots prefer values (field_positive s.modulus is_system.modulus) stand.are_pivots solved meets (record {
@@ -98,7 +97,7 @@ greedy-left s pivots prefer values is_system stand solved =
     meets : (others : List ℕ) → Solves s others → MeetsAll s.modulus s.unknowns (λ k. get_or others k 0) pivots
     meets others solves =
         meets-solution s others (length s.rows) pivots is_system
-        (subst (λ xs. StandFor s.modulus s.unknowns xs pivots) (sym (take_all (length s.rows) s.rows (omega arith))) stand) solves
+        (subst (λ xs. StandFor s xs pivots) (sym (take_all (length s.rows) s.rows (omega arith))) stand) solves
 
 -- ---- at most one
 -- lists that agree at each place where they agree before it
@@ -121,8 +120,8 @@ greedy_is_unique s prefer values others first second =
         → get_or values place 0 ≡ get_or prefer place 0 → get_or values place 0 ≡ get_or others place 0
     shared values others first second place within same chosen =
         chosen ∙ sym (second.preferred place within
-            (subst (λ x. Extends s (x ++ get_or prefer place 0 ∷ [])) same
-                (subst (CanTake s values place) chosen (can_take_own s values place within first.solves))))
+        (subst (λ x. Extends s (x ++ get_or prefer place 0 ∷ [])) same
+        (subst (CanTake s values place) chosen (can_take_own s values place within first.solves))))
 
     one_place : (place : ℕ) → place < s.unknowns → take place values ≡ take place others → get_or values place 0 ≡ get_or others place 0
     one_place place within same = go (cases_eq (get_or values place 0) (get_or prefer place 0)) (cases_eq (get_or others place 0) (get_or prefer place 0))
@@ -134,8 +133,7 @@ greedy_is_unique s prefer values others first second =
         go (inr not_chosen) (inl chosen) = sym (shared others values second first place within (sym same) chosen)
         go (inr not_chosen) (inr not_chosen_either) =
             let up = first.least place (get_or others place 0) within (λ can. not_chosen (first.preferred place within can))
-                (subst (λ x. Extends s (x ++ get_or others place 0 ∷ [])) (sym same) (can_take_own s others place within second.solves)) in
+            (subst (λ x. Extends s (x ++ get_or others place 0 ∷ [])) (sym same) (can_take_own s others place within second.solves)) in
             let down = second.least place (get_or values place 0) within (λ can. not_chosen_either (second.preferred place within can))
-                (subst (λ x. Extends s (x ++ get_or values place 0 ∷ [])) same (can_take_own s values place within first.solves)) in
+            (subst (λ x. Extends s (x ++ get_or values place 0 ∷ [])) same (can_take_own s values place within first.solves)) in
             omega (arith, up, down)
-

@@ -1,5 +1,5 @@
 -- That the moduli of fields are primes, by trial division up to their roots, and inverses modulo a prime.
-use Rattle.std.proofs.Common.{◌≡◌, ℕ, zero, suc, ◌+◌, ◌-◌, ◌*◌, ◌/◌, ◌%◌, ◌<◌, ◌≤◌, Bool, true, false, not, ◌&&◌, nat_eq, List, [], ◌∷◌, ◌⊎◌, inl, inr, sym, refl, ap, subst, ◌∙◌, arith, mod-lt, div-add-mod', mul-add, mul_assoc}
+use Rattle.std.proofs.Common.{◌≡◌, ℕ, zero, suc, ◌+◌, ◌-◌, ◌*◌, ◌/◌, ◌%◌, ◌<◌, ◌≤◌, Bool, true, not, ◌&&◌, nat_eq, List, [], ◌∷◌, ◌⊎◌, inl, inr, sym, refl, ap, subst, ◌∙◌, arith, mod-lt, div-add-mod', mul-add, mul_assoc}
 use Rattle.std.proofs.lemmas.Bool.{cases_eq, cases_lt, and_parts, or_cases, eqb-true, eq-eqb, not-true, both_ways, false≢true}
 use Rattle.std.proofs.lemmas.Nat.{mul-le, mul-mod_first, mul-mod_second}
 use Rattle.std.proofs.Math.Nat.{mul-mod_left, mul-mod_right, mod-add-div, mod_self, mod-eq_of_lt, div-le_self}
@@ -66,8 +66,10 @@ any_of P m (k ∷ ks) each is = go (or_cases _ _ is) (any_of P m ks each.1)
 
 each_prime : AllByRecursion IsPrime field_moduli
 each_prime =
-    (prime_from 2 0 refl (omega arith), (prime_from 3 0 refl (omega arith), (prime_from 5 1 refl (omega arith), (prime_from 7 1 refl (omega arith),
-    (prime_from 101 9 refl (omega arith), (prime_from 32003 177 refl (omega arith), (prime_from 65537 255 refl (omega arith), tt)))))))
+    let largest : AllByRecursion IsPrime (32003 ∷ 65537 ∷ []) = (prime_from 32003 177 refl (omega arith), (prime_from 65537 255 refl (omega arith), tt)) in
+    let large : AllByRecursion IsPrime (5 ∷ 7 ∷ 101 ∷ 32003 ∷ 65537 ∷ []) =
+        (prime_from 5 1 refl (omega arith), (prime_from 7 1 refl (omega arith), (prime_from 101 9 refl (omega arith), largest))) in
+    (prime_from 2 0 refl (omega arith), (prime_from 3 0 refl (omega arith), large))
 
 pub field_prime : (m : ℕ) → IsFieldModulus m → IsPrime m
 field_prime m is = any_of IsPrime m field_moduli each_prime is

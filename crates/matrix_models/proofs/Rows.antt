@@ -1,5 +1,5 @@
 -- What a step of elimination keeps: multiples of pivots are taken off a row, a row is multiplied, and a new pivot is set.
-use Rattle.std.proofs.Common.{◌≡◌, ◌≢◌, ◌↔◌, ℕ, zero, suc, ◌+◌, ◌-◌, ◌*◌, ◌%◌, ◌<◌, ◌≤◌, List, length, get_or, set, Option, Some, None, ◌⊎◌, inl, inr, sym, refl, ap, ap₂, subst, ◌∙◌, arith, add-mul, mul_assoc, mul_comm, zero-mul}
+use Rattle.std.proofs.Common.{◌≡◌, ◌↔◌, ℕ, ◌+◌, ◌-◌, ◌*◌, ◌%◌, ◌<◌, ◌≤◌, List, length, get_or, set, Option, Some, None, ◌⊎◌, inl, inr, sym, ap, ap₂, subst, ◌∙◌, arith, add-mul, mul_assoc, mul_comm, zero-mul}
 use Rattle.std.proofs.lemmas.Bool.{cases_eq}
 use Rattle.std.proofs.lemmas.Option.{none-some}
 use Rattle.std.proofs.Math.Nat.{mod-mod, mod_self, zero-mod, mod-eq_of_lt}
@@ -28,9 +28,10 @@ sum-multiple m n t w row pivot new each =
 pub meets-multiple : (m n t : ℕ) (w : ℕ → ℕ) (row pivot new : List ℕ) → 0 < m → Meets m n w pivot
     → ((k : ℕ) → k < n + 1 → get_or new k 0 ≡ (get_or row k 0 + t * get_or pivot k 0) % m)
     → Meets m n w row ↔ Meets m n w new
-meets-multiple m n t w row pivot new positive pivot_holds each =
-    (λ holds. left_is ∙ add_alike m _ (get_or row n 0) _ (t * get_or pivot n 0) holds multiple ∙ sym right_is,
-     λ holds. add_cancel m _ (get_or row n 0) _ (t * get_or pivot n 0) positive (sym left_is ∙ holds ∙ right_is) multiple)
+meets-multiple m n t w row pivot new positive pivot_holds each = (
+  λ holds. left_is ∙ add_alike m _ (get_or row n 0) _ (t * get_or pivot n 0) holds multiple ∙ sym right_is,
+  λ holds. add_cancel m _ (get_or row n 0) _ (t * get_or pivot n 0) positive (sym left_is ∙ holds ∙ right_is) multiple,
+)
   where
     left_is : total n (λ k. get_or new k 0 * w k) % m ≡ (total n (λ k. get_or row k 0 * w k) + t * total n (λ k. get_or pivot k 0 * w k)) % m
     left_is = sum-multiple m n t w row pivot new each
@@ -56,7 +57,7 @@ gone-multiple m n place row pivot new is_pivot within below gone each k from wit
         each k (omega arith) ∙ ap (λ x. x % m) sum ∙ mod_self m
     go (inr other) =
         let sum : get_or row k 0 + (m - get_or row place 0) * get_or pivot k 0 ≡ 0 =
-            ap₂ (λ x y. x + (m - get_or row place 0) * y) (gone k (omega arith) within_k) (is_pivot.last k (omega arith) within_k) ∙ omega arith in
+        ap₂ (λ x y. x + (m - get_or row place 0) * y) (gone k (omega arith) within_k) (is_pivot.last k (omega arith) within_k) ∙ omega arith in
         each k (omega arith) ∙ ap (λ x. x % m) sum ∙ zero-mod m
 
 -- ---- a row is multiplied
@@ -64,9 +65,10 @@ gone-multiple m n place row pivot new is_pivot within below gone each k from wit
 pub meets-scaled : (m n u f : ℕ) (w : ℕ → ℕ) (row new : List ℕ) → (f * u) % m ≡ 1
     → ((k : ℕ) → k < n + 1 → get_or new k 0 ≡ (get_or row k 0 * u) % m)
     → Meets m n w row ↔ Meets m n w new
-meets-scaled m n u f w row new inverse each =
-    (λ holds. left_is ∙ ap (λ x. x % m) (mul_comm _ u) ∙ mul_alike m u _ _ holds ∙ ap (λ x. x % m) (mul_comm u _) ∙ sym right_is,
-     λ holds. mul_cancel m _ (get_or row n 0) u f inverse (sym left_is ∙ holds ∙ right_is))
+meets-scaled m n u f w row new inverse each = (
+  λ holds. left_is ∙ ap (λ x. x % m) (mul_comm _ u) ∙ mul_alike m u _ _ holds ∙ ap (λ x. x % m) (mul_comm u _) ∙ sym right_is,
+  λ holds. mul_cancel m _ (get_or row n 0) u f inverse (sym left_is ∙ holds ∙ right_is),
+)
   where
     term : (k : ℕ) → k < n → (get_or new k 0 * w k) % m ≡ (get_or row k 0 * w k * u) % m
     term k l =
@@ -146,9 +148,10 @@ alike_through m n pivots start row new alike step w all =
 pub added-pivot : (m n place : ℕ) (pivots : List (Option (List ℕ))) (start row : List ℕ) → IsFree pivots place → MeetsAlike m n pivots start row
     → IsAdded m n start pivots (set pivots place (Some row))
 added-pivot m n place pivots start row free alike w =
-    let both = meets-set m n place w pivots row free.within free.none in
-    (λ holds. both.0 (holds.0, (alike w holds.0).0 holds.1),
-     λ all. let back = both.1 all in (back.0, (alike w back.0).1 back.1))
+    let both = meets-set m n place w pivots row free.within free.none in (
+      λ holds. both.0 (holds.0, (alike w holds.0).0 holds.1),
+      λ all. let back = both.1 all in (back.0, (alike w back.0).1 back.1),
+    )
 
 -- the row says nothing
 pub added-nothing : (m n : ℕ) (pivots : List (Option (List ℕ))) (start row : List ℕ) → HasNoFactor n row → get_or row n 0 ≡ 0 → MeetsAlike m n pivots start row

@@ -1,5 +1,5 @@
 -- The definitions of systems and of greedy solutions at small examples that were worked out by hand.
-use Rattle.std.proofs.Common.{◌≡◌, ℕ, zero, suc, ◌*◌, ◌%◌, ◌<◌, ◌≤◌, [], ◌∷◌, List, get_or, refl, arith, zero-mul}
+use Rattle.std.proofs.Common.{◌≡◌, ℕ, zero, suc, ◌<◌, ◌≤◌, [], ◌∷◌, get_or, refl, arith, zero-mul}
 use Rattle.std.proofs.lemmas.List.Elements.{All-nil, All-cons}
 use Rattle.matrix_models.specs.declared.system.System.{System}
 use Rattle.matrix_models.specs.declared.system.LinearRow.{LinearRow}

@@ -2,6 +2,7 @@
 use Rattle.std.specs.Prelude.{◌≡◌, ◌↔◌, ℕ, ◌+◌, ◌*◌, ◌%◌, ◌<◌, List, [], ◌∷◌, ◌++◌, length, get_or, Option, Some, None, All}
 use Rattle.matrix_models.specs.Matrices.{total}
 use Rattle.matrix_models.specs.declared.system.LinearRow.{LinearRow}
+use Rattle.matrix_models.specs.declared.system.System.{System}
 
 -- the equation of a row with n unknowns holds modulo m at these numbers
 abbrev pub Meets : ℕ → ℕ → (ℕ → ℕ) → List ℕ → Type 0
@@ -51,11 +52,11 @@ IsAgainst m n row pivots = (w : ℕ → ℕ) → MeetsAll m n w pivots → ¬ Me
 abbrev pub row_of : LinearRow → List ℕ
 row_of equation = equation.factors ++ equation.right ∷ []
 
--- The pivots say what the equations do.
-pub record StandFor (m n : ℕ) (equations : List LinearRow) (pivots : List (Option (List ℕ))) : Type 0 where
-  pub size : length pivots ≡ n
-  pub are_pivots : ArePivots n pivots
-  pub same : (w : ℕ → ℕ) → MeetsAll m n w pivots ↔ All (λ equation. Meets m n w (row_of equation)) equations
+-- The pivots say what these equations of the system do.
+pub record StandFor (s : System) (equations : List LinearRow) (pivots : List (Option (List ℕ))) : Type 0 where
+  pub size : length pivots ≡ s.unknowns
+  pub are_pivots : ArePivots s.unknowns pivots
+  pub same : (w : ℕ → ℕ) → MeetsAll s.modulus s.unknowns w pivots ↔ All (λ equation. Meets s.modulus s.unknowns w (row_of equation)) equations
 
 -- The values of the unknowns before `to`: one with no pivot has its preferred value, and one with a pivot the value that its
 -- pivot asks for with the values before it.

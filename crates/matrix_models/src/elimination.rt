@@ -99,8 +99,9 @@ fn scale(modulus: u32, row: &mut [u32], times: u32)
     }
 }
 
-// The number whose product with this one is 1 modulo a prime. Where r is what q times b leaves of the prime, r is
-// the prime less q times b, so b times the inverse of r is that of b less q.
+// The number whose product with this one is 1 modulo the modulus. Throughout, the number times `factor` is congruent to
+// `rest`. The next rest is the remainder of the modulus by this one, to which this one times the modulus less the quotient
+// is congruent; it is smaller, and not 0 since the modulus is a prime.
 fn inverse(modulus: u32, number: u32) -> u32
     requires field { IsFieldModulus modulus }
     requires positive { 0 < number }

@@ -29,9 +29,12 @@ pub fn solve(
 }
 
 // Pivots that say what the equations do, and `None` where there is no solution.
-fn pivots_of(alloc: Global, system: &System) -> Result<Option<Vec<Option<Listing<u32>>>>, AllocError>
+fn pivots_of(
+    alloc: Global,
+    system: &System,
+) -> Result<Option<Vec<Option<Listing<u32>>>>, AllocError>
     requires { IsSystem system.now }
-    ensures pivots { IfOk result (λ found. IfSome found (λ v. StandFor system.now.modulus system.now.unknowns system.now.rows v.items)) }
+    ensures pivots { IfOk result (λ found. IfSome found (λ v. StandFor system.now system.now.rows v.items)) }
     ensures none { IfOk result (λ found. IfNone found (HasNoSolution system.now)) }
 {
     let mut pivots = no_pivots(alloc, system.unknowns)?;
@@ -44,7 +47,7 @@ fn pivots_of(alloc: Global, system: &System) -> Result<Option<Vec<Option<Listing
     Ok(Some(pivots))
 }
 
-// For each unknown that it has no pivot.
+// No pivot for any unknown.
 fn no_pivots(alloc: Global, unknowns: u32) -> Result<Vec<Option<Listing<u32>>>, AllocError>
     ensures { IfOk result (λ v. v.items ≡ replicate unknowns None) }
 {
@@ -74,7 +77,7 @@ fn values_of(
 ) -> Result<Listing<u32>, AllocError>
     requires system { IsSystem system.now }
     requires prefer { AreValues system.now prefer.now }
-    requires pivots { StandFor system.now.modulus system.now.unknowns system.now.rows pivots.now }
+    requires pivots { StandFor system.now system.now.rows pivots.now }
     ensures { IfOk result (IsGreedy system.now prefer.now) }
 {
     let modulus = system.modulus;

@@ -1,4 +1,4 @@
-use Rattle.std.proofs.Common.{◌*◌, sym, subst, mod-lt, arith}
+use Rattle.std.proofs.Common.{sym, subst, mod-lt, arith}
 use Rattle.matrix_models.specs.Systems.{IsFieldModulus}
 use Rattle.matrix_models.proofs.Primes.{field_prime, next_factor}
 use Rattle.matrix_models.proofs.elimination.inverse.Goals as goal

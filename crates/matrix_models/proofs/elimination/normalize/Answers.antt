@@ -6,5 +6,5 @@ pub returns-clause-alike : goal.returns-clause-alike
 returns-clause-alike c =
     let before = c.reduce.ensures in
     alike_through c.args.modulus (length c.args.pivots.now) c.args.pivots.now c.args.row.now c.reduce.new.row c.scale.new.row before.alike
-        (λ w all. meets-scaled c.args.modulus (length c.args.pivots.now) c.inverse-factor.result _ w c.reduce.new.row c.scale.new.row c.inverse-factor.ensures
-            (λ k l. c.scale.ensures.each k (omega (arith, before.len, c.requires.size, l))))
+    (λ w all. meets-scaled c.args.modulus (length c.args.pivots.now) c.inverse-factor.result _ w c.reduce.new.row c.scale.new.row c.inverse-factor.ensures
+    (λ k l. c.scale.ensures.each k (omega (arith, before.len, c.requires.size, l))))

@@ -1,4 +1,4 @@
-use Rattle.std.proofs.Common.{◌≡◌, ℕ, ◌+◌, ◌<◌, ◌≤◌, length, get_or, All}
+use Rattle.std.proofs.Common.{◌≡◌, ℕ, ◌<◌, ◌≤◌, length, get_or, All}
 use Rattle.matrix_models.specs.Elimination.{MeetsAlike}
 use Rattle.matrix_models.proofs.elimination.reduce.Given as goal
 

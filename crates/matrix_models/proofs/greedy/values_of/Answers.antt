@@ -14,7 +14,7 @@ pub value_left-value-requires-clause-within : goal.value_left-value-requires-cla
 value_left-value-requires-clause-within c =
     let stand = c.requires.pivots in
     let found : get_or c.args.pivots.now c.loop-place.place None ≡ Some c.in-Some.pivot =
-        sym (get_or_read c.args.pivots.now _ _ c.loop-place-test.true c.index-pivots-place.is None) ∙ c.in-Some.is in
+    sym (get_or_read c.args.pivots.now _ _ c.loop-place-test.true c.index-pivots-place.is None) ∙ c.in-Some.is in
     let size = (stand.are_pivots _ _ found).size in
     let row_is = c.as_slice.ensures in
     let values_are = c.as_slice-in-Some.ensures.value in
@@ -29,16 +29,16 @@ loop-place-preserved c =
     let place = c.loop-place.place in
     let values = c.loop-place.values.items in
     let here : c.index-pivots-place.result ≡ get_or c.args.pivots.now place None =
-        get_or_read c.args.pivots.now _ _ c.loop-place-test.true c.index-pivots-place.is None in
+    get_or_read c.args.pivots.now _ _ c.loop-place-test.true c.index-pivots-place.is None in
     let Solved : ℕ → Type 0 = λ value. IsSolvedTo m n (place + 1) c.args.pivots.now c.args.prefer.now (values ++ value ∷ []) in
     subst (IsSolvedTo m n (place + 1) c.args.pivots.now c.args.prefer.now) (sym c.in_ok-push.ensures.items)
     (elim c.match-pivots-place.branch [
-      in-Some w ↦
+      | in-Some w ↦
           let row = w.in-Some.pivot in
           let value = w.value_left-value.result in
           let found = sym here ∙ w.in-Some.is in
           let by_row = subst (λ r. (total (length w.as_slice-in-Some.result.now) (λ k. get_or r k 0 * get_or w.as_slice-in-Some.result.now k 0) + value) % m ≡ get_or r (length r - 1) 0 % m)
-              w.as_slice.ensures w.value_left-value.ensures.left in
+          w.as_slice.ensures w.value_left-value.ensures.left in
           let by_values = subst (λ v. (total (length v) (λ k. get_or row k 0 * get_or v k 0) + value) % m ≡ get_or row (length row - 1) 0 % m) w.as_slice-in-Some.ensures.value by_row in
           let by_place = subst (λ p. (total p (λ k. get_or row k 0 * get_or values k 0) + value) % m ≡ get_or row (length row - 1) 0 % m) before.size by_values in
           let size = (stand.are_pivots place row found).size in
@@ -47,7 +47,7 @@ loop-place-preserved c =
           (solved_fixed m n place _ _ values row value before found w.value_left-value.ensures.below (by_place ∙ ap (λ k. get_or row k 0 % m) right))
       | in-None w ↦
           subst Solved (sym w.value-is) (solved_free m n place _ _ values before (sym here ∙ w.in-None.is)
-              (All-get_or (λ value. value < m) c.args.prefer.now place 0 (omega (arith, c.requires.prefer.one_each, stand.size, c.loop-place-test.true)) c.requires.prefer.below))
+          (All-get_or (λ value. value < m) c.args.prefer.now place 0 (omega (arith, c.requires.prefer.one_each, stand.size, c.loop-place-test.true)) c.requires.prefer.below))
     ])
 
 pub returns : goal.returns
