@@ -68,7 +68,7 @@ each_prime : AllByRecursion IsPrime field_moduli
 each_prime =
     let largest : AllByRecursion IsPrime (32003 ∷ 65537 ∷ []) = (prime_from 32003 177 refl (omega arith), (prime_from 65537 255 refl (omega arith), tt)) in
     let large : AllByRecursion IsPrime (5 ∷ 7 ∷ 101 ∷ 32003 ∷ 65537 ∷ []) =
-        (prime_from 5 1 refl (omega arith), (prime_from 7 1 refl (omega arith), (prime_from 101 9 refl (omega arith), largest))) in
+    (prime_from 5 1 refl (omega arith), (prime_from 7 1 refl (omega arith), (prime_from 101 9 refl (omega arith), largest))) in
     (prime_from 2 0 refl (omega arith), (prime_from 3 0 refl (omega arith), large))
 
 pub field_prime : (m : ℕ) → IsFieldModulus m → IsPrime m

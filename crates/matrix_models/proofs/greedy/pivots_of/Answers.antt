@@ -1,8 +1,11 @@
 use Rattle.std.proofs.Common.{◌≡◌, ◌+◌, ◌<◌, ◌≤◌, take, ◌∷◌, [], ◌++◌, length, get_or, sym, ap, subst, ◌∙◌}
 use Rattle.std.proofs.lemmas.List.{take_at, take_all, take_more}
 use Rattle.matrix_models.specs.Elimination.{ArePivots, IsAdded, IsAgainst, StandFor, row_of}
-use Rattle.matrix_models.proofs.Reduction.{stand_for-more, no_solution}
+use Rattle.matrix_models.proofs.Reduction.{stand_for-none, stand_for-more, no_solution}
 use Rattle.matrix_models.proofs.greedy.pivots_of.Goals as goal
+
+pub loop-equation-init : goal.loop-equation-init
+loop-equation-init c = subst (StandFor c.args.system.now []) (sym c.in_ok-pivots.ensures) (stand_for-none c.args.system.now)
 
 pub insert-requires-clause-pivots : goal.insert-requires-clause-pivots
 insert-requires-clause-pivots c =
