@@ -1,3 +1,11 @@
 pub mod Building
 pub mod Products
+pub mod Congruences
+pub mod Primes
+pub mod Rows
+pub mod BackSolving
+pub mod Reduction
+pub mod GreedySolutions
+pub mod GreedyExistence
 mod Examples
+mod SystemExamples

@@ -62,9 +62,9 @@ module _ (m : ℕ) where
       each i j h k =
           entry_at-product (matrix_product m a b) c i j h k
           ∙ ap (λ x. x % m) (total_same b.columns (λ n. entry_at (matrix_product m a b) i n * entry_at c n j) (λ n. (total a.columns (λ l. entry_at a i l * entry_at b l n) % m) * entry_at c n j) (λ n l. ap (λ x. x * entry_at c n j) (entry_at-product a b i n h l)))
-          ∙ total_mod m b.columns (λ n. (total a.columns (λ l. entry_at a i l * entry_at b l n) % m) * entry_at c n j) (λ n. total a.columns (λ l. entry_at a i l * entry_at b l n) * entry_at c n j) (λ n. mul-mod_first (total a.columns (λ l. entry_at a i l * entry_at b l n)) (entry_at c n j) m)
+          ∙ total_mod m b.columns (λ n. (total a.columns (λ l. entry_at a i l * entry_at b l n) % m) * entry_at c n j) (λ n. total a.columns (λ l. entry_at a i l * entry_at b l n) * entry_at c n j) (λ n within. mul-mod_first (total a.columns (λ l. entry_at a i l * entry_at b l n)) (entry_at c n j) m)
           ∙ ap (λ x. x % m) (total_swap b.columns a.columns (λ l. entry_at a i l) (λ n. entry_at c n j) (λ l n. entry_at b l n))
-          ∙ sym (total_mod m a.columns (λ l. entry_at a i l * (total b.columns (λ n. entry_at b l n * entry_at c n j) % m)) (λ l. entry_at a i l * total b.columns (λ n. entry_at b l n * entry_at c n j)) (λ l. mul-mod_second (entry_at a i l) (total b.columns (λ n. entry_at b l n * entry_at c n j)) m))
+          ∙ sym (total_mod m a.columns (λ l. entry_at a i l * (total b.columns (λ n. entry_at b l n * entry_at c n j) % m)) (λ l. entry_at a i l * total b.columns (λ n. entry_at b l n * entry_at c n j)) (λ l within. mul-mod_second (entry_at a i l) (total b.columns (λ n. entry_at b l n * entry_at c n j)) m))
           ∙ sym (ap (λ x. x % m) (total_same a.columns (λ l. entry_at a i l * entry_at (matrix_product m b c) l j) (λ l. entry_at a i l * (total b.columns (λ n. entry_at b l n * entry_at c n j) % m)) (λ l h'. ap (λ x. entry_at a i l * x) (entry_at-product b c l j (subst (λ x. l < x) ab h') k))))
           ∙ sym (entry_at-product a (matrix_product m b c) i j h k)
 
@@ -146,7 +146,7 @@ module _ (m : ℕ) where
           entry_at-product (matrix_sum m a b) c i j h k
           ∙ ap (λ v. v % m) (total_same a.columns (λ n. entry_at (matrix_sum m a b) i n * entry_at c n j) (λ n. ((entry_at a i n + entry_at b i n) % m) * entry_at c n j) (λ n l. ap (λ v. v * entry_at c n j) (entry_at-sum a b i n h l)))
           ∙ total_mod m a.columns (λ n. ((entry_at a i n + entry_at b i n) % m) * entry_at c n j) (λ n. entry_at a i n * entry_at c n j + entry_at b i n * entry_at c n j)
-          (λ n. mul-mod_first (entry_at a i n + entry_at b i n) (entry_at c n j) m ∙ ap (λ v. v % m) (add-mul (entry_at a i n) (entry_at b i n) (entry_at c n j)))
+          (λ n within. mul-mod_first (entry_at a i n + entry_at b i n) (entry_at c n j) m ∙ ap (λ v. v % m) (add-mul (entry_at a i n) (entry_at b i n) (entry_at c n j)))
           ∙ ap (λ v. v % m) (sym (total_add a.columns (λ n. entry_at a i n * entry_at c n j) (λ n. entry_at b i n * entry_at c n j)))
           ∙ sym (add_mod m (total a.columns (λ n. entry_at a i n * entry_at c n j)) (total a.columns (λ n. entry_at b i n * entry_at c n j)))
           ∙ ap (λ v. (total a.columns (λ n. entry_at a i n * entry_at c n j) % m + total v (λ n. entry_at b i n * entry_at c n j) % m) % m) columns
@@ -163,7 +163,7 @@ module _ (m : ℕ) where
           entry_at-product a (matrix_sum m b c) i j h k
           ∙ ap (λ v. v % m) (total_same a.columns (λ n. entry_at a i n * entry_at (matrix_sum m b c) n j) (λ n. entry_at a i n * ((entry_at b n j + entry_at c n j) % m)) (λ n l. ap (λ v. entry_at a i n * v) (entry_at-sum b c n j (subst (λ z. n < z) middle l) k)))
           ∙ total_mod m a.columns (λ n. entry_at a i n * ((entry_at b n j + entry_at c n j) % m)) (λ n. entry_at a i n * entry_at b n j + entry_at a i n * entry_at c n j)
-          (λ n. mul-mod_second (entry_at a i n) (entry_at b n j + entry_at c n j) m ∙ ap (λ v. v % m) (mul-add (entry_at a i n) (entry_at b n j) (entry_at c n j)))
+          (λ n within. mul-mod_second (entry_at a i n) (entry_at b n j + entry_at c n j) m ∙ ap (λ v. v % m) (mul-add (entry_at a i n) (entry_at b n j) (entry_at c n j)))
           ∙ ap (λ v. v % m) (sym (total_add a.columns (λ n. entry_at a i n * entry_at b n j) (λ n. entry_at a i n * entry_at c n j)))
           ∙ sym (add_mod m (total a.columns (λ n. entry_at a i n * entry_at b n j)) (total a.columns (λ n. entry_at a i n * entry_at c n j)))
           ∙ ap₂ (λ u v. (u + v) % m) (sym (entry_at-product a b i j h k)) (sym (entry_at-product a c i j h (subst (λ n. j < n) columns k)))

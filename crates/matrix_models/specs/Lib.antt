@@ -1,5 +1,8 @@
 pub mod Matrix
 pub mod Matrices
-mod Totals
+pub mod Totals
 mod Entries
 pub mod Laws
+pub mod Systems
+pub mod Greedy
+pub mod Elimination

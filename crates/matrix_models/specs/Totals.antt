@@ -39,9 +39,9 @@ add_mod m x y =
     let back : y + x ≡ x + y = omega arith in
     mod-add-mod x m (y % m) ∙ ap (λ z. z % m) flip ∙ mod-add-mod y m x ∙ ap (λ z. z % m) back
 
-pub total_mod : (m n : ℕ) (f g : ℕ → ℕ) → ((k : ℕ) → f k % m ≡ g k % m) → total n f % m ≡ total n g % m
+pub total_mod : (m n : ℕ) (f g : ℕ → ℕ) → ((k : ℕ) → k < n → f k % m ≡ g k % m) → total n f % m ≡ total n g % m
 total_mod m zero f g h = refl
-total_mod m (suc n) f g h = sym (add_mod m (total n f) (f n)) ∙ ap₂ (λ x y. (x + y) % m) (total_mod m n f g h) (h n) ∙ add_mod m (total n g) (g n)
+total_mod m (suc n) f g h = sym (add_mod m (total n f) (f n)) ∙ ap₂ (λ x y. (x + y) % m) (total_mod m n f g (λ k l. h k (omega arith))) (h n (omega arith)) ∙ add_mod m (total n g) (g n)
 
 -- ---- one of the terms
 pub total_pick : (n i : ℕ) (f : ℕ → ℕ) → i < n → total n (λ k. cond (eqb i k) 1 0 * f k) ≡ f i

@@ -1,12 +1,20 @@
-//! Matrices over the integers modulo a number, as an involutive category.
+//! Matrices over the integers modulo a number, as an involutive category; and the greedy solution of linear equations modulo a
+//! prime.
 #![tactic(auto)]
 
+mod elimination;
 mod fault;
+mod greedy;
+mod laws;
 mod matrices;
 mod matrix;
 mod model;
+mod system;
 
 pub use fault::MatrixFault;
+pub use greedy::solve;
+pub use laws::{greedy_solution_is_unique, solvable_systems_have_a_greedy_solution};
 pub use matrices::Matrices;
 pub use matrix::Matrix;
 pub use model::Model;
+pub use system::{LinearRow, System};

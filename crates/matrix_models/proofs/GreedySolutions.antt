@@ -1,0 +1,139 @@
+-- Greedy solutions: what is left by pivots is one, there is at most one, and a solvable system has one.
+use Rattle.std.proofs.Common.{◌≡◌, ℕ, zero, suc, ◌+◌, ◌*◌, ◌%◌, ◌<◌, ◌≤◌, List, [], ◌∷◌, ◌++◌, length, get_or, take, drop, Option, Some, None, ◌⊎◌, inl, inr, sym, refl, ap, ap₂, subst, ◌∙◌, arith}
+use Rattle.std.proofs.lemmas.Bool.{cases_eq}
+use Rattle.std.proofs.lemmas.List.{get_or_at, get_or_append_left, get_or-take, length-take-le, take_all, take_more, take_more_same, take-append-drop, append_assoc}
+use Rattle.std.proofs.lemmas.List.Elements.{All-get_or}
+use Rattle.std.proofs.Math.Nat.{mod-eq_of_lt}
+use Rattle.matrix_models.specs.Matrices.{total}
+use Rattle.matrix_models.specs.Totals.{total_same}
+use Rattle.matrix_models.specs.declared.system.System.{System}
+use Rattle.matrix_models.specs.Systems.{Solves, IsSystem}
+use Rattle.matrix_models.specs.Greedy.{Extends, CanTake, IsGreedy}
+use Rattle.matrix_models.specs.Elimination.{MeetsAll, ArePivots, IsSolvedTo, StandFor}
+use Rattle.matrix_models.proofs.Congruences.{add_cancel}
+use Rattle.matrix_models.proofs.Primes.{field_positive}
+use Rattle.matrix_models.proofs.BackSolving.{pivot_sum, meets-solved}
+use Rattle.matrix_models.proofs.Reduction.{meets-solution, holds_from_meets}
+
+-- a solution shows that each unknown can take its value in it
+can_take_own : (s : System) (values : List ℕ) (place : ℕ) → place < s.unknowns → Solves s values → CanTake s values place (get_or values place 0)
+can_take_own s values place within solves = record {
+  rest = drop (place + 1) values;
+  solves = subst (Solves s) (sym (ap (λ x. x ++ drop (place + 1) values) (sym (take_more values place 0 (omega (arith, solves.are_values.one_each, within)))) ∙ take-append-drop (place + 1) values)) solves;
+}
+
+-- ---- what the pivots leave
+-- a value that can be taken is the one that the pivot asks for
+taken_is : (s : System) (pivots : List (Option (List ℕ))) (prefer values row : List ℕ) (place value : ℕ) → 0 < s.modulus → ArePivots s.unknowns pivots
+    → IsSolvedTo s.modulus s.unknowns s.unknowns pivots prefer values
+    → ((others : List ℕ) → Solves s others → MeetsAll s.modulus s.unknowns (λ k. get_or others k 0) pivots)
+    → place < s.unknowns → get_or pivots place None ≡ Some row → CanTake s values place value → value ≡ get_or values place 0
+taken_is s pivots prefer values row place value positive are_pivots solved meets within found can =
+    sym (mod-eq_of_lt small) ∙ add_cancel s.modulus value (get_or values place 0) before before positive sums refl ∙ mod-eq_of_lt (All-get_or (λ x. x < s.modulus) values place 0 (omega (arith, solved.size, within)) solved.below)
+  where
+    others : List ℕ
+    others = take place values ++ value ∷ [] ++ can.rest
+
+    front_size : length (take place values) ≡ place
+    front_size = length-take-le place values (omega (arith, solved.size, within))
+
+    as_written : others ≡ take place values ++ (value ∷ can.rest)
+    as_written = append_assoc (take place values) (value ∷ []) can.rest
+
+    same_before : (k : ℕ) → k < place → get_or others k 0 ≡ get_or values k 0
+    same_before k l = ap (λ x. get_or x k 0) as_written ∙ get_or_append_left (take place values) (value ∷ can.rest) 0 k (omega (arith, front_size, l)) ∙ get_or-take place values k 0 l
+
+    here : get_or others place 0 ≡ value
+    here = ap (λ x. get_or x place 0) as_written ∙ get_or_at (take place values) value can.rest 0 place front_size
+
+    small : value < s.modulus
+    small = subst (λ x. x < s.modulus) here (All-get_or (λ x. x < s.modulus) others place 0 (omega (arith, can.solves.are_values.one_each, within)) can.solves.are_values.below)
+
+    before : ℕ
+    before = total place (λ k. get_or row k 0 * get_or values k 0)
+
+    other_sum : total s.unknowns (λ k. get_or row k 0 * get_or others k 0) ≡ before + value
+    other_sum = pivot_sum s.unknowns place (λ k. get_or others k 0) row within (are_pivots place row found)
+        ∙ ap₂ ◌+◌ (total_same place _ _ (λ k l. ap (λ x. get_or row k 0 * x) (same_before k l))) here
+
+    sums : (value + before) % s.modulus ≡ (get_or values place 0 + before) % s.modulus
+    sums =
+        let turned : value + before ≡ before + value = omega arith in
+        let turned_back : before + get_or values place 0 ≡ get_or values place 0 + before = omega arith in
+        ap (λ x. x % s.modulus) (turned ∙ sym other_sum) ∙ meets others can.solves place row found
+        ∙ sym (solved.fixed place row within found) ∙ ap (λ x. x % s.modulus) turned_back
+
+pub greedy-solved : (s : System) (pivots : List (Option (List ℕ))) (prefer values : List ℕ) → 0 < s.modulus → ArePivots s.unknowns pivots
+    → IsSolvedTo s.modulus s.unknowns s.unknowns pivots prefer values
+    → ((others : List ℕ) → Solves s others → MeetsAll s.modulus s.unknowns (λ k. get_or others k 0) pivots)
+    → Solves s values → IsGreedy s prefer values
+greedy-solved s pivots prefer values positive are_pivots solved meets solves = record {
+  solves = solves;
+  preferred = λ place within can. preferred_at place within can (get_or pivots place None) refl;
+  least = λ place value within cannot can. least_at place value within cannot can (get_or pivots place None) refl;
+}
+  where
+    preferred_at : (place : ℕ) → place < s.unknowns → CanTake s values place (get_or prefer place 0) → (pivot : Option (List ℕ)) → get_or pivots place None ≡ pivot
+        → get_or values place 0 ≡ get_or prefer place 0
+    preferred_at place within can None none = solved.free place within none
+    preferred_at place within can (Some row) found = sym (taken_is s pivots prefer values row place (get_or prefer place 0) positive are_pivots solved meets within found can)
+
+    least_at : (place value : ℕ) → place < s.unknowns → (CanTake s values place (get_or prefer place 0) → ⊥) → CanTake s values place value
+        → (pivot : Option (List ℕ)) → get_or pivots place None ≡ pivot → get_or values place 0 ≤ value
+    least_at place value within cannot can None none =
+        absurd (cannot (subst (CanTake s values place) (solved.free place within none) (can_take_own s values place within solves)))
+    least_at place value within cannot can (Some row) found =
+        let same = taken_is s pivots prefer values row place value positive are_pivots solved meets within found can in omega (arith, same)
+
+-- the values that the pivots of all equations leave
+pub greedy-left : (s : System) (pivots : List (Option (List ℕ))) (prefer values : List ℕ) → IsSystem s → StandFor s s.rows pivots
+    → IsSolvedTo s.modulus s.unknowns s.unknowns pivots prefer values → IsGreedy s prefer values
+greedy-left s pivots prefer values is_system stand solved =
+    greedy-solved s pivots prefer values (field_positive s.modulus is_system.modulus) stand.are_pivots solved meets (record {
+      are_values = record { one_each = solved.size; below = solved.below };
+      each_holds = holds_from_meets s values pivots is_system stand (meets-solved s.modulus s.unknowns pivots prefer values stand.are_pivots stand.size solved);
+    })
+  where
+    meets : (others : List ℕ) → Solves s others → MeetsAll s.modulus s.unknowns (λ k. get_or others k 0) pivots
+    meets others solves =
+        meets-solution s others (length s.rows) pivots is_system
+        (subst (λ xs. StandFor s xs pivots) (sym (take_all (length s.rows) s.rows (omega arith))) stand) solves
+
+-- ---- at most one
+-- lists that agree at each place where they agree before it
+same_fronts : (values others : List ℕ) (n : ℕ) → n ≤ length values → n ≤ length others
+    → ((place : ℕ) → place < n → take place values ≡ take place others → get_or values place 0 ≡ get_or others place 0) → take n values ≡ take n others
+same_fronts values others zero in_values in_others step = refl
+same_fronts values others (suc n) in_values in_others step =
+    let before = same_fronts values others n (omega arith) (omega arith) (λ place within. step place (omega arith)) in
+    let next : suc n ≡ n + 1 = omega arith in
+    ap (λ x. take x values) next ∙ take_more_same values others n 0 (omega arith) (omega arith) before (step n (omega arith) before) ∙ ap (λ x. take x others) (sym next)
+
+pub greedy_is_unique : (s : System) (prefer values others : List ℕ) → IsGreedy s prefer values → IsGreedy s prefer others → values ≡ others
+greedy_is_unique s prefer values others first second =
+    sym (take_all s.unknowns values (omega (arith, first.solves.are_values.one_each)))
+    ∙ same_fronts values others s.unknowns (omega (arith, first.solves.are_values.one_each)) (omega (arith, second.solves.are_values.one_each)) one_place
+    ∙ take_all s.unknowns others (omega (arith, second.solves.are_values.one_each))
+  where
+    -- preferred by one, and so by the other
+    shared : (values others : List ℕ) → IsGreedy s prefer values → IsGreedy s prefer others → (place : ℕ) → place < s.unknowns → take place values ≡ take place others
+        → get_or values place 0 ≡ get_or prefer place 0 → get_or values place 0 ≡ get_or others place 0
+    shared values others first second place within same chosen =
+        chosen ∙ sym (second.preferred place within
+        (subst (λ x. Extends s (x ++ get_or prefer place 0 ∷ [])) same
+        (subst (CanTake s values place) chosen (can_take_own s values place within first.solves))))
+
+    one_place : (place : ℕ) → place < s.unknowns → take place values ≡ take place others → get_or values place 0 ≡ get_or others place 0
+    one_place place within same = go (cases_eq (get_or values place 0) (get_or prefer place 0)) (cases_eq (get_or others place 0) (get_or prefer place 0))
+      where
+        go : (get_or values place 0 ≡ get_or prefer place 0) ⊎ (get_or values place 0 ≡ get_or prefer place 0 → ⊥)
+            → (get_or others place 0 ≡ get_or prefer place 0) ⊎ (get_or others place 0 ≡ get_or prefer place 0 → ⊥)
+            → get_or values place 0 ≡ get_or others place 0
+        go (inl chosen) _ = shared values others first second place within same chosen
+        go (inr not_chosen) (inl chosen) = sym (shared others values second first place within (sym same) chosen)
+        go (inr not_chosen) (inr not_chosen_either) =
+            let up = first.least place (get_or others place 0) within (λ can. not_chosen (first.preferred place within can))
+            (subst (λ x. Extends s (x ++ get_or others place 0 ∷ [])) (sym same) (can_take_own s others place within second.solves)) in
+            let down = second.least place (get_or values place 0) within (λ can. not_chosen_either (second.preferred place within can))
+            (subst (λ x. Extends s (x ++ get_or values place 0 ∷ [])) same (can_take_own s values place within first.solves)) in
+            omega (arith, up, down)

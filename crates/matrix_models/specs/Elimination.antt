@@ -1,0 +1,68 @@
+-- What elimination keeps, for private functions: a row is a list of factors with the right side behind them.
+use Rattle.std.specs.Prelude.{◌≡◌, ◌↔◌, ℕ, ◌+◌, ◌*◌, ◌%◌, ◌<◌, List, [], ◌∷◌, ◌++◌, length, get_or, Option, Some, None, All}
+use Rattle.matrix_models.specs.Matrices.{total}
+use Rattle.matrix_models.specs.declared.system.LinearRow.{LinearRow}
+use Rattle.matrix_models.specs.declared.system.System.{System}
+
+-- the equation of a row with n unknowns holds modulo m at these numbers
+abbrev pub Meets : ℕ → ℕ → (ℕ → ℕ) → List ℕ → Type 0
+Meets m n w row = total n (λ k. get_or row k 0 * w k) % m ≡ get_or row n 0 % m
+
+-- the equation of each pivot does
+abbrev pub MeetsAll : ℕ → ℕ → (ℕ → ℕ) → List (Option (List ℕ)) → Type 0
+MeetsAll m n w pivots = (place : ℕ) (row : List ℕ) → get_or pivots place None ≡ Some row → Meets m n w row
+
+-- The unknown at this place has the factor 1, and each one after it the factor 0.
+pub record IsPivot (n place : ℕ) (row : List ℕ) : Type 0 where
+  pub size : length row ≡ n + 1
+  pub one : get_or row place 0 ≡ 1
+  pub last : (k : ℕ) → place < k → k < n → get_or row k 0 ≡ 0
+
+abbrev pub ArePivots : ℕ → List (Option (List ℕ)) → Type 0
+ArePivots n pivots = (place : ℕ) (row : List ℕ) → get_or pivots place None ≡ Some row → IsPivot n place row
+
+-- the unknown at this place has no pivot
+pub record IsFree (pivots : List (Option (List ℕ))) (place : ℕ) : Type 0 where
+  pub within : place < length pivots
+  pub none : get_or pivots place None ≡ None
+
+-- The unknown at this place is the last one whose factor isn't 0.
+pub record HasLast (n : ℕ) (row : List ℕ) (place : ℕ) : Type 0 where
+  pub within : place < n
+  pub nonzero : 0 < get_or row place 0
+  pub last : (k : ℕ) → place < k → k < n → get_or row k 0 ≡ 0
+
+-- all factors are 0
+abbrev pub HasNoFactor : ℕ → List ℕ → Type 0
+HasNoFactor n row = (k : ℕ) → k < n → get_or row k 0 ≡ 0
+
+-- where the pivots hold, the two rows say the same
+abbrev pub MeetsAlike : ℕ → ℕ → List (Option (List ℕ)) → List ℕ → List ℕ → Type 0
+MeetsAlike m n pivots row other = (w : ℕ → ℕ) → MeetsAll m n w pivots → Meets m n w row ↔ Meets m n w other
+
+-- the new pivots say what the old ones and the row do
+abbrev pub IsAdded : ℕ → ℕ → List ℕ → List (Option (List ℕ)) → List (Option (List ℕ)) → Type 0
+IsAdded m n row old new = (w : ℕ → ℕ) → (MeetsAll m n w old × Meets m n w row) ↔ MeetsAll m n w new
+
+-- the row never holds where the pivots do
+abbrev pub IsAgainst : ℕ → ℕ → List ℕ → List (Option (List ℕ)) → Type 0
+IsAgainst m n row pivots = (w : ℕ → ℕ) → MeetsAll m n w pivots → ¬ Meets m n w row
+
+-- the row of an equation
+abbrev pub row_of : LinearRow → List ℕ
+row_of equation = equation.factors ++ equation.right ∷ []
+
+-- The pivots say what these equations of the system do.
+pub record StandFor (s : System) (equations : List LinearRow) (pivots : List (Option (List ℕ))) : Type 0 where
+  pub size : length pivots ≡ s.unknowns
+  pub are_pivots : ArePivots s.unknowns pivots
+  pub same : (w : ℕ → ℕ) → MeetsAll s.modulus s.unknowns w pivots ↔ All (λ equation. Meets s.modulus s.unknowns w (row_of equation)) equations
+
+-- The values of the unknowns before `to`: one with no pivot has its preferred value, and one with a pivot the value that its
+-- pivot asks for with the values before it.
+pub record IsSolvedTo (m n to : ℕ) (pivots : List (Option (List ℕ))) (prefer values : List ℕ) : Type 0 where
+  pub size : length values ≡ to
+  pub below : All (λ value. value < m) values
+  pub free : (place : ℕ) → place < to → get_or pivots place None ≡ None → get_or values place 0 ≡ get_or prefer place 0
+  pub fixed : (place : ℕ) (row : List ℕ) → place < to → get_or pivots place None ≡ Some row
+      → (total place (λ k. get_or row k 0 * get_or values k 0) + get_or values place 0) % m ≡ get_or row n 0 % m

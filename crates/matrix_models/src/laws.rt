@@ -1,0 +1,11 @@
+ghost use Rattle.matrix_models.specs.Greedy.{GreedySolutionIsUnique, SolvableSystemsHaveAGreedySolution};
+
+/// A system and preferred values have at most one greedy solution.
+pub fn greedy_solution_is_unique()
+    ensures { GreedySolutionIsUnique }
+{}
+
+/// Each system that has a solution has a greedy one, whatever values are preferred.
+pub fn solvable_systems_have_a_greedy_solution()
+    ensures { SolvableSystemsHaveAGreedySolution }
+{}
