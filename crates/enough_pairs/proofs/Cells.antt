@@ -1,5 +1,5 @@
 -- Each ambiguity has a place in the square over its overlap word, and no two ambiguities of rules with distinct leading words have the same.
-use Rattle.std.proofs.Common.{◌≡◌, ℕ, ◌+◌, ◌-◌, ◌≤◌, ◌<◌, suc, refl, arith, subst, sym, ap, ap₂, ◌∙◌, List, [], ◌∷◌, ◌++◌, map, length, take, drop, Some, append_assoc}
+use Rattle.std.proofs.Common.{◌≡◌, ℕ, ◌+◌, ◌-◌, ◌≤◌, ◌<◌, suc, refl, arith, subst, sym, ap, ◌∙◌, List, ◌∷◌, ◌++◌, map, length, take, drop, Some, append_assoc}
 use Rattle.std.proofs.lemmas.List.{length-append, length-map, take_at, drop_at}
 use Rattle.definitions.specs.Poly.{Word}
 use Rattle.word_core.specs.Occurrence.{OccursAt}

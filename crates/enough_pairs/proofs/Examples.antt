@@ -1,8 +1,10 @@
 -- Numbers of pairs that are counted by hand, and claims that have enough.
-use Rattle.std.proofs.Common.{◌≡◌, ◌≢◌, ℕ, ◌≤◌, pos, IsTrue, List, [], ◌∷◌, ◌++◌, refl, sym, ap, ◌∙◌, subst, arith, append-nil}
+use Rattle.std.proofs.Common.{◌≡◌, ◌≢◌, ℕ, ◌≤◌, pos, IsTrue, List, [], ◌∷◌, ◌++◌, length, map, take, refl, sym, ap, ◌∙◌, subst, arith, append-nil}
 use Rattle.std.proofs.lemmas.Int.{ints}
+use Rattle.std.specs.List.{range_with_len}
 use Rattle.definitions.specs.Poly.{Term, coefficient_of, poly_multiple, poly_between}
 use Rattle.definitions.specs.Combination.{generator_at}
+use Rattle.word_core.specs.Overlap.{overlap_places}
 use Rattle.word_orders.specs.declared.any.OrderSpec.TheVariants as asked
 use Rattle.word_orders.specs.Specified.{asked_cmp}
 use Rattle.cofactor_trace.proofs.Between.{between-nothing}
@@ -22,9 +24,15 @@ one_letter = refl
 two_letters : short_ambiguities 2 2 ≡ 18
 two_letters = refl
 
--- Thirty-four times one letter overlaps itself at 33 places, in words of 35 to 67 letters.
-overlaps_of_34 : 33 ≤ short_ambiguities 1 67
-overlaps_of_34 = omega arith
+-- Thirty-four times one letter overlaps itself at 33 places, in words of 35 to 67 letters: one of each length, where the count has its square.
+abbrev thirty_four : List ℕ
+thirty_four = map (λ n. 0) (range_with_len 0 34)
+
+overlaps_of_34 : map (λ place. length (take place thirty_four ++ thirty_four)) (overlap_places thirty_four thirty_four) ≡ range_with_len 35 33
+overlaps_of_34 = refl
+
+are_few : 33 ≤ short_ambiguities 1 67
+are_few = omega arith
 
 -- a claim that is a generator has enough in a budget of as many pairs as are enough for a word above its words
 module _ (problem : Problem) (order : problem.parts.order ≡ asked.Degree) (number n : ℕ) (word : List ℕ) (same : claim_at problem number ≡ generator_at (polynomials problem.generators) n)

@@ -1,18 +1,17 @@
 -- The generators of a problem have letters in play, and so have the overlap words of the rules of its runs.
-use Rattle.std.proofs.Common.{◌≡◌, ℕ, zero, suc, ◌+◌, ◌-◌, ◌≤◌, ◌<◌, ◌⊎◌, inl, inr, ℤ, negsuc, Bool, true, false, cond, ◌&&◌, ◌||◌, List, [], ◌∷◌, ◌++◌, length, refl, sym, ap, subst, ◌∙◌, arith, ltb, leb, eqb, lt-ltb, ltb-true, eq-eqb}
-use Rattle.std.specs.List.{All, AllZip, AllByRecursion, Contains, filter, flat_map, list_all, list_any, range_with_len}
+use Rattle.std.proofs.Common.{◌≡◌, ℕ, zero, suc, ◌+◌, ◌-◌, ◌≤◌, ◌<◌, ◌⊎◌, inl, inr, negsuc, Bool, true, false, cond, ◌||◌, List, [], ◌∷◌, ◌++◌, refl, sym, ap, subst, ◌∙◌, arith, ltb, leb, eqb, lt-ltb, ltb-true, eq-eqb}
+use Rattle.std.specs.List.{All, AllZip, AllByRecursion, filter, flat_map, list_all, list_any, range_with_len}
 use Rattle.std.proofs.lemmas.Bool.{and_from, and_parts, cases_lt}
 use Rattle.std.proofs.lemmas.List.Elements.{All-from_recursion, recursion_from_All}
 use Rattle.std.proofs.lemmas.List.Folds.{list_all-append}
 use Rattle.definitions.specs.Poly.{Term, SamePolynomial, poly_eq, poly_multiple}
 use Rattle.definitions.specs.Quiver.{Quiver, IsQuiver, letters, source, target, star}
-use Rattle.definitions.specs.Generators.{adjoint_word, adjoint_poly, new_adjoint, left_unit, right_unit, letter_units, units, generators_of}
+use Rattle.definitions.specs.Generators.{adjoint_word, adjoint_poly, new_adjoint, left_unit, right_unit, letter_units, units}
 use Rattle.definitions.proofs.StarSound.{all-append}
-use Rattle.word_core.specs.declared.letter.Object.{Object}
 use Rattle.nc_polynomial.specs.declared.poly.Poly.{Poly}
-use Rattle.quiver.specs.Declarations.{Declaration, object_count, letter_count, quiver_of}
+use Rattle.quiver.specs.Declarations.{letter_count, quiver_of}
 use Rattle.quiver.proofs.Counts.{letters-quiver_of}
-use Rattle.rule_reduce.specs.KeptWords.{IsInPlay as AreInPlay, IsPolyInPlay}
+use Rattle.rule_reduce.specs.KeptWords.{IsInPlay as AreInPlay}
 use Rattle.rule_reduce.proofs.WordsKept.{words_with_coefficients}
 use Rattle.adjoint_rules.specs.declared.parts.Parts.{Parts}
 use Rattle.adjoint_rules.specs.declared.problem.Problem.{Problem}
@@ -22,7 +21,7 @@ use Rattle.run_laws.specs.KeptRuns.{IsGenerator}
 use Rattle.run_laws.proofs.Turns.{contains_number}
 use Rattle.outcome_meanings.proofs.ProblemPolynomials.{any_letter, generators_are}
 use Rattle.enough_pairs.specs.Enough.{letters_in_play}
-use Rattle.enough_pairs.proofs.Pigeons.{Member, here, there, member_which, member_from_contains}
+use Rattle.enough_pairs.proofs.Pigeons.{Member, here, there, member_from_contains}
 use Rattle.enough_pairs.proofs.Squares.{AllIn}
 
 -- ---- lists
@@ -113,10 +112,10 @@ module _ (p : Parts) (posed : IsPosed p) where
 
   -- ---- the relations of identities
   left_words : (v a : ℕ) → play v ≡ true → play a ≡ true → Words (left_unit v a)
-  left_words v a one two = let rest = and_from (play a) true two refl in (and_from (play v) _ one rest, rest, tt)
+  left_words v a one two = let rest = and_from (play a) true two refl in (and_from (play v) _ one rest, (rest, tt))
 
   right_words : (v a : ℕ) → play v ≡ true → play a ≡ true → Words (right_unit v a)
-  right_words v a one two = (and_from (play a) _ two (and_from (play v) true one refl), and_from (play a) true two refl, tt)
+  right_words v a one two = (and_from (play a) _ two (and_from (play v) true one refl), (and_from (play a) true two refl, tt))
 
   letter_words : (v a : ℕ) → play v ≡ true → q.objects ≤ a → a < letters q → AllByRecursion Words (letter_units q p.starred v a)
   letter_words v a one map inside = outer (p.starred || leb a (star q a)) refl
@@ -211,8 +210,7 @@ module _ (problem : Problem) where
   all_in [] is = tt
   all_in (a ∷ w) is =
       let parts = and_parts (problem_play a) (list_all problem_play w) is in
-      let inside = ltb-true a (letter_count problem.parts.quiver) (and_parts (ltb a (letter_count problem.parts.quiver)) _ parts.0).0 in
-      (
+      let inside = ltb-true a (letter_count problem.parts.quiver) (and_parts (ltb a (letter_count problem.parts.quiver)) _ parts.0).0 in (
         member_filter problem_play a (range_with_len 0 (letter_count problem.parts.quiver))
             (member_from_contains (range_with_len 0 (letter_count problem.parts.quiver)) a (contains_number 0 (letter_count problem.parts.quiver) a (omega arith) (omega (arith, inside)))) parts.0,
         all_in w parts.1,

@@ -1,6 +1,5 @@
 -- A claim that follows below a word gets past the budget of pairs where that has enough for the word.
-use Rattle.std.proofs.Common.{◌≡◌, ◌⊎◌, inl, inr, ◌≤◌, ◌<◌, ◌-◌, ◌*◌, ℕ, zero, suc, true, List, [], ◌∷◌, ◌++◌, length, take, min, Result, Ok, Err, Some, Contains, refl, sym, ap, ◌∙◌, subst, arith, append-nil}
-use Rattle.std.specs.List.{AllZip}
+use Rattle.std.proofs.Common.{◌≡◌, ◌⊎◌, inl, inr, ◌≤◌, ◌<◌, ◌-◌, ℕ, zero, suc, List, [], ◌∷◌, ◌++◌, length, take, min, Result, Ok, Err, Some, Contains, refl, sym, ap, ◌∙◌, subst, arith, append-nil}
 use Rattle.std.specs.declared.cmp.Ordering.TheVariants.{Less}
 use Rattle.std.proofs.lemmas.Bool.{cases_lt}
 use Rattle.std.proofs.lemmas.List.{length-map, length-take}
@@ -20,7 +19,6 @@ use Rattle.cofactor_trace.specs.declared.fault.ExpandFault.TheVariants as expand
 use Rattle.cofactor_trace.specs.declared.fault.GatherFault.{GatherFault}
 use Rattle.cofactor_trace.specs.declared.fault.GatherFault.TheVariants as gather
 use Rattle.cofactor_trace.specs.declared.halt.Cause.{Cause}
-use Rattle.cofactor_trace.specs.declared.halt.Cause.TheVariants as cause
 use Rattle.cofactor_trace.specs.declared.halt.Place.{Place}
 use Rattle.cofactor_trace.specs.declared.halt.Place.TheVariants as place
 use Rattle.cofactor_trace.specs.declared.halt.Halt.{Halt}
@@ -37,7 +35,6 @@ use Rattle.rule_reduce.proofs.AtMost.{leading-all}
 use Rattle.rule_reduce.proofs.Numbers.{rule_at-all}
 use Rattle.ambiguities.specs.declared.ambiguity.Ambiguity.{Ambiguity}
 use Rattle.ambiguities.specs.Ambiguities.{IsAmbiguity, overlap_word_of}
-use Rattle.word_orders.specs.Orders.{IsBelow}
 use Rattle.adjoint_rules.specs.declared.problem.Problem.{Problem}
 use Rattle.completion_laws.specs.Kept.{AreApart}
 use Rattle.completion_laws.specs.Conclusions.{NothingPendingBelow}
@@ -50,9 +47,8 @@ use Rattle.traced_completion.specs.PlainRun.{Setting, RunState, stopped, IsRound
 use Rattle.traced_completion.proofs.Ascending.{contains-first}
 use Rattle.traced_completion.proofs.StoreLemmas.{pending-over}
 use Rattle.claim_decider.specs.declared.outcome.Outcome.{Outcome}
-use Rattle.claim_decider.specs.declared.outcome.Outcome.TheVariants as outcome
 use Rattle.claim_decider.specs.Outcomes.{IsOpen, IsHalted, IsCauseOfExpansion, IsCauseOfGathering, Expands, Gathers, IsProved, IsDoneBy, IsDoneWith, record_of, GetsOutcome, at_once, after_round, by_closing, by_stop}
-use Rattle.claim_decider.specs.Decided.{claim_at, AreOutcomesOf}
+use Rattle.claim_decider.specs.Decided.{claim_at}
 use Rattle.run_laws.specs.KeptRuns.{done_after, IsKeptState}
 use Rattle.run_laws.proofs.LaterRounds.{BeginsWith}
 use Rattle.run_laws.proofs.WholeRuns.{runs_are_kept, first_is_least_pending}
@@ -63,7 +59,7 @@ use Rattle.enough_pairs.specs.Enough.{letters_in_play, enough_pairs, IsShownBelo
 use Rattle.enough_pairs.proofs.Cells.{HaveDistinctLeads, IsShort, short_are_few}
 use Rattle.enough_pairs.proofs.Counting.{HasFirsts, none_taken, firsts_weaker, distinct_more, asked_more, firsts_more}
 use Rattle.enough_pairs.proofs.LettersInPlay.{problem_play, generators_in_play, all_in}
-use Rattle.enough_pairs.proofs.Rounds.{took_first, zero_treats_none, NotPairs, fault_not_pairs, zero_not_pairs, later_not_pairs}
+use Rattle.enough_pairs.proofs.Rounds.{took_first, zero_treats_none, NotPairs, not_pairs, fault_not_pairs, zero_not_pairs, later_not_pairs}
 
 -- ---- leading words
 leads_apart : (letters : ℕ) (compare : Compare) (rules : List Rule) → AreApart rules → ((n : ℕ) (g : Rule) → rule_at rules n ≡ Some g → IsRule letters compare g) → HaveDistinctLeads rules
@@ -159,8 +155,12 @@ module _ (problem : Problem) (budget : Budget) (number : ℕ) (word : List ℕ) 
         go (inl same) = absurd (none_below (subst (NothingPendingBelow letters compare s.rules s.treated) same least))
         go (inr (inl less)) = less
         go (inr (inr above)) = absurd (none_below (λ a is new below. least a is new
-            (record { left = below.left; right = over; less = subst (λ c. c (overlap_word_of s.rules a) w.word ≡ Less) (sym canonical)
-                (word_cmp-less_trans (overlap_word_of s.rules a) word w.word (subst (λ c. c (overlap_word_of s.rules a) word ≡ Less) canonical below.less) above) })))
+            (record {
+              left = below.left;
+              right = over;
+              less = subst (λ c. c (overlap_word_of s.rules a) w.word ≡ Less) (sym canonical)
+                  (word_cmp-less_trans (overlap_word_of s.rules a) word w.word (subst (λ c. c (overlap_word_of s.rules a) word ≡ Less) canonical below.less) above);
+            })))
 
   -- ---- rounds
   small : (pairs treated pending : ℕ) → min 32 (min (pairs - treated) pending) ≤ 32
@@ -203,30 +203,15 @@ open_runs_treat_few problem budget number word rounds s shown opened = few probl
 
 -- ---- causes of certificates
 expansion_not_pairs : (e : ExpandFault) (c : Cause) → IsCauseOfExpansion e c → NotPairs c
-expansion_not_pairs (expand.Overflow o) c is spent same = clash (sym is ∙ same)
-  where
-    clash : cause.Overflow o ≡ cause.Pairs spent → ⊥
-    clash e = cc
-expansion_not_pairs (expand.Rows letters) c is spent same = clash (sym is ∙ same)
-  where
-    clash : cause.Rows letters ≡ cause.Pairs spent → ⊥
-    clash e = cc
-expansion_not_pairs expand.Size c is spent same = clash (sym is ∙ same)
-  where
-    clash : cause.Size true ≡ cause.Pairs spent → ⊥
-    clash e = cc
-expansion_not_pairs (expand.Memory e) c is spent same = absurd is
+expansion_not_pairs (expand.Overflow o) c is = not_pairs c _ refl is
+expansion_not_pairs (expand.Rows passed) c is = not_pairs c _ refl is
+expansion_not_pairs expand.Size c is = not_pairs c _ refl is
+expansion_not_pairs (expand.Memory e) c is = absurd is
 
 gathering_not_pairs : (e : GatherFault) (c : Cause) → IsCauseOfGathering e c → NotPairs c
-gathering_not_pairs (gather.Overflow o) c is spent same = clash (sym is ∙ same)
-  where
-    clash : cause.Overflow o ≡ cause.Pairs spent → ⊥
-    clash e = cc
-gathering_not_pairs (gather.Rows letters) c is spent same = clash (sym is ∙ same)
-  where
-    clash : cause.Rows letters ≡ cause.Pairs spent → ⊥
-    clash e = cc
-gathering_not_pairs (gather.Memory e) c is spent same = absurd is
+gathering_not_pairs (gather.Overflow o) c is = not_pairs c _ refl is
+gathering_not_pairs (gather.Rows passed) c is = not_pairs c _ refl is
+gathering_not_pairs (gather.Memory e) c is = absurd is
 
 -- ---- outcomes
 halted_past : (IsCause : Cause → Type 0) (at : Place) (o : Outcome) → ((c : Cause) → IsCause c → NotPairs c) → IsHalted IsCause at o → IsPastPairs o

@@ -1,5 +1,5 @@
 -- Distinct members of a list are no more than its places.
-use Rattle.std.proofs.Common.{◌≡◌, ◌≢◌, ◌≤◌, ℕ, zero, suc, ◌⊎◌, inl, inr, refl, arith, sym, subst, ap, ◌∙◌, List, [], ◌∷◌, ◌++◌, map, length}
+use Rattle.std.proofs.Common.{◌≡◌, ◌≢◌, ◌≤◌, zero, suc, ◌⊎◌, inl, inr, refl, arith, sym, subst, ap, ◌∙◌, List, [], ◌∷◌, ◌++◌, map, length}
 use Rattle.std.specs.List.{Contains, flat_map}
 
 pub data Member {A : Type 0} (x : A) : List A → Type 0 where

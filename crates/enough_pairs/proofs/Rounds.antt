@@ -1,5 +1,5 @@
 -- What a later round that was made whole took, and what was treated where a run stops for want of pairs.
-use Rattle.std.proofs.Common.{◌≡◌, ◌≢◌, ◌≤◌, ◌<◌, ℕ, suc, Bool, true, false, List, [], ◌∷◌, ◌++◌, map, length, take, nat_le, Option, Some, None, Result, Ok, Err, refl, sym, ap, ◌∙◌, subst, arith, append-nil}
+use Rattle.std.proofs.Common.{◌≡◌, ◌≢◌, ◌<◌, ℕ, suc, Bool, true, false, List, [], ◌∷◌, ◌++◌, map, length, take, nat_le, Option, Some, None, Result, Ok, Err, refl, sym, ap, ◌∙◌, subst, arith, append-nil}
 use Rattle.std.proofs.lemmas.Bool.{leb-true, leb-false}
 use Rattle.cofactor_trace.specs.declared.halt.Cause.{Cause}
 use Rattle.cofactor_trace.specs.declared.halt.Cause.TheVariants as cause
@@ -18,6 +18,7 @@ use Rattle.traced_completion.specs.PlainRun.{Setting, RunState, went, closed, st
 use Rattle.run_laws.proofs.RunsKept.{no_value, same_value}
 use Rattle.run_laws.proofs.LaterRounds.{BeginsWith, begins_with}
 use Rattle.run_laws.proofs.WholeRuns.{ended}
+use Rattle.outcome_meanings.proofs.OpenRuns.{same_halt, not_went, not_closed}
 
 -- ---- rules
 turns_begin : (compare : Compare) (rules : List Rule) (works : List Work) (before after : Recorded) → BeginsWith rules before.rules → InTurn compare works before (Ok after) → BeginsWith rules after.rules
@@ -57,15 +58,15 @@ module _ (setting : Setting) (n : ℕ) (s after : RunState) where
   pub took_first : IsRound setting (suc n) s (went after) → TookFirst setting s after
   took_first round = go round.pending round.all_pending round.treats
     where
-      not_closed : went after ≡ closed → ⊥
-      not_closed e = cc
+      never_closed : went after ≡ closed → ⊥
+      never_closed e = cc
 
-      not_stopped : {h : Halt} → went after ≡ stopped h → ⊥
-      not_stopped e = cc
+      never_stopped : {h : Halt} → went after ≡ stopped h → ⊥
+      never_stopped e = cc
 
       by_pairs : (w : Waiting) (ws : List Waiting) → AreAllPending setting.compare s.rules s.treated (w ∷ ws) → (b : Bool) → nat_le setting.budget.pairs (length s.treated) ≡ b
           → TreatsFirst setting (suc n) s w.word (w ∷ ws) b (went after) → TookFirst setting s after
-      by_pairs w ws all true spent treats = absurd (not_stopped treats)
+      by_pairs w ws all true spent treats = absurd (never_stopped treats)
       by_pairs w ws all false left treats =
           let taken = ambiguities_of (take (taken_count setting.budget s (w ∷ ws)) (w ∷ ws)) in
           record {
@@ -78,7 +79,7 @@ module _ (setting : Setting) (n : ℕ) (s after : RunState) where
           }
 
       go : (ws : List Waiting) → AreAllPending setting.compare s.rules s.treated ws → TreatsPending setting (suc n) s ws (went after) → TookFirst setting s after
-      go [] all treats = absurd (not_closed treats)
+      go [] all treats = absurd (never_closed treats)
       go (w ∷ ws) all treats = by_pairs w ws all (nat_le setting.budget.pairs (length s.treated)) refl treats
 
 -- round 0 treats none
@@ -90,29 +91,27 @@ zero_treats_none setting s after round = ap (λ (t : RunState). t.treated) (ende
 abbrev pub NotPairs : Cause → Type 0
 NotPairs c = (spent : ℕ) → c ≢ cause.Pairs spent
 
-pub fault_not_pairs : (e : ReduceFault) (c : Cause) → IsCauseOf e c → NotPairs c
-fault_not_pairs (fault.Steps limit) c is spent same = clash (sym is ∙ same)
-  where
-    clash : cause.Steps limit ≡ cause.Pairs spent → ⊥
-    clash e = cc
-fault_not_pairs (fault.Overflow o) c is spent same = clash (sym is ∙ same)
-  where
-    clash : cause.Overflow o ≡ cause.Pairs spent → ⊥
-    clash e = cc
-fault_not_pairs (fault.Size s) c is spent same = clash (sym is ∙ same)
-  where
-    clash : cause.Size s.letters ≡ cause.Pairs spent → ⊥
-    clash e = cc
-fault_not_pairs (fault.Memory e) c is spent same = absurd is
+abbrev pub is_pairs : Cause → Bool
+is_pairs (cause.Pairs spent) = true
+is_pairs (cause.Steps limit) = false
+is_pairs (cause.Size letters) = false
+is_pairs (cause.Rows letters) = false
+is_pairs (cause.Overflow o) = false
 
-same_halt : (h k : Halt) → stopped h ≡ stopped k → h ≡ k
-same_halt h k e = cc
+pub not_pairs : (c d : Cause) → is_pairs d ≡ false → c ≡ d → NotPairs c
+not_pairs c d other is spent same = clash (sym other ∙ ap is_pairs (sym is ∙ same))
+  where
+    clash : false ≡ true → ⊥
+    clash e = cc
+
+pub fault_not_pairs : (e : ReduceFault) (c : Cause) → IsCauseOf e c → NotPairs c
+fault_not_pairs (fault.Steps limit) c is = not_pairs c _ refl is
+fault_not_pairs (fault.Overflow o) c is = not_pairs c _ refl is
+fault_not_pairs (fault.Size s) c is = not_pairs c _ refl is
+fault_not_pairs (fault.Memory e) c is = absurd is
 
 given_up : (number : ℕ) (least : Option (List ℕ)) (treated : List Ambiguity) (r : Result Recorded ReduceFault) (h : Halt) → Ends number least treated r (stopped h) → NotPairs h.cause
-given_up number least treated (Ok r) h ends = absurd (wrong ends)
-  where
-    wrong : {t : RunState} → stopped h ≡ went t → ⊥
-    wrong e = cc
+given_up number least treated (Ok r) h ends = absurd (not_went h _ ends)
 given_up number least treated (Err e) h ends = subst NotPairs (sym (ap (λ (k : Halt). k.cause) (same_halt h _ ends.stops))) (fault_not_pairs e ends.reason ends.reason_of)
 
 pub zero_not_pairs : (setting : Setting) (s : RunState) (h : Halt) → IsRound setting 0 s (stopped h) → NotPairs h.cause
@@ -122,13 +121,10 @@ zero_not_pairs setting s h round = given_up 0 None s.treated round.result h roun
 pub later_not_pairs : (setting : Setting) (n : ℕ) (s : RunState) (h : Halt) → length s.treated < setting.budget.pairs → IsRound setting (suc n) s (stopped h) → NotPairs h.cause
 later_not_pairs setting n s h few round = go round.pending round.treats
   where
-    not_closed : stopped h ≡ closed → ⊥
-    not_closed e = cc
-
     by_pairs : (w : Waiting) (ws : List Waiting) (b : Bool) → nat_le setting.budget.pairs (length s.treated) ≡ b → TreatsFirst setting (suc n) s w.word (w ∷ ws) b (stopped h) → NotPairs h.cause
     by_pairs w ws true spent treats = absurd (omega (arith, few, leb-true setting.budget.pairs (length s.treated) spent))
     by_pairs w ws false left treats = given_up (suc n) (Some w.word) (s.treated ++ ambiguities_of (take (taken_count setting.budget s (w ∷ ws)) (w ∷ ws))) treats.result h treats.ends
 
     go : (ws : List Waiting) → TreatsPending setting (suc n) s ws (stopped h) → NotPairs h.cause
-    go [] treats = absurd (not_closed treats)
+    go [] treats = absurd (not_closed h treats)
     go (w ∷ ws) treats = by_pairs w ws (nat_le setting.budget.pairs (length s.treated)) refl treats

@@ -54,13 +54,13 @@ some_nonzero (t ∷ p) shaped some = record {
 }
 
 -- ---- stops
-same_halt : (h k : Halt) → stopped h ≡ stopped k → h ≡ k
+pub same_halt : (h k : Halt) → stopped h ≡ stopped k → h ≡ k
 same_halt h k e = cc
 
-not_went : (h : Halt) (s : RunState) → stopped h ≡ went s → ⊥
+pub not_went : (h : Halt) (s : RunState) → stopped h ≡ went s → ⊥
 not_went h s e = cc
 
-not_closed : (h : Halt) → stopped h ≡ closed → ⊥
+pub not_closed : (h : Halt) → stopped h ≡ closed → ⊥
 not_closed h e = cc
 
 no_word : (word : List ℕ) → ◌≡◌ {A = Option (List ℕ)} None (Some word) → ⊥
