@@ -2,7 +2,9 @@ pub mod Pigeons
 pub mod Squares
 pub mod Cells
 pub mod LettersInPlay
-pub mod Rounds
 pub mod Counting
-pub mod Past
+pub mod Rounds
+pub mod FewTreated
+pub mod Stops
+pub mod Outcomes
 mod Examples

@@ -1,5 +1,6 @@
--- A claim that follows below a word gets past the budget of pairs where that has enough for the word.
-use Rattle.std.proofs.Common.{◌≡◌, ◌⊎◌, inl, inr, ◌≤◌, ◌<◌, ◌-◌, ℕ, zero, suc, List, [], ◌∷◌, ◌++◌, length, take, min, Result, Ok, Err, Some, Contains, refl, sym, ap, ◌∙◌, subst, arith, append-nil}
+-- While a claim that follows below a word is open, fewer pairs were treated than are enough for the word.
+use Rattle.std.proofs.Common.{◌≡◌, ◌⊎◌, inl, inr, ◌≤◌, ◌<◌, ◌-◌, ℕ, zero, suc, List, [], ◌∷◌, ◌++◌, length, take, min, Some, Contains, refl, sym, ap, ◌∙◌, subst, arith, append-nil}
+use Rattle.std.specs.List.{All}
 use Rattle.std.specs.declared.cmp.Ordering.TheVariants.{Less}
 use Rattle.std.proofs.lemmas.Bool.{cases_lt}
 use Rattle.std.proofs.lemmas.List.{length-map, length-take}
@@ -10,27 +11,9 @@ use Rattle.word_core.specs.Letters.{IsOver}
 use Rattle.word_core.proofs.Order.{word_cmp-cases, word_cmp-less_trans, word_cmp-length}
 use Rattle.word_orders.specs.Admissible.{Compare}
 use Rattle.word_orders.specs.Specified.{asked_cmp}
-use Rattle.cofactor_trace.specs.declared.Cofactors.{Cofactors}
-use Rattle.cofactor_trace.specs.declared.evidence.Format.{Format}
-use Rattle.cofactor_trace.specs.declared.evidence.Format.TheVariants as format
-use Rattle.cofactor_trace.specs.declared.evidence.LemmaCertificate.{LemmaCertificate}
-use Rattle.cofactor_trace.specs.declared.fault.ExpandFault.{ExpandFault}
-use Rattle.cofactor_trace.specs.declared.fault.ExpandFault.TheVariants as expand
-use Rattle.cofactor_trace.specs.declared.fault.GatherFault.{GatherFault}
-use Rattle.cofactor_trace.specs.declared.fault.GatherFault.TheVariants as gather
-use Rattle.cofactor_trace.specs.declared.halt.Cause.{Cause}
-use Rattle.cofactor_trace.specs.declared.halt.Place.{Place}
-use Rattle.cofactor_trace.specs.declared.halt.Place.TheVariants as place
-use Rattle.cofactor_trace.specs.declared.halt.Halt.{Halt}
-use Rattle.cofactor_trace.specs.Needed.{expansion_of}
-use Rattle.cofactor_trace.specs.Lemmas.{gathered_of}
-use Rattle.cofactor_trace.specs.declared.Made.{Made}
 use Rattle.quiver.specs.Declarations.{letter_count, quiver_of}
 use Rattle.rule_reduce.specs.declared.rule.Rule.{Rule}
-use Rattle.rule_reduce.specs.declared.state.State.{State}
-use Rattle.rule_reduce.specs.declared.fault.ReduceFault.{ReduceFault}
 use Rattle.rule_reduce.specs.RuleLists.{IsRule, rule_at}
-use Rattle.rule_reduce.specs.NormalForms.{normal_form_of}
 use Rattle.rule_reduce.proofs.AtMost.{leading-all}
 use Rattle.rule_reduce.proofs.Numbers.{rule_at-all}
 use Rattle.ambiguities.specs.declared.ambiguity.Ambiguity.{Ambiguity}
@@ -43,31 +26,30 @@ use Rattle.completion_laws.proofs.TypedLaws.{overlap_in_play}
 use Rattle.traced_completion.specs.declared.budget.Budget.{Budget}
 use Rattle.traced_completion.specs.declared.pending.waiting.Waiting.{Waiting}
 use Rattle.traced_completion.specs.Pending.{AreAllPending, ambiguities_of}
-use Rattle.traced_completion.specs.PlainRun.{Setting, RunState, stopped, IsRound, IsRunState, taken_count, setting_of}
+use Rattle.traced_completion.specs.PlainRun.{Setting, RunState, IsRunState, taken_count, setting_of}
 use Rattle.traced_completion.proofs.Ascending.{contains-first}
 use Rattle.traced_completion.proofs.StoreLemmas.{pending-over}
-use Rattle.claim_decider.specs.declared.outcome.Outcome.{Outcome}
-use Rattle.claim_decider.specs.Outcomes.{IsOpen, IsHalted, IsCauseOfExpansion, IsCauseOfGathering, Expands, Gathers, IsProved, IsDoneBy, IsDoneWith, record_of, GetsOutcome, at_once, after_round, by_closing, by_stop}
+use Rattle.claim_decider.specs.Outcomes.{IsOpen}
 use Rattle.claim_decider.specs.Decided.{claim_at}
 use Rattle.run_laws.specs.KeptRuns.{done_after, IsKeptState}
 use Rattle.run_laws.proofs.LaterRounds.{BeginsWith}
 use Rattle.run_laws.proofs.WholeRuns.{runs_are_kept, first_is_least_pending}
 use Rattle.outcome_meanings.proofs.AskedOrders.{asked_rank}
-use Rattle.outcome_meanings.proofs.OpenRuns.{order_laws, open_run, open_not_below, closed_outside}
+use Rattle.outcome_meanings.proofs.OpenRuns.{order_laws, open_run, open_not_below}
 use Rattle.outcome_meanings.proofs.ProblemPolynomials.{turns_in_range}
-use Rattle.enough_pairs.specs.Enough.{letters_in_play, enough_pairs, IsShownBelow, HasEnough, IsPastPairs, OpenRunsTreatFew, PairsAreEnough, PairsAreEnoughForEach}
+use Rattle.enough_pairs.specs.Enough.{letters_in_play, enough_pairs, IsShownBelow, OpenRunsTreatFew}
 use Rattle.enough_pairs.proofs.Cells.{HaveDistinctLeads, IsShort, short_are_few}
 use Rattle.enough_pairs.proofs.Counting.{HasFirsts, none_taken, firsts_weaker, distinct_more, asked_more, firsts_more}
 use Rattle.enough_pairs.proofs.LettersInPlay.{problem_play, generators_in_play, all_in}
-use Rattle.enough_pairs.proofs.Rounds.{took_first, zero_treats_none, NotPairs, not_pairs, fault_not_pairs, zero_not_pairs, later_not_pairs}
+use Rattle.enough_pairs.proofs.Rounds.{took_first, zero_treats_none}
 
 -- ---- leading words
-leads_apart : (letters : ℕ) (compare : Compare) (rules : List Rule) → AreApart rules → ((n : ℕ) (g : Rule) → rule_at rules n ≡ Some g → IsRule letters compare g) → HaveDistinctLeads rules
+leads_apart : (letters : ℕ) (compare : Compare) (rules : List Rule) → AreApart rules → All (IsRule letters compare) rules → HaveDistinctLeads rules
 leads_apart letters compare rules apart are = record { nonempty = some; distinct = same }
   where
     some : (n : ℕ) (g : Rule) → rule_at rules n ≡ Some g → 0 < length g.lead
     some n g numbered =
-        let is = are n g numbered in
+        let is = rule_at-all (IsRule letters compare) rules n g numbered are in
         leading-all (λ t. 0 < length t.1) compare g.poly.terms (g.leading, g.lead) is.leading (recursion_from_All (λ (t : Term). 0 < length t.1) g.poly.terms is.nonempty)
 
     earlier : (i j : ℕ) (g h : Rule) → rule_at rules i ≡ Some g → rule_at rules j ≡ Some h → g.lead ≡ h.lead → i < j → ⊥
@@ -119,7 +101,7 @@ module _ (problem : Problem) (budget : Budget) (number : ℕ) (word : List ℕ) 
     now = kept (suc n) s (open_run setting claim (suc n) s opened)
 
     leads : HaveDistinctLeads s.rules
-    leads = leads_apart letters compare s.rules now.kept.apart (λ i g numbered. rule_at-all (IsRule letters compare) s.rules i g numbered now.kept.are_rules)
+    leads = leads_apart letters compare s.rules now.kept.apart now.kept.are_rules
 
     short : (a : Ambiguity) → IsAsked s.rules a → IsShort s.rules (letters_in_play problem) (length word) a
     short a asked = record {
@@ -200,66 +182,3 @@ module _ (problem : Problem) (budget : Budget) (number : ℕ) (word : List ℕ) 
 
 pub open_runs_treat_few : OpenRunsTreatFew
 open_runs_treat_few problem budget number word rounds s shown opened = few problem budget number word shown rounds s opened
-
--- ---- causes of certificates
-expansion_not_pairs : (e : ExpandFault) (c : Cause) → IsCauseOfExpansion e c → NotPairs c
-expansion_not_pairs (expand.Overflow o) c is = not_pairs c _ refl is
-expansion_not_pairs (expand.Rows passed) c is = not_pairs c _ refl is
-expansion_not_pairs expand.Size c is = not_pairs c _ refl is
-expansion_not_pairs (expand.Memory e) c is = absurd is
-
-gathering_not_pairs : (e : GatherFault) (c : Cause) → IsCauseOfGathering e c → NotPairs c
-gathering_not_pairs (gather.Overflow o) c is = not_pairs c _ refl is
-gathering_not_pairs (gather.Rows passed) c is = not_pairs c _ refl is
-gathering_not_pairs (gather.Memory e) c is = absurd is
-
--- ---- outcomes
-halted_past : (IsCause : Cause → Type 0) (at : Place) (o : Outcome) → ((c : Cause) → IsCause c → NotPairs c) → IsHalted IsCause at o → IsPastPairs o
-halted_past IsCause at o other halted = subst IsPastPairs (sym halted.halts) (other halted.reason halted.reason_of)
-
-module _ (number round : ℕ) (made : List Made) (o : Outcome) where
-  expands : (r : Result Cofactors ExpandFault) → Expands number (place.Certificate round) r o → IsPastPairs o
-  expands (Ok c) derived = subst IsPastPairs (sym derived) tt
-  expands (Err e) halted = halted_past (IsCauseOfExpansion e) (place.Certificate round) o (expansion_not_pairs e) halted
-
-  gathers : (r : Result LemmaCertificate GatherFault) → Gathers (place.Certificate round) r o → IsPastPairs o
-  gathers (Ok c) derived = subst IsPastPairs (sym derived) tt
-  gathers (Err e) halted = halted_past (IsCauseOfGathering e) (place.Certificate round) o (gathering_not_pairs e) halted
-
-  proved_past : (form : Format) (claim : Made) → IsProved form number (place.Certificate round) made claim o → IsPastPairs o
-  proved_past format.Plain claim proved = expands (expansion_of made claim) proved
-  proved_past format.Lemmas claim proved = gathers (gathered_of number made claim) proved
-
-  done_with : (form : Format) (left : State) (rest : List Term) → IsDoneWith form number round made left rest o → IsPastPairs o
-  done_with form left [] proved = proved_past form (record_of left) proved
-  done_with form left (t ∷ rest) done = absurd done
-
-  done_by : (form : Format) (r : Result State ReduceFault) → IsDoneBy form number round made r o → IsPastPairs o
-  done_by form (Ok left) done = done_with form left left.rest done
-  done_by form (Err e) halted = halted_past _ (place.Claim round) o (fault_not_pairs e) halted
-
-module _ (problem : Problem) (budget : Budget) (form : Format) (number : ℕ) (word : List ℕ) (has : HasEnough problem budget number word) where
-  stop_past : (n : ℕ) (s : RunState) (h : Halt) → IsOpen (setting_of problem budget) (claim_at problem number) n s → IsRound (setting_of problem budget) n s (stopped h) → NotPairs h.cause
-  stop_past zero s h opened round = zero_not_pairs (setting_of problem budget) s h round
-  stop_past (suc n) s h opened round =
-      let few = open_runs_treat_few problem budget number word n s has.shown opened in
-      later_not_pairs (setting_of problem budget) n s h (omega (arith, few, has.enough)) round
-
-  gets_past : (rounds : ℕ) (s : RunState) (o : Outcome) → GetsOutcome (setting_of problem budget) form number (claim_at problem number) rounds s o → IsPastPairs o
-  gets_past rounds s o (at_once none first begins derived) = subst IsPastPairs (sym derived) tt
-  gets_past rounds s o (after_round n before count opened round done) = done_by number n s.made o form (normal_form_of (asked_cmp problem.parts.order) s.rules (claim_at problem number) budget.steps) done
-  gets_past rounds s o (by_closing opened round closes) =
-      let follows = has.shown.follows in
-      absurd (closed_outside problem budget number rounds s closes.rest.terms opened round closes.left (record { denominator = follows.denominator; rows = follows.rows; combination = follows.combination.combination }))
-  gets_past rounds s o (by_stop halt opened round stops) = subst IsPastPairs (sym stops) (stop_past rounds s halt opened round)
-
--- ---- the laws
-pub pairs_are_enough : PairsAreEnough
-pairs_are_enough problem budget form number word o has is = gets_past problem budget form number word has is.rounds is.state o is.gets
-
-pub pairs_are_enough_for_each : PairsAreEnoughForEach
-pairs_are_enough_for_each problem budget form [] [] each = tt
-pairs_are_enough_for_each problem budget form [] (o ∷ outcomes) each = absurd each
-pairs_are_enough_for_each problem budget form (n ∷ claims) [] each = absurd each
-pairs_are_enough_for_each problem budget form (n ∷ claims) (o ∷ outcomes) each =
-    ((λ word has. pairs_are_enough problem budget form n word o has each.0), pairs_are_enough_for_each problem budget form claims outcomes each.1)
