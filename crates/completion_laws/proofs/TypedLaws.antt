@@ -19,7 +19,8 @@ use Rattle.rule_reduce.proofs.KeptWordLaws.{types_are_kept, letters_are_kept}
 use Rattle.rule_reduce.proofs.Numbers.{rule_at-all}
 use Rattle.ambiguities.specs.declared.ambiguity.Kind.{Kind}
 use Rattle.ambiguities.specs.declared.ambiguity.Kind.TheVariants.{Overlap, Inclusion}
-use Rattle.ambiguities.specs.Ambiguities.{joined_word, overlap_word_of}
+use Rattle.ambiguities.specs.declared.ambiguity.Ambiguity.{Ambiguity}
+use Rattle.ambiguities.specs.Ambiguities.{IsAmbiguity, joined_word, overlap_word_of}
 use Rattle.ambiguities.specs.SPolynomials.{first_row, second_row}
 use Rattle.ambiguities.proofs.Bounds.{of_either, coefficient_of-s_polynomial}
 use Rattle.ambiguities.proofs.Joined.{overlap_word-is, first_splits, second_splits}
@@ -75,29 +76,34 @@ between_in_play play g l r in_play whole w some = go (between_word l r g.poly.te
     go (inl none) = absurd (some none)
     go (inr (v, is)) = of_word v is (nonzero_or (coefficient_of g.poly.terms v))
 
+-- the letters of the overlap word are letters of the two leading words
+module _ (q : Quiver) (play : ℕ → Bool) (letters : ℕ) (compare : Compare) (rules : List Rule) (are : All (IsRule letters compare) rules) (typed : AreTypedInPlay q play rules) where
+  rule_in_play : (n : ℕ) (g : Rule) → rule_at rules n ≡ Some g → IsPolyInPlay play g.poly.terms
+  rule_in_play n g numbered = (rule_at-all (λ (f : Rule). IsTypedInPlay q play f.poly.terms) rules n g numbered typed).in_play
+
+  pub overlap_in_play : (a : Ambiguity) → IsAmbiguity rules a → IsInPlay play (overlap_word_of rules a)
+  overlap_in_play a is = subst (IsInPlay play) (sym (overlap_word-is rules a is)) (joined a.kind)
+    where
+      lead : (n : ℕ) (g : Rule) → rule_at rules n ≡ Some g → IsInPlay play g.lead
+      lead n g numbered = lead_in_play play letters compare g (rule_at-all (IsRule letters compare) rules n g numbered are) (rule_in_play n g numbered)
+
+      taken : (n : ℕ) (u : Word) → IsInPlay play u → IsInPlay play (take n u)
+      taken n u held = (parts_in_play play (take n u) (drop n u) (subst (IsInPlay play) (sym (take-append-drop n u)) held)).0
+
+      joined : (k : Kind) → IsInPlay play (joined_word k is.first.lead is.second.lead a.place)
+      joined Overlap = joined_in_play play (take a.place is.first.lead) is.second.lead (taken a.place is.first.lead (lead a.i is.first is.first_numbered)) (lead a.j is.second is.second_numbered)
+      joined Inclusion = lead a.i is.first is.first_numbered
+
 pub s_polynomials_stay_typed : SPolynomialsStayTyped
 s_polynomials_stay_typed q play letters compare rules a p are typed is ends =
     let signature = s_polynomials_are_typed q letters compare rules a p are (typed_rules q play rules typed) is ends in
     record { source = signature.source; target = signature.target; typed = signature.typed; in_play = record { at = each } }
   where
     in_play_of : (n : ℕ) (g : Rule) → rule_at rules n ≡ Some g → IsPolyInPlay play g.poly.terms
-    in_play_of n g numbered = (rule_at-all (λ (f : Rule). IsTypedInPlay q play f.poly.terms) rules n g numbered typed).in_play
-
-    one : IsInPlay play is.first.lead
-    one = lead_in_play play letters compare is.first (rule_at-all (IsRule letters compare) rules a.i is.first is.first_numbered are) (in_play_of a.i is.first is.first_numbered)
-
-    two : IsInPlay play is.second.lead
-    two = lead_in_play play letters compare is.second (rule_at-all (IsRule letters compare) rules a.j is.second is.second_numbered are) (in_play_of a.j is.second is.second_numbered)
+    in_play_of = rule_in_play q play letters compare rules are typed
 
     whole : IsInPlay play (overlap_word_of rules a)
-    whole = subst (IsInPlay play) (sym (overlap_word-is rules a is)) (joined a.kind)
-      where
-        joined : (k : Kind) → IsInPlay play (joined_word k is.first.lead is.second.lead a.place)
-        joined Overlap = joined_in_play play (take a.place is.first.lead) is.second.lead (taken a.place is.first.lead one) two
-          where
-            taken : (n : ℕ) (u : Word) → IsInPlay play u → IsInPlay play (take n u)
-            taken n u held = (parts_in_play play (take n u) (drop n u) (subst (IsInPlay play) (sym (take-append-drop n u)) held)).0
-        joined Inclusion = one
+    whole = overlap_in_play q play letters compare rules are typed a is
 
     each : (w : Word) → coefficient_of p w ≢ pos 0 → IsInPlay play w
     each w some = of_either (first_row rules a).coef (second_row rules a).coef (poly_between (first_row rules a).left is.first.poly.terms (first_row rules a).right) (poly_between (second_row rules a).left is.second.poly.terms (second_row rules a).right) p

@@ -54,13 +54,13 @@ some_nonzero (t ∷ p) shaped some = record {
 }
 
 -- ---- stops
-same_halt : (h k : Halt) → stopped h ≡ stopped k → h ≡ k
+pub same_halt : (h k : Halt) → stopped h ≡ stopped k → h ≡ k
 same_halt h k e = cc
 
-not_went : (h : Halt) (s : RunState) → stopped h ≡ went s → ⊥
+pub not_went : (h : Halt) (s : RunState) → stopped h ≡ went s → ⊥
 not_went h s e = cc
 
-not_closed : (h : Halt) → stopped h ≡ closed → ⊥
+pub not_closed : (h : Halt) → stopped h ≡ closed → ⊥
 not_closed h e = cc
 
 no_word : (word : List ℕ) → ◌≡◌ {A = Option (List ℕ)} None (Some word) → ⊥
@@ -190,6 +190,15 @@ module _ (problem : Problem) (budget : Budget) where
         nonzero_is_outside letters compare rank generators s.rules s.made setting.in_turn s.treated claim left.reduced order_laws (run_kept (suc n) s run).kept (all_have_turns problem)
         (closed_is_nothing_pending setting n s round) (claim_letters problem number) (claim_reduced (suc n) s run left.reduced left.reduction) (left_nonzero s.rules rest left) inside
 
+    -- an open claim does not follow below a word that nothing is pending below
+    pub open_not_below : (n : ℕ) (s : RunState) → IsOpen setting claim (suc n) s → (word : List ℕ) → NothingPendingBelow letters compare s.rules s.treated word → ComesBelow letters compare generators word claim → ⊥
+    open_not_below n s opened word none_below comes =
+        let run = open_run setting claim (suc n) s opened in
+        nonzero_is_not_below letters compare rank generators s.rules s.made setting.in_turn s.treated word claim opened.left.reduced order_laws
+        (letters_below (quiver_of problem.parts.quiver) any_letter letters generators (recursion_from_All _ generators (generators_are problem)))
+        (run_kept (suc n) s run).kept (all_have_turns problem) none_below (claim_reduced (suc n) s run opened.left.reduced opened.left.reduction)
+        (left_nonzero s.rules opened.rest opened.left) comes
+
     -- what a stopped run says of the claim
     pub record StopMeans (h : Halt) : Type 0 where
       pub not_below : (word : List ℕ) → h.least ≡ Some word → ComesBelow letters compare generators word claim → ⊥
@@ -200,13 +209,5 @@ module _ (problem : Problem) (budget : Budget) where
         let stop = zero_stops letters rank setting order_laws s h round in
         record { not_below = λ word least comes. no_word word (sym stop.none ∙ least); in_run = stop.in_run }
     stop_means (suc n) s h opened round =
-        let run = open_run setting claim (suc n) s opened in
         let stop = later_stops letters rank setting order_laws s h n round in
-        record {
-          not_below = λ word least comes.
-              nonzero_is_not_below letters compare rank generators s.rules s.made setting.in_turn s.treated word claim opened.left.reduced order_laws
-              (letters_below (quiver_of problem.parts.quiver) any_letter letters generators (recursion_from_All _ generators (generators_are problem)))
-              (run_kept (suc n) s run).kept (all_have_turns problem) (stop.none_below word least) (claim_reduced (suc n) s run opened.left.reduced opened.left.reduction)
-              (left_nonzero s.rules opened.rest opened.left) comes;
-          in_run = stop.in_run;
-        }
+        record { not_below = λ word least comes. open_not_below n s opened word (stop.none_below word least) comes; in_run = stop.in_run }

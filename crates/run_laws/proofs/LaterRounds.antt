@@ -51,7 +51,7 @@ pub record BeginsWith (start rules : List Rule) : Type 0 where
   pub more : List Rule
   pub is : rules ≡ start ++ more
 
-begins_with : (start : List Rule) (compare : Compare) (rest : Option Rest) (before after : Recorded) → BeginsWith start before.rules → Adds compare rest before after → BeginsWith start after.rules
+pub begins_with : (start : List Rule) (compare : Compare) (rest : Option Rest) (before after : Recorded) → BeginsWith start before.rules → Adds compare rest before after → BeginsWith start after.rules
 begins_with start compare None before after front same = record { more = front.more; is = ap (λ (r : Recorded). r.rules) same ∙ front.is }
 begins_with start compare (Some rest) before after front extended = record {
   more = front.more ++ (extended.rule ∷ []);

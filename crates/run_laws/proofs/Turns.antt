@@ -7,7 +7,7 @@ use Rattle.std.specs.List.{All, range_with_len}
 use Rattle.traced_completion.specs.UnitsFirst.{units_first}
 use Rattle.run_laws.specs.KeptRuns.{EachGeneratorHasItsTurn}
 
-contains_number : (a n k : ℕ) → a ≤ k → k < a + n → Contains (range_with_len a n) k
+pub contains_number : (a n k : ℕ) → a ≤ k → k < a + n → Contains (range_with_len a n) k
 contains_number a n k above below =
     let inside : k - a < n = omega (arith, above, below) in
     let here : a + (k - a) ≡ k = omega (arith, above) in

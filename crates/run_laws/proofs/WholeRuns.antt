@@ -34,7 +34,7 @@ pub record IsEnd (treated : List Ambiguity) (result : Result Recorded ReduceFaul
   pub given : result ≡ Ok value
   pub state : s ≡ record { rules = value.rules; made = value.made; treated = treated }
 
-ended : (number : ℕ) (least : Option (List ℕ)) (treated : List Ambiguity) (result : Result Recorded ReduceFault) (s : RunState) → Ends number least treated result (went s) → IsEnd treated result s
+pub ended : (number : ℕ) (least : Option (List ℕ)) (treated : List Ambiguity) (result : Result Recorded ReduceFault) (s : RunState) → Ends number least treated result (went s) → IsEnd treated result s
 ended number least treated (Ok r) s ends = record { value = r; given = refl; state = same_state s (record { rules = r.rules; made = r.made; treated = treated }) ends }
 ended number least treated (Err e) s given_up = absurd (not_stopped given_up.stops)
   where
