@@ -1,0 +1,2 @@
+mod Spellings
+mod Declared
