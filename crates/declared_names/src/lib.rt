@@ -3,4 +3,4 @@
 
 mod laws;
 
-pub use laws::declared_names_are_names;
+pub use laws::{declared_names_are_names, names_are_name_tokens};
