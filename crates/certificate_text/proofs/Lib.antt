@@ -26,6 +26,7 @@ pub mod EachText
 pub mod Kept
 pub mod PlainBlocks
 pub mod Checkable
+pub mod CheckableLetters
 pub mod Answered
 pub mod Stars
 pub mod NameBytes

@@ -166,8 +166,130 @@ pub const ROWS: &[Row] = &[
         "row -170141183460469231731687303715884105728 () 1 ()",
         "K4 in line 4, limit 0",
     ),
+    ("row 1 () lemma 1 ()", "K2 in line 4, limit 0"),
+    ("lemma 1 scale 1", "K2 in line 4, limit 0"),
+    ("goal scale 1", "K2 in line 4, limit 0"),
     ("end 1", "K2 in line 4, limit 0"),
     ("end # end", "K2 in line 4, limit 0"),
+];
+
+const NAMED: &str =
+    "certificate 2\nclaim 1\ndenominator 6\nlemma 1 scale 2\nrow 1 (a) 1 ()\nrow -1 () 2 (a')\nlemma 2 scale 1\nrow 3 () lemma 1 (r)\ngoal scale 3\nrow 2 (l) lemma 2 ()\nrow -1 () 4 (p)\nend\n";
+
+const NO_LEMMA: &str = "certificate 2\nclaim 1\ndenominator 1\ngoal scale 1\nend\n";
+
+// A lemma and a goal without rows, and a row over a lemma that isn't there.
+const EXTREMES: &str =
+    "certificate 2\nclaim 4294967295\ndenominator 0\nlemma 1 scale 0\nlemma 2 scale 170141183460469231731687303715884105727\nrow 0 () lemma 4294967295 ()\ngoal scale 0\nend\n";
+
+/// Certificates with lemmas, and the first fault of some.
+pub const LEMMAS: &[Row] = &[
+    (NAMED, NAMED),
+    (NO_LEMMA, NO_LEMMA),
+    (EXTREMES, EXTREMES),
+    // leading zeros, comments and blank lines, and no LF at the end
+    (
+        "certificate 2\nclaim 1\n\ndenominator 1\n# lemma 1\n\tgoal  scale 01\n#\nend",
+        NO_LEMMA,
+    ),
+    (
+        "certificate 2\nclaim 1\ndenominator 6\nlemma 01 scale 002\nrow 1(a)1()\nrow -01 () 02 (a')\nlemma 2 scale 1\nrow 3()lemma 001(r)\ngoal scale 3\nrow 2 (l) lemma 2 ()\nrow -1 () 4 (p)\nend\n",
+        NAMED,
+    ),
+    // behind a block of another kind
+    (
+        "model 1\ncertificate 2\nend\ncertificate 2\nclaim 1\ndenominator 1\ngoal scale 1\nend\n",
+        NO_LEMMA,
+    ),
+    // behind a certificate of format 1, and before one
+    (
+        "certificate 1\nclaim 1\ndenominator 2\nend\ncertificate 2\nclaim 1\ndenominator 1\ngoal scale 1\nend\ncertificate 1\nclaim 1\ndenominator 2\nend\n",
+        "certificate 1\nclaim 1\ndenominator 2\nend\ncertificate 2\nclaim 1\ndenominator 1\ngoal scale 1\nend\ncertificate 1\nclaim 1\ndenominator 2\nend\n",
+    ),
+    ("certificate 02\n", "K2 in line 1, limit 0"),
+    ("certificate 2 1\n", "K2 in line 1, limit 0"),
+    ("certificate 3\n", "K2 in line 1, limit 0"),
+    ("certificate 2", "K6 in line 0, limit 0"),
+    (
+        "certificate 2\nclaim 1\ndenominator 1\n",
+        "K6 in line 0, limit 0",
+    ),
+    (
+        "certificate 2\nclaim 1\ndenominator 1\nlemma 1 scale 1\n",
+        "K6 in line 0, limit 0",
+    ),
+    (
+        "certificate 2\nclaim 1\ndenominator 1\ngoal scale 1\n",
+        "K6 in line 0, limit 0",
+    ),
+];
+
+/// The lines before the lemmas of a certificate.
+pub const LEMMA_HEAD: &str = "certificate 2\nclaim 1\ndenominator 1\n";
+
+/// The fourth line of a certificate with lemmas, and further ones, and the least fault.
+pub const LEMMA_LINES: &[Row] = &[
+    ("row 1 () 1 ()", "K2 in line 4, limit 0"),
+    ("claim 1", "K2 in line 4, limit 0"),
+    ("", "K2 in line 5, limit 0"),
+    ("lemma 0 scale 1", "K2 in line 4, limit 0"),
+    ("lemma 2 scale 1", "K2 in line 4, limit 0"),
+    ("lemma x scale 1", "K2 in line 4, limit 0"),
+    (
+        "lemma 99999999999999999999999999999999999999999 scale 1",
+        "K2 in line 4, limit 0",
+    ),
+    ("lemma 1", "K2 in line 4, limit 0"),
+    ("lemma 1 scale", "K2 in line 4, limit 0"),
+    ("lemma 1 scale -1", "K2 in line 4, limit 0"),
+    ("lemma 1 scale 1 1", "K2 in line 4, limit 0"),
+    ("lemma 1 row 1", "K2 in line 4, limit 0"),
+    (
+        "lemma 1 scale 170141183460469231731687303715884105728",
+        "K4 in line 4, limit 0",
+    ),
+    ("lemma 1 scale 1", "K2 in line 5, limit 0"),
+    ("lemma 1 scale 1\nlemma 1 scale 1", "K2 in line 5, limit 0"),
+    (
+        "lemma 1 scale 1\nrow 1 () 1 ()\nlemma 3 scale 1",
+        "K2 in line 6, limit 0",
+    ),
+    ("lemma 1 scale 1\nrow 1 () 1", "K2 in line 5, limit 0"),
+    ("lemma 1 scale 1\nrows", "K2 in line 5, limit 0"),
+    ("goal", "K2 in line 4, limit 0"),
+    ("goal scale", "K2 in line 4, limit 0"),
+    ("goal 1 scale 1", "K2 in line 4, limit 0"),
+    (
+        "goal scale 170141183460469231731687303715884105728",
+        "K4 in line 4, limit 0",
+    ),
+    ("goal scale 1\ngoal scale 1", "K2 in line 5, limit 0"),
+    ("goal scale 1\nlemma 1 scale 1", "K2 in line 5, limit 0"),
+];
+
+/// The lines before the rows of a goal.
+pub const GOAL_HEAD: &str = "certificate 2\nclaim 1\ndenominator 1\ngoal scale 1\n";
+
+/// A row of a goal in its fifth line, and its least fault.
+pub const GOALS: &[Row] = &[
+    ("row 1 () lemma ()", "K2 in line 5, limit 0"),
+    ("row 1 () lemma -1 ()", "K2 in line 5, limit 0"),
+    ("row 1 () lemma lemma 1 ()", "K2 in line 5, limit 0"),
+    ("row 1 () lemma 1", "K2 in line 5, limit 0"),
+    ("row 1 lemma 1 () ()", "K2 in line 5, limit 0"),
+    ("row 1 (x) lemma 4294967296 ()", "K3 in line 5, limit 0"),
+    ("row 1 () lemma 4294967296 ()", "K4 in line 5, limit 0"),
+    ("end\nend", "K2 in line 6, limit 0"),
+];
+
+/// What is told of a text where format 1 alone is read.
+pub const PLAIN: &[Row] = &[
+    (EMPTY, EMPTY),
+    (NO_LEMMA, "K2 in line 1, limit 0"),
+    (
+        "certificate 1\nclaim 1\ndenominator 2\nend\ncertificate 2\n",
+        "K2 in line 5, limit 0",
+    ),
 ];
 
 /// Limits that are passed, of the letters of a word, of rows and of blocks.
@@ -193,7 +315,15 @@ pub const LIMITS: &[Repeated] = &[
         "end\n",
         "K5 in line 200004, limit 200000",
     ),
+    (
+        "certificate 2\nclaim 1\ndenominator 1\nlemma 1 scale 1\n",
+        Plain("row 1()1()\n"),
+        200_000,
+        "goal scale 1\nrow 1()1()\nend\n",
+        "K5 in line 200006, limit 200000",
+    ),
     ("", Plain(EMPTY), 101, "", "K5 in line 401, limit 100"),
+    ("", Plain(NO_LEMMA), 101, "", "K5 in line 501, limit 100"),
 ];
 
 /// Words by the numbers of their letters.

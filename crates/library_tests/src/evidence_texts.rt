@@ -2,11 +2,12 @@
 ghost use Rattle.std.specs.Prelude.{◌<◌, length};
 
 use crate::evidence_rows::{
-    CERTIFICATES, EMPTY, FAULTS, HEAD, LIMITS, NOT_UTF8, ROWS, Row, WORDS, WRITTEN,
+    CERTIFICATES, EMPTY, FAULTS, GOAL_HEAD, GOALS, HEAD, LEMMA_HEAD, LEMMA_LINES, LEMMAS, LIMITS,
+    NOT_UTF8, PLAIN, ROWS, Row, WORDS, WRITTEN,
 };
 use crate::texts::{Map, poly, poly_text, quiver_of, repeated, same, word, word_text};
 use certificate_text::{
-    CertFault, certificates_are_read_back, read_certificates, write_certificate,
+    CertFault, read_certificates, read_evidence, write_certificate, write_evidence,
 };
 use quiver::Quiver;
 use std::alloc::{AllocError, Global};
@@ -28,23 +29,37 @@ const MAPS: &[Map] = &[
     ("日", 0, 0, false),
 ];
 
-// The certificates of the text, written one after another.
+// The evidence of the text, written one block after another.
 fn written(alloc: Global, quiver: &Quiver, text: &[u8]) -> Result<Vec<u8>, CertFault>
+    requires { length text.now < 4294967295 }
+{
+    let evidence = read_evidence(alloc, text, quiver)?;
+    let mut out = Vec::new(alloc);
+    for block in evidence.as_slice() {
+        out.extend_from_slice(&write_evidence(alloc, quiver, block)?)?;
+    }
+    Ok(out)
+}
+
+// The certificates of format 1 of the text, written one after another.
+fn written_plain(alloc: Global, quiver: &Quiver, text: &[u8]) -> Result<Vec<u8>, CertFault>
     requires { length text.now < 4294967295 }
 {
     let certificates = read_certificates(alloc, text, quiver)?;
     let mut out = Vec::new(alloc);
     for certificate in certificates.as_slice() {
-        match write_certificate(alloc, quiver, certificate) {
-            Ok(block) => {
-                if out.extend_from_slice(&block).is_err() {
-                    return Err(CertFault::Memory(AllocError));
-                }
-            }
-            Err(failed) => return Err(CertFault::Memory(failed)),
-        }
+        out.extend_from_slice(&write_certificate(alloc, quiver, certificate)?)?;
     }
     Ok(out)
+}
+
+// The text that was written, or the fault.
+fn shown(alloc: Global, written: Result<Vec<u8>, CertFault>) -> Result<String, Fail> {
+    match written {
+        Ok(out) => Ok(String::from_utf8(out)?),
+        Err(CertFault::Memory(failed)) => Err(Fail::new(failed)),
+        Err(fault) => Ok(format!(in alloc; "{fault}")?),
+    }
 }
 
 // What is written back of the text, or its first fault.
@@ -52,11 +67,15 @@ fn told(alloc: Global, quiver: &Quiver, text: &[u8]) -> Result<String, Fail> {
     if text.len() > 1_000_000_000 {
         return Err(Fail::new("the text is too long for a test"));
     }
-    match written(alloc, quiver, text) {
-        Ok(out) => Ok(String::from_utf8(out)?),
-        Err(CertFault::Memory(failed)) => Err(Fail::new(failed)),
-        Err(fault) => Ok(format!(in alloc; "{fault}")?),
+    shown(alloc, written(alloc, quiver, text))
+}
+
+// The same where format 1 alone is read.
+fn told_plain(alloc: Global, quiver: &Quiver, text: &[u8]) -> Result<String, Fail> {
+    if text.len() > 1_000_000_000 {
+        return Err(Fail::new("the text is too long for a test"));
     }
+    shown(alloc, written_plain(alloc, quiver, text))
 }
 
 // A text that passes the limit of all letters: 2,000 words of 500, and then one more.
@@ -86,11 +105,28 @@ fn tell_all(
 
 #[test]
 fn certificates_are_written_back_or_their_first_fault_told(rt: HostRuntime) -> Result<(), Fail> {
-    certificates_are_read_back();
     let quiver = small(rt.alloc())?;
     tell_all(&rt, rt.alloc(), &quiver, "", CERTIFICATES, "")?;
     tell_all(&rt, rt.alloc(), &quiver, "", FAULTS, "")?;
     tell_all(&rt, rt.alloc(), &quiver, HEAD, ROWS, "\nend\n")
+}
+
+#[test]
+fn lemmas_are_written_back_or_their_first_fault_told(rt: HostRuntime) -> Result<(), Fail> {
+    let quiver = small(rt.alloc())?;
+    tell_all(&rt, rt.alloc(), &quiver, "", LEMMAS, "")?;
+    tell_all(&rt, rt.alloc(), &quiver, LEMMA_HEAD, LEMMA_LINES, "\nend\n")?;
+    tell_all(&rt, rt.alloc(), &quiver, GOAL_HEAD, GOALS, "\nend\n")
+}
+
+#[test]
+fn format_1_alone_is_read_where_certificates_are_asked_for(rt: HostRuntime) -> Result<(), Fail> {
+    let quiver = small(rt.alloc())?;
+    for (text, want) in PLAIN {
+        let got = told_plain(rt.alloc(), &quiver, text.as_bytes())?;
+        same(&rt, got.as_str(), want, text);
+    }
+    Ok(())
 }
 
 #[test]
@@ -124,6 +160,29 @@ fn a_million_letters_are_the_most(rt: HostRuntime) -> Result<(), Fail> {
         got.as_str(),
         "K5 in line 2005, limit 1000000",
         "letters",
+    );
+    Ok(())
+}
+
+// A text with a lemma more than there may be.
+fn many_lemmas(alloc: Global) -> Result<String, AllocError> {
+    let mut text = String::from_str(alloc, LEMMA_HEAD)?;
+    for number in 1..=200_001u32 {
+        text.push_str(&format!(in alloc; "lemma {number} scale 1\n")?)?;
+    }
+    Ok(text)
+}
+
+#[test]
+fn as_many_lemmas_as_rows_are_the_most(rt: HostRuntime) -> Result<(), Fail> {
+    let quiver = small(rt.alloc())?;
+    let text = many_lemmas(rt.alloc())?;
+    let got = told(rt.alloc(), &quiver, text.as_bytes())?;
+    same(
+        &rt,
+        got.as_str(),
+        "K5 in line 200004, limit 200000",
+        "lemmas",
     );
     Ok(())
 }
