@@ -1,7 +1,10 @@
 -- What users ask of the answers.
-use Rattle.std.proofs.Common.{◌≡◌, ◌⊎◌, inl, inr, ℕ, List, [], Ok, refl, sym, ap, ◌∙◌, arith}
+use Rattle.std.proofs.Common.{◌≡◌, ◌⊎◌, inl, inr, ℕ, List, [], refl, sym, ap, subst, ◌∙◌, arith}
 use Rattle.std.proofs.lemmas.List.{append-nil}
 use Rattle.definitions.specs.Category.{Structure}
+use Rattle.cofactor_trace.specs.declared.evidence.Evidence.{Evidence}
+use Rattle.cofactor_trace.specs.declared.evidence.Format.TheVariants as format
+use Rattle.certificate_text.specs.Evidence.{IsEvidence}
 use Rattle.adjoint_rules.specs.declared.problem.Problem.{Problem}
 use Rattle.opprove.specs.Ending.{Ending}
 use Rattle.opprove.specs.Statement.{IsStated, IsRefusedStatement}
@@ -18,10 +21,10 @@ status_is : {ending end : Ending} → ending ≡ end → ending.status ≡ end.s
 status_is same = ap (λ (e : Ending). e.status) same
 
 over_zero : (statement evidence : List ℕ) (ending : Ending) (problem : Problem) → IsStated statement problem → AnswersEvidence evidence problem ending → ending.status ≡ 0 → AllAccepted statement evidence ending
-over_zero statement evidence ending problem is (blocks.faulty code at limit wrong ends) is_zero = let seven = status_is ends in absurd (omega (arith, is_zero))
-over_zero statement evidence ending problem is (blocks.read cs right judged) is_zero =
-    let all = zero_accepted (question_of problem) 1 cs ending.report ending.status judged is_zero in
-    record { problem = problem; certificates = cs; stated = is; read = right; accepted = all.0; report = all.1 }
+over_zero statement evidence ending problem is (blocks.faulty fault wrong ends) is_zero = let seven = status_is ends in absurd (omega (arith, is_zero))
+over_zero statement evidence ending problem is (blocks.read es right judged) is_zero =
+    let all = zero_accepted (question_of problem) 1 es ending.report ending.status judged is_zero in
+    record { problem = problem; certificates = es; stated = is; read = right; accepted = all.0; report = all.1 }
 
 pub zero_is_accepted : ZeroIsAccepted
 zero_is_accepted statement evidence ending (statements.faulty text refused ends) is_zero = let three = status_is ends in absurd (omega (arith, is_zero))
@@ -35,7 +38,7 @@ zero_means s statement evidence ending answers says is_zero =
       certificates = all.certificates;
       stated = all.stated;
       read = all.read;
-      each = says.each all.problem all.certificates [] [] all.stated (all.read ∙ ap (λ cs. Ok cs) (sym (append-nil all.certificates))) (all.report ∙ sym (append-nil _));
+      each = says.each all.problem all.certificates [] [] all.stated (subst (λ (es : List Evidence). IsEvidence format.Lemmas all.problem.parts.quiver evidence es) (sym (append-nil all.certificates)) all.read) (all.report ∙ sym (append-nil _));
     }
 
 pub faults_are_answered : FaultsAreAnswered

@@ -4,18 +4,13 @@ use Rattle.std.specs.List.{AllZip, range_with_len, list_any, list_all}
 use Rattle.std.proofs.lemmas.List.{length-map}
 use Rattle.definitions.specs.Category.{Structure, PreadditiveLaws}
 use Rattle.definitions.specs.Poly.{Term}
-use Rattle.definitions.specs.Soundness.{HasSignature, IsSound, MakesZero}
+use Rattle.definitions.specs.Soundness.{IsSound}
 use Rattle.nc_polynomial.specs.declared.poly.Poly.{Poly}
-use Rattle.quiver.specs.Declarations.{quiver_of}
-use Rattle.cofactor_trace.specs.Rows.{rows_of}
-use Rattle.cofactor_trace.specs.declared.evidence.Evidence.{Evidence}
-use Rattle.cofactor_trace.specs.declared.evidence.Evidence.TheVariants as evidence
 use Rattle.cofactor_trace.specs.declared.evidence.Format.{Format}
 use Rattle.cofactor_checker.specs.Rows.{IsNumberUpTo}
 use Rattle.adjoint_rules.specs.declared.problem.Problem.{Problem}
 use Rattle.adjoint_rules.specs.Problem.{polynomials}
 use Rattle.adjoint_rules.specs.Parts.{units_in}
-use Rattle.adjoint_rules.proofs.Generators.{posed_quiver, claims_have_signatures, generators_have_signatures}
 use Rattle.signature_typing.specs.Unique.{AreSame}
 use Rattle.traced_completion.specs.declared.budget.Budget.{Budget}
 use Rattle.traced_completion.specs.PlainRun.{Setting, IsRunState, setting_of}
@@ -26,10 +21,9 @@ use Rattle.claim_decider.specs.Decided.{claim_at, claim_numbers, AreOutcomesOf, 
 use Rattle.claim_decider.proofs.UniqueOutcomes.{outcomes_unique}
 use Rattle.claim_decider.proofs.UniqueRules.{last_rules_unique}
 use Rattle.representations.specs.Evidence.{IsEvidenceSound}
-use Rattle.outcome_meanings.specs.Meanings.{OutcomeMeans, EvidenceAddsUp}
+use Rattle.outcome_meanings.specs.Meanings.{OutcomeMeans}
 use Rattle.outcome_meanings.proofs.AskedOrders.{asked_rank, asked_cmp-admissible}
 use Rattle.outcome_meanings.proofs.Meanings.{outcomes_mean_what_they_say}
-use Rattle.report_text.specs.Heads.{denominator_of}
 use Rattle.report_text.specs.Report.{status_of, is_undecided, is_proved}
 use Rattle.opprove.specs.Ending.{Ending}
 use Rattle.opprove.specs.Statement.{OverStatement}
@@ -39,7 +33,7 @@ use Rattle.opprove.specs.Decide.{Print, verdict_of, AnswersClaims}
 use Rattle.opprove.specs.Headline.{VerdictMeans, PrintsMeant, SaysDecided}
 use Rattle.opprove.proofs.Statements.{statement_once}
 use Rattle.opprove.proofs.Stops.{over_statement}
-use Rattle.opprove.proofs.Meaning.{numbered, means_zero, combination_makes}
+use Rattle.opprove.proofs.Meaning.{proved_means}
 
 -- ---- two problems that say the same
 
@@ -159,23 +153,10 @@ decided_status print asked statement ending (statements.stated problem is answer
 -- ---- what verdicts mean
 
 module _ {Object Arrow : Type 0} {s : Structure Object Arrow} (laws : PreadditiveLaws s) (sound : IsSound s) (with_lemmas : IsEvidenceSound s) (problem : Problem) where
-  -- evidence that adds up makes the claim zero
-  evidence_makes : (number : ℕ) (e : Evidence) → EvidenceAddsUp problem number e → MakesZero s (quiver_of problem.parts.quiver) (polynomials problem.generators) (denominator_of e) (claim_at problem number)
-  evidence_makes number (evidence.Plain c) adds = combination_makes laws sound problem (rows_of c.rows) c.denominator (claim_at problem number) adds.combination
-  evidence_makes number (evidence.Lemmas c) adds = with_lemmas.evidence (quiver_of problem.parts.quiver) (polynomials problem.generators) adds.lemmas c (claim_at problem number)
-      (posed_quiver problem.parts problem.posed) (generators_have_signatures problem.parts problem.posed problem.generators problem.closed) adds.evidence
-
-  -- the claim with a number of the problem is typed
-  claim_typed : (number : ℕ) → IsNumberUpTo (length problem.parts.claims) number → HasSignature (quiver_of problem.parts.quiver) (claim_at problem number)
-  claim_typed number is =
-      let count : length problem.parts.claims ≡ length (polynomials problem.parts.claims) = sym (length-map problem.parts.claims (λ (x : Poly). x.terms)) in
-      numbered (quiver_of problem.parts.quiver) (polynomials problem.parts.claims) number (subst (λ (n : ℕ). IsNumberUpTo n number) count is) (claims_have_signatures problem.parts problem.posed)
-
   outcome_means : (number : ℕ) (o : Outcome) → IsNumberUpTo (length problem.parts.claims) number → OutcomeMeans problem number o → VerdictMeans s problem number (verdict_of o)
-  outcome_means number (outcome.Derived e) is adds = record {
-    sum = adds;
-    means = means_zero laws problem (denominator_of e) (claim_at problem number) (evidence_makes number e adds) (claim_typed number is);
-  }
+  outcome_means number (outcome.Derived e) is adds =
+      let count : length problem.parts.claims ≡ length (polynomials problem.parts.claims) = sym (length-map problem.parts.claims (λ (x : Poly). x.terms)) in
+      proved_means laws sound with_lemmas problem number e (subst (λ (n : ℕ). IsNumberUpTo n number) count is) adds
   outcome_means number (outcome.Closed rest) is outside = outside
   outcome_means number (outcome.Halted halt) is bounded = bounded
 

@@ -1,5 +1,5 @@
 -- Each call has an ending over the contents of its files.
-use Rattle.std.proofs.Common.{◌≡◌, ◌⊎◌, inl, inr, ℕ, ◌+◌, List, [], ◌∷◌, ◌++◌, map, Some, None, Result, Ok, Err, refl, arith}
+use Rattle.std.proofs.Common.{◌≡◌, ◌⊎◌, inl, inr, ℕ, ◌+◌, List, [], ◌∷◌, ◌++◌, map, Some, None, refl, arith}
 use Rattle.statement_syntax.specs.declared.place.Spot.{Spot}
 use Rattle.statement_syntax.specs.declared.tree.Statement.{Statement}
 use Rattle.statement_syntax.specs.declared.fault.Fault.{Fault}
@@ -12,14 +12,19 @@ use Rattle.signature_typing.specs.declared.fault.TypeFault.TheVariants as typing
 use Rattle.signature_typing.specs.Fault.{IsMemory}
 use Rattle.signature_typing.specs.Typing.{fault_of, IsProblemOf}
 use Rattle.signature_typing.proofs.EachStatement.{each_statement_has_a_problem_or_a_fault}
-use Rattle.cofactor_trace.specs.declared.Certificate.{Certificate}
+use Rattle.cofactor_trace.specs.declared.evidence.Evidence.{Evidence}
+use Rattle.cofactor_trace.specs.declared.evidence.Format.TheVariants as format
 use Rattle.cofactor_checker.specs.declared.Refusal.{Refusal}
-use Rattle.cofactor_checker.specs.declared.Refusal.TheVariants as refusal
-use Rattle.cofactor_checker.specs.Acceptance.{Accepts, Refuses}
-use Rattle.cofactor_checker.specs.Acceptance as acceptance
-use Rattle.cofactor_checker.proofs.Judged.{each_certificate_is_judged}
-use Rattle.certificate_text.specs.Evidence.{certificates_of}
+use Rattle.cofactor_checker.specs.declared.Refusal.TheVariants as certificate
+use Rattle.cofactor_checker.specs.Acceptance as plain
+use Rattle.evidence_checker.specs.declared.refusal.EvidenceRefusal.{EvidenceRefusal}
+use Rattle.evidence_checker.specs.declared.refusal.EvidenceRefusal.TheVariants as refusal
+use Rattle.evidence_checker.specs.Acceptance.{AcceptsEvidence, RefusesEvidence}
+use Rattle.evidence_checker.specs.Acceptance as acceptance
+use Rattle.evidence_checker.proofs.Judged.{evidence_is_judged}
+use Rattle.certificate_text.specs.Evidence.{IsEvidence, IsFirstFault}
 use Rattle.certificate_text.specs.Fault as evidence
+use Rattle.certificate_text.proofs.EachText as texts
 use Rattle.command_words.specs.declared.call.Call.TheVariants.{Prove, Check, Bench}
 use Rattle.outcome_existence.proofs.Problems.{each_problem_has_outcomes}
 use Rattle.report_text.specs.declared.verdict.Verdict.{Verdict}
@@ -27,12 +32,12 @@ use Rattle.report_text.specs.Report.{report_of, heads_of, status_of}
 use Rattle.report_text.specs.Bench.{bench_statement}
 use Rattle.opprove.specs.Ending.{Ending, line, refused_statement, refused_evidence}
 use Rattle.opprove.specs.Texts.{statement_fault, evidence_fault}
-use Rattle.opprove.specs.Refusals.{claim_text, accepted_text, refused_text, cause_text}
+use Rattle.opprove.specs.Refusals.{accepted_text, refused_text, certificate_cause, cause_text}
 use Rattle.opprove.specs.Statement.{IsRefusedStatement, no_tree, no_problem, typing_text, OverStatement}
 use Rattle.opprove.specs.Statement as statements
 use Rattle.opprove.specs.Blocks.{JudgesFrom, Judges}
 use Rattle.opprove.specs.Blocks as blocks
-use Rattle.opprove.specs.Check.{Question, question_of, AcceptsCertificate, RefusesCertificate, AnswersEvidence}
+use Rattle.opprove.specs.Check.{Question, question_of, named_text, AcceptsBlock, RefusesBlock, AnswersEvidence}
 use Rattle.opprove.specs.declared.decide.Asked.{Asked}
 use Rattle.opprove.specs.Decide.{Print, asked_by, asked_by_bench, verdict_of, AnswersClaims}
 use Rattle.opprove.specs.Laws.{EachCallHasAnEnding}
@@ -40,40 +45,57 @@ use Rattle.opprove.specs.Laws.{EachCallHasAnEnding}
 -- ---- the blocks
 
 -- a refusal that isn't want of memory has a text
-refusal_text : (ds : List Declaration) (r : Refusal) → (acceptance.IsMemory r → ⊥) → (cause : List ℕ) × (cause_text ds r ≡ Some cause)
+plain_text : (ds : List Declaration) (r : Refusal) → (plain.IsMemory r → ⊥) → (cause : List ℕ) × (certificate_cause ds r ≡ Some cause)
+plain_text ds certificate.NoSuchClaim h = (_, refl)
+plain_text ds (certificate.NoSuchGenerator row) h = (_, refl)
+plain_text ds certificate.ZeroDenominator h = (_, refl)
+plain_text ds (certificate.Overflow row o) h = (_, refl)
+plain_text ds (certificate.Size row) h = (_, refl)
+plain_text ds (certificate.Differs word want got) h = (_, refl)
+plain_text ds (certificate.Memory failed) h = absurd (h tt)
+
+refusal_text : (ds : List Declaration) (r : EvidenceRefusal) → (acceptance.IsMemory r → ⊥) → (cause : List ℕ) × (cause_text ds r ≡ Some cause)
+refusal_text ds (refusal.Certificate e) h = plain_text ds e h
 refusal_text ds refusal.NoSuchClaim h = (_, refl)
-refusal_text ds (refusal.NoSuchGenerator row) h = (_, refl)
 refusal_text ds refusal.ZeroDenominator h = (_, refl)
+refusal_text ds (refusal.LooseScale lemma) h = (_, refl)
 refusal_text ds (refusal.Overflow row o) h = (_, refl)
+refusal_text ds (refusal.NoSuchGenerator row) h = (_, refl)
+refusal_text ds (refusal.NoSuchLemma row) h = (_, refl)
 refusal_text ds (refusal.Size row) h = (_, refl)
+refusal_text ds (refusal.NotDivisible lemma word got) h = (_, refl)
+refusal_text ds (refusal.LemmaSize lemma) h = (_, refl)
+refusal_text ds (refusal.Kept row) h = (_, refl)
 refusal_text ds (refusal.Differs word want got) h = (_, refl)
 refusal_text ds (refusal.Memory failed) h = absurd (h tt)
 
 module _ (question : Question) where
-  abbrev IsJudged : ℕ → List Certificate → Type 0
-  IsJudged number cs = (ending : Ending) × JudgesFrom (AcceptsCertificate question) (RefusesCertificate question) number cs ending.report ending.status
+  abbrev IsJudged : ℕ → List Evidence → Type 0
+  IsJudged number es = (ending : Ending) × JudgesFrom (AcceptsBlock question) (RefusesBlock question) number es ending.report ending.status
 
-  judge_one : (number : ℕ) (c : Certificate) (cs : List Certificate) → IsJudged (number + 1) cs
-      → Accepts question.claims question.generators c ⊎ ((r : Refusal) × Refuses question.claims question.generators c r × (acceptance.IsMemory r → ⊥)) → IsJudged number (c ∷ cs)
-  judge_one number c cs rest (inl holds) =
-      let text : List ℕ = claim_text c.claim c.denominator in
-      (record { status = rest.0.status; report = line (accepted_text number text) ++ rest.0.report }, blocks.accepted text (record { holds = holds; says = refl }) rest.0.report rest.1 refl)
-  judge_one number c cs rest (inr fails) =
+  judge_one : (number : ℕ) (e : Evidence) (es : List Evidence) → IsJudged (number + 1) es
+      → AcceptsEvidence question.claims question.generators e ⊎ ((r : EvidenceRefusal) × RefusesEvidence question.claims question.generators e r × (acceptance.IsMemory r → ⊥)) → IsJudged number (e ∷ es)
+  judge_one number e es rest (inl holds) = (
+    record { status = rest.0.status; report = line (accepted_text number (named_text e)) ++ rest.0.report },
+    blocks.accepted (named_text e) (record { holds = holds; says = refl }) rest.0.report rest.1 refl,
+  )
+  judge_one number e es rest (inr fails) =
       let told = refusal_text question.declared fails.0 fails.2 in
       (record { status = 7; report = line (refused_text number told.0) }, blocks.refused told.0 (record { refusal = fails.0; fails = fails.1; says = told.1 }) refl refl)
 
-  judge_all : (number : ℕ) (cs : List Certificate) → IsJudged number cs
+  judge_all : (number : ℕ) (es : List Evidence) → IsJudged number es
   judge_all number [] = (record { status = 0; report = [] }, (refl, refl))
-  judge_all number (c ∷ cs) = judge_one number c cs (judge_all (number + 1) cs) (each_certificate_is_judged question.claims question.generators c)
+  judge_all number (e ∷ es) = judge_one number e es (judge_all (number + 1) es) (evidence_is_judged question.claims question.generators e)
 
 -- ---- the evidence text
 
 evidence_ends : (bytes : List ℕ) (problem : Problem) → (ending : Ending) × AnswersEvidence bytes problem ending
-evidence_ends bytes problem = by (certificates_of problem.parts.quiver bytes) refl
+evidence_ends bytes problem = by (texts.each_text_is_read format.Lemmas problem.parts.quiver bytes)
   where
-    by : (read : Result (List Certificate) evidence.Fault) → certificates_of problem.parts.quiver bytes ≡ read → (ending : Ending) × AnswersEvidence bytes problem ending
-    by (Err fault) is = (refused_evidence (evidence_fault fault.code fault.line fault.limit), blocks.faulty fault.code fault.line fault.limit is refl)
-    by (Ok cs) is = let judged = judge_all (question_of problem) 1 cs in (judged.0, blocks.read cs is judged.1)
+    by : ((es : List Evidence) × IsEvidence format.Lemmas problem.parts.quiver bytes es) ⊎ ((fault : evidence.Fault) × IsFirstFault format.Lemmas problem.parts.quiver bytes fault)
+        → (ending : Ending) × AnswersEvidence bytes problem ending
+    by (inl read) = let judged = judge_all (question_of problem) 1 read.0 in (judged.0, blocks.read read.0 read.1 judged.1)
+    by (inr wrong) = (refused_evidence (evidence_fault wrong.0.code wrong.0.line wrong.0.limit), blocks.faulty wrong.0 wrong.1 refl)
 
 -- ---- the statement
 

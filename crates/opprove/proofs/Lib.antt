@@ -4,6 +4,7 @@ pub mod Stops
 pub mod Judging
 pub mod Syntax
 pub mod Letters
+pub mod Readable
 pub mod Statements
 pub mod Evidences
 pub mod Checking

@@ -48,7 +48,7 @@ pub over_statement : (bytes : List ℕ) (P Q : Problem → Ending → Type 0) (e
 over_statement bytes P Q ending weaker (faulty text refused is) = faulty text refused is
 over_statement bytes P Q ending weaker (stated problem is next) = stated problem is (weaker problem next)
 
-pub over_evidence : {Block : Type 0} (read : Result (List Block) Fault) (P Q : List Block → Ending → Type 0) (ending : Ending) → ((bs : List Block) → P bs ending → Q bs ending)
-    → blocks.OverEvidence read P ending → blocks.OverEvidence read Q ending
-over_evidence read P Q ending weaker (blocks.faulty code at limit is ends) = blocks.faulty code at limit is ends
-over_evidence read P Q ending weaker (blocks.read bs is next) = blocks.read bs is (weaker bs next)
+pub over_evidence : {Block : Type 0} (are_blocks : List Block → Type 0) (is_first_fault : Fault → Type 0) (P Q : List Block → Ending → Type 0) (ending : Ending)
+    → ((bs : List Block) → P bs ending → Q bs ending) → blocks.OverEvidence are_blocks is_first_fault P ending → blocks.OverEvidence are_blocks is_first_fault Q ending
+over_evidence are_blocks is_first_fault P Q ending weaker (blocks.faulty fault is ends) = blocks.faulty fault is ends
+over_evidence are_blocks is_first_fault P Q ending weaker (blocks.read bs is next) = blocks.read bs is (weaker bs next)

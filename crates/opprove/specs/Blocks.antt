@@ -1,14 +1,14 @@
 -- What an evidence text leads to: its first fault, or its blocks, judged one after another.
-use Rattle.std.specs.Prelude.{ℕ, ◌+◌, ◌≡◌, List, [], ◌∷◌, ◌++◌, Result, Ok, Err}
+use Rattle.std.specs.Prelude.{ℕ, ◌+◌, ◌≡◌, List, [], ◌∷◌, ◌++◌}
 use Rattle.certificate_text.specs.Fault.{Fault}
 use Rattle.opprove.specs.Ending.{Ending, line, refused_evidence}
 use Rattle.opprove.specs.Texts.{evidence_fault}
 use Rattle.opprove.specs.Refusals.{accepted_text, refused_text}
 
 -- The evidence text is refused, for its first fault, or its blocks lead to the ending.
-pub data OverEvidence {Block : Type 0} (read : Result (List Block) Fault) (next : List Block → Ending → Type 0) (ending : Ending) : Type 0 where
-  faulty : (code at limit : ℕ) → read ≡ Err (record { code = code; line = at; limit = limit }) → ending ≡ refused_evidence (evidence_fault code at limit) → OverEvidence read next ending
-  read : (blocks : List Block) → read ≡ Ok blocks → next blocks ending → OverEvidence read next ending
+pub data OverEvidence {Block : Type 0} (are_blocks : List Block → Type 0) (is_first_fault : Fault → Type 0) (next : List Block → Ending → Type 0) (ending : Ending) : Type 0 where
+  faulty : (fault : Fault) → is_first_fault fault → ending ≡ refused_evidence (evidence_fault fault.code fault.line fault.limit) → OverEvidence are_blocks is_first_fault next ending
+  read : (blocks : List Block) → are_blocks blocks → next blocks ending → OverEvidence are_blocks is_first_fault next ending
 
 -- A block is accepted, and the next ones follow; or it is refused, and it is the last one of the report. What accepting and refusing it says is told by its text.
 pub data JudgesBlock {Block : Type 0} (accepts refuses : Block → List ℕ → Type 0) (number : ℕ) (block : Block) (next : List ℕ → ℕ → Type 0) (lines : List ℕ) (status : ℕ) : Type 0 where

@@ -1,23 +1,20 @@
 -- The main theorem: what a report says.
-use Rattle.std.specs.Prelude.{ℕ, ℤ, ◌≡◌, ◌≢◌, false, List, [], ◌∷◌, ◌++◌, Ok, String}
+use Rattle.std.specs.Prelude.{ℕ, ℤ, ◌≡◌, ◌≢◌, false, List, [], ◌∷◌, ◌++◌, String}
 use Rattle.std.specs.declared.alloc.Global.{Global}
 use Rattle.std.specs.List.{AllByRecursion, AllZip}
 use Rattle.definitions.specs.Category.{Structure, InvolutionLaws}
-use Rattle.definitions.specs.Combination.{IsCombination}
 use Rattle.definitions.specs.Quiver.{Quiver}
 use Rattle.definitions.specs.Representation.{Representation, StarRepresents, Cancels}
 use Rattle.definitions.specs.Soundness.{HasSignature, HasValueZero, MakesZero}
 use Rattle.quiver.specs.Declarations.{quiver_of}
-use Rattle.cofactor_trace.specs.declared.Certificate.{Certificate}
-use Rattle.cofactor_trace.specs.Rows.{rows_of}
 use Rattle.cofactor_trace.specs.declared.evidence.Evidence.{Evidence}
-use Rattle.cofactor_checker.specs.Acceptance.{claim_of}
+use Rattle.cofactor_trace.specs.declared.evidence.Format.TheVariants.{Lemmas}
 use Rattle.nc_polynomial.specs.declared.poly.Poly.{Poly}
 use Rattle.adjoint_rules.specs.declared.problem.Problem.{Problem}
 use Rattle.adjoint_rules.specs.Problem.{polynomials, generators_in}
 use Rattle.claim_decider.specs.Decided.{claim_at, claim_numbers}
 use Rattle.outcome_meanings.specs.Meanings.{Follows, EvidenceAddsUp, HaltMeans}
-use Rattle.certificate_text.specs.Evidence.{certificates_of}
+use Rattle.certificate_text.specs.Evidence.{IsEvidence}
 use Rattle.report_text.specs.declared.verdict.Verdict.{Verdict}
 use Rattle.report_text.specs.declared.verdict.Verdict.TheVariants.{Proved, NotDerivable, Undecided}
 use Rattle.report_text.specs.Heads.{denominator_of}
@@ -27,14 +24,14 @@ use Rattle.command_words.specs.declared.call.Call.{Call}
 use Rattle.command_words.specs.declared.call.Call.TheVariants.{Prove, Check, Bench}
 use Rattle.opprove.specs.Ending.{Ending}
 use Rattle.opprove.specs.Statement.{IsStated, OverStatement}
-use Rattle.opprove.specs.Check.{accepted_lines}
+use Rattle.opprove.specs.Check.{claim_number, accepted_lines}
 use Rattle.opprove.specs.Decide.{Print}
 use Rattle.opprove.specs.Answers.{Answers}
 use Rattle.opprove.specs.Ends.{EndsBy}
 use Rattle.opprove.specs.Put.{IsPut}
 use Rattle.opprove.specs.Run.{Run}
 
--- ---- what a combination means
+-- ---- what evidence means
 
 -- Whatever the involution, each star representation in which d cancels and the assumptions have the value zero gives the claim the value zero.
 pub record MakesZeroByStar {Object Arrow : Type 0} (s : Structure Object Arrow) (q : Quiver) (assumptions : List (List (ℤ × List ℕ))) (d : ℤ) (claim : List (ℤ × List ℕ)) : Type 0 where
@@ -52,32 +49,25 @@ pub record MeansZero {Object Arrow : Type 0} (s : Structure Object Arrow) (probl
   -- and in a statement that isn't starred it is enough in every representation, without an involution
   pub plain : problem.parts.starred ≡ false → MakesZero s (quiver_of problem.parts.quiver) (polynomials problem.parts.assumptions) d claim
 
--- ---- `check`
-
--- the claim that the certificate names
-abbrev pub stated_claim : Problem → Certificate → List (ℤ × List ℕ)
-stated_claim problem c = claim_of (polynomials problem.parts.claims) c
-
--- What an accepted certificate with denominator d means in a category.
-pub record CheckedMeans {Object Arrow : Type 0} (s : Structure Object Arrow) (problem : Problem) (c : Certificate) : Type 0 where
-  -- the sum of its rows is d times the claim, whether or not the rows are typed
-  pub sum : IsCombination (polynomials problem.generators) (rows_of c.rows) c.denominator (stated_claim problem c)
-  -- which makes the claim zero
-  pub means : MeansZero s problem c.denominator (stated_claim problem c)
-
--- Where the report begins with the lines that accept the first certificates of the evidence text, each of these has its meaning.
-pub record SaysChecked {Object Arrow : Type 0} (s : Structure Object Arrow) (statement evidence report : List ℕ) : Type 0 where
-  pub each : (problem : Problem) (first others : List Certificate) (rest : List ℕ)
-      → IsStated statement problem → certificates_of problem.parts.quiver evidence ≡ Ok (first ++ others) → report ≡ accepted_lines 1 first ++ rest → AllByRecursion (CheckedMeans s problem) first
-
--- ---- `prove` and `bench`
-
--- What a proved claim with its evidence means in a category.
+-- What it means in a category that the claim with this number is proved by this evidence.
 pub record ProvedMeans {Object Arrow : Type 0} (s : Structure Object Arrow) (problem : Problem) (number : ℕ) (e : Evidence) : Type 0 where
-  -- the rows of the evidence add up to its denominator d times the claim
+  -- the evidence adds up to its denominator d times the claim, whether or not its rows are typed
   pub sum : EvidenceAddsUp problem number e
   -- which makes the claim zero
   pub means : MeansZero s problem (denominator_of e) (claim_at problem number)
+
+-- ---- `check`
+
+-- What an accepted block means: it proves the claim that it names.
+abbrev pub AcceptedMeans : {Object Arrow : Type 0} → Structure Object Arrow → Problem → Evidence → Type 0
+AcceptedMeans s problem e = ProvedMeans s problem (claim_number e) e
+
+-- Where the report begins with the lines that accept the first blocks of the evidence text, of either format, each of these has its meaning.
+pub record SaysChecked {Object Arrow : Type 0} (s : Structure Object Arrow) (statement evidence report : List ℕ) : Type 0 where
+  pub each : (problem : Problem) (first others : List Evidence) (rest : List ℕ)
+      → IsStated statement problem → IsEvidence Lemmas problem.parts.quiver evidence (first ++ others) → report ≡ accepted_lines 1 first ++ rest → AllByRecursion (AcceptedMeans s problem) first
+
+-- ---- `prove` and `bench`
 
 -- What is said of the claim with this number: proved, with its denominator, means so in each category; not derivable means that no
 -- positive multiple of the claim is a combination of the generators; undecided means what its place and its least word say.

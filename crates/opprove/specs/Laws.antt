@@ -1,30 +1,31 @@
 -- What users ask of the answers.
-use Rattle.std.specs.Prelude.{ℕ, ◌≡◌, List, length, Ok}
+use Rattle.std.specs.Prelude.{ℕ, ◌≡◌, List, length}
 use Rattle.std.specs.List.{AllByRecursion}
 use Rattle.definitions.specs.Category.{Structure}
 use Rattle.adjoint_rules.specs.declared.problem.Problem.{Problem}
-use Rattle.cofactor_trace.specs.declared.Certificate.{Certificate}
-use Rattle.certificate_text.specs.Evidence.{certificates_of}
+use Rattle.cofactor_trace.specs.declared.evidence.Evidence.{Evidence}
+use Rattle.cofactor_trace.specs.declared.evidence.Format.TheVariants.{Lemmas}
+use Rattle.certificate_text.specs.Evidence.{IsEvidence}
 use Rattle.command_words.specs.declared.call.Call.{Call}
 use Rattle.opprove.specs.Call.{files_of}
 use Rattle.opprove.specs.Ending.{Ending, refused_statement}
 use Rattle.opprove.specs.Statement.{IsStated, IsRefusedStatement}
 use Rattle.opprove.specs.Check.{question_of, IsAccepted, accepted_lines, AnswersCheck}
 use Rattle.opprove.specs.Answers.{Answers}
-use Rattle.opprove.specs.Headline.{CheckedMeans, SaysChecked}
+use Rattle.opprove.specs.Headline.{AcceptedMeans, SaysChecked}
 
--- certificates that are all accepted are answered by 0 and a line on each
+-- certificates of either format that are all accepted are answered by 0 and a line on each
 abbrev pub AcceptedAreAnswered : Type 0
-AcceptedAreAnswered = (statement evidence : List ℕ) (problem : Problem) (certificates : List Certificate)
-    → IsStated statement problem → certificates_of problem.parts.quiver evidence ≡ Ok certificates → AllByRecursion (IsAccepted (question_of problem)) certificates
+AcceptedAreAnswered = (statement evidence : List ℕ) (problem : Problem) (certificates : List Evidence)
+    → IsStated statement problem → IsEvidence Lemmas problem.parts.quiver evidence certificates → AllByRecursion (IsAccepted (question_of problem)) certificates
     → AnswersCheck statement evidence (record { status = 0; report = accepted_lines 1 certificates })
 
 -- 0 and the lines on certificates of the statement, all of which are accepted
 pub record AllAccepted (statement evidence : List ℕ) (ending : Ending) : Type 0 where
   pub problem : Problem
-  pub certificates : List Certificate
+  pub certificates : List Evidence
   pub stated : IsStated statement problem
-  pub read : certificates_of problem.parts.quiver evidence ≡ Ok certificates
+  pub read : IsEvidence Lemmas problem.parts.quiver evidence certificates
   pub accepted : AllByRecursion (IsAccepted (question_of problem)) certificates
   pub report : ending.report ≡ accepted_lines 1 certificates
 
@@ -35,10 +36,10 @@ ZeroIsAccepted = (statement evidence : List ℕ) (ending : Ending) → AnswersCh
 -- certificates of the statement, each with its meaning
 pub record AllMean {Object Arrow : Type 0} (s : Structure Object Arrow) (statement evidence : List ℕ) : Type 0 where
   pub problem : Problem
-  pub certificates : List Certificate
+  pub certificates : List Evidence
   pub stated : IsStated statement problem
-  pub read : certificates_of problem.parts.quiver evidence ≡ Ok certificates
-  pub each : AllByRecursion (CheckedMeans s problem) certificates
+  pub read : IsEvidence Lemmas problem.parts.quiver evidence certificates
+  pub each : AllByRecursion (AcceptedMeans s problem) certificates
 
 -- 0, by the main theorem: each certificate has its meaning
 abbrev pub ZeroMeans : {Object Arrow : Type 0} → Structure Object Arrow → Type 0

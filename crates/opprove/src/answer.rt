@@ -6,7 +6,7 @@ ghost use Rattle.opprove.specs.Call.{files_of};
 ghost use Rattle.opprove.specs.Answers.{Answers};
 ghost use Rattle.opprove.specs.Stop.{EndsAs};
 
-use crate::check::check_evidence;
+use crate::check::check_texts;
 use crate::decide::{bench, prove};
 use crate::ending::Ending;
 use crate::stop::Stop;
@@ -31,7 +31,7 @@ pub fn answer<R: Threads + Sync, G: Gate + Sync>(
     match (call, contents) {
         (Call::Prove(call), [statement]) => prove(rt, alloc, call, statement.as_slice(), gate),
         (Call::Check(_), [statement, evidence]) => {
-            check_evidence(alloc, statement.as_slice(), evidence.as_slice())
+            check_texts(alloc, statement.as_slice(), evidence.as_slice())
         }
         (Call::Bench(call), []) => bench(rt, alloc, call, gate),
         _ => unreachable!(),

@@ -1,7 +1,8 @@
 // What `check` answers over a statement and an evidence text.
-ghost use Rattle.std.specs.Prelude.{◌≡◌, ◌≤◌, Ok, IfOk, IfErr, length};
+ghost use Rattle.std.specs.Prelude.{◌≤◌, IfOk, IfErr, length};
 ghost use Rattle.std.specs.List.{All};
-ghost use Rattle.certificate_text.specs.Evidence.{certificates_of, IsCheckable};
+ghost use Rattle.cofactor_trace.specs.declared.evidence.Format.TheVariants.{Lemmas};
+ghost use Rattle.certificate_text.specs.Evidence.{IsEvidence, IsFirstFault, IsCheckableEvidence};
 ghost use Rattle.opprove.specs.Blocks.{OverEvidence};
 ghost use Rattle.opprove.specs.Check.{AnswersCheck};
 ghost use Rattle.opprove.specs.Stop.{StopsBy, EndsAs};
@@ -11,36 +12,32 @@ use crate::fault::evidence_fault;
 use crate::judge::judge;
 use crate::statement::read_statement;
 use crate::stop::Stop;
-use certificate_text::{CertFault, read_certificates};
-use cofactor_trace::Certificate;
+use certificate_text::{CertFault, read_evidence};
+use cofactor_trace::Evidence;
 use lists::Listing;
 use quiver::Quiver;
 use std::alloc::Global;
 
 /// How a run of `check` ends that has loaded both files.
-pub fn check_evidence(alloc: Global, statement: &[u8], evidence: &[u8]) -> Result<Ending, Stop>
+pub fn check_texts(alloc: Global, statement: &[u8], evidence: &[u8]) -> Result<Ending, Stop>
     requires statement_fits { length statement.now ≤ 1048576 }
     requires evidence_fits { length evidence.now ≤ 67108864 }
     ensures { EndsAs (AnswersCheck statement.now evidence.now) result }
 {
     let problem = read_statement(alloc, statement)?;
-    let certificates = read_evidence(alloc, evidence, &problem.parts.quiver)?;
-    judge(alloc, &problem, certificates.as_slice())
+    let blocks = blocks_of(alloc, evidence, &problem.parts.quiver)?;
+    judge(alloc, &problem, blocks.as_slice())
 }
 
-// The certificates of the text, or the ending that tells its first fault.
-fn read_evidence(
-    alloc: Global,
-    evidence: &[u8],
-    quiver: &Quiver,
-) -> Result<Listing<Certificate>, Stop>
+// The blocks of the text, or the ending that tells its first fault.
+fn blocks_of(alloc: Global, evidence: &[u8], quiver: &Quiver) -> Result<Listing<Evidence>, Stop>
     requires { length evidence.now ≤ 67108864 }
-    ensures read { IfOk result (λ cs. certificates_of quiver.now evidence.now ≡ Ok cs) }
-    ensures checkable { IfOk result (All (IsCheckable quiver.now)) }
-    ensures stopped { IfErr result (StopsBy (OverEvidence (certificates_of quiver.now evidence.now) (λ _ _. ⊥))) }
+    ensures read { IfOk result (IsEvidence Lemmas quiver.now evidence.now) }
+    ensures checkable { IfOk result (All (IsCheckableEvidence quiver.now)) }
+    ensures stopped { IfErr result (StopsBy (OverEvidence (IsEvidence Lemmas quiver.now evidence.now) (IsFirstFault Lemmas quiver.now evidence.now) (λ _ _. ⊥))) }
 {
-    match read_certificates(alloc, evidence, quiver) {
-        Ok(certificates) => Ok(certificates),
+    match read_evidence(alloc, evidence, quiver) {
+        Ok(blocks) => Ok(blocks),
         Err(CertFault::Fault { code, line, limit }) => {
             let text = evidence_fault(alloc, code, line, limit)?;
             Err(Stop::Ended(Ending::refused_evidence(alloc, text.as_str())?))

@@ -4,37 +4,80 @@ ghost use Rattle.std.specs.Fmt.{signed_decimal};
 ghost use Rattle.quiver.specs.Declarations.{letter_count};
 ghost use Rattle.word_core.specs.Letters.{IsOver};
 ghost use Rattle.certificate_text.specs.Written.{word_text};
-ghost use Rattle.opprove.specs.Letters.{HasLetters};
-ghost use Rattle.opprove.specs.Refusals.{operation_text, cause_text};
+ghost use Rattle.opprove.specs.Letters.{HasCertificateLetters, HasLetters};
+ghost use Rattle.opprove.specs.Refusals.{operation_text, certificate_cause, cause_text};
 
 use certificate_text::write_word;
 use coef_int::Overflow;
 use cofactor_checker::Refusal;
+use evidence_checker::EvidenceRefusal;
 use itoa::Buffer;
 use quiver::Quiver;
 use std::alloc::{AllocError, Global};
 use word_core::Word;
 
 /// Why a block is refused. Want of memory has no text.
-pub fn cause_text(alloc: Global, quiver: &Quiver, refusal: &Refusal) -> Result<Vec<u8>, AllocError>
+pub fn cause_text(
+    alloc: Global,
+    quiver: &Quiver,
+    refusal: &EvidenceRefusal,
+) -> Result<Vec<u8>, AllocError>
     requires { HasLetters quiver.now refusal.now }
     ensures { IfOk result (λ text. cause_text quiver.now refusal.now ≡ Some text.items) }
 {
     match refusal {
-        Refusal::NoSuchClaim => b"C1".to_vec(alloc),
-        Refusal::NoSuchGenerator { row } => {
-            let mut digits = Buffer::new();
-            Ok(format!(in alloc; "C2 row {}", digits.format(*row))?.into_bytes())
+        EvidenceRefusal::Certificate(refusal) => certificate_cause(alloc, quiver, refusal),
+        EvidenceRefusal::NoSuchClaim => b"C1".to_vec(alloc),
+        EvidenceRefusal::NoSuchGenerator { row } => numbered(alloc, "C2 row ", *row),
+        EvidenceRefusal::ZeroDenominator => b"C3".to_vec(alloc),
+        EvidenceRefusal::Overflow { row, overflow } => overflow_text(alloc, *row, overflow),
+        EvidenceRefusal::Size { row } => limited(alloc, "C5 row ", *row, " limit 200000"),
+        EvidenceRefusal::Differs { word, want, got } => {
+            difference_text(alloc, quiver, word, *want, *got)
         }
+        EvidenceRefusal::NoSuchLemma { row } => numbered(alloc, "C7 row ", *row),
+        EvidenceRefusal::NotDivisible { lemma, word, got } => {
+            indivisible_text(alloc, quiver, *lemma, word, *got)
+        }
+        EvidenceRefusal::LemmaSize { lemma } => numbered(alloc, "C9 lemma ", *lemma),
+        EvidenceRefusal::LooseScale { lemma } => numbered(alloc, "C10 lemma ", *lemma),
+        EvidenceRefusal::Kept { row } => limited(alloc, "C11 row ", *row, " limit 1000000"),
+        EvidenceRefusal::Memory(_) => Err(AllocError),
+    }
+}
+
+// Why a certificate of rows over generators alone is refused.
+fn certificate_cause(
+    alloc: Global,
+    quiver: &Quiver,
+    refusal: &Refusal,
+) -> Result<Vec<u8>, AllocError>
+    requires { HasCertificateLetters quiver.now refusal.now }
+    ensures { IfOk result (λ text. certificate_cause quiver.now refusal.now ≡ Some text.items) }
+{
+    match refusal {
+        Refusal::NoSuchClaim => b"C1".to_vec(alloc),
+        Refusal::NoSuchGenerator { row } => numbered(alloc, "C2 row ", *row),
         Refusal::ZeroDenominator => b"C3".to_vec(alloc),
         Refusal::Overflow { row, overflow } => overflow_text(alloc, *row, overflow),
-        Refusal::Size { row } => {
-            let mut digits = Buffer::new();
-            Ok(format!(in alloc; "C5 row {} limit 200000", digits.format(*row))?.into_bytes())
-        }
+        Refusal::Size { row } => limited(alloc, "C5 row ", *row, " limit 200000"),
         Refusal::Differs { word, want, got } => difference_text(alloc, quiver, word, *want, *got),
         Refusal::Memory(_) => Err(AllocError),
     }
+}
+
+fn numbered(alloc: Global, cause: &str, number: u32) -> Result<Vec<u8>, AllocError>
+    ensures { IfOk result (λ text. text.items ≡ cause.now ++ decimal number) }
+{
+    let mut digits = Buffer::new();
+    Ok(format!(in alloc; "{cause}{}", digits.format(number))?.into_bytes())
+}
+
+fn limited(alloc: Global, cause: &str, number: u32, limit: &str) -> Result<Vec<u8>, AllocError>
+    ensures { IfOk result (λ text. text.items ≡ cause.now ++ (decimal number ++ limit.now)) }
+{
+    let mut digits = Buffer::new();
+    Ok(format!(in alloc; "{cause}{}{limit}", digits.format(number))?.into_bytes())
 }
 
 fn overflow_text(alloc: Global, row: u32, overflow: &Overflow) -> Result<Vec<u8>, AllocError>
@@ -75,5 +118,25 @@ fn difference_text(
     let mut text = b"C6 word ".to_vec(alloc)?;
     text.extend_from_slice(&letters)?;
     text.extend_from_slice(numbers.as_bytes())?;
+    Ok(text)
+}
+
+fn indivisible_text(
+    alloc: Global,
+    quiver: &Quiver,
+    lemma: u32,
+    word: &Word,
+    got: i128,
+) -> Result<Vec<u8>, AllocError>
+    requires { IsOver (letter_count quiver.now) word.now }
+    ensures { IfOk result (λ text. text.items ≡ codes "C8 lemma " ++ (decimal lemma ++ (codes " word " ++ (word_text quiver.now word.now ++ (codes " got " ++ signed_decimal got))))) }
+{
+    let letters = write_word(alloc, quiver, word)?;
+    let mut digits = Buffer::new();
+    let mut found = Buffer::new();
+    let mut text = format!(in alloc; "C8 lemma {} word ", digits.format(lemma))?.into_bytes();
+    let end = format!(in alloc; " got {}", found.format(got))?;
+    text.extend_from_slice(&letters)?;
+    text.extend_from_slice(end.as_bytes())?;
     Ok(text)
 }
