@@ -118,10 +118,10 @@ pub check_status : (statement evidence : List ℕ) (ending : Ending) → Answers
 check_status statement evidence ending (statements.faulty text refused ends) = three (status_is ends)
 check_status statement evidence ending (statements.stated problem is leads) = of_judged (over_status evidence problem ending leads)
 
--- ---- what is told of accepted blocks
+-- ---- what is told of accepted certificates
 
 module _ (question : Question) where
-  -- blocks that are all accepted are told so
+  -- certificates that are all accepted are told so
   pub accepted_judged : (number : ℕ) (es : List Evidence) → AllByRecursion (IsAccepted question) es → JudgesFrom (AcceptsBlock question) (RefusesBlock question) number es (accepted_lines number es) 0
   accepted_judged number [] all = (refl, refl)
   accepted_judged number (e ∷ es) all = blocks.accepted (named_text e) (record { holds = all.0; says = refl }) (accepted_lines (number + 1) es) (accepted_judged (number + 1) es all.1) refl
@@ -160,7 +160,7 @@ module _ (question : Question) where
       ∙ ap (λ x. p ++ x) (append_assoc d (codes " accepted " ++ text) (end ++ more) ∙ ap (λ x. d ++ x) (append_assoc (codes " accepted ") text (end ++ more))) in
       letter_differs (cause ++ end) (text ++ (end ++ more)) (cancel d _ _ (cancel p _ _ (sym left ∙ same ∙ right)))
 
-  -- where the report begins with the lines that accept the first blocks, no test of these fails
+  -- where the report begins with the lines that accept the first certificates, no test of these fails
   pub first_accepted : (number : ℕ) (first others : List Evidence) (lines : List ℕ) (status : ℕ) (rest : List ℕ) → JudgesFrom (AcceptsBlock question) (RefusesBlock question) number (first ++ others) lines status
       → lines ≡ accepted_lines number first ++ rest → AllByRecursion (IsAccepted question) first
   first_accepted number [] others lines status rest judges begins = tt

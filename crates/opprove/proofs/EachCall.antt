@@ -22,8 +22,8 @@ use Rattle.evidence_checker.specs.declared.refusal.EvidenceRefusal.TheVariants a
 use Rattle.evidence_checker.specs.Acceptance.{AcceptsEvidence, RefusesEvidence}
 use Rattle.evidence_checker.specs.Acceptance as acceptance
 use Rattle.evidence_checker.proofs.Judged.{evidence_is_judged}
-use Rattle.certificate_text.specs.Evidence.{IsEvidence, IsFirstFault}
 use Rattle.certificate_text.specs.Fault as evidence
+use Rattle.certificate_text.specs.Evidence as evidences
 use Rattle.certificate_text.proofs.EachText as texts
 use Rattle.command_words.specs.declared.call.Call.TheVariants.{Prove, Check, Bench}
 use Rattle.outcome_existence.proofs.Problems.{each_problem_has_outcomes}
@@ -92,7 +92,7 @@ module _ (question : Question) where
 evidence_ends : (bytes : List ℕ) (problem : Problem) → (ending : Ending) × AnswersEvidence bytes problem ending
 evidence_ends bytes problem = by (texts.each_text_is_read format.Lemmas problem.parts.quiver bytes)
   where
-    by : ((es : List Evidence) × IsEvidence format.Lemmas problem.parts.quiver bytes es) ⊎ ((fault : evidence.Fault) × IsFirstFault format.Lemmas problem.parts.quiver bytes fault)
+    by : ((es : List Evidence) × evidences.IsEvidence format.Lemmas problem.parts.quiver bytes es) ⊎ ((fault : evidence.Fault) × evidences.IsFirstFault format.Lemmas problem.parts.quiver bytes fault)
         → (ending : Ending) × AnswersEvidence bytes problem ending
     by (inl read) = let judged = judge_all (question_of problem) 1 read.0 in (judged.0, blocks.read read.0 read.1 judged.1)
     by (inr wrong) = (refused_evidence (evidence_fault wrong.0.code wrong.0.line wrong.0.limit), blocks.faulty wrong.0 wrong.1 refl)

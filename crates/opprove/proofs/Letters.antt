@@ -118,12 +118,12 @@ module _ (q : Quiver) where
           clash (is_over x) (ap is_over (sym (word_eq-true (l ++ (w ++ r)) x same)) ∙ whole) past)
 
   get_stays : (ps : List (List (ℤ × List ℕ))) (n : ℕ) → AllByRecursion Stays ps → Stays (get_or ps n [])
-  get_stays [] n all x past = refl
+  get_stays [] n all = λ x past. refl
   get_stays (p ∷ ps) zero all = all.0
   get_stays (p ∷ ps) (suc n) all = get_stays ps n all.1
 
   at_stays : (ps : List (List (ℤ × List ℕ))) (n : ℕ) → AllByRecursion Stays ps → Stays (generator_at ps n)
-  at_stays ps zero all x past = refl
+  at_stays ps zero all = λ x past. refl
   at_stays ps (suc n) all = get_stays ps n all
 
   -- ---- rows

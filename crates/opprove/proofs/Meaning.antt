@@ -1,4 +1,4 @@
--- What evidence and accepted blocks mean in a category.
+-- What evidence and accepted certificates mean in a category.
 use Rattle.std.proofs.Common.{◌≡◌, ℕ, zero, suc, ◌<◌, ℤ, Bool, false, List, [], ◌∷◌, length, get_or, refl, sym, subst, arith}
 use Rattle.std.specs.List.{AllByRecursion}
 use Rattle.definitions.specs.Category.{Structure, PreadditiveLaws}

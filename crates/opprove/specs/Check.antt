@@ -58,7 +58,7 @@ AnswersEvidence evidence problem ending =
 abbrev pub AnswersCheck : List ℕ → List ℕ → Ending → Type 0
 AnswersCheck statement evidence ending = OverStatement statement (AnswersEvidence evidence) ending
 
--- the lines on blocks that are all accepted
+-- the lines on certificates that are all accepted
 abbrev pub accepted_lines : ℕ → List Evidence → List ℕ
 accepted_lines number [] = []
 accepted_lines number (e ∷ es) = line (accepted_text number (named_text e)) ++ accepted_lines (number + 1) es

@@ -11,7 +11,7 @@ use Rattle.certificate_text.specs.Written.{word_text}
 abbrev pub operation_text : Bool → List ℕ
 operation_text product = if product then codes " times " else codes " plus "
 
--- what accepting a block says
+-- what accepting a certificate says
 abbrev pub claim_text : ℕ → ℤ → List ℕ
 claim_text claim denominator = codes "claim " ++ (decimal claim ++ (codes " denominator " ++ signed_decimal denominator))
 

@@ -25,19 +25,19 @@ pub fn check_texts(alloc: Global, statement: &[u8], evidence: &[u8]) -> Result<E
     ensures { EndsAs (AnswersCheck statement.now evidence.now) result }
 {
     let problem = read_statement(alloc, statement)?;
-    let blocks = blocks_of(alloc, evidence, &problem.parts.quiver)?;
-    judge(alloc, &problem, blocks.as_slice())
+    let certificates = certificates_of(alloc, evidence, &problem.parts.quiver)?;
+    judge(alloc, &problem, certificates.as_slice())
 }
 
-// The blocks of the text, or the ending that tells its first fault.
-fn blocks_of(alloc: Global, evidence: &[u8], quiver: &Quiver) -> Result<Listing<Evidence>, Stop>
+// The certificates of the text, or the ending that tells its first fault.
+fn certificates_of(alloc: Global, evidence: &[u8], quiver: &Quiver) -> Result<Listing<Evidence>, Stop>
     requires { length evidence.now ≤ 67108864 }
     ensures read { IfOk result (IsEvidence Lemmas quiver.now evidence.now) }
     ensures checkable { IfOk result (All (IsCheckableEvidence quiver.now)) }
     ensures stopped { IfErr result (StopsBy (OverEvidence (IsEvidence Lemmas quiver.now evidence.now) (IsFirstFault Lemmas quiver.now evidence.now) (λ _ _. ⊥))) }
 {
     match read_evidence(alloc, evidence, quiver) {
-        Ok(blocks) => Ok(blocks),
+        Ok(certificates) => Ok(certificates),
         Err(CertFault::Fault { code, line, limit }) => {
             let text = evidence_fault(alloc, code, line, limit)?;
             Err(Stop::Ended(Ending::refused_evidence(alloc, text.as_str())?))

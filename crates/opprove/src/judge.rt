@@ -18,22 +18,22 @@ use evidence_checker::check_evidence;
 use itoa::Buffer;
 use std::alloc::{AllocError, Global};
 
-/// How a run ends over a problem and the blocks of an evidence text: a line on each, up to the first that is refused.
-pub fn judge(alloc: Global, problem: &Problem, blocks: &[Evidence]) -> Result<Ending, Stop>
-    requires { All (IsCheckableEvidence problem.now.parts.quiver) blocks.now }
-    ensures { EndsAs (Judges (AcceptsBlock (question_of problem.now)) (RefusesBlock (question_of problem.now)) blocks.now) result }
+/// How a run ends over a problem and certificates of both formats: a line on each block, up to the first that is refused.
+pub fn judge(alloc: Global, problem: &Problem, certificates: &[Evidence]) -> Result<Ending, Stop>
+    requires { All (IsCheckableEvidence problem.now.parts.quiver) certificates.now }
+    ensures { EndsAs (Judges (AcceptsBlock (question_of problem.now)) (RefusesBlock (question_of problem.now)) certificates.now) result }
 {
     let mut report = Vec::new(alloc);
-    for (place, evidence) in blocks.iter().enumerate() {
-        let number = place + 1;
-        match check_evidence(alloc, problem, evidence) {
+    for (place, certificate) in certificates.iter().enumerate() {
+        let block = place + 1;
+        match check_evidence(alloc, problem, certificate) {
             Ok(accepted) => {
                 let text = claim_text(alloc, &accepted)?;
-                push_block(&mut report, number, " accepted ", &text)?;
+                push_block(&mut report, block, " accepted ", &text)?;
             }
             Err(refusal) => {
                 let cause = cause_text(alloc, &problem.parts.quiver, &refusal)?;
-                push_block(&mut report, number, " refused ", &cause)?;
+                push_block(&mut report, block, " refused ", &cause)?;
                 return Ok(Ending::refused_block(report));
             }
         }
@@ -41,7 +41,7 @@ pub fn judge(alloc: Global, problem: &Problem, blocks: &[Evidence]) -> Result<En
     Ok(Ending::accepted(report))
 }
 
-// What accepting a block says.
+// What accepting a certificate says.
 fn claim_text(alloc: Global, accepted: &Accepted) -> Result<Vec<u8>, AllocError>
     ensures { IfOk result (λ text. text.items ≡ claim_text accepted.now.claim accepted.now.denominator) }
 {
@@ -58,15 +58,15 @@ fn claim_text(alloc: Global, accepted: &Accepted) -> Result<Vec<u8>, AllocError>
 // The line of a block: its number, the verdict, and what it says.
 fn push_block(
     report: &mut Vec<u8>,
-    number: usize,
+    block: usize,
     verdict: &str,
     text: &[u8],
 ) -> Result<(), AllocError>
-    ensures { OnOk result (report.new.items ≡ report.old.items ++ line (codes "# block " ++ (decimal number ++ (verdict.now ++ text.now)))) }
+    ensures { OnOk result (report.new.items ≡ report.old.items ++ line (codes "# block " ++ (decimal block ++ (verdict.now ++ text.now)))) }
 {
-    let mut digits = Buffer::new();
+    let mut number = Buffer::new();
     report.extend_from_slice(b"# block ")?;
-    report.extend_from_slice(digits.format(number).as_bytes())?;
+    report.extend_from_slice(number.format(block).as_bytes())?;
     report.extend_from_slice(verdict.as_bytes())?;
     report.extend_from_slice(text)?;
     report.push(b'\n')?;

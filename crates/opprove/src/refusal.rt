@@ -132,10 +132,10 @@ fn indivisible_text(
     ensures { IfOk result (λ text. text.items ≡ codes "C8 lemma " ++ (decimal lemma ++ (codes " word " ++ (word_text quiver.now word.now ++ (codes " got " ++ signed_decimal got))))) }
 {
     let letters = write_word(alloc, quiver, word)?;
-    let mut digits = Buffer::new();
     let mut found = Buffer::new();
-    let mut text = format!(in alloc; "C8 lemma {} word ", digits.format(lemma))?.into_bytes();
     let end = format!(in alloc; " got {}", found.format(got))?;
+    let mut text = numbered(alloc, "C8 lemma ", lemma)?;
+    text.extend_from_slice(b" word ")?;
     text.extend_from_slice(&letters)?;
     text.extend_from_slice(end.as_bytes())?;
     Ok(text)

@@ -21,27 +21,27 @@ returns-in_err-problem c =
     (stops_weaker (OverStatement c.args.statement.now (λ _ _. ⊥)) answers (λ ending. over_statement c.args.statement.now (λ _ _. ⊥) (AnswersEvidence c.args.evidence.now) ending (λ problem none. absurd none)) stop c.in_err-problem.ensures.stopped)
 
 -- the evidence text is refused
-pub returns-in_err-blocks : goal.returns-in_err-blocks
-returns-in_err-blocks c =
+pub returns-in_err-certificates : goal.returns-in_err-certificates
+returns-in_err-certificates c =
     let answers : Ending → Type 0 = AnswersCheck c.args.statement.now c.args.evidence.now in
     let problem : Problem = c.in_ok-problem.problem in
     let is_evidence : List Evidence → Type 0 = IsEvidence Lemmas problem.parts.quiver c.args.evidence.now in
     let is_fault : Fault → Type 0 = IsFirstFault Lemmas problem.parts.quiver c.args.evidence.now in
-    let stop = c.in_err-blocks.field-0.0 in
-    let back : c.from_residual-in_err-blocks.result ≡ Err stop = search rules in
-    ended_by answers c.from_residual-in_err-blocks.result stop back
+    let stop = c.in_err-certificates.field-0.0 in
+    let back : c.from_residual-in_err-certificates.result ≡ Err stop = search rules in
+    ended_by answers c.from_residual-in_err-certificates.result stop back
     (stops_weaker (OverEvidence is_evidence is_fault (λ _ _. ⊥)) answers
     (λ ending over. stated problem c.in_ok-problem.ensures.stated (over_evidence is_evidence is_fault (λ _ _. ⊥) (Judges (AcceptsBlock (question_of problem)) (RefusesBlock (question_of problem))) ending (λ es none. absurd none) over))
-    stop c.in_err-blocks.ensures.stopped)
+    stop c.in_err-certificates.ensures.stopped)
 
--- the blocks are judged
+-- the certificates are judged
 pub returns : goal.returns
 returns c =
     let answers : Ending → Type 0 = AnswersCheck c.args.statement.now c.args.evidence.now in
     let problem : Problem = c.in_ok-problem.problem in
     let judges : List Evidence → Ending → Type 0 = Judges (AcceptsBlock (question_of problem)) (RefusesBlock (question_of problem)) in
-    let es : List Evidence = c.in_ok-blocks.blocks in
-    let is_evidence : IsEvidence Lemmas problem.parts.quiver c.args.evidence.now es = c.in_ok-blocks.ensures.read in
+    let es : List Evidence = c.in_ok-certificates.certificates in
+    let is_evidence : IsEvidence Lemmas problem.parts.quiver c.args.evidence.now es = c.in_ok-certificates.ensures.read in
     let same : c.as_slice.result.now ≡ es = search rules in
     ends_weaker (judges c.as_slice.result.now) answers
     (λ ending judged. stated problem c.in_ok-problem.ensures.stated (read es is_evidence (subst (λ (l : List Evidence). Judges (AcceptsBlock (question_of problem)) (RefusesBlock (question_of problem)) l ending) same judged)))

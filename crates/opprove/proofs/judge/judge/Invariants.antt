@@ -4,4 +4,4 @@ use Rattle.opprove.proofs.judge.judge.Given as goal
 
 -- the lines on the blocks before the place
 abbrev pub invariant-loop-place : goal.invariant-loop-place
-invariant-loop-place l = GoesOn (AcceptsBlock (question_of l.problem)) (RefusesBlock (question_of l.problem)) l.blocks l.place l.report.items
+invariant-loop-place l = GoesOn (AcceptsBlock (question_of l.problem)) (RefusesBlock (question_of l.problem)) l.certificates l.place l.report.items
