@@ -57,7 +57,7 @@ RefusesModel problem m refusal.NoSuchClaim = IsClaimNumber problem m.claim → �
 RefusesModel problem m (refusal.MissingMap letter) = LacksMatrix problem m letter.0
 RefusesModel problem m (refusal.BadShape letter) = HasOtherEnds problem m letter.0
 RefusesModel problem m (refusal.NotSymmetric letter) = IsNotSelfTransposed problem m letter.0
-RefusesModel problem m (refusal.NotZero assumption) = IsFirstNotZero problem m assumption
+RefusesModel problem m (refusal.NotZero number) = IsFirstNotZero problem m number
 RefusesModel problem m refusal.ClaimZero = MakesClaimZero problem m
 RefusesModel problem m (refusal.Memory failed) = ⊤
 
@@ -68,5 +68,5 @@ IsMemory refusal.NoSuchClaim = ⊥
 IsMemory (refusal.MissingMap letter) = ⊥
 IsMemory (refusal.BadShape letter) = ⊥
 IsMemory (refusal.NotSymmetric letter) = ⊥
-IsMemory (refusal.NotZero assumption) = ⊥
+IsMemory (refusal.NotZero number) = ⊥
 IsMemory refusal.ClaimZero = ⊥
