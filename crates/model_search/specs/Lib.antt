@@ -1,2 +1,3 @@
 pub mod Models
 pub mod Refusals
+pub mod Candidates
