@@ -2,9 +2,15 @@
 #![tactic(auto)]
 
 mod confirm;
+mod laws;
 mod maps;
 mod refusal;
 mod representation;
+mod value;
 
 pub use confirm::confirm_model;
+pub use laws::{
+    each_model_is_judged, model_refusal_is_unique, refuting_model_is_not_refused,
+    refuting_models_are_counterexamples,
+};
 pub use refusal::ModelRefusal;

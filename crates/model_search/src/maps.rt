@@ -1,12 +1,13 @@
 // Whether the matrices of a model fit the declared maps.
-ghost use Rattle.std.specs.Prelude.{◌≡◌, ◌<◌, IfOk, IfErr, IfSome, IfNone, IsTrue, ◌↔◌};
+ghost use Rattle.std.specs.Prelude.{◌≡◌, ◌<◌, IfOk, IfErr, IsTrue, ◌↔◌};
 ghost use Rattle.quiver.specs.Declarations.{letter_count, quiver_of, ObjectsFirst};
 ghost use Rattle.matrix_models.specs.Matrices.{transpose};
-ghost use Rattle.model_search.specs.Models.{map_at, IsModel, IsMap, HasEnds, HasMatrix, HaveMatrices};
-ghost use Rattle.model_search.specs.Refusals.{RefusesMap, IsMemory};
+ghost use Rattle.model_search.specs.Models.{IsModel, IsMap, HasEnds, HasMatrix, HaveMatrices};
+ghost use Rattle.model_search.specs.Refusals.{RefusesMap};
 
 use crate::ModelRefusal;
-use category_laws::{Category, Involutive};
+use crate::representation::transpose_of;
+use category_laws::Category;
 use matrix_models::{Matrices, Matrix, Model};
 use quiver::Quiver;
 use std::alloc::{AllocError, Global};
@@ -35,8 +36,8 @@ fn check_map(
     model: &Model,
     letter: Letter,
 ) -> Result<(), ModelRefusal>
-    requires map { IsMap (quiver_of quiver.now) letter.0 }
     requires model { IsModel (quiver_of quiver.now) model.now }
+    requires map { IsMap (quiver_of quiver.now) letter.0 }
     requires earlier { HaveMatrices (quiver_of quiver.now) model.now letter.0 }
     ensures fitting { IfOk result (λ _. HasMatrix (quiver_of quiver.now) model.now letter.0) }
     ensures refused { IfErr result (RefusesMap (quiver_of quiver.now) model.now) }
@@ -47,7 +48,7 @@ fn check_map(
     if !has_ends(quiver, model, letter, matrix) {
         return Err(ModelRefusal::BadShape { letter });
     }
-    if quiver.star_of(letter) == letter && !is_self_transposed(alloc, model.modulus, matrix)? {
+    if quiver.star_of(letter) == letter && !is_self_transposed(alloc, matrix)? {
         return Err(ModelRefusal::NotSymmetric { letter });
     }
     Ok(())
@@ -66,11 +67,12 @@ fn has_ends(quiver: &Quiver, model: &Model, letter: Letter, matrix: &Matrix) -> 
 }
 
 // Whether the matrix is its own transpose.
-fn is_self_transposed(alloc: Global, modulus: u32, matrix: &Matrix) -> Result<bool, AllocError>
-    requires { matrix.now.modulus ≡ modulus }
-    ensures { IfOk result (λ same. IsTrue same ↔ (transpose modulus matrix.now ≡ matrix.now)) }
+fn is_self_transposed(alloc: Global, matrix: &Matrix) -> Result<bool, AllocError>
+    ensures { IfOk result (λ same. IsTrue same ↔ (transpose matrix.now.modulus matrix.now ≡ matrix.now)) }
 {
-    let category = Matrices { modulus };
-    let transposed = category.adjoint(alloc, matrix)?;
+    let category = Matrices {
+        modulus: matrix.modulus(),
+    };
+    let transposed = transpose_of(alloc, matrix)?;
     Ok(category.same(&transposed, matrix))
 }

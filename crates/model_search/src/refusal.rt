@@ -1,4 +1,6 @@
 //! Why a model doesn't refute its claim.
+ghost use Rattle.model_search.specs.Memory.{IsMemory};
+
 use std::alloc::AllocError;
 use thiserror::Error;
 use word_core::Letter;
@@ -29,4 +31,12 @@ pub enum ModelRefusal {
     /// Memory is short.
     #[error(transparent)]
     Memory(AllocError),
+}
+
+impl From<AllocError> for ModelRefusal {
+    ghost from_gives = { λ _ e. IsMemory e };
+
+    fn from(failed: AllocError) -> ModelRefusal {
+        ModelRefusal::Memory(failed)
+    }
 }

@@ -1,10 +1,10 @@
 // The representation that a model describes.
-ghost use Rattle.std.specs.Prelude.{◌≡◌, ◌<◌, Some, IfOk, map};
-ghost use Rattle.std.specs.List.{range_with_len};
-ghost use Rattle.definitions.specs.Quiver.{letters};
+ghost use Rattle.std.specs.Prelude.{◌≡◌, ◌<◌, length, Some, IfOk};
 ghost use Rattle.quiver.specs.Declarations.{letter_count, quiver_of, ObjectsFirst};
 ghost use Rattle.matrix_models.specs.Matrix.{Matrix};
+ghost use Rattle.matrix_models.specs.Matrices.{transpose};
 ghost use Rattle.model_search.specs.Models.{map_at, arrow_of, IsModel, HaveMatrices};
+ghost use Rattle.model_search.specs.Listed.{AreOfModel};
 
 use category_laws::{Category, Involutive};
 use lists::{Duplicate, Listing};
@@ -23,19 +23,18 @@ pub(crate) fn representation_of(
     requires objects_first { ObjectsFirst quiver.now }
     requires model { IsModel (quiver_of quiver.now) model.now }
     requires maps { HaveMatrices (quiver_of quiver.now) model.now (letter_count quiver.now) }
-    ensures objects { IfOk result (λ f. f.objects ≡ model.now.sides) }
-    ensures arrows { IfOk result (λ f. f.arrows ≡ map (arrow_of (quiver_of quiver.now) model.now) (range_with_len 0 (letter_count quiver.now))) }
+    ensures { IfOk result (λ f. AreOfModel (quiver_of quiver.now) model.now f.objects f.arrows) }
 {
     let objects = model.sides.duplicate()?;
     let mut arrows = Listing::new(alloc);
     for number in 0..quiver.letters() {
-        arrows.push(arrow_of(alloc, quiver, model, Letter(number as u16))?)?;
+        arrows.push(arrow_for(alloc, quiver, model, Letter(number as u16))?)?;
     }
     Ok(Representation { objects, arrows })
 }
 
 // The matrix of a letter.
-fn arrow_of(
+fn arrow_for(
     alloc: Global,
     quiver: &Quiver,
     model: &Model,
@@ -47,21 +46,22 @@ fn arrow_of(
     requires maps { HaveMatrices (quiver_of quiver.now) model.now (letter_count quiver.now) }
     ensures { IfOk result (λ x. x ≡ arrow_of (quiver_of quiver.now) model.now letter.0) }
 {
-    let category = Matrices {
-        modulus: model.modulus,
-    };
     if u32::from(letter.0) < quiver.objects() {
+        let category = Matrices {
+            modulus: model.modulus,
+        };
         return category.identity(alloc, model.sides.at(usize::from(letter.0)));
     }
     let star = quiver.star_of(letter);
     if letter.0 <= star.0 {
         return map_of(model, letter).duplicate();
     }
-    category.adjoint(alloc, map_of(model, star))
+    transpose_of(alloc, map_of(model, star))
 }
 
 // The matrix of a declared map that has one.
 fn map_of(model: &Model, letter: Letter) -> &Matrix
+    requires in_range { letter.0 < length model.now.maps }
     requires there { (x : Matrix) × (map_at model.now letter.0 ≡ Some x) }
     ensures { map_at model.now letter.0 ≡ Some result.now }
 {
@@ -69,4 +69,14 @@ fn map_of(model: &Model, letter: Letter) -> &Matrix
         Some(matrix) => matrix,
         None => unreachable!(),
     }
+}
+
+// The transpose, modulo the matrix's own modulus.
+pub(crate) fn transpose_of(alloc: Global, matrix: &Matrix) -> Result<Matrix, AllocError>
+    ensures { IfOk result (λ x. x ≡ transpose matrix.now.modulus matrix.now) }
+{
+    let category = Matrices {
+        modulus: matrix.modulus(),
+    };
+    category.adjoint(alloc, matrix)
 }
