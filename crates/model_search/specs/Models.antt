@@ -6,7 +6,7 @@ use Rattle.definitions.specs.Combination.{generator_at}
 use Rattle.definitions.specs.Representation.{Representation}
 use Rattle.definitions.specs.Soundness.{HasValueZero}
 use Rattle.quiver.specs.Declarations.{quiver_of}
-use Rattle.matrix_models.specs.Matrix.{Matrix, IsModulus, IsSide}
+use Rattle.matrix_models.specs.Matrix.{Matrix, IsModulus, IsSide, IsMatrix}
 use Rattle.matrix_models.specs.Matrices.{matrices, identity_matrix, zero_matrix, transpose}
 use Rattle.matrix_models.specs.declared.model.Model.{Model}
 use Rattle.adjoint_rules.specs.declared.problem.Problem.{Problem}
@@ -51,9 +51,9 @@ pub record IsMap (q : Quiver) (a : ℕ) : Type 0 where
   pub letter : a < letters q
   pub declared : a ≤ star q a
 
--- the matrix has the modulus of the model, and the sides of the map's target and source
+-- the matrix is one modulo the modulus of the model, with the sides of the map's target and source
 pub record HasEnds (q : Quiver) (m : Model) (a : ℕ) (x : Matrix) : Type 0 where
-  pub modulus : x.modulus ≡ m.modulus
+  pub matrix : IsMatrix m.modulus x
   pub rows : x.rows ≡ side_of m (target q a)
   pub columns : x.columns ≡ side_of m (source q a)
 

@@ -24,7 +24,7 @@ pub record LacksMatrix (q : Quiver) (m : Model) (a : ℕ) : Type 0 where
   pub at : IsAtMap q m a
   pub none : map_at m a ≡ None
 
--- its matrix has another modulus or other sides
+-- its matrix is none modulo the model's modulus, or has other sides
 pub record HasOtherEnds (q : Quiver) (m : Model) (a : ℕ) : Type 0 where
   pub at : IsAtMap q m a
   pub matrix : Matrix

@@ -1,7 +1,8 @@
 // Whether a model refutes its claim.
 ghost use Rattle.std.specs.Prelude.{IfOk, IfErr, OnOk, IfSome, IfNone};
 ghost use Rattle.std.specs.List.{AllByRecursion};
-ghost use Rattle.quiver.specs.Declarations.{letter_count, quiver_of};
+ghost use Rattle.definitions.specs.Quiver.{letters};
+ghost use Rattle.quiver.specs.Declarations.{quiver_of};
 ghost use Rattle.model_search.specs.Models.{IsModel, HaveMatrices, IsZeroIn, assumptions_of, Refutes};
 ghost use Rattle.model_search.specs.Refusals.{RefusesModel, IsFirstNotZero};
 ghost use Rattle.model_search.specs.Memory.{IsMemory};
@@ -50,7 +51,7 @@ fn first_not_zero(
     representation: &Representation<Matrices>,
 ) -> Result<Option<u32>, AllocError>
     requires model { IsModel (quiver_of problem.now.parts.quiver) model.now }
-    requires maps { HaveMatrices (quiver_of problem.now.parts.quiver) model.now (letter_count problem.now.parts.quiver) }
+    requires maps { HaveMatrices (quiver_of problem.now.parts.quiver) model.now (letters (quiver_of problem.now.parts.quiver)) }
     requires lists { AreOfModel (quiver_of problem.now.parts.quiver) model.now representation.now.objects representation.now.arrows }
     ensures zero { IfOk result (λ first. IfNone first (AllByRecursion (IsZeroIn problem.now model.now) (assumptions_of problem.now))) }
     ensures not_zero { IfOk result (λ first. IfSome first (IsFirstNotZero problem.now model.now)) }

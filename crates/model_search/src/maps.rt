@@ -1,6 +1,7 @@
 // Whether the matrices of a model fit the declared maps.
 ghost use Rattle.std.specs.Prelude.{◌≡◌, ◌<◌, IfOk, IfErr, IsTrue, ◌↔◌};
-ghost use Rattle.quiver.specs.Declarations.{letter_count, quiver_of, ObjectsFirst};
+ghost use Rattle.definitions.specs.Quiver.{letters, IsQuiver};
+ghost use Rattle.quiver.specs.Declarations.{letter_count, quiver_of};
 ghost use Rattle.matrix_models.specs.Matrices.{transpose};
 ghost use Rattle.model_search.specs.Models.{IsModel, IsMap, HasEnds, HasMatrix, HaveMatrices};
 ghost use Rattle.model_search.specs.Refusals.{RefusesMap};
@@ -15,9 +16,9 @@ use word_core::Letter;
 
 /// Each declared map has its matrix, or the first that hasn't is told with what is wrong.
 pub(crate) fn check_maps(alloc: Global, quiver: &Quiver, model: &Model) -> Result<(), ModelRefusal>
-    requires objects_first { ObjectsFirst quiver.now }
+    requires quiver { IsQuiver (quiver_of quiver.now) }
     requires model { IsModel (quiver_of quiver.now) model.now }
-    ensures fitting { IfOk result (λ _. HaveMatrices (quiver_of quiver.now) model.now (letter_count quiver.now)) }
+    ensures fitting { IfOk result (λ _. HaveMatrices (quiver_of quiver.now) model.now (letters (quiver_of quiver.now))) }
     ensures refused { IfErr result (RefusesMap (quiver_of quiver.now) model.now) }
 {
     for number in quiver.objects()..quiver.letters() {

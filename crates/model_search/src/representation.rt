@@ -1,6 +1,7 @@
 // The representation that a model describes.
 ghost use Rattle.std.specs.Prelude.{◌≡◌, ◌<◌, length, Some, IfOk};
-ghost use Rattle.quiver.specs.Declarations.{letter_count, quiver_of, ObjectsFirst};
+ghost use Rattle.definitions.specs.Quiver.{letters, IsQuiver};
+ghost use Rattle.quiver.specs.Declarations.{letter_count, quiver_of};
 ghost use Rattle.matrix_models.specs.Matrix.{Matrix};
 ghost use Rattle.matrix_models.specs.Matrices.{transpose};
 ghost use Rattle.model_search.specs.Models.{map_at, arrow_of, IsModel, HaveMatrices};
@@ -20,9 +21,9 @@ pub(crate) fn representation_of(
     quiver: &Quiver,
     model: &Model,
 ) -> Result<Representation<Matrices>, AllocError>
-    requires objects_first { ObjectsFirst quiver.now }
+    requires quiver { IsQuiver (quiver_of quiver.now) }
     requires model { IsModel (quiver_of quiver.now) model.now }
-    requires maps { HaveMatrices (quiver_of quiver.now) model.now (letter_count quiver.now) }
+    requires maps { HaveMatrices (quiver_of quiver.now) model.now (letters (quiver_of quiver.now)) }
     ensures { IfOk result (λ f. AreOfModel (quiver_of quiver.now) model.now f.objects f.arrows) }
 {
     let objects = model.sides.duplicate()?;
@@ -41,9 +42,9 @@ fn arrow_for(
     letter: Letter,
 ) -> Result<Matrix, AllocError>
     requires letter { letter.0 < letter_count quiver.now }
-    requires objects_first { ObjectsFirst quiver.now }
+    requires quiver { IsQuiver (quiver_of quiver.now) }
     requires model { IsModel (quiver_of quiver.now) model.now }
-    requires maps { HaveMatrices (quiver_of quiver.now) model.now (letter_count quiver.now) }
+    requires maps { HaveMatrices (quiver_of quiver.now) model.now (letters (quiver_of quiver.now)) }
     ensures { IfOk result (λ x. x ≡ arrow_of (quiver_of quiver.now) model.now letter.0) }
 {
     if u32::from(letter.0) < quiver.objects() {

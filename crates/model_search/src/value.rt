@@ -1,8 +1,8 @@
 // Whether the value of a polynomial in a model is zero.
 ghost use Rattle.std.specs.Prelude.{◌<◌, ◌↔◌, IfOk, IsTrue};
-ghost use Rattle.definitions.specs.Quiver.{IsTyped};
+ghost use Rattle.definitions.specs.Quiver.{letters, IsQuiver, IsTyped};
 ghost use Rattle.definitions.specs.Soundness.{HasValueZero};
-ghost use Rattle.quiver.specs.Declarations.{letter_count, object_count, quiver_of, ObjectsFirst};
+ghost use Rattle.quiver.specs.Declarations.{object_count, quiver_of};
 ghost use Rattle.matrix_models.specs.Matrices.{matrices};
 ghost use Rattle.model_search.specs.Models.{representation_of, IsModel, HaveMatrices};
 ghost use Rattle.model_search.specs.Listed.{AreOfModel};
@@ -23,9 +23,9 @@ pub(crate) fn is_zero(
     poly: &Poly,
     sig: Sig,
 ) -> Result<bool, AllocError>
-    requires objects_first { ObjectsFirst quiver.now }
+    requires quiver { IsQuiver (quiver_of quiver.now) }
     requires model { IsModel (quiver_of quiver.now) model.now }
-    requires maps { HaveMatrices (quiver_of quiver.now) model.now (letter_count quiver.now) }
+    requires maps { HaveMatrices (quiver_of quiver.now) model.now (letters (quiver_of quiver.now)) }
     requires lists { AreOfModel (quiver_of quiver.now) model.now representation.now.objects representation.now.arrows }
     requires typed { IsTyped (quiver_of quiver.now) sig.source.0 sig.target.0 poly.now.terms }
     requires source_in_range { sig.source.0 < object_count quiver.now }
