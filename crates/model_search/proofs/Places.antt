@@ -1,5 +1,5 @@
 -- What is known of the polynomial at a place of a list, and of the first places of a list.
-use Rattle.std.proofs.Common.{◌≡◌, ℕ, suc, ◌+◌, ◌<◌, ℤ, List, [], ◌∷◌, ◌++◌, length, get_or, take, Option, Some, MatchOption, All, slice_get, option_map, refl, sym, ap, subst, ◌∙◌, arith}
+use Rattle.std.proofs.Common.{◌≡◌, ℕ, suc, ◌+◌, ◌-◌, ◌<◌, ◌≤◌, ℤ, List, [], ◌∷◌, ◌++◌, length, get_or, take, Option, Some, MatchOption, All, slice_get, option_map, refl, sym, ap, subst, ◌∙◌, arith}
 use Rattle.std.specs.List.{AllByRecursion, AllZip}
 use Rattle.std.specs.Option.{IsSomeAnd}
 use Rattle.std.proofs.lemmas.List.{take_more, length-map}
@@ -28,6 +28,11 @@ generator_at-suc ps k p is =
     let next : k + 1 ≡ suc k = omega arith in
     ap (generator_at (polynomials ps)) next
     ∙ get_or_from_slice_get (polynomials ps) k p.terms [] (slice_get-map (λ r. r.terms) ps k ∙ ap (option_map (λ r. r.terms)) is)
+
+pub generator_at-number : (ps : List Poly) (n : ℕ) (p : Poly) → 1 ≤ n → slice_get ps (n - 1) ≡ Some p → generator_at (polynomials ps) n ≡ p.terms
+generator_at-number ps n p least is =
+    let number : n - 1 + 1 ≡ n = omega arith in
+    ap (generator_at (polynomials ps)) (sym number) ∙ generator_at-suc ps (n - 1) p is
 
 pub inside : (ps : List Poly) (k : ℕ) (p : Poly) → slice_get ps k ≡ Some p → k < length (polynomials ps)
 inside ps k p is = subst (λ n. k < n) (sym (length-map ps (λ r. r.terms))) (slice_get_within ps k p is)
