@@ -1,3 +1,4 @@
 pub mod Arrows
 pub mod Values
 pub mod Places
+pub mod Counterexamples
