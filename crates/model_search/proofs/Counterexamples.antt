@@ -63,7 +63,7 @@ module _ (problem : Problem) (m : Model) where
   pub zero_from_posed : (p : Poly) (s : Sig) → IsPosedOf problem p s → HasValueZeroAt (matrices m.modulus) q (representation_of q m) s.source.0 s.target.0 p.terms → IsZeroIn problem m p.terms
   zero_from_posed p s posed zero = zero_from_value (matrices m.modulus) q (representation_of q m) p.terms p.canonical s.source.0 s.target.0 posed.typed zero
 
-  claim_is : (n : ℕ) (number : IsClaimNumber problem n) → claim_polynomial problem n ≡ (claim_at n number).x.terms
+  pub claim_is : (n : ℕ) (number : IsClaimNumber problem n) → claim_polynomial problem n ≡ (claim_at n number).x.terms
   claim_is n number = let at = claim_at n number in generator_at-number problem.parts.claims n at.x number.least at.x_there
 
   has_other_value : (n : ℕ) → IsClaimNumber problem n → (IsZeroIn problem m (claim_polynomial problem n) → ⊥) → HasOtherValue problem m (claim_polynomial problem n)
