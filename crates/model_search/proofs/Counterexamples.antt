@@ -6,6 +6,7 @@ use Rattle.std.proofs.lemmas.Slice.Zip.{AllZip-long}
 use Rattle.definitions.specs.Quiver.{Quiver, IsTyped}
 use Rattle.definitions.specs.Representation.{StarRepresents}
 use Rattle.definitions.specs.Soundness.{HasValueZeroAt}
+use Rattle.definitions.proofs.Sound.{sound}
 use Rattle.definitions.proofs.StarSound.{star_sound}
 use Rattle.nc_polynomial.specs.declared.poly.Poly.{Poly}
 use Rattle.quiver.specs.declared.named.Sig.{Sig}
@@ -14,10 +15,10 @@ use Rattle.matrix_models.specs.Matrices.{matrices, transpose}
 use Rattle.matrix_models.specs.Laws.{matrices_laws, transpose_laws}
 use Rattle.matrix_models.specs.declared.model.Model.{Model}
 use Rattle.adjoint_rules.specs.declared.problem.Problem.{Problem}
-use Rattle.adjoint_rules.specs.Problem.{IsTypedOf, HasObjects}
-use Rattle.adjoint_rules.proofs.Generators.{posed_quiver, generators_are_zero}
+use Rattle.adjoint_rules.specs.Problem.{polynomials, IsTypedOf, HasObjects}
+use Rattle.adjoint_rules.proofs.Generators.{posed_quiver, generators_have_signatures, generators_are_zero}
 use Rattle.model_search.specs.Models.{representation_of, IsModel, IsZeroIn, IsClaimNumber, claim_polynomial, Refutes}
-use Rattle.model_search.specs.Laws.{HasOtherValue, RefutingModelsAreCounterexamples}
+use Rattle.model_search.specs.Laws.{HasOtherValue, RefutingModelsAreCounterexamples, RefutedClaimsDoNotFollow}
 use Rattle.model_search.proofs.Arrows.{star_represents}
 use Rattle.model_search.proofs.Places.{all_at, zip_at, generator_at-number}
 use Rattle.model_search.proofs.Values.{zero_from_value}
@@ -96,3 +97,11 @@ refuting_models_are_counterexamples problem m model refutes = record {
 
     rep : StarRepresents (matrices m.modulus) (transpose m.modulus) (quiver_of problem.parts.quiver) (representation_of (quiver_of problem.parts.quiver) m)
     rep = star_represents (quiver_of problem.parts.quiver) (posed_quiver problem.parts problem.posed) m model refutes.assumptions.fitting.maps
+
+pub refuted_claims_do_not_follow : RefutedClaimsDoNotFollow
+refuted_claims_do_not_follow problem m rows d model refutes cancels combination =
+    let q' = quiver_of problem.parts.quiver in
+    let shown = refuting_models_are_counterexamples problem m model refutes in
+    let typed = generators_have_signatures problem.parts problem.posed problem.generators problem.closed in
+    let makes = (sound (matrices_laws m.modulus)).certificate q' (polynomials problem.generators) rows d (claim_polynomial problem m.claim) (posed_quiver problem.parts problem.posed) typed combination in
+    refutes.claim (makes.zero (representation_of q' m) shown.represents.represents cancels shown.generators)

@@ -126,13 +126,16 @@ module _ (problem : Problem) (m : Model) where
           → AllByRecursion (IsZeroIn problem m) (take (suc k) (assumptions_of problem)) ⊎ ((number : ℕ) × IsFirstNotZero problem m number)
       here before (inl nothing) =
           inl (subst (λ n. AllByRecursion (IsZeroIn problem m) (take n (assumptions_of problem))) next (one_more (IsZeroIn problem m) problem.parts.assumptions k at.x at.x_there before nothing))
-      here before (inr other) = inr (k + 1, record {
-        before = k;
-        numbered = refl;
-        inside = inside problem.parts.assumptions k at.x at.x_there;
-        earlier = before;
-        other = λ zero. other (subst (IsZeroIn problem m) (generator_at-suc problem.parts.assumptions k at.x at.x_there) zero);
-      })
+      here before (inr other) = inr (
+        k + 1,
+        record {
+          before = k;
+          numbered = refl;
+          inside = inside problem.parts.assumptions k at.x at.x_there;
+          earlier = before;
+          other = λ zero. other (subst (IsZeroIn problem m) (generator_at-suc problem.parts.assumptions k at.x at.x_there) zero);
+        },
+      )
 
       go : AllByRecursion (IsZeroIn problem m) (take k (assumptions_of problem)) ⊎ ((number : ℕ) × IsFirstNotZero problem m number)
           → AllByRecursion (IsZeroIn problem m) (take (suc k) (assumptions_of problem)) ⊎ ((number : ℕ) × IsFirstNotZero problem m number)

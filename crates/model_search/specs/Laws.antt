@@ -2,7 +2,8 @@
 use Rattle.std.specs.Prelude.{◌≡◌, ◌⊎◌, ℕ, ℤ, ◌<◌, List}
 use Rattle.std.specs.List.{AllByRecursion}
 use Rattle.definitions.specs.Quiver.{IsTyped}
-use Rattle.definitions.specs.Representation.{StarRepresents}
+use Rattle.definitions.specs.Representation.{StarRepresents, Cancels}
+use Rattle.definitions.specs.Combination.{Row, IsCombination}
 use Rattle.definitions.specs.Soundness.{HasValueZeroAt}
 use Rattle.quiver.specs.Declarations.{object_count, quiver_of}
 use Rattle.matrix_models.specs.Matrices.{matrices, transpose}
@@ -32,6 +33,12 @@ pub record IsCounterexample (problem : Problem) (m : Model) : Type 0 where
 -- A model that refutes its claim is one.
 abbrev pub RefutingModelsAreCounterexamples : Type 0
 RefutingModelsAreCounterexamples = (problem : Problem) (m : Model) → IsModel (quiver_of problem.parts.quiver) m → Refutes problem m → IsCounterexample problem m
+
+-- The claim isn't what rows over the generators add up to, with a denominator that cancels in the matrices of the modulus.
+abbrev pub RefutedClaimsDoNotFollow : Type 0
+RefutedClaimsDoNotFollow =
+    (problem : Problem) (m : Model) (rows : List Row) (d : ℤ) → IsModel (quiver_of problem.parts.quiver) m → Refutes problem m → Cancels (matrices m.modulus) d
+    → IsCombination (polynomials problem.generators) rows d (claim_polynomial problem m.claim) → ⊥
 
 -- Of one model there is one refusal at most, apart from want of memory.
 abbrev pub ModelRefusalIsUnique : Type 0

@@ -10,7 +10,7 @@ mod value;
 
 pub use confirm::confirm_model;
 pub use laws::{
-    each_model_is_judged, model_refusal_is_unique, refuting_model_is_not_refused,
-    refuting_models_are_counterexamples,
+    each_model_is_judged, model_refusal_is_unique, refuted_claims_do_not_follow,
+    refuting_model_is_not_refused, refuting_models_are_counterexamples,
 };
 pub use refusal::ModelRefusal;

@@ -48,11 +48,11 @@ returns-clause-fitting c =
       there = ap (λ i. get_or maps i None) (sym c.from.ensures) ∙ get_or_from_slice_get maps c.from.result c.at.result.now None c.at.ensures ∙ c.in-Some.is;
       ends = ends;
       self_transposed = elim c.else-eq.branch [
-        else-eq-via-then-eq+in_ok-is_self_transposed+else-not-branch w ↦ record {
-            same = λ itself. ap (λ n. transpose n c.in-Some.matrix) (sym ends.matrix.modulus_is) ∙ w.in_ok-is_self_transposed.ensures.0 w.if-not-branch.false;
-          }
-      | else-eq-via-else-eq w ↦ record {
-            same = λ itself. absurd (true≢false (sym (c.eq.ensures ∙ eq-eqb c.star_of.result.0 c.args.letter.0 (c.star_of.ensures.star ∙ itself)) ∙ w.if-eq.false));
-          }
+        | else-eq-via-then-eq+in_ok-is_self_transposed+else-not-branch w ↦ record {
+          same = λ itself. ap (λ n. transpose n c.in-Some.matrix) (sym ends.matrix.modulus_is) ∙ w.in_ok-is_self_transposed.ensures.0 w.if-not-branch.false;
+        }
+        | else-eq-via-else-eq w ↦ record {
+          same = λ itself. absurd (true≢false (sym (c.eq.ensures ∙ eq-eqb c.star_of.result.0 c.args.letter.0 (c.star_of.ensures.star ∙ itself)) ∙ w.if-eq.false));
+        }
       ];
     }
