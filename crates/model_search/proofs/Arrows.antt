@@ -1,5 +1,5 @@
 -- The matrices that a model has for letters are a star representation.
-use Rattle.std.proofs.Common.{◌≡◌, ℕ, ◌<◌, ◌≤◌, Bool, true, false, cond, nat_lt, nat_le, List, length, get_or, Option, Some, None, ◌⊎◌, inl, inr, sym, refl, ap, ap₂, subst, ◌∙◌, arith}
+use Rattle.std.proofs.Common.{◌≡◌, ℕ, ◌<◌, ◌≤◌, cond, nat_le, None, ◌⊎◌, inl, inr, sym, ap, subst, ◌∙◌, arith}
 use Rattle.std.proofs.lemmas.Bool.{cases_lt, cases_eq, lt-ltb, le-ltb, le-leb, lt-leb}
 use Rattle.std.proofs.lemmas.List.{get_or_past}
 use Rattle.std.proofs.lemmas.List.Elements.{All-get_or}
@@ -10,7 +10,7 @@ use Rattle.matrix_models.specs.Matrix.{Matrix, IsSide}
 use Rattle.matrix_models.specs.Matrices.{matrices, transpose, identity_matrix, IsObject}
 use Rattle.matrix_models.specs.Laws.{matrices_laws, transpose_laws}
 use Rattle.matrix_models.specs.declared.model.Model.{Model}
-use Rattle.model_search.specs.Models.{side_of, map_at, matrix_or_zero, arrow_of, representation_of, IsModel, IsMap, HasMatrix, HaveMatrices}
+use Rattle.model_search.specs.Models.{side_of, map_at, matrix_or_zero, arrow_of, representation_of, IsModel, IsMap, HaveMatrices}
 
 module _ (q : Quiver) (m : Model) where
   -- an identity

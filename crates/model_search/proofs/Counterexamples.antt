@@ -1,6 +1,5 @@
 -- A model that refutes its claim is a star representation in which all generators are zero and the claim isn't.
 use Rattle.std.proofs.Common.{◌≡◌, ℕ, ◌-◌, ◌<◌, ◌≤◌, List, length, get_or, Some, None, slice_get, ◌⊎◌, inl, inr, sym, subst, arith}
-use Rattle.std.specs.List.{AllZip}
 use Rattle.std.proofs.lemmas.Option.{slice_get_cases}
 use Rattle.std.proofs.lemmas.Slice.Zip.{AllZip-long}
 use Rattle.definitions.specs.Quiver.{Quiver, IsTyped}
@@ -17,7 +16,7 @@ use Rattle.matrix_models.specs.declared.model.Model.{Model}
 use Rattle.adjoint_rules.specs.declared.problem.Problem.{Problem}
 use Rattle.adjoint_rules.specs.Problem.{polynomials, IsTypedOf, HasObjects}
 use Rattle.adjoint_rules.proofs.Generators.{posed_quiver, generators_have_signatures, generators_are_zero}
-use Rattle.model_search.specs.Models.{representation_of, IsModel, IsZeroIn, IsClaimNumber, claim_polynomial, Refutes}
+use Rattle.model_search.specs.Models.{representation_of, IsZeroIn, IsClaimNumber, claim_polynomial}
 use Rattle.model_search.specs.Laws.{HasOtherValue, RefutingModelsAreCounterexamples, RefutedClaimsDoNotFollow}
 use Rattle.model_search.proofs.Arrows.{star_represents}
 use Rattle.model_search.proofs.Places.{all_at, zip_at, generator_at-number}

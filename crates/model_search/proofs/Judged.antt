@@ -1,5 +1,5 @@
 -- Each model refutes its claim, or one of the tests is the first that fails.
-use Rattle.std.proofs.Common.{◌≡◌, ℕ, zero, suc, ◌+◌, ◌-◌, ◌<◌, ◌≤◌, ℤ, List, length, take, Option, Some, None, ◌⊎◌, inl, inr, refl, sym, subst, arith}
+use Rattle.std.proofs.Common.{◌≡◌, ℕ, zero, suc, ◌+◌, ◌-◌, ◌<◌, ◌≤◌, length, take, Option, Some, None, ◌⊎◌, inl, inr, refl, sym, subst, arith}
 use Rattle.std.specs.List.{AllByRecursion}
 use Rattle.std.proofs.Math.Seq.{take-length}
 use Rattle.std.proofs.lemmas.List.{length-map}
@@ -14,7 +14,7 @@ use Rattle.matrix_models.specs.Matrix.{Matrix}
 use Rattle.matrix_models.specs.Matrices.{matrices, transpose}
 use Rattle.matrix_models.specs.declared.model.Model.{Model}
 use Rattle.adjoint_rules.specs.declared.problem.Problem.{Problem}
-use Rattle.adjoint_rules.specs.Problem.{polynomials, IsTypedOf, HasObjects}
+use Rattle.adjoint_rules.specs.Problem.{IsTypedOf, HasObjects}
 use Rattle.model_search.specs.declared.refusal.ModelRefusal.{ModelRefusal}
 use Rattle.model_search.specs.declared.refusal.ModelRefusal.TheVariants as refusal
 use Rattle.model_search.specs.Models.{side_of, map_at, representation_of, IsMap, HasEnds, IsSelfTransposed, HasMatrix, HaveMatrices, IsClaimNumber, IsZeroIn, assumptions_of, claim_polynomial, IsFitting, Refutes}

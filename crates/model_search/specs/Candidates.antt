@@ -1,5 +1,5 @@
 -- The candidates of a shape: which matrices are tried as models of a statement, and in which order.
-use Rattle.std.specs.Prelude.{◌≡◌, ◌<◌, ◌≤◌, ℕ, ◌+◌, ◌*◌, ◌/◌, ◌%◌, ◌^◌, ℤ, Bool, not, ◌&&◌, ◌||◌, nat_eq, nat_lt, nat_le, IsTrue, List, [], ◌∷◌, ◌++◌, length, map, filter, take, get_or, position, Option, Some, None, slice_get, ◌⊎◌, if◌then◌else◌}
+use Rattle.std.specs.Prelude.{◌≡◌, ◌<◌, ◌≤◌, ℕ, ◌+◌, ◌*◌, ◌/◌, ◌%◌, ◌^◌, Bool, not, ◌&&◌, ◌||◌, nat_eq, nat_lt, nat_le, IsTrue, List, [], ◌∷◌, ◌++◌, length, map, filter, take, get_or, position, Option, Some, None, slice_get, ◌⊎◌, if◌then◌else◌}
 use Rattle.std.specs.List.{All, AllByRecursion, flat_map, list_all, list_any, range_with_len}
 use Rattle.definitions.specs.Quiver.{Quiver, letters, source, target, star}
 use Rattle.rand_pcg.specs.Lcg.{advance, started, increment_of}

@@ -1,5 +1,5 @@
 -- The representation that matrices for the declared maps describe, and when they refute a claim.
-use Rattle.std.specs.Prelude.{◌≡◌, ◌<◌, ◌≤◌, ℕ, ℤ, List, [], length, get_or, nat_lt, nat_le, Option, Some, None, if◌then◌else◌}
+use Rattle.std.specs.Prelude.{◌≡◌, ◌<◌, ◌≤◌, ℕ, ℤ, List, length, get_or, nat_lt, nat_le, Option, Some, None, if◌then◌else◌}
 use Rattle.std.specs.List.{All, AllByRecursion}
 use Rattle.definitions.specs.Quiver.{Quiver, letters, source, target, star}
 use Rattle.definitions.specs.Combination.{generator_at}

@@ -1,7 +1,7 @@
-use Rattle.std.proofs.Common.{◌≡◌, ◌+◌, ◌-◌, ◌<◌, ◌≤◌, length, Some, slice_get, ap, sym, refl, subst, ◌∙◌, arith, true≢false, rules}
+use Rattle.std.proofs.Common.{◌-◌, ◌≤◌, sym, subst, ◌∙◌, arith, true≢false, rules}
 use Rattle.std.proofs.lemmas.Slice.Zip.{AllZip-long}
 use Rattle.std.specs.List.{AllByRecursion}
-use Rattle.adjoint_rules.specs.Problem.{polynomials, IsTypedOf, HasObjects}
+use Rattle.adjoint_rules.specs.Problem.{IsTypedOf, HasObjects}
 use Rattle.adjoint_rules.proofs.Generators.{posed_quiver}
 use Rattle.model_search.specs.Models.{IsZeroIn, IsClaimNumber, assumptions_of}
 use Rattle.model_search.proofs.Places.{all_at, zip_at, generator_at-number}

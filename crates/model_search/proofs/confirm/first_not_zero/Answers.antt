@@ -1,6 +1,5 @@
-use Rattle.std.proofs.Common.{◌≡◌, ◌<◌, length, Some, slice_get, ap, sym, refl, subst, ◌∙◌, true≢false}
+use Rattle.std.proofs.Common.{◌<◌, length, ap, sym, refl, subst, ◌∙◌, true≢false}
 use Rattle.std.proofs.lemmas.Slice.Zip.{AllZip-long}
-use Rattle.nc_polynomial.specs.declared.poly.Poly.{Poly}
 use Rattle.adjoint_rules.specs.Problem.{IsTypedOf, HasObjects}
 use Rattle.adjoint_rules.proofs.Generators.{posed_quiver}
 use Rattle.model_search.specs.Models.{IsZeroIn}

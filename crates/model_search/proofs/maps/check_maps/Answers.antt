@@ -1,5 +1,4 @@
-use Rattle.std.proofs.Common.{◌≡◌, ◌<◌, sym, subst, ◌∙◌, arith, rules}
-use Rattle.quiver.specs.Declarations.{quiver_of}
+use Rattle.std.proofs.Common.{arith, rules}
 use Rattle.quiver.proofs.Counts.{letters-quiver_of}
 use Rattle.model_search.proofs.maps.check_maps.Goals as goal
 

@@ -1,4 +1,4 @@
-use Rattle.std.proofs.Common.{◌≡◌, ◌<◌, length, sym, subst, ◌∙◌, rules, arith}
+use Rattle.std.proofs.Common.{◌<◌, sym, subst, ◌∙◌, rules}
 use Rattle.quiver.specs.Declarations.{quiver_of}
 use Rattle.quiver.proofs.Counts.{letters-quiver_of}
 use Rattle.model_search.specs.Models.{IsMap}

@@ -1,8 +1,8 @@
-use Rattle.std.proofs.Common.{◌≡◌, ℕ, ◌+◌, ◌<◌, ◌≤◌, map, sym, ap, ap₂, ◌∙◌, ◌++◌, ◌∷◌, [], arith, rules}
+use Rattle.std.proofs.Common.{◌≡◌, map, sym, ap, ap₂, ◌∙◌, ◌++◌, ◌∷◌, [], arith, rules}
 use Rattle.std.specs.List.{range_with_len}
 use Rattle.std.proofs.lemmas.List.FromFn.{map-range_with_len_more}
 use Rattle.definitions.specs.Quiver.{letters}
-use Rattle.quiver.specs.Declarations.{letter_count, quiver_of}
+use Rattle.quiver.specs.Declarations.{quiver_of}
 use Rattle.quiver.proofs.Counts.{letters-quiver_of}
 use Rattle.model_search.specs.Models.{arrow_of}
 use Rattle.model_search.proofs.representation.representation_of.Goals as goal

@@ -1,5 +1,4 @@
 use Rattle.std.proofs.Common.{◌≡◌, sym, ap₂, subst, ◌∙◌}
-use Rattle.definitions.specs.Representation.{value_at}
 use Rattle.quiver.specs.Declarations.{quiver_of}
 use Rattle.matrix_models.specs.Matrices.{matrices, zero_matrix, IsObject}
 use Rattle.model_search.specs.Models.{side_of, representation_of}
