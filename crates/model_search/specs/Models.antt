@@ -1,0 +1,104 @@
+-- The representation that matrices for the declared maps describe, and when they refute a claim.
+use Rattle.std.specs.Prelude.{◌≡◌, ◌<◌, ◌≤◌, ℕ, ℤ, List, length, get_or, nat_lt, nat_le, Option, Some, None, if◌then◌else◌}
+use Rattle.std.specs.List.{All, AllByRecursion}
+use Rattle.definitions.specs.Quiver.{Quiver, letters, source, target, star}
+use Rattle.definitions.specs.Combination.{generator_at}
+use Rattle.definitions.specs.Representation.{Representation}
+use Rattle.definitions.specs.Soundness.{HasValueZero}
+use Rattle.quiver.specs.Declarations.{quiver_of}
+use Rattle.matrix_models.specs.Matrix.{Matrix, IsModulus, IsSide, IsMatrix}
+use Rattle.matrix_models.specs.Matrices.{matrices, identity_matrix, zero_matrix, transpose}
+use Rattle.matrix_models.specs.declared.model.Model.{Model}
+use Rattle.adjoint_rules.specs.declared.problem.Problem.{Problem}
+use Rattle.adjoint_rules.specs.Problem.{polynomials}
+
+-- ---- the representation
+
+-- the side of the object with this number
+abbrev pub side_of : Model → ℕ → ℕ
+side_of m v = get_or m.sides v 1
+
+-- the matrix at the place of the letter with this number
+abbrev pub map_at : Model → ℕ → Option Matrix
+map_at m a = get_or m.maps a None
+
+-- a zero matrix stands where there is none
+abbrev pub matrix_or_zero : ℕ → Option Matrix → Matrix
+matrix_or_zero modulus None = zero_matrix modulus 1 1
+matrix_or_zero modulus (Some x) = x
+
+-- An identity goes to the identity matrix, a declared map to its matrix, and the adjoint of a declared map to the transpose of that map's.
+abbrev pub arrow_of : Quiver → Model → ℕ → Matrix
+arrow_of q m a =
+    if nat_lt a q.objects then identity_matrix m.modulus (side_of m a)
+    else (if nat_le a (star q a) then matrix_or_zero m.modulus (map_at m a) else transpose m.modulus (matrix_or_zero m.modulus (map_at m (star q a))))
+
+abbrev pub representation_of : Quiver → Model → Representation ℕ Matrix
+representation_of q m = record { object = side_of m; arrow = arrow_of q m }
+
+-- a modulus, a side for each object, and a place for each letter
+pub record IsModel (q : Quiver) (m : Model) : Type 0 where
+  pub modulus : IsModulus m.modulus
+  pub side_of_each : length m.sides ≡ q.objects
+  pub sides : All IsSide m.sides
+  pub place_of_each : length m.maps ≡ letters q
+
+-- ---- the tests of a model
+
+-- the number is that of a declared map, and not of the adjoint of one
+pub record IsMap (q : Quiver) (a : ℕ) : Type 0 where
+  pub map : q.objects ≤ a
+  pub letter : a < letters q
+  pub declared : a ≤ star q a
+
+-- The matrix is one modulo the modulus of the model, with the sides of the map's target and source. A `Matrix` is one modulo its own modulus, so the two moduli are one.
+pub record HasEnds (q : Quiver) (m : Model) (a : ℕ) (x : Matrix) : Type 0 where
+  pub matrix : IsMatrix m.modulus x
+  pub rows : x.rows ≡ side_of m (target q a)
+  pub columns : x.columns ≡ side_of m (source q a)
+
+-- the matrix of a map that is its own adjoint is its own transpose
+pub record IsSelfTransposed (q : Quiver) (m : Model) (a : ℕ) (x : Matrix) : Type 0 where
+  pub same : star q a ≡ a → transpose m.modulus x ≡ x
+
+-- The map has a matrix, with its ends, and the matrix is as the map is declared.
+pub record HasMatrix (q : Quiver) (m : Model) (a : ℕ) : Type 0 where
+  pub matrix : Matrix
+  pub there : map_at m a ≡ Some matrix
+  pub ends : HasEnds q m a matrix
+  pub self_transposed : IsSelfTransposed q m a matrix
+
+-- each declared map before this number has one
+pub record HaveMatrices (q : Quiver) (m : Model) (count : ℕ) : Type 0 where
+  pub each : (a : ℕ) → a < count → IsMap q a → HasMatrix q m a
+
+-- the number of a claim
+pub record IsClaimNumber (problem : Problem) (number : ℕ) : Type 0 where
+  pub least : 1 ≤ number
+  pub most : number ≤ length problem.parts.claims
+
+-- the value in the model is the zero matrix
+abbrev pub IsZeroIn : Problem → Model → List (ℤ × List ℕ) → Type 0
+IsZeroIn problem m p = HasValueZero (matrices m.modulus) (quiver_of problem.parts.quiver) (representation_of (quiver_of problem.parts.quiver) m) p
+
+-- the polynomials of the assumptions, and that of the claim
+abbrev pub assumptions_of : Problem → List (List (ℤ × List ℕ))
+assumptions_of problem = polynomials problem.parts.assumptions
+
+abbrev pub claim_polynomial : Problem → ℕ → List (ℤ × List ℕ)
+claim_polynomial problem number = generator_at (polynomials problem.parts.claims) number
+
+-- The model names a claim, and each declared map has its matrix.
+pub record IsFitting (problem : Problem) (m : Model) : Type 0 where
+  pub claim : IsClaimNumber problem m.claim
+  pub maps : HaveMatrices (quiver_of problem.parts.quiver) m (letters (quiver_of problem.parts.quiver))
+
+-- All assumptions are zero in it.
+pub record MakesAssumptionsZero (problem : Problem) (m : Model) : Type 0 where
+  pub fitting : IsFitting problem m
+  pub zero : AllByRecursion (IsZeroIn problem m) (assumptions_of problem)
+
+-- All assumptions are zero in it, and the claim isn't.
+pub record Refutes (problem : Problem) (m : Model) : Type 0 where
+  pub assumptions : MakesAssumptionsZero problem m
+  pub claim : IsZeroIn problem m (claim_polynomial problem m.claim) → ⊥
