@@ -56,6 +56,8 @@ mod gallery_rows;
 #[cfg(test)]
 mod gate_tests;
 #[cfg(test)]
+mod lemma_rows;
+#[cfg(test)]
 mod round_tests;
 #[cfg(test)]
 mod test_rows;

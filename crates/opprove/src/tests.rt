@@ -1,6 +1,7 @@
 //! Runs of the program over files and a sink in memory.
 use crate::decided_rows::{OTHERS, PLAIN, PROVED, PROVED_PLAINLY, WITHOUT_FILES};
 use crate::gallery_rows::GALLERY;
+use crate::lemma_rows::{LEMMAS, LONG_WORD};
 use crate::run::run;
 use crate::test_rows::{CALLS, EXAMPLES, JUDGED, REFUSED, SOUND};
 use category_laws::Parity;
@@ -52,7 +53,7 @@ fn answer<R: Threads + Sync>(
 #[test]
 fn each_run_has_its_status_and_report(rt: HostRuntime) -> Result<(), Fail> {
     let alloc = rt.alloc();
-    for rows in [EXAMPLES, JUDGED, REFUSED, &[SOUND]] {
+    for rows in [EXAMPLES, JUDGED, LEMMAS, REFUSED, &[SOUND]] {
         for (statement, certificate, want) in rows {
             let got = answer(&rt, alloc, CHECK, statement, certificate, &[])?;
             assert_eq!(rt; got.as_str(), *want, "{statement:?}");
@@ -98,9 +99,14 @@ fn known_identities_are_proved(rt: HostRuntime) -> Result<(), Fail> {
     Ok(())
 }
 
-// Whether the report of the statement, by rows over generators alone, is evidence that is accepted.
-fn is_checked<R: Threads + Sync>(rt: &R, alloc: Global, statement: &[u8]) -> Result<bool, Fail> {
-    let told = answer(rt, alloc, PLAIN, statement, b"", &[])?;
+// Whether what the words answer over the statement is evidence that is accepted.
+fn is_checked<R: Threads + Sync>(
+    rt: &R,
+    alloc: Global,
+    words: &[&str],
+    statement: &[u8],
+) -> Result<bool, Fail> {
+    let told = answer(rt, alloc, words, statement, b"", &[])?;
     let report = told.as_str().strip_prefix("0 ").unwrap_or("");
     let got = answer(rt, alloc, CHECK, statement, report.as_bytes(), &[])?;
     Ok(
@@ -111,9 +117,10 @@ fn is_checked<R: Threads + Sync>(rt: &R, alloc: Global, statement: &[u8]) -> Res
 
 #[test]
 fn evidence_of_known_identities_is_accepted(rt: HostRuntime) -> Result<(), Fail> {
-    for (_, statement, want) in GALLERY {
+    for (words, statement, want) in GALLERY {
         if want.starts_with("0 ") {
-            assert!(rt; is_checked(&rt, rt.alloc(), statement)?, "{statement:?}");
+            assert!(rt; is_checked(&rt, rt.alloc(), words, statement)?, "{statement:?}");
+            assert!(rt; is_checked(&rt, rt.alloc(), PLAIN, statement)?, "{statement:?}");
         }
     }
     Ok(())
@@ -122,18 +129,34 @@ fn evidence_of_known_identities_is_accepted(rt: HostRuntime) -> Result<(), Fail>
 // The report of a proved claim is evidence that is accepted, and that of a claim that isn't derivable has none.
 #[test]
 fn reports_are_evidence(rt: HostRuntime) -> Result<(), Fail> {
-    for (_, statement, told) in PROVED_PLAINLY {
-        let report = told.strip_prefix("0 ").unwrap_or("");
-        let got = answer(&rt, rt.alloc(), CHECK, statement, report.as_bytes(), &[])?;
-        let is_accepted = got
-            .as_str()
-            .starts_with("0 # block 1 accepted claim 1 denominator ");
-        assert!(rt; is_accepted, "{got:?}");
+    for rows in [PROVED, PROVED_PLAINLY] {
+        for (_, statement, told) in rows {
+            let report = told.strip_prefix("0 ").unwrap_or("");
+            let got = answer(&rt, rt.alloc(), CHECK, statement, report.as_bytes(), &[])?;
+            let is_accepted = got
+                .as_str()
+                .starts_with("0 # block 1 accepted claim 1 denominator ");
+            assert!(rt; is_accepted, "{got:?}");
+        }
     }
     let (_, statement, told) = OTHERS[0];
     let report = told.strip_prefix("10 ").unwrap_or("");
     let got = answer(&rt, rt.alloc(), CHECK, statement, report.as_bytes(), &[])?;
     assert_eq!(rt; got.as_str(), "7 # refused K7\n");
+    Ok(())
+}
+
+// A word of 500 letters in front of a generator makes one of 501.
+#[test]
+fn a_lemma_with_a_long_word_is_refused(rt: HostRuntime) -> Result<(), Fail> {
+    let (statement, front) = LONG_WORD;
+    let mut text = String::from_str(rt.alloc(), front)?;
+    for _ in 0..500 {
+        text.push_str("a ")?;
+    }
+    text.push_str(") 1 ()\ngoal scale 1\nend\n")?;
+    let got = answer(&rt, rt.alloc(), CHECK, statement, text.as_bytes(), &[])?;
+    assert_eq!(rt; got.as_str(), "7 # block 1 refused C9 lemma 1\n");
     Ok(())
 }
 
