@@ -30,7 +30,11 @@ pub fn check_texts(alloc: Global, statement: &[u8], evidence: &[u8]) -> Result<E
 }
 
 // The certificates of the text, or the ending that tells its first fault.
-fn certificates_of(alloc: Global, evidence: &[u8], quiver: &Quiver) -> Result<Listing<Evidence>, Stop>
+fn certificates_of(
+    alloc: Global,
+    evidence: &[u8],
+    quiver: &Quiver,
+) -> Result<Listing<Evidence>, Stop>
     requires { length evidence.now ≤ 67108864 }
     ensures read { IfOk result (IsEvidence Lemmas quiver.now evidence.now) }
     ensures checkable { IfOk result (All (IsCheckableEvidence quiver.now)) }

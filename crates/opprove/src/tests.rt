@@ -119,8 +119,14 @@ fn is_checked<R: Threads + Sync>(
 fn evidence_of_known_identities_is_accepted(rt: HostRuntime) -> Result<(), Fail> {
     for (words, statement, want) in GALLERY {
         if want.starts_with("0 ") {
-            assert!(rt; is_checked(&rt, rt.alloc(), words, statement)?, "{statement:?}");
-            assert!(rt; is_checked(&rt, rt.alloc(), PLAIN, statement)?, "{statement:?}");
+            assert!(rt;
+                is_checked(&rt, rt.alloc(), words, statement)?,
+                "{statement:?}"
+            );
+            assert!(rt;
+                is_checked(&rt, rt.alloc(), PLAIN, statement)?,
+                "{statement:?}"
+            );
         }
     }
     Ok(())
