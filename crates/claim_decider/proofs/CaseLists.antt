@@ -1,15 +1,10 @@
 -- Lists of claims, of which one takes a step.
-use Rattle.std.proofs.Common.{◌≡◌, ◌<◌, ℕ, zero, suc, ◌+◌, List, [], ◌∷◌, ◌++◌, length, map, take, drop, set, get_or, Option, Some, None, refl, sym, ap, subst, ◌∙◌, arith}
-use Rattle.std.specs.Prelude.{option_to_list}
+use Rattle.std.proofs.Common.{◌≡◌, ◌<◌, ℕ, zero, suc, ◌+◌, List, [], ◌∷◌, ◌++◌, length, map, take, drop, set, get_or, refl, sym, ap, subst, ◌∙◌, arith}
 use Rattle.std.specs.List.{All, AllByRecursion, AllZip, range_with_len}
 use Rattle.std.proofs.lemmas.List.{take_more, take_more_set, drop_more, drop-set-lt}
-use Rattle.std.proofs.lemmas.List.Elements.{AllZip-push, All-tail, All-push}
+use Rattle.std.proofs.lemmas.List.Elements.{AllZip-push, All-push}
 
 -- ---- what holds of each item
-pub all_rest : {X : Type 0} (P : X → Type 0) (xs ys : List X) (o : Option X) → xs ≡ option_to_list o ++ ys → All P xs → All P ys
-all_rest P xs ys None same each = subst (All P) same each
-all_rest P xs ys (Some x) same each = All-tail P x ys (subst (All P) same each)
-
 pub all_push : {X : Type 0} (P : X → Type 0) (xs ys : List X) (x : X) → All P xs → P x → ys ≡ xs ++ x ∷ [] → All P ys
 all_push P xs ys x each last same = subst (All P) (sym same) (All-push P xs x each last)
 
@@ -48,10 +43,6 @@ range_with_len-more a (suc n) =
     let same : a + 1 + n ≡ a + suc n = omega arith in
     let more : suc n + 1 ≡ suc (n + 1) = omega arith in
     rw more (ap (λ l. a ∷ l) (range_with_len-more (a + 1) n ∙ ap (λ k. range_with_len (a + 1) n ++ k ∷ []) same))
-
-pub no_more : {X : Type 0} (xs : List X) → xs ++ [] ≡ xs
-no_more [] = refl
-no_more (x ∷ xs) = ap (λ l. x ∷ l) (no_more xs)
 
 -- what holds of pairs of items holds of a list and its last items
 pub AllZip-mapped : {X Y Z : Type 0} (f : X → Z) (R : X → Y → Type 0) (S : Z → Y → Type 0) (P : X → Type 0) (xs : List X) (ys : List Y)

@@ -16,7 +16,6 @@ use lists::Listing;
 use nc_polynomial::Poly;
 use rule_reduce::Rule;
 use std::alloc::{AllocError, Global};
-use std::collections::VecDeque;
 use std::mem;
 use std::thread::Threads;
 use traced_completion::{Budget, Completion, Step};
@@ -153,8 +152,7 @@ fn outcomes(alloc: Global, cases: Vec<Case>) -> Result<Listing<Outcome>, AllocEr
     ensures { IfOk result (AllZip Gives cases.items) }
 {
     let mut outcomes = Listing::new(alloc);
-    let mut rest = VecDeque::from_vec(cases);
-    while let Some(case) = rest.pop_front() {
+    for case in cases {
         match case.standing {
             Standing::Settled(outcome) => outcomes.push(outcome)?,
             Standing::Open(_) => unreachable!(),

@@ -35,7 +35,8 @@ use Rattle.traced_completion.proofs.RunStates.{states_rules}
 use Rattle.claim_decider.specs.declared.outcome.Outcome.{Outcome}
 use Rattle.claim_decider.specs.Outcomes.{evidence_of_zero, record_of, certificate_of}
 use Rattle.claim_decider.specs.Decided.{claim_at}
-use Rattle.outcome_limits.specs.OutcomeLetters.{IsPolyOver, IsLeastOver, IsOutcomeOver, OutcomesHaveLetters, LastRulesHaveLetters}
+use Rattle.report_text.specs.Report.{IsPolyOver, IsLeastOver}
+use Rattle.outcome_limits.specs.OutcomeLetters.{IsOutcomeOver, OutcomesHaveLetters, LastRulesHaveLetters}
 use Rattle.outcome_limits.proofs.EvidenceWords.{expanded_words, gathered_words}
 use Rattle.outcome_limits.proofs.OutcomeWays.{Way, no_terms, expanded, gathered, left_over, given_up, with_run, way, IsProvedBy}
 use Rattle.outcome_limits.proofs.OverRuns.{AreOver, IsOverRow, reduced_over, records_over, least_over}

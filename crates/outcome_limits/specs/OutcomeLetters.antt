@@ -1,27 +1,18 @@
 -- The letters of outcomes and of last rules are letters of the quiver.
-use Rattle.std.specs.Prelude.{ℕ, List, Option, Some, None, ⊤}
+use Rattle.std.specs.Prelude.{ℕ, List}
 use Rattle.std.specs.List.{All}
-use Rattle.word_core.specs.Letters.{IsOver}
 use Rattle.nc_polynomial.specs.declared.poly.Poly.{Poly}
-use Rattle.quiver.specs.Declarations.{Declaration, letter_count}
+use Rattle.quiver.specs.Declarations.{Declaration}
 use Rattle.cofactor_trace.specs.declared.evidence.Format.{Format}
 use Rattle.adjoint_rules.specs.declared.problem.Problem.{Problem}
 use Rattle.certificate_text.specs.Written.{IsEvidenceOver}
+use Rattle.report_text.specs.Report.{IsPolyOver, IsLeastOver}
 use Rattle.traced_completion.specs.declared.budget.Budget.{Budget}
 use Rattle.traced_completion.specs.PlainRun.{setting_of}
 use Rattle.claim_decider.specs.declared.outcome.Outcome.{Outcome}
 use Rattle.claim_decider.specs.declared.outcome.Outcome.TheVariants as outcome
 use Rattle.claim_decider.specs.Outcomes.{IsOutcomeOf}
 use Rattle.claim_decider.specs.Decided.{claim_at, AreLastRules}
-
--- the letters of the polynomial are letters of the quiver
-abbrev pub IsPolyOver : List Declaration → Poly → Type 0
-IsPolyOver ds p = All (λ t. IsOver (letter_count ds) t.1) p.terms
-
--- and those of the least overlap word, where there is one
-abbrev pub IsLeastOver : List Declaration → Option (List ℕ) → Type 0
-IsLeastOver ds None = ⊤
-IsLeastOver ds (Some word) = IsOver (letter_count ds) word
 
 -- The letters of the evidence, of what is left, or of the least overlap word are letters of the quiver.
 abbrev pub IsOutcomeOver : List Declaration → Outcome → Type 0

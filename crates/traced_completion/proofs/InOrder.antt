@@ -13,6 +13,11 @@ join done (Err e) = Err e
 abbrev pub values : {A : Type 0} → List (Result A ReduceFault) → Result (List A) ReduceFault
 values answers = each_in_turn (λ answer. answer) answers
 
+-- no value so far
+pub join-nil : {A : Type 0} (r : Result (List A) ReduceFault) → join [] r ≡ r
+join-nil (Ok xs) = refl
+join-nil (Err e) = refl
+
 -- one value more
 pub value-next : {A : Type 0} (done : List A) (x : A) (rest : List (Result A ReduceFault)) → join done (values (Ok x ∷ rest)) ≡ join (done ++ x ∷ []) (values rest)
 value-next {A} done x rest = go (values rest)

@@ -9,7 +9,7 @@ use rule_reduce::Rules;
 use std::alloc::{AllocError, Global};
 use std::thread::Threads;
 use word_core::Word;
-use word_orders::AnyOrder;
+use word_orders::{AnyOrder, OrderFault};
 
 /// What comes of a call of `round`.
 #[derive(Drop)]
@@ -57,7 +57,9 @@ impl Completion {
             problem.parts.quiver.letters(),
         ) {
             Ok(order) => order,
-            Err(_) => return Err(AllocError),
+            Err(OrderFault::Memory(failed)) => return Err(failed),
+            // The order of a problem is sound.
+            Err(_) => unreachable!(),
         };
         Ok(Completion {
             budget,

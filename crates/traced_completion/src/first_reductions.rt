@@ -15,7 +15,6 @@ use in_order_parallel::{Gate, Job, map_in_order};
 use lists::Listing;
 use rule_reduce::{ReduceFault, Reduced, Rules};
 use std::alloc::{AllocError, Global};
-use std::collections::VecDeque;
 use std::thread::Threads;
 use word_orders::WordOrder;
 
@@ -92,12 +91,8 @@ fn collect_answers(
         return Err(ReduceFault::Memory(AllocError));
     }
     let mut firsts = Listing::new(alloc);
-    let mut rest = VecDeque::from_vec(answers);
-    while let Some(answer) = rest.pop_front() {
-        match answer {
-            Ok(first) => firsts.push(first)?,
-            Err(fault) => return Err(fault),
-        }
+    for answer in answers {
+        firsts.push(answer?)?;
     }
     Ok(firsts)
 }

@@ -1,4 +1,4 @@
-//! The reductions of a round one after another: of generators, and the second ones of ambiguities.
+//! The second reductions of a round, one after another.
 ghost use Rattle.std.specs.Prelude.{◌≡◌, ◌<◌, ◌≤◌, ◌+◌, ◌^◌, length, map, take, IfErr, OnOk, Ok};
 ghost use Rattle.std.specs.List.{All};
 ghost use Rattle.traced_completion.specs.Works.{second_work, InTurn, EndsWith};
@@ -9,7 +9,6 @@ use crate::second_reduction::treat;
 use cofactor_trace::Made;
 use lists::Listing;
 use rule_reduce::{ReduceFault, Rules};
-use std::collections::VecDeque;
 use word_orders::WordOrder;
 
 // The second reductions of ambiguities, each by the rules with those that are appended before. Where there is a fault,
@@ -33,12 +32,8 @@ pub(crate) fn treat_all<O: WordOrder + Drop>(
     ensures rules_front { take (length rules.old.rules) rules.new.rules ≡ rules.old.rules }
     ensures made_front { take (length made.old) made.new ≡ made.old }
 {
-    let mut rest = VecDeque::from_vec(firsts.into_vec());
-    while let Some(first) = rest.pop_front() {
-        match treat(rules, made, first, steps) {
-            Ok(()) => {}
-            Err(fault) => return Err(fault),
-        }
+    for first in firsts.into_vec() {
+        treat(rules, made, first, steps)?;
     }
     Ok(())
 }

@@ -1,5 +1,6 @@
-use Rattle.std.proofs.Common.{◌++◌, List, length}
+use Rattle.std.proofs.Common.{◌≡◌, ◌++◌, List, length}
 use Rattle.std.specs.List.{All, AllZip}
+use Rattle.std.specs.Vec.Iter.{into_iter_items, into_iter_len}
 use Rattle.claim_decider.specs.declared.outcome.Outcome.{Outcome}
 use Rattle.claim_decider.specs.Cases.{IsSettled, Gives}
 use Rattle.claim_decider.proofs.claims.outcomes.Given as goal
@@ -7,9 +8,7 @@ use Rattle.claim_decider.proofs.claims.outcomes.Given as goal
 -- the outcomes so far are those of the first claims
 abbrev pub invariant-loop-case : goal.invariant-loop-case
 invariant-loop-case l = record {
-  settled : All IsSettled l.rest.items;
-  gives : (later : List Outcome) → AllZip Gives l.rest.items later → AllZip Gives l.fn.cases.items (l.outcomes ++ later);
+  left : into_iter_len l.case-iterator ≡ length (into_iter_items l.case-iterator);
+  settled : All IsSettled (into_iter_items l.case-iterator);
+  gives : (later : List Outcome) → AllZip Gives (into_iter_items l.case-iterator) later → AllZip Gives l.fn.cases.items (l.outcomes ++ later);
 }
-
-abbrev pub decreases-loop-case : goal.decreases-loop-case
-decreases-loop-case l = length l.rest.items

@@ -1,10 +1,11 @@
 use Rattle.std.proofs.Common.{◌≡◌, length}
+use Rattle.std.specs.Vec.Iter.{into_iter_items, into_iter_len}
 use Rattle.traced_completion.proofs.InOrder.{join, values}
 use Rattle.traced_completion.proofs.first_reductions.collect_answers.Given as goal
 
 -- the values so far stand before those of what is left
 abbrev pub invariant-loop-answer : goal.invariant-loop-answer
-invariant-loop-answer l = join l.firsts (values l.rest.items) ≡ values l.fn.answers.items
-
-abbrev pub decreases-loop-answer : goal.decreases-loop-answer
-decreases-loop-answer l = length l.rest.items
+invariant-loop-answer l = record {
+  left : into_iter_len l.answer-iterator ≡ length (into_iter_items l.answer-iterator);
+  joined : join l.firsts (values (into_iter_items l.answer-iterator)) ≡ values l.fn.answers.items;
+}

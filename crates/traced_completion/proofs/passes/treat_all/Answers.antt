@@ -1,12 +1,32 @@
-use Rattle.std.proofs.Common.{rules, ◌≡◌, ◌∷◌, length, map, sym, subst, arith, ap}
+use Rattle.std.proofs.Common.{rules, ◌≡◌, ◌∷◌, length, map, Err, IfErr, refl, sym, subst, arith, ap, ◌∙◌}
 use Rattle.std.specs.List.{All}
+use Rattle.std.specs.Vec.Iter.{into_iter_items}
+use Rattle.std.proofs.lemmas.List.{take_all}
 use Rattle.std.proofs.lemmas.List.Elements.{All-tail}
 use Rattle.traced_completion.specs.declared.first_reductions.First.{First}
+use Rattle.traced_completion.specs.Results.{Explains}
 use Rattle.traced_completion.specs.Making.{Recorded}
-use Rattle.traced_completion.specs.Works.{second_work, Does, InTurn}
+use Rattle.traced_completion.specs.Works.{second_work, Does, InTurn, EndsWith}
 use Rattle.traced_completion.specs.Reductions.{plain_first, IsKeptFirst}
-use Rattle.traced_completion.proofs.Turns.{does_grows, goes_well}
+use Rattle.traced_completion.proofs.Turns.{does_grows, goes_well, ends_with, ends_weaker}
 use Rattle.traced_completion.proofs.passes.treat_all.Goals as goal
+
+pub loop-first-init : goal.loop-first-init
+loop-first-init g c =
+    let compare = g.O.WordOrder.compare c.args.rules.now.order in
+    let letters = g.O.WordOrder.letters c.args.rules.now.order in
+    let firsts : into_iter_items c.into_iter-first-iterator.result ≡ c.args.firsts = c.into_iter-first-iterator.ensures.into_iter_gives.0 ∙ search rules in
+    let before : Recorded = record { rules = c.args.rules.now.rules; made = c.args.made.now } in
+    record {
+      left = search rules;
+      order = refl;
+      kept = subst (All (λ f. IsKeptFirst letters (length c.args.rules.now.rules) (plain_first f))) (sym firsts) c.requires.kept;
+      records = c.requires.records;
+      most = omega (arith, ap length firsts);
+      rules_front = take_all _ c.args.rules.now.rules (omega arith);
+      made_front = take_all _ c.args.made.now (omega arith);
+      goes_on = λ result. subst (λ fs. InTurn compare (map (second_work compare c.args.steps) (map plain_first fs)) before result) firsts;
+    }
 
 pub loop-first-preserved : goal.loop-first-preserved
 loop-first-preserved g c =
@@ -14,8 +34,8 @@ loop-first-preserved g c =
     let letters = g.O.WordOrder.letters c.args.rules.now.order in
     let Kept : First → Type 0 = λ f. IsKeptFirst letters (length c.args.rules.now.rules) (plain_first f) in
     let first = c.in-Some.first in
-    let rest = c.pop_front.new.self.items in
-    let next : c.loop-first.rest.items ≡ first ∷ rest = search rules in
+    let rest = into_iter_items c.next.new.self in
+    let next : into_iter_items c.loop-first.first-iterator ≡ first ∷ rest = c.in-Some.ensures.steps.0 in
     let works = map (second_work compare c.args.steps) (map plain_first rest) in
     let before : Recorded = record { rules = c.loop-first.rules.rules; made = c.loop-first.made } in
     let after : Recorded = record { rules = c.treat.new.rules.rules; made = c.treat.new.made } in
@@ -24,6 +44,7 @@ loop-first-preserved g c =
     let does : Does compare (second_work compare c.args.steps (plain_first first) before.rules) before after = subst (λ o. Does (g.O.WordOrder.compare o) (second_work (g.O.WordOrder.compare o) c.args.steps (plain_first first) before.rules) before after) same exact in
     let grows = does_grows compare (second_work compare c.args.steps (plain_first first) before.rules) before after does in
     record {
+      left = let was = c.loop-first.invariant.left in let gone = c.in-Some.ensures.steps.1 in let short = ap length next in omega arith;
       order = search rules;
       kept = All-tail Kept first rest (subst (All Kept) next c.loop-first.invariant.kept);
       records = search rules;
@@ -35,3 +56,24 @@ loop-first-preserved g c =
           (subst (λ fs. InTurn compare (map (second_work compare c.args.steps) (map plain_first fs)) before result) (sym next)
           (goes_well compare (second_work compare c.args.steps (plain_first first)) works before after result does turns));
     }
+
+-- the fault of the work ends all works
+pub returns-in_err-treat-clause-fault : goal.returns-in_err-treat-clause-fault
+returns-in_err-treat-clause-fault g c =
+    let compare = g.O.WordOrder.compare c.args.rules.now.order in
+    let first = c.in-Some.first in
+    let rest = into_iter_items c.next.new.self in
+    let next : into_iter_items c.loop-first.first-iterator ≡ first ∷ rest = c.in-Some.ensures.steps.0 in
+    let work = second_work compare c.args.steps (plain_first first) in
+    let works = map (second_work compare c.args.steps) (map plain_first rest) in
+    let before : Recorded = record { rules = c.loop-first.rules.rules; made = c.loop-first.made } in
+    let e = c.in_err-treat.field-0.0 in
+    let same : c.loop-first.rules.order ≡ c.args.rules.now.order = c.loop-first.invariant.order in
+    let told : Explains (second_work (g.O.WordOrder.compare c.loop-first.rules.order) c.args.steps (plain_first first) before.rules) e = search rules in
+    let why : Explains (work before.rules) e = subst (λ o. Explains (second_work (g.O.WordOrder.compare o) c.args.steps (plain_first first) before.rules) e) same told in
+    let All-end = InTurn compare (map (second_work compare c.args.steps) (map plain_first c.args.firsts)) (record { rules = c.args.rules.now.rules; made = c.args.made.now }) in
+    let ends = ends_weaker (InTurn compare (work ∷ works) before) All-end
+    (λ r turns. c.loop-first.invariant.goes_on r (subst (λ fs. InTurn compare (map (second_work compare c.args.steps) (map plain_first fs)) before r) (sym next) turns))
+    e (ends_with compare work works before e why) in
+    let back : c.from_residual.result ≡ Err e = search rules in
+    subst (λ r. IfErr r (EndsWith All-end)) (sym back) ends
