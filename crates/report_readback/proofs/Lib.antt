@@ -1,0 +1,4 @@
+pub mod Numerals
+pub mod Heads
+pub mod Bases
+pub mod Reports
