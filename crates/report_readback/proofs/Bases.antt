@@ -1,5 +1,5 @@
 -- The block of a claim that isn't derivable is a block of another kind.
-use Rattle.std.proofs.Common.{◌≡◌, ℕ, ℤ, Bool, true, false, List, [], ◌∷◌, ◌++◌, refl, sym, ap, ◌∙◌, map, codes, IsTrue}
+use Rattle.std.proofs.Common.{◌≡◌, ℕ, List, [], ◌∷◌, ◌++◌, refl, sym, ap, ◌∙◌, map, codes, IsTrue}
 use Rattle.std.specs.Prelude.{decimal}
 use Rattle.std.specs.List.{All, list_all, flat_map}
 use Rattle.std.proofs.lemmas.List.{append-nil, append_assoc}
@@ -8,7 +8,6 @@ use Rattle.nc_polynomial.specs.declared.poly.Poly.{Poly}
 use Rattle.quiver.specs.Declarations.{Declaration, IsDeclared}
 use Rattle.cofactor_trace.specs.declared.evidence.Format.TheVariants.{Lemmas}
 use Rattle.certificate_text.specs.Tokens.{tokens_of}
-use Rattle.certificate_text.specs.Lines.{is_end}
 use Rattle.certificate_text.specs.Written.{poly_text}
 use Rattle.certificate_text.specs.Back.{is_named, IsLineText, other, ended, part_text, IsBodyLine, IsPart}
 use Rattle.certificate_text.proofs.PartsBack.{begins_no_end}

@@ -1,5 +1,5 @@
 -- The head line of a verdict is a comment.
-use Rattle.std.proofs.Common.{◌≡◌, ℕ, ℤ, Bool, true, false, cond, List, [], ◌∷◌, ◌++◌, Option, Some, None, refl, codes, IsTrue}
+use Rattle.std.proofs.Common.{◌≡◌, ℕ, List, ◌++◌, Option, Some, None, refl, codes, IsTrue}
 use Rattle.std.specs.Prelude.{decimal}
 use Rattle.std.specs.Fmt.{signed_decimal}
 use Rattle.std.specs.List.{list_all}
@@ -11,7 +11,7 @@ use Rattle.cofactor_trace.specs.declared.halt.Cause.{Cause}
 use Rattle.cofactor_trace.specs.declared.halt.Cause.TheVariants as cause
 use Rattle.cofactor_trace.specs.declared.halt.Place.{Place}
 use Rattle.cofactor_trace.specs.declared.halt.Place.TheVariants as place
-use Rattle.certificate_text.specs.Back.{is_named, IsLineText, comment, ended, part_text}
+use Rattle.certificate_text.specs.Back.{is_named, IsLineText, comment, part_text}
 use Rattle.certificate_text.proofs.PolysBack.{nothing_is_line, word_is_line}
 use Rattle.certificate_text.proofs.TextsBack.{literal, line_text-append}
 use Rattle.report_text.specs.declared.verdict.Verdict.{Verdict}

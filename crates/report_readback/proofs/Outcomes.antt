@@ -1,11 +1,10 @@
 -- The report of the outcomes of a problem is read as the evidence of the claims that are derived.
-use Rattle.std.proofs.Common.{◌≡◌, ◌≤◌, ◌<◌, ◌+◌, ℕ, suc, List, [], ◌∷◌, arith, refl, ap, subst, length, map, get_or}
-use Rattle.std.specs.List.{All, AllZip, range_with_len}
+use Rattle.std.proofs.Common.{◌≡◌, ◌≤◌, ◌<◌, ℕ, List, [], ◌∷◌, arith, refl, ap, subst, length, map}
+use Rattle.std.specs.List.{All}
 use Rattle.std.proofs.lemmas.List.{length-map}
 use Rattle.std.proofs.lemmas.List.Elements.{All-nil, All-cons, All-head, All-tail}
 use Rattle.std.proofs.lemmas.List.FromFn.{length-range_with_len, get_or-range_with_len}
 use Rattle.std.proofs.lemmas.Slice.Zip.{AllZip-long}
-use Rattle.cofactor_trace.specs.declared.evidence.Evidence.{Evidence}
 use Rattle.cofactor_trace.specs.declared.evidence.Format.{Format}
 use Rattle.adjoint_rules.specs.declared.problem.Problem.{Problem}
 use Rattle.traced_completion.specs.declared.budget.Budget.{Budget}
@@ -56,4 +55,4 @@ outcome_reports_read_back problem budget form outcomes rules are last known =
     let few : length (map verdict_of outcomes) ≤ 100 = omega (arith, long, length-map outcomes verdict_of, length-range_with_len 1 (length problem.parts.claims), problem.posed.few_claims) in
     subst (IsReadAs ds (report_of ds rules (map verdict_of outcomes))) (proved_is_derived outcomes)
     (reports_read_back ds rules (map verdict_of outcomes) problem.posed.declared known (last_rules_have_letters problem budget form (claim_numbers problem) rules last)
-        (all_writable problem budget form (claim_numbers problem) outcomes (numbers_early problem budget form) are) few)
+    (all_writable problem budget form (claim_numbers problem) outcomes (numbers_early problem budget form) are) few)

@@ -1,5 +1,5 @@
 -- A report is comments, certificates and blocks of other kinds, and is read as its certificates.
-use Rattle.std.proofs.Common.{◌≡◌, ◌<◌, ◌≤◌, ℕ, suc, List, [], ◌∷◌, ◌++◌, arith, refl, sym, ap, ap₂, ◌∙◌, subst, length, IsTrue}
+use Rattle.std.proofs.Common.{◌≡◌, ◌≤◌, ℕ, suc, List, [], ◌∷◌, ◌++◌, arith, refl, sym, ap, ap₂, ◌∙◌, subst, length, IsTrue}
 use Rattle.std.specs.List.{All, list_all, flat_map}
 use Rattle.std.proofs.lemmas.Grind.{flat_map-append}
 use Rattle.std.proofs.lemmas.List.{append-nil, append_assoc, nil_from_length}
@@ -13,7 +13,7 @@ use Rattle.cofactor_trace.specs.declared.evidence.Format.TheVariants.{Lemmas}
 use Rattle.certificate_text.specs.Fault.{no_block}
 use Rattle.certificate_text.specs.Bounds.{certificates_in, IsCertificateOf}
 use Rattle.certificate_text.specs.Evidence.{HasCertificates, IsFirstFault, certificates}
-use Rattle.certificate_text.specs.Back.{IsOfFormat, IsWritableEvidence, is_named, Part, certificate, comment, other, part_text, IsPart, evidence_in}
+use Rattle.certificate_text.specs.Back.{IsOfFormat, is_named, Part, certificate, comment, other, part_text, IsPart, evidence_in}
 use Rattle.certificate_text.proofs.PartsBack.{are_parts_read_back}
 use Rattle.report_text.specs.declared.verdict.Verdict.{Verdict}
 use Rattle.report_text.specs.declared.verdict.Verdict.TheVariants as verdict
@@ -78,7 +78,7 @@ module _ (ds : List Declaration) (rules : List Poly) (declared : IsDeclared ds) 
       let here = All-head (IsWritableVerdict ds) v verdicts writable in
       All-cons (IsPart Lemmas ds) (comment (told_of ds (length rules) claim v)) (block_parts ds rules claim v ++ parts_from ds rules (suc claim) verdicts) (told_is_line ds declared known (length rules) claim v here)
       (All-append (IsPart Lemmas ds) (block_parts ds rules claim v) (parts_from ds rules (suc claim) verdicts) (block_parts_are claim v here)
-          (parts_are (suc claim) verdicts (All-tail (IsWritableVerdict ds) v verdicts writable)))
+      (parts_are (suc claim) verdicts (All-tail (IsWritableVerdict ds) v verdicts writable)))
 
 -- ---- what is read
 
@@ -100,6 +100,6 @@ reports_read_back ds rules verdicts declared known over writable few =
     let parts = parts_from ds rules 1 verdicts in
     let have : evidence_in parts ≡ proved_in verdicts = parts_have ds rules 1 verdicts in
     let read : HasCertificates Lemmas ds (flat_map (part_text ds) parts) (evidence_in parts) =
-        are_parts_read_back Lemmas ds parts declared known (parts_are ds rules declared known over 1 verdicts writable) (omega (arith, few, few_proved verdicts, ap length have)) in
+    are_parts_read_back Lemmas ds parts declared known (parts_are ds rules declared known over 1 verdicts writable) (omega (arith, few, few_proved verdicts, ap length have)) in
     read_as ds (report_of ds rules verdicts) (proved_in verdicts)
     (subst (HasCertificates Lemmas ds (report_of ds rules verdicts)) have (subst (λ (bytes : List ℕ). HasCertificates Lemmas ds bytes (evidence_in parts)) (sym (report_is_parts ds rules 1 verdicts)) read))
