@@ -4,3 +4,8 @@ pub mod Bases
 pub mod Reports
 pub mod Writable
 pub mod Outcomes
+pub mod PlainAnswers
+pub mod OneLemma
+pub mod LemmaAnswers
+pub mod LemmaPolys
+pub mod Answers
