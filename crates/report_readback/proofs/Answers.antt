@@ -1,22 +1,16 @@
 -- The evidence of a derived claim is accepted, or a limit is passed in adding it up.
-use Rattle.std.proofs.Common.{◌≡◌, ◌≤◌, ◌<◌, ◌+◌, ◌⊎◌, inl, inr, ℕ, suc, List, [], ◌∷◌, arith, refl, sym, ap, ◌∙◌, subst, length, get_or}
+use Rattle.std.proofs.Common.{◌≡◌, ◌⊎◌, inl, inr, ℕ, List, [], ◌∷◌, sym, subst, length}
 use Rattle.std.specs.List.{All}
-use Rattle.std.proofs.lemmas.List.{length-map}
 use Rattle.std.proofs.lemmas.List.Elements.{All-nil, All-cons, All-head, All-tail}
-use Rattle.std.proofs.lemmas.List.FromFn.{length-range_with_len, get_or-range_with_len}
-use Rattle.nc_polynomial.specs.declared.poly.Poly.{Poly}
-use Rattle.definitions.specs.Combination.{IsCombination}
-use Rattle.cofactor_trace.specs.declared.Certificate.{Certificate}
-use Rattle.cofactor_trace.specs.declared.evidence.LemmaCertificate.{LemmaCertificate}
 use Rattle.cofactor_trace.specs.declared.evidence.Evidence.{Evidence}
 use Rattle.cofactor_trace.specs.declared.evidence.Evidence.TheVariants as evidence
 use Rattle.cofactor_trace.specs.declared.evidence.Format.{Format}
 use Rattle.cofactor_trace.specs.LemmaRows.{IsEvidenceOf}
-use Rattle.cofactor_trace.specs.Rows.{rows_of}
 use Rattle.cofactor_checker.specs.Rows.{IsNumberUpTo}
+use Rattle.cofactor_checker.proofs.RowSums.{length-polynomials}
 use Rattle.evidence_checker.specs.declared.refusal.EvidenceRefusal.{EvidenceRefusal}
 use Rattle.evidence_checker.specs.declared.refusal.EvidenceRefusal.TheVariants as refusal
-use Rattle.evidence_checker.specs.Acceptance.{RefusesEvidence, IsMemory}
+use Rattle.evidence_checker.specs.Acceptance.{IsMemory}
 use Rattle.evidence_checker.proofs.Judged.{evidence_is_judged}
 use Rattle.adjoint_rules.specs.declared.problem.Problem.{Problem}
 use Rattle.adjoint_rules.specs.Problem.{polynomials}
@@ -31,23 +25,31 @@ use Rattle.outcome_meanings.specs.Meanings.{IsOutcomeAt}
 use Rattle.outcome_meanings.proofs.DerivedClaims.{certificate_adds_up}
 use Rattle.report_readback.specs.ReadBack.{derived_in}
 use Rattle.report_readback.specs.Answered.{PassesLimit, AcceptsOf, RefusesOf, IsAnsweredWithinLimits, DerivedEvidenceIsAnswered, ReportedEvidenceIsAnswered}
-use Rattle.report_readback.proofs.PlainAnswers.{plain_answer}
-use Rattle.report_readback.proofs.OneLemma.{Answers}
+use Rattle.report_readback.proofs.ClaimNumbers.{numbers_there}
+use Rattle.report_readback.proofs.PlainAnswers.{Polys, plain_answer}
 use Rattle.report_readback.proofs.LemmaAnswers.{lemmas_certificate_answer}
 use Rattle.report_readback.proofs.LemmaPolys.{lemmas_of}
 
-length-polynomials : (ps : List Poly) → length (polynomials ps) ≡ length ps
-length-polynomials ps = length-map ps (λ (p : Poly). p.terms)
-
 module _ (problem : Problem) (budget : Budget) (form : Format) (number : ℕ) (there : IsNumberUpTo (length problem.parts.claims) number) where
+  abbrev claims : Polys
+  claims = polynomials problem.parts.claims
+
+  abbrev generators : Polys
+  generators = polynomials problem.generators
+
+  counted : length generators ≡ length problem.generators
+  counted = length-polynomials problem.generators
+
   -- the claim that the evidence names is one of the claims
-  named_there : (n : ℕ) → n ≡ number → IsNumberUpTo (length (polynomials problem.parts.claims)) n
+  named_there : (n : ℕ) → n ≡ number → IsNumberUpTo (length claims) n
   named_there n is = rw (length-polynomials problem.parts.claims, is) there
 
-  no_other : (e : Evidence) → IsOutcomeAt problem budget form number (outcome.Derived e) → IsWithinLimits problem number e → (r : EvidenceRefusal) → RefusesOf problem e r → PassesLimit r ⊎ IsMemory r
+  no_other : (e : Evidence) → IsOutcomeAt problem budget form number (outcome.Derived e) → IsWithinLimits problem number e
+      → (r : EvidenceRefusal) → RefusesOf problem e r → PassesLimit r ⊎ IsMemory r
   no_other (evidence.Plain c) is within (refusal.Certificate r) refused =
-      plain_answer (polynomials problem.parts.claims) (polynomials problem.generators) c (named_there c.claim within.claim)
-      (subst (λ count. IsCertificateWithin count c.claim c) (sym (length-polynomials problem.generators)) (subst (λ n. IsCertificateWithin (length problem.generators) n c) (sym within.claim) within)) (certificate_adds_up problem budget form number c is) r refused
+      plain_answer claims generators c (named_there c.claim within.claim)
+      (subst (λ count. IsCertificateWithin count c.claim c) (sym counted) (subst (λ n. IsCertificateWithin (length problem.generators) n c) (sym within.claim) within))
+      (certificate_adds_up problem budget form number c is) r refused
   no_other (evidence.Plain c) is within refusal.NoSuchClaim refused = absurd refused
   no_other (evidence.Plain c) is within refusal.ZeroDenominator refused = absurd refused
   no_other (evidence.Plain c) is within (refusal.LooseScale lemma) refused = absurd refused
@@ -61,13 +63,13 @@ module _ (problem : Problem) (budget : Budget) (form : Format) (number : ℕ) (t
   no_other (evidence.Plain c) is within (refusal.Differs word want got) refused = absurd refused
   no_other (evidence.Plain c) is within (refusal.Memory failed) refused = absurd refused
   no_other (evidence.Lemmas c) is within r refused =
-      let found = lemmas_of problem budget number form c is in
-      lemmas_certificate_answer (polynomials problem.parts.claims) (polynomials problem.generators) c found.lemmas (named_there c.claim within.claim)
-      (subst (λ count. IsLemmaCertificateWithin count c.claim c) (sym (length-polynomials problem.generators)) (subst (λ n. IsLemmaCertificateWithin (length problem.generators) n c) (sym within.claim) within)) found.canonical
-      (subst (λ n. IsEvidenceOf (polynomials problem.generators) found.lemmas c (claim_at problem n)) (sym within.claim) found.evidence) r refused
+      let found = lemmas_of problem budget form number c is in
+      lemmas_certificate_answer claims generators c found.lemmas (named_there c.claim within.claim)
+      (subst (λ count. IsLemmaCertificateWithin count c.claim c) (sym counted) (subst (λ n. IsLemmaCertificateWithin (length problem.generators) n c) (sym within.claim) within)) found.canonical
+      (subst (λ n. IsEvidenceOf generators found.lemmas c (claim_at problem n)) (sym within.claim) found.evidence) r refused
 
   answered : (e : Evidence) → IsOutcomeAt problem budget form number (outcome.Derived e) → IsAnsweredWithinLimits problem e
-  answered e is = record { judged = judge (evidence_is_judged (polynomials problem.parts.claims) (polynomials problem.generators) e); no_other = only }
+  answered e is = record { judged = judge (evidence_is_judged claims generators e); no_other = only }
     where
       only : (r : EvidenceRefusal) → RefusesOf problem e r → PassesLimit r ⊎ IsMemory r
       only = no_other e is (evidence_fits problem budget form number e is)
@@ -76,7 +78,8 @@ module _ (problem : Problem) (budget : Budget) (form : Format) (number : ℕ) (t
       limit r (inl passes) not = passes
       limit r (inr memory) not = absurd (not memory)
 
-      judge : AcceptsOf problem e ⊎ ((r : EvidenceRefusal) × RefusesOf problem e r × (IsMemory r → ⊥)) → AcceptsOf problem e ⊎ ((r : EvidenceRefusal) × RefusesOf problem e r × PassesLimit r)
+      judge : AcceptsOf problem e ⊎ ((r : EvidenceRefusal) × RefusesOf problem e r × (IsMemory r → ⊥))
+          → AcceptsOf problem e ⊎ ((r : EvidenceRefusal) × RefusesOf problem e r × PassesLimit r)
       judge (inl accepts) = inl accepts
       judge (inr refused) = inr (refused.0, refused.1, limit refused.0 (only refused.0 refused.1) refused.2)
 
@@ -95,12 +98,5 @@ module _ (problem : Problem) (budget : Budget) (form : Format) where
   all_answered (n ∷ numbers) (outcome.Closed rest ∷ outcomes) there are = all_answered numbers outcomes (All-tail (IsNumberUpTo (length problem.parts.claims)) n numbers there) are.1
   all_answered (n ∷ numbers) (outcome.Halted h ∷ outcomes) there are = all_answered numbers outcomes (All-tail (IsNumberUpTo (length problem.parts.claims)) n numbers there) are.1
 
-  numbers_there : All (IsNumberUpTo (length problem.parts.claims)) (claim_numbers problem)
-  numbers_there = λ k d below.
-      let count = length-range_with_len 1 (length problem.parts.claims) in
-      let within : k < length problem.parts.claims = omega (arith, below, count) in
-      let is = get_or-range_with_len 1 (length problem.parts.claims) k d within in
-      record { least = omega (arith, is); most = omega (arith, is, within) }
-
 pub reported_evidence_is_answered : ReportedEvidenceIsAnswered
-reported_evidence_is_answered problem budget form outcomes are = all_answered problem budget form (claim_numbers problem) outcomes (numbers_there problem budget form) are
+reported_evidence_is_answered problem budget form outcomes are = all_answered problem budget form (claim_numbers problem) outcomes (numbers_there problem) are

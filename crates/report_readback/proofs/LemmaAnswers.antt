@@ -1,6 +1,6 @@
 -- A certificate with lemmas that names the claim, is within the limits and adds up with polynomials of the program is refused
 -- for a limit alone, or for want of memory.
-use Rattle.std.proofs.Common.{◌≡◌, ◌≤◌, ◌<◌, ◌+◌, ◌⊎◌, inl, inr, ◌<ℤ◌, ℕ, suc, ℤ, pos, List, [], ◌∷◌, ◌++◌, arith, refl, sym, ap, ap₂, ◌∙◌, subst, length}
+use Rattle.std.proofs.Common.{◌≡◌, ◌+◌, ◌⊎◌, inl, inr, ℕ, suc, List, [], ◌∷◌, ◌++◌, arith, refl, sym, ap, ap₂, ◌∙◌, subst, length}
 use Rattle.std.specs.List.{All, AllByRecursion}
 use Rattle.std.proofs.lemmas.Int.{ints}
 use Rattle.std.proofs.lemmas.List.{length-append}
@@ -15,12 +15,13 @@ use Rattle.cofactor_checker.specs.Rows.{IsNumberUpTo}
 use Rattle.evidence_checker.specs.declared.refusal.EvidenceRefusal.{EvidenceRefusal}
 use Rattle.evidence_checker.specs.declared.refusal.EvidenceRefusal.TheVariants as refusal
 use Rattle.evidence_checker.specs.Rows.{plain_sum}
-use Rattle.evidence_checker.specs.Lemmas.{lemma_polynomial, lemma_polynomials, RefusesLemmas, RefusesRows, row_count}
+use Rattle.evidence_checker.specs.Lemmas.{lemma_polynomials, RefusesLemmas, row_count}
 use Rattle.evidence_checker.specs.Acceptance.{goal_claim, all_polynomials, IsPositive, IsFirstLoose, HasLooseGoal, RefusesBlock, RefusesLemmaCertificate}
+use Rattle.evidence_checker.proofs.Evidence.{sums_agree}
 use Rattle.outcome_limits.specs.EvidenceLimits.{IsLemmaWithin, IsLemmaCertificateWithin}
 use Rattle.outcome_limits.proofs.Results.{split_last}
 use Rattle.report_readback.proofs.PlainAnswers.{Polys, item, none_differs}
-use Rattle.report_readback.proofs.OneLemma.{Answers, rows_answer, sums_agree, polynomial_is, lemma_answer}
+use Rattle.report_readback.proofs.OneLemma.{Answers, rows_answer, polynomial_is, lemma_answer}
 
 -- ---- all lemmas
 

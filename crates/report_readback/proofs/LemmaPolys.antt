@@ -1,45 +1,32 @@
 -- The lemmas of a derived claim's evidence are rules, and so polynomials of the program.
-use Rattle.std.proofs.Common.{◌≡◌, ℕ, zero, suc, pos, List, [], ◌∷◌, Result, Ok, Err, arith, refl, sym, subst, length, map, get_or}
-use Rattle.std.specs.Prelude.{⊤}
-use Rattle.std.specs.List.{All, AllPairs}
+use Rattle.std.proofs.Common.{◌≡◌, ℕ, zero, suc, List, [], ◌∷◌, Ok, arith, ap, ◌∙◌, subst, get_or}
+use Rattle.std.specs.List.{All}
 use Rattle.std.proofs.lemmas.List.Elements.{All-nil, All-map}
 use Rattle.definitions.specs.Poly.{Term}
 use Rattle.definitions.specs.Combination.{generator_at}
 use Rattle.nc_polynomial.specs.Shape.{IsCanonical}
 use Rattle.nc_polynomial.proofs.Shapes.{IsDescending-from_recursion}
 use Rattle.cofactor_trace.specs.declared.Made.{Made}
-use Rattle.cofactor_trace.specs.declared.Cofactors.{Cofactors}
-use Rattle.cofactor_trace.specs.declared.evidence.Evidence.{Evidence}
 use Rattle.cofactor_trace.specs.declared.evidence.Evidence.TheVariants as evidence
 use Rattle.cofactor_trace.specs.declared.evidence.Format.{Format}
 use Rattle.cofactor_trace.specs.declared.evidence.Format.TheVariants as format
 use Rattle.cofactor_trace.specs.declared.evidence.LemmaCertificate.{LemmaCertificate}
-use Rattle.cofactor_trace.specs.declared.fault.ExpandFault.{ExpandFault}
-use Rattle.cofactor_trace.specs.declared.fault.GatherFault.{GatherFault}
-use Rattle.cofactor_trace.specs.declared.halt.Place.{Place}
-use Rattle.cofactor_trace.specs.declared.halt.Place.TheVariants as place
-use Rattle.cofactor_trace.specs.Lemmas.{lemma_rules, gathered_of}
-use Rattle.cofactor_trace.specs.Needed.{expansion_of}
+use Rattle.cofactor_trace.specs.Lemmas.{lemma_rules}
 use Rattle.cofactor_trace.specs.GatheringLaws.{lemma_polys}
 use Rattle.cofactor_trace.specs.LemmaRows.{AreOfLemmas, IsEvidenceOf}
-use Rattle.word_orders.specs.Specified.{asked_cmp}
 use Rattle.rule_reduce.specs.declared.rule.Rule.{Rule}
-use Rattle.rule_reduce.specs.declared.state.State.{State}
-use Rattle.rule_reduce.specs.declared.fault.ReduceFault.{ReduceFault}
 use Rattle.rule_reduce.specs.RuleLists.{polynomials_of}
-use Rattle.rule_reduce.specs.NormalForms.{normal_form_of}
 use Rattle.adjoint_rules.specs.declared.problem.Problem.{Problem}
 use Rattle.adjoint_rules.specs.Problem.{polynomials}
 use Rattle.traced_completion.specs.declared.budget.Budget.{Budget}
-use Rattle.traced_completion.specs.PlainRun.{RunState, IsRunState, setting_of}
-use Rattle.claim_decider.specs.declared.outcome.Outcome.{Outcome}
+use Rattle.traced_completion.specs.PlainRun.{setting_of}
 use Rattle.claim_decider.specs.declared.outcome.Outcome.TheVariants as outcome
-use Rattle.claim_decider.specs.Outcomes.{record_of, Expands, Gathers, IsProved, evidence_of_zero, IsDoneBy, IsDoneWith, IsDone, GetsOutcome, at_once, after_round, by_closing, by_stop}
+use Rattle.claim_decider.specs.Outcomes.{record_of, evidence_of_zero}
 use Rattle.claim_decider.specs.Decided.{claim_at}
-use Rattle.outcome_meanings.specs.Meanings.{IsOutcomeAt}
+use Rattle.outcome_meanings.specs.Meanings.{IsOutcomeAt, LemmaCertificateAddsUp}
 use Rattle.outcome_meanings.proofs.Derivations.{gathering_adds_up}
 use Rattle.outcome_meanings.proofs.Meanings.{derived_claims_add_up}
-use Rattle.outcome_meanings.proofs.OpenRuns.{open_run}
+use Rattle.outcome_limits.proofs.OutcomeWays.{Way, no_terms, expanded, gathered, left_over, given_up, with_run, way}
 
 -- ---- rules are polynomials of the program
 
@@ -68,62 +55,39 @@ none_of_none gs (p ∷ ps) add_up = absurd add_up
 
 -- ---- outcomes
 
-module _ (problem : Problem) (budget : Budget) (number : ℕ) where
+module _ (problem : Problem) (budget : Budget) (form : Format) (number : ℕ) (c : LemmaCertificate) where
   -- the certificate is evidence of the claim, with polynomials of the program
-  pub record HasLemmas (c : LemmaCertificate) : Type 0 where
+  pub record HasLemmas : Type 0 where
     pub lemmas : List (List Term)
     pub canonical : All IsCanonical lemmas
     pub evidence : IsEvidenceOf (polynomials problem.generators) lemmas c (claim_at problem number)
 
-  abbrev Holds : Outcome → Type 0
-  Holds (outcome.Derived (evidence.Plain c)) = ⊤
-  Holds (outcome.Derived (evidence.Lemmas c)) = HasLemmas c
-  Holds (outcome.Closed rest) = ⊤
-  Holds (outcome.Halted h) = ⊤
+  -- the claim without terms
+  at_once : (f : Format) → outcome.Derived (evidence.Lemmas c) ≡ outcome.Derived (evidence_of_zero f number) → LemmaCertificateAddsUp problem number c → HasLemmas
+  at_once format.Plain same adds_up = absurd (cc)
+  at_once format.Lemmas same adds_up =
+      let none : c.lemmas ≡ [] = cc in
+      record {
+        lemmas = adds_up.lemmas;
+        canonical = none_of_none (polynomials problem.generators) adds_up.lemmas (subst (λ ls. AreOfLemmas (polynomials problem.generators) [] ls adds_up.lemmas) none adds_up.evidence.lemmas_add_up);
+        evidence = adds_up.evidence;
+      }
 
-  -- a certificate without lemmas
-  zero_holds : (form : Format) → IsOutcomeAt problem budget form number (outcome.Derived (evidence_of_zero form number)) → Holds (outcome.Derived (evidence_of_zero form number))
-  zero_holds format.Plain is = tt
-  zero_holds format.Lemmas is =
-      let adds_up = derived_claims_add_up problem budget format.Lemmas number (evidence_of_zero format.Lemmas number) is in
-      record { lemmas = adds_up.lemmas; canonical = none_of_none (polynomials problem.generators) adds_up.lemmas adds_up.evidence.lemmas_add_up; evidence = adds_up.evidence }
+  by_way : LemmaCertificateAddsUp problem number c → Way (setting_of problem budget) form number (claim_at problem number) (outcome.Derived (evidence.Lemmas c)) → HasLemmas
+  by_way adds_up (no_terms same) = at_once form same adds_up
+  by_way adds_up (expanded by cofactors is same) = absurd (cc)
+  by_way adds_up (gathered by certificate is same) =
+      let same_one : certificate ≡ c = cc in
+      record {
+        lemmas = lemma_polys (polynomials_of by.state.rules) by.state.made (record_of by.reduced);
+        canonical = lemmas_are_canonical by.state.rules by.state.made (record_of by.reduced);
+        evidence = gathering_adds_up problem budget number by.rounds by.state by.run by.reduced by.reduction by.none c (is ∙ ap Ok same_one);
+      }
+  by_way adds_up (left_over rounds s run rest left same) = absurd (cc)
+  by_way adds_up (given_up halt none same) = absurd (cc)
+  by_way adds_up (with_run rounds s halt run round same) = absurd (cc)
 
-  module _ (round rounds : ℕ) (s : RunState) (run : IsRunState (setting_of problem budget) rounds s) where
-    module _ (left : State) (ends : normal_form_of (asked_cmp problem.parts.order) s.rules (claim_at problem number) budget.steps ≡ Ok left) (none : left.rest ≡ []) where
-      expands : (r : Result Cofactors ExpandFault) (o : Outcome) → Expands number (place.Certificate round) r o → Holds o
-      expands (Ok c) o derived = subst Holds (sym derived) tt
-      expands (Err e) o halted = subst Holds (sym halted.halts) tt
-
-      gathers : (r : Result LemmaCertificate GatherFault) → gathered_of number s.made (record_of left) ≡ r → (o : Outcome) → Gathers (place.Certificate round) r o → Holds o
-      gathers (Ok c) is o derived =
-          subst Holds (sym derived) (record {
-            lemmas = lemma_polys (polynomials_of s.rules) s.made (record_of left);
-            canonical = lemmas_are_canonical s.rules s.made (record_of left);
-            evidence = gathering_adds_up problem budget number rounds s run left ends none c is;
-          })
-      gathers (Err e) is o halted = subst Holds (sym halted.halts) tt
-
-      proved_holds : (form : Format) (o : Outcome) → IsProved form number (place.Certificate round) s.made (record_of left) o → Holds o
-      proved_holds format.Plain o proved = expands (expansion_of s.made (record_of left)) o proved
-      proved_holds format.Lemmas o proved = gathers (gathered_of number s.made (record_of left)) refl o proved
-
-    done_with : (form : Format) (left : State) → normal_form_of (asked_cmp problem.parts.order) s.rules (claim_at problem number) budget.steps ≡ Ok left
-        → (rest : List Term) → left.rest ≡ rest → (o : Outcome) → IsDoneWith form number round s.made left rest o → Holds o
-    done_with form left ends [] none o proved = proved_holds left ends none form o proved
-    done_with form left ends (t ∷ rest) some o done = absurd done
-
-    done_by : (form : Format) (r : Result State ReduceFault) → normal_form_of (asked_cmp problem.parts.order) s.rules (claim_at problem number) budget.steps ≡ r → (o : Outcome) → IsDoneBy form number round s.made r o → Holds o
-    done_by form (Ok left) ends o done = done_with form left ends left.rest refl o done
-    done_by form (Err e) ends o halted = subst Holds (sym halted.halts) tt
-
-  gets_holds : (form : Format) (rounds : ℕ) (s : RunState) (o : Outcome) → GetsOutcome (setting_of problem budget) form number (claim_at problem number) rounds s o → Holds o
-  gets_holds form rounds s o (at_once none first begins derived) =
-      subst Holds (sym derived) (zero_holds form (record { rounds = rounds; state = s; gets = at_once none first begins refl }))
-  gets_holds form rounds s o (after_round n before count opened round done) =
-      let run : IsRunState (setting_of problem budget) (suc n) s = record { before = before; is_before = open_run (setting_of problem budget) (claim_at problem number) n before opened; round = round } in
-      done_by n (suc n) s run form (normal_form_of (asked_cmp problem.parts.order) s.rules (claim_at problem number) budget.steps) refl o done
-  gets_holds form rounds s o (by_closing opened round with_rest) = subst Holds (sym with_rest.closes) tt
-  gets_holds form rounds s o (by_stop halt opened round stops) = subst Holds (sym stops) tt
-
-  pub lemmas_of : (form : Format) (c : LemmaCertificate) → IsOutcomeAt problem budget form number (outcome.Derived (evidence.Lemmas c)) → HasLemmas c
-  lemmas_of form c is = gets_holds form is.rounds is.state (outcome.Derived (evidence.Lemmas c)) is.gets
+  pub lemmas_of : IsOutcomeAt problem budget form number (outcome.Derived (evidence.Lemmas c)) → HasLemmas
+  lemmas_of is =
+      by_way (derived_claims_add_up problem budget form number (evidence.Lemmas c) is)
+      (way (setting_of problem budget) form number (claim_at problem number) (outcome.Derived (evidence.Lemmas c)) is.rounds is.state is.gets)

@@ -3,6 +3,7 @@ pub mod Heads
 pub mod Bases
 pub mod Reports
 pub mod Writable
+pub mod ClaimNumbers
 pub mod Outcomes
 pub mod PlainAnswers
 pub mod OneLemma

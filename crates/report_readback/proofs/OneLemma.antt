@@ -1,5 +1,5 @@
 -- A lemma whose rows add up to its scale times a polynomial of the program is refused for a limit alone, or for want of memory.
-use Rattle.std.proofs.Common.{◌≡◌, ◌≢◌, ◌<◌, ◌≤◌, ◌+◌, ◌*◌, ◌⊎◌, inl, inr, ◌<ℤ◌, ◌≤ℤ◌, ◌*ℤ◌, ℕ, suc, ℤ, pos, Bool, true, false, cond, nat_lt, ◌||◌, List, [], ◌∷◌, ◌++◌, Ok, Err, arith, refl, sym, ap, ap₂, ◌∙◌, subst, length, map, get_or, int_div}
+use Rattle.std.proofs.Common.{◌≡◌, ◌≢◌, ◌≤◌, ◌+◌, ◌⊎◌, inl, inr, ◌<ℤ◌, ◌*ℤ◌, ℕ, ℤ, pos, false, nat_lt, List, [], ◌∷◌, ◌++◌, Err, arith, refl, sym, ap, ◌∙◌, subst, length, map, get_or, int_div}
 use Rattle.std.specs.List.{All, AllByRecursion}
 use Rattle.std.specs.Int.{◌∣◌}
 use Rattle.std.specs.Int.RustNames.{unsigned_abs}
@@ -8,33 +8,31 @@ use Rattle.std.proofs.lemmas.Bool.Decides.{nat_tests}
 use Rattle.std.proofs.lemmas.Int.{ints, unsigned_abs-mul}
 use Rattle.std.proofs.lemmas.List.{length-append, length-map}
 use Rattle.std.proofs.lemmas.List.Elements.{All-head, All-tail, All-map, recursion_from_All}
-use Rattle.definitions.specs.Poly.{Term, coefficient_of, poly_multiple, poly_sum, poly_between}
+use Rattle.definitions.specs.Poly.{Term, coefficient_of, poly_multiple}
 use Rattle.definitions.specs.Combination.{Row}
 use Rattle.nc_polynomial.specs.declared.fault.SizeFault.{SizeFault}
-use Rattle.nc_polynomial.specs.declared.fault.PolyFault.{PolyFault}
 use Rattle.nc_polynomial.specs.declared.fault.PolyFault.TheVariants as fault
 use Rattle.nc_polynomial.specs.Collected.{collected}
 use Rattle.nc_polynomial.specs.Content.{DividesEach}
-use Rattle.nc_polynomial.specs.Faults.{sized, size_fault, has_long_word}
+use Rattle.nc_polynomial.specs.Faults.{sized, has_long_word}
 use Rattle.nc_polynomial.specs.Shape.{IsCanonical}
-use Rattle.nc_polynomial.specs.Terms.{scaled}
 use Rattle.nc_polynomial.proofs.CollectedTerms.{coefficient_of-collected, descending-collected, nonzero-collected}
 use Rattle.nc_polynomial.proofs.Kept.{scaled_by_nonzero}
 use Rattle.nc_polynomial.proofs.Shapes.{Descends, recursion_from_IsDescending, descending-scaled, nonzero-scaled}
 use Rattle.nc_polynomial.proofs.Unique.{descending_unique}
 use Rattle.cofactor_trace.specs.declared.evidence.CertFrom.{CertFrom}
 use Rattle.cofactor_trace.specs.declared.evidence.CertFrom.TheVariants as cert
-use Rattle.cofactor_trace.specs.declared.evidence.LemmaRow.{LemmaRow}
 use Rattle.cofactor_trace.specs.declared.evidence.Lemma.{Lemma}
 use Rattle.cofactor_trace.specs.GatheringLaws.{IsWithin, NamesWithin}
-use Rattle.cofactor_trace.specs.LemmaRows.{lemma_sum, AddsUpTo}
+use Rattle.cofactor_trace.specs.LemmaRows.{AddsUpTo}
 use Rattle.cofactor_checker.specs.Rows.{IsNumberUpTo}
 use Rattle.evidence_checker.specs.declared.refusal.EvidenceRefusal.{EvidenceRefusal}
 use Rattle.evidence_checker.specs.declared.refusal.EvidenceRefusal.TheVariants as refusal
 use Rattle.evidence_checker.specs.Rows.{place_of, plain_row, plain_rows, plain_sum}
 use Rattle.evidence_checker.specs.Lemmas.{lemma_polynomial, IsLeastIndivisible, RefusesRows, RefusesLemma}
 use Rattle.evidence_checker.specs.Acceptance.{IsMemory}
-use Rattle.evidence_checker.proofs.Places.{place-generator, place-lemma, stands_there}
+use Rattle.evidence_checker.proofs.Evidence.{sums_agree}
+use Rattle.evidence_checker.proofs.Places.{place-generator, place-lemma}
 use Rattle.evidence_checker.proofs.Terms.{quotient_back}
 use Rattle.report_readback.specs.Answered.{PassesLimit}
 use Rattle.report_readback.proofs.PlainAnswers.{Polys, none_lacks}
@@ -52,7 +50,7 @@ rows_there : (gs before : Polys) (l : Lemma) → NamesWithin (length gs) (length
 rows_there gs before l names =
     All-map (λ (r : Row). IsNumberUpTo (length (gs ++ before)) r.generator) (plain_row (length gs) (length before)) l.rows
     (λ k row below. subst (λ count. IsNumberUpTo count (place_of (length gs) (length before) (get_or l.rows k row).from)) (sym (length-append gs before))
-        (place_there (length gs) (length before) (get_or l.rows k row).from (names k row below)))
+    (place_there (length gs) (length before) (get_or l.rows k row).from (names k row below)))
 
 abbrev pub Answers : EvidenceRefusal → Type 0
 Answers r = PassesLimit r ⊎ IsMemory r
@@ -73,11 +71,6 @@ rows_answer gs before number l names (refusal.Differs word want got) refused = a
 rows_answer gs before number l names (refusal.Certificate e) refused = absurd refused
 
 -- ---- sums
-
--- the rows over generators and lemmas are those over one list
-pub sums_agree : (gs ls : Polys) (rows : List LemmaRow) → lemma_sum gs ls rows ≡ plain_sum gs ls rows
-sums_agree gs ls [] = refl
-sums_agree gs ls (r ∷ rows) = ap₂ poly_sum (ap (λ g. poly_multiple r.coef (poly_between r.left g r.right)) (stands_there gs ls r.from)) (sums_agree gs ls rows)
 
 -- a positive integer times a polynomial of the program
 multiple_descends : (s : ℤ) (p : List Term) → pos 0 <ℤ s → IsCanonical p → Descends (poly_multiple s p) × AllByRecursion (λ t. t.0 ≢ pos 0) (poly_multiple s p)

@@ -1,11 +1,11 @@
 -- A certificate that names the claim, is within the limits and adds up is refused for a limit alone, or for want of memory.
-use Rattle.std.proofs.Common.{◌≡◌, ◌≤◌, ◌+◌, ◌⊎◌, inl, inr, ◌<ℤ◌, ℕ, ℤ, pos, List, [], ◌∷◌, arith, refl, sym, ap, ◌∙◌, subst, length, map, get_or, slice_get, Some}
+use Rattle.std.proofs.Common.{◌≡◌, ◌⊎◌, inl, inr, ℕ, ℤ, List, arith, sym, ◌∙◌, subst, length, slice_get, Some}
 use Rattle.std.specs.List.{All}
 use Rattle.std.proofs.lemmas.Int.{ints}
 use Rattle.std.proofs.lemmas.List.Elements.{All-map}
 use Rattle.std.proofs.lemmas.Option.{slice_get_within, get_or_from_slice_get}
-use Rattle.definitions.specs.Poly.{coefficient_of, poly_multiple, SamePolynomial}
-use Rattle.definitions.specs.Combination.{Row, row_sum, IsCombination}
+use Rattle.definitions.specs.Poly.{coefficient_of, SamePolynomial}
+use Rattle.definitions.specs.Combination.{Row, IsCombination}
 use Rattle.cofactor_trace.specs.declared.Certificate.{Certificate}
 use Rattle.cofactor_trace.specs.Rows.{row_of, rows_of}
 use Rattle.cofactor_checker.specs.declared.Refusal.{Refusal}
@@ -13,7 +13,7 @@ use Rattle.cofactor_checker.specs.declared.Refusal.TheVariants as refusal
 use Rattle.cofactor_checker.specs.Rows.{IsNumberUpTo, LacksGenerator}
 use Rattle.cofactor_checker.specs.Difference.{IsLeastDifference}
 use Rattle.cofactor_checker.specs.Acceptance.{claim_of, Refuses, IsMemory}
-use Rattle.outcome_limits.specs.EvidenceLimits.{IsRowWithin, IsCertificateWithin}
+use Rattle.outcome_limits.specs.EvidenceLimits.{IsCertificateWithin}
 use Rattle.report_readback.specs.Answered.{PassesLimitOfRows}
 
 abbrev pub Polys : Type 0

@@ -68,10 +68,17 @@ module _ (ds : List Declaration) (generators : ℕ) (few : generators ≤ 1864) 
         in_range = scale.in_range;
         rows = λ k row below.
             let is = within.rows k row below in
-            record { coefficient = is.coefficient; number = small_number generators lemmas (get_or l.rows k row).from (names k row below) few few_lemmas; letters = over k row below; short_left = is.short_left; short_right = is.short_right };
+            record {
+              coefficient = is.coefficient;
+              number = small_number generators lemmas (get_or l.rows k row).from (names k row below) few few_lemmas;
+              letters = over k row below;
+              short_left = is.short_left;
+              short_right = is.short_right;
+            };
       }
 
-  lemmas_writable : (before : ℕ) (lemmas : List Lemma) → before + length lemmas ≤ 200000 → All IsLemmaWithin lemmas → NameEarlier generators before lemmas → All (IsLemmaOver ds) lemmas → All (IsWritableLemma ds) lemmas
+  lemmas_writable : (before : ℕ) (lemmas : List Lemma) → before + length lemmas ≤ 200000 → All IsLemmaWithin lemmas → NameEarlier generators before lemmas
+      → All (IsLemmaOver ds) lemmas → All (IsWritableLemma ds) lemmas
   lemmas_writable before [] few_lemmas within names over = All-nil (IsWritableLemma ds)
   lemmas_writable before (l ∷ lemmas) few_lemmas within names over =
       All-cons (IsWritableLemma ds) l lemmas
