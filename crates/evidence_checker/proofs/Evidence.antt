@@ -19,7 +19,7 @@ use Rattle.evidence_checker.specs.Acceptance.{goal_claim, all_polynomials, Accep
 use Rattle.evidence_checker.proofs.Places.{stands_there}
 
 -- the rows over generators and lemmas are those over one list
-sums_agree : (gs ls : List (List (ℤ × List ℕ))) (rows : List LemmaRow) → lemma_sum gs ls rows ≡ plain_sum gs ls rows
+pub sums_agree : (gs ls : List (List (ℤ × List ℕ))) (rows : List LemmaRow) → lemma_sum gs ls rows ≡ plain_sum gs ls rows
 sums_agree gs ls [] = refl
 sums_agree gs ls (r ∷ rows) = ap₂ poly_sum (ap (λ g. poly_multiple r.coef (poly_between r.left g r.right)) (stands_there gs ls r.from)) (sums_agree gs ls rows)
 

@@ -30,6 +30,7 @@ pub record IsProvedBy (setting : Setting) (claim : List Term) : Type 0 where
   pub run : IsRunState setting rounds state
   pub reduced : State
   pub reduction : normal_form_of setting.compare state.rules claim setting.budget.steps ≡ Ok reduced
+  pub none : reduced.rest ≡ []
 
 pub data Way (setting : Setting) (form : Format) (number : ℕ) (claim : List Term) (o : Outcome) : Type 0 where
   -- at once
@@ -66,12 +67,12 @@ module _ (setting : Setting) (form : Format) (number : ℕ) (claim : List Term) 
   done_way : (round rounds : ℕ) (s : RunState) → IsRunState setting rounds s → IsDone setting form number round s claim o → Ways
   done_way round rounds s run done = go (normal_form_of setting.compare s.rules claim setting.budget.steps) refl done
     where
-      with_rest : (reduced : State) → normal_form_of setting.compare s.rules claim setting.budget.steps ≡ Ok reduced → (rest : List Term) → IsDoneWith form number round s.made reduced rest o → Ways
-      with_rest reduced ends [] is = proved_way form (place.Certificate round) (record { rounds = rounds; state = s; run = run; reduced = reduced; reduction = ends }) is
-      with_rest reduced ends (t ∷ rest) is = absurd is
+      with_rest : (reduced : State) → normal_form_of setting.compare s.rules claim setting.budget.steps ≡ Ok reduced → (rest : List Term) → reduced.rest ≡ rest → IsDoneWith form number round s.made reduced rest o → Ways
+      with_rest reduced ends [] none is = proved_way form (place.Certificate round) (record { rounds = rounds; state = s; run = run; reduced = reduced; reduction = ends; none = none }) is
+      with_rest reduced ends (t ∷ rest) some is = absurd is
 
       go : (r : Result State ReduceFault) → normal_form_of setting.compare s.rules claim setting.budget.steps ≡ r → IsDoneBy form number round s.made r o → Ways
-      go (Ok reduced) ends is = with_rest reduced ends reduced.rest is
+      go (Ok reduced) ends is = with_rest reduced ends reduced.rest refl is
       go (Err e) ends is = halted_way _ (place.Claim round) is
 
   -- an open claim's rounds are those of the run

@@ -1,0 +1,102 @@
+-- The evidence of a derived claim is accepted, or a limit is passed in adding it up.
+use Rattle.std.proofs.Common.{◌≡◌, ◌⊎◌, inl, inr, ℕ, List, [], ◌∷◌, sym, subst, length}
+use Rattle.std.specs.List.{All}
+use Rattle.std.proofs.lemmas.List.Elements.{All-nil, All-cons, All-head, All-tail}
+use Rattle.cofactor_trace.specs.declared.evidence.Evidence.{Evidence}
+use Rattle.cofactor_trace.specs.declared.evidence.Evidence.TheVariants as evidence
+use Rattle.cofactor_trace.specs.declared.evidence.Format.{Format}
+use Rattle.cofactor_trace.specs.LemmaRows.{IsEvidenceOf}
+use Rattle.cofactor_checker.specs.Rows.{IsNumberUpTo}
+use Rattle.cofactor_checker.proofs.RowSums.{length-polynomials}
+use Rattle.evidence_checker.specs.declared.refusal.EvidenceRefusal.{EvidenceRefusal}
+use Rattle.evidence_checker.specs.declared.refusal.EvidenceRefusal.TheVariants as refusal
+use Rattle.evidence_checker.specs.Acceptance.{IsMemory}
+use Rattle.evidence_checker.proofs.Judged.{evidence_is_judged}
+use Rattle.adjoint_rules.specs.declared.problem.Problem.{Problem}
+use Rattle.adjoint_rules.specs.Problem.{polynomials}
+use Rattle.traced_completion.specs.declared.budget.Budget.{Budget}
+use Rattle.traced_completion.specs.PlainRun.{setting_of}
+use Rattle.claim_decider.specs.declared.outcome.Outcome.{Outcome}
+use Rattle.claim_decider.specs.declared.outcome.Outcome.TheVariants as outcome
+use Rattle.claim_decider.specs.Decided.{claim_at, claim_numbers, AreOutcomesOf}
+use Rattle.outcome_limits.specs.EvidenceLimits.{IsCertificateWithin, IsLemmaCertificateWithin, IsWithinLimits}
+use Rattle.outcome_limits.proofs.EvidenceFits.{evidence_fits}
+use Rattle.outcome_meanings.specs.Meanings.{IsOutcomeAt}
+use Rattle.outcome_meanings.proofs.DerivedClaims.{certificate_adds_up}
+use Rattle.report_readback.specs.ReadBack.{derived_in}
+use Rattle.report_readback.specs.Answered.{PassesLimit, AcceptsOf, RefusesOf, IsAnsweredWithinLimits, DerivedEvidenceIsAnswered, ReportedEvidenceIsAnswered}
+use Rattle.report_readback.proofs.ClaimNumbers.{numbers_there}
+use Rattle.report_readback.proofs.PlainAnswers.{Polys, plain_answer}
+use Rattle.report_readback.proofs.LemmaAnswers.{lemmas_certificate_answer}
+use Rattle.report_readback.proofs.LemmaPolys.{lemmas_of}
+
+module _ (problem : Problem) (budget : Budget) (form : Format) (number : ℕ) (there : IsNumberUpTo (length problem.parts.claims) number) where
+  abbrev claims : Polys
+  claims = polynomials problem.parts.claims
+
+  abbrev generators : Polys
+  generators = polynomials problem.generators
+
+  counted : length generators ≡ length problem.generators
+  counted = length-polynomials problem.generators
+
+  -- the claim that the evidence names is one of the claims
+  named_there : (n : ℕ) → n ≡ number → IsNumberUpTo (length claims) n
+  named_there n is = rw (length-polynomials problem.parts.claims, is) there
+
+  no_other : (e : Evidence) → IsOutcomeAt problem budget form number (outcome.Derived e) → IsWithinLimits problem number e
+      → (r : EvidenceRefusal) → RefusesOf problem e r → PassesLimit r ⊎ IsMemory r
+  no_other (evidence.Plain c) is within (refusal.Certificate r) refused =
+      plain_answer claims generators c (named_there c.claim within.claim)
+      (subst (λ count. IsCertificateWithin count c.claim c) (sym counted) (subst (λ n. IsCertificateWithin (length problem.generators) n c) (sym within.claim) within))
+      (certificate_adds_up problem budget form number c is) r refused
+  no_other (evidence.Plain c) is within refusal.NoSuchClaim refused = absurd refused
+  no_other (evidence.Plain c) is within refusal.ZeroDenominator refused = absurd refused
+  no_other (evidence.Plain c) is within (refusal.LooseScale lemma) refused = absurd refused
+  no_other (evidence.Plain c) is within (refusal.Overflow row overflow) refused = absurd refused
+  no_other (evidence.Plain c) is within (refusal.NoSuchGenerator row) refused = absurd refused
+  no_other (evidence.Plain c) is within (refusal.NoSuchLemma row) refused = absurd refused
+  no_other (evidence.Plain c) is within (refusal.Size row) refused = absurd refused
+  no_other (evidence.Plain c) is within (refusal.NotDivisible lemma word got) refused = absurd refused
+  no_other (evidence.Plain c) is within (refusal.LemmaSize lemma) refused = absurd refused
+  no_other (evidence.Plain c) is within (refusal.Kept row) refused = absurd refused
+  no_other (evidence.Plain c) is within (refusal.Differs word want got) refused = absurd refused
+  no_other (evidence.Plain c) is within (refusal.Memory failed) refused = absurd refused
+  no_other (evidence.Lemmas c) is within r refused =
+      let found = lemmas_of problem budget form number c is in
+      lemmas_certificate_answer claims generators c found.lemmas (named_there c.claim within.claim)
+      (subst (λ count. IsLemmaCertificateWithin count c.claim c) (sym counted) (subst (λ n. IsLemmaCertificateWithin (length problem.generators) n c) (sym within.claim) within)) found.canonical
+      (subst (λ n. IsEvidenceOf generators found.lemmas c (claim_at problem n)) (sym within.claim) found.evidence) r refused
+
+  answered : (e : Evidence) → IsOutcomeAt problem budget form number (outcome.Derived e) → IsAnsweredWithinLimits problem e
+  answered e is = record { judged = judge (evidence_is_judged claims generators e); no_other = only }
+    where
+      only : (r : EvidenceRefusal) → RefusesOf problem e r → PassesLimit r ⊎ IsMemory r
+      only = no_other e is (evidence_fits problem budget form number e is)
+
+      limit : (r : EvidenceRefusal) → PassesLimit r ⊎ IsMemory r → (IsMemory r → ⊥) → PassesLimit r
+      limit r (inl passes) not = passes
+      limit r (inr memory) not = absurd (not memory)
+
+      judge : AcceptsOf problem e ⊎ ((r : EvidenceRefusal) × RefusesOf problem e r × (IsMemory r → ⊥))
+          → AcceptsOf problem e ⊎ ((r : EvidenceRefusal) × RefusesOf problem e r × PassesLimit r)
+      judge (inl accepts) = inl accepts
+      judge (inr refused) = inr (refused.0, refused.1, limit refused.0 (only refused.0 refused.1) refused.2)
+
+pub derived_evidence_is_answered : DerivedEvidenceIsAnswered
+derived_evidence_is_answered problem budget form number e there is = answered problem budget form number there e is
+
+module _ (problem : Problem) (budget : Budget) (form : Format) where
+  all_answered : (numbers : List ℕ) (outcomes : List Outcome) → All (IsNumberUpTo (length problem.parts.claims)) numbers → AreOutcomesOf (setting_of problem budget) form problem numbers outcomes
+      → All (IsAnsweredWithinLimits problem) (derived_in outcomes)
+  all_answered [] [] there are = All-nil (IsAnsweredWithinLimits problem)
+  all_answered [] (o ∷ outcomes) there are = absurd are
+  all_answered (n ∷ numbers) [] there are = absurd are
+  all_answered (n ∷ numbers) (outcome.Derived e ∷ outcomes) there are =
+      All-cons (IsAnsweredWithinLimits problem) e (derived_in outcomes) (answered problem budget form n (All-head (IsNumberUpTo (length problem.parts.claims)) n numbers there) e are.0)
+      (all_answered numbers outcomes (All-tail (IsNumberUpTo (length problem.parts.claims)) n numbers there) are.1)
+  all_answered (n ∷ numbers) (outcome.Closed rest ∷ outcomes) there are = all_answered numbers outcomes (All-tail (IsNumberUpTo (length problem.parts.claims)) n numbers there) are.1
+  all_answered (n ∷ numbers) (outcome.Halted h ∷ outcomes) there are = all_answered numbers outcomes (All-tail (IsNumberUpTo (length problem.parts.claims)) n numbers there) are.1
+
+pub reported_evidence_is_answered : ReportedEvidenceIsAnswered
+reported_evidence_is_answered problem budget form outcomes are = all_answered problem budget form (claim_numbers problem) outcomes (numbers_there problem) are

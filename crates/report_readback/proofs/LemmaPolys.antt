@@ -1,0 +1,93 @@
+-- The lemmas of a derived claim's evidence are rules, and so polynomials of the program.
+use Rattle.std.proofs.Common.{◌≡◌, ℕ, zero, suc, List, [], ◌∷◌, Ok, arith, ap, ◌∙◌, subst, get_or}
+use Rattle.std.specs.List.{All}
+use Rattle.std.proofs.lemmas.List.Elements.{All-nil, All-map}
+use Rattle.definitions.specs.Poly.{Term}
+use Rattle.definitions.specs.Combination.{generator_at}
+use Rattle.nc_polynomial.specs.Shape.{IsCanonical}
+use Rattle.nc_polynomial.proofs.Shapes.{IsDescending-from_recursion}
+use Rattle.cofactor_trace.specs.declared.Made.{Made}
+use Rattle.cofactor_trace.specs.declared.evidence.Evidence.TheVariants as evidence
+use Rattle.cofactor_trace.specs.declared.evidence.Format.{Format}
+use Rattle.cofactor_trace.specs.declared.evidence.Format.TheVariants as format
+use Rattle.cofactor_trace.specs.declared.evidence.LemmaCertificate.{LemmaCertificate}
+use Rattle.cofactor_trace.specs.Lemmas.{lemma_rules}
+use Rattle.cofactor_trace.specs.GatheringLaws.{lemma_polys}
+use Rattle.cofactor_trace.specs.LemmaRows.{AreOfLemmas, IsEvidenceOf}
+use Rattle.rule_reduce.specs.declared.rule.Rule.{Rule}
+use Rattle.rule_reduce.specs.RuleLists.{polynomials_of}
+use Rattle.adjoint_rules.specs.declared.problem.Problem.{Problem}
+use Rattle.adjoint_rules.specs.Problem.{polynomials}
+use Rattle.traced_completion.specs.declared.budget.Budget.{Budget}
+use Rattle.traced_completion.specs.PlainRun.{setting_of}
+use Rattle.claim_decider.specs.declared.outcome.Outcome.TheVariants as outcome
+use Rattle.claim_decider.specs.Outcomes.{record_of, evidence_of_zero}
+use Rattle.claim_decider.specs.Decided.{claim_at}
+use Rattle.outcome_meanings.specs.Meanings.{IsOutcomeAt, LemmaCertificateAddsUp}
+use Rattle.outcome_meanings.proofs.Derivations.{gathering_adds_up}
+use Rattle.outcome_meanings.proofs.Meanings.{derived_claims_add_up}
+use Rattle.outcome_limits.proofs.OutcomeWays.{Way, no_terms, expanded, gathered, left_over, given_up, with_run, way}
+
+-- ---- rules are polynomials of the program
+
+zero_is_canonical : IsCanonical []
+zero_is_canonical = record {
+  shaped = record { descending = IsDescending-from_recursion [] tt; nonzero = All-nil _; in_range = All-nil _ };
+  short = All-nil _;
+  few = omega arith;
+}
+
+canonical_at : (rules : List Rule) (number : ℕ) → IsCanonical (generator_at (polynomials_of rules) number)
+canonical_at rules zero = zero_is_canonical
+canonical_at [] (suc n) = zero_is_canonical
+canonical_at (g ∷ rules) (suc zero) = g.poly.canonical
+canonical_at (g ∷ rules) (suc (suc n)) = canonical_at rules (suc n)
+
+lemmas_are_canonical : (rules : List Rule) (made : List Made) (target : Made) → All IsCanonical (lemma_polys (polynomials_of rules) made target)
+lemmas_are_canonical rules made target =
+    let needed = lemma_rules made target in
+    All-map IsCanonical (λ e. generator_at (polynomials_of rules) e.0) needed (λ k d below. canonical_at rules (get_or needed k d).0)
+
+-- no lemmas have no polynomials
+none_of_none : (gs : List (List Term)) (ps : List (List Term)) → AreOfLemmas gs [] [] ps → All IsCanonical ps
+none_of_none gs [] add_up = All-nil IsCanonical
+none_of_none gs (p ∷ ps) add_up = absurd add_up
+
+-- ---- outcomes
+
+module _ (problem : Problem) (budget : Budget) (form : Format) (number : ℕ) (c : LemmaCertificate) where
+  -- the certificate is evidence of the claim, with polynomials of the program
+  pub record HasLemmas : Type 0 where
+    pub lemmas : List (List Term)
+    pub canonical : All IsCanonical lemmas
+    pub evidence : IsEvidenceOf (polynomials problem.generators) lemmas c (claim_at problem number)
+
+  -- the claim without terms
+  at_once : (f : Format) → outcome.Derived (evidence.Lemmas c) ≡ outcome.Derived (evidence_of_zero f number) → LemmaCertificateAddsUp problem number c → HasLemmas
+  at_once format.Plain same adds_up = absurd (cc)
+  at_once format.Lemmas same adds_up =
+      let none : c.lemmas ≡ [] = cc in
+      record {
+        lemmas = adds_up.lemmas;
+        canonical = none_of_none (polynomials problem.generators) adds_up.lemmas (subst (λ ls. AreOfLemmas (polynomials problem.generators) [] ls adds_up.lemmas) none adds_up.evidence.lemmas_add_up);
+        evidence = adds_up.evidence;
+      }
+
+  by_way : LemmaCertificateAddsUp problem number c → Way (setting_of problem budget) form number (claim_at problem number) (outcome.Derived (evidence.Lemmas c)) → HasLemmas
+  by_way adds_up (no_terms same) = at_once form same adds_up
+  by_way adds_up (expanded by cofactors is same) = absurd (cc)
+  by_way adds_up (gathered by certificate is same) =
+      let same_one : certificate ≡ c = cc in
+      record {
+        lemmas = lemma_polys (polynomials_of by.state.rules) by.state.made (record_of by.reduced);
+        canonical = lemmas_are_canonical by.state.rules by.state.made (record_of by.reduced);
+        evidence = gathering_adds_up problem budget number by.rounds by.state by.run by.reduced by.reduction by.none c (is ∙ ap Ok same_one);
+      }
+  by_way adds_up (left_over rounds s run rest left same) = absurd (cc)
+  by_way adds_up (given_up halt none same) = absurd (cc)
+  by_way adds_up (with_run rounds s halt run round same) = absurd (cc)
+
+  pub lemmas_of : IsOutcomeAt problem budget form number (outcome.Derived (evidence.Lemmas c)) → HasLemmas
+  lemmas_of is =
+      by_way (derived_claims_add_up problem budget form number (evidence.Lemmas c) is)
+      (way (setting_of problem budget) form number (claim_at problem number) (outcome.Derived (evidence.Lemmas c)) is.rounds is.state is.gets)

@@ -1,0 +1,12 @@
+pub mod Numerals
+pub mod Heads
+pub mod Bases
+pub mod Reports
+pub mod Writable
+pub mod ClaimNumbers
+pub mod Outcomes
+pub mod PlainAnswers
+pub mod OneLemma
+pub mod LemmaAnswers
+pub mod LemmaPolys
+pub mod Answers

@@ -1,0 +1,5 @@
+use Rattle.report_readback.proofs.Answers as lemma
+use Rattle.report_readback.proofs.laws.reported_evidence_is_answered.Goals as goal
+
+pub returns : goal.returns
+returns c = lemma.reported_evidence_is_answered

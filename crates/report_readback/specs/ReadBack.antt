@@ -1,0 +1,73 @@
+-- What is read of a report as evidence: the evidence of the claims that are proved, in their order.
+use Rattle.std.specs.Prelude.{◌≡◌, ◌<◌, ◌≤◌, ℕ, List, [], ◌∷◌, map, length, IsTrue}
+use Rattle.std.specs.List.{All, list_all}
+use Rattle.nc_polynomial.specs.declared.poly.Poly.{Poly}
+use Rattle.quiver.specs.Declarations.{Declaration, IsDeclared}
+use Rattle.cofactor_trace.specs.declared.evidence.Evidence.{Evidence}
+use Rattle.cofactor_trace.specs.declared.evidence.Format.{Format}
+use Rattle.cofactor_trace.specs.declared.evidence.Format.TheVariants.{Lemmas}
+use Rattle.adjoint_rules.specs.declared.problem.Problem.{Problem}
+use Rattle.traced_completion.specs.declared.budget.Budget.{Budget}
+use Rattle.traced_completion.specs.PlainRun.{setting_of}
+use Rattle.claim_decider.specs.declared.outcome.Outcome.{Outcome}
+use Rattle.claim_decider.specs.declared.outcome.Outcome.TheVariants as outcome
+use Rattle.claim_decider.specs.Decided.{claim_numbers, AreOutcomesOf, AreLastRules}
+use Rattle.certificate_text.specs.Fault.{no_block}
+use Rattle.certificate_text.specs.Evidence.{HasCertificates, IsEvidence, IsFirstFault}
+use Rattle.certificate_text.specs.Back.{IsWritableEvidence, is_named}
+use Rattle.report_text.specs.declared.verdict.Verdict.{Verdict}
+use Rattle.report_text.specs.declared.verdict.Verdict.TheVariants as verdict
+use Rattle.report_text.specs.Report.{report_of, IsPolyOver, IsLeastOver}
+
+-- ---- what is read
+
+-- The text has these certificates, of whatever format. Where there is one at least, it is evidence; where there is none, that is its
+-- first fault.
+pub record IsReadAs (ds : List Declaration) (bytes : List ℕ) (es : List Evidence) : Type 0 where
+  pub has : HasCertificates Lemmas ds bytes es
+  pub some : 0 < length es → IsEvidence Lemmas ds bytes es
+  pub none : es ≡ [] → IsFirstFault Lemmas ds bytes no_block
+
+-- ---- reports of verdicts
+
+-- the evidence of the claims that are proved
+abbrev pub proved_in : List Verdict → List Evidence
+proved_in [] = []
+proved_in (verdict.Proved e ∷ verdicts) = e ∷ proved_in verdicts
+proved_in (verdict.NotDerivable rest ∷ verdicts) = proved_in verdicts
+proved_in (verdict.Undecided h ∷ verdicts) = proved_in verdicts
+
+-- its evidence is within the limits of evidence text, and letters are letters of the quiver
+abbrev pub IsWritableVerdict : List Declaration → Verdict → Type 0
+IsWritableVerdict ds (verdict.Proved e) = IsWritableEvidence ds e
+IsWritableVerdict ds (verdict.NotDerivable rest) = IsPolyOver ds rest
+IsWritableVerdict ds (verdict.Undecided h) = IsLeastOver ds h.least
+
+-- A report of at most 100 such verdicts is read as the evidence of those that are proved.
+abbrev pub ReportsReadBack : Type 0
+ReportsReadBack = (ds : List Declaration) (rules : List Poly) (verdicts : List Verdict)
+    → IsDeclared ds → IsTrue (list_all is_named ds) → All (IsPolyOver ds) rules → All (IsWritableVerdict ds) verdicts → length verdicts ≤ 100
+    → IsReadAs ds (report_of ds rules verdicts) (proved_in verdicts)
+
+-- ---- reports of outcomes
+
+-- what is said of a claim with this outcome
+abbrev pub verdict_of : Outcome → Verdict
+verdict_of (outcome.Derived e) = verdict.Proved e
+verdict_of (outcome.Closed rest) = verdict.NotDerivable rest
+verdict_of (outcome.Halted h) = verdict.Undecided h
+
+-- the evidence of the claims that are derived
+abbrev pub derived_in : List Outcome → List Evidence
+derived_in [] = []
+derived_in (outcome.Derived e ∷ outcomes) = e ∷ derived_in outcomes
+derived_in (outcome.Closed rest ∷ outcomes) = derived_in outcomes
+derived_in (outcome.Halted h ∷ outcomes) = derived_in outcomes
+
+-- The report of the outcomes of all claims of a problem, with the last rules, is read as the evidence of the claims that are derived.
+-- That objects and maps have names of the language is asked for.
+abbrev pub OutcomeReportsReadBack : Type 0
+OutcomeReportsReadBack = (problem : Problem) (budget : Budget) (form : Format) (outcomes : List Outcome) (rules : List Poly)
+    → AreOutcomesOf (setting_of problem budget) form problem (claim_numbers problem) outcomes → AreLastRules (setting_of problem budget) form problem (claim_numbers problem) rules
+    → IsTrue (list_all is_named problem.parts.quiver)
+    → IsReadAs problem.parts.quiver (report_of problem.parts.quiver rules (map verdict_of outcomes)) (derived_in outcomes)

@@ -1,0 +1,24 @@
+//! What is read of a report as evidence, and what is answered to it, as laws over the definitions.
+ghost use Rattle.report_readback.specs.Answered.{DerivedEvidenceIsAnswered, ReportedEvidenceIsAnswered};
+ghost use Rattle.report_readback.specs.ReadBack.{OutcomeReportsReadBack, ReportsReadBack};
+
+/// A report is read as the evidence of its proved claims, in their order. Where no claim is proved, it has no certificate.
+pub fn reports_are_read_back()
+    ensures { ReportsReadBack }
+{}
+
+/// So is the report of the outcomes of all claims of a problem, whatever the budget and the format.
+pub fn outcome_reports_are_read_back()
+    ensures { OutcomeReportsReadBack }
+{}
+
+/// The evidence of a derived claim is accepted, unless a limit is passed in adding it up: by a coefficient, by the terms of a
+/// sum, or by the terms of all lemmas.
+pub fn derived_evidence_is_answered()
+    ensures { DerivedEvidenceIsAnswered }
+{}
+
+/// So is all evidence in the report of the outcomes of all claims of a problem.
+pub fn reported_evidence_is_answered()
+    ensures { ReportedEvidenceIsAnswered }
+{}
