@@ -51,11 +51,11 @@ def read_lines(path: str, not_utf8: str) -> Iterator[Tuple[int, str]]:
 
 # ---- Statements: the grammar, and the values of expressions
 Token = NamedTuple("Token", [("kind", str), ("text", str), ("line", int), ("column", int)])
-# What stands behind the first word of a line: tokens with these roles, those of a group with + once or more.
+# What stands behind the first word of a line: tokens with these roles; + is once or more, ? at most once, * any number.
 SHAPES = {
-    "object": "new_object+", "map": "new_map+ : object -> object self", "assume": "sum = sum", "claim": "sum = sum",
+    "object": "new_object+", "map": "new_map+ : object -> object self?", "assume": "sum = sum", "claim": "sum = sum",
     "pinv": "map map", "inverse": "map map", "inner": "map map", "projection": "map",
-    "order": "", "solve": "map+", "model": "literal object,literal+",
+    "order": "", "solve": "map+", "model": "literal object,literal*",
 }  # fmt: skip
 
 
@@ -107,11 +107,11 @@ class Line:
         word = self.take("word", SHAPES)
         is_weight = word == "order" and self.take("way", ["degree", "weight"]) == "weight"
         for group in ["map,literal+"] if is_weight else SHAPES[word].split():
-            again = group != "self" or self.is_at("name")
+            again = group[-1] not in "?*" or self.is_at("name")
             while again:
-                for role in group.rstrip("+").split(","):
+                for role in group.rstrip("+?*").split(","):
                     self.sum() if role == "sum" else self.take(role, ["self"] if role == "self" else ())
-                again = group[-1] == "+" and self.is_at("name")
+                again = group[-1] in "+*" and self.is_at("name")
         self.take("end")
         return self
 
