@@ -6,8 +6,8 @@ compares. It prints a line for each certificate: that it is accepted, with its d
 wrong, with its place, which ends the report. The status is 0 where all are accepted, and else 1.
 
 It is written from docs/FORMATS.md and shares nothing with opprove; codes and places are those of that page. Numbers and
-texts have any size: S4, S8, S13, K4, K5, C4, C5, C9 and C11 are never met, and S14 at once, where a product passes it.
-Of order, solve and model lines S7 and S16 are left out. What a name may have is what this Python's Unicode says.
+texts have any size: the limits S4, S8, S13, K4, K5, C4, C5, C9 and C11 are not looked at, and S14 only where a product
+passes it, at once; nor are S7 and S16 in order, solve and model lines. Names follow this Python's version of Unicode.
 """
 from __future__ import annotations
 
@@ -46,7 +46,8 @@ def read_lines(path: str, not_utf8: str) -> Iterator[Tuple[int, str]]:
         with open(path, "rb") as file:
             return enumerate(re.split("\r?\n", file.read().decode()), 1)
     except (OSError, ValueError) as error:
-        raise Refusal(not_utf8.format(error.start) if hasattr(error, "start") else f"# load failed {path}") from None
+        is_loaded = isinstance(error, UnicodeDecodeError)
+        raise Refusal(not_utf8.format(error.start) if is_loaded else f"# load failed {path}") from None
 
 
 # ---- Statements: the grammar, and the values of expressions
@@ -215,9 +216,9 @@ class Problem:
         for name in (name for line in lines for name in line.with_role("new_object")):
             self.declare(f"[{name}]", (len(self.names), len(self.names)), True)
         for line in lines:
+            ends, is_own = tuple(self.numbers[f"[{v}]"] for v in line.with_role("object")), line.with_role("self") != []
             for name in line.with_role("new_map"):
-                source, target = (self.numbers[f"[{end}]"] for end in line.with_role("object"))
-                self.declare(name, (source, target), bool(line.with_role("self")))
+                self.declare(name, ends, is_own)
         self.is_starred, self.marked = any(line.with_role("self") for line in lines), set()
         self.assumptions, self.claims = [], []
         for line in lines:
@@ -299,9 +300,8 @@ class Evidence:
                 self.certificates.append(self.certificate())
             else:
                 self.take("(model|basis)( .*)?")
-                while self.line != "end":
-                    self.take(".+")
-                self.take("end")
+                while self.take("(.+)") != ("end",):
+                    pass
         if not self.certificates:
             raise Refusal("# refused K7")
 

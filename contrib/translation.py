@@ -1,4 +1,4 @@
-"""What the scripts that translate certificates share: both files, names of letters, and the steps that add up the rows."""
+"""What the scripts that translate certificates share: both files, names of letters, and the steps that add up rows."""
 from __future__ import annotations
 
 import sys

@@ -15,7 +15,7 @@ import subprocess
 import sys
 import tempfile
 from pathlib import Path
-from typing import Callable, Iterator, List, NamedTuple, Optional, Tuple
+from typing import Callable, Iterator, List, NamedTuple, Tuple
 
 TOP = Path(__file__).resolve().parent.parent
 CONTRIB, EXAMPLES = TOP / "contrib", TOP / "examples"
@@ -39,7 +39,10 @@ class Answer(NamedTuple):
 def run(*words: object, folder: Path = TOP) -> Answer:
     """The answer of a program, which gets no input and two minutes."""
     command = [str(word) for word in words]
-    done = subprocess.run(command, cwd=folder, stdin=subprocess.DEVNULL, capture_output=True, timeout=120)
+    environment = {**os.environ, "LC_ALL": "C.UTF-8", "PYTHONDONTWRITEBYTECODE": "1"}
+    done = subprocess.run(
+        command, cwd=folder, env=environment, stdin=subprocess.DEVNULL, capture_output=True, timeout=120
+    )
     return Answer(done.returncode, done.stdout.decode(), done.stderr.decode())
 
 
@@ -58,18 +61,18 @@ def installed(name: str) -> str:
 # ---- The two checkers
 
 
-def judged(statement: Path, evidence: Path) -> Tuple[bool, Optional[bool], str]:
-    """Whether check.py accepts, whether opprove does (None: it is not built, or does not read the format), and the
-    line of check.py."""
+def judged(statement: Path, evidence: Path) -> Tuple[str, bool]:
+    """The last line of check.py, and whether opprove was asked too, which has to give the same report."""
     answer = run(sys.executable, CONTRIB / "check.py", statement, evidence)
-    last = answer.out.split("\n")[-2] if answer.out else ""
-    need(answer.status in (0, 1) and not answer.error and last.startswith("# "), (statement, evidence, answer))
-    need((answer.status == 0) == (" accepted " in last), (statement, evidence, answer))
-    if not is_read_by_opprove(evidence):
-        return answer.status == 0, None, last
-    other = run(PROGRAM, "check", statement, evidence)
-    need(other.status in (0, 3, 7), (statement, evidence, other))
-    return answer.status == 0, other.status == 0, last
+    line = answer.out.split("\n")[-2] if answer.out.endswith("\n") else ""
+    status = 0 if re.fullmatch("# block [0-9]+ accepted .*", line) else 1
+    need(answer.status == status and not answer.error and line.startswith("# "), (statement, evidence, answer))
+    is_asked = is_read_by_opprove(evidence)
+    if is_asked:
+        other = run(PROGRAM, "check", statement, evidence)
+        same = (other.status == 0) == (status == 0) and other.out == answer.out
+        need(same, (statement.read_bytes(), evidence.read_bytes(), answer, other))
+    return line, is_asked
 
 
 def is_read_by_opprove(evidence: Path) -> bool:
@@ -84,10 +87,10 @@ def reads_lemmas() -> bool:
 
 
 def expect(accepted: bool, statement: Path, evidence: Path) -> bool:
-    """Fails where an answer is another one, and tells whether both checkers gave theirs."""
-    mine, other, line = judged(statement, evidence)
-    need(mine == accepted and other in (None, accepted), (statement, evidence.read_text(), line, f"opprove: {other}"))
-    return other is not None
+    """Fails where the answer is another one, and tells whether opprove gave it too."""
+    line, is_asked = judged(statement, evidence)
+    need((" accepted " in line) == accepted, (statement, evidence.read_text(), line))
+    return is_asked
 
 
 def stored() -> Iterator[Tuple[Path, Path]]:
@@ -98,8 +101,10 @@ def stored() -> Iterator[Tuple[Path, Path]]:
 
 
 def told(count: int, by_both: int, what: str) -> str:
-    others = f"; check.py alone {count - by_both}" if by_both < count else ""
-    return f"{by_both} {what} by check.py and opprove{others}"
+    if not os.access(PROGRAM, os.X_OK):
+        return f"{count} {what}; by check.py alone, as opprove is not built"
+    others = f"; {count - by_both} by check.py alone, whose format opprove does not read" if by_both < count else ""
+    return f"{by_both} {what} of check.py and of opprove{others}"
 
 
 def examples() -> str:
@@ -108,7 +113,7 @@ def examples() -> str:
     for statement in EXAMPLES.glob("**/*.op"):
         answer = run(sys.executable, CONTRIB / "check.py", statement, os.devnull)
         need(answer == Answer(1, "# refused K7\n", ""), (statement, answer))
-    return told(len(cases), by_both, "certificates of the examples are answered alike")
+    return told(len(cases), by_both, "certificates of the examples are answered by the same line")
 
 
 def reports(folder: Path) -> str:
@@ -165,7 +170,7 @@ def changes(folder: Path) -> str:
                 by_both += expect(False, statement, evidence)
                 count += 1
     need(count >= 30, f"{count} changes")
-    return told(count, by_both, "changed certificates are refused")
+    return told(count, by_both, "changed certificates are refused by the same line")
 
 
 # ---- Bad input
@@ -188,7 +193,8 @@ FAULTY = [  # statement, evidence, the line
     (b"object U\nmap a : U -> U\nclaim a = a\n", b"certificate 1\nclaim 1\n", "# refused K6"),
     (b"object U\nmap a : U -> U\nclaim a = a\n", b"", "# refused K7"),
 ]
-ROWS = [  # behind `certificate`, for a statement with the assumption 2 a = 0 and the claim a = 0
+GOAL = b"goal scale 1\nend\n"
+ROWS = [  # behind "certificate", for a statement with the assumption 2 a = 0 and the claim a = 0
     (b"1\nclaim 1\ndenominator 1\nrow 1 () 1 (q)\nend\n", "# refused K3 line 4"),
     (b"1\nclaim 2\ndenominator 1\nend\n", "# block 1 refused C1"),
     (b"1\nclaim 1\ndenominator 1\nrow 1 () 2 ()\nend\n", "# block 1 refused C2 row 1"),
@@ -196,7 +202,7 @@ ROWS = [  # behind `certificate`, for a statement with the assumption 2 a = 0 an
     (b"1\nclaim 1\ndenominator 1\nrow 1 () 1 ()\nend\n", "# block 1 refused C6 word a want 1 got 2"),
     (b"2\nclaim 1\ndenominator 1\nlemma 2 scale 1\n", "# refused K2 line 4"),
     (b"2\nclaim 1\ndenominator 2\ngoal scale 2\nrow 1 () lemma 1 ()\nend\n", "# block 1 refused C7 row 1"),
-    (b"2\nclaim 1\ndenominator 4\nlemma 1 scale 4\nrow 1 () 1 ()\ngoal scale 1\nend\n", "# block 1 refused C8 lemma 1 word a"),
+    (b"2\nclaim 1\ndenominator 3\nlemma 1 scale 3\nrow 1 () 1 ()\n" + GOAL, "# block 1 refused C8 lemma 1 word a"),
     (b"2\nclaim 1\ndenominator 2\ngoal scale 4\nend\n", "# block 1 refused C10 lemma 0"),
 ]
 
@@ -205,10 +211,13 @@ def bad_input(folder: Path) -> str:
     head = b"object U\nmap a : U -> U\nassume 2 a = 0\nclaim a = 0\n"
     cases = FAULTY + [(head, b"certificate " + rows, line) for rows, line in ROWS]
     statement, evidence = folder / "faulty.op", folder / "faulty.cert"
+    by_both = 0
     for text, rows, line in cases:
         statement.write_bytes(text)
         evidence.write_bytes(rows)
-        need(judged(statement, evidence)[2] == line, (text, rows, line, judged(statement, evidence)))
+        found, is_asked = judged(statement, evidence)
+        need(found == line, (text, rows, line, found))
+        by_both += is_asked
         if " C6 " not in line:
             for name in TRANSLATIONS:
                 answer = run(sys.executable, CONTRIB / f"to_{name}.py", statement, evidence)
@@ -217,7 +226,7 @@ def bad_input(folder: Path) -> str:
     for name in ("check.py", "to_latex.py"):
         answer = run(sys.executable, CONTRIB / name, missing, evidence)
         need((answer.status, answer.out + answer.error) == (1, f"# load failed {missing}\n"), (name, answer))
-    return f"{len(cases)} faulty inputs are answered by one line"
+    return told(len(cases), by_both, "faulty inputs are answered by the same line")
 
 
 # ---- The other tools
@@ -274,7 +283,6 @@ def latex(folder: Path) -> str:
 
 
 def manual() -> str:
-    os.environ["LC_ALL"] = "C.UTF-8"
     answer = run(installed("man"), "--warnings", "-E", "UTF-8", "-l", "-Tutf8", "-Z", CONTRIB / "opprove.1")
     need(answer.status == 0 and not answer.error, answer)
     return "the manual page has no warnings"
