@@ -2,7 +2,7 @@
 """Certificates as a script for Singular: to_singular.py STATEMENT CERTIFICATE
 
 What is written makes a free algebra over the rational numbers (Letterplace), multiplies the rows out and prints for
-each certificate whether they are equal to the denominator times the claim.
+each certificate whether they are equal to the claim times the denominator, or with lemmas times the scale of the goal.
 """
 from __future__ import annotations
 

@@ -2,7 +2,8 @@
 """Certificates as Python for SymPy: to_sympy.py STATEMENT CERTIFICATE
 
 What is written makes the letters noncommutative symbols, multiplies the rows out and prints for each certificate
-whether they are equal to the denominator times the claim. It can be pasted into a notebook.
+whether they are equal to the claim times the denominator, or with lemmas times the scale of the goal. It can be pasted
+into a notebook.
 """
 from __future__ import annotations
 
