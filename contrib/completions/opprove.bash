@@ -1,0 +1,46 @@
+# Completion of opprove's words for bash: source contrib/completions/opprove.bash
+
+# Offers files with this ending, and folders.
+_opprove_files() {
+  compopt -o filenames
+  mapfile -t COMPREPLY < <(compgen -f -X "!*.$1" -- "$2"; compgen -d -- "$2")
+}
+
+_opprove_words() {
+  mapfile -t COMPREPLY < <(compgen -W "$1" -- "$2")
+}
+
+_opprove() {
+  local current=${COMP_WORDS[COMP_CWORD]} previous=${COMP_WORDS[COMP_CWORD - 1]}
+  COMPREPLY=()
+  if ((COMP_CWORD == 1)); then
+    _opprove_words "prove check bench" "$current"
+    return
+  fi
+  case ${COMP_WORDS[1]} in
+    prove)
+      case $previous in
+        --format) _opprove_words "1 2" "$current" ;;
+        --pairs | --steps | --workers | --seed) ;;
+        *)
+          if [[ $current == -* ]]; then
+            _opprove_words "--pairs --steps --workers --seed --format --no-models" "$current"
+          else
+            _opprove_files op "$current"
+          fi
+          ;;
+      esac
+      ;;
+    check)
+      case $COMP_CWORD in
+        2) _opprove_files op "$current" ;;
+        3) _opprove_files cert "$current" ;;
+      esac
+      ;;
+    bench)
+      [[ $current != -* ]] || _opprove_words "--workers" "$current"
+      ;;
+  esac
+}
+
+complete -F _opprove opprove

@@ -1,0 +1,14 @@
+# Completion of opprove's words for fish: copy to ~/.config/fish/completions/
+
+complete -c opprove -f
+complete -c opprove -n __fish_use_subcommand -a prove -d 'Decide each claim of a statement'
+complete -c opprove -n __fish_use_subcommand -a check -d 'Add up the rows of certificates'
+complete -c opprove -n __fish_use_subcommand -a bench -d 'Decide a statement that the program makes'
+complete -c opprove -n '__fish_seen_subcommand_from prove check' -a '(__fish_complete_suffix .op)'
+complete -c opprove -n '__fish_seen_subcommand_from check' -a '(__fish_complete_suffix .cert)'
+complete -c opprove -n '__fish_seen_subcommand_from prove' -l pairs -x -d 'Overlaps and inclusions that are treated, 1 to 1000000'
+complete -c opprove -n '__fish_seen_subcommand_from prove' -l steps -x -d 'Steps that a reduction makes, 1 to 1000000'
+complete -c opprove -n '__fish_seen_subcommand_from prove bench' -l workers -x -d 'Threads, 1 to 64'
+complete -c opprove -n '__fish_seen_subcommand_from prove' -l seed -x -d 'For the search for models'
+complete -c opprove -n '__fish_seen_subcommand_from prove' -l format -x -a '1 2' -d 'Certificates over generators alone, or with lemmas'
+complete -c opprove -n '__fish_seen_subcommand_from prove' -l no-models -d 'No search for models'

@@ -1,0 +1,22 @@
+" Statements of opprove: docs/FORMATS.md has the language.
+if exists("b:current_syntax")
+  finish
+endif
+
+" The words mean something only at the beginning of a line, and these three at their places.
+syntax match opproveStatement "^\s*\zs\(object\|map\|assume\|claim\|pinv\|inverse\|inner\|projection\|order\|solve\|model\)\>"
+syntax match opproveOption "\(^\s*order\s\+\)\@<=\(degree\|weight\)\>"
+syntax match opproveOption "\(->\s*\k\+\s\+\)\@<=self\ze\s*\(#\|$\)"
+syntax match opproveIdentity "\[\s*\k\+\s*\]"
+syntax match opproveNumber "\<\d\+"
+syntax match opproveSign "->\|[:=+'-]"
+syntax match opproveComment "#.*$" contains=@Spell
+
+highlight default link opproveStatement Statement
+highlight default link opproveOption Type
+highlight default link opproveIdentity Constant
+highlight default link opproveNumber Number
+highlight default link opproveSign Operator
+highlight default link opproveComment Comment
+
+let b:current_syntax = "opprove"
