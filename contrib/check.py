@@ -369,8 +369,7 @@ def judge(problem: Problem, certificate: Certificate, refused: str) -> None:
             add(total, row.coefficient, polys[row.number - 1], row.left, row.right)
         rests = [(len(word), word) for word in total if total[word] % share.scale]
         if rests and share is not shares[-1]:
-            word = min(rests)[1]
-            raise Refusal(f"{refused} C8 lemma {len(lemmas) + 1} word {problem.text(word)} got {total[word]}")
+            raise Refusal(f"{refused} C8 lemma {len(lemmas) + 1} word {problem.text(min(rests)[1])} got {total[min(rests)[1]]}")
         lemmas.append({word: total[word] // share.scale for word in total})
     want = add({}, shares[-1].scale, problem.claims[claim - 1])
     different = [(len(word), word) for word in {**want, **total} if want.get(word) != total.get(word)]
