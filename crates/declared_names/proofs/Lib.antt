@@ -1,3 +1,3 @@
 mod Spellings
 mod Tokens
-mod Declared
+pub mod Declared

@@ -7,6 +7,9 @@ use Rattle.cofactor_trace.specs.declared.evidence.Evidence.{Evidence}
 use Rattle.cofactor_trace.specs.declared.evidence.Format.{Format}
 use Rattle.cofactor_trace.specs.declared.evidence.Format.TheVariants.{Lemmas}
 use Rattle.adjoint_rules.specs.declared.problem.Problem.{Problem}
+use Rattle.statement_syntax.specs.declared.tree.Statement.{Statement}
+use Rattle.statement_syntax.specs.Fault.{IsTreeOf}
+use Rattle.signature_typing.specs.Typing.{IsProblemOf}
 use Rattle.traced_completion.specs.declared.budget.Budget.{Budget}
 use Rattle.traced_completion.specs.PlainRun.{setting_of}
 use Rattle.claim_decider.specs.declared.outcome.Outcome.{Outcome}
@@ -70,4 +73,11 @@ abbrev pub OutcomeReportsReadBack : Type 0
 OutcomeReportsReadBack = (problem : Problem) (budget : Budget) (form : Format) (outcomes : List Outcome) (rules : List Poly)
     → AreOutcomesOf (setting_of problem budget) form problem (claim_numbers problem) outcomes → AreLastRules (setting_of problem budget) form problem (claim_numbers problem) rules
     → IsTrue (list_all is_named problem.parts.quiver)
+    → IsReadAs problem.parts.quiver (report_of problem.parts.quiver rules (map verdict_of outcomes)) (derived_in outcomes)
+
+-- So is the report on a statement, whose objects and maps have names of the language.
+abbrev pub StatementReportsReadBack : Type 0
+StatementReportsReadBack = (bytes : List ℕ) (statements : List Statement) (problem : Problem) (budget : Budget) (form : Format) (outcomes : List Outcome) (rules : List Poly)
+    → IsTreeOf bytes statements → IsProblemOf statements problem
+    → AreOutcomesOf (setting_of problem budget) form problem (claim_numbers problem) outcomes → AreLastRules (setting_of problem budget) form problem (claim_numbers problem) rules
     → IsReadAs problem.parts.quiver (report_of problem.parts.quiver rules (map verdict_of outcomes)) (derived_in outcomes)

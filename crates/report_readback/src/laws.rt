@@ -1,6 +1,6 @@
 //! What is read of a report as evidence, and what is answered to it, as laws over the definitions.
 ghost use Rattle.report_readback.specs.Answered.{DerivedEvidenceIsAnswered, ReportedEvidenceIsAnswered};
-ghost use Rattle.report_readback.specs.ReadBack.{OutcomeReportsReadBack, ReportsReadBack};
+ghost use Rattle.report_readback.specs.ReadBack.{OutcomeReportsReadBack, ReportsReadBack, StatementReportsReadBack};
 
 /// A report is read as the evidence of its proved claims, in their order. Where no claim is proved, it has no certificate.
 pub fn reports_are_read_back()
@@ -10,6 +10,11 @@ pub fn reports_are_read_back()
 /// So is the report of the outcomes of all claims of a problem, whatever the budget and the format.
 pub fn outcome_reports_are_read_back()
     ensures { OutcomeReportsReadBack }
+{}
+
+/// So is the report on the claims of a statement: what it declares has names of the language.
+pub fn statement_reports_are_read_back()
+    ensures { StatementReportsReadBack }
 {}
 
 /// The evidence of a derived claim is accepted, unless a limit is passed in adding it up: by a coefficient, by the terms of a
