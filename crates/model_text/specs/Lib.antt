@@ -1,0 +1,4 @@
+pub mod ModelBlocks
+pub mod ModelBounds
+pub mod Models
+pub mod Written
