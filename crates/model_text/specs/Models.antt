@@ -4,7 +4,7 @@ use Rattle.std.specs.List.{All}
 use Rattle.std.specs.Str.{is_utf8}
 use Rattle.std.specs.Str.Lines.{lines}
 use Rattle.quiver.specs.declared.named.Named.TheVariants.{Map}
-use Rattle.quiver.specs.Declarations.{Declaration, object_count, letter_count, named_in, letter_name}
+use Rattle.quiver.specs.Declarations.{Declaration, object_count, letter_count, named_in}
 use Rattle.matrix_models.specs.Matrix.{Matrix, IsModulus, IsSide, IsMatrix}
 use Rattle.matrix_models.specs.declared.model.Model.{Model}
 use Rattle.certificate_text.specs.declared.fault.Flaw.{Flaw}
@@ -77,10 +77,14 @@ pub data IsFirstFault (ds : List Declaration) (bytes : List ℕ) (fault : Fault)
 
 -- ---- what holds of each model
 
+-- the name of a declared map
+abbrev pub HasMap : List Declaration → ℕ → Type 0
+HasMap ds a = (name : List ℕ) × (named_in ds name ≡ Some (Map (record { 0 = a })))
+
 -- A letter that has a matrix is a declared map, and the matrix is one modulo this number.
 abbrev pub IsPlaced : List Declaration → ℕ → ℕ → Option Matrix → Type 0
 IsPlaced ds modulus a None = ⊤
-IsPlaced ds modulus a (Some x) = (named_in ds (letter_name ds a) ≡ Some (Map (record { 0 = a }))) × IsMatrix modulus x
+IsPlaced ds modulus a (Some x) = HasMap ds a × IsMatrix modulus x
 
 -- The modulus is one, each object has a side, and there is a place for each letter, with a matrix at declared maps alone.
 pub record IsModel (ds : List Declaration) (m : Model) : Type 0 where

@@ -17,12 +17,7 @@ fn put_between(out: &mut Vec<u8>, sign: &str, place: u32) -> Result<(), AllocErr
     if place == 0 { Ok(()) } else { put(out, sign) }
 }
 
-fn put_entry(
-    out: &mut Vec<u8>,
-    matrix: &Matrix,
-    row: u32,
-    column: u32,
-) -> Result<(), AllocError>
+fn put_entry(out: &mut Vec<u8>, matrix: &Matrix, row: u32, column: u32) -> Result<(), AllocError>
     requires row { row < matrix.now.rows }
     requires column { column < matrix.now.columns }
     ensures { OnOk result (out.new.items ≡ out.old.items ++ entry_text matrix.now row column) }
@@ -61,12 +56,7 @@ fn put_rows(out: &mut Vec<u8>, matrix: &Matrix) -> Result<(), AllocError>
     Ok(())
 }
 
-fn put_side(
-    out: &mut Vec<u8>,
-    quiver: &Quiver,
-    object: Object,
-    side: u32,
-) -> Result<(), AllocError>
+fn put_side(out: &mut Vec<u8>, quiver: &Quiver, object: Object, side: u32) -> Result<(), AllocError>
     requires { object.0 < object_count quiver.now }
     ensures { OnOk result (out.new.items ≡ out.old.items ++ side_text quiver.now object.0 side) }
 {
@@ -121,11 +111,7 @@ fn put_map(
 }
 
 // A line for each declared map that has a matrix.
-fn put_maps(
-    out: &mut Vec<u8>,
-    quiver: &Quiver,
-    maps: &[Option<Matrix>],
-) -> Result<(), AllocError>
+fn put_maps(out: &mut Vec<u8>, quiver: &Quiver, maps: &[Option<Matrix>]) -> Result<(), AllocError>
     requires { length maps.now ≡ letter_count quiver.now }
     ensures { OnOk result (out.new.items ≡ out.old.items ++ maps_text quiver.now maps.now) }
 {
