@@ -15,10 +15,10 @@ use Rattle.certificate_text.specs.declared.fault.CertFault.{CertFault}
 use Rattle.certificate_text.specs.Blocks.{Line}
 use Rattle.certificate_text.specs.Fault.{ReadsText}
 use Rattle.certificate_text.specs.Letters.{is_name, is_number}
-use Rattle.model_text.specs.ModelBlocks.{EntryTokens, side, matrix, ModelTokens, BlockTokens, model, other, is_row, is_row_of, is_entry, AreRows, IsModelBlock, IsBlock}
+use Rattle.model_text.specs.ModelBlocks.{EntryTokens, side, matrix, ModelTokens, BlockTokens, model, other, is_row, is_row_of, is_entry, IsModelBlock, IsBlock}
 use Rattle.model_text.specs.ModelBounds.{Bound, names, numbers, sizes, bounds, side_limit, value_of, is_map_named, is_object_named, side_of, matrix_value, matrix_of, model_value, values_in, HasName, IsBelow, IsSmall, KeepsOne, Keeps}
 use Rattle.model_text.specs.Models.{HasMap, IsPlaced, IsModel}
-use Rattle.model_text.specs.Reading.{all_models}
+use Rattle.model_text.specs.Reading.{AreRows, all_models}
 use Rattle.model_text.proofs.EntryValues.{flat_from}
 use Rattle.model_text.proofs.FirstBounds.{kept_at}
 use Rattle.model_text.proofs.EachText.{models_read}

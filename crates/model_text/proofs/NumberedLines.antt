@@ -9,9 +9,13 @@ use Rattle.certificate_text.specs.Fault.{Fault, in_line}
 use Rattle.certificate_text.specs.Tokens.{tokens_of, is_skipped}
 use Rattle.certificate_text.specs.Blocks.{Line}
 use Rattle.certificate_text.specs.Evidence.{content}
-use Rattle.certificate_text.proofs.NumberedLines.{content-append, content-stands}
+use Rattle.certificate_text.proofs.ContentBack.{content-append}
 use Rattle.model_text.specs.Reading.{step, read_lines}
 use Rattle.model_text.proofs.Meets.{run, run-append}
+
+-- a line that is read is told in front of the lines behind it
+content-stands : (line : List ℕ) (ls : List (List ℕ)) → is_skipped (tokens_of line) ≡ false → content (line ∷ ls) ≡ tokens_of line ∷ content ls
+content-stands line ls stands = rw stands refl
 
 -- a line that is not read, and what was made of the lines in front of it
 pub record IsRefused (ds : List Declaration) (p : Progress) (ls : List (List ℕ)) (number : ℕ) (fault : Fault) : Type 0 where

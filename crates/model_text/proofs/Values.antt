@@ -12,9 +12,9 @@ use Rattle.certificate_text.specs.Blocks.{Line}
 use Rattle.certificate_text.specs.Letters.{is_number, number_within}
 use Rattle.certificate_text.specs.Views.{texts}
 use Rattle.certificate_text.proofs.Results.{option_map_some}
-use Rattle.model_text.specs.ModelBlocks.{is_row, is_row_of, AreRows}
+use Rattle.model_text.specs.ModelBlocks.{is_row, is_row_of}
 use Rattle.model_text.specs.ModelBounds.{value_of}
-use Rattle.model_text.specs.Reading.{values_below}
+use Rattle.model_text.specs.Reading.{AreRows, values_below}
 
 -- ---- values
 

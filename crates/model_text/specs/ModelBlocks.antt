@@ -70,11 +70,6 @@ abbrev pub is_entry : EntryTokens → Bool
 is_entry (side name number) = is_name name && (is_number number && nat_lt 0 (digits_value 10 number))
 is_entry (matrix name first rest) = is_name name && (is_row first && list_all (is_row_of (length first)) rest)
 
--- rows of numbers, one at least and as many in each
-pub record AreRows (first : List (List ℕ)) (rest : List (List (List ℕ))) : Type 0 where
-  pub first_row : IsTrue (is_row first)
-  pub more : IsTrue (list_all (is_row_of (length first)) rest)
-
 -- a number that is at least 2
 abbrev pub is_modulus : List ℕ → Bool
 is_modulus m = is_number m && nat_le 2 (digits_value 10 m)

@@ -1,5 +1,5 @@
 -- How a reader of models goes over the lines of evidence text, and what it has made of the first ones. Only the reader's functions and proofs use it: what the models of a text are, Models says.
-use Rattle.std.specs.Prelude.{⊤, ℕ, ◌+◌, ◌-◌, ◌&&◌, Bool, true, false, List, [], ◌∷◌, ◌++◌, length, map, nat_eq, nat_le, nat_lt, Option, Some, None, Result, Ok, Err, if◌then◌else◌, codes}
+use Rattle.std.specs.Prelude.{⊤, ℕ, ◌+◌, ◌-◌, ◌&&◌, Bool, true, false, List, [], ◌∷◌, ◌++◌, length, map, nat_eq, nat_le, nat_lt, Option, Some, None, Result, Ok, Err, IsTrue, if◌then◌else◌, codes}
 use Rattle.std.specs.List.{flat_map, list_all, list_any, range_with_len}
 use Rattle.std.specs.Option.{option_map, option_and_then}
 use Rattle.std.specs.Str.{is_utf8, bytes_eq}
@@ -16,7 +16,7 @@ use Rattle.certificate_text.specs.Tokens.{tokens_of, is_skipped}
 use Rattle.certificate_text.specs.Letters.{number_within}
 use Rattle.certificate_text.specs.Lines.{block_limit, is, begins, is_pair, is_end, claim_of}
 use Rattle.certificate_text.specs.Blocks.{Line}
-use Rattle.model_text.specs.ModelBlocks.{EntryTokens, side, matrix, name_of, is_entry, is_modulus, is_other_head}
+use Rattle.model_text.specs.ModelBlocks.{EntryTokens, side, matrix, name_of, is_row, is_row_of, is_entry, is_modulus, is_other_head}
 use Rattle.model_text.specs.ModelBounds.{modulus_limit, side_limit, value_of}
 use Rattle.model_text.specs.declared.place.Entry.{Entry}
 use Rattle.model_text.specs.declared.place.Entry.TheVariants as entry
@@ -60,6 +60,11 @@ abbrev pub entry_tokens : Line → Option EntryTokens
 entry_tokens line = if begins (codes "side") line then option_and_then if_entry (side_tokens line) else option_and_then if_entry (map_tokens line)
 
 -- ---- their values
+
+-- rows of numbers, one at least and as many in each
+pub record AreRows (first : List (List ℕ)) (rest : List (List (List ℕ))) : Type 0 where
+  pub first_row : IsTrue (is_row first)
+  pub more : IsTrue (list_all (is_row_of (length first)) rest)
 
 -- the values of numbers, if all are below the modulus
 abbrev pub values_below : ℕ → Line → Option (List ℕ)

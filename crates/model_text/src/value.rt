@@ -8,9 +8,9 @@ ghost use Rattle.certificate_text.specs.Fault.{Reads, asked};
 ghost use Rattle.certificate_text.specs.Letters.{is_name, is_number};
 ghost use Rattle.certificate_text.specs.Views.{texts};
 ghost use Rattle.certificate_text.specs.declared.fault.Flaw.TheVariants as flaw;
-ghost use Rattle.model_text.specs.ModelBlocks.{name_of, is_entry, AreRows};
+ghost use Rattle.model_text.specs.ModelBlocks.{name_of, is_entry};
 ghost use Rattle.model_text.specs.ModelBounds.{value_of};
-ghost use Rattle.model_text.specs.Reading.{values_below, matrix_made, side_value, map_value, entry_value};
+ghost use Rattle.model_text.specs.Reading.{AreRows, values_below, matrix_made, side_value, map_value, entry_value};
 ghost use Rattle.model_text.specs.Views.{rows, tokens_in};
 
 use crate::entry::EntryTokens;
