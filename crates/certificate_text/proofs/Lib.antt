@@ -5,8 +5,8 @@ pub mod Fronts
 pub mod Reading
 pub mod Joins
 pub mod Results
-mod Zips
-mod LineTrees
+pub mod Zips
+pub mod LineTrees
 mod RowTrees
 mod BlockTrees
 mod OpenBlocks
@@ -14,11 +14,11 @@ mod FlawedLines
 mod NextLines
 mod Standing
 mod Meets
-mod RowLines
+pub mod RowLines
 mod RowValues
 mod BlockLines
 mod TextLines
-mod NumberedLines
+pub mod NumberedLines
 mod FirstBounds
 mod OneCertificate
 mod ReadLines

@@ -12,10 +12,10 @@ use Rattle.certificate_text.proofs.Results.{by_test, option_map_some, cond_optio
 
 -- ---- words
 
-is_word : (word token : List ℕ) → is word token ≡ true → token ≡ word
+pub is_word : (word token : List ℕ) → is word token ≡ true → token ≡ word
 is_word word token same = (bytes_eq-Decides token word).0 same
 
-pair_is : (first second : List ℕ) (line : Line) → is_pair first second line ≡ true → line ≡ first ∷ second ∷ []
+pub pair_is : (first second : List ℕ) (line : Line) → is_pair first second line ≡ true → line ≡ first ∷ second ∷ []
 pair_is first second [] same = absurd (cc)
 pair_is first second (a ∷ []) same = absurd (cc)
 pair_is first second (a ∷ b ∷ []) same =

@@ -55,8 +55,8 @@ fn text_in(bytes: &[u8]) -> Option<&str>
     }
 }
 
-// The token as a name, if it is one.
-fn name_in(token: &[u8]) -> Option<&str>
+/// The token as a name, if it is one.
+pub fn name_in(token: &[u8]) -> Option<&str>
     ensures { option_copied result ≡ name_in token.now }
 {
     if token.len() > NAME_LIMIT {

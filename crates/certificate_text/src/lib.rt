@@ -14,13 +14,17 @@ mod row;
 mod step;
 mod write;
 
+pub use cut::{first_line, is_skipped, tokens_of};
 pub use evidence::{put_evidence, write_evidence};
-pub use fault::CertFault;
+pub use fault::{CertFault, Flaw, LineFault, TextFlaw, at_line};
 pub use laws::{
     certificates_are_read_back, each_text_is_read, evidence_has_no_fault, evidence_is_unique,
     first_fault_is_unique, parts_are_read_back,
 };
-pub use read::{read_certificates, read_evidence};
+pub use letter::name_in;
+pub use line::{NUMBER_LIMIT, begins, claim_of, is, is_end};
+pub use number::{is_number, number_within};
+pub use read::{is_utf8, read_certificates, read_evidence};
 pub use write::{
     put, put_certificate, put_integer, put_number, put_poly, put_word, write_certificate,
     write_poly, write_word,

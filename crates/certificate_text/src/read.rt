@@ -64,7 +64,8 @@ fn read_lines(
     Ok(progress)
 }
 
-fn is_utf8(bytes: &[u8]) -> bool
+/// Whether the bytes are UTF-8.
+pub fn is_utf8(bytes: &[u8]) -> bool
     ensures { result ≡ is_utf8 bytes.now }
 {
     match std::str::from_utf8(bytes) {

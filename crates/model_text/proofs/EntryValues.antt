@@ -1,0 +1,198 @@
+-- What a line `side` or `map` says, and the bounds that it keeps.
+use Rattle.std.proofs.Common.{◌≡◌, ◌<◌, ◌≤◌, ◌+◌, ◌-◌, ℕ, Bool, true, false, ◌&&◌, cond, List, [], ◌∷◌, ◌++◌, Option, Some, None, Result, Ok, Err, arith, refl, sym, ap, ap₂, ◌∙◌, subst, length, map, nat_le, nat_eq, IsTrue}
+use Rattle.std.specs.Bool.{⊤}
+use Rattle.std.specs.List.{All, AllZip, flat_map, range_with_len}
+use Rattle.std.specs.Option.{option_map}
+use Rattle.std.proofs.lemmas.Bool.{and_parts}
+use Rattle.std.proofs.lemmas.Bool.Decides.{nat_tests}
+use Rattle.std.proofs.lemmas.List.{map-append}
+use Rattle.std.proofs.lemmas.List.Elements.{All-nil, All-cons, All-head, All-tail, All-from_recursion, All-append}
+use Rattle.quiver.specs.declared.named.Named.{Named}
+use Rattle.quiver.specs.declared.named.Named.TheVariants.{Object, Map}
+use Rattle.quiver.specs.Declarations.{Declaration, named_in, object_count, letter_count}
+use Rattle.matrix_models.specs.Matrix.{Matrix}
+use Rattle.certificate_text.specs.declared.fault.Flaw.{Flaw}
+use Rattle.certificate_text.specs.declared.fault.Flaw.TheVariants.{UnknownName, NumberTooLarge, TooMany}
+use Rattle.certificate_text.specs.Blocks.{Line}
+use Rattle.certificate_text.specs.Fault.{◌>>=◌, asked}
+use Rattle.certificate_text.specs.Letters.{number_within}
+use Rattle.model_text.specs.declared.place.Begun.{Begun}
+use Rattle.model_text.specs.declared.place.Entry.{Entry}
+use Rattle.model_text.specs.declared.place.Entry.TheVariants as entry
+use Rattle.model_text.specs.ModelBlocks.{EntryTokens, side, matrix, ModelTokens}
+use Rattle.model_text.specs.ModelBounds.{Bound, names, numbers, sizes, blocks, flaw_of, before, side_limit, value_of, matrix_value, side_of, matrix_of, model_value, HasName, IsBelow, IsSmall}
+use Rattle.model_text.specs.Reading.{values_below, matrix_made, side_value, map_value, entry_value, side_in, matrix_in, sides_in, maps_in, model_of}
+use Rattle.certificate_text.proofs.Results.{by_test, bind_ok, asked_ok}
+use Rattle.model_text.proofs.Values.{AreValues, are_values}
+
+-- the line keeps the bound
+abbrev pub KeepsEntry : List Declaration → ℕ → Bound → EntryTokens → Type 0
+KeepsEntry ds m names e = HasName ds e
+KeepsEntry ds m numbers e = IsBelow m e
+KeepsEntry ds m sizes e = IsSmall e
+KeepsEntry ds m blocks e = ⊤
+
+-- the line says this, where all bounds are kept; or one is the first that is passed
+pub data IsJudged (ds : List Declaration) (m : ℕ) (e : EntryTokens) (r : Result Entry Flaw) : Type 0 where
+  fine : (value : Entry) → r ≡ Ok value → ((bound : Bound) → KeepsEntry ds m bound e) → IsJudged ds m e r
+  fails : (bound : Bound) → r ≡ Err (flaw_of bound) → All (λ k. KeepsEntry ds m k e) (before bound) → (KeepsEntry ds m bound e → ⊥) → IsJudged ds m e r
+
+-- ---- the numbers of a matrix
+
+values_there : (m : ℕ) (ts : Line) → 1 ≤ m → All (λ t. value_of t < m) ts → values_below m ts ≡ Some (map value_of ts)
+values_there m [] some below = refl
+values_there m (t ∷ ts) some below =
+    let within : value_of t < m = All-head (λ k. value_of k < m) t ts below in
+    let here : nat_le (value_of t) (m - 1) ≡ true = grind (arith, nat_tests, within, some) in
+    rw (here, values_there m ts some (All-tail (λ k. value_of k < m) t ts below)) refl
+
+all_parts : {X : Type 0} (P : X → Type 0) (xs ys : List X) → All P (xs ++ ys) → All P xs × All P ys
+all_parts P [] ys each = (All-nil P, each)
+all_parts P (x ∷ xs) ys each =
+    let rest = all_parts P xs ys (All-tail P x (xs ++ ys) each) in
+    (All-cons P x xs (All-head P x (xs ++ ys) each) rest.0, rest.1)
+
+module _ (P : List ℕ → Type 0) where
+  pub flat_from : (rows : List Line) → All (λ row. All P row) rows → All P (flat_map (λ row. row) rows)
+  flat_from [] each = All-nil P
+  flat_from (row ∷ rows) each = All-append P row (flat_map (λ r. r) rows) (All-head (λ r. All P r) row rows each) (flat_from rows (All-tail (λ r. All P r) row rows each))
+
+  pub flat_to : (rows : List Line) → All P (flat_map (λ row. row) rows) → All (λ row. All P row) rows
+  flat_to [] each = All-nil (λ row. All P row)
+  flat_to (row ∷ rows) each =
+      let parts = all_parts P row (flat_map (λ r. r) rows) each in
+      All-cons (λ r. All P r) row rows parts.0 (flat_to rows parts.1)
+
+-- ---- the bounds
+
+module _ (ds : List Declaration) (m : ℕ) where
+  keeps_all : (e : EntryTokens) → HasName ds e → IsBelow m e → IsSmall e → (bound : Bound) → KeepsEntry ds m bound e
+  keeps_all e name below small names = name
+  keeps_all e name below small numbers = below
+  keeps_all e name below small sizes = small
+  keeps_all e name below small blocks = tt
+
+  side_judged : (name number : List ℕ) (named : Option Named) (small : Bool) → named_in ds name ≡ named → nat_le (value_of number) side_limit ≡ small → IsJudged ds m (side name number) (entry_value ds m (side name number))
+  side_judged name number None small named_is small_is = fails names (rw named_is refl) (All-nil (λ k. KeepsEntry ds m k (side name number))) (λ known. let is = known.1 in absurd (cc))
+  side_judged name number (Some (Map a)) small named_is small_is = fails names (rw named_is refl) (All-nil (λ k. KeepsEntry ds m k (side name number))) (λ known. let is = known.1 in absurd (cc))
+  side_judged name number (Some (Object v)) true named_is small_is =
+      fine (entry.Side v (value_of number)) (rw (named_is, small_is) refl) (keeps_all (side name number) (v, named_is) tt (grind (arith, nat_tests, small_is)))
+  side_judged name number (Some (Object v)) false named_is small_is =
+      fails sizes (rw (named_is, small_is) refl) (All-from_recursion (λ k. KeepsEntry ds m k (side name number)) (before sizes) ((v, named_is), (tt, tt)))
+      (λ within. grind (arith, nat_tests, small_is, within))
+
+  module _ (some : 1 ≤ m) (name : List ℕ) (first : Line) (rest : List Line) where
+    abbrev flat : Line
+    flat = flat_map (λ row. row) (first ∷ rest)
+
+    abbrev is_small : Bool
+    is_small = nat_le (length (first ∷ rest)) side_limit && nat_le (length first) side_limit
+
+    map_judged : (named : Option Named) (values : Option (List ℕ)) (small : Bool) → named_in ds name ≡ named → values_below m flat ≡ values → is_small ≡ small
+        → IsJudged ds m (matrix name first rest) (entry_value ds m (matrix name first rest))
+    map_judged None values small named_is values_is small_is = fails names (rw named_is refl) (All-nil (λ k. KeepsEntry ds m k (matrix name first rest))) (λ known. let is = known.1 in absurd (cc))
+    map_judged (Some (Object v)) values small named_is values_is small_is =
+        fails names (rw named_is refl) (All-nil (λ k. KeepsEntry ds m k (matrix name first rest))) (λ known. let is = known.1 in absurd (cc))
+    map_judged (Some (Map a)) None small named_is values_is small_is =
+        fails numbers (rw (named_is, values_is) refl) (All-from_recursion (λ k. KeepsEntry ds m k (matrix name first rest)) (before numbers) ((a, named_is), tt))
+        (λ below. let there = values_there m flat some (flat_from (λ t. value_of t < m) (first ∷ rest) below) in absurd (cc))
+    map_judged (Some (Map a)) (Some vs) true named_is values_is small_is =
+        let found = are_values m flat vs some values_is in
+        let below : IsBelow m (matrix name first rest) = flat_to (λ t. value_of t < m) (first ∷ rest) found.numbers_below in
+        let parts = and_parts (nat_le (length (first ∷ rest)) side_limit) (nat_le (length first) side_limit) small_is in
+        fine (entry.Map a (record { modulus = m; rows = length (first ∷ rest); columns = length first; entries = vs })) (rw (named_is, values_is, small_is) refl)
+        (keeps_all (matrix name first rest) (a, named_is) below (grind (arith, nat_tests, parts.0), grind (arith, nat_tests, parts.1)))
+    map_judged (Some (Map a)) (Some vs) false named_is values_is small_is =
+        let found = are_values m flat vs some values_is in
+        let below : IsBelow m (matrix name first rest) = flat_to (λ t. value_of t < m) (first ∷ rest) found.numbers_below in
+        fails sizes (rw (named_is, values_is, small_is) refl) (All-from_recursion (λ k. KeepsEntry ds m k (matrix name first rest)) (before sizes) ((a, named_is), (below, tt)))
+        (λ small.
+        let tall : nat_le (length (first ∷ rest)) side_limit ≡ true = grind (arith, nat_tests, small.0) in
+        let wide : nat_le (length first) side_limit ≡ true = grind (arith, nat_tests, small.1) in
+        let both : is_small ≡ true = rw (tall, wide) refl in absurd (cc))
+
+  pub entry_judged : (e : EntryTokens) → 1 ≤ m → IsJudged ds m e (entry_value ds m e)
+  entry_judged (side name number) some = side_judged name number (named_in ds name) (nat_le (value_of number) side_limit) refl refl
+  entry_judged (matrix name first rest) some = map_judged some name first rest (named_in ds name) (values_below m (flat_map (λ row. row) (first ∷ rest))) (is_small some name first rest) refl refl refl
+
+  -- ---- the values
+
+  -- the line says this
+  abbrev pub IsEntryOf : EntryTokens → Entry → Type 0
+  IsEntryOf e value = entry_value ds m e ≡ Ok value
+
+  side_shape : (name number : List ℕ) (value : Entry) (named : Option Named) → named_in ds name ≡ named → side_value named number ≡ Ok value
+      → (v : _) × (named_in ds name ≡ Some (Object v)) × (entry.Side v (value_of number) ≡ value)
+  side_shape name number value None is read = absurd (cc)
+  side_shape name number value (Some (Map a)) is read = absurd (cc)
+  side_shape name number value (Some (Object v)) is read = by_test (nat_le (value_of number) side_limit) _ _ (Ok value) read (λ small made. (v, is, cc)) (λ large none. absurd (cc))
+
+  map_shape : 1 ≤ m → (name : List ℕ) (first : Line) (rest : List Line) (value : Entry) (named : Option Named) → named_in ds name ≡ named → map_value named m first rest ≡ Ok value
+      → (a : _) × (named_in ds name ≡ Some (Map a)) × (entry.Map a (matrix_value m first rest) ≡ value)
+  map_shape some name first rest value None is read = absurd (cc)
+  map_shape some name first rest value (Some (Object v)) is read = absurd (cc)
+  map_shape some name first rest value (Some (Map a)) is read =
+      let ts : Line = flat_map (λ row. row) (first ∷ rest) in
+      bind_ok (asked NumberTooLarge (values_below m ts)) _ value read (λ vs vs_is read_matrix.
+      bind_ok (matrix_made m (length (first ∷ rest)) (length first) vs) _ value read_matrix (λ x x_is made.
+      by_test (nat_le (length (first ∷ rest)) side_limit && nat_le (length first) side_limit) _ _ (Ok x) x_is
+      (λ small same.
+      let found = are_values m ts vs some (asked_ok NumberTooLarge (values_below m ts) vs vs_is) in
+      let matrix_is : record { modulus = m; rows = length (first ∷ rest); columns = length first; entries = vs } ≡ x = cc in
+      let whole : entry.Map a x ≡ value = cc in
+      (a, is, ap (λ ns. entry.Map a (record { modulus = m; rows = length (first ∷ rest); columns = length first; entries = ns })) found.are ∙ ap (λ y. entry.Map a y) matrix_is ∙ whole))
+      (λ large none. absurd (cc))))
+
+  abbrev IsSideOf : List ℕ → List ℕ → Entry → Type 0
+  IsSideOf name number value = (v : _) × (named_in ds name ≡ Some (Object v)) × (entry.Side v (value_of number) ≡ value)
+
+  abbrev IsMapOf : List ℕ → Line → List Line → Entry → Type 0
+  IsMapOf name first rest value = (a : _) × (named_in ds name ≡ Some (Map a)) × (entry.Map a (matrix_value m first rest) ≡ value)
+
+  side_of_side : (name number : List ℕ) (es : List EntryTokens) (value : Entry) (values : List Entry) (v : ℕ) → IsSideOf name number value → side_in values v ≡ side_of ds es v
+      → side_in (value ∷ values) v ≡ side_of ds (side name number ∷ es) v
+  side_of_side name number es value values v shape rest = rw (← shape.2, shape.1, rest) refl
+
+  side_of_map : (name : List ℕ) (first : Line) (more : List Line) (es : List EntryTokens) (value : Entry) (values : List Entry) (v : ℕ) → IsMapOf name first more value → side_in values v ≡ side_of ds es v
+      → side_in (value ∷ values) v ≡ side_of ds (matrix name first more ∷ es) v
+  side_of_map name first more es value values v shape rest = rw (← shape.2) rest
+
+  matrix_of_side : (name number : List ℕ) (es : List EntryTokens) (value : Entry) (values : List Entry) (a : ℕ) → IsSideOf name number value → matrix_in values a ≡ matrix_of ds m es a
+      → matrix_in (value ∷ values) a ≡ matrix_of ds m (side name number ∷ es) a
+  matrix_of_side name number es value values a shape rest = rw (← shape.2) rest
+
+  matrix_of_map : (name : List ℕ) (first : Line) (more : List Line) (es : List EntryTokens) (value : Entry) (values : List Entry) (a : ℕ) → IsMapOf name first more value → matrix_in values a ≡ matrix_of ds m es a
+      → matrix_in (value ∷ values) a ≡ matrix_of ds m (matrix name first more ∷ es) a
+  matrix_of_map name first more es value values a shape rest = rw (← shape.2, shape.1, rest) refl
+
+  pub side_in-values : 1 ≤ m → (es : List EntryTokens) (values : List Entry) (v : ℕ) → AllZip IsEntryOf es values → side_in values v ≡ side_of ds es v
+  side_in-values some [] [] v each = refl
+  side_in-values some [] (value ∷ values) v each = absurd each
+  side_in-values some (e ∷ es) [] v each = absurd each
+  side_in-values some (side name number ∷ es) (value ∷ values) v each =
+      side_of_side name number es value values v (side_shape name number value (named_in ds name) refl each.0) (side_in-values some es values v each.1)
+  side_in-values some (matrix name first rest ∷ es) (value ∷ values) v each =
+      side_of_map name first rest es value values v (map_shape some name first rest value (named_in ds name) refl each.0) (side_in-values some es values v each.1)
+
+  pub matrix_in-values : 1 ≤ m → (es : List EntryTokens) (values : List Entry) (a : ℕ) → AllZip IsEntryOf es values → matrix_in values a ≡ matrix_of ds m es a
+  matrix_in-values some [] [] a each = refl
+  matrix_in-values some [] (value ∷ values) a each = absurd each
+  matrix_in-values some (e ∷ es) [] a each = absurd each
+  matrix_in-values some (side name number ∷ es) (value ∷ values) a each =
+      matrix_of_side name number es value values a (side_shape name number value (named_in ds name) refl each.0) (matrix_in-values some es values a each.1)
+  matrix_in-values some (matrix name first rest ∷ es) (value ∷ values) a each =
+      matrix_of_map name first rest es value values a (map_shape some name first rest value (named_in ds name) refl each.0) (matrix_in-values some es values a each.1)
+
+map_agree : {A B : Type 0} (f g : A → B) → ((x : A) → f x ≡ g x) → (xs : List A) → map f xs ≡ map g xs
+map_agree f g same [] = refl
+map_agree f g same (x ∷ xs) = ap₂ (λ y ys. y ∷ ys) (same x) (map_agree f g same xs)
+
+-- the values of the lines make the model that the tokens say
+pub model_is : (ds : List Declaration) (tokens : ModelTokens) (b : Begun) → value_of tokens.claim ≡ b.claim → value_of tokens.modulus ≡ b.modulus → 1 ≤ b.modulus
+    → AllZip (IsEntryOf ds b.modulus) tokens.entries b.entries → model_of ds b ≡ model_value ds tokens
+model_is ds tokens b claim modulus some each =
+    let sides : sides_in ds b.entries ≡ map (side_of ds tokens.entries) (range_with_len 0 (object_count ds)) =
+    map_agree (side_in b.entries) (side_of ds tokens.entries) (λ v. side_in-values ds b.modulus some tokens.entries b.entries v each) (range_with_len 0 (object_count ds)) in
+    let maps : maps_in ds b.entries ≡ map (matrix_of ds b.modulus tokens.entries) (range_with_len 0 (letter_count ds)) =
+    map_agree (matrix_in b.entries) (matrix_of ds b.modulus tokens.entries) (λ a. matrix_in-values ds b.modulus some tokens.entries b.entries a each) (range_with_len 0 (letter_count ds)) in
+    rw (claim, modulus, sides, maps) refl

@@ -1,0 +1,17 @@
+mod Ranges
+mod Rows
+mod Values
+mod EntryLines
+mod Names
+mod EntryValues
+mod Meets
+mod BlockTrees
+mod OpenBlocks
+mod Standing
+mod TextLines
+mod NumberedLines
+mod FirstBounds
+mod ReadLines
+mod EachText
+mod Answered
+mod ModelValues

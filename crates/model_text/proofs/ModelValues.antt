@@ -1,0 +1,124 @@
+-- What holds of the models that are read.
+use Rattle.std.proofs.Common.{◌≡◌, ◌<◌, ◌≤◌, ◌+◌, ◌*◌, ◌^◌, ℕ, Bool, true, false, ◌&&◌, cond, List, [], ◌∷◌, ◌++◌, Option, Some, None, Result, Ok, Err, IfOk, IsTrue, arith, refl, sym, ap, ◌∙◌, subst, length, map, get_or, nat_eq, nat_le, nat_lt}
+use Rattle.std.specs.List.{All, flat_map, list_all, range_with_len}
+use Rattle.std.proofs.lemmas.Bool.{and_parts}
+use Rattle.std.proofs.lemmas.Bool.Decides.{nat_tests}
+use Rattle.std.proofs.lemmas.List.{length-map}
+use Rattle.std.proofs.lemmas.List.Elements.{All-nil, All-cons, All-head, All-tail}
+use Rattle.std.proofs.lemmas.List.FromFn.{get_or-map-range_with_len, length-map-range_with_len}
+use Rattle.quiver.specs.declared.named.Named.{Named}
+use Rattle.quiver.specs.declared.named.Named.TheVariants.{Object, Map}
+use Rattle.quiver.specs.Declarations.{Declaration, object_count, letter_count, named_in}
+use Rattle.matrix_models.specs.Matrix.{Matrix, IsModulus, IsSide, HasShape, IsMatrix}
+use Rattle.matrix_models.specs.declared.model.Model.{Model}
+use Rattle.certificate_text.specs.declared.fault.CertFault.{CertFault}
+use Rattle.certificate_text.specs.Blocks.{Line}
+use Rattle.certificate_text.specs.Fault.{ReadsText}
+use Rattle.certificate_text.specs.Letters.{is_name, is_number}
+use Rattle.model_text.specs.ModelBlocks.{EntryTokens, side, matrix, ModelTokens, BlockTokens, model, other, is_row, is_row_of, is_entry, IsModelBlock, IsBlock}
+use Rattle.model_text.specs.ModelBounds.{Bound, names, numbers, sizes, bounds, side_limit, value_of, is_map_named, is_object_named, side_of, matrix_value, matrix_of, model_value, values_in, HasName, IsBelow, IsSmall, KeepsOne, Keeps}
+use Rattle.model_text.specs.Models.{HasMap, IsPlaced, IsModel}
+use Rattle.model_text.specs.Reading.{AreRows, all_models}
+use Rattle.model_text.proofs.EntryValues.{flat_from}
+use Rattle.model_text.proofs.FirstBounds.{kept_at}
+use Rattle.model_text.proofs.EachText.{models_read}
+use Rattle.model_text.proofs.Values.{rows_have_length}
+
+all_of : {A B : Type 0} (P : B → Type 0) (f : A → B) → ((x : A) → P (f x)) → (xs : List A) → All P (map f xs)
+all_of P f each [] = All-nil P
+all_of P f each (x ∷ xs) = All-cons P (f x) (map f xs) (each x) (all_of P f each xs)
+
+all_mapped : {A B : Type 0} (P : B → Type 0) (f : A → B) (xs : List A) → All (λ x. P (f x)) xs → All P (map f xs)
+all_mapped P f [] each = All-nil P
+all_mapped P f (x ∷ xs) each = All-cons P (f x) (map f xs) (All-head (λ y. P (f y)) x xs each) (all_mapped P f xs (All-tail (λ y. P (f y)) x xs each))
+
+-- of both where a test chooses
+cond_has : {A : Type 0} (P : A → Type 0) (b : Bool) (x y : A) → (b ≡ true → P x) → P y → P (cond b x y)
+cond_has P true x y one two = one refl
+cond_has P false x y one two = two
+
+module _ (ds : List Declaration) where
+  -- ---- sides
+
+  sides_are : (es : List EntryTokens) → All (λ e. IsTrue (is_entry e)) es → All IsSmall es → (v : ℕ) → IsSide (side_of ds es v)
+  sides_are [] each small v = record { positive = omega arith; at_most = omega arith }
+  sides_are (side name number ∷ es) each small v =
+      let here : IsTrue (is_entry (side name number)) = All-head (λ e. IsTrue (is_entry e)) (side name number) es each in
+      let parts = and_parts (is_name name) (is_number number && nat_lt 0 (value_of number)) here in
+      let numbers_parts = and_parts (is_number number) (nat_lt 0 (value_of number)) parts.1 in
+      let within : value_of number ≤ side_limit = All-head IsSmall (side name number) es small in
+      cond_has IsSide (is_object_named v (named_in ds name)) (value_of number) (side_of ds es v)
+      (λ same. record { positive = grind (arith, nat_tests, numbers_parts.1); at_most = within })
+      (sides_are es (All-tail (λ e. IsTrue (is_entry e)) (side name number) es each) (All-tail IsSmall (side name number) es small) v)
+  sides_are (matrix name first rest ∷ es) each small v =
+      sides_are es (All-tail (λ e. IsTrue (is_entry e)) (matrix name first rest) es each) (All-tail IsSmall (matrix name first rest) es small) v
+
+  -- ---- matrices
+
+  module _ (m : ℕ) (is_mod : IsModulus m) where
+    matrix_is : (name : List ℕ) (first : Line) (rest : List Line) → IsTrue (is_entry (matrix name first rest)) → IsBelow m (matrix name first rest) → IsSmall (matrix name first rest) → IsMatrix m (matrix_value m first rest)
+    matrix_is name first rest here below small =
+        let parts = and_parts (is_name name) (is_row first && list_all (is_row_of (length first)) rest) here in
+        let rows = and_parts (is_row first) (list_all (is_row_of (length first)) rest) parts.1 in
+        let first_row = and_parts (nat_lt 0 (length first)) (list_all is_number first) rows.0 in
+        let flat : Line = flat_map (λ row. row) (first ∷ rest) in
+        let count : (length rest + 1) * length first ≡ length (first ∷ rest) * length first = ap (λ n. n * length first) (omega arith) in
+        record {
+          is_modulus = is_mod;
+          modulus_is = refl;
+          shape = record {
+            rows_side = record { positive = omega arith; at_most = small.0 };
+            columns_side = record { positive = grind (arith, nat_tests, first_row.0); at_most = small.1 };
+            size = length-map flat value_of ∙ rows_have_length first rest (record { first_row = rows.0; more = rows.1 }) ∙ count;
+          };
+          entries_below = all_mapped (λ entry. entry < m) value_of flat (flat_from (λ t. value_of t < m) (first ∷ rest) below);
+        }
+
+    has_map : (name : List ℕ) (a : ℕ) → HasName ds (matrix name [] []) → is_map_named a (named_in ds name) ≡ true → HasMap ds a
+    has_map name a known same =
+        let chosen : nat_eq known.0.0 a ≡ true = sym (ap (is_map_named a) known.1) ∙ same in
+        let equal : known.0.0 ≡ a = grind (arith, nat_tests, chosen) in
+        (name, known.1 ∙ ap (λ k. Some (Map (record { 0 = k }))) equal)
+
+    placed : (es : List EntryTokens) → All (λ e. IsTrue (is_entry e)) es → All (HasName ds) es → All (IsBelow m) es → All IsSmall es → (a : ℕ) → IsPlaced ds m a (matrix_of ds m es a)
+    placed [] each known below small a = tt
+    placed (side name number ∷ es) each known below small a =
+        placed es (All-tail (λ e. IsTrue (is_entry e)) (side name number) es each) (All-tail (HasName ds) (side name number) es known) (All-tail (IsBelow m) (side name number) es below) (All-tail IsSmall (side name number) es small) a
+    placed (matrix name first rest ∷ es) each known below small a =
+        let e : EntryTokens = matrix name first rest in
+        cond_has (IsPlaced ds m a) (is_map_named a (named_in ds name)) (Some (matrix_value m first rest)) (matrix_of ds m es a)
+        (λ same. (
+          has_map name a (All-head (HasName ds) e es known) same,
+          matrix_is name first rest (All-head (λ t. IsTrue (is_entry t)) e es each) (All-head (IsBelow m) e es below) (All-head IsSmall e es small),
+        ))
+        (placed es (All-tail (λ t. IsTrue (is_entry t)) e es each) (All-tail (HasName ds) e es known) (All-tail (IsBelow m) e es below) (All-tail IsSmall e es small) a)
+
+  -- ---- models
+
+  value_is_model : (b : ModelTokens) → IsModelBlock b → ((bound : Bound) → KeepsOne ds bound (model b)) → IsModel ds (model_value ds b)
+  value_is_model b block keeps =
+      let m : ℕ = value_of b.modulus in
+      let at_least = and_parts (is_number b.modulus) (nat_le 2 m) block.modulus in
+      let is_mod : IsModulus m = record { at_least = grind (arith, nat_tests, at_least.1); below = omega (arith, (keeps numbers).modulus) } in
+      record {
+        modulus = is_mod;
+        objects = length-map-range_with_len (side_of ds b.entries) 0 (object_count ds);
+        sides = all_of IsSide (side_of ds b.entries) (sides_are b.entries block.entries (keeps sizes)) (range_with_len 0 (object_count ds));
+        letters = length-map-range_with_len (matrix_of ds m b.entries) 0 (letter_count ds);
+        maps = λ a within. subst (IsPlaced ds m a) (sym (get_or-map-range_with_len (matrix_of ds m b.entries) 0 (letter_count ds) a a None within (omega arith)))
+            (placed m is_mod b.entries block.entries (keeps names) (keeps numbers).entries (keeps sizes) a);
+      }
+
+  values_are_models : (text : List BlockTokens) → All IsBlock text → ((bound : Bound) → All (KeepsOne ds bound) text) → All (IsModel ds) (values_in ds text)
+  values_are_models [] each keeps = All-nil (IsModel ds)
+  values_are_models (model b ∷ text) each keeps =
+      All-cons (IsModel ds) (model_value ds b) (values_in ds text)
+      (value_is_model b (All-head IsBlock (model b) text each) (λ bound. All-head (KeepsOne ds bound) (model b) text (keeps bound)))
+      (values_are_models text (All-tail IsBlock (model b) text each) (λ bound. All-tail (KeepsOne ds bound) (model b) text (keeps bound)))
+  values_are_models (other b ∷ text) each keeps = values_are_models text (All-tail IsBlock (other b) text each) (λ bound. All-tail (KeepsOne ds bound) (other b) text (keeps bound))
+
+  pub are_models : (bytes : List ℕ) (r : Result (List Model) CertFault) → ReadsText (λ ms. ms) r (all_models ds bytes) → IfOk r (All (IsModel ds))
+  are_models bytes (Ok ms) read =
+      let is = models_read ds bytes ms read in
+      subst (All (IsModel ds)) (sym is.has.models) (values_are_models is.has.blocks is.has.are_blocks.each (λ bound. (kept_at (Keeps ds is.has.blocks) is.has.within bound).each))
+  are_models bytes (Err e) read = tt

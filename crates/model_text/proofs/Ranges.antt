@@ -1,0 +1,23 @@
+-- Texts for numbers that follow one another.
+use Rattle.std.proofs.Common.{◌≡◌, ◌+◌, ℕ, zero, suc, List, [], ◌∷◌, ◌++◌, arith, refl, ap, ◌∙◌, zero-add}
+use Rattle.std.specs.List.{flat_map, range_with_len}
+use Rattle.std.proofs.lemmas.List.{append-nil, append_assoc}
+use Rattle.std.proofs.lemmas.Grind.{flat_map-append}
+
+-- one number more
+pub range_more : (a n : ℕ) → range_with_len a (n + 1) ≡ range_with_len a n ++ (a + n) ∷ []
+range_more a zero =
+    let same : a + 0 ≡ a = omega arith in
+    rw same refl
+range_more a (suc n) =
+    let next : a + 1 + n ≡ a + suc n = omega arith in
+    let count : suc n + 1 ≡ suc (n + 1) = omega arith in
+    rw count (ap (λ xs. a ∷ xs) (range_more (a + 1) n ∙ ap (λ b. range_with_len (a + 1) n ++ b ∷ []) next))
+
+-- the text of the next number is put behind what is written
+pub text_put : (f : ℕ → List ℕ) (n : ℕ) (front before after : List ℕ) → before ≡ front ++ flat_map f (range_with_len 0 n) → after ≡ before ++ f n
+    → after ≡ front ++ flat_map f (range_with_len 0 (n + 1))
+text_put f n front before after before_is after_is =
+    let more : range_with_len 0 (n + 1) ≡ range_with_len 0 n ++ n ∷ [] = range_more 0 n ∙ ap (λ k. range_with_len 0 n ++ k ∷ []) (zero-add n) in
+    rw (after_is, before_is, more, flat_map-append f (range_with_len 0 n) (n ∷ []), append-nil (f n))
+    (append_assoc front (flat_map f (range_with_len 0 n)) (f n))

@@ -1,0 +1,10 @@
+use Rattle.std.proofs.Common.{rules, arith, ◌≡◌, ◌++◌, ◌∷◌, [], ◌∙◌, ap, sym}
+use Rattle.std.proofs.lemmas.List.FromFn.{map-range_with_len_more}
+use Rattle.model_text.specs.Reading.{matrix_in}
+use Rattle.model_text.proofs.finish.maps_in.Goals as goal
+
+pub loop-letter-preserved : goal.loop-letter-preserved
+loop-letter-preserved c =
+    let pushed : c.push.new.self ≡ c.loop-letter.maps ++ matrix_in c.args.entries.now c.loop-letter.letter ∷ [] = search rules in
+    pushed ∙ ap (λ xs. xs ++ matrix_in c.args.entries.now c.loop-letter.letter ∷ []) c.loop-letter.invariant
+    ∙ sym (map-range_with_len_more (matrix_in c.args.entries.now) 0 c.loop-letter.letter c.loop-letter.letter (omega arith))

@@ -1,0 +1,7 @@
+use Rattle.std.proofs.Common.{◌≡◌, map}
+use Rattle.std.specs.List.{range_with_len}
+use Rattle.model_text.specs.Reading.{matrix_in}
+use Rattle.model_text.proofs.finish.maps_in.Given as goal
+
+abbrev pub invariant-loop-letter : goal.invariant-loop-letter
+invariant-loop-letter l = l.maps ≡ map (matrix_in l.entries) (range_with_len 0 l.letter)

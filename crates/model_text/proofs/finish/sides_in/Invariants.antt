@@ -1,0 +1,7 @@
+use Rattle.std.proofs.Common.{◌≡◌, map}
+use Rattle.std.specs.List.{range_with_len}
+use Rattle.model_text.specs.Reading.{side_in}
+use Rattle.model_text.proofs.finish.sides_in.Given as goal
+
+abbrev pub invariant-loop-object : goal.invariant-loop-object
+invariant-loop-object l = l.sides ≡ map (side_in l.entries) (range_with_len 0 l.object)

@@ -1,0 +1,101 @@
+-- The grammar of models in evidence text: blocks as trees of tokens, and the lines that they are.
+use Rattle.std.specs.Prelude.{◌≡◌, ◌≢◌, ℕ, ◌∷◌, ◌++◌, ◌&&◌, ◌||◌, Bool, false, IsTrue, List, [], map, AllPairs, length, nat_eq, nat_lt, nat_le, codes}
+use Rattle.std.specs.List.{All, flat_map, list_all}
+use Rattle.std.specs.Str.Parse.{digits_value}
+use Rattle.certificate_text.specs.Letters.{is_name, is_number}
+use Rattle.certificate_text.specs.Lines.{begins, is_end}
+use Rattle.certificate_text.specs.Blocks.{Line, OtherTokens, claim_line, end_line}
+
+-- ---- the trees
+
+-- `side NAME S`, or `map NAME = ..` with the numbers of the first row and of the rows behind it
+pub data EntryTokens : Type 0 where
+  side : List ℕ → List ℕ → EntryTokens
+  matrix : List ℕ → List (List ℕ) → List (List (List ℕ)) → EntryTokens
+
+-- a model: its claim, its modulus, and its lines `side` and `map` in their order
+pub record ModelTokens : Type 0 where
+  pub claim : List ℕ
+  pub modulus : List ℕ
+  pub entries : List EntryTokens
+
+-- a model, or a block of another kind without the line that ends it
+pub data BlockTokens : Type 0 where
+  model : ModelTokens → BlockTokens
+  other : OtherTokens → BlockTokens
+
+-- ---- the lines that they are
+
+-- model 1
+abbrev pub head_line : Line
+head_line = codes "model" ∷ codes "1" ∷ []
+
+-- modulus M
+abbrev pub modulus_line : List ℕ → Line
+modulus_line m = codes "modulus" ∷ m ∷ []
+
+-- rows, each behind a ;
+abbrev pub more_rows : List (List (List ℕ)) → Line
+more_rows rows = flat_map (λ row. codes ";" ∷ row) rows
+
+-- side NAME S, or map NAME = X .. ; X ..
+abbrev pub entry_line : EntryTokens → Line
+entry_line (side name number) = codes "side" ∷ name ∷ number ∷ []
+entry_line (matrix name first rest) = codes "map" ∷ name ∷ codes "=" ∷ (first ++ more_rows rest)
+
+-- all but the line that ends it
+abbrev pub model_front : ModelTokens → List Line
+model_front b = head_line ∷ claim_line b.claim ∷ modulus_line b.modulus ∷ map entry_line b.entries
+
+abbrev pub block_lines : BlockTokens → List Line
+block_lines (model b) = model_front b ++ end_line ∷ []
+block_lines (other b) = b.head ∷ (b.lines ++ end_line ∷ [])
+
+-- ---- which tokens stand where
+
+abbrev pub name_of : EntryTokens → List ℕ
+name_of (side name number) = name
+name_of (matrix name first rest) = name
+
+-- one or more numbers
+abbrev pub is_row : List (List ℕ) → Bool
+is_row row = nat_lt 0 (length row) && list_all is_number row
+
+-- a row of so many numbers
+abbrev pub is_row_of : ℕ → List (List ℕ) → Bool
+is_row_of columns row = is_row row && nat_eq (length row) columns
+
+-- a side that is not 0; a first row, and rows as long as that
+abbrev pub is_entry : EntryTokens → Bool
+is_entry (side name number) = is_name name && (is_number number && nat_lt 0 (digits_value 10 number))
+is_entry (matrix name first rest) = is_name name && (is_row first && list_all (is_row_of (length first)) rest)
+
+-- a number that is at least 2
+abbrev pub is_modulus : List ℕ → Bool
+is_modulus m = is_number m && nat_le 2 (digits_value 10 m)
+
+-- numbers, sides and rows stand at their places, and no name stands in two lines
+pub record IsModelBlock (b : ModelTokens) : Type 0 where
+  pub claim : IsTrue (is_number b.claim)
+  pub modulus : IsTrue (is_modulus b.modulus)
+  pub entries : All (λ entry. IsTrue (is_entry entry)) b.entries
+  pub distinct : AllPairs (λ x y. x ≢ y) (map name_of b.entries)
+
+-- whether a block of another kind begins
+abbrev pub is_other_head : Line → Bool
+is_other_head line = begins (codes "certificate") line || begins (codes "basis") line
+
+-- the head of another kind, and the first line `end` ends it
+pub record IsOtherBlock (b : OtherTokens) : Type 0 where
+  pub head : IsTrue (is_other_head b.head)
+  pub lines : All (λ line. is_end line ≡ false) b.lines
+
+-- a block of a text in which models are looked for
+abbrev pub IsBlock : BlockTokens → Type 0
+IsBlock (model b) = IsModelBlock b
+IsBlock (other b) = IsOtherBlock b
+
+-- The lines are these blocks, one after another.
+pub record AreBlocks (lines : List Line) (blocks : List BlockTokens) : Type 0 where
+  pub are : lines ≡ flat_map block_lines blocks
+  pub each : All IsBlock blocks

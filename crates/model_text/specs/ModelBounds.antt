@@ -1,0 +1,151 @@
+-- The bounds of models in evidence text, in the order in which they count, and the values of its blocks.
+use Rattle.std.specs.Prelude.{◌≡◌, ◌<◌, ◌≤◌, ⊤, ℕ, ◌+◌, ◌-◌, ◌^◌, ◌∷◌, ◌++◌, Bool, true, false, List, [], length, map, nat_eq, Option, Some, None, filter, if◌then◌else◌}
+use Rattle.std.specs.List.{All, flat_map, range_with_len}
+use Rattle.std.specs.Str.{bytes_eq}
+use Rattle.std.specs.Str.Parse.{digits_value}
+use Rattle.quiver.specs.declared.named.Named.{Named}
+use Rattle.quiver.specs.declared.named.Named.TheVariants.{Object, Map}
+use Rattle.quiver.specs.Declarations.{Declaration, object_count, letter_count, named_in}
+use Rattle.matrix_models.specs.Matrix.{Matrix}
+use Rattle.matrix_models.specs.declared.model.Model.{Model}
+use Rattle.certificate_text.specs.declared.fault.Flaw.{Flaw}
+use Rattle.certificate_text.specs.declared.fault.Flaw.TheVariants.{UnknownName, NumberTooLarge, TooMany}
+use Rattle.certificate_text.specs.Lines.{number_limit, block_limit}
+use Rattle.model_text.specs.ModelBlocks.{EntryTokens, side, matrix, ModelTokens, BlockTokens, model, other}
+
+-- ---- limits
+
+-- of a modulus
+abbrev pub modulus_limit : ℕ
+modulus_limit = 2 ^ 31 - 1
+
+-- of a side, and of the rows and the columns of a matrix
+abbrev pub side_limit : ℕ
+side_limit = 64
+
+-- ---- what a text has
+
+abbrev pub is_model : BlockTokens → Bool
+is_model (model b) = true
+is_model (other b) = false
+
+-- the blocks that aren't of another kind
+abbrev pub models_in : List BlockTokens → List BlockTokens
+models_in blocks = filter is_model blocks
+
+-- ---- values
+
+-- the value of decimal digits
+abbrev pub value_of : List ℕ → ℕ
+value_of digits = digits_value 10 digits
+
+-- whether the name is that of the object, or of the map, with this number
+abbrev pub is_object_named : ℕ → Option Named → Bool
+is_object_named v (Some (Object w)) = nat_eq w.0 v
+is_object_named v (Some (Map b)) = false
+is_object_named v None = false
+
+abbrev pub is_map_named : ℕ → Option Named → Bool
+is_map_named a (Some (Map b)) = nat_eq b.0 a
+is_map_named a (Some (Object w)) = false
+is_map_named a None = false
+
+-- the side of an object, 1 where no line says one
+abbrev pub side_of : List Declaration → List EntryTokens → ℕ → ℕ
+side_of ds [] v = 1
+side_of ds (side name number ∷ entries) v = if is_object_named v (named_in ds name) then value_of number else side_of ds entries v
+side_of ds (matrix name first rest ∷ entries) v = side_of ds entries v
+
+-- the matrix of these rows
+abbrev pub matrix_value : ℕ → List (List ℕ) → List (List (List ℕ)) → Matrix
+matrix_value modulus first rest = record {
+  modulus = modulus;
+  rows = length (first ∷ rest);
+  columns = length first;
+  entries = map value_of (flat_map (λ row. row) (first ∷ rest));
+}
+
+-- the matrix of a letter that a line names
+abbrev pub matrix_of : List Declaration → ℕ → List EntryTokens → ℕ → Option Matrix
+matrix_of ds modulus [] a = None
+matrix_of ds modulus (side name number ∷ entries) a = matrix_of ds modulus entries a
+matrix_of ds modulus (matrix name first rest ∷ entries) a =
+    if is_map_named a (named_in ds name) then Some (matrix_value modulus first rest) else matrix_of ds modulus entries a
+
+-- what the tokens of a model say: the side of each object, and a matrix or none for each letter
+abbrev pub model_value : List Declaration → ModelTokens → Model
+model_value ds b = record {
+  claim = value_of b.claim;
+  modulus = value_of b.modulus;
+  sides = map (side_of ds b.entries) (range_with_len 0 (object_count ds));
+  maps = map (matrix_of ds (value_of b.modulus) b.entries) (range_with_len 0 (letter_count ds));
+}
+
+-- the models of blocks, in their order
+abbrev pub values_in : List Declaration → List BlockTokens → List Model
+values_in ds [] = []
+values_in ds (model b ∷ blocks) = model_value ds b ∷ values_in ds blocks
+values_in ds (other b ∷ blocks) = values_in ds blocks
+
+-- ---- bounds
+
+-- on names, on numbers, on sides, rows and columns, and on the models of a text
+pub data Bound : Type 0 where
+  names : Bound
+  numbers : Bound
+  sizes : Bound
+  blocks : Bound
+
+-- what a line is told for that passes the bound
+abbrev pub flaw_of : Bound → Flaw
+flaw_of names = UnknownName
+flaw_of numbers = NumberTooLarge
+flaw_of sizes = TooMany side_limit
+flaw_of blocks = TooMany block_limit
+
+-- the bounds that count before it
+abbrev pub before : Bound → List Bound
+before names = []
+before numbers = names ∷ []
+before sizes = names ∷ numbers ∷ []
+before blocks = names ∷ numbers ∷ sizes ∷ []
+
+-- all of them
+abbrev pub bounds : List Bound
+bounds = before blocks ++ blocks ∷ []
+
+-- ---- when they are kept
+
+-- a side is that of an object, and a matrix that of a declared map
+abbrev pub HasName : List Declaration → EntryTokens → Type 0
+HasName ds (side name number) = (v : _) × (named_in ds name ≡ Some (Object v))
+HasName ds (matrix name first rest) = (a : _) × (named_in ds name ≡ Some (Map a))
+
+-- the entries of a matrix are below the modulus; a side has no bound of this kind
+abbrev pub IsBelow : ℕ → EntryTokens → Type 0
+IsBelow modulus (side name number) = ⊤
+IsBelow modulus (matrix name first rest) = All (λ row. All (λ number. value_of number < modulus) row) (first ∷ rest)
+
+-- a side is at most 64, and so are the rows and the columns of a matrix
+abbrev pub IsSmall : EntryTokens → Type 0
+IsSmall (side name number) = value_of number ≤ side_limit
+IsSmall (matrix name first rest) = (length (first ∷ rest) ≤ side_limit) × (length first ≤ side_limit)
+
+-- the claim and the modulus are within their bounds, and the entries below the modulus
+pub record HasNumbers (b : ModelTokens) : Type 0 where
+  pub claim : value_of b.claim ≤ number_limit
+  pub modulus : value_of b.modulus ≤ modulus_limit
+  pub entries : All (IsBelow (value_of b.modulus)) b.entries
+
+-- the block keeps the bound
+abbrev pub KeepsOne : List Declaration → Bound → BlockTokens → Type 0
+KeepsOne ds names (model b) = All (HasName ds) b.entries
+KeepsOne ds numbers (model b) = HasNumbers b
+KeepsOne ds sizes (model b) = All IsSmall b.entries
+KeepsOne ds blocks (model b) = ⊤
+KeepsOne ds bound (other b) = ⊤
+
+-- the text of these blocks keeps the bound
+pub record Keeps (ds : List Declaration) (text : List BlockTokens) (bound : Bound) : Type 0 where
+  pub each : All (KeepsOne ds bound) text
+  pub few : bound ≡ blocks → length (models_in text) ≤ block_limit

@@ -1,0 +1,202 @@
+-- How a reader of models goes over the lines of evidence text, and what it has made of the first ones. Only the reader's functions and proofs use it: what the models of a text are, Models says.
+use Rattle.std.specs.Prelude.{⊤, ℕ, ◌+◌, ◌-◌, ◌&&◌, Bool, true, false, List, [], ◌∷◌, ◌++◌, length, map, nat_eq, nat_le, nat_lt, Option, Some, None, Result, Ok, Err, IsTrue, if◌then◌else◌, codes}
+use Rattle.std.specs.List.{flat_map, list_all, list_any, range_with_len}
+use Rattle.std.specs.Option.{option_map, option_and_then}
+use Rattle.std.specs.Str.{is_utf8, bytes_eq}
+use Rattle.std.specs.Str.Lines.{lines}
+use Rattle.quiver.specs.declared.named.Named.{Named}
+use Rattle.quiver.specs.declared.named.Named.TheVariants.{Object, Map}
+use Rattle.quiver.specs.Declarations.{Declaration, object_count, letter_count, named_in}
+use Rattle.matrix_models.specs.Matrix.{Matrix, IsModulus}
+use Rattle.matrix_models.specs.declared.model.Model.{Model}
+use Rattle.certificate_text.specs.declared.fault.Flaw.{Flaw}
+use Rattle.certificate_text.specs.declared.fault.Flaw.TheVariants.{BadLine, UnknownName, NumberTooLarge, TooMany}
+use Rattle.certificate_text.specs.Fault.{Fault, ◌>>=◌, asked, at_line, not_utf8, truncated, no_block}
+use Rattle.certificate_text.specs.Tokens.{tokens_of, is_skipped}
+use Rattle.certificate_text.specs.Letters.{number_within}
+use Rattle.certificate_text.specs.Lines.{block_limit, is, begins, is_pair, is_end, claim_of}
+use Rattle.certificate_text.specs.Blocks.{Line}
+use Rattle.model_text.specs.ModelBlocks.{EntryTokens, side, matrix, name_of, is_row, is_row_of, is_entry, is_modulus, is_other_head}
+use Rattle.model_text.specs.ModelBounds.{modulus_limit, side_limit, value_of}
+use Rattle.model_text.specs.declared.place.Entry.{Entry}
+use Rattle.model_text.specs.declared.place.Entry.TheVariants as entry
+use Rattle.model_text.specs.declared.place.Begun.{Begun}
+use Rattle.model_text.specs.declared.place.Place.{Place}
+use Rattle.model_text.specs.declared.place.Place.TheVariants as at
+use Rattle.model_text.specs.declared.place.Progress.{Progress}
+
+-- ---- the tokens of a line `side` or `map`
+
+-- the tokens before the first ; and those between the others
+abbrev pub rows_in : Line → Line × List Line
+rows_in [] = ([], [])
+rows_in (token ∷ tokens) = if is (codes ";") token then ([], (rows_in tokens).0 ∷ (rows_in tokens).1) else (token ∷ (rows_in tokens).0, (rows_in tokens).1)
+
+-- the rows behind the first one, where a ; stands in front of them
+abbrev pub rows_behind : Option Line → List Line
+rows_behind None = []
+rows_behind (Some line) = (rows_in line).0 ∷ (rows_in line).1
+
+-- side NAME S
+abbrev pub side_tokens : Line → Option EntryTokens
+side_tokens (word ∷ name ∷ number ∷ []) = if is (codes "side") word then Some (side name number) else None
+side_tokens [] = None
+side_tokens (word ∷ []) = None
+side_tokens (word ∷ name ∷ []) = None
+side_tokens (word ∷ name ∷ number ∷ token ∷ tokens) = None
+
+-- map NAME = X .. ; X ..
+abbrev pub map_tokens : Line → Option EntryTokens
+map_tokens (word ∷ name ∷ sign ∷ tokens) = if is (codes "map") word && is (codes "=") sign then Some (matrix name (rows_in tokens).0 (rows_in tokens).1) else None
+map_tokens [] = None
+map_tokens (word ∷ []) = None
+map_tokens (word ∷ name ∷ []) = None
+
+-- numbers and names stand at their places
+abbrev pub if_entry : EntryTokens → Option EntryTokens
+if_entry e = if is_entry e then Some e else None
+
+abbrev pub entry_tokens : Line → Option EntryTokens
+entry_tokens line = if begins (codes "side") line then option_and_then if_entry (side_tokens line) else option_and_then if_entry (map_tokens line)
+
+-- ---- their values
+
+-- rows of numbers, one at least and as many in each
+pub record AreRows (first : List (List ℕ)) (rest : List (List (List ℕ))) : Type 0 where
+  pub first_row : IsTrue (is_row first)
+  pub more : IsTrue (list_all (is_row_of (length first)) rest)
+
+-- the values of numbers, if all are below the modulus
+abbrev pub values_below : ℕ → Line → Option (List ℕ)
+values_below modulus [] = Some []
+values_below modulus (number ∷ numbers) = option_and_then (λ n. option_map (λ ns. n ∷ ns) (values_below modulus numbers)) (number_within (modulus - 1) number)
+
+-- the matrix with these entries, if it is small enough
+abbrev pub matrix_made : ℕ → ℕ → ℕ → List ℕ → Result Matrix Flaw
+matrix_made modulus rows columns entries =
+    if nat_le rows side_limit && nat_le columns side_limit then Ok (record { modulus = modulus; rows = rows; columns = columns; entries = entries }) else Err (TooMany side_limit)
+
+abbrev pub side_value : Option Named → List ℕ → Result Entry Flaw
+side_value (Some (Object v)) number = if nat_le (value_of number) side_limit then Ok (entry.Side v (value_of number)) else Err (TooMany side_limit)
+side_value (Some (Map a)) number = Err UnknownName
+side_value None number = Err UnknownName
+
+abbrev pub map_value : Option Named → ℕ → Line → List Line → Result Entry Flaw
+map_value (Some (Map a)) modulus first rest =
+    asked NumberTooLarge (values_below modulus (flat_map (λ row. row) (first ∷ rest))) >>= λ values.
+    (matrix_made modulus (length (first ∷ rest)) (length first) values >>= λ x. Ok (entry.Map a x))
+map_value (Some (Object v)) modulus first rest = Err UnknownName
+map_value None modulus first rest = Err UnknownName
+
+abbrev pub entry_value : List Declaration → ℕ → EntryTokens → Result Entry Flaw
+entry_value ds modulus (side name number) = side_value (named_in ds name) number
+entry_value ds modulus (matrix name first rest) = map_value (named_in ds name) modulus first rest
+
+-- ---- the model
+
+-- the side of an object, and the matrix of a letter, by the lines that were read
+abbrev pub side_in : List Entry → ℕ → ℕ
+side_in [] v = 1
+side_in (entry.Side w n ∷ entries) v = if nat_eq w.0 v then n else side_in entries v
+side_in (entry.Map b x ∷ entries) v = side_in entries v
+
+abbrev pub matrix_in : List Entry → ℕ → Option Matrix
+matrix_in [] a = None
+matrix_in (entry.Side w n ∷ entries) a = matrix_in entries a
+matrix_in (entry.Map b x ∷ entries) a = if nat_eq b.0 a then Some x else matrix_in entries a
+
+abbrev pub sides_in : List Declaration → List Entry → List ℕ
+sides_in ds entries = map (side_in entries) (range_with_len 0 (object_count ds))
+
+abbrev pub maps_in : List Declaration → List Entry → List (Option Matrix)
+maps_in ds entries = map (matrix_in entries) (range_with_len 0 (letter_count ds))
+
+abbrev pub model_of : List Declaration → Begun → Model
+model_of ds b = record { claim = b.claim; modulus = b.modulus; sides = sides_in ds b.entries; maps = maps_in ds b.entries }
+
+-- ---- what a line comes to at its place
+
+abbrev pub progress : List Model → Place → Progress
+progress done place = record { models = done; place = place }
+
+abbrev pub begun_of : ℕ → ℕ → List (List ℕ) → List Entry → Begun
+begun_of claim modulus names entries = record { claim = claim; modulus = modulus; names = names; entries = entries }
+
+-- model 1
+abbrev pub is_head : Line → Bool
+is_head line = is_pair (codes "model") (codes "1") line
+
+-- a model begins, where there may be one more, or a block of another kind
+abbrev pub outside : List Model → Line → Result Progress Flaw
+outside done line =
+    if is_head line then (if nat_le block_limit (length done) then Err (TooMany block_limit) else Ok (progress done at.Headed))
+    else if is_other_head line then Ok (progress done at.Skipped)
+    else Err BadLine
+
+-- modulus M
+abbrev pub modulus_digits : Line → Option (List ℕ)
+modulus_digits (word ∷ m ∷ []) = if is (codes "modulus") word && is_modulus m then Some m else None
+modulus_digits [] = None
+modulus_digits (word ∷ []) = None
+modulus_digits (word ∷ m ∷ token ∷ tokens) = None
+
+abbrev pub modulus_of : Line → Result ℕ Flaw
+modulus_of line = asked BadLine (modulus_digits line) >>= λ digits. asked NumberTooLarge (number_within modulus_limit digits)
+
+-- a line more of a model, whose name stands in no line before it
+abbrev pub grown : List Declaration → Begun → EntryTokens → Result Begun Flaw
+grown ds b e =
+    if list_any (bytes_eq (name_of e)) b.names then Err BadLine
+    else entry_value ds b.modulus e >>= λ value. Ok (begun_of b.claim b.modulus (b.names ++ name_of e ∷ []) (b.entries ++ value ∷ []))
+
+abbrev pub inside : List Declaration → List Model → Begun → Line → Result Progress Flaw
+inside ds done b line =
+    if is_end line then Ok (progress (done ++ model_of ds b ∷ []) at.Outside)
+    else asked BadLine (entry_tokens line) >>= λ e. (grown ds b e >>= λ next. Ok (progress done (at.Inside next)))
+
+abbrev pub step : List Declaration → List Model → Place → Line → Result Progress Flaw
+step ds done at.Outside line = outside done line
+step ds done at.Skipped line = Ok (progress done (if is_end line then at.Outside else at.Skipped))
+step ds done at.Headed line = claim_of line >>= λ n. Ok (progress done (at.Claimed n))
+step ds done (at.Claimed n) line = modulus_of line >>= λ m. Ok (progress done (at.Inside (begun_of n m [] [])))
+step ds done (at.Inside b) line = inside ds done b line
+
+-- in a model, its modulus is one
+abbrev pub HasModulus : Place → Type 0
+HasModulus at.Outside = ⊤
+HasModulus at.Skipped = ⊤
+HasModulus at.Headed = ⊤
+HasModulus (at.Claimed n) = ⊤
+HasModulus (at.Inside b) = IsModulus b.modulus
+
+-- blank lines and comments are skipped everywhere
+abbrev pub read_tokens : List Declaration → Progress → Line → Result Progress Flaw
+read_tokens ds p line = if is_skipped line then Ok p else step ds p.models p.place line
+
+-- the lines from this number on
+abbrev pub read_lines : List Declaration → ℕ → Progress → List (List ℕ) → Result Progress Fault
+read_lines ds number p [] = Ok p
+read_lines ds number p (line ∷ rest) = at_line number (read_tokens ds p (tokens_of line)) >>= λ q. read_lines ds (number + 1) q rest
+
+-- the text may end outside of blocks alone
+abbrev pub ended : List Model → Place → Result (List Model) Fault
+ended done at.Outside = Ok done
+ended done at.Skipped = Err truncated
+ended done at.Headed = Err truncated
+ended done (at.Claimed n) = Err truncated
+ended done (at.Inside b) = Err truncated
+
+abbrev pub beginning : Progress
+beginning = progress [] at.Outside
+
+-- the models of a text that may have none
+abbrev pub models_of : List Declaration → List ℕ → Result (List Model) Fault
+models_of ds bytes = if is_utf8 bytes then (read_lines ds 1 beginning (lines bytes) >>= λ p. ended p.models p.place) else Err not_utf8
+
+abbrev pub one_or_more : List Model → Result (List Model) Fault
+one_or_more [] = Err no_block
+one_or_more (m ∷ ms) = Ok (m ∷ ms)
+
+-- the models that the bytes are
+abbrev pub all_models : List Declaration → List ℕ → Result (List Model) Fault
+all_models ds bytes = models_of ds bytes >>= one_or_more

@@ -1,0 +1,147 @@
+//! What a line `side` or `map` says.
+
+ghost use Rattle.std.specs.Prelude.{◌≡◌, ◌<◌, ◌≤◌, ◌^◌, ◌*◌, ◌∷◌, length, IsTrue, IfOk, IfSome};
+ghost use Rattle.std.specs.List.{All, flat_map, list_all};
+ghost use Rattle.quiver.specs.Declarations.{named_in};
+ghost use Rattle.matrix_models.specs.Matrix.{IsModulus};
+ghost use Rattle.certificate_text.specs.Fault.{Reads, asked};
+ghost use Rattle.certificate_text.specs.Letters.{is_name, is_number};
+ghost use Rattle.certificate_text.specs.Views.{texts};
+ghost use Rattle.certificate_text.specs.declared.fault.Flaw.TheVariants as flaw;
+ghost use Rattle.model_text.specs.ModelBlocks.{name_of, is_entry};
+ghost use Rattle.model_text.specs.ModelBounds.{value_of};
+ghost use Rattle.model_text.specs.Reading.{AreRows, values_below, matrix_made, side_value, map_value, entry_value};
+ghost use Rattle.model_text.specs.Views.{rows, tokens_in};
+
+use crate::entry::EntryTokens;
+use crate::place::Entry;
+use certificate_text::{Flaw, LineFault, name_in, number_within};
+use matrix_models::{Matrix, MatrixFault};
+use quiver::{Named, Quiver};
+use std::alloc::{AllocError, Global};
+
+const SIDE_LIMIT: u32 = 64;
+
+/// The text of a token that is a name.
+pub fn name_text(token: &[u8]) -> &str
+    requires { IsTrue (is_name token.now) }
+    ensures { result.now ≡ token.now }
+{
+    match name_in(token) {
+        Some(name) => name,
+        None => unreachable!(),
+    }
+}
+
+// What stands in the rows, row by row.
+fn numbers_in<'a>(
+    alloc: Global,
+    first: &[&'a [u8]],
+    rest: &[&[&'a [u8]]],
+) -> Result<Vec<&'a [u8]>, AllocError>
+    ensures { IfOk result (λ numbers. texts numbers.items ≡ flat_map (λ row. row) (texts first.now ∷ rows rest.now)) }
+{
+    let mut numbers = Vec::new(alloc);
+    numbers.extend_from_slice(first)?;
+    for row in rest {
+        numbers.extend_from_slice(row)?;
+    }
+    Ok(numbers)
+}
+
+// The values of numbers, all of them below the modulus.
+fn values_below(alloc: Global, modulus: u32, numbers: &[&[u8]]) -> Result<Vec<u32>, LineFault>
+    requires modulus { 1 ≤ modulus }
+    requires numbers { IsTrue (list_all is_number (texts numbers.now)) }
+    ensures { Reads (λ values. values.items) result (asked flaw.NumberTooLarge (values_below modulus (texts numbers.now))) }
+{
+    let mut values = Vec::new(alloc);
+    for number in numbers {
+        match number_within(u128::from(modulus - 1), number) {
+            Some(value) => values.push(value as u32)?,
+            None => return Err(LineFault::Flaw(Flaw::NumberTooLarge)),
+        }
+    }
+    Ok(values)
+}
+
+// The matrix with these entries, row by row.
+fn matrix_made(
+    alloc: Global,
+    modulus: u32,
+    rows: usize,
+    columns: usize,
+    entries: &[u32],
+) -> Result<Matrix, LineFault>
+    requires modulus { IsModulus modulus }
+    requires rows { 1 ≤ rows }
+    requires columns { 1 ≤ columns }
+    requires count { length entries.now ≡ rows * columns }
+    requires below { All (λ entry. entry < modulus) entries.now }
+    ensures { Reads (λ x. x) result (matrix_made modulus rows columns entries.now) }
+{
+    if rows > SIDE_LIMIT as usize || columns > SIDE_LIMIT as usize {
+        return Err(LineFault::Flaw(Flaw::TooMany(SIDE_LIMIT)));
+    }
+    match Matrix::new(alloc, modulus, rows as u32, columns as u32, entries) {
+        Ok(matrix) => Ok(matrix),
+        Err(MatrixFault::Memory(failed)) => Err(LineFault::Memory(failed)),
+        Err(MatrixFault::BadShape) => unreachable!(),
+        Err(MatrixFault::EntryTooLarge { .. }) => unreachable!(),
+    }
+}
+
+fn side_value(named: Option<Named>, number: &[u8]) -> Result<Entry, Flaw>
+    requires { IsTrue (is_number number.now) }
+    ensures { result ≡ side_value named number.now }
+{
+    let Some(Named::Object(object)) = named else {
+        return Err(Flaw::UnknownName);
+    };
+    match number_within(u128::from(SIDE_LIMIT), number) {
+        Some(side) => Ok(Entry::Side {
+            object,
+            side: side as u32,
+        }),
+        None => Err(Flaw::TooMany(SIDE_LIMIT)),
+    }
+}
+
+fn map_value(
+    alloc: Global,
+    named: Option<Named>,
+    modulus: u32,
+    first: &[&[u8]],
+    rest: &[&[&[u8]]],
+) -> Result<Entry, LineFault>
+    requires modulus { IsModulus modulus }
+    requires rows { AreRows (texts first.now) (rows rest.now) }
+    ensures { Reads (λ entry. entry) result (map_value named modulus (texts first.now) (rows rest.now)) }
+{
+    let Some(Named::Map(letter)) = named else {
+        return Err(LineFault::Flaw(Flaw::UnknownName));
+    };
+    let numbers = numbers_in(alloc, first, rest)?;
+    let values = values_below(alloc, modulus, &numbers)?;
+    let matrix = matrix_made(alloc, modulus, rest.len() + 1, first.len(), &values)?;
+    Ok(Entry::Map { letter, matrix })
+}
+
+/// What the line says, in a model with this modulus.
+pub fn entry_value(
+    alloc: Global,
+    quiver: &Quiver,
+    modulus: u32,
+    entry: &EntryTokens<'_, '_>,
+) -> Result<Entry, LineFault>
+    requires modulus { IsModulus modulus }
+    requires entry { IsTrue (is_entry (tokens_in entry.now)) }
+    ensures { Reads (λ value. value) result (entry_value quiver.now modulus (tokens_in entry.now)) }
+{
+    match entry {
+        EntryTokens::Side { name, number } => Ok(side_value(quiver.find(name_text(name)), number)?),
+        EntryTokens::Matrix { name, first, rest } => {
+            map_value(alloc, quiver.find(name_text(name)), modulus, first, rest)
+        }
+    }
+}
