@@ -51,7 +51,7 @@ pub record MeansZero {Object Arrow : Type 0} (s : Structure Object Arrow) (probl
 
 -- What it means in a category that the claim with this number is proved by this evidence.
 pub record ProvedMeans {Object Arrow : Type 0} (s : Structure Object Arrow) (problem : Problem) (number : ℕ) (e : Evidence) : Type 0 where
-  -- the evidence adds up to its denominator d times the claim, whether or not its rows are typed
+  -- the evidence adds up to the claim, whether or not its rows are typed: its rows, over generators alone, to its denominator d times the claim, or its lemmas and its goal, each to its scale times what it gives
   pub sum : EvidenceAddsUp problem number e
   -- which makes the claim zero
   pub means : MeansZero s problem (denominator_of e) (claim_at problem number)
