@@ -4,3 +4,5 @@ pub mod Places
 pub mod Counterexamples
 pub mod Decided
 pub mod Judged
+pub mod EntryCounts
+pub mod Streams
