@@ -21,7 +21,7 @@ const DRAWN_COUNT: u32 = 4096;
 pub fn candidates(problem: &Problem, shape: u32) -> u32
     requires least { 1 ≤ shape }
     requires most { shape ≤ length problem.now.parts.shapes }
-    ensures { (s : ShapeValue) → IsShapeOf problem.now shape s → result ≡ candidate_count (quiver_of problem.now.parts.quiver) s }
+    ensures exact { (s : ShapeValue) → IsShapeOf problem.now shape s → result ≡ candidate_count (quiver_of problem.now.parts.quiver) s }
 {
     let place = shape as usize - 1;
     count_for(&problem.parts.quiver, problem.parts.shapes.at(place))

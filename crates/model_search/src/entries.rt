@@ -1,9 +1,9 @@
 // The entries of a shape.
-ghost use Rattle.std.specs.Prelude.{◌≡◌, ◌<◌, ◌≤◌, length, IsTrue};
+ghost use Rattle.std.specs.Prelude.{◌≡◌, ◌<◌, ◌≤◌, length};
+ghost use Rattle.std.specs.List.{All};
 ghost use Rattle.definitions.specs.Quiver.{IsQuiver};
 ghost use Rattle.quiver.specs.Declarations.{letter_count, object_count, quiver_of};
 ghost use Rattle.adjoint_rules.specs.Problem.{IsShape, IsSide};
-ghost use Rattle.std.specs.List.{All};
 ghost use Rattle.model_search.specs.Candidates.{is_declared_map, map_entries, entries_of, side_in};
 
 use adjoint_rules::Shape;

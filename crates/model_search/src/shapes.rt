@@ -1,7 +1,6 @@
 // Whether models are looked for in a shape.
-ghost use Rattle.std.specs.Prelude.{◌≡◌, ◌≤◌, ◌^◌, length, IfErr, IfNone, IfSome, IsTrue, OnOk, ◌↔◌};
-ghost use Rattle.std.specs.List.{All, list_any};
-ghost use Rattle.std.specs.Prelude.{nat_eq};
+ghost use Rattle.std.specs.Prelude.{◌≡◌, ◌≤◌, ◌↔◌, length, nat_eq, IfErr, IsTrue, OnOk};
+ghost use Rattle.std.specs.List.{list_any};
 ghost use Rattle.adjoint_rules.specs.Problem.{moduli, IsSide, IsShape};
 ghost use Rattle.model_search.specs.Shapes.{RefusesShape};
 

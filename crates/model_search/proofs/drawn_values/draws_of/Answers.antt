@@ -16,9 +16,8 @@ loop-place-preserved c =
     let moved : c.next_word.new.self ≡ next 64 multiplier_64 c.loop-place.stream = search rules in
     let pushed : c.push.new.self ≡ c.loop-place.values ++ c.next_word.result % m ∷ [] = search rules in
     let more : first + i + 1 ≡ first + (i + 1) = omega arith in
-    let drawn : c.next_word.result % m ≡ word_of_stream c.args.seed c.args.number (first + i) % m = ap (λ w. w % m) (word ∙ ap (λ g. (pcg32 g).0) c.loop-place.invariant.1) in
-    (
+    let drawn : c.next_word.result % m ≡ word_of_stream c.args.seed c.args.number (first + i) % m = ap (λ w. w % m) (word ∙ ap (λ g. (pcg32 g).0) c.loop-place.invariant.1) in (
       pushed ∙ ap₂ (λ xs x. xs ++ x ∷ []) c.loop-place.invariant.0 drawn
-      ∙ sym (map-range_with_len_more (λ j. word_of_stream c.args.seed c.args.number (first + j) % m) 0 i i (omega arith)),
-      moved ∙ ap (next 64 multiplier_64) c.loop-place.invariant.1 ∙ advance_more 64 multiplier_64 (first + i) start ∙ ap (λ n. advance 64 multiplier_64 n start) more
+          ∙ sym (map-range_with_len_more (λ j. word_of_stream c.args.seed c.args.number (first + j) % m) 0 i i (omega arith)),
+      moved ∙ ap (next 64 multiplier_64) c.loop-place.invariant.1 ∙ advance_more 64 multiplier_64 (first + i) start ∙ ap (λ n. advance 64 multiplier_64 n start) more,
     )

@@ -1,4 +1,4 @@
-use Rattle.std.proofs.Common.{rules, true, false, ◌≡◌, ◌<◌, ◌≤◌, ◌*◌, ◌+◌, ◌∙◌, ap, ap₂, sym, subst, length, arith}
+use Rattle.std.proofs.Common.{rules, true, false, ◌≡◌, ◌+◌, ◌∙◌, ap, ap₂, sym, length, arith}
 use Rattle.std.proofs.lemmas.List.{length-append}
 use Rattle.definitions.specs.Quiver.{letters}
 use Rattle.quiver.specs.Declarations.{quiver_of}
@@ -14,12 +14,12 @@ loop-number-preserved c =
     let s = c.args.shape.now in
     let n = c.loop-number.number in
     elim c.if-is_declared.branch [
-      then-is_declared w ↦
+      | then-is_declared w ↦
           let declared : is_declared_map q n ≡ true = search rules in
           let more = ap length (entries_with q s n declared) ∙ length-append (entries_before q s n) (map_entries q s n) in
           let sum : c.if-is_declared.count ≡ c.loop-number.count + w.map_entry_count-count.result = search rules in
           (sum ∙ ap₂ ◌+◌ c.loop-number.invariant.0 w.map_entry_count-count.ensures.count ∙ sym more, omega (arith, sum, c.loop-number.invariant.1, w.map_entry_count-count.ensures.few))
-    | else-is_declared w ↦
+      | else-is_declared w ↦
           let other : is_declared_map q n ≡ false = search rules in
           let same : c.if-is_declared.count ≡ c.loop-number.count = search rules in
           (same ∙ c.loop-number.invariant.0 ∙ sym (ap length (entries_without q s n other)), omega (arith, same, c.loop-number.invariant.1))

@@ -1,6 +1,6 @@
-use Rattle.std.proofs.Common.{rules, ◌≡◌, ◌<◌, ◌≤◌, ◌*◌, ◌+◌, ◌∙◌, ap, sym, eq-eqb, true≢false, arith}
+use Rattle.std.proofs.Common.{◌≡◌, ◌<◌, ◌∙◌, ap, sym, eq-eqb, true≢false, arith}
 use Rattle.std.proofs.lemmas.Bool.Decides.{Decides-eqb}
-use Rattle.definitions.specs.Quiver.{letters, star, source, target}
+use Rattle.definitions.specs.Quiver.{letters, star}
 use Rattle.quiver.specs.Declarations.{quiver_of}
 use Rattle.quiver.proofs.Counts.{letters-quiver_of}
 use Rattle.model_search.specs.Candidates.{side_in}
