@@ -5,6 +5,7 @@ use Rattle.std.proofs.lemmas.List.{length-append, length-map, flat_map_more}
 use Rattle.std.proofs.lemmas.List.FromFn.{length-range_with_len, filter_of_map_range_with_len_more}
 use Rattle.definitions.specs.Quiver.{Quiver, IsQuiver, letters, source, target, star}
 use Rattle.adjoint_rules.specs.declared.parts.Shape.{Shape}
+use Rattle.model_search.specs.EntryPlaces.{entries_before}
 use Rattle.model_search.specs.Candidates.{Entry, entry, side_in, is_declared_map, map_entries}
 
 -- the entries of a map with these sides, that is its own adjoint or not
@@ -67,20 +68,17 @@ append_nil (x ∷ xs) = ap (λ ys. x ∷ ys) (append_nil xs)
 
 -- ---- the maps before a number
 module _ (q : Quiver) (s : Shape) where
-  abbrev pub entries_before : ℕ → List Entry
-  entries_before n = flat_map (map_entries q s) (filter (is_declared_map q) (range_with_len 0 n))
-
   filter_next : (n : ℕ) → filter (is_declared_map q) (range_with_len 0 (n + 1)) ≡ filter (is_declared_map q) (range_with_len 0 n) ++ cond (is_declared_map q n) (n ∷ []) []
   filter_next n =
       ap (filter (is_declared_map q)) (sym (map_same (range_with_len 0 (n + 1))))
       ∙ filter_of_map_range_with_len_more (is_declared_map q) (λ j. j) 0 n n (omega arith)
       ∙ ap (λ xs. filter (is_declared_map q) xs ++ cond (is_declared_map q n) (n ∷ []) []) (map_same (range_with_len 0 n))
 
-  pub entries_with : (n : ℕ) → is_declared_map q n ≡ true → entries_before (n + 1) ≡ entries_before n ++ map_entries q s n
+  pub entries_with : (n : ℕ) → is_declared_map q n ≡ true → entries_before q s (n + 1) ≡ entries_before q s n ++ map_entries q s n
   entries_with n declared =
       ap (flat_map (map_entries q s)) (filter_next n ∙ ap (λ b. filter (is_declared_map q) (range_with_len 0 n) ++ cond b (n ∷ []) []) declared)
       ∙ sym (flat_map_more (map_entries q s) [] (filter (is_declared_map q) (range_with_len 0 n)) n)
 
-  pub entries_without : (n : ℕ) → is_declared_map q n ≡ false → entries_before (n + 1) ≡ entries_before n
+  pub entries_without : (n : ℕ) → is_declared_map q n ≡ false → entries_before q s (n + 1) ≡ entries_before q s n
   entries_without n other =
       ap (flat_map (map_entries q s)) (filter_next n ∙ ap (λ b. filter (is_declared_map q) (range_with_len 0 n) ++ cond b (n ∷ []) []) other ∙ append_nil _)

@@ -6,3 +6,4 @@ pub mod Decided
 pub mod Judged
 pub mod EntryCounts
 pub mod Streams
+pub mod EntryPlaces

@@ -5,3 +5,4 @@ pub mod Laws
 pub mod Listed
 pub mod Shapes
 pub mod Candidates
+pub mod EntryPlaces

@@ -35,8 +35,8 @@ pub(crate) fn is_declared(quiver: &Quiver, letter: Letter) -> bool
     u32::from(letter.0) >= quiver.objects() && letter.0 <= quiver.star_of(letter).0
 }
 
-// How many entries the map has.
-fn map_entry_count(quiver: &Quiver, shape: &Shape, letter: Letter) -> u32
+/// How many entries the map has.
+pub(crate) fn map_entry_count(quiver: &Quiver, shape: &Shape, letter: Letter) -> u32
     requires letter { letter.0 < letter_count quiver.now }
     requires quiver { IsQuiver (quiver_of quiver.now) }
     requires shape { IsShape (object_count quiver.now) shape.now }

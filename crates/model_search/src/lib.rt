@@ -5,6 +5,7 @@ mod candidate_count;
 mod confirm;
 mod drawn_values;
 mod entries;
+mod given_values;
 mod laws;
 mod maps;
 mod refusal;

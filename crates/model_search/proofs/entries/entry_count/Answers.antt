@@ -4,7 +4,8 @@ use Rattle.definitions.specs.Quiver.{letters}
 use Rattle.quiver.specs.Declarations.{quiver_of}
 use Rattle.quiver.proofs.Counts.{letters-quiver_of}
 use Rattle.model_search.specs.Candidates.{is_declared_map, map_entries}
-use Rattle.model_search.proofs.EntryCounts.{entries_before, entries_with, entries_without}
+use Rattle.model_search.specs.EntryPlaces.{entries_before}
+use Rattle.model_search.proofs.EntryCounts.{entries_with, entries_without}
 use Rattle.model_search.proofs.entries.entry_count.Goals as goal
 use Rattle.model_search.proofs.entries.entry_count.Goals.{then-is_declared, else-is_declared}
 

@@ -1,6 +1,6 @@
 use Rattle.std.proofs.Common.{◌≡◌, ◌≤◌, ◌*◌, length}
 use Rattle.quiver.specs.Declarations.{quiver_of}
-use Rattle.model_search.proofs.EntryCounts.{entries_before}
+use Rattle.model_search.specs.EntryPlaces.{entries_before}
 use Rattle.model_search.proofs.entries.entry_count.Given as goal
 
 -- the entries of the maps that were passed
