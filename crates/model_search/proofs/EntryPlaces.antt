@@ -3,9 +3,9 @@ use Rattle.std.proofs.Common.{◌≡◌, ℕ, zero, suc, ◌+◌, ◌*◌, ◌-�
 use Rattle.std.proofs.lemmas.Bool.{leb-true, leb-false, lt-leb}
 use Rattle.std.proofs.lemmas.List.Quantifiers.{position-Some}
 use Rattle.std.specs.List.{flat_map, range_with_len, list_any, position, position_or_len}
-use Rattle.std.proofs.lemmas.List.{length-append, length-map, flat_map_more}
+use Rattle.std.proofs.lemmas.List.{length-append}
 use Rattle.std.proofs.lemmas.List.Folds.{list_any-append}
-use Rattle.definitions.specs.Quiver.{Quiver, IsQuiver, letters, source, target, star}
+use Rattle.definitions.specs.Quiver.{Quiver, letters, source, target}
 use Rattle.adjoint_rules.specs.declared.parts.Shape.{Shape}
 use Rattle.adjoint_rules.proofs.Ranges.{flat_map-range_more}
 use Rattle.model_search.specs.Candidates.{Entry, entry, is_same_entry, is_self, side_in, is_declared_map, row_entries, map_entries, entries_of, value_at, value_of_entry, entry_shown}
@@ -65,10 +65,10 @@ module _ {X : Type 0} (p : X → Bool) where
       let there : from + suc k ≡ from + 1 + k = omega arith in
       let missed : Misses (g from) = subst (λ z. Misses (g z)) same (none 0 (omega arith)) in
       let later = in_pieces g (from + 1) n k i (omega arith)
-          (λ j less. let shift : from + suc j ≡ from + 1 + j = omega arith in subst (λ z. Misses (g z)) shift (none (suc j) (omega arith)))
-          (subst (λ z. FirstAt p (g z) i) there at) in
+      (λ j less. let shift : from + suc j ≡ from + 1 + j = omega arith in subst (λ z. Misses (g z)) shift (none (suc j) (omega arith)))
+      (subst (λ z. FirstAt p (g z) i) there at) in
       let sum : length (g from) + (length (flat_map g (range_with_len (from + 1) k)) + i) ≡ length (g from ++ flat_map g (range_with_len (from + 1) k)) + i =
-          omega (arith, length-append (g from) (flat_map g (range_with_len (from + 1) k))) in
+      omega (arith, length-append (g from) (flat_map g (range_with_len (from + 1) k))) in
       subst (FirstAt p (g from ++ flat_map g (range_with_len (from + 1) n))) sum (miss (g from) (flat_map g (range_with_len (from + 1) n)) _ missed later)
 
   pub in_range : (g : ℕ → List X) (n k i : ℕ) → k < n → ((j : ℕ) → j < k → Misses (g j)) → FirstAt p (g k) i

@@ -149,18 +149,15 @@ fn value_kept(
     ensures value { result ≡ value_of_entry (quiver_of quiver.now) shape.now values.now (entry letter.0 row column) }
     ensures below { result < shape.now.modulus }
 {
-    let ends = quiver.signature_of(letter);
-    let rows = side_at(shape, ends.target);
-    let columns = side_at(shape, ends.source);
+    let columns = side_at(shape, quiver.signature_of(letter).source);
     let selfmade = quiver.star_of(letter) == letter;
-    values[first + place_in_map(selfmade, rows, columns, row, column) as usize]
+    values[first + place_in_map(selfmade, columns, row, column) as usize]
 }
 
 // The place of an entry among those of its map.
-fn place_in_map(selfmade: bool, rows: u32, columns: u32, row: u32, column: u32) -> u32
+fn place_in_map(selfmade: bool, columns: u32, row: u32, column: u32) -> u32
     requires columns_side { columns ≤ 6 }
-    requires rows_side { rows ≤ 6 }
-    requires row_in_range { row < rows }
+    requires row_in_range { row < 6 }
     requires column_in_range { column < columns }
     requires kept { is_kept selfmade row column ≡ true }
     ensures { (a : ℕ) → result ≡ place_within a selfmade columns row column }

@@ -1,11 +1,11 @@
-use Rattle.std.proofs.Common.{rules, ◌≡◌, ◌<◌, ◌≤◌, ◌+◌, ◌*◌, ◌/◌, ◌%◌, ℕ, ◌++◌, ◌∷◌, [], map, length, ap, ap₂, sym, subst, ◌∙◌, arith}
+use Rattle.std.proofs.Common.{rules, ◌≡◌, ◌<◌, ◌*◌, ◌/◌, ◌%◌, ℕ, ◌++◌, ◌∷◌, [], map, length, ap, ap₂, sym, subst, ◌∙◌, arith}
 use Rattle.std.specs.List.{range_with_len, All}
 use Rattle.std.proofs.lemmas.List.Elements.{All-push}
 use Rattle.std.proofs.lemmas.List.FromFn.{map-range_with_len_more, length-map-range_with_len}
 use Rattle.std.proofs.lemmas.Result.{IfOk-weaker}
 use Rattle.definitions.specs.Quiver.{source, target}
 use Rattle.quiver.specs.Declarations.{quiver_of}
-use Rattle.model_search.specs.Candidates.{side_in, entry_shown, value_of_entry, matrix_by}
+use Rattle.model_search.specs.Candidates.{side_in, entry_shown, value_of_entry}
 use Rattle.model_search.proofs.given_values.matrix_with.Goals as goal
 
 pub loop-place-preserved : goal.loop-place-preserved
@@ -16,10 +16,9 @@ loop-place-preserved c =
     let k = c.loop-place.place in
     let f : ℕ → ℕ = λ n. value_of_entry q s c.args.values.now (entry_shown q c.args.letter.0 (n / columns) (n % columns)) in
     let pushed : c.push.new.self ≡ c.loop-place.entries ++ c.value_shown.result ∷ [] = search rules in
-    let shown : c.value_shown.result ≡ f k = c.value_shown.ensures.value in
-    (
+    let shown : c.value_shown.result ≡ f k = c.value_shown.ensures.value in (
       pushed ∙ ap₂ (λ xs x. xs ++ x ∷ []) c.loop-place.invariant.0 shown ∙ sym (map-range_with_len_more f 0 k k (omega arith)),
-      subst (All (λ entry. entry < s.modulus)) (sym pushed) (All-push (λ entry. entry < s.modulus) c.loop-place.entries c.value_shown.result c.loop-place.invariant.1 c.value_shown.ensures.below)
+      subst (All (λ entry. entry < s.modulus)) (sym pushed) (All-push (λ entry. entry < s.modulus) c.loop-place.entries c.value_shown.result c.loop-place.invariant.1 c.value_shown.ensures.below),
     )
 
 pub matrix_of_entries-requires-clause-shape : goal.matrix_of_entries-requires-clause-shape
@@ -46,7 +45,7 @@ returns c =
     let rows_are : rows ≡ side_in s (target q a) = c.side_at-rows.ensures.value ∙ ap (side_in s) c.signature_of-ends.ensures.target in
     let columns_are : columns ≡ side_in s (source q a) = c.side_at-columns.ensures.value ∙ ap (side_in s) c.signature_of-ends.ensures.source in
     let entries_are = c.as_slice.ensures ∙ c.loop-place.invariant.0 ∙ ap (λ n. map (λ k. f (k / columns) (k % columns)) (range_with_len 0 n)) all
-        ∙ ap₂ (λ r c. map (λ k. f (k / c) (k % c)) (range_with_len 0 (r * c))) rows_are columns_are in
+    ∙ ap₂ (λ r c. map (λ k. f (k / c) (k % c)) (range_with_len 0 (r * c))) rows_are columns_are in
     IfOk-weaker c.matrix_of_entries.result _ _
     (λ matrix made. made ∙ (λ i. record { modulus = s.modulus; rows = rows_are i; columns = columns_are i; entries = entries_are i }))
     c.matrix_of_entries.ensures
