@@ -4,3 +4,6 @@ pub mod Places
 pub mod Counterexamples
 pub mod Decided
 pub mod Judged
+pub mod EntryCounts
+pub mod Streams
+pub mod EntryPlaces

@@ -36,9 +36,13 @@ side_in s v = get_or s.sides v 1
 abbrev pub is_self : Quiver → ℕ → Bool
 is_self q a = nat_eq (star q a) a
 
+-- whether the letter is a map, and not the adjoint of another
+abbrev pub is_declared_map : Quiver → ℕ → Bool
+is_declared_map q a = nat_le q.objects a && nat_le a (star q a)
+
 -- the numbers of the declared maps, ascending
 abbrev pub declared_maps : Quiver → List ℕ
-declared_maps q = filter (λ a. nat_le q.objects a && nat_le a (star q a)) (range_with_len 0 (letters q))
+declared_maps q = filter (is_declared_map q) (range_with_len 0 (letters q))
 
 -- the entries of a row, by columns; of a map that is its own adjoint those on the diagonal and behind it
 abbrev pub row_entries : Quiver → Shape → ℕ → ℕ → List Entry
@@ -71,13 +75,19 @@ matrix_by q s values a = matrix_of s.modulus (side_in s (target q a)) (side_in s
 
 -- the matrix of a declared map
 abbrev pub place_by : Quiver → Shape → List ℕ → ℕ → Option Matrix
-place_by q s values a = if list_any (nat_eq a) (declared_maps q) then Some (matrix_by q s values a) else None
+place_by q s values a = if is_declared_map q a then Some (matrix_by q s values a) else None
 
 -- the model with this claim and these values of the entries
 abbrev pub model_by : Quiver → Shape → ℕ → List ℕ → Model
 model_by q s claim values = record { claim = claim; modulus = s.modulus; sides = s.sides; maps = map (place_by q s values) (range_with_len 0 (letters q)) }
 
 -- ---- how many candidates there are
+
+-- the shape of the problem with this number, counted from 1
+pub record IsShapeOf (problem : Problem) (number : ℕ) (s : Shape) : Type 0 where
+  pub before : ℕ
+  pub numbered : number ≡ before + 1
+  pub there : slice_get problem.parts.shapes before ≡ Some s
 
 -- how many lists of values the entries have
 abbrev pub value_lists : Quiver → Shape → ℕ
@@ -175,10 +185,8 @@ naming claim m = record m { claim = claim }
 
 -- Of the shape with this number, counted from 1, candidate k is a model in which the assumptions of the file are zero and the claim isn't.
 pub record Breaks (problem : Problem) (claim seed number k : ℕ) (m : Model) : Type 0 where
-  pub before : ℕ
-  pub numbered : number ≡ before + 1
   pub shape : Shape
-  pub there : slice_get problem.parts.shapes before ≡ Some shape
+  pub numbered : IsShapeOf problem number shape
   pub in_range : k < candidate_count (quiver_of problem.parts.quiver) shape
   pub candidate : Model
   pub is_candidate : IsCandidate problem number shape seed k (Some candidate)

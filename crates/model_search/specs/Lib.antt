@@ -3,4 +3,6 @@ pub mod Memory
 pub mod Refusals
 pub mod Laws
 pub mod Listed
+pub mod Shapes
 pub mod Candidates
+pub mod EntryPlaces
