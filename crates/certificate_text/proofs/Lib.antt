@@ -18,7 +18,7 @@ pub mod RowLines
 mod RowValues
 mod BlockLines
 mod TextLines
-pub mod NumberedLines
+mod NumberedLines
 mod FirstBounds
 mod OneCertificate
 mod ReadLines

@@ -1,6 +1,5 @@
 -- What a reader returns, as its callers are told.
-use Rattle.std.proofs.Common.{◌≡◌, ℕ, List, Result, Ok, Err, IfOk, MatchResult}
-use Rattle.std.specs.List.{All}
+use Rattle.std.proofs.Common.{ℕ, List, Result, Ok, Err, MatchResult}
 use Rattle.quiver.specs.Declarations.{Declaration}
 use Rattle.matrix_models.specs.declared.model.Model.{Model}
 use Rattle.certificate_text.specs.declared.fault.CertFault.{CertFault}

@@ -1,21 +1,17 @@
 -- What a line `side` or `map` says, and the bounds that it keeps.
-use Rattle.std.proofs.Common.{◌≡◌, ◌<◌, ◌≤◌, ◌+◌, ◌-◌, ℕ, Bool, true, false, ◌&&◌, cond, List, [], ◌∷◌, ◌++◌, Option, Some, None, Result, Ok, Err, arith, refl, sym, ap, ap₂, ◌∙◌, subst, length, map, nat_le, nat_eq, IsTrue}
+use Rattle.std.proofs.Common.{◌≡◌, ◌<◌, ◌≤◌, ◌-◌, ℕ, Bool, true, false, ◌&&◌, List, [], ◌∷◌, ◌++◌, Option, Some, None, Result, Ok, Err, arith, refl, ap, ap₂, ◌∙◌, length, map, nat_le}
 use Rattle.std.specs.Bool.{⊤}
 use Rattle.std.specs.List.{All, AllZip, flat_map, range_with_len}
-use Rattle.std.specs.Option.{option_map}
 use Rattle.std.proofs.lemmas.Bool.{and_parts}
 use Rattle.std.proofs.lemmas.Bool.Decides.{nat_tests}
-use Rattle.std.proofs.lemmas.List.{map-append}
 use Rattle.std.proofs.lemmas.List.Elements.{All-nil, All-cons, All-head, All-tail, All-from_recursion, All-append}
 use Rattle.quiver.specs.declared.named.Named.{Named}
 use Rattle.quiver.specs.declared.named.Named.TheVariants.{Object, Map}
 use Rattle.quiver.specs.Declarations.{Declaration, named_in, object_count, letter_count}
-use Rattle.matrix_models.specs.Matrix.{Matrix}
 use Rattle.certificate_text.specs.declared.fault.Flaw.{Flaw}
-use Rattle.certificate_text.specs.declared.fault.Flaw.TheVariants.{UnknownName, NumberTooLarge, TooMany}
+use Rattle.certificate_text.specs.declared.fault.Flaw.TheVariants.{NumberTooLarge}
 use Rattle.certificate_text.specs.Blocks.{Line}
-use Rattle.certificate_text.specs.Fault.{◌>>=◌, asked}
-use Rattle.certificate_text.specs.Letters.{number_within}
+use Rattle.certificate_text.specs.Fault.{asked}
 use Rattle.model_text.specs.declared.place.Begun.{Begun}
 use Rattle.model_text.specs.declared.place.Entry.{Entry}
 use Rattle.model_text.specs.declared.place.Entry.TheVariants as entry
@@ -23,7 +19,7 @@ use Rattle.model_text.specs.ModelBlocks.{EntryTokens, side, matrix, ModelTokens}
 use Rattle.model_text.specs.ModelBounds.{Bound, names, numbers, sizes, blocks, flaw_of, before, side_limit, value_of, matrix_value, side_of, matrix_of, model_value, HasName, IsBelow, IsSmall}
 use Rattle.model_text.specs.Reading.{values_below, matrix_made, side_value, map_value, entry_value, side_in, matrix_in, sides_in, maps_in, model_of}
 use Rattle.certificate_text.proofs.Results.{by_test, bind_ok, asked_ok}
-use Rattle.model_text.proofs.Values.{AreValues, are_values}
+use Rattle.model_text.proofs.Values.{are_values}
 
 -- the line keeps the bound
 abbrev pub KeepsEntry : List Declaration → ℕ → Bound → EntryTokens → Type 0

@@ -15,3 +15,4 @@ mod ReadLines
 mod EachText
 mod Answered
 mod ModelValues
+mod Examples

@@ -1,24 +1,23 @@
 -- What holds of the models that are read.
-use Rattle.std.proofs.Common.{◌≡◌, ◌<◌, ◌≤◌, ◌+◌, ◌*◌, ◌^◌, ℕ, Bool, true, false, ◌&&◌, cond, List, [], ◌∷◌, ◌++◌, Option, Some, None, Result, Ok, Err, IfOk, IsTrue, arith, refl, sym, ap, ◌∙◌, subst, length, map, get_or, nat_eq, nat_le, nat_lt}
+use Rattle.std.proofs.Common.{◌≡◌, ◌<◌, ◌≤◌, ◌+◌, ◌*◌, ℕ, Bool, true, false, ◌&&◌, cond, List, [], ◌∷◌, Some, None, Result, Ok, Err, IfOk, IsTrue, arith, refl, sym, ap, ◌∙◌, subst, length, map, nat_eq, nat_le, nat_lt}
 use Rattle.std.specs.List.{All, flat_map, list_all, range_with_len}
 use Rattle.std.proofs.lemmas.Bool.{and_parts}
 use Rattle.std.proofs.lemmas.Bool.Decides.{nat_tests}
 use Rattle.std.proofs.lemmas.List.{length-map}
 use Rattle.std.proofs.lemmas.List.Elements.{All-nil, All-cons, All-head, All-tail}
 use Rattle.std.proofs.lemmas.List.FromFn.{get_or-map-range_with_len, length-map-range_with_len}
-use Rattle.quiver.specs.declared.named.Named.{Named}
-use Rattle.quiver.specs.declared.named.Named.TheVariants.{Object, Map}
+use Rattle.quiver.specs.declared.named.Named.TheVariants.{Map}
 use Rattle.quiver.specs.Declarations.{Declaration, object_count, letter_count, named_in}
-use Rattle.matrix_models.specs.Matrix.{Matrix, IsModulus, IsSide, HasShape, IsMatrix}
+use Rattle.matrix_models.specs.Matrix.{IsModulus, IsSide, IsMatrix}
 use Rattle.matrix_models.specs.declared.model.Model.{Model}
 use Rattle.certificate_text.specs.declared.fault.CertFault.{CertFault}
 use Rattle.certificate_text.specs.Blocks.{Line}
 use Rattle.certificate_text.specs.Fault.{ReadsText}
 use Rattle.certificate_text.specs.Letters.{is_name, is_number}
 use Rattle.model_text.specs.ModelBlocks.{EntryTokens, side, matrix, ModelTokens, BlockTokens, model, other, is_row, is_row_of, is_entry, IsModelBlock, IsBlock}
-use Rattle.model_text.specs.ModelBounds.{Bound, names, numbers, sizes, bounds, side_limit, value_of, is_map_named, is_object_named, side_of, matrix_value, matrix_of, model_value, values_in, HasName, IsBelow, IsSmall, KeepsOne, Keeps}
+use Rattle.model_text.specs.ModelBounds.{Bound, names, numbers, sizes, side_limit, value_of, is_map_named, is_object_named, side_of, matrix_value, matrix_of, model_value, values_in, HasName, IsBelow, IsSmall, KeepsOne, Keeps}
 use Rattle.model_text.specs.Models.{HasMap, IsPlaced, IsModel}
-use Rattle.model_text.specs.Reading.{AreRows, all_models}
+use Rattle.model_text.specs.Reading.{all_models}
 use Rattle.model_text.proofs.EntryValues.{flat_from}
 use Rattle.model_text.proofs.FirstBounds.{kept_at}
 use Rattle.model_text.proofs.EachText.{models_read}

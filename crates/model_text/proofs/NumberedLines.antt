@@ -1,7 +1,5 @@
 -- The lines of a text with their numbers, and those of them that are neither blank nor comments.
-use Rattle.std.proofs.Common.{◌≡◌, ◌+◌, ℕ, suc, Bool, true, false, not, List, [], ◌∷◌, ◌++◌, Result, Ok, Err, arith, refl, ap, ◌∙◌, length, map, zero-add}
-use Rattle.std.proofs.lemmas.List.{map-append}
-use Rattle.std.proofs.lemmas.List.Elements.{filter-append}
+use Rattle.std.proofs.Common.{◌≡◌, ◌+◌, ℕ, suc, Bool, true, false, List, [], ◌∷◌, ◌++◌, Result, Ok, Err, arith, refl, ap, ◌∙◌, length, zero-add}
 use Rattle.quiver.specs.Declarations.{Declaration}
 use Rattle.certificate_text.specs.declared.fault.Flaw.{Flaw}
 use Rattle.model_text.specs.declared.place.Progress.{Progress}

@@ -1,6 +1,5 @@
 -- The first lines of a block, by the place that stands behind them, and the blocks that go on with them.
-use Rattle.std.proofs.Common.{◌≡◌, ◌<◌, ◌≤◌, ◌+◌, ℕ, Bool, true, false, ◌&&◌, List, [], ◌∷◌, ◌++◌, Option, Some, None, Result, Ok, Err, IsTrue, arith, refl, sym, ap, ap₂, ◌∙◌, subst, length, map, nat_le, codes}
-use Rattle.std.specs.Bool.{⊤}
+use Rattle.std.proofs.Common.{◌≡◌, ◌≤◌, ℕ, false, ◌&&◌, List, [], ◌∷◌, ◌++◌, Some, Ok, Err, IsTrue, arith, refl, sym, ap, ap₂, ◌∙◌, subst, map, nat_le, codes}
 use Rattle.std.specs.List.{All, AllZip, list_any}
 use Rattle.std.specs.Str.{bytes_eq}
 use Rattle.std.proofs.lemmas.Bool.{and_parts}
@@ -13,7 +12,7 @@ use Rattle.certificate_text.specs.declared.fault.Flaw.{Flaw}
 use Rattle.certificate_text.specs.declared.fault.Flaw.TheVariants.{BadLine, NumberTooLarge}
 use Rattle.certificate_text.specs.Fault.{◌>>=◌, asked}
 use Rattle.certificate_text.specs.Letters.{is_number, number_within}
-use Rattle.certificate_text.specs.Lines.{number_limit, is, number_behind, claim_of, is_end}
+use Rattle.certificate_text.specs.Lines.{number_limit, is, number_behind, claim_of}
 use Rattle.certificate_text.specs.Blocks.{Line, OtherTokens, claim_line, end_line}
 use Rattle.certificate_text.proofs.LineTrees.{is_word, number_is}
 use Rattle.certificate_text.proofs.Results.{by_test, bind_ok, bind_err, asked_ok, asked_err, else_ok}
@@ -22,7 +21,7 @@ use Rattle.model_text.specs.declared.place.Begun.{Begun}
 use Rattle.model_text.specs.declared.place.Entry.{Entry}
 use Rattle.model_text.specs.declared.place.Place.{Place}
 use Rattle.model_text.specs.declared.place.Place.TheVariants as at
-use Rattle.model_text.specs.ModelBlocks.{EntryTokens, ModelTokens, BlockTokens, model, other, head_line, modulus_line, entry_line, model_front, block_lines, name_of, is_entry, is_modulus, IsModelBlock, IsOtherBlock}
+use Rattle.model_text.specs.ModelBlocks.{EntryTokens, ModelTokens, model, head_line, modulus_line, entry_line, model_front, name_of, is_entry, is_modulus, IsModelBlock, IsOtherBlock}
 use Rattle.model_text.specs.ModelBounds.{Bound, names, numbers, sizes, blocks, modulus_limit, value_of, HasName, IsBelow, IsSmall, flaw_of, before, KeepsOne}
 use Rattle.model_text.specs.Reading.{entry_tokens, entry_value, begun_of, modulus_digits, modulus_of, grown, inside}
 use Rattle.model_text.proofs.BlockTrees.{everywhere, Begin}

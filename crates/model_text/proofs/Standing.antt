@@ -1,5 +1,5 @@
 -- What the lines that were read are: whole blocks and the first lines of one more.
-use Rattle.std.proofs.Common.{◌≡◌, ◌<◌, ◌⊎◌, ℕ, Bool, true, false, cond, List, [], ◌∷◌, ◌++◌, Some, None, Result, Ok, Err, refl, sym, ap, ap₂, ◌∙◌, subst, length, nat_le, leb-false, append_assoc, append-nil, inl, inr, codes}
+use Rattle.std.proofs.Common.{◌≡◌, ◌<◌, ◌⊎◌, ℕ, Bool, true, false, cond, List, [], ◌∷◌, ◌++◌, Result, Ok, Err, refl, sym, ap, ap₂, ◌∙◌, subst, length, nat_le, leb-false, append_assoc, append-nil, inl, inr, codes}
 use Rattle.std.specs.Bool.{⊤}
 use Rattle.std.specs.List.{All, flat_map}
 use Rattle.std.proofs.lemmas.List.Elements.{All-nil, All-push, All-from_recursion}
@@ -7,7 +7,7 @@ use Rattle.quiver.specs.Declarations.{Declaration}
 use Rattle.matrix_models.specs.declared.model.Model.{Model}
 use Rattle.certificate_text.specs.declared.fault.Flaw.{Flaw}
 use Rattle.certificate_text.specs.declared.fault.Flaw.TheVariants.{BadLine}
-use Rattle.certificate_text.specs.Fault.{Fault, ◌>>=◌, asked, truncated}
+use Rattle.certificate_text.specs.Fault.{asked}
 use Rattle.certificate_text.specs.Lines.{block_limit, is_end, claim_of}
 use Rattle.certificate_text.specs.Blocks.{Line, OtherTokens, end_line}
 use Rattle.certificate_text.proofs.LineTrees.{pair_is, end_is}
@@ -16,13 +16,13 @@ use Rattle.model_text.specs.declared.place.Begun.{Begun}
 use Rattle.model_text.specs.declared.place.Place.{Place}
 use Rattle.model_text.specs.declared.place.Place.TheVariants as at
 use Rattle.model_text.specs.declared.place.Progress.{Progress}
-use Rattle.model_text.specs.ModelBlocks.{ModelTokens, BlockTokens, model, other, head_line, block_lines, is_other_head, AreBlocks}
+use Rattle.model_text.specs.ModelBlocks.{BlockTokens, model, other, block_lines, is_other_head, AreBlocks}
 use Rattle.model_text.specs.ModelBounds.{Bound, names, numbers, sizes, blocks, flaw_of, before, bounds, model_value, values_in, Keeps}
 use Rattle.model_text.specs.Models.{GoesOn}
-use Rattle.model_text.specs.Reading.{progress, is_head, outside, entry_tokens, modulus_of, grown, inside, begun_of, model_of, step, ended, beginning}
+use Rattle.model_text.specs.Reading.{progress, is_head, outside, entry_tokens, modulus_of, grown, inside, begun_of, model_of, step, beginning}
 use Rattle.model_text.proofs.BlockTrees.{everywhere, Begin, AreWhole, none_whole, lines_push, goes_on_with, goes_on_with_other, goes_on_behind, whole_model, whole_other}
 use Rattle.model_text.proofs.EntryValues.{model_is}
-use Rattle.model_text.proofs.OpenBlocks.{IsInOther, IsInside, IsOpen, begin_headed, begin_claimed, begin_inside, next_headed, next_claimed, next_entry, IsStopped, misfit, passes, stopped_headed, stopped_claimed, stopped_inside}
+use Rattle.model_text.proofs.OpenBlocks.{IsOpen, begin_headed, begin_claimed, begin_inside, next_headed, next_claimed, next_entry, IsStopped, misfit, passes, stopped_headed, stopped_claimed, stopped_inside}
 
 -- in a model: it is one of those that there may be
 abbrev pub HasRoom : Place → ℕ → Type 0

@@ -1,6 +1,6 @@
 -- Texts whose blocks keep bounds are read.
-use Rattle.std.proofs.Common.{◌≡◌, ◌≤◌, ◌<◌, ◌+◌, ℕ, Bool, true, false, ◌&&◌, ◌||◌, List, [], ◌∷◌, ◌++◌, Some, Ok, IsTrue, arith, refl, sym, ap, ◌∙◌, subst, length, length-append, map, nat_le, ap₂, codes, flat_map}
-use Rattle.std.specs.List.{All, AllZip, AllPairs, list_any}
+use Rattle.std.proofs.Common.{◌≡◌, ◌≤◌, ◌<◌, ◌+◌, ℕ, true, false, ◌||◌, List, [], ◌∷◌, ◌++◌, Some, Ok, IsTrue, arith, refl, sym, ap, ◌∙◌, subst, length, length-append, map, nat_le, ap₂, codes, flat_map}
+use Rattle.std.specs.List.{All, AllZip, list_any}
 use Rattle.std.specs.Str.{bytes_eq}
 use Rattle.std.proofs.lemmas.Bool.{and_parts, lt-leb}
 use Rattle.std.proofs.lemmas.Bool.Decides.{nat_tests}
@@ -10,16 +10,16 @@ use Rattle.std.proofs.lemmas.List.Elements.{All-head, All-tail, filter-append}
 use Rattle.quiver.specs.Declarations.{Declaration}
 use Rattle.matrix_models.specs.declared.model.Model.{Model}
 use Rattle.certificate_text.specs.Letters.{is_number, number_within}
-use Rattle.certificate_text.specs.Lines.{block_limit, number_limit, is, is_end, is_pair, claim_of}
+use Rattle.certificate_text.specs.Lines.{block_limit, number_limit, is, is_end}
 use Rattle.certificate_text.specs.Blocks.{Line, OtherTokens, claim_line, end_line}
 use Rattle.certificate_text.proofs.RowLines.{other_word}
 use Rattle.model_text.specs.declared.place.Begun.{Begun}
 use Rattle.model_text.specs.declared.place.Entry.{Entry}
 use Rattle.model_text.specs.declared.place.Place.TheVariants as at
 use Rattle.model_text.specs.declared.place.Progress.{Progress}
-use Rattle.model_text.specs.ModelBlocks.{EntryTokens, ModelTokens, BlockTokens, model, other, head_line, modulus_line, entry_line, model_front, block_lines, name_of, is_entry, is_modulus, is_other_head, IsModelBlock, IsOtherBlock, IsBlock, AreBlocks}
-use Rattle.model_text.specs.ModelBounds.{Bound, names, numbers, sizes, blocks, modulus_limit, value_of, HasName, IsBelow, IsSmall, is_model, models_in, model_value, values_in, KeepsOne, Keeps}
-use Rattle.model_text.specs.Reading.{progress, beginning, begun_of, step, is_head, modulus_of, entry_value, grown, model_of}
+use Rattle.model_text.specs.ModelBlocks.{EntryTokens, ModelTokens, BlockTokens, model, other, head_line, modulus_line, entry_line, block_lines, name_of, is_entry, is_modulus, is_other_head, IsModelBlock, IsOtherBlock, IsBlock, AreBlocks}
+use Rattle.model_text.specs.ModelBounds.{Bound, names, numbers, sizes, blocks, modulus_limit, value_of, is_model, models_in, model_value, values_in, KeepsOne, Keeps}
+use Rattle.model_text.specs.Reading.{progress, beginning, begun_of, step, is_head, entry_value, grown, model_of}
 use Rattle.model_text.proofs.BlockTrees.{models_in-length, values_in-append}
 use Rattle.model_text.proofs.EntryLines.{entry_read, entry_goes_on}
 use Rattle.model_text.proofs.EntryValues.{KeepsEntry, IsJudged, fine, fails, entry_judged, IsEntryOf, model_is}

@@ -1,5 +1,5 @@
 -- Numbers in rows, and their values below a modulus.
-use Rattle.std.proofs.Common.{◌≡◌, ◌<◌, ◌≤◌, ◌+◌, ◌-◌, ◌*◌, ℕ, Bool, true, false, ◌&&◌, cond, List, [], ◌∷◌, ◌++◌, Some, None, Ok, arith, refl, sym, ap, ap₂, ◌∙◌, subst, length, map, get_or, nat_le, nat_eq, Bor, IsTrue}
+use Rattle.std.proofs.Common.{◌≡◌, ◌<◌, ◌≤◌, ◌+◌, ◌-◌, ◌*◌, ℕ, Bool, true, false, List, [], ◌∷◌, Some, arith, refl, sym, ap₂, ◌∙◌, subst, length, map, get_or, nat_le, nat_eq, Bor}
 use Rattle.std.specs.List.{All, flat_map, list_all}
 use Rattle.std.specs.Option.{option_map}
 use Rattle.std.proofs.lemmas.Bool.{and_parts}

@@ -1,7 +1,6 @@
 -- The bounds of models in evidence text, in the order in which they count, and the values of its blocks.
-use Rattle.std.specs.Prelude.{◌≡◌, ◌<◌, ◌≤◌, ⊤, ℕ, ◌+◌, ◌-◌, ◌^◌, ◌∷◌, ◌++◌, Bool, true, false, List, [], length, map, nat_eq, Option, Some, None, filter, if◌then◌else◌}
+use Rattle.std.specs.Prelude.{◌≡◌, ◌<◌, ◌≤◌, ⊤, ℕ, ◌-◌, ◌^◌, ◌∷◌, ◌++◌, Bool, true, false, List, [], length, map, nat_eq, Option, Some, None, filter, if◌then◌else◌}
 use Rattle.std.specs.List.{All, flat_map, range_with_len}
-use Rattle.std.specs.Str.{bytes_eq}
 use Rattle.std.specs.Str.Parse.{digits_value}
 use Rattle.quiver.specs.declared.named.Named.{Named}
 use Rattle.quiver.specs.declared.named.Named.TheVariants.{Object, Map}

@@ -1,0 +1,66 @@
+-- Worked texts, over the objects U and V and maps a : U -> V and b : V -> U.
+use lib.Utf8.{encode}
+use Rattle.std.proofs.Common.{◌≡◌, false, List, [], ◌∷◌, Some, None, Result, Ok, Err, arith, refl, codes}
+use Rattle.std.proofs.lemmas.Fmt.{decimal_digit}
+use Rattle.std.specs.Str.{is_utf8, chars}
+use Rattle.quiver.specs.Declarations.{Declaration, object, arrow}
+use Rattle.matrix_models.specs.declared.model.Model.{Model}
+use Rattle.certificate_text.specs.Fault.{Fault, truncated, no_block}
+use Rattle.certificate_text.specs.Tokens.{tokens_of}
+use Rattle.model_text.specs.ModelBlocks.{side, matrix, entry_line}
+use Rattle.model_text.specs.Reading.{all_models}
+use Rattle.model_text.specs.Written.{model_text}
+
+abbrev declared : List Declaration
+declared = object (codes "U") ∷ object (codes "V") ∷ arrow (codes "a") 0 1 false ∷ arrow (codes "b") 1 0 false ∷ []
+
+-- ---- lines
+
+of_a_map : tokens_of (codes "map a=1 0;\t0 07") ≡ entry_line (matrix (codes "a") (codes "1" ∷ codes "0" ∷ []) ((codes "0" ∷ codes "07" ∷ []) ∷ []))
+of_a_map = refl
+
+of_a_side : tokens_of (codes " side U 2") ≡ entry_line (side (codes "U") (codes "2"))
+of_a_side = refl
+
+-- ---- reading
+
+-- without lines each side is 1, and no letter has a matrix; blocks of other kinds are skipped
+read : all_models declared (codes "certificate 1\nmodel 1\nend\n# models\nmodel 1\n\nclaim 07\nmodulus 5\nend\n")
+    ≡ Ok (record { claim = 7; modulus = 5; sides = 1 ∷ 1 ∷ []; maps = None ∷ None ∷ None ∷ None ∷ None ∷ None ∷ [] } ∷ [])
+unfolding is_utf8 chars encode
+read = refl
+
+small_modulus : all_models declared (codes "model 1\nclaim 1\nmodulus 1\n") ≡ Err (record { code = 2; line = 3; limit = 0 })
+unfolding is_utf8 chars encode
+small_modulus = refl
+
+large_modulus : all_models declared (codes "model 1\nclaim 1\nmodulus 2147483648\n") ≡ Err (record { code = 4; line = 3; limit = 0 })
+unfolding is_utf8 chars encode
+large_modulus = refl
+
+no_side : all_models declared (codes "model 1\nclaim 1\nmodulus 2\nside U\n") ≡ Err (record { code = 2; line = 4; limit = 0 })
+unfolding is_utf8 chars encode
+no_side = refl
+
+cut_off : all_models declared (codes "basis 1\nend 1\n") ≡ Err truncated
+unfolding is_utf8 chars encode
+cut_off = refl
+
+without_models : all_models declared (codes "basis 1\nend\n") ≡ Err no_block
+unfolding is_utf8 chars encode
+without_models = refl
+
+-- ---- writing
+
+abbrev written : Model
+written = record {
+  claim = 1;
+  modulus = 2;
+  sides = 2 ∷ 1 ∷ [];
+  maps =
+      None ∷ None ∷ Some (record { modulus = 2; rows = 1; columns = 2; entries = 1 ∷ 0 ∷ [] }) ∷ None
+      ∷ Some (record { modulus = 2; rows = 2; columns = 1; entries = 1 ∷ 0 ∷ [] }) ∷ None ∷ [];
+}
+
+in_full : model_text declared written ≡ codes "model 1\nclaim 1\nmodulus 2\nside U 2\nside V 1\nmap a = 1 0\nmap b = 1 ; 0\nend\n"
+in_full = rw (decimal_digit 0 (omega arith), decimal_digit 1 (omega arith), decimal_digit 2 (omega arith)) refl
