@@ -1,5 +1,5 @@
 -- A word at which sums of rows and multiples of claims differ, or that a scale doesn't divide, has letters of the quiver alone.
-use Rattle.std.proofs.Common.{ltb-true, lt-ltb, ◌≡◌, ◌≢◌, ◌⊎◌, inl, inr, ℕ, zero, suc, ◌<◌, ℤ, pos, ◌+ℤ◌, ◌*ℤ◌, Bool, true, false, List, [], ◌∷◌, ◌++◌, map, int_div, refl, sym, ap, ap₂, subst, ◌∙◌, get_or, ltb}
+use Rattle.std.proofs.Common.{ltb-true, lt-ltb, ◌≡◌, ◌≢◌, inl, inr, ℕ, zero, suc, ◌<◌, ℤ, pos, ◌+ℤ◌, ◌*ℤ◌, Bool, true, false, List, [], ◌∷◌, ◌++◌, map, int_div, refl, sym, ap, ap₂, subst, ◌∙◌, get_or, ltb}
 use Rattle.std.proofs.lemmas.Bool.{and_parts, and_from}
 use Rattle.std.proofs.lemmas.Bool.Decides.{Decides-int_eq}
 use Rattle.std.proofs.lemmas.List.Folds.{list_all-append}
@@ -8,7 +8,7 @@ use Rattle.std.specs.List.{AllByRecursion, list_all}
 use Rattle.std.proofs.lemmas.List.Elements.{recursion_from_All, All-from_recursion}
 use Rattle.std.specs.Ordering.{int_eq}
 use Rattle.definitions.specs.Poly.{Term, word_eq, coefficient_of, poly_multiple, poly_between}
-use Rattle.definitions.specs.Quiver.{Quiver, letters, source, leads, is_path, IsTyped}
+use Rattle.definitions.specs.Quiver.{Quiver, letters, source, leads, is_path}
 use Rattle.definitions.specs.Combination.{Row, generator_at, row_poly, row_sum}
 use Rattle.definitions.specs.Soundness.{HasSignature}
 use Rattle.definitions.proofs.Coefficients.{coefficient_of-append, coefficient_of-multiple}

@@ -1,11 +1,9 @@
-use Rattle.std.proofs.Common.{◌≡◌, ◌++◌, ℕ, ◌+◌, List, Some, ap, sym, subst, ◌∙◌, rules}
+use Rattle.std.proofs.Common.{◌≡◌, ◌++◌, ℕ, ◌+◌, List, Some, sym, subst, ◌∙◌, rules}
 use Rattle.cofactor_trace.specs.declared.evidence.Evidence.{Evidence}
-use Rattle.cofactor_checker.specs.declared.Accepted.{Accepted}
-use Rattle.evidence_checker.specs.Acceptance.{NamesClaim}
 use Rattle.certificate_text.specs.Evidence.{IsCheckableEvidence}
 use Rattle.opprove.specs.Ending.{line}
 use Rattle.opprove.specs.Refusals.{claim_text, accepted_text, cause_text}
-use Rattle.opprove.specs.Check.{Question, question_of, named_text, AcceptsBlock, RefusesBlock}
+use Rattle.opprove.specs.Check.{Question, question_of, AcceptsBlock, RefusesBlock}
 use Rattle.opprove.proofs.Letters.{refused_letters}
 use Rattle.opprove.proofs.Readable.{readable, named}
 use Rattle.opprove.proofs.Judging.{GoesOn, with_accepted, with_refused, all_judged}
