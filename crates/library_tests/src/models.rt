@@ -2,8 +2,8 @@
 ghost use Rattle.std.specs.Prelude.{◌≡◌, IsTrue, length};
 ghost use Rattle.std.specs.List.{All};
 ghost use Rattle.definitions.specs.Quiver.{letters};
-ghost use Rattle.matrix_models.specs.Matrix.{IsSide};
-ghost use Rattle.quiver.specs.Declarations.{quiver_of};
+ghost use Rattle.matrix_models.specs.Matrix.{IsModulus, IsSide};
+ghost use Rattle.quiver.specs.Declarations.{object_count, quiver_of};
 ghost use Rattle.model_search.specs.Models.{IsModel};
 
 use crate::matrices::matrix;
@@ -107,15 +107,27 @@ fn has_places(quiver: &Quiver, model: &Model) -> bool
     model.maps.len() == quiver.letters() as usize
 }
 
+fn is_modulus(modulus: u32) -> bool
+    ensures { IsTrue result → IsModulus modulus }
+{
+    (2..=2_147_483_647).contains(&modulus)
+}
+
+// Whether the model has a side for each object.
+fn has_sides(quiver: &Quiver, model: &Model) -> bool
+    ensures { IsTrue result → length model.now.sides ≡ object_count quiver.now }
+{
+    model.sides.len() == quiver.objects() as usize
+}
+
 // Whether the model has a modulus, a side for each object, and a place for each letter.
 fn is_model(quiver: &Quiver, model: &Model) -> bool
     ensures { IsTrue result → IsModel (quiver_of quiver.now) model.now }
 {
-    model.modulus >= 2
-        && model.modulus <= 2_147_483_647
-        && model.sides.len() == quiver.objects() as usize
-        && are_sides(model.sides.as_slice())
+    is_modulus(model.modulus)
+        && has_sides(quiver, model)
         && has_places(quiver, model)
+        && are_sides(model.sides.as_slice())
 }
 
 // The model that is written.
@@ -126,7 +138,7 @@ fn model_of(
     sides: &[u32],
     maps: Maps,
 ) -> Result<Model, Fail> {
-    if modulus < 2 || modulus > 2_147_483_647 {
+    if !is_modulus(modulus) {
         return Err(Fail::new("a modulus is wanted"));
     }
     let mut matrices = Listing::new(alloc);
