@@ -28,8 +28,6 @@ mod matching;
 #[cfg(test)]
 mod matrices;
 #[cfg(test)]
-mod models;
-#[cfg(test)]
 mod name_rows;
 #[cfg(test)]
 mod notation;
@@ -49,8 +47,6 @@ mod rules;
 mod statement_rows;
 #[cfg(test)]
 mod statement_texts;
-#[cfg(test)]
-mod systems;
 #[cfg(test)]
 mod texts;
 #[cfg(test)]

@@ -18,8 +18,8 @@ fn residue(modulus: u32, text: &str) -> Result<u32, Fail> {
     }
 }
 
-/// The matrix that is written: rows between bars, and negative numbers where they are shorter, as `1 -2 | 0 3`.
-pub fn matrix(alloc: Global, modulus: u32, text: &str) -> Result<Matrix, Fail>
+// The matrix that is written: rows between bars, and negative numbers where they are shorter, as `1 -2 | 0 3`.
+fn matrix(alloc: Global, modulus: u32, text: &str) -> Result<Matrix, Fail>
     requires { IsModulus modulus }
     ensures { IfOk result (IsMatrix modulus) }
 {
