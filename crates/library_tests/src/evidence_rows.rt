@@ -1,5 +1,5 @@
 //! Texts of evidence, worked out by hand from the grammar: each with what is written back of it or its first fault.
-use crate::texts::Piece::Plain;
+use crate::texts::Piece::{Counted, Plain};
 use crate::texts::Repeated;
 
 /// A text, and what is told of it.
@@ -50,6 +50,15 @@ pub const CERTIFICATES: &[Row] = &[
         "certificate 1\nclaim 7\ndenominator 0\nrow -0 ([U]' [V] a a' p') 4294967295 (жар_2 жар_2' 日)\nend\n",
         LETTERS,
     ),
+    // blanks around letters, which are one token each, and CR LF in all lines but the last
+    (
+        "certificate 1\r\nclaim 7\r\n\r\ndenominator 0\r\nrow 0 ( [U] [V] a a' p ) 4294967295 ( жар_2 жар_2'\t日 )\r\nend",
+        LETTERS,
+    ),
+    (
+        "model\r\nend\r\n#\r\ncertificate 1\r\nclaim 1\ndenominator 2\r\nend\n# \r",
+        EMPTY,
+    ),
     // blocks of other kinds
     (
         "basis 1\nclaim 0x\nend 1\n # x\nrule certificate 1\nend\ncertificate 1\nclaim 1\ndenominator 2\nend\nmodel\nend\n",
@@ -71,6 +80,19 @@ pub const FAULTS: &[Row] = &[
     ("end\n", "K2 in line 1, limit 0"),
     ("certificate 1\r", "K2 in line 1, limit 0"),
     ("certificate 1\r\r\n", "K2 in line 1, limit 0"),
+    ("certificate 1\r\n\r\r\n", "K2 in line 2, limit 0"),
+    (
+        "certificate 1\nclaim 1\rdenominator 1\n",
+        "K2 in line 2, limit 0",
+    ),
+    (
+        "certificate 1\nclaim 1\ndenominator 1\nend\r",
+        "K2 in line 4, limit 0",
+    ),
+    (
+        "certificate 1\nclaim 1\ndenominator 1\nend 1",
+        "K2 in line 4, limit 0",
+    ),
     ("certificate 1\nmodel 1\nend\n", "K2 in line 2, limit 0"),
     ("certificate 1\nclaim\n", "K2 in line 2, limit 0"),
     ("certificate 1\nclaim -1\n", "K2 in line 2, limit 0"),
@@ -111,6 +133,12 @@ pub const FAULTS: &[Row] = &[
         "K6 in line 0, limit 0",
     ),
     ("basis 1\n", "K6 in line 0, limit 0"),
+    ("basis\nend\r", "K6 in line 0, limit 0"),
+    ("basis\nend\nmodel\nend 1\n# end\n", "K6 in line 0, limit 0"),
+    // the first line of a block of another kind, and the line behind it
+    ("models 1\nend\n", "K2 in line 1, limit 0"),
+    ("basis 1\nend\nBasis\nend\n", "K2 in line 3, limit 0"),
+    ("model\n\nend\nend\n", "K2 in line 4, limit 0"),
     ("", "K7 in line 0, limit 0"),
     ("# claim 1 proved\n\n \t\n", "K7 in line 0, limit 0"),
     ("basis 1\nend\nmodel 1\nend\n", "K7 in line 0, limit 0"),
@@ -123,6 +151,29 @@ pub const NOT_UTF8: &[(&[u8], &str)] = &[
         "K1 in line 0, limit 0",
     ),
     (b"x\n# \xc3", "K1 in line 0, limit 0"),
+    (
+        b"certificate 1\xff\nclaim 1\ndenominator 1\nend\n",
+        "K1 in line 0, limit 0",
+    ),
+    (
+        b"certificate 1\nclaim \xc0\xb1\ndenominator 1\nend\n",
+        "K1 in line 0, limit 0",
+    ),
+    (
+        b"certificate 2\xe6\x97\nclaim 1\ndenominator 1\ngoal scale 1\nend\n",
+        "K1 in line 0, limit 0",
+    ),
+    (
+        b"certificate 2\nclaim 1\ndenominator 1\nlemma 1 scale 1\nrow 1 (\xed\xa0\x80) 1 ()\ngoal scale 1\nend\n",
+        "K1 in line 0, limit 0",
+    ),
+    (
+        b"certificate 2\nclaim 1\ndenominator 1\ngoal scale 1\nend\xf5",
+        "K1 in line 0, limit 0",
+    ),
+    (b"\xffmodel 1\nend\n", "K1 in line 0, limit 0"),
+    (b"model 1\n\x80\nend\n", "K1 in line 0, limit 0"),
+    (b"model 1\nend\xe2\x82", "K1 in line 0, limit 0"),
 ];
 
 /// The lines before the rows of a certificate.
@@ -146,7 +197,11 @@ pub const ROWS: &[Row] = &[
     ("row 1 ([]) 1 ()", "K2 in line 4, limit 0"),
     ("row 1 ([ U ]) 1 ()", "K2 in line 4, limit 0"),
     ("row 1 (a '') 1 ()", "K2 in line 4, limit 0"),
+    ("row 1 ( [ U ] ) 1 ()", "K2 in line 4, limit 0"),
     ("row 1 (a'') 1 ()", "K2 in line 4, limit 0"),
+    ("row 1 (a''') 1 ()", "K2 in line 4, limit 0"),
+    ("row 1 (') 1 ()", "K2 in line 4, limit 0"),
+    ("row 1 () 1 ([U'])", "K2 in line 4, limit 0"),
     ("row 1 (2a) 1 ()", "K2 in line 4, limit 0"),
     ("row 1 (x 2a) 4294967296 ()", "K2 in line 4, limit 0"),
     (
@@ -206,7 +261,35 @@ pub const LEMMAS: &[Row] = &[
         "certificate 1\nclaim 1\ndenominator 2\nend\ncertificate 2\nclaim 1\ndenominator 1\ngoal scale 1\nend\ncertificate 1\nclaim 1\ndenominator 2\nend\n",
         "certificate 1\nclaim 1\ndenominator 2\nend\ncertificate 2\nclaim 1\ndenominator 1\ngoal scale 1\nend\ncertificate 1\nclaim 1\ndenominator 2\nend\n",
     ),
+    // CR LF in all lines but the last, and blanks around letters
+    (
+        "certificate 2\r\nclaim 1\r\ndenominator 6\r\nlemma 1 scale 2\r\nrow 1 ( a ) 1 ( )\r\nrow -1 () 2 ( a' )\r\nlemma 2 scale 1\r\nrow 3 () lemma 1 (r)\r\ngoal scale 3\r\nrow 2 (l) lemma 2 ()\r\nrow -1 () 4 (p')\r\nend",
+        NAMED,
+    ),
     ("certificate 02\n", "K2 in line 1, limit 0"),
+    ("certificate 2\nmodel 1\n", "K2 in line 2, limit 0"),
+    ("certificate 2\nclaim x\n", "K2 in line 2, limit 0"),
+    ("certificate 2\nclaim 4294967296\n", "K4 in line 2, limit 0"),
+    (
+        "certificate 2\nclaim 1\nlemma 1 scale 1\n",
+        "K2 in line 3, limit 0",
+    ),
+    (
+        "certificate 2\nclaim 1\ndenominator -1\n",
+        "K2 in line 3, limit 0",
+    ),
+    (
+        "certificate 2\nclaim 1\ndenominator 170141183460469231731687303715884105728\n",
+        "K4 in line 3, limit 0",
+    ),
+    (
+        "certificate 2\nclaim 1\ndenominator 1\ngoal scale 1\nend\r",
+        "K2 in line 5, limit 0",
+    ),
+    (
+        "certificate 2\nclaim 1\ndenominator 1\ngoal scale 1\nend 2",
+        "K2 in line 5, limit 0",
+    ),
     ("certificate 2 1\n", "K2 in line 1, limit 0"),
     ("certificate 3\n", "K2 in line 1, limit 0"),
     ("certificate 2", "K6 in line 0, limit 0"),
@@ -265,6 +348,21 @@ pub const LEMMA_LINES: &[Row] = &[
     ),
     ("goal scale 1\ngoal scale 1", "K2 in line 5, limit 0"),
     ("goal scale 1\nlemma 1 scale 1", "K2 in line 5, limit 0"),
+    ("lemma 1 scale 1\nrow 1 () 1 ()", "K2 in line 6, limit 0"),
+    (
+        "lemma 1 scale 1\ngoal scale 1\nrow 1 () 1 ()\nlemma 2 scale 1",
+        "K2 in line 7, limit 0",
+    ),
+    (
+        "goal scale 1\nrow 1 () 1 ()\ngoal scale 1",
+        "K2 in line 6, limit 0",
+    ),
+    (
+        "goal scale 1\nrow 1 () 1 ( [ U ] )",
+        "K2 in line 5, limit 0",
+    ),
+    ("goal scale 1\nrow 1 () 1 (a''')", "K2 in line 5, limit 0"),
+    ("lemma 1 scale 1\r", "K2 in line 5, limit 0"),
 ];
 
 /// The lines before the rows of a goal.
@@ -292,28 +390,144 @@ pub const PLAIN: &[Row] = &[
     ),
 ];
 
-/// Limits that are passed, of the letters of a word, of rows and of blocks.
-pub const LIMITS: &[Repeated] = &[
-    (
-        "certificate 1\nclaim 1\ndenominator 1\nrow 1 (",
-        Plain("a "),
-        501,
-        ") 1 ()\n",
-        "K5 in line 4, limit 500",
-    ),
-    (
-        "certificate 1\nclaim 1\ndenominator 1\nrow 1 () 1 (",
-        Plain("a "),
-        501,
-        ")\n",
-        "K5 in line 4, limit 500",
-    ),
+/// What stands before a row, what stands behind it, and the number of its line: each kind of certificate, and in it its first
+/// row, one in the middle and the last line of the text.
+pub const PLACES: &[(&str, &str, u32)] = &[
     (
         "certificate 1\nclaim 1\ndenominator 1\n",
+        "\nrow 1 () 1 ()\nend\n",
+        4,
+    ),
+    (
+        "certificate 1\nclaim 1\ndenominator 1\nrow 1 () 1 ()\n# row\n",
+        "\nrow 1 () 1 ()\nend\n",
+        6,
+    ),
+    (
+        "basis 1\nend\n\ncertificate 1\nclaim 1\ndenominator 1\nrow 1 () 1 ()\n",
+        "",
+        8,
+    ),
+    (
+        "certificate 2\nclaim 1\ndenominator 1\nlemma 1 scale 1\n",
+        "\nrow 1 () 1 ()\ngoal scale 1\nend\n",
+        5,
+    ),
+    (
+        "certificate 2\nclaim 1\ndenominator 1\nlemma 1 scale 1\nrow 1 () 1 ()\nlemma 2 scale 1\nrow 1 () lemma 1 ()\n",
+        "\ngoal scale 1\nend\n",
+        8,
+    ),
+    (
+        "certificate 2\nclaim 1\ndenominator 1\nlemma 1 scale 1\ngoal scale 1\nrow 1 () 1 ()\n",
+        "",
+        7,
+    ),
+];
+
+/// A row that has a letter so many times: what stands before the letters, how many there are, what stands behind them, and the
+/// code of the flaw and the limit that are told.
+pub const FLAWS: &[(&str, usize, &str, u32, u32)] = &[
+    ("row 1 (", 1, ") 1", 2, 0),
+    ("row x (", 1, "U) 4294967296 ()", 2, 0),
+    ("row 1 (", 1, "U) 1 ()", 3, 0),
+    ("row 1 () 4294967296 (", 501, "[a])", 3, 0),
+    ("row 1 (", 1, ") 4294967296 ()", 4, 0),
+    (
+        "row 170141183460469231731687303715884105728 () 1 (",
+        501,
+        ")",
+        4,
+        0,
+    ),
+    ("row 1 (", 501, ") 1 ()", 5, 500),
+    ("row 1 () 1 (", 501, ")", 5, 500),
+];
+
+/// Certificates that are cut behind each of their lines.
+pub const CUT: &[&str] = &[PROVED, NAMED];
+
+const BOTH: &str =
+    "certificate 1\nclaim 1\ndenominator 2\nend\ncertificate 2\nclaim 1\ndenominator 1\ngoal scale 1\nend\n";
+
+/// More blocks than there may be.
+pub const LIMITS: &[Repeated] = &[
+    ("", Plain(EMPTY), 101, "", "K5 in line 401, limit 100"),
+    ("", Plain(NO_LEMMA), 101, "", "K5 in line 501, limit 100"),
+    (
+        "",
+        Plain(BOTH),
+        50,
+        "certificate 1\n",
+        "K5 in line 451, limit 100",
+    ),
+    (
+        "",
+        Plain(BOTH),
+        50,
+        "basis\nend\ncertificate 2\n",
+        "K5 in line 453, limit 100",
+    ),
+];
+
+/// Limits that are kept: the text is written back, and the last part is its name.
+pub const KEPT: &[Repeated] = &[
+    (
+        "certificate 1\nclaim 1\ndenominator 1\nrow 1 (a",
+        Plain(" a"),
+        499,
+        ") 1 ()\nend\n",
+        "500 letters before a generator",
+    ),
+    (
+        "certificate 1\nclaim 1\ndenominator 1\nrow 1 () 1 (a",
+        Plain(" a"),
+        499,
+        ")\nend\n",
+        "500 letters behind a generator",
+    ),
+    (
+        "certificate 2\nclaim 1\ndenominator 1\nlemma 1 scale 1\nrow 1 (a",
+        Plain(" a"),
+        499,
+        ") 1 ()\ngoal scale 1\nend\n",
+        "500 letters in a lemma",
+    ),
+    (
+        "certificate 2\nclaim 1\ndenominator 1\ngoal scale 1\nrow 1 () lemma 1 (a",
+        Plain(" a"),
+        499,
+        ")\nend\n",
+        "500 letters in a goal",
+    ),
+    ("", Plain(EMPTY), 100, "", "100 blocks of format 1"),
+    ("", Plain(NO_LEMMA), 100, "", "100 blocks of format 2"),
+    ("", Plain(BOTH), 50, "", "100 blocks of both formats"),
+];
+
+// A text whose lines are all read, and that ends inside a block.
+const TRUNCATED: &str = "K6 in line 0, limit 0";
+
+/// As many rows as there may be, and one more.
+pub const MANY_ROWS: &[Repeated] = &[
+    (HEAD, Plain("row 1()1()\n"), 200_000, "", TRUNCATED),
+    (
+        HEAD,
         Plain("row 1()1()\n"),
         200_001,
         "end\n",
         "K5 in line 200004, limit 200000",
+    ),
+];
+
+/// The same of a certificate with lemmas, whose rows count together.
+pub const MANY_ROWS_OF_LEMMAS: &[Repeated] = &[
+    (
+        "certificate 2\nclaim 1\ndenominator 1\nlemma 1 scale 1\n",
+        Plain("row 1()1()\n"),
+        199_999,
+        "goal scale 1\nrow 1()1()\n",
+        TRUNCATED,
     ),
     (
         "certificate 2\nclaim 1\ndenominator 1\nlemma 1 scale 1\n",
@@ -322,8 +536,60 @@ pub const LIMITS: &[Repeated] = &[
         "goal scale 1\nrow 1()1()\nend\n",
         "K5 in line 200006, limit 200000",
     ),
-    ("", Plain(EMPTY), 101, "", "K5 in line 401, limit 100"),
-    ("", Plain(NO_LEMMA), 101, "", "K5 in line 501, limit 100"),
+];
+
+/// As many lemmas as there may be, and one more.
+pub const MANY_LEMMAS: &[Repeated] = &[
+    (
+        LEMMA_HEAD,
+        Counted("lemma ", " scale 1\n"),
+        200_000,
+        "goal scale 1\n",
+        TRUNCATED,
+    ),
+    (
+        LEMMA_HEAD,
+        Counted("lemma ", " scale 1\n"),
+        200_001,
+        "goal scale 1\nend\n",
+        "K5 in line 200004, limit 200000",
+    ),
+];
+
+/// Words of 16 letters in all, 62,500 times over, and one letter more.
+pub const MANY_LETTERS: &[Repeated] = &[
+    (
+        HEAD,
+        Plain("row 1(a a a a a a a a)1(a a a a a a a a)\n"),
+        62_500,
+        "row 1 () 1 ()\n",
+        TRUNCATED,
+    ),
+    (
+        HEAD,
+        Plain("row 1(a a a a a a a a)1(a a a a a a a a)\n"),
+        62_500,
+        "row 1 () 1 ()\nrow 1 () 1 (a)\nend\n",
+        "K5 in line 62505, limit 1000000",
+    ),
+];
+
+/// The same of a certificate with lemmas, whose letters count together.
+pub const MANY_LETTERS_OF_LEMMAS: &[Repeated] = &[
+    (
+        "certificate 2\nclaim 1\ndenominator 1\nlemma 1 scale 1\n",
+        Plain("row 1(a a a a a a a a)1(a a a a a a a a)\n"),
+        62_500,
+        "goal scale 1\n",
+        TRUNCATED,
+    ),
+    (
+        "certificate 2\nclaim 1\ndenominator 1\nlemma 1 scale 1\n",
+        Plain("row 1(a a a a a a a a)1(a a a a a a a a)\n"),
+        62_500,
+        "goal scale 1\nrow 1 (a) lemma 1 ()\nend\n",
+        "K5 in line 62506, limit 1000000",
+    ),
 ];
 
 /// Words by the numbers of their letters.

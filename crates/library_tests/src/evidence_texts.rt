@@ -2,12 +2,15 @@
 ghost use Rattle.std.specs.Prelude.{◌<◌, length};
 
 use crate::evidence_rows::{
-    CERTIFICATES, EMPTY, FAULTS, GOAL_HEAD, GOALS, HEAD, LEMMA_HEAD, LEMMA_LINES, LEMMAS, LIMITS,
-    NOT_UTF8, PLAIN, ROWS, Row, WORDS, WRITTEN,
+    CERTIFICATES, CUT, EMPTY, FAULTS, FLAWS, GOAL_HEAD, GOALS, HEAD, KEPT, LEMMA_HEAD, LEMMA_LINES,
+    LEMMAS, LIMITS, MANY_LEMMAS, MANY_LETTERS, MANY_LETTERS_OF_LEMMAS, MANY_ROWS,
+    MANY_ROWS_OF_LEMMAS, NOT_UTF8, PLACES, PLAIN, ROWS, Row, WORDS, WRITTEN,
 };
-use crate::texts::{Map, poly, poly_text, quiver_of, repeated, same, word, word_text};
+use crate::texts::{Map, Repeated, poly, poly_text, quiver_of, repeated, same, word, word_text};
 use certificate_text::{
-    CertFault, read_certificates, read_evidence, write_certificate, write_evidence,
+    CertFault, certificates_are_read_back, each_text_is_read, evidence_has_no_fault,
+    evidence_is_unique, first_fault_is_unique, parts_are_read_back, read_certificates,
+    read_evidence, write_certificate, write_evidence,
 };
 use quiver::Quiver;
 use std::alloc::{AllocError, Global};
@@ -78,14 +81,6 @@ fn told_plain(alloc: Global, quiver: &Quiver, text: &[u8]) -> Result<String, Fai
     shown(alloc, written_plain(alloc, quiver, text))
 }
 
-// A text that passes the limit of all letters: 2,000 words of 500, and then one more.
-fn many_letters(alloc: Global) -> Result<String, AllocError> {
-    let word = "a ".repeat(alloc, 500)?;
-    let row = format!(in alloc; "row 1 ({word}) 1 ()\n")?;
-    let rows = row.as_str().repeat(alloc, 2000)?;
-    format!(in alloc; "{HEAD}{rows}row 1 () 1 ()\nrow 1 () 1 (a)\n")
-}
-
 // Asserts that each text, between this front and this back, is told of as its row says.
 fn tell_all(
     rt: &impl Abort,
@@ -101,6 +96,23 @@ fn tell_all(
         same(rt, got.as_str(), want, row);
     }
     Ok(())
+}
+
+// The same of texts that repeat a piece.
+fn tell_repeated(rt: &impl Abort, alloc: Global, rows: &[Repeated]) -> Result<(), Fail> {
+    let quiver = small(alloc)?;
+    for row in rows {
+        let text = repeated(alloc, row)?;
+        let got = told(alloc, &quiver, text.as_bytes())?;
+        same(rt, got.as_str(), row.4, row.4);
+    }
+    Ok(())
+}
+
+// A row with a letter so many times between its front and its back.
+fn row_with(alloc: Global, front: &str, count: usize, back: &str) -> Result<String, AllocError> {
+    let letters = "a ".repeat(alloc, count)?;
+    format!(in alloc; "{front}{letters}{back}")
 }
 
 #[test]
@@ -140,51 +152,105 @@ fn bytes_that_are_not_utf8_come_first(rt: HostRuntime) -> Result<(), Fail> {
 }
 
 #[test]
-fn limits_of_words_rows_and_blocks(rt: HostRuntime) -> Result<(), Fail> {
-    let quiver = small(rt.alloc())?;
-    for row in LIMITS {
-        let text = repeated(rt.alloc(), row)?;
-        let got = told(rt.alloc(), &quiver, text.as_bytes())?;
-        same(&rt, got.as_str(), row.4, row.4);
+fn a_flaw_of_a_row_is_told_at_each_place(rt: HostRuntime) -> Result<(), Fail> {
+    let alloc = rt.alloc();
+    let quiver = small(alloc)?;
+    for (before, count, behind, code, limit) in FLAWS {
+        let row = row_with(alloc, before, *count, behind)?;
+        for (front, back, line) in PLACES {
+            let text = format!(in alloc; "{front}{row}{back}")?;
+            let got = told(alloc, &quiver, text.as_bytes())?;
+            let want = format!(in alloc; "K{code} in line {line}, limit {limit}")?;
+            same(&rt, got.as_str(), want.as_str(), text.as_str());
+        }
     }
     Ok(())
 }
 
 #[test]
-fn a_million_letters_are_the_most(rt: HostRuntime) -> Result<(), Fail> {
-    let quiver = small(rt.alloc())?;
-    let text = many_letters(rt.alloc())?;
-    let got = told(rt.alloc(), &quiver, text.as_bytes())?;
-    same(
-        &rt,
-        got.as_str(),
-        "K5 in line 2005, limit 1000000",
-        "letters",
-    );
-    Ok(())
-}
-
-// A text with a lemma more than there may be.
-fn many_lemmas(alloc: Global) -> Result<String, AllocError> {
-    let mut text = String::from_str(alloc, LEMMA_HEAD)?;
-    for number in 1..=200_001u32 {
-        text.push_str(&format!(in alloc; "lemma {number} scale 1\n")?)?;
+fn a_block_of_another_kind_has_no_flaw(rt: HostRuntime) -> Result<(), Fail> {
+    let alloc = rt.alloc();
+    let quiver = small(alloc)?;
+    for (before, count, behind, _, _) in FLAWS {
+        let row = row_with(alloc, before, *count, behind)?;
+        let text = format!(in alloc; "model 1\n{row}\n{row}\nend\n{EMPTY}basis\n{row}\nend")?;
+        let got = told(alloc, &quiver, text.as_bytes())?;
+        same(&rt, got.as_str(), EMPTY, text.as_str());
     }
-    Ok(text)
+    Ok(())
 }
 
 #[test]
-fn as_many_lemmas_as_rows_are_the_most(rt: HostRuntime) -> Result<(), Fail> {
-    let quiver = small(rt.alloc())?;
-    let text = many_lemmas(rt.alloc())?;
-    let got = told(rt.alloc(), &quiver, text.as_bytes())?;
-    same(
-        &rt,
-        got.as_str(),
-        "K5 in line 200004, limit 200000",
-        "lemmas",
-    );
+fn a_certificate_that_is_cut_is_told(rt: HostRuntime) -> Result<(), Fail> {
+    let alloc = rt.alloc();
+    let quiver = small(alloc)?;
+    for whole in CUT {
+        let mut text = String::new(alloc);
+        for line in whole.lines() {
+            let code = if text.is_empty() { 7 } else { 6 };
+            let want = format!(in alloc; "K{code} in line 0, limit 0")?;
+            let got = told(alloc, &quiver, text.as_bytes())?;
+            same(&rt, got.as_str(), want.as_str(), text.as_str());
+            text.push_str(line)?;
+            text.push_str("\n")?;
+        }
+        let got = told(alloc, &quiver, text.as_bytes())?;
+        same(&rt, got.as_str(), whole, "nothing is cut off");
+    }
     Ok(())
+}
+
+#[test]
+fn blocks_are_at_most_100(rt: HostRuntime) -> Result<(), Fail> {
+    tell_repeated(&rt, rt.alloc(), LIMITS)
+}
+
+#[test]
+fn limits_of_words_and_blocks_are_kept(rt: HostRuntime) -> Result<(), Fail> {
+    let alloc = rt.alloc();
+    let quiver = small(alloc)?;
+    for row in KEPT {
+        let text = repeated(alloc, row)?;
+        let got = told(alloc, &quiver, text.as_bytes())?;
+        same(&rt, got.as_str(), text.as_str(), row.4);
+    }
+    Ok(())
+}
+
+#[test]
+fn rows_are_at_most_200_000(rt: HostRuntime) -> Result<(), Fail> {
+    tell_repeated(&rt, rt.alloc(), MANY_ROWS)
+}
+
+#[test]
+fn rows_of_lemmas_are_at_most_200_000(rt: HostRuntime) -> Result<(), Fail> {
+    tell_repeated(&rt, rt.alloc(), MANY_ROWS_OF_LEMMAS)
+}
+
+#[test]
+fn lemmas_are_at_most_200_000(rt: HostRuntime) -> Result<(), Fail> {
+    tell_repeated(&rt, rt.alloc(), MANY_LEMMAS)
+}
+
+#[test]
+fn letters_are_at_most_a_million(rt: HostRuntime) -> Result<(), Fail> {
+    tell_repeated(&rt, rt.alloc(), MANY_LETTERS)
+}
+
+#[test]
+fn letters_of_lemmas_are_at_most_a_million(rt: HostRuntime) -> Result<(), Fail> {
+    tell_repeated(&rt, rt.alloc(), MANY_LETTERS_OF_LEMMAS)
+}
+
+// The laws have nothing to run.
+#[test]
+fn laws_of_evidence_text_are_called() {
+    each_text_is_read();
+    evidence_is_unique();
+    first_fault_is_unique();
+    evidence_has_no_fault();
+    certificates_are_read_back();
+    parts_are_read_back();
 }
 
 #[test]

@@ -59,10 +59,11 @@ pub fn quiver_of(alloc: Global, objects: &[&str], maps: &[Map]) -> Result<Quiver
     Ok(quiver)
 }
 
-/// What a text repeats: a piece, or two pieces with the number of the turn between them, from 0 on.
+/// What a text repeats: a piece, or two pieces with the number of the turn between them, from 0 on or from 1 on.
 pub enum Piece {
     Plain(&'static str),
     Numbered(&'static str, &'static str),
+    Counted(&'static str, &'static str),
 }
 
 /// The front of a text, what it repeats and how often, its back, and what is told of it.
@@ -77,6 +78,10 @@ pub fn repeated(alloc: Global, row: &Repeated) -> Result<String, AllocError> {
             Piece::Plain(piece) => text.push_str(piece)?,
             Piece::Numbered(before, after) => {
                 text.push_str(format!(in alloc; "{before}{number}{after}")?.as_str())?
+            }
+            Piece::Counted(before, after) => {
+                let turn = number + 1;
+                text.push_str(format!(in alloc; "{before}{turn}{after}")?.as_str())?
             }
         }
     }
