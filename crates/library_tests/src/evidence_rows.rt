@@ -562,13 +562,6 @@ pub const MANY_LETTERS: &[Repeated] = &[
         HEAD,
         Plain("row 1(a a a a a a a a)1(a a a a a a a a)\n"),
         62_500,
-        "row 1 () 1 ()\n",
-        TRUNCATED,
-    ),
-    (
-        HEAD,
-        Plain("row 1(a a a a a a a a)1(a a a a a a a a)\n"),
-        62_500,
         "row 1 () 1 ()\nrow 1 () 1 (a)\nend\n",
         "K5 in line 62505, limit 1000000",
     ),
@@ -576,13 +569,6 @@ pub const MANY_LETTERS: &[Repeated] = &[
 
 /// The same of a certificate with lemmas, whose letters count together.
 pub const MANY_LETTERS_OF_LEMMAS: &[Repeated] = &[
-    (
-        "certificate 2\nclaim 1\ndenominator 1\nlemma 1 scale 1\n",
-        Plain("row 1(a a a a a a a a)1(a a a a a a a a)\n"),
-        62_500,
-        "goal scale 1\n",
-        TRUNCATED,
-    ),
     (
         "certificate 2\nclaim 1\ndenominator 1\nlemma 1 scale 1\n",
         Plain("row 1(a a a a a a a a)1(a a a a a a a a)\n"),
