@@ -9,6 +9,10 @@ const TWICE: &[u8] = b"object U\nmap a b : U -> U\nclaim 2 a = b\n";
 const MAPS: &[u8] =
     b"object U V\nmap a b c z : U -> V\nassume a = b\nassume b = c\nassume a = c\nclaim a = c\n";
 
+// A generator of 27^3 = 19,683 terms.
+const LARGE: &[u8] =
+    b"object U\nmap a b c d e f g h i j k l m n o p q r s t u v w x y z A : U -> U\nassume (a + b + c + d + e + f + g + h + i + j + k + l + m + n + o + p + q + r + s + t + u + v + w + x + y + z + A)((a + b + c + d + e + f + g + h + i + j + k + l + m + n + o + p + q + r + s + t + u + v + w + x + y + z + A)(a + b + c + d + e + f + g + h + i + j + k + l + m + n + o + p + q + r + s + t + u + v + w + x + y + z + A)) = 0\nclaim a = 0\n";
+
 /// The generator 2 a, and a certificate up to its first word.
 pub const LONG_WORD: (&[u8], &str) = (
     DOUBLED,
@@ -151,5 +155,16 @@ pub const LEMMAS: &[Row] = &[
         DOUBLED,
         b"certificate 2\nclaim 1\ndenominator 2\ngoal scale 2\nrow 1 () 1 ()\nend\ncertificate 1\nclaim 1\ndenominator 1\nrow 1 () 1 ()\nend\ncertificate 2\nclaim 1\ndenominator 2\ngoal scale 2\nrow 1 () 1 ()\nend\n",
         "7 # block 1 accepted claim 1 denominator 2\n# block 2 refused C6 word a want 1 got 2\n",
+    ),
+    // 51 lemmas of 19,683 terms, and a sum of eleven times as many
+    (
+        LARGE,
+        b"certificate 2\nclaim 1\ndenominator 1\nlemma 1 scale 1\nrow 1 () 1 ()\nlemma 2 scale 1\nrow 1 () 1 ()\nlemma 3 scale 1\nrow 1 () 1 ()\nlemma 4 scale 1\nrow 1 () 1 ()\nlemma 5 scale 1\nrow 1 () 1 ()\nlemma 6 scale 1\nrow 1 () 1 ()\nlemma 7 scale 1\nrow 1 () 1 ()\nlemma 8 scale 1\nrow 1 () 1 ()\nlemma 9 scale 1\nrow 1 () 1 ()\nlemma 10 scale 1\nrow 1 () 1 ()\nlemma 11 scale 1\nrow 1 () 1 ()\nlemma 12 scale 1\nrow 1 () 1 ()\nlemma 13 scale 1\nrow 1 () 1 ()\nlemma 14 scale 1\nrow 1 () 1 ()\nlemma 15 scale 1\nrow 1 () 1 ()\nlemma 16 scale 1\nrow 1 () 1 ()\nlemma 17 scale 1\nrow 1 () 1 ()\nlemma 18 scale 1\nrow 1 () 1 ()\nlemma 19 scale 1\nrow 1 () 1 ()\nlemma 20 scale 1\nrow 1 () 1 ()\nlemma 21 scale 1\nrow 1 () 1 ()\nlemma 22 scale 1\nrow 1 () 1 ()\nlemma 23 scale 1\nrow 1 () 1 ()\nlemma 24 scale 1\nrow 1 () 1 ()\nlemma 25 scale 1\nrow 1 () 1 ()\nlemma 26 scale 1\nrow 1 () 1 ()\nlemma 27 scale 1\nrow 1 () 1 ()\nlemma 28 scale 1\nrow 1 () 1 ()\nlemma 29 scale 1\nrow 1 () 1 ()\nlemma 30 scale 1\nrow 1 () 1 ()\nlemma 31 scale 1\nrow 1 () 1 ()\nlemma 32 scale 1\nrow 1 () 1 ()\nlemma 33 scale 1\nrow 1 () 1 ()\nlemma 34 scale 1\nrow 1 () 1 ()\nlemma 35 scale 1\nrow 1 () 1 ()\nlemma 36 scale 1\nrow 1 () 1 ()\nlemma 37 scale 1\nrow 1 () 1 ()\nlemma 38 scale 1\nrow 1 () 1 ()\nlemma 39 scale 1\nrow 1 () 1 ()\nlemma 40 scale 1\nrow 1 () 1 ()\nlemma 41 scale 1\nrow 1 () 1 ()\nlemma 42 scale 1\nrow 1 () 1 ()\nlemma 43 scale 1\nrow 1 () 1 ()\nlemma 44 scale 1\nrow 1 () 1 ()\nlemma 45 scale 1\nrow 1 () 1 ()\nlemma 46 scale 1\nrow 1 () 1 ()\nlemma 47 scale 1\nrow 1 () 1 ()\nlemma 48 scale 1\nrow 1 () 1 ()\nlemma 49 scale 1\nrow 1 () 1 ()\nlemma 50 scale 1\nrow 1 () 1 ()\nlemma 51 scale 1\nrow 1 () 1 ()\ngoal scale 1\nend\n",
+        "7 # block 1 refused C11 row 51 limit 1000000\n",
+    ),
+    (
+        LARGE,
+        b"certificate 2\nclaim 1\ndenominator 1\nlemma 1 scale 1\nrow 1 () 1 ()\nrow 1 (a) 1 ()\nrow 1 (a a) 1 ()\nrow 1 (a a a) 1 ()\nrow 1 (a a a a) 1 ()\nrow 1 (a a a a a) 1 ()\nrow 1 (a a a a a a) 1 ()\nrow 1 (a a a a a a a) 1 ()\nrow 1 (a a a a a a a a) 1 ()\nrow 1 (a a a a a a a a a) 1 ()\nrow 1 (a a a a a a a a a a) 1 ()\nrow 1 (a a a a a a a a a a a) 1 ()\ngoal scale 1\nend\n",
+        "7 # block 1 refused C5 row 11 limit 200000\n",
     ),
 ];
