@@ -557,26 +557,22 @@ pub const MANY_LEMMAS: &[Repeated] = &[
 ];
 
 /// Words of 16 letters in all, 62,500 times over, and one letter more.
-pub const MANY_LETTERS: &[Repeated] = &[
-    (
-        HEAD,
-        Plain("row 1(a a a a a a a a)1(a a a a a a a a)\n"),
-        62_500,
-        "row 1 () 1 ()\nrow 1 () 1 (a)\nend\n",
-        "K5 in line 62505, limit 1000000",
-    ),
-];
+pub const MANY_LETTERS: &[Repeated] = &[(
+    HEAD,
+    Plain("row 1(a a a a a a a a)1(a a a a a a a a)\n"),
+    62_500,
+    "row 1 () 1 ()\nrow 1 () 1 (a)\nend\n",
+    "K5 in line 62505, limit 1000000",
+)];
 
 /// The same of a certificate with lemmas, whose letters count together.
-pub const MANY_LETTERS_OF_LEMMAS: &[Repeated] = &[
-    (
-        "certificate 2\nclaim 1\ndenominator 1\nlemma 1 scale 1\n",
-        Plain("row 1(a a a a a a a a)1(a a a a a a a a)\n"),
-        62_500,
-        "goal scale 1\nrow 1 (a) lemma 1 ()\nend\n",
-        "K5 in line 62506, limit 1000000",
-    ),
-];
+pub const MANY_LETTERS_OF_LEMMAS: &[Repeated] = &[(
+    "certificate 2\nclaim 1\ndenominator 1\nlemma 1 scale 1\n",
+    Plain("row 1(a a a a a a a a)1(a a a a a a a a)\n"),
+    62_500,
+    "goal scale 1\nrow 1 (a) lemma 1 ()\nend\n",
+    "K5 in line 62506, limit 1000000",
+)];
 
 /// Words by the numbers of their letters.
 pub const WORDS: &[(&[u16], &str)] = &[(&[0, 1, 2, 3, 8, 9, 10], "[U] [V] a a' p жар_2 жар_2'")];
