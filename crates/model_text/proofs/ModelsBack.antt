@@ -210,11 +210,11 @@ module _ (ds : List Declaration) (declared : IsDeclared ds) (known : IsTrue (lis
 
   -- ---- the names
 
-  tree_names_ascend : (a : ℕ) (o : Option Matrix) (names : List (List ℕ)) → IsPlaced ds m.modulus a o → Ascend ds (object_count ds + (a + 1)) names → Ascend ds (object_count ds + a) (map name_of (map_trees ds a o) ++ names)
-  tree_names_ascend a None names placed each = ascend_lower ds (object_count ds + a) (object_count ds + (a + 1)) names (omega arith) each
-  tree_names_ascend a (Some x) names placed each =
+  tree_names_ascend : (a : ℕ) (o : Option Matrix) (more_names : List (List ℕ)) → IsPlaced ds m.modulus a o → Ascend ds (object_count ds + (a + 1)) more_names → Ascend ds (object_count ds + a) (map name_of (map_trees ds a o) ++ more_names)
+  tree_names_ascend a None more_names placed each = ascend_lower ds (object_count ds + a) (object_count ds + (a + 1)) more_names (omega arith) each
+  tree_names_ascend a (Some x) more_names placed each =
       let next : object_count ds + (a + 1) ≡ object_count ds + a + 1 = omega arith in
-      rw (named_map a placed.0).named (omega arith, subst (λ (least : ℕ). Ascend ds least names) next each)
+      rw (named_map a placed.0).named (omega arith, subst (λ (least : ℕ). Ascend ds least more_names) next each)
 
   map_names_ascend : (a n : ℕ) → a + n ≤ letter_count ds → Ascend ds (object_count ds + a) (map name_of (flat_map (trees_at ds m.maps) (range_with_len a n)))
   map_names_ascend a zero within = tt
@@ -223,10 +223,10 @@ module _ (ds : List Declaration) (declared : IsDeclared ds) (known : IsTrue (lis
       subst (Ascend ds (object_count ds + a)) (sym (map-append name_of (trees_at ds m.maps a) more))
       (tree_names_ascend a (get_or m.maps a None) (map name_of more) (placed_at a n within) (map_names_ascend (a + 1) n (omega (arith, within))))
 
-  side_names_ascend : (a n : ℕ) (names : List (List ℕ)) → a + n ≡ object_count ds → Ascend ds (object_count ds) names → Ascend ds a (map name_of (map (side_tree ds m.sides) (range_with_len a n)) ++ names)
-  side_names_ascend a zero names all each = ascend_lower ds a (object_count ds) names (omega (arith, all)) each
-  side_names_ascend a (suc n) names all each =
-      rw (object_at a n (omega (arith, all))).named (omega arith, side_names_ascend (a + 1) n names (omega (arith, all)) each)
+  side_names_ascend : (a n : ℕ) (more_names : List (List ℕ)) → a + n ≡ object_count ds → Ascend ds (object_count ds) more_names → Ascend ds a (map name_of (map (side_tree ds m.sides) (range_with_len a n)) ++ more_names)
+  side_names_ascend a zero more_names all each = ascend_lower ds a (object_count ds) more_names (omega (arith, all)) each
+  side_names_ascend a (suc n) more_names all each =
+      rw (object_at a n (omega (arith, all))).named (omega arith, side_names_ascend (a + 1) n more_names (omega (arith, all)) each)
 
   -- ---- what is read of the sides
 
