@@ -57,13 +57,13 @@ placed (d ∷ ds) a within = placed_by d ds a _ refl (λ behind. placed ds (a - 
 
 -- ---- the tables at a declaration between others
 module _ (before : List Declaration) (d : Declaration) (after : List Declaration) where
-  name_is : get_or (map name_of (before ++ d ∷ after)) (length before) [] ≡ name_of d
+  pub name_is : get_or (map name_of (before ++ d ∷ after)) (length before) [] ≡ name_of d
   name_is =
       ap (λ names. get_or names (length before) []) (map-append name_of before (d ∷ after))
       ∙ ap (λ n. get_or (map name_of before ++ name_of d ∷ map name_of after) n []) (sym (length-map before name_of))
       ∙ get_or-append_seam (map name_of before) (name_of d) (map name_of after) []
 
-  object_is : (k : ℕ) → object_at (before ++ d ∷ after) (object_count before + k) ≡ get_or (objects_from (length before) (object_count before) (letter_count before) (d ∷ after)) k no_object
+  pub object_is : (k : ℕ) → object_at (before ++ d ∷ after) (object_count before + k) ≡ get_or (objects_from (length before) (object_count before) (letter_count before) (d ∷ after)) k no_object
   object_is k =
       ap (λ table. get_or table (object_count before + k) no_object) (object_table-append before (d ∷ after))
       ∙ ap (λ n. get_or (object_table before ++ objects_from (length before) (object_count before) (letter_count before) (d ∷ after)) (n + k) no_object) (sym (length-object_table before))
@@ -98,13 +98,13 @@ plus_assoc n m k = omega arith
 next : (x : List ℕ) (xs : List (List ℕ)) → AllPairs (λ y z. y ≢ z) (x ∷ xs) → AllPairs (λ y z. y ≢ z) xs
 next x xs pairs = λ i j d lower within. pairs (suc i) (suc j) d (omega (arith, lower)) (omega (arith, within))
 
-apart : (before : List Declaration) (d : Declaration) (after : List Declaration) → AllPairs (λ x y. x ≢ y) (map name_of (before ++ d ∷ after)) → AllByRecursion (λ e. name_of e ≢ name_of d) before
+pub apart : (before : List Declaration) (d : Declaration) (after : List Declaration) → AllPairs (λ x y. x ≢ y) (map name_of (before ++ d ∷ after)) → AllByRecursion (λ e. name_of e ≢ name_of d) before
 apart [] d after pairs = tt
 apart (e ∷ before) d after pairs =
     let within : suc (length before) < length (name_of e ∷ map name_of (before ++ d ∷ after)) = grind (arith, length-map (before ++ d ∷ after) name_of, length-append before (d ∷ after)) in
     (λ same. pairs 0 (suc (length before)) [] (omega arith) within (same ∙ sym (name_is before d after)), apart before d after (next (name_of e) (map name_of (before ++ d ∷ after)) pairs))
 
-found : (p v a : ℕ) (before : List Declaration) (d : Declaration) (after : List Declaration) → AllByRecursion (λ e. name_of e ≢ name_of d) before
+pub found : (p v a : ℕ) (before : List Declaration) (d : Declaration) (after : List Declaration) → AllByRecursion (λ e. name_of e ≢ name_of d) before
     → lookup (bytes_eq (name_of d)) (names_from p v a (before ++ d ∷ after)) ≡ Some (named_by d (turn d (p + length before) (v + object_count before) (a + letter_count before)))
 found p v a [] d after others =
     let same : bytes_eq (name_of d) (name_of d) ≡ true = (bytes_eq-Decides (name_of d) (name_of d)).1 refl in
@@ -145,7 +145,7 @@ pub record IsSpelled (ds : List Declaration) (a : ℕ) : Type 0 where
   pub name : is_name (letter_name ds a) ≡ true
   pub comes : Comes ds a (named_in ds (letter_name ds a))
 
-named_between : (before : List Declaration) (d : Declaration) (after : List Declaration) → IsTrue (list_all is_named (before ++ d ∷ after)) → is_name (name_of d) ≡ true
+pub named_between : (before : List Declaration) (d : Declaration) (after : List Declaration) → IsTrue (list_all is_named (before ++ d ∷ after)) → is_name (name_of d) ≡ true
 named_between [] d after names = (and_parts (is_named d) (list_all is_named after) names).0
 named_between (e ∷ before) d after names = named_between before d after (and_parts (is_named e) (list_all is_named (before ++ d ∷ after)) names).1
 

@@ -1,11 +1,11 @@
 -- Worked texts, over the objects U and V and maps a : U -> V and b : V -> U.
 use lib.Utf8.{encode}
-use Rattle.std.proofs.Common.{◌≡◌, false, List, [], ◌∷◌, Some, None, Result, Ok, Err, arith, refl, codes}
+use Rattle.std.proofs.Common.{◌≡◌, false, List, [], ◌∷◌, Some, None, Ok, Err, arith, refl, codes}
 use Rattle.std.proofs.lemmas.Fmt.{decimal_digit}
 use Rattle.std.specs.Str.{is_utf8, chars}
 use Rattle.quiver.specs.Declarations.{Declaration, object, arrow}
 use Rattle.matrix_models.specs.declared.model.Model.{Model}
-use Rattle.certificate_text.specs.Fault.{Fault, truncated, no_block}
+use Rattle.certificate_text.specs.Fault.{truncated, no_block}
 use Rattle.certificate_text.specs.Tokens.{tokens_of}
 use Rattle.model_text.specs.ModelBlocks.{side, matrix, entry_line}
 use Rattle.model_text.specs.Reading.{all_models}

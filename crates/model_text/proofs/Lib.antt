@@ -16,3 +16,8 @@ mod EachText
 mod Answered
 mod ModelValues
 mod Examples
+mod ModelsJoined
+mod ObjectNames
+mod MatricesBack
+mod NamesApart
+mod ModelsBack

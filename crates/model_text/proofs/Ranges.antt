@@ -1,5 +1,5 @@
 -- Texts for numbers that follow one another.
-use Rattle.std.proofs.Common.{◌≡◌, ◌+◌, ℕ, zero, suc, List, [], ◌∷◌, ◌++◌, arith, refl, ap, ◌∙◌, zero-add}
+use Rattle.std.proofs.Common.{◌≡◌, ◌+◌, ℕ, zero, suc, List, [], ◌∷◌, ◌++◌, arith, refl, ap, ◌∙◌, subst, zero-add}
 use Rattle.std.specs.List.{flat_map, range_with_len}
 use Rattle.std.proofs.lemmas.List.{append-nil, append_assoc}
 use Rattle.std.proofs.lemmas.Grind.{flat_map-append}
@@ -21,3 +21,15 @@ text_put f n front before after before_is after_is =
     let more : range_with_len 0 (n + 1) ≡ range_with_len 0 n ++ n ∷ [] = range_more 0 n ∙ ap (λ k. range_with_len 0 n ++ k ∷ []) (zero-add n) in
     rw (after_is, before_is, more, flat_map-append f (range_with_len 0 n) (n ∷ []), append-nil (f n))
     (append_assoc front (flat_map f (range_with_len 0 n)) (f n))
+
+-- numbers behind others
+pub range-append : (a n m : ℕ) → range_with_len a n ++ range_with_len (a + n) m ≡ range_with_len a (n + m)
+range-append a zero m =
+    let same : a + 0 ≡ a = omega arith in
+    let count : m ≡ 0 + m = omega arith in
+    λ j. range_with_len (same j) (count j)
+range-append a (suc n) m =
+    let next : a + 1 + n ≡ a + suc n = omega arith in
+    let count : suc (n + m) ≡ suc n + m = omega arith in
+    ap (λ xs. a ∷ xs) (subst (λ (b : ℕ). range_with_len (a + 1) n ++ range_with_len b m ≡ range_with_len (a + 1) (n + m)) next (range-append (a + 1) n m))
+    ∙ ap (range_with_len a) count

@@ -5,3 +5,4 @@ pub mod EachText
 pub mod Written
 pub mod Reading
 pub mod Views
+pub mod Back

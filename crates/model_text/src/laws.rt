@@ -1,4 +1,5 @@
 //! The laws of models in evidence text. They have nothing to run.
+ghost use Rattle.model_text.specs.Back.{ModelsAreReadBack};
 ghost use Rattle.model_text.specs.EachText.{EachTextIsRead, ModelsAreUnique, FirstFaultIsUnique, ModelsHaveNoFault};
 
 /// Each text has models, or a first fault.
@@ -19,4 +20,10 @@ pub fn first_fault_is_unique()
 /// A text that has models has no fault.
 pub fn models_have_no_fault()
     ensures { ModelsHaveNoFault }
+{}
+
+/// The law that a model that is written is read as it is, whatever whole lines stand before it and whatever follows. It has
+/// nothing to run.
+pub fn models_are_read_back()
+    ensures { ModelsAreReadBack }
 {}

@@ -1,0 +1,71 @@
+-- What the name of an object stands for, and that of a declared map.
+use Rattle.std.proofs.Common.{◌≡◌, ◌≢◌, ◌<◌, ◌+◌, ℕ, zero, suc, true, List, [], ◌∷◌, ◌++◌, Some, arith, refl, sym, ap, ◌∙◌, subst, map, IsTrue}
+use Rattle.std.specs.List.{AllPairs, list_all}
+use Rattle.quiver.specs.declared.named.Named.TheVariants.{Object, Map}
+use Rattle.quiver.specs.Declarations.{Declaration, object, arrow, name_of, object_count, name_at, object_name, letter_name, named_in, IsDeclared}
+use Rattle.quiver.proofs.Found.{is_named as is_found}
+use Rattle.certificate_text.specs.Letters.{is_name}
+use Rattle.certificate_text.specs.Back.{is_named}
+use Rattle.certificate_text.proofs.LetterNames.{name_is, object_is, apart, found, named_between, letter_is_spelled}
+use Rattle.model_text.specs.Models.{HasMap}
+
+-- ---- objects
+
+record IsPlacedObject (ds : List Declaration) (v : ℕ) : Type 0 where
+  before : List Declaration
+  name : List ℕ
+  after : List Declaration
+  whole : ds ≡ before ++ object name ∷ after
+  number : v ≡ object_count before
+
+placed : (ds : List Declaration) (v : ℕ) → v < object_count ds → IsPlacedObject ds v
+placed [] v within = absurd (omega (arith, within))
+placed (object name ∷ ds) zero within = record { before = []; name = name; after = ds; whole = refl; number = refl }
+placed (object name ∷ ds) (suc v) within =
+    let there = placed ds v (omega (arith, within)) in
+    record { before = object name ∷ there.before; name = there.name; after = there.after; whole = ap (λ es. object name ∷ es) there.whole; number = omega (arith, there.number) }
+placed (arrow name x y selfmade ∷ ds) v within =
+    let there = placed ds v (omega (arith, within)) in
+    record { before = arrow name x y selfmade ∷ there.before; name = there.name; after = there.after; whole = ap (λ es. arrow name x y selfmade ∷ es) there.whole; number = omega (arith, there.number) }
+
+-- the name of an object is a name, and stands for it
+pub record IsObjectName (ds : List Declaration) (v : ℕ) : Type 0 where
+  pub name : is_name (object_name ds v) ≡ true
+  pub named : named_in ds (object_name ds v) ≡ Some (Object (record { 0 = v }))
+
+named_by_place : (before : List Declaration) (name : List ℕ) (after : List Declaration) → AllPairs (λ x y. x ≢ y) (map name_of (before ++ object name ∷ after))
+    → IsTrue (list_all is_named (before ++ object name ∷ after)) → IsObjectName (before ++ object name ∷ after) (object_count before)
+named_by_place before name after pairs names =
+    let whole = before ++ object name ∷ after in
+    let turned : object_count before ≡ object_count before + 0 = omega arith in
+    let start : 0 + object_count before ≡ object_count before = omega arith in
+    let is : object_name whole (object_count before) ≡ name =
+    ap (object_name whole) turned ∙ ap (λ e. name_at whole e.declaration) (object_is before (object name) after 0) ∙ name_is before (object name) after in
+    record {
+      name = rw is (named_between before (object name) after names);
+      named = rw is (found 0 0 0 before (object name) after (apart before (object name) after pairs) ∙ ap (λ (k : ℕ). Some (Object (record { 0 = k }))) start);
+    }
+
+pub object_is_named : (ds : List Declaration) (v : ℕ) → IsDeclared ds → IsTrue (list_all is_named ds) → v < object_count ds → IsObjectName ds v
+object_is_named ds v declared names within =
+    let there = placed ds v within in
+    subst (IsObjectName ds) (sym there.number)
+    (subst (λ (es : List Declaration). IsObjectName es (object_count there.before)) (sym there.whole)
+    (named_by_place there.before there.name there.after
+    (subst (λ (es : List Declaration). AllPairs (λ x y. x ≢ y) (map name_of es)) there.whole declared.distinct)
+    (subst (λ (es : List Declaration). IsTrue (list_all is_named es)) there.whole names)))
+
+-- ---- declared maps
+
+-- the name of a letter is a name, and stands for it
+pub record IsMapName (ds : List Declaration) (a : ℕ) : Type 0 where
+  pub name : is_name (letter_name ds a) ≡ true
+  pub named : named_in ds (letter_name ds a) ≡ Some (Map (record { 0 = a }))
+
+pub map_is_named : (ds : List Declaration) (a : ℕ) → IsDeclared ds → IsTrue (list_all is_named ds) → HasMap ds a → IsMapName ds a
+map_is_named ds a declared names has =
+    let is = is_found ds has.0 (Map (record { 0 = a })) has.1 in
+    record {
+      name = (letter_is_spelled ds a declared names is.0).name;
+      named = ap (named_in ds) is.1 ∙ has.1;
+    }

@@ -1,0 +1,21 @@
+-- What is read of models that are written, whatever stands around them.
+use Rattle.std.specs.Prelude.{ℕ, ◌<◌, ◌+◌, ◌^◌, List, ◌∷◌, ◌++◌, length, IsTrue}
+use Rattle.std.specs.List.{list_all}
+use Rattle.quiver.specs.Declarations.{Declaration, IsDeclared}
+use Rattle.matrix_models.specs.declared.model.Model.{Model}
+use Rattle.certificate_text.specs.Back.{is_whole, is_named}
+use Rattle.model_text.specs.Models.{HasModels, IsModel}
+use Rattle.model_text.specs.Written.{model_text}
+
+-- a model of the declarations, with a claim within its limit
+pub record IsWritableModel (ds : List Declaration) (m : Model) : Type 0 where
+  pub claim : m.claim < 2 ^ 32
+  pub model : IsModel ds m
+
+-- A model that is written between whole lines and other lines is read as it is, behind the models that those before it have and
+-- before those that the others have.
+abbrev pub ModelsAreReadBack : Type 0
+ModelsAreReadBack = (ds : List Declaration) (m : Model) (before after : List ℕ) (first last : List Model)
+    → IsDeclared ds → IsTrue (list_all is_named ds) → IsWritableModel ds m
+    → IsTrue (is_whole before) → HasModels ds before first → HasModels ds after last → length first + length last < 100
+    → HasModels ds (before ++ model_text ds m ++ after) (first ++ m ∷ last)
