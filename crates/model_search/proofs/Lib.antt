@@ -7,3 +7,4 @@ pub mod Judged
 pub mod EntryCounts
 pub mod Streams
 pub mod EntryPlaces
+pub mod Affine

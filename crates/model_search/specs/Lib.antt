@@ -6,3 +6,4 @@ pub mod Listed
 pub mod Shapes
 pub mod Candidates
 pub mod EntryPlaces
+pub mod Unknowns
