@@ -1,3 +1,5 @@
+//! Rules: polynomials with their leading terms.
+
 ghost use Rattle.std.specs.Prelude.{◌≡◌, ◌<◌, length, slice_get, get_or};
 ghost use Rattle.std.specs.List.{All};
 ghost use Rattle.word_core.specs.Letters.{IsOver};

@@ -1,3 +1,5 @@
+//! One step of a reduction: a multiple of a rule is taken away, and a row is added.
+
 ghost use Rattle.std.specs.Prelude.{◌≡◌, ◌<◌, ◌≤◌, ◌<ℤ◌, ◌+◌, ◌^◌, ℕ, pos, map, MatchResult, MatchOption, IfOk, Ok, Some, None};
 ghost use Rattle.std.specs.List.{All};
 ghost use Rattle.coef_int.specs.Range.{IsCoefficient};

@@ -1,3 +1,5 @@
+//! The order of words by the numbers of letters of a block.
+
 ghost use Rattle.std.specs.Prelude.{◌≡◌, ℕ, length, replicate, set, count_by, MatchResult, IfOk, OnOk, Some, None, true, false};
 ghost use Rattle.word_orders.specs.Faults.{block_fault, Explains, HasNoFault};
 ghost use Rattle.word_orders.specs.Tables.{is_in, fault_in_block};

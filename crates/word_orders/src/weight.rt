@@ -1,3 +1,5 @@
+//! The order of words by the sums of their letters' weights.
+
 ghost use Rattle.std.specs.Prelude.{◌≡◌, ℕ, length, replicate, set, sum_by, MatchResult, IfOk, OnOk, Some, None};
 ghost use Rattle.word_orders.specs.Faults.{entry_fault, Explains, HasNoFault};
 ghost use Rattle.word_orders.specs.Tables.{weight_in, fault_in};
