@@ -8,7 +8,10 @@ pub mod Values
 pub mod Unique
 pub mod Words
 pub mod Distinct
+pub mod Updates
+pub mod TableSums
 pub mod Tables
+pub mod RunningSums
 pub mod CollectedTerms
 pub mod Divisors
 pub mod Kept

@@ -1,11 +1,15 @@
-ghost use Rattle.std.specs.Prelude.{◌≡◌, IfOk, MatchResult, Ok};
+//! Polynomials between words, and products of polynomials.
+ghost use Rattle.std.specs.Prelude.{◌≡◌, ◌≤◌, List, [], length, IfOk, IfErr, MatchResult, Ok};
+ghost use Rattle.std.specs.List.{All};
 ghost use Rattle.coef_int.specs.Range.{IsCoefficient};
-ghost use Rattle.definitions.specs.Poly.{SamePolynomial, poly_between, poly_product};
+ghost use Rattle.definitions.specs.Poly.{Term, SamePolynomial, poly_between, poly_product};
+ghost use Rattle.nc_polynomial.specs.Arithmetic.{sum_result};
 ghost use Rattle.nc_polynomial.specs.Faults.{Explains};
 ghost use Rattle.nc_polynomial.specs.Product.{moved_result, product_step, product_result};
+ghost use Rattle.nc_polynomial.specs.Shape.{IsShaped};
 
 use crate::size::check_moved;
-use crate::{Poly, PolyFault, merge_terms, shift_terms};
+use crate::{Poly, PolyFault, RunningSum, shift_terms};
 use lists::Listing;
 use std::alloc::{AllocError, Global};
 use word_core::Word;
@@ -30,25 +34,32 @@ impl Poly {
         ensures exact { MatchResult result (λ r. product_result self.now.terms right.now.terms ≡ Ok r.terms) (Explains (product_result self.now.terms right.now.terms)) }
         ensures product { IfOk result (λ r. SamePolynomial r.terms (poly_product self.now.terms right.now.terms)) }
     {
-        let mut sum = Poly::zero(self.terms.allocator());
+        let alloc = self.terms.allocator();
+        let mut sum = RunningSum::new(alloc);
         for term in self.terms.as_slice() {
-            sum = add_moved(sum, term.0, &term.1, right)?;
+            sum.add_moved(term.0, &term.1, right)?;
         }
-        Ok(sum)
+        Ok(sum.into_poly(alloc)?)
     }
 }
 
-// The sum and a term's multiple of the right factor. The sum is given away.
-fn add_moved(sum: Poly, coefficient: i128, word: &Word, right: &Poly) -> Result<Poly, PolyFault>
+// A coefficient times a polynomial that is moved behind a word: what a step of a product adds to the sum so far.
+pub(crate) fn moved_multiple(
+    coefficient: i128,
+    word: &Word,
+    poly: &Poly,
+) -> Result<Listing<(i128, Word)>, PolyFault>
     requires { IsCoefficient coefficient }
-    ensures { MatchResult result (λ r. product_step sum.terms (coefficient, word.now) right.now.terms ≡ Ok r.terms) (Explains (product_step sum.terms (coefficient, word.now) right.now.terms)) }
+    ensures shaped { IfOk result IsShaped }
+    ensures short { IfOk result (All (λ t. length t.1 ≤ 500)) }
+    ensures step { IfOk result (λ v. (sum : List Term) → IsShaped sum → product_step sum (coefficient, word.now) poly.now.terms ≡ sum_result sum v) }
+    ensures fault { IfErr result (λ e. (sum : List Term) → IsShaped sum → Explains (product_step sum (coefficient, word.now) poly.now.terms) e) }
 {
-    let alloc = right.terms.allocator();
-    let terms = right.terms.as_slice();
+    let alloc = poly.terms.allocator();
+    let terms = poly.terms.as_slice();
     let empty = Word::new(alloc);
     check_moved(word, terms, &empty)?;
-    let multiple = shift_terms(alloc, coefficient, word, terms, &empty)?;
-    Poly::from_descending(merge_terms(alloc, sum.terms, multiple)?)
+    shift_terms(alloc, coefficient, word, terms, &empty)
 }
 
 // The terms with the same words on the left and on the right of each word.

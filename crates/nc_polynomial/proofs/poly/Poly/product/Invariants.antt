@@ -1,6 +1,10 @@
 use Rattle.std.proofs.Common.{◌≡◌, [], drop}
 use Rattle.nc_polynomial.specs.Product.{product_from}
+use Rattle.nc_polynomial.specs.Shape.{IsCanonical}
 use Rattle.nc_polynomial.proofs.poly.Poly.product.Given as goal
 
 abbrev pub invariant-loop-term : goal.invariant-loop-term
-invariant-loop-term l = product_from l.sum.terms (drop l.term-index l.self.terms) l.right.terms ≡ product_from [] l.self.terms l.right.terms
+invariant-loop-term l = record {
+  rest : product_from l.sum (drop l.term-index l.self.terms) l.right.terms ≡ product_from [] l.self.terms l.right.terms;
+  canonical : IsCanonical l.sum;
+}
