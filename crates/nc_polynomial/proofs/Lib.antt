@@ -19,6 +19,7 @@ pub mod Units
 pub mod AlignedMultiples
 pub mod Around
 pub mod Products
+pub mod OneTerm
 pub mod Adjoints
 pub mod Rests
 mod Examples

@@ -1,9 +1,10 @@
 -- A table to which descending terms are added, as a sum of two descending lists.
-use Rattle.std.proofs.Common.{◌≡◌, ℕ, ◌<◌, ◌≤◌, ℤ, ◌+ℤ◌, Bool, true, false, cond, ◌||◌, nat_lt, List, [], ◌∷◌, ◌++◌, length, None, Ok, Err, sym, refl, ap, ap₂, subst, ◌∙◌, arith}
+use Rattle.std.proofs.Common.{◌≡◌, ◌≢◌, ℕ, ◌<◌, ◌≤◌, ℤ, pos, ◌+ℤ◌, Bool, true, false, cond, ◌||◌, nat_lt, List, [], ◌∷◌, ◌++◌, length, None, Ok, Err, sym, refl, ap, ap₂, subst, ◌∙◌, arith}
 use Rattle.std.proofs.lemmas.Bool.Decides.{nat_tests}
 use Rattle.std.specs.BTreeMap.{BTreeMap, IsOrdered}
 use Rattle.std.specs.List.{All, AllByRecursion}
-use Rattle.std.proofs.lemmas.List.Elements.{recursion_from_All}
+use Rattle.std.proofs.Math.IntN.{+ℤ_idl}
+use Rattle.std.proofs.lemmas.List.Elements.{All-from_recursion, recursion_from_All}
 use Rattle.coef_int.specs.Range.{IsCoefficient}
 use Rattle.coef_int.specs.Operations.{sum_of, first_overflow}
 use Rattle.word_core.specs.Canonical.{word_cmp}
@@ -11,11 +12,11 @@ use Rattle.definitions.specs.Poly.{Term, coefficient_of}
 use Rattle.nc_polynomial.specs.declared.fault.PolyFault.{PolyFault}
 use Rattle.nc_polynomial.specs.Arithmetic.{sum_result}
 use Rattle.nc_polynomial.specs.Collected.{coefficient_in}
-use Rattle.nc_polynomial.specs.Faults.{Explains, checked, unless_overflow, has_long_word, size_fault}
+use Rattle.nc_polynomial.specs.Faults.{Explains, checked, unless_overflow, sized, has_long_word, size_fault}
 use Rattle.nc_polynomial.specs.Running.{IsRunning, terms_in}
-use Rattle.nc_polynomial.specs.Shape.{IsShaped}
+use Rattle.nc_polynomial.specs.Shape.{IsShaped, IsCanonical}
 use Rattle.nc_polynomial.specs.Terms.{aligned, added, sums}
-use Rattle.nc_polynomial.proofs.Chains.{ends, value_is, explains-first}
+use Rattle.nc_polynomial.proofs.Chains.{ends, value_is, explains-first, first-fits}
 use Rattle.nc_polynomial.proofs.Shapes.{Descends, recursion_from_IsDescending, all-aligned, all-totals}
 use Rattle.nc_polynomial.proofs.Tables.{shaped-running, descending-table, nonzero-table, coefficient_of-table}
 use Rattle.nc_polynomial.proofs.TableSums.{sums_with, first-sums_with, sums-with_same, added_is, sums-next}
@@ -80,3 +81,20 @@ module _ (p q v : List Term) (short_p : All (λ t. length t.1 ≤ 500) p) (short
     where
       within : (n : ℕ) → n ≤ 20000 → nat_lt 20000 n ≡ false
       within n k = grind (arith, nat_tests)
+
+-- ---- a sum that begins with zero
+fits-alone : (q : List Term) → AllByRecursion (λ t. IsCoefficient t.0) q → first_overflow (sums [] q) ≡ None
+fits-alone [] h = refl
+fits-alone (y ∷ q) h = first-fits (sum_of (pos 0) y.0) (sums [] q) (subst IsCoefficient (sym (+ℤ_idl y.0)) h.0) ∙ fits-alone q h.1
+
+sum_alone : (q : List Term) → IsShaped q → checked (sums [] q) (added [] q) ≡ Ok q
+sum_alone q h =
+    let down = recursion_from_IsDescending q h.descending in
+    ap (λ o. unless_overflow o (Ok (added [] q))) (fits-alone q (recursion_from_All (λ (t : Term). IsCoefficient t.0) q h.in_range))
+    ∙ ap Ok (added_is [] q q tt down down (recursion_from_All (λ (t : Term). t.0 ≢ pos 0) q h.nonzero) (λ w. sym (+ℤ_idl (coefficient_of q w))))
+
+pub sum_alone_sized : (q : List Term) → IsShaped q → sum_result [] q ≡ sized q
+sum_alone_sized q h = ends (sums [] q) (added [] q) q (sum_alone q h)
+
+pub sum_with_none : (q : List Term) → IsCanonical q → sum_result [] q ≡ Ok q
+sum_with_none q h = few_enough [] q q (All-from_recursion (λ (t : Term). length t.1 ≤ 500) [] tt) h.short (sum_alone q h.shaped) h.few

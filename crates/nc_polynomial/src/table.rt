@@ -13,13 +13,12 @@ ghost use Rattle.nc_polynomial.specs.Shape.{IsShaped};
 ghost use Rattle.nc_polynomial.specs.Terms.{added, sums};
 
 use crate::push::push_nonzero;
+use crate::size::TERM_LIMIT;
 use crate::{PolyFault, SizeFault};
 use lists::Listing;
 use std::alloc::{AllocError, Global};
 use std::collections::BTreeMap;
 use word_core::Word;
-
-const TERM_LIMIT: usize = 20_000;
 
 // Adds to the coefficient of a word, and takes the word out where that becomes zero.
 pub(crate) fn add_term(
