@@ -1,5 +1,5 @@
 -- Terms added to a table one by one: the first overflow and the sum are those of two descending lists.
-use Rattle.std.proofs.Common.{◌≡◌, ◌≢◌, ℕ, ℤ, pos, ◌+ℤ◌, List, [], ◌∷◌, ◌++◌, map, cond, None, Some, Ok, sym, refl, ap, ap₂, subst, ◌∙◌, arith}
+use Rattle.std.proofs.Common.{◌≡◌, ◌≢◌, ℕ, ℤ, pos, ◌+ℤ◌, List, [], ◌∷◌, ◌++◌, map, cond, Some, sym, refl, ap, ap₂, subst, ◌∙◌, arith}
 use Rattle.std.proofs.lemmas.Int.{ints}
 use Rattle.std.proofs.Math.IntN.{+ℤ_idr}
 use Rattle.std.specs.List.{AllByRecursion}
@@ -15,7 +15,6 @@ use Rattle.definitions.specs.Poly.{Term, coefficient_of}
 use Rattle.definitions.proofs.Linear.{coefficient_other}
 use Rattle.definitions.proofs.Coefficients.{coefficient_of-append}
 use Rattle.nc_polynomial.specs.Terms.{only_right, aligned, aligned_at, total_operations, by_order, added, sums}
-use Rattle.nc_polynomial.specs.Faults.{checked, unless_overflow}
 use Rattle.nc_polynomial.proofs.Chains.{first-fits}
 use Rattle.nc_polynomial.proofs.CoefficientLaws.{coefficient_of-added}
 use Rattle.nc_polynomial.proofs.Distinct.{none_listed, first_coefficient, distinct-descending, apart-before}

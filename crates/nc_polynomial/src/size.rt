@@ -7,6 +7,7 @@ use crate::{PolyFault, SizeFault};
 use word_core::Word;
 
 pub(crate) const LETTER_LIMIT: usize = 500;
+
 pub(crate) const TERM_LIMIT: usize = 20_000;
 
 /// Refuses a polynomial in which a word has more than 500 letters, or else one of more than 20,000 terms.

@@ -1,4 +1,4 @@
-use Rattle.std.proofs.Common.{rules, ◌≡◌, [], Ok, Err, MatchResult}
+use Rattle.std.proofs.Common.{rules, ◌≡◌, [], Ok, MatchResult}
 use Rattle.definitions.specs.Poly.{poly_between}
 use Rattle.nc_polynomial.specs.Terms.{products, shifted}
 use Rattle.nc_polynomial.specs.Faults.{checked, sized, Explains}
