@@ -1,5 +1,5 @@
 -- Sums of summands, which begin with zero.
-use Rattle.std.proofs.Common.{◌≡◌, ◌≤◌, true, false, Bool, List, [], ◌∷◌, ◌++◌, ◌+◌, length, Ok, Err, refl, sym, ap, ◌∙◌, arith}
+use Rattle.std.proofs.Common.{◌≡◌, ◌≤◌, true, false, Bool, List, [], ◌∷◌, ◌++◌, ◌+◌, length, Ok, refl, sym, ap, ◌∙◌, arith}
 use Rattle.std.proofs.lemmas.List.{length-append}
 use Rattle.definitions.specs.Poly.{Poly}
 use Rattle.nc_polynomial.specs.declared.fault.PolyFault.{PolyFault}
