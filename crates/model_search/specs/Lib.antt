@@ -5,5 +5,7 @@ pub mod Laws
 pub mod Listed
 pub mod Shapes
 pub mod Candidates
+pub mod SearchLaws
+pub mod Searches
 pub mod EntryPlaces
 pub mod Unknowns
