@@ -8,12 +8,15 @@ mod entries;
 mod given_values;
 mod laws;
 mod maps;
+mod one_candidate;
+mod plan;
 mod refusal;
 mod representation;
 mod shape_fault;
 mod shapes;
 mod value;
 
+pub use one_candidate::candidate;
 pub use candidate_count::candidates;
 pub use confirm::confirm_model;
 pub use laws::{
