@@ -6,6 +6,7 @@ pub mod Listed
 pub mod Shapes
 pub mod Candidates
 pub mod SearchLaws
-pub mod Searches
 pub mod EntryPlaces
 pub mod Unknowns
+pub mod Plans
+pub mod Searches

@@ -6,14 +6,17 @@ use Rattle.matrix_models.specs.declared.model.Model.{Model}
 use Rattle.adjoint_rules.specs.declared.parts.Shape.{Shape}
 use Rattle.adjoint_rules.specs.declared.problem.Problem.{Problem}
 use Rattle.model_search.specs.declared.found.Found.{Found}
+use Rattle.model_search.specs.declared.plan.Plan.{Plan}
 use Rattle.model_search.specs.Models.{IsClaimNumber}
+use Rattle.model_search.specs.Plans.{IsPlan}
 use Rattle.model_search.specs.Candidates.{IsShapeOf, candidate_count, Breaks}
 
--- The number of a claim, and that of a candidate of the shape with this number.
-pub record CanBeTested (problem : Problem) (claim number k : ℕ) : Type 0 where
+-- The number of a claim, and that of a candidate of the plan's shape.
+pub record CanBeTested (problem : Problem) (claim : ℕ) (plan : Plan) (k : ℕ) : Type 0 where
   pub claim_is : IsClaimNumber problem claim
+  pub plan_is : IsPlan problem plan
   pub shape : Shape
-  pub numbered : IsShapeOf problem number shape
+  pub numbered : IsShapeOf problem plan.number shape
   pub in_range : k < candidate_count (quiver_of problem.parts.quiver) shape
 
 -- the candidate with this number of the shape doesn't break the claim

@@ -9,6 +9,7 @@ mod found;
 mod given_values;
 mod laws;
 mod maps;
+mod one_candidate;
 mod plan;
 mod refusal;
 mod representation;
@@ -26,6 +27,7 @@ pub use laws::{
     refuted_claims_do_not_follow, refuting_model_is_not_refused,
     refuting_models_are_counterexamples,
 };
+pub use one_candidate::candidate;
 pub use refusal::ModelRefusal;
 pub use search::search;
 pub use shape_fault::ShapeFault;

@@ -5,12 +5,14 @@ ghost use Rattle.quiver.specs.Declarations.{quiver_of};
 ghost use Rattle.adjoint_rules.specs.declared.parts.Shape.{Shape as ShapeValue};
 ghost use Rattle.model_search.specs.Models.{IsClaimNumber};
 ghost use Rattle.model_search.specs.Candidates.{IsShapeOf, candidate_count, IsLeastBreaking, NoneBreaks};
+ghost use Rattle.model_search.specs.Plans.{IsPlan};
 ghost use Rattle.model_search.specs.Searches.{CanBeTested, NoneBreaksAt, IsTested, IsFirstFrom, IsFirstFound};
 
 use crate::Found;
 use crate::candidate_count::candidates;
 use crate::confirm::refutes;
-use crate::plan::{Plan, candidate_by, plan_of};
+use crate::one_candidate::candidate_by;
+use crate::plan::{Plan, plan_of};
 use adjoint_rules::Problem;
 use in_order_parallel::{Gate, Job, map_in_order};
 use std::alloc::{AllocError, Global};
@@ -34,7 +36,7 @@ impl Job for Tester<'_> {
 
     type Out = Result<Option<Found>, AllocError>;
 
-    ghost can_go = { λ job k. CanBeTested job.problem.now job.claim job.plan.now.number k };
+    ghost can_go = { λ job k. CanBeTested job.problem.now job.claim job.plan.now k };
 
     ghost gives = { λ job k answer. IfOk answer (IsTested job.problem.now job.claim job.seed job.plan.now.number k) };
 
@@ -45,7 +47,7 @@ impl Job for Tester<'_> {
 
 // The candidate with this number, where it breaks the claim.
 fn test(tester: &Tester, candidate: u32) -> Result<Option<Found>, AllocError>
-    requires { CanBeTested tester.now.problem.now tester.now.claim tester.now.plan.now.number candidate }
+    requires { CanBeTested tester.now.problem.now tester.now.claim tester.now.plan.now candidate }
     ensures { IfOk result (IsTested tester.now.problem.now tester.now.claim tester.now.seed tester.now.plan.now.number candidate) }
 {
     let problem = tester.problem;
@@ -97,7 +99,7 @@ fn search_block<R: Threads + Sync, G: Gate + Sync>(
     gate: &G,
 ) -> Result<Option<Found>, AllocError>
     requires fits { first + count < 2 ^ 32 }
-    requires inside { (k : ℕ) → k < first + count → CanBeTested tester.now.problem.now tester.now.claim tester.now.plan.now.number k }
+    requires inside { (k : ℕ) → k < first + count → CanBeTested tester.now.problem.now tester.now.claim tester.now.plan.now k }
     requires some_worker { 0 < workers }
     requires at_most_64 { workers ≤ 64 }
     ensures { IfOk result (λ found. MatchOption found
@@ -117,8 +119,7 @@ fn search_shape<R: Threads + Sync, G: Gate + Sync>(
     gate: &G,
 ) -> Result<Option<Found>, AllocError>
     requires claim { IsClaimNumber tester.now.problem.now tester.now.claim }
-    requires least { 1 ≤ tester.now.plan.now.number }
-    requires most { tester.now.plan.now.number ≤ length tester.now.problem.now.parts.shapes }
+    requires plan { IsPlan tester.now.problem.now tester.now.plan.now }
     requires some_worker { 0 < workers }
     requires at_most_64 { workers ≤ 64 }
     ensures { IfOk result (λ found. MatchOption found
