@@ -1,8 +1,9 @@
 -- The answers to the tests of candidates in a row, and the first of them that has a model.
-use Rattle.std.proofs.Common.{◌≡◌, ℕ, zero, suc, ◌+◌, ◌<◌, ◌≤◌, List, [], ◌∷◌, ◌++◌, Option, Some, None, Result, Ok, IfOk, MatchOption, ◌⊎◌, inl, inr, refl, sym, subst, arith}
+use Rattle.std.proofs.Common.{◌≡◌, ℕ, zero, suc, ◌+◌, ◌<◌, ◌≤◌, List, [], ◌∷◌, ◌++◌, Option, Some, None, Result, Ok, IfOk, MatchOption, ◌⊎◌, inl, inr, refl, sym, ap, subst, ◌∙◌, append_assoc, arith}
 use Rattle.std.specs.List.{All, AllByRecursion, AllZip, range_with_len}
 use Rattle.std.proofs.lemmas.Bool.{cases_eq}
-use Rattle.std.proofs.lemmas.List.Elements.{recursion_from_All}
+use Rattle.std.proofs.lemmas.List.{append-nil}
+use Rattle.std.proofs.lemmas.List.Elements.{recursion_from_All, All-nil, All-push}
 use Rattle.adjoint_rules.specs.declared.problem.Problem.{Problem}
 use Rattle.model_search.specs.declared.found.Found.{Found}
 use Rattle.model_search.specs.Searches.{NoneBreaksAt, IsFoundAt, IsTested, IsFirstFrom, IsFirstFound}
@@ -62,3 +63,28 @@ module _ (problem : Problem) (claim seed number : ℕ) {E : Type 0} where
       → MatchOption found (All IsNone answers) (IsFirstFound answers) → BlockAnswer first n found
   block_answer answers first n tells None none = none_found answers first n tells (recursion_from_All IsNone answers none)
   block_answer answers first n tells (Some f) is = found_behind f is.after is.before first n (subst (AllZip Tells (range_with_len first n)) is.splits tells) (recursion_from_All IsNone is.before is.none)
+
+-- ---- going through the answers
+-- what is left stands behind answers that are None
+pub record IsPassed {X E : Type 0} (answers rest : List (Result (Option X) E)) : Type 0 where
+  pub before : List (Result (Option X) E)
+  pub splits : answers ≡ before ++ rest
+  pub none : All (λ answer. answer ≡ Ok None) before
+
+module _ {X E : Type 0} where
+  pub passed_none : (answers rest : List (Result (Option X) E)) → rest ≡ answers → IsPassed answers rest
+  passed_none answers rest same = record { before = []; splits = sym same; none = All-nil (λ answer. answer ≡ Ok None) }
+
+  pub passed_one : (answers rest more : List (Result (Option X) E)) → IsPassed answers rest → rest ≡ Ok None ∷ more → IsPassed answers more
+  passed_one answers rest more passed next = record {
+    before = passed.before ++ Ok None ∷ [];
+    splits = passed.splits ∙ ap (λ xs. passed.before ++ xs) next ∙ sym (append_assoc passed.before (Ok None ∷ []) more);
+    none = All-push (λ answer. answer ≡ Ok None) passed.before (Ok None) passed.none refl;
+  }
+
+  pub found_next : (answers rest more : List (Result (Option X) E)) (x : X) → IsPassed answers rest → rest ≡ Ok (Some x) ∷ more → IsFirstFound answers x
+  found_next answers rest more x passed next = record { before = passed.before; after = more; splits = passed.splits ∙ ap (λ xs. passed.before ++ xs) next; none = passed.none }
+
+  pub passed_all : (answers rest : List (Result (Option X) E)) → IsPassed answers rest → rest ≡ [] → All (λ answer. answer ≡ Ok None) answers
+  passed_all answers rest passed empty =
+      subst (All (λ answer. answer ≡ Ok None)) (sym (passed.splits ∙ ap (λ xs. passed.before ++ xs) empty ∙ append-nil passed.before)) passed.none

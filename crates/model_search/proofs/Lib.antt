@@ -8,8 +8,6 @@ pub mod EntryCounts
 pub mod Streams
 pub mod EntryPlaces
 pub mod Affine
-pub mod GivenModels
-pub mod CandidateLaws
 pub mod Breaking
 pub mod SearchAnswers
 pub mod Blocks

@@ -2,6 +2,7 @@
 #![tactic(auto)]
 
 mod candidate_count;
+mod candidate_search;
 mod confirm;
 mod drawn_values;
 mod entries;
@@ -13,12 +14,12 @@ mod one_candidate;
 mod plan;
 mod refusal;
 mod representation;
-mod search;
 mod shape_fault;
 mod shapes;
 mod value;
 
 pub use candidate_count::{all_candidates, candidates};
+pub use candidate_search::search;
 pub use confirm::confirm_model;
 pub use found::Found;
 pub use laws::{
@@ -29,6 +30,5 @@ pub use laws::{
 };
 pub use one_candidate::candidate;
 pub use refusal::ModelRefusal;
-pub use search::search;
 pub use shape_fault::ShapeFault;
 pub use shapes::check_shape;
