@@ -8,3 +8,4 @@ pub mod Candidates
 pub mod EntryPlaces
 pub mod Unknowns
 pub mod Plans
+pub mod Equations
