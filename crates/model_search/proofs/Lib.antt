@@ -14,3 +14,11 @@ pub mod CandidateModels
 pub mod AffineMatrices
 pub mod AffineArrows
 pub mod AffineValues
+pub mod LinearRows
+pub mod SolvedEntries
+pub mod DistinctEntries
+pub mod GeneratorEntries
+pub mod DrawnEntries
+pub mod SystemSolutions
+pub mod FiniteSearch
+pub mod CandidateLaws

@@ -1,5 +1,5 @@
 -- A number that is affine in values is zero modulo m exactly where these meet the equation that its values at zero and at the units give.
-use Rattle.std.proofs.Common.{◌≡◌, ℕ, ◌+◌, ◌-◌, ◌*◌, ◌%◌, ◌<◌, ◌≤◌, List, length, get_or, cond, eqb, ◌⊎◌, inl, inr, refl, sym, ap, ap₂, subst, ◌∙◌, arith, eq-eqb, ne_eqb, mul_comm, one-mul, mul-zero, zero-mul}
+use Rattle.std.proofs.Common.{◌≡◌, ℕ, ◌+◌, ◌-◌, ◌*◌, ◌%◌, ◌<◌, ◌≤◌, Bool, true, false, List, length, get_or, cond, eqb, ◌⊎◌, inl, inr, refl, sym, ap, ap₂, subst, ◌∙◌, arith, eq-eqb, ne_eqb, mul_comm, one-mul, mul-zero, zero-mul}
 use Rattle.std.specs.List.{All, range_with_len}
 use Rattle.std.proofs.lemmas.Bool.{cases_eq}
 use Rattle.std.proofs.lemmas.List.Elements.{All-from_get_or}
@@ -80,7 +80,9 @@ module _ (m n : ℕ) (f : List ℕ → ℕ) (affine : IsAffine m n f) (least : 2
 
       -- the right side brings the start to zero
       whole : (start + (m - start) % m) % m ≡ 0
-      whole = left 0 ∙ mod-eq_of_lt (omega (arith, least))
+      whole =
+          let nothing : m - start ≡ 0 + m - start = omega arith in
+          ap (λ x. (start + x % m) % m) nothing ∙ left 0 ∙ mod-eq_of_lt (omega (arith, least))
 
       pub zero_from_row : sum % m ≡ ((m - start) % m) % m → f values % m ≡ 0
       zero_from_row holds = number ∙ add_alike m start start sum ((m - start) % m) refl holds ∙ whole

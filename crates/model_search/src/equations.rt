@@ -2,7 +2,7 @@
 ghost use Rattle.std.specs.Prelude.{◌≡◌, ◌<◌, ◌++◌, length, IfOk, OnOk};
 ghost use Rattle.std.specs.List.{All};
 ghost use Rattle.quiver.specs.Declarations.{object_count, quiver_of};
-ghost use Rattle.matrix_models.specs.Matrix.{IsModulus};
+ghost use Rattle.matrix_models.specs.Matrix.{IsMatrix, IsModulus};
 ghost use Rattle.adjoint_rules.specs.Problem.{IsShape};
 ghost use Rattle.model_search.specs.Candidates.{entries_of};
 ghost use Rattle.model_search.specs.Unknowns.{solved_flags};
@@ -118,6 +118,7 @@ fn entries_in(
 
 // The list with the entries of the matrix behind it.
 fn push_entries(entries: &mut Listing<u32>, matrix: &Matrix) -> Result<(), AllocError>
+    requires { IsMatrix matrix.now.modulus matrix.now }
     ensures { OnOk result (entries.new ≡ entries.old ++ matrix.now.entries) }
 {
     for place in 0..matrix.rows() * matrix.columns() {

@@ -1,6 +1,6 @@
 // What all candidates of a shape share.
-ghost use Rattle.std.specs.Prelude.{◌≡◌, ◌<◌, ◌≤◌, length, IfOk};
-ghost use Rattle.std.specs.List.{All, list_all};
+ghost use Rattle.std.specs.Prelude.{◌≡◌, ◌<◌, ◌≤◌, ◌++◌, length, replicate, IfOk, OnOk};
+ghost use Rattle.std.specs.List.{All};
 ghost use Rattle.definitions.specs.Quiver.{IsQuiver};
 ghost use Rattle.word_core.specs.Letters.{IsOver};
 ghost use Rattle.quiver.specs.Declarations.{letter_count, object_count, quiver_of};
@@ -73,13 +73,21 @@ fn solved_flags(
     for number in 0..quiver.letters() {
         let letter = Letter(number as u16);
         if is_declared(quiver, letter) {
-            let flag = solved.contains(&letter);
-            for _ in 0..map_entry_count(quiver, shape, letter) {
-                flags.push(flag)?;
-            }
+            let count = map_entry_count(quiver, shape, letter);
+            push_flags(&mut flags, solved.contains(&letter), count)?;
         }
     }
     Ok(flags)
+}
+
+// The list with this flag so many times behind it.
+fn push_flags(flags: &mut Listing<bool>, flag: bool, count: u32) -> Result<(), AllocError>
+    ensures { OnOk result (flags.new ≡ flags.old ++ replicate count flag) }
+{
+    for _ in 0..count {
+        flags.push(flag)?;
+    }
+    Ok(())
 }
 
 // The generators of the problem that are linear in the solved maps and have a term.

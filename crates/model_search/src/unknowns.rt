@@ -1,5 +1,5 @@
 // The entries that are solved for, and values of them.
-ghost use Rattle.std.specs.Prelude.{◌≡◌, length, IfOk};
+ghost use Rattle.std.specs.Prelude.{◌≡◌, ◌≤◌, length, IfOk};
 ghost use Rattle.model_search.specs.Unknowns.{set_count, filled, picked, unit_values};
 
 use lists::Listing;
@@ -12,9 +12,7 @@ pub(crate) fn unknown_count(solved: &[bool]) -> u32
 {
     let mut count = 0;
     for flag in solved {
-        if *flag {
-            count += 1;
-        }
+        count += u32::from(*flag);
     }
     count
 }
