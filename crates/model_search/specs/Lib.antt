@@ -10,3 +10,4 @@ pub mod EntryPlaces
 pub mod Unknowns
 pub mod Plans
 pub mod Searches
+pub mod Equations

@@ -4,7 +4,7 @@ ghost use Rattle.definitions.specs.Quiver.{IsQuiver};
 ghost use Rattle.quiver.specs.Declarations.{object_count, quiver_of};
 ghost use Rattle.adjoint_rules.specs.declared.parts.Shape.{Shape as ShapeValue};
 ghost use Rattle.adjoint_rules.specs.Problem.{IsShape};
-ghost use Rattle.model_search.specs.Candidates.{IsShapeOf, candidate_count, all_candidate_count};
+ghost use Rattle.model_search.specs.Candidates.{IsShapeOf, candidate_count, all_candidate_count, is_exhaustive};
 
 use crate::entries::entry_count;
 use adjoint_rules::{Problem, Shape};
@@ -49,5 +49,17 @@ fn count_for(quiver: &Quiver, shape: &Shape) -> u32
     match shape.modulus.checked_pow(entry_count(quiver, shape)) {
         Some(count) if count <= EXHAUSTIVE_LIMIT => count,
         _ => DRAWN_COUNT,
+    }
+}
+
+/// Whether all lists of values are tried.
+pub(crate) fn is_exhaustive(quiver: &Quiver, shape: &Shape) -> bool
+    requires quiver { IsQuiver (quiver_of quiver.now) }
+    requires shape { IsShape (object_count quiver.now) shape.now }
+    ensures { result ≡ is_exhaustive (quiver_of quiver.now) shape.now }
+{
+    match shape.modulus.checked_pow(entry_count(quiver, shape)) {
+        Some(count) => count <= EXHAUSTIVE_LIMIT,
+        None => false,
     }
 }

@@ -6,6 +6,7 @@ mod candidate_search;
 mod confirm;
 mod drawn_values;
 mod entries;
+mod equations;
 mod found;
 mod given_values;
 mod laws;
@@ -16,6 +17,7 @@ mod refusal;
 mod representation;
 mod shape_fault;
 mod shapes;
+mod unknowns;
 mod value;
 
 pub use candidate_count::{all_candidates, candidates};

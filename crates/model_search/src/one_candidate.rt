@@ -1,12 +1,21 @@
 // The candidates of a shape.
-ghost use Rattle.std.specs.Prelude.{◌≤◌, length, IfOk};
+ghost use Rattle.std.specs.Prelude.{◌≡◌, ◌<◌, ◌≤◌, ℕ, List, length, IfOk, IfSome, IfNone};
+ghost use Rattle.std.specs.List.{All};
+ghost use Rattle.quiver.specs.Declarations.{object_count, quiver_of};
+ghost use Rattle.adjoint_rules.specs.Problem.{IsShape};
 ghost use Rattle.adjoint_rules.specs.declared.parts.Shape.{Shape as ShapeValue};
-ghost use Rattle.model_search.specs.Candidates.{IsCandidate, IsShapeOf};
-ghost use Rattle.model_search.specs.Plans.{IsPlan};
+ghost use Rattle.model_search.specs.Candidates.{entries_of, IsCandidate, IsGreedy, IsShapeOf, IsSolution};
+ghost use Rattle.model_search.specs.Unknowns.{solved_flags};
+ghost use Rattle.model_search.specs.Plans.{AreLinearGenerators, IsPlan};
 
+use crate::drawn_values::draws_of;
+use crate::equations::system_of;
+use crate::given_values::{model_with, numbered_candidate};
 use crate::plan::{Plan, plan_of};
-use adjoint_rules::Problem;
-use matrix_models::Model;
+use crate::unknowns::{filled, picked};
+use adjoint_rules::{Problem, Shape};
+use lists::Listing;
+use matrix_models::{Model, solve};
 use std::alloc::{AllocError, Global};
 
 /// Candidate k, counted from 0, of the shape with this number, counted from 1, for a seed; `None` exactly where the entries that
@@ -37,5 +46,46 @@ pub(crate) fn candidate_by(
     requires plan { IsPlan problem.now plan.now }
     ensures candidate { IfOk result (λ model. (s : ShapeValue) → IsShapeOf problem.now plan.now.number s → IsCandidate problem.now plan.now.number s seed k model) }
 {
-    Ok(None)
+    let quiver = &problem.parts.quiver;
+    let shape = problem.parts.shapes.at(plan.number as usize - 1);
+    if plan.exhaustive {
+        return Ok(Some(numbered_candidate(alloc, quiver, shape, k)?));
+    }
+    let drawn = draws_of(alloc, quiver, shape, plan.number, seed, k)?;
+    match greedy_values(alloc, problem, shape, plan, drawn.as_slice())? {
+        Some(values) => Ok(Some(model_with(alloc, quiver, shape, 0, values.as_slice())?)),
+        None => Ok(None),
+    }
+}
+
+// The greedy solution of the linear generators where the entries that aren't solved for are drawn.
+fn greedy_values(
+    alloc: Global,
+    problem: &Problem,
+    shape: &Shape,
+    plan: &Plan,
+    drawn: &[u32],
+) -> Result<Option<Listing<u32>>, AllocError>
+    requires shape { IsShape (object_count problem.now.parts.quiver) shape.now }
+    requires solved { plan.now.solved ≡ solved_flags (quiver_of problem.now.parts.quiver) shape.now problem.now.parts.solved }
+    requires generators { AreLinearGenerators problem.now plan.now.generators }
+    requires one_each { length drawn.now ≡ length (entries_of (quiver_of problem.now.parts.quiver) shape.now) }
+    requires below { All (λ value. value < shape.now.modulus) drawn.now }
+    ensures none { IfOk result (λ found. IfNone found ((values : List ℕ) → ¬ IsSolution problem.now shape.now drawn.now values)) }
+    ensures greedy { IfOk result (λ found. IfSome found (IsGreedy problem.now shape.now drawn.now)) }
+{
+    let solved = plan.solved.as_slice();
+    let system = system_of(
+        alloc,
+        problem,
+        shape,
+        solved,
+        plan.generators.as_slice(),
+        drawn,
+    )?;
+    let prefer = picked(alloc, solved, drawn)?;
+    match solve(alloc, &system, prefer.as_slice())? {
+        Some(values) => Ok(Some(filled(alloc, solved, drawn, values.as_slice())?)),
+        None => Ok(None),
+    }
 }
