@@ -11,10 +11,10 @@ use Rattle.adjoint_rules.specs.declared.problem.Problem.{Problem}
 use Rattle.adjoint_rules.specs.Problem.{IsShape}
 use Rattle.adjoint_rules.proofs.Generators.{posed_quiver}
 use Rattle.model_search.specs.Models.{IsModel, HaveMatrices, IsClaimNumber, IsFitting, Refutes}
-use Rattle.model_search.specs.Candidates.{entries_of, digit, digits, model_by, candidate_count, IsShapeOf, IsCandidate, numbered, drawn, unsolvable, naming, Breaks}
+use Rattle.model_search.specs.Candidates.{entries_of, digit, digits, model_by, candidate_count, IsShapeOf, IsCandidate, naming, Breaks}
 use Rattle.model_search.specs.Searches.{NoneBreaksAt}
 use Rattle.model_search.proofs.CandidateLaws.{candidate_is_unique}
-use Rattle.model_search.proofs.GivenModels.{shape_modulus, given_model, given_matrices}
+use Rattle.model_search.proofs.CandidateModels.{modulus_of_shape, model_by_is_model, model_by_has_matrices}
 use Rattle.model_search.proofs.Places.{all_at}
 
 -- ---- shapes
@@ -33,6 +33,7 @@ shape_is problem number s of = all_at (IsShape (object_count problem.parts.quive
 -- values below the modulus make the model
 pub record IsGiven (q : Quiver) (s : Shape) (m : Model) : Type 0 where
   pub values : List ℕ
+  pub one_each : length values ≡ length (entries_of q s)
   pub below : All (λ value. value < s.modulus) values
   pub made : m ≡ model_by q s 0 values
 
@@ -47,11 +48,28 @@ digits_below q s k positive = All-from_get_or (λ value. value < s.modulus) (dig
 
 pub candidate_is_given : (problem : Problem) (number : ℕ) (s : Shape) (seed k : ℕ) (m : Model) → IsShape (object_count problem.parts.quiver) s → IsCandidate problem number s seed k (Some m)
     → IsGiven (quiver_of problem.parts.quiver) s m
-candidate_is_given problem number s seed k m shape (numbered exhaustive is) =
-    let modulus = shape_modulus (object_count problem.parts.quiver) s shape in
-    record { values = digits (quiver_of problem.parts.quiver) s k; below = digits_below (quiver_of problem.parts.quiver) s k (omega (arith, modulus.at_least)); made = cc }
-candidate_is_given problem number s seed k m shape (drawn other values greedy is) = record { values = values; below = greedy.solution.below; made = cc }
-candidate_is_given problem number s seed k m shape (unsolvable other none is) = absurd (cc)
+candidate_is_given problem number s seed k m shape candidate = go candidate
+  where
+    q : Quiver
+    q = quiver_of problem.parts.quiver
+
+    positive : 0 < s.modulus
+    positive = let modulus = modulus_of_shape q s (posed_quiver problem.parts problem.posed) shape in omega (arith, modulus.at_least)
+
+    some_is : (n : Model) → ◌≡◌ {A = Option Model} (Some m) (Some n) → m ≡ n
+    some_is n e = cc
+
+    go : IsCandidate problem number s seed k (Some m) → IsGiven q s m
+    go (IsCandidate.numbered exhaustive is) =
+        record {
+          values = digits q s k;
+          one_each = length-map-range_with_len (digit s.modulus k) 0 (length (entries_of q s));
+          below = digits_below q s k positive;
+          made = some_is (model_by q s 0 (digits q s k)) is;
+        }
+    go (IsCandidate.drawn other values greedy is) =
+        record { values = values; one_each = greedy.solution.one_each; below = greedy.solution.below; made = some_is (model_by q s 0 values) is }
+    go (IsCandidate.unsolvable other none is) = absurd (cc)
 
 module _ (problem : Problem) (claim number seed k : ℕ) (s : Shape) (of : IsShapeOf problem number s) where
   abbrev q : Quiver
@@ -63,12 +81,12 @@ module _ (problem : Problem) (claim number seed k : ℕ) (s : Shape) (of : IsSha
 
     pub named_model : IsModel q (naming claim m)
     named_model =
-        subst (λ x. IsModel q (naming claim x)) (sym given.made) (given_model q (posed_quiver problem.parts problem.posed) s (shape_is problem number s of) claim given.values)
+        subst (λ x. IsModel q (naming claim x)) (sym given.made) (model_by_is_model q s (posed_quiver problem.parts problem.posed) (shape_is problem number s of) claim given.values)
 
     pub named_matrices : HaveMatrices q (naming claim m) (letters q)
     named_matrices =
         subst (λ x. HaveMatrices q (naming claim x) (letters q)) (sym given.made)
-        (given_matrices q (posed_quiver problem.parts problem.posed) s (shape_is problem number s of) given.values given.below claim)
+        (model_by_has_matrices q s (posed_quiver problem.parts problem.posed) (shape_is problem number s of) given.values given.one_each given.below claim)
 
     pub named_fits : IsClaimNumber problem claim → IsFitting problem (naming claim m)
     named_fits claim_is = record { claim = claim_is; maps = named_matrices }

@@ -62,10 +62,10 @@ first_or_none P Q each (suc n) = go (first_or_none P Q each n) (each n)
     go : First P Q ⊎ ((k : ℕ) → k < n → Q k) → P n ⊎ Q n → First P Q ⊎ ((k : ℕ) → k < suc n → Q k)
     go (inl first) d = inl first
     go (inr none) (inl here) = inl (record { place = n; here = here; earlier = none })
-    go (inr none) (inr no) = inr (λ k below. last k below (cases_eq k n))
+    go (inr none) (inr here) = inr (λ k below. last k below (cases_eq k n))
       where
         last : (k : ℕ) → k < suc n → (k ≡ n) ⊎ (k ≡ n → ⊥) → Q k
-        last k below (inl same) = subst Q (sym same) no
+        last k below (inl same) = subst Q (sym same) here
         last k below (inr other) = none k (omega (arith, below, other))
 
 module _ (problem : Problem) (claim seed : ℕ) where
