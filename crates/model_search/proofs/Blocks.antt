@@ -48,19 +48,16 @@ module _ (problem : Problem) (claim seed number : ℕ) {E : Type 0} where
       → (k : ℕ) → first ≤ k → k < first + n → NoneBreaksAt problem claim seed number k
   none_found answers first zero tells none k from below = absurd (omega (arith, from, below))
   none_found [] first (suc n) tells none k from below = absurd tells
-  none_found (answer ∷ answers) first (suc n) tells none k from below = go (cases_eq k first)
+  none_found (answer ∷ answers) first (suc n) tells none k from below = go (none_found answers (first + 1) n tells.1 none.1) (cases_eq k first)
     where
-      go : (k ≡ first) ⊎ (k ≡ first → ⊥) → NoneBreaksAt problem claim seed number k
-      go (inl same) = subst (NoneBreaksAt problem claim seed number) (sym same) (none_at first answer none.0 tells.0)
-      go (inr other) = none_found answers (first + 1) n tells.1 none.1 k (omega (arith, from, other)) (omega (arith, below))
+      go : ((j : ℕ) → first + 1 ≤ j → j < first + 1 + n → NoneBreaksAt problem claim seed number j) → (k ≡ first) ⊎ (k ≡ first → ⊥) → NoneBreaksAt problem claim seed number k
+      go later (inl same) = subst (NoneBreaksAt problem claim seed number) (sym same) (none_at first answer none.0 tells.0)
+      go later (inr other) = later k (omega (arith, from, other)) (omega (arith, below))
 
   -- what a block finds
-  abbrev pub BlockAnswer : ℕ → ℕ → Option Found → Type 0
-  BlockAnswer first n found =
-      MatchOption found ((k : ℕ) → first ≤ k → k < first + n → NoneBreaksAt problem claim seed number k) (IsFirstFrom problem claim seed number first)
-
   pub block_answer : (answers : List (Result (Option Found) E)) (first n : ℕ) → AllZip Tells (range_with_len first n) answers → (found : Option Found)
-      → MatchOption found (All IsNone answers) (IsFirstFound answers) → BlockAnswer first n found
+      → MatchOption found (All IsNone answers) (IsFirstFound answers)
+      → MatchOption found ((k : ℕ) → first ≤ k → k < first + n → NoneBreaksAt problem claim seed number k) (IsFirstFrom problem claim seed number first)
   block_answer answers first n tells None none = none_found answers first n tells (recursion_from_All IsNone answers none)
   block_answer answers first n tells (Some f) is = found_behind f is.after is.before first n (subst (AllZip Tells (range_with_len first n)) is.splits tells) (recursion_from_All IsNone is.before is.none)
 

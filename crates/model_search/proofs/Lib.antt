@@ -25,3 +25,4 @@ pub mod CandidateLaws
 pub mod Breaking
 pub mod SearchAnswers
 pub mod Blocks
+pub mod SearchSteps

@@ -4,4 +4,4 @@ use Rattle.model_search.proofs.candidate_search.search.Given as goal
 
 -- no candidate of the shapes that were passed breaks the claim
 abbrev pub invariant-loop-place : goal.invariant-loop-place
-invariant-loop-place l = (number k : ℕ) → number ≤ l.place → NoneBreaksAt l.problem l.claim l.seed number k
+invariant-loop-place g l = (number k : ℕ) → number ≤ l.place → NoneBreaksAt l.problem l.claim l.seed number k

@@ -1,0 +1,77 @@
+-- What is known behind each block of a shape, and behind each shape.
+use Rattle.std.proofs.Common.{◌≡◌, ℕ, ◌+◌, ◌-◌, ◌<◌, ◌≤◌, List, length, get_or, Option, Some, None, slice_get, ◌⊎◌, inl, inr, sym, subst, ◌∙◌, arith}
+use Rattle.std.proofs.lemmas.Bool.{cases_lt, cases_eq}
+use Rattle.std.proofs.lemmas.Option.{slice_get_cases, slice_get_within}
+use Rattle.quiver.specs.Declarations.{quiver_of}
+use Rattle.matrix_models.specs.declared.model.Model.{Model}
+use Rattle.adjoint_rules.specs.declared.parts.Shape.{Shape}
+use Rattle.adjoint_rules.specs.declared.problem.Problem.{Problem}
+use Rattle.model_search.specs.declared.found.Found.{Found}
+use Rattle.model_search.specs.Candidates.{IsShapeOf, candidate_count, Breaks, IsEarlier, IsLeastBreaking, NoneBreaks}
+use Rattle.model_search.specs.Searches.{NoneBreaksAt, IsFoundAt, IsFirstFrom}
+
+-- a number of a shape has its shape
+pub record HasShapeOf (problem : Problem) (number : ℕ) : Type 0 where
+  pub shape : Shape
+  pub is : IsShapeOf problem number shape
+
+pub shape_of_number : (problem : Problem) (number : ℕ) → 1 ≤ number → number ≤ length problem.parts.shapes → HasShapeOf problem number
+shape_of_number problem number least most = go (slice_get_cases problem.parts.shapes (number - 1)).1
+  where
+    go : ((s : Shape) × (number - 1 < length problem.parts.shapes) × (slice_get problem.parts.shapes (number - 1) ≡ Some s) × (get_or problem.parts.shapes (number - 1) s ≡ s))
+        ⊎ ((length problem.parts.shapes ≤ number - 1) × (slice_get problem.parts.shapes (number - 1) ≡ None)) → HasShapeOf problem number
+    go (inl s) = record { shape = s.0; is = record { before = number - 1; numbered = omega (arith, least); there = s.2 } }
+    go (inr past) = absurd (omega (arith, least, most, past.0))
+
+module _ (problem : Problem) (claim seed number : ℕ) where
+  abbrev None_at : ℕ → Type 0
+  None_at k = NoneBreaksAt problem claim seed number k
+
+  -- ---- blocks
+  pub first_of_shape : (first : ℕ) (f : Found) → ((k : ℕ) → k < first → None_at k) → IsFirstFrom problem claim seed number first f → IsFirstFrom problem claim seed number 0 f
+  first_of_shape first f none is = record { found = is.found; least = omega arith; earlier = λ k from below. go k below (cases_lt k first) }
+    where
+      go : (k : ℕ) → k < f.candidate → (k < first) ⊎ (first ≤ k) → None_at k
+      go k below (inl before) = none k before
+      go k below (inr behind) = is.earlier k behind below
+
+  pub none_so_far : (first n next : ℕ) → next ≡ first + n → ((k : ℕ) → k < first → None_at k) → ((k : ℕ) → first ≤ k → k < first + n → None_at k) → (k : ℕ) → k < next → None_at k
+  none_so_far first n next is before block k below = go (cases_lt k first)
+    where
+      go : (k < first) ⊎ (first ≤ k) → None_at k
+      go (inl h) = before k h
+      go (inr h) = block k h (omega (arith, is, below))
+
+  pub none_of_shape : (count : ℕ) → ((s : Shape) → IsShapeOf problem number s → count ≡ candidate_count (quiver_of problem.parts.quiver) s) → ((k : ℕ) → k < count → None_at k) → (k : ℕ) → None_at k
+  none_of_shape count exact none k m b = none k (subst (λ n. k < n) (sym (exact b.shape b.numbered)) b.in_range) m b
+
+-- ---- shapes
+module _ (problem : Problem) (claim seed : ℕ) where
+  abbrev None_in : ℕ → ℕ → Type 0
+  None_in number k = NoneBreaksAt problem claim seed number k
+
+  pub none_at_zero : (number k : ℕ) → number ≤ 0 → None_in number k
+  none_at_zero number k below m b = absurd (omega (arith, below, b.numbered.numbered))
+
+  pub none_with_shape : (before number : ℕ) → number ≡ before + 1 → ((n k : ℕ) → n ≤ before → None_in n k) → ((k : ℕ) → None_in number k) → (n k : ℕ) → n ≤ before + 1 → None_in n k
+  none_with_shape before number is earlier none n k below = go (cases_eq n number)
+    where
+      go : (n ≡ number) ⊎ (n ≡ number → ⊥) → None_in n k
+      go (inl same) = subst (λ x. None_in x k) (sym same) (none k)
+      go (inr other) = earlier n k (omega (arith, is, below, other))
+
+  pub least_of_all : (before number : ℕ) (f : Found) → number ≡ before + 1 → ((n k : ℕ) → n ≤ before → None_in n k) → IsFirstFrom problem claim seed number 0 f
+      → IsLeastBreaking problem claim seed f.shape f.candidate f.model
+  least_of_all before number f is earlier first =
+      let shape = first.found.shape_is in
+      record {
+        breaks = subst (λ n. Breaks problem claim seed n f.candidate f.model) (sym shape) first.found.breaks;
+        least = least;
+      }
+    where
+      least : (n k : ℕ) (m : Model) → IsEarlier n k f.shape f.candidate → ¬ Breaks problem claim seed n k m
+      least n k m (inl h) b = earlier n k (omega (arith, is, h, first.found.shape_is)) m b
+      least n k m (inr same) b = first.earlier k (omega arith) same.1 m (subst (λ x. Breaks problem claim seed x k m) (same.0 ∙ first.found.shape_is) b)
+
+  pub none_of_all : ((n k : ℕ) → n ≤ length problem.parts.shapes → None_in n k) → NoneBreaks problem claim seed
+  none_of_all none n k m b = none n k (omega (arith, b.numbered.numbered, slice_get_within problem.parts.shapes b.numbered.before b.shape b.numbered.there)) m b
