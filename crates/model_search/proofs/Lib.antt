@@ -20,5 +20,7 @@ pub mod DistinctEntries
 pub mod GeneratorEntries
 pub mod DrawnEntries
 pub mod SystemSolutions
+pub mod SolvedLetters
+pub mod LinearGenerators
 pub mod FiniteSearch
 pub mod CandidateLaws

@@ -5,7 +5,7 @@ ghost use Rattle.definitions.specs.Quiver.{IsQuiver};
 ghost use Rattle.word_core.specs.Letters.{IsOver};
 ghost use Rattle.quiver.specs.Declarations.{letter_count, object_count, quiver_of};
 ghost use Rattle.adjoint_rules.specs.Problem.{IsShape};
-ghost use Rattle.model_search.specs.Candidates.{is_linear, is_solved, solved_count};
+ghost use Rattle.model_search.specs.Candidates.{is_linear, is_solved, is_solved_map, solved_count};
 ghost use Rattle.model_search.specs.Unknowns.{solved_flags};
 ghost use Rattle.model_search.specs.Plans.{AreLinearGenerators, IsPlan};
 
@@ -74,7 +74,7 @@ fn solved_flags(
         let letter = Letter(number as u16);
         if is_declared(quiver, letter) {
             let count = map_entry_count(quiver, shape, letter);
-            push_flags(&mut flags, solved.contains(&letter), count)?;
+            push_flags(&mut flags, is_among(solved, letter), count)?;
         }
     }
     Ok(flags)
@@ -148,5 +148,12 @@ fn is_solved(quiver: &Quiver, solved: &[Letter], letter: Letter) -> bool
     requires letter { letter.0 < letter_count quiver.now }
     ensures { result ≡ is_solved (quiver_of quiver.now) solved.now letter.0 }
 {
-    solved.contains(&letter) || solved.contains(&quiver.star_of(letter))
+    is_among(solved, letter) || is_among(solved, quiver.star_of(letter))
+}
+
+// Whether the letter is one of the maps.
+fn is_among(maps: &[Letter], letter: Letter) -> bool
+    ensures { result ≡ is_solved_map maps.now letter.0 }
+{
+    maps.iter().any(|map| letter == *map)
 }
