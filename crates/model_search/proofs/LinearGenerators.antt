@@ -1,11 +1,11 @@
 -- The generators of a problem that are linear in its solved maps, found one after the other.
-use Rattle.std.proofs.Common.{◌≡◌, ℕ, zero, suc, ◌+◌, ◌<◌, ℤ, Bool, true, false, cond, nat_le, List, [], ◌∷◌, ◌++◌, length, get_or, map, take, filter, Some, Option, slice_get, option_map, refl, sym, ap, subst, ◌∙◌, arith}
+use Rattle.std.proofs.Common.{◌≡◌, ℕ, zero, suc, ◌+◌, ◌<◌, ℤ, pos, Bool, true, false, cond, nat_le, List, [], ◌∷◌, ◌++◌, length, get_or, map, take, filter, Some, Option, slice_get, option_map, refl, sym, ap, subst, ◌∙◌, arith}
 use Rattle.std.specs.List.{All, AllByRecursion, list_all}
 use Rattle.std.proofs.lemmas.List.{take_more, map-append}
 use Rattle.std.proofs.lemmas.List.Elements.{All-from_get_or, All-from_recursion, All-get_or, recursion_from_All, filter-append}
 use Rattle.std.proofs.lemmas.Option.{get_or_from_slice_get, slice_get-map, slice_get_within}
 use Rattle.definitions.specs.Quiver.{Quiver, letters, IsTyped, is_path}
-use Rattle.definitions.specs.Soundness.{HasSignature}
+use Rattle.definitions.specs.Soundness.{HasSignature, HasValueZeroAt}
 use Rattle.definitions.proofs.Typed.{signature_from_path}
 use Rattle.definitions.proofs.UnitSound.{all-append}
 use Rattle.nc_polynomial.specs.declared.poly.Poly.{Poly}
@@ -13,14 +13,17 @@ use Rattle.quiver.specs.declared.named.Sig.{Sig}
 use Rattle.quiver.specs.Declarations.{quiver_of}
 use Rattle.representations.proofs.Suffixes.{letter_within}
 use Rattle.representations.proofs.TypedTerms.{words_are_paths}
+use Rattle.matrix_models.specs.Matrices.{matrices}
 use Rattle.matrix_models.specs.declared.model.Model.{Model}
 use Rattle.adjoint_rules.specs.declared.problem.Problem.{Problem}
 use Rattle.adjoint_rules.specs.Problem.{polynomials}
 use Rattle.adjoint_rules.proofs.Generators.{generators_have_signatures}
 use Rattle.model_search.specs.declared.plan.LinearGenerator.{LinearGenerator}
+use Rattle.model_search.specs.Models.{representation_of, IsZeroIn}
 use Rattle.model_search.specs.Candidates.{is_linear, solved_count}
-use Rattle.model_search.specs.Plans.{terms_of, IsLinearGenerator}
+use Rattle.model_search.specs.Plans.{IsLinearGenerator, IsZeroAtSignature}
 use Rattle.model_search.proofs.Places.{all_at}
+use Rattle.model_search.proofs.Values.{zero_from_value}
 
 -- ---- lists that are filtered
 pub filter_more : {X : Type 0} (keep : X → Bool) (xs : List X) (k : ℕ) (x : X) → slice_get xs k ≡ Some x → filter keep (take (k + 1) xs) ≡ filter keep (take k xs) ++ cond (keep x) (x ∷ []) []
@@ -55,9 +58,9 @@ one_signature q p u v x y some typed other = go p.terms refl
 
 pub letters_within : (q : Quiver) (p : Poly) → HasSignature q p.terms → All (λ t. All (λ letter. letter < letters q) t.1) p.terms
 letters_within q p signed =
-    All-from_get_or (λ t. All (λ letter. letter < letters q) t.1) p.terms (0, []) (λ k inside.
-    let t = get_or p.terms k (0, []) in
-    let path : is_path q signed.source signed.target t.1 ≡ true = All-get_or (λ r. is_path q signed.source signed.target r.1 ≡ true) p.terms k (0, []) inside (words_are_paths q signed.source signed.target p.terms p.canonical signed.typed) in
+    All-from_get_or (λ t. All (λ letter. letter < letters q) t.1) p.terms (pos 0, []) (λ k inside.
+    let t = get_or p.terms k (pos 0, []) in
+    let path : is_path q signed.source signed.target t.1 ≡ true = All-get_or (λ r. is_path q signed.source signed.target r.1 ≡ true) p.terms k (pos 0, []) inside (words_are_paths q signed.source signed.target p.terms p.canonical signed.typed) in
     All-from_get_or (λ letter. letter < letters q) t.1 0 (λ place within. letter_within q signed.source signed.target t.1 place path within))
 
 module _ (problem : Problem) where
@@ -86,3 +89,21 @@ module _ (problem : Problem) where
         target = subst (λ v. v < q.objects) (ap (λ e. e.1) same) signed.target_is_object;
         typed = subst (IsTyped q g.sig.source.0 g.sig.target.0) (sym terms) typed;
       }
+
+  -- zero at a signature of it, it is zero
+  pub zero_everywhere : (m : Model) (g : LinearGenerator) (p : Poly) → slice_get problem.generators g.place ≡ Some p → IsTyped q g.sig.source.0 g.sig.target.0 p.terms
+      → IsZeroAtSignature problem m g → IsZeroIn problem m p.terms
+  zero_everywhere m g p is typed vanishes =
+      zero_from_value (matrices m.modulus) q (representation_of q m) p.terms p.canonical g.sig.source.0 g.sig.target.0 typed
+      (subst (HasValueZeroAt (matrices m.modulus) q (representation_of q m) g.sig.source.0 g.sig.target.0) (terms_there g.place p is) vanishes)
+
+  -- a generator that isn't typed with a term has none
+  pub zero_without_terms : (m : Model) (k : ℕ) (p : Poly) → slice_get problem.generators k ≡ Some p → ((u v : ℕ) → (p.terms ≡ [] → ⊥) → IsTyped q u v p.terms → ⊥) → IsZeroIn problem m p.terms
+  zero_without_terms m k p is untyped = go p.terms refl
+    where
+      go : (ts : List (ℤ × List ℕ)) → p.terms ≡ ts → IsZeroIn problem m p.terms
+      go [] none = subst (IsZeroIn problem m) (sym none) (record { at = λ u v in_u in_v typed. refl })
+      go (t ∷ ts) terms = let signed = signed_at k p is in absurd (untyped signed.source signed.target (λ none. not_both t ts (sym terms ∙ none)) signed.typed)
+        where
+          not_both : (t : ℤ × List ℕ) (ts : List (ℤ × List ℕ)) → (t ∷ ts) ≡ [] → ⊥
+          not_both t ts e = cc

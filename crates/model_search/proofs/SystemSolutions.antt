@@ -97,6 +97,19 @@ module _ (problem : Problem) (s : Shape) (shape : IsShape (object_count problem.
       go (inl inside) = All-get_or (λ x. x < s.modulus) (numbers values) place 0 inside (entries_below problem s shape drawn count drawn_below gs linear values below)
       go (inr past) = subst (λ x. x < s.modulus) (sym (get_or_past (numbers values) place 0 past)) (omega (arith, least))
 
+  unit_numbers_below : (k : ℕ) → Below problem s shape drawn count drawn_below (unit k)
+  unit_numbers_below k = entries_below problem s shape drawn count drawn_below gs linear (unit_values n k) (unit_below k)
+
+  pub zero_below : All (λ x. x < s.modulus) (unit n)
+  zero_below = unit_numbers_below n
+
+  pub units_below : All (λ u. All (λ x. x < s.modulus) u) units
+  units_below = All-map (λ u. All (λ x. x < s.modulus) u) unit (range_with_len 0 n) (All-from_get_or (λ k. All (λ x. x < s.modulus) (unit k)) (range_with_len 0 n) 0 (λ k inside. unit_numbers_below (get_or (range_with_len 0 n) k 0)))
+
+  pub units_alike : All (λ u. length u ≡ length (unit n)) units
+  units_alike = All-map (λ u. length u ≡ length (unit n)) unit (range_with_len 0 n) (All-from_get_or (λ k. length (unit k) ≡ length (unit n)) (range_with_len 0 n) 0 (λ k inside.
+      length-entries problem s shape drawn count drawn_below gs linear (unit_values n (get_or (range_with_len 0 n) k 0)) (unit_values n n) (unit_below (get_or (range_with_len 0 n) k 0)) (unit_below n)))
+
   is_equation : (place : ℕ) → IsEquation s.modulus (length units) (row_by s.modulus (unit n) units place)
   is_equation place = record {
     one_each = length-map units (factor_by s.modulus (unit n) place);

@@ -10,7 +10,8 @@ ghost use Rattle.model_search.specs.Unknowns.{solved_flags};
 ghost use Rattle.model_search.specs.Plans.{AreLinearGenerators, IsPlan};
 
 use crate::candidate_count::is_exhaustive;
-use crate::entries::{is_declared, map_entry_count};
+use crate::entries::{entry_count, is_declared, map_entry_count};
+use crate::unknowns::unknown_count;
 use adjoint_rules::{Problem, Shape};
 use lists::Listing;
 use nc_polynomial::Poly;
@@ -33,6 +34,8 @@ pub(crate) struct Plan {
     pub number: u32,
     /// Whether all lists of values are tried.
     pub exhaustive: bool,
+    /// How many entries are solved for.
+    pub unknowns: u32,
     /// For each entry, whether it is solved for.
     pub solved: Listing<bool>,
     /// The linear generators that have a term.
@@ -48,11 +51,13 @@ pub(crate) fn plan_of(alloc: Global, problem: &Problem, shape: u32) -> Result<Pl
 {
     let parts = &problem.parts;
     let form = parts.shapes.at(shape as usize - 1);
+    let entries = entry_count(&parts.quiver, form);
     let solved = solved_flags(alloc, &parts.quiver, form, parts.solved.as_slice())?;
     let generators = linear_generators(alloc, problem)?;
     Ok(Plan {
         number: shape,
-        exhaustive: is_exhaustive(&parts.quiver, form),
+        exhaustive: is_exhaustive(form.modulus, entries),
+        unknowns: unknown_count(solved.as_slice()),
         solved,
         generators,
     })
