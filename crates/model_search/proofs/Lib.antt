@@ -20,6 +20,7 @@ pub mod DistinctEntries
 pub mod GeneratorEntries
 pub mod DrawnEntries
 pub mod SystemSolutions
+pub mod PlanSystems
 pub mod SolvedLetters
 pub mod LinearGenerators
 pub mod FiniteSearch

@@ -72,7 +72,7 @@ module _ (problem : Problem) (s : Shape) (shape : IsShape (object_count problem.
   value_of_each : length drawn ≡ length solved
   value_of_each = count ∙ sym (flag_of_each q s problem.parts.solved)
 
-  unit_of_each : length units ≡ n
+  pub unit_of_each : length units ≡ n
   unit_of_each = length-map-range_with_len unit 0 n
 
   unit_below : (k : ℕ) → All (λ value. value < s.modulus) (unit_values n k)
