@@ -23,5 +23,6 @@ pub mod SystemSolutions
 pub mod PlanSystems
 pub mod SolvedLetters
 pub mod LinearGenerators
+pub mod NumberedShapes
 pub mod FiniteSearch
 pub mod CandidateLaws

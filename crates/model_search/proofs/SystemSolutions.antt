@@ -23,7 +23,6 @@ use Rattle.model_search.specs.Candidates.{solved_count, entries_of, model_by, li
 use Rattle.model_search.specs.Unknowns.{set_count, filled, picked, unit_values}
 use Rattle.model_search.specs.Plans.{terms_of, IsLinearGenerator, IsZeroAtSignature, AreLinearGenerators}
 use Rattle.model_search.specs.Equations.{entries_at, factor_by, row_by, system_for}
-
 use Rattle.model_search.proofs.CandidateModels.{modulus_of_shape}
 use Rattle.model_search.proofs.DrawnEntries.{flag_of_each, drawn_by_flags, drawn_by_entries}
 use Rattle.model_search.proofs.FilledValues.{length-filled, All-filled}
@@ -180,10 +179,10 @@ module _ (problem : Problem) (s : Shape) (shape : IsShape (object_count problem.
       each : (xs : List LinearGenerator) → AllByRecursion (IsLinearGenerator problem) xs → AllByRecursion (IsZeroAtSignature problem m) xs
       each [] all = tt
       each (g ∷ xs) all = (
-          (kept_one (IsZeroIn problem m) (list_all (λ t. nat_le (solved_count q problem.parts.solved t.1) 1)) problem.generators g.place all.0.place all.0.linear solution.zero).at
-          g.sig.source.0 g.sig.target.0 all.0.source all.0.target all.0.typed,
-          each xs all.1,
-        )
+        (kept_one (IsZeroIn problem m) (list_all (λ t. nat_le (solved_count q problem.parts.solved t.1) 1)) problem.generators g.place all.0.place all.0.linear solution.zero).at
+            g.sig.source.0 g.sig.target.0 all.0.source all.0.target all.0.typed,
+        each xs all.1,
+      )
 
   pub solution_from : (values : List ℕ) → Solves system values → IsSolution problem s drawn (filled solved drawn values)
   solution_from values solves = record {

@@ -37,7 +37,13 @@ pub(crate) fn system_of(
     }
     let mut rows = Listing::new(alloc);
     for place in 0..at_zero.len() {
-        rows.push(row_by(alloc, shape.modulus, at_zero.as_slice(), at_units.as_slice(), place)?)?;
+        rows.push(row_by(
+            alloc,
+            shape.modulus,
+            at_zero.as_slice(),
+            at_units.as_slice(),
+            place,
+        )?)?;
     }
     Ok(System {
         modulus: shape.modulus,
@@ -62,7 +68,13 @@ fn entries_at(
 {
     let unit = unit_values(alloc, plan.unknowns, unknown)?;
     let values = filled(alloc, plan.solved.as_slice(), drawn, unit.as_slice())?;
-    entries_in(alloc, problem, shape, plan.generators.as_slice(), values.as_slice())
+    entries_in(
+        alloc,
+        problem,
+        shape,
+        plan.generators.as_slice(),
+        values.as_slice(),
+    )
 }
 
 // The entries of the values of the generators, one generator after the other, in the model with these values.

@@ -69,4 +69,3 @@ loop-place-preserved c =
             all = λ m zero. kept_more (IsZeroIn problem m) keep problem.generators k p here (c.loop-place.invariant.all m (subst (All (IsZeroAtSignature problem m)) kept zero)) (none m);
           }
     ]
-
