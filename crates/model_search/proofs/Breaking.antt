@@ -15,19 +15,7 @@ use Rattle.model_search.specs.Candidates.{entries_of, digit, digits, model_by, c
 use Rattle.model_search.specs.Searches.{NoneBreaksAt}
 use Rattle.model_search.proofs.CandidateLaws.{candidate_is_unique}
 use Rattle.model_search.proofs.CandidateModels.{modulus_of_shape, model_by_is_model, model_by_has_matrices}
-use Rattle.model_search.proofs.Places.{all_at}
-
--- ---- shapes
-pub shape_is_one : (problem : Problem) (number : ℕ) (s t : Shape) → IsShapeOf problem number s → IsShapeOf problem number t → s ≡ t
-shape_is_one problem number s t one other =
-    let same : one.before ≡ other.before = omega (arith, one.numbered, other.numbered) in
-    some_is (sym one.there ∙ ap (slice_get problem.parts.shapes) same ∙ other.there)
-  where
-    some_is : ◌≡◌ {A = Option Shape} (Some s) (Some t) → s ≡ t
-    some_is e = cc
-
-pub shape_is : (problem : Problem) (number : ℕ) (s : Shape) → IsShapeOf problem number s → IsShape (object_count problem.parts.quiver) s
-shape_is problem number s of = all_at (IsShape (object_count problem.parts.quiver)) problem.parts.shapes of.before s problem.posed.shapes of.there
+use Rattle.model_search.proofs.NumberedShapes.{shape_is_one, shape_is}
 
 -- ---- models of candidates
 -- values below the modulus make the model

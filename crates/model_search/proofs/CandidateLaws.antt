@@ -180,13 +180,16 @@ module _ (problem : Problem) (s : Shape) (drawn : List ℕ) where
           ⊎ ((values : List ℕ) → IsSolution problem s drawn values → ⊥)
           → ((values : List ℕ) × IsGreedy problem s drawn values) ⊎ ((values : List ℕ) → IsSolution problem s drawn values → ⊥)
       go (inr none) = inr none
-      go (inl found) = inl (found.0, record {
-        solution = found.1.passes;
-        drawn_where_it_can = λ place inside can. (found.1.chosen place (subst (λ n. place < n) found.1.passes.one_each inside)).preferred_if (can_begin (take place found.0 ++ get_or drawn place 0 ∷ []) can);
-        else_least = λ place value inside cannot can.
-            (found.1.chosen place (subst (λ n. place < n) found.1.passes.one_each inside)).least_else value
-            (λ begins. cannot (begins_so (take place found.0 ++ get_or drawn place 0 ∷ []) begins)) (can_begin (take place found.0 ++ value ∷ []) can);
-      })
+      go (inl found) = inl (
+        found.0,
+        record {
+          solution = found.1.passes;
+          drawn_where_it_can = λ place inside can. (found.1.chosen place (subst (λ n. place < n) found.1.passes.one_each inside)).preferred_if (can_begin (take place found.0 ++ get_or drawn place 0 ∷ []) can);
+          else_least = λ place value inside cannot can.
+              (found.1.chosen place (subst (λ n. place < n) found.1.passes.one_each inside)).least_else value
+              (λ begins. cannot (begins_so (take place found.0 ++ get_or drawn place 0 ∷ []) begins)) (can_begin (take place found.0 ++ value ∷ []) can);
+        },
+      )
 
 pub each_number_has_a_candidate : (problem : Problem) (number : ℕ) (s : Shape) (seed k : ℕ) → IsShapeOf problem number s → (c : Option Model) × IsCandidate problem number s seed k c
 each_number_has_a_candidate problem number s seed k numbered = go (is_exhaustive q s) refl

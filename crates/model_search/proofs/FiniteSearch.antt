@@ -54,11 +54,11 @@ module _ (size bound : ℕ) (P : List ℕ → Type 0) (decided : (xs : List ℕ)
       go : (rest : List ℕ) → P (front ++ rest) → (x : ℕ) × (x < bound) × Begins (front ++ x ∷ [])
       go [] passes = absurd (omega (arith, left, length-append front [], of_size (front ++ []) passes))
       go (x ∷ rest) passes = (
-          x,
-          subst (λ y. y < bound) (get_or_at front x rest 0 (length front) refl)
-          (All-get_or (λ y. y < bound) (front ++ x ∷ rest) (length front) 0 (omega (arith, length-append front (x ∷ rest))) (below (front ++ x ∷ rest) passes)),
-          record { rest = rest; passes = subst P (sym (append_assoc front (x ∷ []) rest)) passes },
-        )
+        x,
+        subst (λ y. y < bound) (get_or_at front x rest 0 (length front) refl)
+            (All-get_or (λ y. y < bound) (front ++ x ∷ rest) (length front) 0 (omega (arith, length-append front (x ∷ rest))) (below (front ++ x ∷ rest) passes)),
+        record { rest = rest; passes = subst P (sym (append_assoc front (x ∷ []) rest)) passes },
+      )
 
   pub begins_decided : (n : ℕ) (front : List ℕ) → length front + n ≡ size → IsDecided (Begins front)
   begins_decided zero front left = decided_by (λ passes. record { rest = []; passes = subst P (sym (append_nil front)) passes }) all_of_it (decided front)

@@ -187,6 +187,6 @@ module _ (problem : Problem) (s : Shape) (shape : IsShape (object_count problem.
   pub zero_entries_only : (gs : List LinearGenerator) → AreLinear gs → (values : List ℕ) → Below values → AreZero (entries gs values) → AllByRecursion (IsZeroAtSignature problem (model_for values)) gs
   zero_entries_only [] are values below none = tt
   zero_entries_only (g ∷ gs) are values below none = (
-      zero_value g are.0 values below (zero_front (value g are.0 values).entries (entries gs values) none),
-      zero_entries_only gs are.1 values below (zero_back (value g are.0 values).entries (entries gs values) none),
-    )
+    zero_value g are.0 values below (zero_front (value g are.0 values).entries (entries gs values) none),
+    zero_entries_only gs are.1 values below (zero_back (value g are.0 values).entries (entries gs values) none),
+  )

@@ -20,6 +20,10 @@ pub mod DistinctEntries
 pub mod GeneratorEntries
 pub mod DrawnEntries
 pub mod SystemSolutions
+pub mod PlanSystems
+pub mod SolvedLetters
+pub mod LinearGenerators
+pub mod NumberedShapes
 pub mod FiniteSearch
 pub mod CandidateLaws
 pub mod Breaking

@@ -12,7 +12,8 @@ use Rattle.model_search.specs.Models.{IsModel, Refutes}
 use Rattle.model_search.specs.Candidates.{IsShapeOf, IsCandidate, candidate_count, naming, Breaks, IsEarlier, IsLeastBreaking, NoneBreaks}
 use Rattle.model_search.specs.SearchLaws.{LeastBreakingIsUnique, NoneBreaksLeavesNoLeast, HasLeastBreaking, EachSearchHasAnAnswer, IsRefutingModel, BreakingCandidatesRefute}
 use Rattle.model_search.specs.Searches.{NoneBreaksAt}
-use Rattle.model_search.proofs.Breaking.{shape_is_one, named_model, breaks_where_it_refutes, none_without_model, none_where_it_does_not, breaking_model_is_one}
+use Rattle.model_search.proofs.Breaking.{named_model, breaks_where_it_refutes, none_without_model, none_where_it_does_not, breaking_model_is_one}
+use Rattle.model_search.proofs.NumberedShapes.{shape_is_one}
 use Rattle.model_search.proofs.CandidateLaws.{each_number_has_a_candidate}
 use Rattle.model_search.proofs.Decided.{IsDecided}
 use Rattle.model_search.proofs.Judged.{refutes_decided}

@@ -10,19 +10,6 @@ use Rattle.model_search.specs.declared.found.Found.{Found}
 use Rattle.model_search.specs.Candidates.{IsShapeOf, candidate_count, Breaks, IsEarlier, IsLeastBreaking, NoneBreaks}
 use Rattle.model_search.specs.Searches.{NoneBreaksAt, IsFoundAt, IsFirstFrom}
 
--- a number of a shape has its shape
-pub record HasShapeOf (problem : Problem) (number : ℕ) : Type 0 where
-  pub shape : Shape
-  pub is : IsShapeOf problem number shape
-
-pub shape_of_number : (problem : Problem) (number : ℕ) → 1 ≤ number → number ≤ length problem.parts.shapes → HasShapeOf problem number
-shape_of_number problem number least most = go (slice_get_cases problem.parts.shapes (number - 1)).1
-  where
-    go : ((s : Shape) × (number - 1 < length problem.parts.shapes) × (slice_get problem.parts.shapes (number - 1) ≡ Some s) × (get_or problem.parts.shapes (number - 1) s ≡ s))
-        ⊎ ((length problem.parts.shapes ≤ number - 1) × (slice_get problem.parts.shapes (number - 1) ≡ None)) → HasShapeOf problem number
-    go (inl s) = record { shape = s.0; is = record { before = number - 1; numbered = omega (arith, least); there = s.2 } }
-    go (inr past) = absurd (omega (arith, least, most, past.0))
-
 module _ (problem : Problem) (claim seed number : ℕ) where
   abbrev None_at : ℕ → Type 0
   None_at k = NoneBreaksAt problem claim seed number k

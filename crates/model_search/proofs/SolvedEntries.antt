@@ -1,7 +1,8 @@
 -- Values of the entries that are solved for, among the values of all entries.
-use Rattle.std.proofs.Common.{◌≡◌, ℕ, zero, suc, ◌+◌, ◌-◌, ◌<◌, ◌≤◌, Bool, true, false, List, [], ◌∷◌, ◌++◌, length, get_or, take, drop, refl, sym, ap, ap₂, subst, ◌∙◌, arith}
+use Rattle.std.proofs.Common.{◌≡◌, ℕ, zero, suc, ◌+◌, ◌-◌, ◌<◌, ◌≤◌, Bool, true, false, cond, List, [], ◌∷◌, ◌++◌, length, get_or, take, drop, refl, sym, ap, ap₂, subst, ◌∙◌, arith}
 use Rattle.std.specs.List.{All}
 use Rattle.std.proofs.lemmas.Bool.{false≢true}
+use Rattle.std.proofs.lemmas.List.{take_all, take_more}
 use Rattle.std.proofs.lemmas.List.Elements.{All-nil, All-cons, All-head, All-tail}
 use Rattle.model_search.specs.Unknowns.{set_count, filled, picked}
 
@@ -104,3 +105,26 @@ picked-take (true ∷ flags) (d ∷ drawn) [] place same_drawn same inside set x
 picked-take (true ∷ flags) (d ∷ drawn) (y ∷ values) zero same_drawn same inside set x rest = refl
 picked-take (true ∷ flags) (d ∷ drawn) (y ∷ values) (suc place) same_drawn same inside set x rest =
     ap (λ ys. y ∷ ys) (picked-take flags drawn values place (omega (arith, same_drawn)) (omega (arith, same)) (omega (arith, inside)) set x rest)
+
+-- ---- one flag more
+set_count-append : (flags more : List Bool) → set_count (flags ++ more) ≡ set_count flags + set_count more
+set_count-append [] more = omega arith
+set_count-append (false ∷ flags) more = set_count-append flags more
+set_count-append (true ∷ flags) more = let rest = set_count-append flags more in omega (arith, rest)
+
+pub before_more : (flags : List Bool) (place : ℕ) (flag : Bool) → place < length flags → get_or flags place false ≡ flag → before flags (place + 1) ≡ before flags place + set_count (flag ∷ [])
+before_more flags place flag inside is =
+    ap set_count (take_more flags place false inside) ∙ set_count-append (take place flags) (get_or flags place false ∷ []) ∙ ap (λ b. before flags place + set_count (b ∷ [])) is
+
+-- the number that a flag counts for
+pub count_of : (flag : Bool) → cond flag 1 0 ≡ set_count (flag ∷ [])
+count_of true = refl
+count_of false = refl
+
+pub set_count_within : (flags : List Bool) → set_count flags ≤ length flags
+set_count_within [] = omega arith
+set_count_within (false ∷ flags) = let rest = set_count_within flags in omega (arith, rest)
+set_count_within (true ∷ flags) = let rest = set_count_within flags in omega (arith, rest)
+
+pub before_all : (flags : List Bool) (place : ℕ) → place ≡ length flags → before flags place ≡ set_count flags
+before_all flags place all = ap (before flags) all ∙ ap set_count (take_all (length flags) flags (omega arith))

@@ -23,7 +23,6 @@ use Rattle.model_search.specs.Candidates.{solved_count, entries_of, model_by, li
 use Rattle.model_search.specs.Unknowns.{set_count, filled, picked, unit_values}
 use Rattle.model_search.specs.Plans.{terms_of, IsLinearGenerator, IsZeroAtSignature, AreLinearGenerators}
 use Rattle.model_search.specs.Equations.{entries_at, factor_by, row_by, system_for}
-
 use Rattle.model_search.proofs.CandidateModels.{modulus_of_shape}
 use Rattle.model_search.proofs.DrawnEntries.{flag_of_each, drawn_by_flags, drawn_by_entries}
 use Rattle.model_search.proofs.FilledValues.{length-filled, All-filled}
@@ -72,7 +71,7 @@ module _ (problem : Problem) (s : Shape) (shape : IsShape (object_count problem.
   value_of_each : length drawn ≡ length solved
   value_of_each = count ∙ sym (flag_of_each q s problem.parts.solved)
 
-  unit_of_each : length units ≡ n
+  pub unit_of_each : length units ≡ n
   unit_of_each = length-map-range_with_len unit 0 n
 
   unit_below : (k : ℕ) → All (λ value. value < s.modulus) (unit_values n k)
@@ -96,6 +95,19 @@ module _ (problem : Problem) (s : Shape) (shape : IsShape (object_count problem.
       go : (place < length (numbers values)) ⊎ (length (numbers values) ≤ place) → get_or (numbers values) place 0 < s.modulus
       go (inl inside) = All-get_or (λ x. x < s.modulus) (numbers values) place 0 inside (entries_below problem s shape drawn count drawn_below gs linear values below)
       go (inr past) = subst (λ x. x < s.modulus) (sym (get_or_past (numbers values) place 0 past)) (omega (arith, least))
+
+  unit_numbers_below : (k : ℕ) → Below problem s shape drawn count drawn_below (unit k)
+  unit_numbers_below k = entries_below problem s shape drawn count drawn_below gs linear (unit_values n k) (unit_below k)
+
+  pub zero_below : All (λ x. x < s.modulus) (unit n)
+  zero_below = unit_numbers_below n
+
+  pub units_below : All (λ u. All (λ x. x < s.modulus) u) units
+  units_below = All-map (λ u. All (λ x. x < s.modulus) u) unit (range_with_len 0 n) (All-from_get_or (λ k. All (λ x. x < s.modulus) (unit k)) (range_with_len 0 n) 0 (λ k inside. unit_numbers_below (get_or (range_with_len 0 n) k 0)))
+
+  pub units_alike : All (λ u. length u ≡ length (unit n)) units
+  units_alike = All-map (λ u. length u ≡ length (unit n)) unit (range_with_len 0 n) (All-from_get_or (λ k. length (unit k) ≡ length (unit n)) (range_with_len 0 n) 0 (λ k inside.
+      length-entries problem s shape drawn count drawn_below gs linear (unit_values n (get_or (range_with_len 0 n) k 0)) (unit_values n n) (unit_below (get_or (range_with_len 0 n) k 0)) (unit_below n)))
 
   is_equation : (place : ℕ) → IsEquation s.modulus (length units) (row_by s.modulus (unit n) units place)
   is_equation place = record {
@@ -167,10 +179,10 @@ module _ (problem : Problem) (s : Shape) (shape : IsShape (object_count problem.
       each : (xs : List LinearGenerator) → AllByRecursion (IsLinearGenerator problem) xs → AllByRecursion (IsZeroAtSignature problem m) xs
       each [] all = tt
       each (g ∷ xs) all = (
-          (kept_one (IsZeroIn problem m) (list_all (λ t. nat_le (solved_count q problem.parts.solved t.1) 1)) problem.generators g.place all.0.place all.0.linear solution.zero).at
-          g.sig.source.0 g.sig.target.0 all.0.source all.0.target all.0.typed,
-          each xs all.1,
-        )
+        (kept_one (IsZeroIn problem m) (list_all (λ t. nat_le (solved_count q problem.parts.solved t.1) 1)) problem.generators g.place all.0.place all.0.linear solution.zero).at
+            g.sig.source.0 g.sig.target.0 all.0.source all.0.target all.0.typed,
+        each xs all.1,
+      )
 
   pub solution_from : (values : List ℕ) → Solves system values → IsSolution problem s drawn (filled solved drawn values)
   solution_from values solves = record {

@@ -12,8 +12,8 @@ use Rattle.adjoint_rules.specs.Problem.{polynomials}
 use Rattle.model_search.specs.declared.plan.LinearGenerator.{LinearGenerator}
 use Rattle.model_search.specs.declared.plan.Plan.{Plan}
 use Rattle.model_search.specs.Models.{representation_of, IsZeroIn}
-use Rattle.model_search.specs.Candidates.{IsShapeOf, is_exhaustive, linear_generators, solved_count}
-use Rattle.model_search.specs.Unknowns.{solved_flags}
+use Rattle.model_search.specs.Candidates.{IsShapeOf, entries_of, is_exhaustive, linear_generators, solved_count}
+use Rattle.model_search.specs.Unknowns.{set_count, solved_flags}
 
 -- the terms of the generator that is meant
 abbrev pub terms_of : Problem → LinearGenerator → List (ℤ × List ℕ)
@@ -37,10 +37,20 @@ pub record AreLinearGenerators (problem : Problem) (gs : List LinearGenerator) :
   pub each : All (IsLinearGenerator problem) gs
   pub all : (m : Model) → All (IsZeroAtSignature problem m) gs → AllByRecursion (IsZeroIn problem m) (polynomials (linear_generators problem))
 
--- The plan is that of a shape of the problem: whether all lists of values are tried, which entries are solved for, and the linear generators.
+-- The plan fits the shape: whether all lists of values are tried, which entries are solved for and how many, and the linear generators.
+pub record FitsShape (problem : Problem) (s : Shape) (plan : Plan) : Type 0 where
+  pub exhaustive : plan.exhaustive ≡ is_exhaustive (quiver_of problem.parts.quiver) s
+  pub solved : plan.solved ≡ solved_flags (quiver_of problem.parts.quiver) s problem.parts.solved
+  pub unknowns : plan.unknowns ≡ set_count plan.solved
+  pub generators : AreLinearGenerators problem plan.generators
+
+-- The plan is that of the shape with its number.
 pub record IsPlan (problem : Problem) (plan : Plan) : Type 0 where
   pub least : 1 ≤ plan.number
   pub most : plan.number ≤ length problem.parts.shapes
-  pub exhaustive : (s : Shape) → IsShapeOf problem plan.number s → plan.exhaustive ≡ is_exhaustive (quiver_of problem.parts.quiver) s
-  pub solved : (s : Shape) → IsShapeOf problem plan.number s → plan.solved ≡ solved_flags (quiver_of problem.parts.quiver) s problem.parts.solved
-  pub generators : AreLinearGenerators problem plan.generators
+  pub fits : (s : Shape) → IsShapeOf problem plan.number s → FitsShape problem s plan
+
+-- Values below the modulus, one for each entry of the shape.
+pub record AreEntryValues (problem : Problem) (s : Shape) (values : List ℕ) : Type 0 where
+  pub one_each : length values ≡ length (entries_of (quiver_of problem.parts.quiver) s)
+  pub below : All (λ value. value < s.modulus) values

@@ -1,10 +1,10 @@
 // How many candidates a shape has.
-ghost use Rattle.std.specs.Prelude.{◌≡◌, ◌≤◌, length};
+ghost use Rattle.std.specs.Prelude.{◌≡◌, ◌≤◌, ◌^◌, length, nat_le};
 ghost use Rattle.definitions.specs.Quiver.{IsQuiver};
 ghost use Rattle.quiver.specs.Declarations.{object_count, quiver_of};
 ghost use Rattle.adjoint_rules.specs.declared.parts.Shape.{Shape as ShapeValue};
 ghost use Rattle.adjoint_rules.specs.Problem.{IsShape};
-ghost use Rattle.model_search.specs.Candidates.{IsShapeOf, candidate_count, all_candidate_count, is_exhaustive};
+ghost use Rattle.model_search.specs.Candidates.{IsShapeOf, candidate_count, all_candidate_count};
 
 use crate::entries::entry_count;
 use adjoint_rules::{Problem, Shape};
@@ -52,13 +52,11 @@ fn count_for(quiver: &Quiver, shape: &Shape) -> u32
     }
 }
 
-/// Whether all lists of values are tried.
-pub(crate) fn is_exhaustive(quiver: &Quiver, shape: &Shape) -> bool
-    requires quiver { IsQuiver (quiver_of quiver.now) }
-    requires shape { IsShape (object_count quiver.now) shape.now }
-    ensures { result ≡ is_exhaustive (quiver_of quiver.now) shape.now }
+/// Whether there are so few lists of values of the entries that all are tried.
+pub(crate) fn is_exhaustive(modulus: u32, entries: u32) -> bool
+    ensures { result ≡ nat_le (modulus ^ entries) 65536 }
 {
-    match shape.modulus.checked_pow(entry_count(quiver, shape)) {
+    match modulus.checked_pow(entries) {
         Some(count) => count <= EXHAUSTIVE_LIMIT,
         None => false,
     }

@@ -1,18 +1,16 @@
 // The linear equations that the drawn entries leave for those that are solved for.
 ghost use Rattle.std.specs.Prelude.{◌≡◌, ◌<◌, ◌++◌, length, IfOk, OnOk};
 ghost use Rattle.std.specs.List.{All};
-ghost use Rattle.quiver.specs.Declarations.{object_count, quiver_of};
+ghost use Rattle.quiver.specs.Declarations.{object_count};
 ghost use Rattle.matrix_models.specs.Matrix.{IsMatrix, IsModulus};
 ghost use Rattle.adjoint_rules.specs.Problem.{IsShape};
-ghost use Rattle.model_search.specs.Candidates.{entries_of};
-ghost use Rattle.model_search.specs.Unknowns.{solved_flags};
-ghost use Rattle.model_search.specs.Plans.{IsLinearGenerator};
+ghost use Rattle.model_search.specs.Plans.{AreEntryValues, FitsShape, IsLinearGenerator};
 ghost use Rattle.model_search.specs.Equations.{entries_in, entries_at, row_by, system_for};
 
 use crate::given_values::model_with;
-use crate::plan::LinearGenerator;
+use crate::plan::{LinearGenerator, Plan};
 use crate::representation::representation_of;
-use crate::unknowns::{filled, unit_values, unknown_count};
+use crate::unknowns::{filled, unit_values};
 use adjoint_rules::{Problem, Shape};
 use lists::Listing;
 use matrix_models::{LinearRow, Matrices, Matrix, System};
@@ -24,22 +22,18 @@ pub(crate) fn system_of(
     alloc: Global,
     problem: &Problem,
     shape: &Shape,
-    solved: &[bool],
-    generators: &[LinearGenerator],
+    plan: &Plan,
     drawn: &[u32],
 ) -> Result<System, AllocError>
     requires shape { IsShape (object_count problem.now.parts.quiver) shape.now }
-    requires solved { solved.now ≡ solved_flags (quiver_of problem.now.parts.quiver) shape.now problem.now.parts.solved }
-    requires generators { All (IsLinearGenerator problem.now) generators.now }
-    requires one_each { length drawn.now ≡ length (entries_of (quiver_of problem.now.parts.quiver) shape.now) }
-    requires below { All (λ value. value < shape.now.modulus) drawn.now }
-    ensures { IfOk result (λ system. system ≡ system_for problem.now shape.now solved.now generators.now drawn.now) }
+    requires plan { FitsShape problem.now shape.now plan.now }
+    requires drawn { AreEntryValues problem.now shape.now drawn.now }
+    ensures { IfOk result (λ system. system ≡ system_for problem.now shape.now plan.now.solved plan.now.generators drawn.now) }
 {
-    let unknowns = unknown_count(solved);
-    let at_zero = entries_at(alloc, problem, shape, solved, generators, drawn, unknowns)?;
+    let at_zero = entries_at(alloc, problem, shape, plan, drawn, plan.unknowns)?;
     let mut at_units = Listing::new(alloc);
-    for unknown in 0..unknowns {
-        at_units.push(entries_at(alloc, problem, shape, solved, generators, drawn, unknown)?)?;
+    for unknown in 0..plan.unknowns {
+        at_units.push(entries_at(alloc, problem, shape, plan, drawn, unknown)?)?;
     }
     let mut rows = Listing::new(alloc);
     for place in 0..at_zero.len() {
@@ -53,31 +47,34 @@ pub(crate) fn system_of(
     }
     Ok(System {
         modulus: shape.modulus,
-        unknowns,
+        unknowns: plan.unknowns,
         rows,
     })
 }
 
-// The entries of the generators where this unknown is 1 and the others are 0.
+// The entries of the generators where this unknown is 1 and the others are 0, or, at the number of unknowns, all are 0.
 fn entries_at(
     alloc: Global,
     problem: &Problem,
     shape: &Shape,
-    solved: &[bool],
-    generators: &[LinearGenerator],
+    plan: &Plan,
     drawn: &[u32],
     unknown: u32,
 ) -> Result<Listing<u32>, AllocError>
     requires shape { IsShape (object_count problem.now.parts.quiver) shape.now }
-    requires solved { solved.now ≡ solved_flags (quiver_of problem.now.parts.quiver) shape.now problem.now.parts.solved }
-    requires generators { All (IsLinearGenerator problem.now) generators.now }
-    requires one_each { length drawn.now ≡ length (entries_of (quiver_of problem.now.parts.quiver) shape.now) }
-    requires below { All (λ value. value < shape.now.modulus) drawn.now }
-    ensures { IfOk result (λ entries. entries ≡ entries_at problem.now shape.now solved.now generators.now drawn.now unknown) }
+    requires plan { FitsShape problem.now shape.now plan.now }
+    requires drawn { AreEntryValues problem.now shape.now drawn.now }
+    ensures { IfOk result (λ entries. entries ≡ entries_at problem.now shape.now plan.now.solved plan.now.generators drawn.now unknown) }
 {
-    let unit = unit_values(alloc, unknown_count(solved), unknown)?;
-    let values = filled(alloc, solved, drawn, unit.as_slice())?;
-    entries_in(alloc, problem, shape, generators, values.as_slice())
+    let unit = unit_values(alloc, plan.unknowns, unknown)?;
+    let values = filled(alloc, plan.solved.as_slice(), drawn, unit.as_slice())?;
+    entries_in(
+        alloc,
+        problem,
+        shape,
+        plan.generators.as_slice(),
+        values.as_slice(),
+    )
 }
 
 // The entries of the values of the generators, one generator after the other, in the model with these values.
@@ -90,8 +87,7 @@ fn entries_in(
 ) -> Result<Listing<u32>, AllocError>
     requires shape { IsShape (object_count problem.now.parts.quiver) shape.now }
     requires generators { All (IsLinearGenerator problem.now) generators.now }
-    requires one_each { length values.now ≡ length (entries_of (quiver_of problem.now.parts.quiver) shape.now) }
-    requires below { All (λ value. value < shape.now.modulus) values.now }
+    requires values { AreEntryValues problem.now shape.now values.now }
     ensures { IfOk result (λ entries. entries ≡ entries_in problem.now shape.now generators.now values.now) }
 {
     let quiver = &problem.parts.quiver;

@@ -1,12 +1,10 @@
 // The candidates of a shape.
-ghost use Rattle.std.specs.Prelude.{◌≡◌, ◌<◌, ◌≤◌, ℕ, List, length, IfOk, IfSome, IfNone};
-ghost use Rattle.std.specs.List.{All};
-ghost use Rattle.quiver.specs.Declarations.{object_count, quiver_of};
+ghost use Rattle.std.specs.Prelude.{◌≤◌, ℕ, List, length, IfOk, IfSome, IfNone};
+ghost use Rattle.quiver.specs.Declarations.{object_count};
 ghost use Rattle.adjoint_rules.specs.Problem.{IsShape};
 ghost use Rattle.adjoint_rules.specs.declared.parts.Shape.{Shape as ShapeValue};
-ghost use Rattle.model_search.specs.Candidates.{entries_of, IsCandidate, IsGreedy, IsShapeOf, IsSolution};
-ghost use Rattle.model_search.specs.Unknowns.{solved_flags};
-ghost use Rattle.model_search.specs.Plans.{AreLinearGenerators, IsPlan};
+ghost use Rattle.model_search.specs.Candidates.{IsCandidate, IsGreedy, IsShapeOf, IsSolution};
+ghost use Rattle.model_search.specs.Plans.{AreEntryValues, FitsShape, IsPlan};
 
 use crate::drawn_values::draws_of;
 use crate::equations::system_of;
@@ -67,22 +65,13 @@ fn greedy_values(
     drawn: &[u32],
 ) -> Result<Option<Listing<u32>>, AllocError>
     requires shape { IsShape (object_count problem.now.parts.quiver) shape.now }
-    requires solved { plan.now.solved ≡ solved_flags (quiver_of problem.now.parts.quiver) shape.now problem.now.parts.solved }
-    requires generators { AreLinearGenerators problem.now plan.now.generators }
-    requires one_each { length drawn.now ≡ length (entries_of (quiver_of problem.now.parts.quiver) shape.now) }
-    requires below { All (λ value. value < shape.now.modulus) drawn.now }
+    requires plan { FitsShape problem.now shape.now plan.now }
+    requires drawn { AreEntryValues problem.now shape.now drawn.now }
     ensures none { IfOk result (λ found. IfNone found ((values : List ℕ) → ¬ IsSolution problem.now shape.now drawn.now values)) }
     ensures greedy { IfOk result (λ found. IfSome found (IsGreedy problem.now shape.now drawn.now)) }
 {
     let solved = plan.solved.as_slice();
-    let system = system_of(
-        alloc,
-        problem,
-        shape,
-        solved,
-        plan.generators.as_slice(),
-        drawn,
-    )?;
+    let system = system_of(alloc, problem, shape, plan, drawn)?;
     let prefer = picked(alloc, solved, drawn)?;
     match solve(alloc, &system, prefer.as_slice())? {
         Some(values) => Ok(Some(filled(alloc, solved, drawn, values.as_slice())?)),

@@ -5,12 +5,13 @@ ghost use Rattle.definitions.specs.Quiver.{IsQuiver};
 ghost use Rattle.word_core.specs.Letters.{IsOver};
 ghost use Rattle.quiver.specs.Declarations.{letter_count, object_count, quiver_of};
 ghost use Rattle.adjoint_rules.specs.Problem.{IsShape};
-ghost use Rattle.model_search.specs.Candidates.{is_linear, is_solved, solved_count};
+ghost use Rattle.model_search.specs.Candidates.{is_linear, is_solved, is_solved_map, solved_count};
 ghost use Rattle.model_search.specs.Unknowns.{solved_flags};
 ghost use Rattle.model_search.specs.Plans.{AreLinearGenerators, IsPlan};
 
 use crate::candidate_count::is_exhaustive;
-use crate::entries::{is_declared, map_entry_count};
+use crate::entries::{entry_count, is_declared, map_entry_count};
+use crate::unknowns::unknown_count;
 use adjoint_rules::{Problem, Shape};
 use lists::Listing;
 use nc_polynomial::Poly;
@@ -33,6 +34,8 @@ pub(crate) struct Plan {
     pub number: u32,
     /// Whether all lists of values are tried.
     pub exhaustive: bool,
+    /// How many entries are solved for.
+    pub unknowns: u32,
     /// For each entry, whether it is solved for.
     pub solved: Listing<bool>,
     /// The linear generators that have a term.
@@ -48,11 +51,13 @@ pub(crate) fn plan_of(alloc: Global, problem: &Problem, shape: u32) -> Result<Pl
 {
     let parts = &problem.parts;
     let form = parts.shapes.at(shape as usize - 1);
+    let entries = entry_count(&parts.quiver, form);
     let solved = solved_flags(alloc, &parts.quiver, form, parts.solved.as_slice())?;
     let generators = linear_generators(alloc, problem)?;
     Ok(Plan {
         number: shape,
-        exhaustive: is_exhaustive(&parts.quiver, form),
+        exhaustive: is_exhaustive(form.modulus, entries),
+        unknowns: unknown_count(solved.as_slice()),
         solved,
         generators,
     })
@@ -74,7 +79,7 @@ fn solved_flags(
         let letter = Letter(number as u16);
         if is_declared(quiver, letter) {
             let count = map_entry_count(quiver, shape, letter);
-            push_flags(&mut flags, solved.contains(&letter), count)?;
+            push_flags(&mut flags, is_among(solved, letter), count)?;
         }
     }
     Ok(flags)
@@ -148,5 +153,12 @@ fn is_solved(quiver: &Quiver, solved: &[Letter], letter: Letter) -> bool
     requires letter { letter.0 < letter_count quiver.now }
     ensures { result ≡ is_solved (quiver_of quiver.now) solved.now letter.0 }
 {
-    solved.contains(&letter) || solved.contains(&quiver.star_of(letter))
+    is_among(solved, letter) || is_among(solved, quiver.star_of(letter))
+}
+
+// Whether the letter is one of the maps.
+fn is_among(maps: &[Letter], letter: Letter) -> bool
+    ensures { result ≡ is_solved_map maps.now letter.0 }
+{
+    maps.iter().any(|map| letter == *map)
 }

@@ -2,7 +2,8 @@ use Rattle.std.proofs.Common.{rules, ◌≡◌, ◌<◌, ◌≤◌, ◌+◌, ℕ
 use Rattle.std.proofs.lemmas.Option.{MatchOption-at_some, MatchOption-at_none}
 use Rattle.quiver.specs.Declarations.{quiver_of}
 use Rattle.model_search.specs.Candidates.{candidate_count}
-use Rattle.model_search.proofs.SearchSteps.{shape_of_number, first_of_shape, none_so_far, none_of_shape}
+use Rattle.model_search.proofs.NumberedShapes.{shape_of_number}
+use Rattle.model_search.proofs.SearchSteps.{first_of_shape, none_so_far, none_of_shape}
 use Rattle.model_search.proofs.candidate_search.search_shape.Goals as goal
 
 pub search_block-requires-clause-inside : goal.search_block-requires-clause-inside

@@ -1,7 +1,5 @@
 use Rattle.std.proofs.Common.{rules, ◌≡◌, cond, nat_eq, ◌++◌, ◌∷◌, [], sym, ap₂, ◌∙◌, arith}
 use Rattle.std.proofs.lemmas.List.FromFn.{map-range_with_len_more}
-use Rattle.model_search.proofs.SystemSolutions.{can_take_own}
-use Rattle.model_search.proofs.CandidateLaws.{candidate_is_unique}
 use Rattle.model_search.proofs.unknowns.unit_values.Goals as goal
 
 pub loop-k-preserved : goal.loop-k-preserved
