@@ -1,16 +1,15 @@
 -- A claim has one least breaking candidate at most, and one or none, and such a candidate is a model.
 use Rattle.std.proofs.Common.{◌≡◌, ℕ, zero, suc, ◌+◌, ◌<◌, ◌≤◌, length, Option, Some, None, slice_get, ◌⊎◌, inl, inr, refl, sym, ap, subst, ◌∙◌, arith}
 use Rattle.std.proofs.lemmas.Bool.{cases_lt, cases_eq}
-use Rattle.std.proofs.lemmas.Option.{slice_get_cases, slice_get_within}
-use Rattle.definitions.specs.Quiver.{letters}
-use Rattle.quiver.specs.Declarations.{object_count, letter_count, quiver_of}
+use Rattle.std.proofs.lemmas.Option.{slice_get_within}
+use Rattle.quiver.specs.Declarations.{quiver_of}
 use Rattle.quiver.proofs.Counts.{letters-quiver_of}
 use Rattle.matrix_models.specs.declared.model.Model.{Model}
 use Rattle.adjoint_rules.specs.declared.parts.Shape.{Shape}
 use Rattle.adjoint_rules.specs.declared.problem.Problem.{Problem}
 use Rattle.model_search.specs.Models.{IsModel, Refutes}
-use Rattle.model_search.specs.Candidates.{IsShapeOf, IsCandidate, candidate_count, naming, Breaks, IsEarlier, IsLeastBreaking, NoneBreaks}
-use Rattle.model_search.specs.SearchLaws.{LeastBreakingIsUnique, NoneBreaksLeavesNoLeast, HasLeastBreaking, EachSearchHasAnAnswer, IsRefutingModel, BreakingCandidatesRefute}
+use Rattle.model_search.specs.Candidates.{IsShapeOf, IsCandidate, candidate_count, naming, Breaks, IsEarlier, NoneBreaks}
+use Rattle.model_search.specs.SearchLaws.{LeastBreakingIsUnique, NoneBreaksLeavesNoLeast, HasLeastBreaking, EachSearchHasAnAnswer, BreakingCandidatesRefute}
 use Rattle.model_search.specs.Searches.{NoneBreaksAt}
 use Rattle.model_search.proofs.Breaking.{named_model, breaks_where_it_refutes, none_without_model, none_where_it_does_not, breaking_model_is_one}
 use Rattle.model_search.proofs.NumberedShapes.{shape_is_one}

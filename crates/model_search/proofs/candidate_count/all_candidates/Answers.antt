@@ -1,8 +1,4 @@
-use Rattle.std.proofs.Common.{◌≡◌, ◌+◌, ◌*◌, ◌<◌, sum, map, take, length, get_or, slice_get, Some, ap, sym, subst, ◌∙◌, arith}
-use Rattle.quiver.specs.Declarations.{object_count, quiver_of}
-use Rattle.adjoint_rules.specs.Problem.{IsShape}
 use Rattle.adjoint_rules.proofs.Generators.{posed_quiver}
-use Rattle.model_search.proofs.Places.{all_at, item_at}
 use Rattle.model_search.proofs.candidate_count.all_candidates.Goals as goal
 
 pub count_for-requires-clause-quiver : goal.count_for-requires-clause-quiver

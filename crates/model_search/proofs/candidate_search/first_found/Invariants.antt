@@ -1,7 +1,5 @@
-use Rattle.std.proofs.Common.{◌≡◌, ◌++◌, List, Option, None, Result, Ok, length}
-use Rattle.std.specs.List.{All}
+use Rattle.std.proofs.Common.{◌≡◌, length}
 use Rattle.std.specs.Vec.Iter.{into_iter_items, into_iter_len}
-use Rattle.model_search.specs.declared.found.Found.{Found}
 use Rattle.model_search.proofs.Blocks.{IsPassed}
 use Rattle.model_search.proofs.candidate_search.first_found.Given as goal
 

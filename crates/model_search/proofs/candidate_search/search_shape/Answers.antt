@@ -23,17 +23,16 @@ search_block-requires-clause-inside g c κs alive k below =
 pub returns-in-Some : goal.returns-in-Some
 returns-in-Some g c =
     let job = c.args.tester.now in
-    first_of_shape job.problem.now job.claim job.seed job.plan.now.number c.loop-first.first c.in-Some.found c.loop-first.invariant.none
-    (MatchOption-at_some _ _ c.in-Some.found c.in-Some.is c.in_ok-found.ensures)
+    first_of_shape job.problem.now job.claim job.seed job.plan.now.number c.loop-first.first c.min-size.result c.in_ok-found.field-0 c.in-Some.found c.in-Some.is c.loop-first.invariant.none
+    c.in_ok-found.ensures
 
 pub loop-first-preserved : goal.loop-first-preserved
 loop-first-preserved g c =
     let job = c.args.tester.now in
-    let next = c.loop-first.first + c.min-size.result in
     record {
       within = omega (arith, c.min-size.ensures, c.loop-first-test.true);
-      none = none_so_far job.problem.now job.claim job.seed job.plan.now.number c.loop-first.first c.min-size.result next refl c.loop-first.invariant.none
-          (MatchOption-at_none _ _ c.in_default.is c.in_ok-found.ensures);
+      none = none_so_far job.problem.now job.claim job.seed job.plan.now.number c.loop-first.first c.min-size.result c.in_ok-found.field-0 c.in_default.is
+          c.loop-first.invariant.none c.in_ok-found.ensures;
     }
 
 pub returns : goal.returns

@@ -1,4 +1,3 @@
-use Rattle.std.proofs.Common.{arith}
 use Rattle.adjoint_rules.proofs.Generators.{posed_quiver}
 use Rattle.model_search.proofs.confirm.confirm_model.Goals as goal
 

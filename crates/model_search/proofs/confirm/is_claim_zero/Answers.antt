@@ -1,4 +1,4 @@
-use Rattle.std.proofs.Common.{◌-◌, ◌↔◌, IsTrue, sym, subst, arith}
+use Rattle.std.proofs.Common.{◌-◌, sym, subst, arith}
 use Rattle.std.proofs.lemmas.Slice.Zip.{AllZip-long}
 use Rattle.std.proofs.lemmas.Result.{IfOk-weaker}
 use Rattle.adjoint_rules.specs.Problem.{IsTypedOf, HasObjects}
