@@ -42,7 +42,7 @@ least_breaking_is_unique problem claim seed n k n' k' m m' one other = go (eithe
       same.0,
       same.1,
       breaking_model_is_one problem claim n seed k m m' one.breaks
-      (subst (λ x. Breaks problem claim seed x k m') (sym same.0) (subst (λ x. Breaks problem claim seed n' x m') (sym same.1) other.breaks)),
+          (subst (λ x. Breaks problem claim seed x k m') (sym same.0) (subst (λ x. Breaks problem claim seed n' x m') (sym same.1) other.breaks)),
     )
 
 pub none_breaks_leaves_no_least : NoneBreaksLeavesNoLeast

@@ -1,14 +1,14 @@
 -- What is known behind each block of a shape, and behind each shape.
-use Rattle.std.proofs.Common.{◌≡◌, ℕ, ◌+◌, ◌-◌, ◌<◌, ◌≤◌, List, length, get_or, Option, Some, None, MatchOption, slice_get, ◌⊎◌, inl, inr, sym, subst, ◌∙◌, arith}
+use Rattle.std.proofs.Common.{◌≡◌, ℕ, ◌+◌, ◌<◌, ◌≤◌, length, Option, Some, None, MatchOption, ◌⊎◌, inl, inr, sym, subst, ◌∙◌, arith}
 use Rattle.std.proofs.lemmas.Bool.{cases_lt, cases_eq}
-use Rattle.std.proofs.lemmas.Option.{slice_get_cases, slice_get_within}
+use Rattle.std.proofs.lemmas.Option.{slice_get_within}
 use Rattle.quiver.specs.Declarations.{quiver_of}
 use Rattle.matrix_models.specs.declared.model.Model.{Model}
 use Rattle.adjoint_rules.specs.declared.parts.Shape.{Shape}
 use Rattle.adjoint_rules.specs.declared.problem.Problem.{Problem}
 use Rattle.model_search.specs.declared.found.Found.{Found}
 use Rattle.model_search.specs.Candidates.{IsShapeOf, candidate_count, Breaks, IsEarlier, IsLeastBreaking, NoneBreaks}
-use Rattle.model_search.specs.Searches.{NoneBreaksAt, IsFoundAt, IsFirstFrom}
+use Rattle.model_search.specs.Searches.{NoneBreaksAt, IsFirstFrom}
 
 module _ (problem : Problem) (claim seed number : ℕ) where
   abbrev None_at : ℕ → Type 0

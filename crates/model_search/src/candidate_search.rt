@@ -51,8 +51,7 @@ fn test(tester: &Tester, candidate: u32) -> Result<Option<Found>, AllocError>
     ensures { IfOk result (IsTested tester.now.problem.now tester.now.claim tester.now.seed tester.now.plan.now.number candidate) }
 {
     let problem = tester.problem;
-    let Some(mut model) =
-        candidate_by(tester.alloc, problem, tester.plan, tester.seed, candidate)?
+    let Some(mut model) = candidate_by(tester.alloc, problem, tester.plan, tester.seed, candidate)?
     else {
         return Ok(None);
     };
@@ -68,9 +67,7 @@ fn test(tester: &Tester, candidate: u32) -> Result<Option<Found>, AllocError>
 }
 
 // The first of the answers that isn't None. Memory that was short for a later one doesn't matter.
-fn first_found(
-    answers: Vec<Result<Option<Found>, AllocError>>,
-) -> Result<Option<Found>, AllocError>
+fn first_found(answers: Vec<Result<Option<Found>, AllocError>>) -> Result<Option<Found>, AllocError>
     ensures { IfOk result (λ found. MatchOption found (All (λ answer. answer ≡ Ok None) answers.items) (IsFirstFound answers.items)) }
 {
     for answer in answers {

@@ -1,5 +1,4 @@
-use Rattle.std.proofs.Common.{rules, ◌≡◌, ◌<◌, ◌≤◌, ◌+◌, ℕ, length, Some, None, sym, subst, ◌∙◌, arith}
-use Rattle.std.proofs.lemmas.Option.{MatchOption-at_some, MatchOption-at_none}
+use Rattle.std.proofs.Common.{arith}
 use Rattle.model_search.proofs.SearchSteps.{none_with_shape, least_of_all, none_of_all}
 use Rattle.model_search.proofs.candidate_search.search.Goals as goal
 

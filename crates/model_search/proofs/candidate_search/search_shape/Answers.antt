@@ -1,5 +1,4 @@
-use Rattle.std.proofs.Common.{rules, ◌≡◌, ◌<◌, ◌≤◌, ◌+◌, ℕ, Some, None, refl, sym, subst, ◌∙◌, arith}
-use Rattle.std.proofs.lemmas.Option.{MatchOption-at_some, MatchOption-at_none}
+use Rattle.std.proofs.Common.{◌≡◌, ◌<◌, ◌≤◌, ◌+◌, subst, arith}
 use Rattle.quiver.specs.Declarations.{quiver_of}
 use Rattle.model_search.specs.Candidates.{candidate_count}
 use Rattle.model_search.proofs.NumberedShapes.{shape_of_number}
