@@ -1,6 +1,6 @@
 -- Of each shape, seed and number there is one candidate.
-use Rattle.std.proofs.Common.{◌≡◌, ℕ, zero, suc, ◌+◌, ◌<◌, ◌≤◌, ℤ, Bool, true, false, not, List, [], ◌∷◌, ◌++◌, length, get_or, take, drop, filter, cond, Option, Some, None, ◌⊎◌, inl, inr, refl, sym, ap, subst, ◌∙◌, arith}
-use Rattle.std.specs.List.{All, AllByRecursion}
+use Rattle.std.proofs.Common.{◌≡◌, ℕ, zero, suc, ◌+◌, ◌<◌, ◌≤◌, Bool, true, false, not, List, [], ◌∷◌, ◌++◌, length, get_or, take, filter, cond, Option, Some, None, ◌⊎◌, inl, inr, refl, sym, ap, subst, ◌∙◌, arith}
+use Rattle.std.specs.List.{AllByRecursion}
 use Rattle.std.proofs.lemmas.Bool.{cases_eq, false≢true}
 use Rattle.std.proofs.lemmas.List.{take_all, take_more_same}
 use Rattle.std.proofs.lemmas.List.Elements.{All-from_recursion, recursion_from_All}
@@ -16,26 +16,29 @@ use Rattle.adjoint_rules.specs.declared.problem.Problem.{Problem}
 use Rattle.adjoint_rules.specs.Problem.{polynomials}
 use Rattle.adjoint_rules.proofs.Generators.{generators_have_signatures}
 use Rattle.model_search.specs.Models.{representation_of, IsZeroIn}
-use Rattle.model_search.specs.Candidates.{entries_of, model_by, is_exhaustive, digits, draws, is_linear, linear_generators, IsShapeOf, IsSolution, CanBegin, CanTake, IsGreedy, IsCandidate}
+use Rattle.model_search.specs.Candidates.{entries_of, model_by, is_exhaustive, digits, draws, is_linear, IsShapeOf, IsSolution, CanBegin, CanTake, IsGreedy, IsCandidate}
 use Rattle.model_search.specs.Unknowns.{solved_flags}
 use Rattle.model_search.proofs.Values.{zero_from_value}
 use Rattle.model_search.proofs.Decided.{IsDecided, decided_by, both_decided, lt_decided, matrix_decided, all_decided}
 use Rattle.model_search.proofs.SolvedEntries.{IsAsDrawn}
-use Rattle.model_search.proofs.DrawnEntries.{flag_of_each, drawn_by_flags, drawn_by_entries}
-use Rattle.model_search.proofs.FiniteSearch.{Begins, IsChoice, IsGreedyList, greedy_or_none}
+use Rattle.model_search.proofs.DrawnEntries.{drawn_by_flags, drawn_by_entries}
+use Rattle.model_search.proofs.FiniteSearch.{Begins, IsGreedyList, greedy_or_none}
 use Rattle.model_search.proofs.SystemSolutions.{can_take_own}
 
 -- ---- at most one
 -- lists that agree at each place where they agree before it
 same_fronts : (values others : List ℕ) (n : ℕ) → n ≤ length values → n ≤ length others
-    → ((place : ℕ) → place < n → take place values ≡ take place others → get_or values place 0 ≡ get_or others place 0) → take n values ≡ take n others
+    → ((place : ℕ) → place < n → take place values ≡ take place others → get_or values place 0 ≡ get_or others place 0)
+    → take n values ≡ take n others
 same_fronts values others zero in_values in_others step = refl
 same_fronts values others (suc n) in_values in_others step =
     let before = same_fronts values others n (omega arith) (omega arith) (λ place within. step place (omega arith)) in
     let next : suc n ≡ n + 1 = omega arith in
-    ap (λ x. take x values) next ∙ take_more_same values others n 0 (omega arith) (omega arith) before (step n (omega arith) before) ∙ ap (λ x. take x others) (sym next)
+    ap (λ x. take x values) next ∙ take_more_same values others n 0 (omega arith) (omega arith) before (step n (omega arith) before)
+    ∙ ap (λ x. take x others) (sym next)
 
-pub greedy_is_unique : (problem : Problem) (s : Shape) (drawn values others : List ℕ) → IsGreedy problem s drawn values → IsGreedy problem s drawn others → values ≡ others
+pub greedy_is_unique : (problem : Problem) (s : Shape) (drawn values others : List ℕ) → IsGreedy problem s drawn values
+    → IsGreedy problem s drawn others → values ≡ others
 greedy_is_unique problem s drawn values others first second =
     sym (take_all (length values) values (omega arith))
     ∙ same_fronts values others (length values) (omega arith) (omega (arith, same_length)) one_place
@@ -45,15 +48,18 @@ greedy_is_unique problem s drawn values others first second =
     same_length = first.solution.one_each ∙ sym second.solution.one_each
 
     -- drawn in one, and so in the other
-    shared : (values others : List ℕ) → IsGreedy problem s drawn values → IsGreedy problem s drawn others → (place : ℕ) → place < length values → place < length others
-        → take place values ≡ take place others → get_or values place 0 ≡ get_or drawn place 0 → get_or values place 0 ≡ get_or others place 0
+    shared : (values others : List ℕ) → IsGreedy problem s drawn values → IsGreedy problem s drawn others → (place : ℕ)
+        → place < length values → place < length others
+        → take place values ≡ take place others → get_or values place 0 ≡ get_or drawn place 0
+        → get_or values place 0 ≡ get_or others place 0
     shared values others first second place within within_others same chosen =
         chosen ∙ sym (second.drawn_where_it_can place within_others
         (subst (λ x. CanBegin problem s drawn (x ++ get_or drawn place 0 ∷ [])) same
         (subst (CanTake problem s drawn values place) chosen (can_take_own problem s drawn values place within first.solution))))
 
     one_place : (place : ℕ) → place < length values → take place values ≡ take place others → get_or values place 0 ≡ get_or others place 0
-    one_place place within same = go (cases_eq (get_or values place 0) (get_or drawn place 0)) (cases_eq (get_or others place 0) (get_or drawn place 0))
+    one_place place within same = go (cases_eq (get_or values place 0) (get_or drawn place 0))
+        (cases_eq (get_or others place 0) (get_or drawn place 0))
       where
         within_others : place < length others
         within_others = omega (arith, within, same_length)
@@ -65,16 +71,20 @@ greedy_is_unique problem s drawn values others first second =
         go (inr not_chosen) (inl chosen) = sym (shared others values second first place within_others within (sym same) chosen)
         go (inr not_chosen) (inr not_chosen_either) =
             let up = first.else_least place (get_or others place 0) within (λ can. not_chosen (first.drawn_where_it_can place within can))
-            (subst (λ x. CanBegin problem s drawn (x ++ get_or others place 0 ∷ [])) (sym same) (can_take_own problem s drawn others place within_others second.solution)) in
-            let down = second.else_least place (get_or values place 0) within_others (λ can. not_chosen_either (second.drawn_where_it_can place within_others can))
-            (subst (λ x. CanBegin problem s drawn (x ++ get_or values place 0 ∷ [])) same (can_take_own problem s drawn values place within first.solution)) in
+            (subst (λ x. CanBegin problem s drawn (x ++ get_or others place 0 ∷ [])) (sym same)
+            (can_take_own problem s drawn others place within_others second.solution)) in
+            let down = second.else_least place (get_or values place 0) within_others
+            (λ can. not_chosen_either (second.drawn_where_it_can place within_others can))
+            (subst (λ x. CanBegin problem s drawn (x ++ get_or values place 0 ∷ [])) same
+            (can_take_own problem s drawn values place within first.solution)) in
             omega (arith, up, down)
 
 not_both : (b : Bool) → b ≡ true → not b ≡ true → ⊥
 not_both true is other = false≢true other
 not_both false is other = false≢true is
 
-pub candidate_is_unique : (problem : Problem) (number : ℕ) (s : Shape) (seed k : ℕ) (one other : Option Model) → IsCandidate problem number s seed k one → IsCandidate problem number s seed k other
+pub candidate_is_unique : (problem : Problem) (number : ℕ) (s : Shape) (seed k : ℕ) (one other : Option Model)
+    → IsCandidate problem number s seed k one → IsCandidate problem number s seed k other
     → one ≡ other
 candidate_is_unique problem number s seed k one other first second = go first second
   where
@@ -90,7 +100,8 @@ candidate_is_unique problem number s seed k one other first second = go first se
     go (IsCandidate.numbered all is) (IsCandidate.unsolvable other_way none is_other) = absurd (not_both exhaustive all other_way)
     go (IsCandidate.drawn one_way values greedy is) (IsCandidate.numbered all is_other) = absurd (not_both exhaustive all one_way)
     go (IsCandidate.drawn one_way values greedy is) (IsCandidate.drawn other_way others greedy_other is_other) =
-        is ∙ ap (λ x. Some (model_by q s 0 x)) (greedy_is_unique problem s (draws q s number seed k) values others greedy greedy_other) ∙ sym is_other
+        is ∙ ap (λ x. Some (model_by q s 0 x)) (greedy_is_unique problem s (draws q s number seed k) values others greedy greedy_other)
+        ∙ sym is_other
     go (IsCandidate.drawn one_way values greedy is) (IsCandidate.unsolvable other_way none is_other) = absurd (none values greedy.solution)
     go (IsCandidate.unsolvable one_way none is) (IsCandidate.numbered all is_other) = absurd (not_both exhaustive all one_way)
     go (IsCandidate.unsolvable one_way none is) (IsCandidate.drawn other_way values greedy is_other) = absurd (none values greedy.solution)
@@ -104,9 +115,11 @@ module _ (problem : Problem) (m : Model) where
       let f = representation_of q m in
       decided_by (zero_from_value (matrices m.modulus) q f p.terms p.canonical signed.source signed.target signed.typed)
       (λ zero. zero.at signed.source signed.target signed.source_is_object signed.target_is_object signed.typed)
-      (matrix_decided (value_at (matrices m.modulus) q f signed.source signed.target p.terms) ((matrices m.modulus).zero (f.object signed.source) (f.object signed.target)))
+      (matrix_decided (value_at (matrices m.modulus) q f signed.source signed.target p.terms)
+      ((matrices m.modulus).zero (f.object signed.source) (f.object signed.target)))
 
-  pub kept_zero_decided : (keep : Poly → Bool) (ps : List Poly) → AllByRecursion (HasSignature (quiver_of problem.parts.quiver)) (polynomials ps)
+  pub kept_zero_decided : (keep : Poly → Bool) (ps : List Poly) → AllByRecursion (HasSignature (quiver_of problem.parts.quiver))
+      (polynomials ps)
       → IsDecided (AllByRecursion (IsZeroIn problem m) (polynomials (filter keep ps)))
   kept_zero_decided keep [] signed = inl tt
   kept_zero_decided keep (p ∷ ps) signed = go (keep p) (kept_zero_decided keep ps signed.1)
@@ -126,14 +139,16 @@ as_drawn_decided flags drawn values = before (length flags)
     one : (n : ℕ) → IsDecided (get_or flags n false ≡ false → get_or values n 0 ≡ get_or drawn n 0)
     one n = go (get_or flags n false) refl (cases_eq (get_or values n 0) (get_or drawn n 0))
       where
-        go : (b : Bool) → get_or flags n false ≡ b → IsDecided (get_or values n 0 ≡ get_or drawn n 0) → IsDecided (get_or flags n false ≡ false → get_or values n 0 ≡ get_or drawn n 0)
+        go : (b : Bool) → get_or flags n false ≡ b → IsDecided (get_or values n 0 ≡ get_or drawn n 0)
+            → IsDecided (get_or flags n false ≡ false → get_or values n 0 ≡ get_or drawn n 0)
         go true set d = inl (λ unset. absurd (false≢true (sym unset ∙ set)))
         go false unset (inl same) = inl (λ again. same)
         go false unset (inr other) = inr (λ h. other (h unset))
 
     before : (n : ℕ) → IsDecided (Until n)
     before zero = inl (λ place below. absurd (omega (arith, below)))
-    before (suc n) = decided_by join (λ h. ((λ place below. h place (omega (arith, below))), h n (omega arith))) (both_decided (before n) (one n))
+    before (suc n) = decided_by join (λ h. ((λ place below. h place (omega (arith, below))), h n (omega arith)))
+        (both_decided (before n) (one n))
       where
         join : Until n × (get_or flags n false ≡ false → get_or values n 0 ≡ get_or drawn n 0) → Until (suc n)
         join h place below = go (cases_eq place n)
@@ -152,7 +167,8 @@ module _ (problem : Problem) (s : Shape) (drawn : List ℕ) where
       let maps = problem.parts.solved in
       let flags = solved_flags q s maps in
       let below = all_decided (λ value. value < s.modulus) (λ value. lt_decided value s.modulus) values in
-      let zero = kept_zero_decided problem (model_by q s 0 values) (is_linear q maps) problem.generators (generators_have_signatures problem.parts problem.posed problem.generators problem.closed) in
+      let zero = kept_zero_decided problem (model_by q s 0 values) (is_linear q maps) problem.generators
+      (generators_have_signatures problem.parts problem.posed problem.generators problem.closed) in
       decided_by
       (λ h. record {
         one_each = h.0;
@@ -160,11 +176,18 @@ module _ (problem : Problem) (s : Shape) (drawn : List ℕ) where
         as_drawn = drawn_by_entries q s maps drawn values h.1.1.0;
         zero = h.1.1.1;
       })
-      (λ solution. (solution.one_each, (recursion_from_All (λ value. value < s.modulus) values solution.below, (drawn_by_flags q s maps drawn values solution.as_drawn, solution.zero))))
+      (λ solution. (
+        solution.one_each,
+        (
+          recursion_from_All (λ value. value < s.modulus) values solution.below,
+          (drawn_by_flags q s maps drawn values solution.as_drawn, solution.zero),
+        ),
+      ))
       (both_decided (cases_eq (length values) entry_number) (both_decided below (both_decided (as_drawn_decided flags drawn values) zero)))
 
   abbrev BeginsSolution : List ℕ → Type 0
-  BeginsSolution front = Begins entry_number s.modulus (IsSolution problem s drawn) solution_decided (λ xs solution. solution.one_each) (λ xs solution. solution.below) front
+  BeginsSolution front = Begins entry_number s.modulus (IsSolution problem s drawn) solution_decided (λ xs solution. solution.one_each)
+      (λ xs solution. solution.below) front
 
   can_begin : (front : List ℕ) → CanBegin problem s drawn front → BeginsSolution front
   can_begin front can = record { rest = can.rest; passes = can.solution }
@@ -174,9 +197,11 @@ module _ (problem : Problem) (s : Shape) (drawn : List ℕ) where
 
   -- a greedy solution, or there is none
   pub solved_or_not : ((values : List ℕ) × IsGreedy problem s drawn values) ⊎ ((values : List ℕ) → IsSolution problem s drawn values → ⊥)
-  solved_or_not = go (greedy_or_none entry_number s.modulus (IsSolution problem s drawn) solution_decided (λ xs solution. solution.one_each) (λ xs solution. solution.below) drawn)
+  solved_or_not = go (greedy_or_none entry_number s.modulus (IsSolution problem s drawn) solution_decided
+      (λ xs solution. solution.one_each) (λ xs solution. solution.below) drawn)
     where
-      go : ((values : List ℕ) × IsGreedyList entry_number s.modulus (IsSolution problem s drawn) solution_decided (λ xs solution. solution.one_each) (λ xs solution. solution.below) drawn values)
+      go : ((values : List ℕ) × IsGreedyList entry_number s.modulus (IsSolution problem s drawn) solution_decided
+          (λ xs solution. solution.one_each) (λ xs solution. solution.below) drawn values)
           ⊎ ((values : List ℕ) → IsSolution problem s drawn values → ⊥)
           → ((values : List ℕ) × IsGreedy problem s drawn values) ⊎ ((values : List ℕ) → IsSolution problem s drawn values → ⊥)
       go (inr none) = inr none
@@ -184,14 +209,18 @@ module _ (problem : Problem) (s : Shape) (drawn : List ℕ) where
         found.0,
         record {
           solution = found.1.passes;
-          drawn_where_it_can = λ place inside can. (found.1.chosen place (subst (λ n. place < n) found.1.passes.one_each inside)).preferred_if (can_begin (take place found.0 ++ get_or drawn place 0 ∷ []) can);
+          drawn_where_it_can = λ place inside can.
+              (found.1.chosen place (subst (λ n. place < n) found.1.passes.one_each inside)).preferred_if
+              (can_begin (take place found.0 ++ get_or drawn place 0 ∷ []) can);
           else_least = λ place value inside cannot can.
               (found.1.chosen place (subst (λ n. place < n) found.1.passes.one_each inside)).least_else value
-              (λ begins. cannot (begins_so (take place found.0 ++ get_or drawn place 0 ∷ []) begins)) (can_begin (take place found.0 ++ value ∷ []) can);
+              (λ begins. cannot (begins_so (take place found.0 ++ get_or drawn place 0 ∷ []) begins))
+              (can_begin (take place found.0 ++ value ∷ []) can);
         },
       )
 
-pub each_number_has_a_candidate : (problem : Problem) (number : ℕ) (s : Shape) (seed k : ℕ) → IsShapeOf problem number s → (c : Option Model) × IsCandidate problem number s seed k c
+pub each_number_has_a_candidate : (problem : Problem) (number : ℕ) (s : Shape) (seed k : ℕ) → IsShapeOf problem number s
+    → (c : Option Model) × IsCandidate problem number s seed k c
 each_number_has_a_candidate problem number s seed k numbered = go (is_exhaustive q s) refl
   where
     q : Quiver
@@ -200,7 +229,8 @@ each_number_has_a_candidate problem number s seed k numbered = go (is_exhaustive
     drawn : List ℕ
     drawn = draws q s number seed k
 
-    solve : not (is_exhaustive q s) ≡ true → ((values : List ℕ) × IsGreedy problem s drawn values) ⊎ ((values : List ℕ) → IsSolution problem s drawn values → ⊥)
+    solve : not (is_exhaustive q s) ≡ true → ((values : List ℕ) × IsGreedy problem s drawn values) ⊎ ((values : List ℕ)
+        → IsSolution problem s drawn values → ⊥)
         → (c : Option Model) × IsCandidate problem number s seed k c
     solve other (inl found) = (Some (model_by q s 0 found.0), IsCandidate.drawn other found.0 found.1 refl)
     solve other (inr none) = (None, IsCandidate.unsolvable other none refl)

@@ -39,7 +39,8 @@ first-append xs ys in_xs in_ys apart k inside = go (cases_lt k (length xs))
         sym (get_or-append-add xs ys (k - length xs) no_entry) ∙ ap (λ n. get_or (xs ++ ys) n no_entry) sum in
         subst (λ x. FirstAt (is_same_entry x) (xs ++ ys) k) there
         (subst (FirstAt (is_same_entry (get_or ys (k - length xs) no_entry)) (xs ++ ys)) sum
-        (miss (is_same_entry (get_or ys (k - length xs) no_entry)) xs ys (k - length xs) (apart (k - length xs) below) (in_ys (k - length xs) below)))
+        (miss (is_same_entry (get_or ys (k - length xs) no_entry)) xs ys (k - length xs) (apart (k - length xs) below)
+        (in_ys (k - length xs) below)))
 
 -- ---- ranges
 flat_map_next : (g : ℕ → List Entry) (n : ℕ) → flat_map g (range_with_len 0 (suc n)) ≡ flat_map g (range_with_len 0 n) ++ g n
@@ -50,17 +51,20 @@ flat_map_next g n =
     ∙ sym (flat_map-range_more g [] 0 n (omega arith))
     ∙ ap (λ k. flat_map g (range_with_len 0 k) ++ g n) all
 
-misses_range : (p : Entry → Bool) (g : ℕ → List Entry) (n : ℕ) → ((j : ℕ) → j < n → Misses p (g j)) → Misses p (flat_map g (range_with_len 0 n))
+misses_range : (p : Entry → Bool) (g : ℕ → List Entry) (n : ℕ) → ((j : ℕ) → j < n → Misses p (g j))
+    → Misses p (flat_map g (range_with_len 0 n))
 misses_range p g zero none = refl
 misses_range p g (suc n) none =
     ap (list_any p) (flat_map_next g n) ∙ list_any-append p (flat_map g (range_with_len 0 n)) (g n)
     ∙ ap₂ ◌||◌ (misses_range p g n (λ j below. none j (omega (arith, below)))) (none n (omega arith))
 
-first_in_range : (g : ℕ → List Entry) (n : ℕ) → ((j : ℕ) → j < n → StandFirst (g j)) → ((i j : ℕ) → j < i → i < n → AreApart (g i) (g j)) → StandFirst (flat_map g (range_with_len 0 n))
+first_in_range : (g : ℕ → List Entry) (n : ℕ) → ((j : ℕ) → j < n → StandFirst (g j))
+    → ((i j : ℕ) → j < i → i < n → AreApart (g i) (g j)) → StandFirst (flat_map g (range_with_len 0 n))
 first_in_range g zero each apart = λ k inside. absurd (omega (arith, inside))
 first_in_range g (suc n) each apart =
     subst StandFirst (sym (flat_map_next g n))
-    (first-append (flat_map g (range_with_len 0 n)) (g n) (first_in_range g n (λ j below. each j (omega (arith, below))) (λ i j less below. apart i j less (omega (arith, below)))) (each n (omega arith))
+    (first-append (flat_map g (range_with_len 0 n)) (g n) (first_in_range g n (λ j below. each j (omega (arith, below)))
+    (λ i j less below. apart i j less (omega (arith, below)))) (each n (omega arith))
     (λ k inside. misses_range (is_same_entry (get_or (g n) k no_entry)) g n (λ j below. apart n j below (omega arith) k inside)))
 
 -- ---- a map
@@ -90,22 +94,27 @@ module _ (a : ℕ) (self : Bool) where
   first_in_row : (columns row : ℕ) → StandFirst (row_pieces a self columns row)
   first_in_row columns row = first_in_range (piece a self row) columns (λ j below. first_in_piece a row j self) (λ i j less below k inside.
       let x = get_or (piece a self row i) k no_entry in
-      let column : x.column ≡ i = at_place (λ y. y.column ≡ i) (piece a self row i) k inside (of_piece (λ y. y.column ≡ i) a row i self refl) in
+      let column : x.column ≡ i = at_place (λ y. y.column ≡ i) (piece a self row i) k inside
+      (of_piece (λ y. y.column ≡ i) a row i self refl) in
       piece_misses (is_same_entry x) a row j self (other_column x.map x.row x.column a row j (λ e. omega (arith, e, column, less))))
 
   in_row : (columns row : ℕ) → AllByRecursion (λ x. x.row ≡ row) (row_pieces a self columns row)
-  in_row columns row = all-flat_map (λ x. x.row ≡ row) (piece a self row) (λ column. of_piece (λ x. x.row ≡ row) a row column self refl) (range_with_len 0 columns)
+  in_row columns row = all-flat_map (λ x. x.row ≡ row) (piece a self row) (λ column. of_piece (λ x. x.row ≡ row) a row column self refl)
+      (range_with_len 0 columns)
 
   in_map : (columns rows : ℕ) → AllByRecursion (λ x. x.map ≡ a) (pieces a self columns rows)
   in_map columns rows =
       all-flat_map (λ x. x.map ≡ a) (row_pieces a self columns)
-      (λ row. all-flat_map (λ x. x.map ≡ a) (piece a self row) (λ column. of_piece (λ x. x.map ≡ a) a row column self refl) (range_with_len 0 columns)) (range_with_len 0 rows)
+      (λ row. all-flat_map (λ x. x.map ≡ a) (piece a self row) (λ column. of_piece (λ x. x.map ≡ a) a row column self refl)
+      (range_with_len 0 columns)) (range_with_len 0 rows)
 
   first_in_map : (columns rows : ℕ) → StandFirst (pieces a self columns rows)
-  first_in_map columns rows = first_in_range (row_pieces a self columns) rows (λ row below. first_in_row columns row) (λ i j less below k inside.
+  first_in_map columns rows = first_in_range (row_pieces a self columns) rows (λ row below. first_in_row columns row)
+      (λ i j less below k inside.
       let x = get_or (row_pieces a self columns i) k no_entry in
       let row : x.row ≡ i = at_place (λ y. y.row ≡ i) (row_pieces a self columns i) k inside (in_row columns i) in
-      misses_all (is_same_entry x) (piece a self j) (λ c. piece_misses (is_same_entry x) a j c self (other_row x.map x.row x.column a j c (λ e. omega (arith, e, row, less)))) (range_with_len 0 columns))
+      misses_all (is_same_entry x) (piece a self j) (λ c. piece_misses (is_same_entry x) a j c self
+      (other_row x.map x.row x.column a j c (λ e. omega (arith, e, row, less)))) (range_with_len 0 columns))
 
 -- ---- a shape
 module _ (q : Quiver) (s : Shape) where
@@ -139,7 +148,8 @@ module _ (q : Quiver) (s : Shape) where
       go true =
           ap (list_any (is_same_entry x)) (map_entries-pieces q s a)
           ∙ misses_all (is_same_entry x) (row_pieces a (is_self q a) (columns a))
-          (λ r. misses_all (is_same_entry x) (piece a (is_self q a) r) (λ c. piece_misses (is_same_entry x) a r c (is_self q a) (other_map x.map x.row x.column a r c other)) (range_with_len 0 (columns a)))
+          (λ r. misses_all (is_same_entry x) (piece a (is_self q a) r) (λ c. piece_misses (is_same_entry x) a r c (is_self q a)
+          (other_map x.map x.row x.column a r c other)) (range_with_len 0 (columns a)))
           (range_with_len 0 (rows a))
       go false = refl
 
@@ -152,5 +162,6 @@ module _ (q : Quiver) (s : Shape) where
       misses_map x j (λ e. omega (arith, e, map, less))))
 
   -- the first place of the entry at a place is this place
-  pub place_of_own : (place : ℕ) → place < length (entries_of q s) → position (is_same_entry (get_or (entries_of q s) place (entry 0 0 0))) (entries_of q s) ≡ Some place
+  pub place_of_own : (place : ℕ) → place < length (entries_of q s)
+      → position (is_same_entry (get_or (entries_of q s) place (entry 0 0 0))) (entries_of q s) ≡ Some place
   place_of_own place inside = found (is_same_entry (get_or (entries_of q s) place no_entry)) (entries_of q s) place (all_first place inside)

@@ -25,17 +25,21 @@ module _ (q : Quiver) (s : Shape) (maps : List Letter) where
 
   -- at each entry that isn't solved for the value is the draw
   abbrev pub DrawnAtEntries : List ℕ → List ℕ → Type 0
-  DrawnAtEntries drawn values = (place : ℕ) (x : Entry) → position (is_same_entry x) (entries_of q s) ≡ Some place → not (is_solved_map maps x.map) ≡ true → get_or values place 0 ≡ get_or drawn place 0
+  DrawnAtEntries drawn values = (place : ℕ) (x : Entry) → position (is_same_entry x) (entries_of q s) ≡ Some place
+      → not (is_solved_map maps x.map) ≡ true → get_or values place 0 ≡ get_or drawn place 0
 
   pub flag_of_each : length flags ≡ length (entries_of q s)
   flag_of_each = length-map (entries_of q s) (λ x. is_solved_map maps x.map)
 
-  flag_at : (place : ℕ) → place < length flags → get_or flags place false ≡ is_solved_map maps (get_or (entries_of q s) place (entry 0 0 0)).map
-  flag_at place inside = get_or-map (λ x. is_solved_map maps x.map) (entries_of q s) place (entry 0 0 0) false (subst (λ n. place < n) flag_of_each inside)
+  flag_at : (place : ℕ) → place < length flags → get_or flags place false ≡ is_solved_map maps
+      (get_or (entries_of q s) place (entry 0 0 0)).map
+  flag_at place inside = get_or-map (λ x. is_solved_map maps x.map) (entries_of q s) place (entry 0 0 0) false
+      (subst (λ n. place < n) flag_of_each inside)
 
   pub drawn_by_flags : (drawn values : List ℕ) → DrawnAtEntries drawn values → IsAsDrawn flags drawn values
   drawn_by_flags drawn values drawn_at place inside unset =
-      drawn_at place (get_or (entries_of q s) place (entry 0 0 0)) (place_of_own q s place (subst (λ n. place < n) flag_of_each inside)) (ap not (sym (flag_at place inside) ∙ unset))
+      drawn_at place (get_or (entries_of q s) place (entry 0 0 0)) (place_of_own q s place (subst (λ n. place < n) flag_of_each inside))
+      (ap not (sym (flag_at place inside) ∙ unset))
 
   pub drawn_by_entries : (drawn values : List ℕ) → IsAsDrawn flags drawn values → DrawnAtEntries drawn values
   drawn_by_entries drawn values as_drawn place x there unsolved =

@@ -197,7 +197,7 @@ shown_behind q a row column le =
     ap (λ b. cond (is_self q a && b) (entry a column row) (entry a row column)) (lt-leb (suc column) row (omega arith)) ∙ ap (λ b. cond b (entry a column row) (entry a row column)) (and_false (is_self q a))
 
 -- ---- how many are before
-pub count_next : (g : ℕ → List Entry) (n : ℕ) → length (flat_map g (range_with_len 0 (n + 1))) ≡ length (flat_map g (range_with_len 0 n)) + length (g n)
+count_next : (g : ℕ → List Entry) (n : ℕ) → length (flat_map g (range_with_len 0 (n + 1))) ≡ length (flat_map g (range_with_len 0 n)) + length (g n)
 count_next g n =
     let all : n - 0 ≡ n = omega arith in
     let more : n + 1 - 0 ≡ n + 1 = omega arith in

@@ -1,8 +1,8 @@
 -- Lists of a length with items below a bound, of which it can be told whether they pass: a greedy one passes, or none does.
-use Rattle.std.proofs.Common.{◌≡◌, ℕ, zero, suc, ◌+◌, ◌-◌, ◌<◌, ◌≤◌, List, [], ◌∷◌, ◌++◌, length, get_or, take, ◌⊎◌, inl, inr, refl, sym, ap, ap₂, subst, ◌∙◌, arith}
+use Rattle.std.proofs.Common.{◌≡◌, ℕ, zero, suc, ◌+◌, ◌<◌, ◌≤◌, List, [], ◌∷◌, ◌++◌, length, get_or, take, ◌⊎◌, inl, inr, refl, sym, subst, arith}
 use Rattle.std.specs.List.{All}
 use Rattle.std.proofs.lemmas.Bool.{cases_eq, cases_lt}
-use Rattle.std.proofs.lemmas.List.{length-append, append_assoc, get_or_at, get_or-append-add, take-append-le}
+use Rattle.std.proofs.lemmas.List.{length-append, append_assoc, get_or_at}
 use Rattle.std.proofs.lemmas.List.Elements.{All-get_or}
 use Rattle.std.proofs.Math.Seq.{take-append_seam}
 use Rattle.model_search.proofs.Decided.{IsDecided, decided_by}
@@ -33,7 +33,8 @@ least_or_none Q decided (suc n) = go (least_or_none Q decided n) (decided n)
         last x below passes (inr other) = none x (omega (arith, below, other)) passes
 
 -- ---- lists
-module _ (size bound : ℕ) (P : List ℕ → Type 0) (decided : (xs : List ℕ) → IsDecided (P xs)) (of_size : (xs : List ℕ) → P xs → length xs ≡ size)
+module _ (size bound : ℕ) (P : List ℕ → Type 0) (decided : (xs : List ℕ) → IsDecided (P xs)) (of_size : (xs : List ℕ) → P xs
+    → length xs ≡ size)
     (below : (xs : List ℕ) → P xs → All (λ x. x < bound) xs) where
   -- a list that passes begins with these
   pub record Begins (front : List ℕ) : Type 0 where
@@ -56,12 +57,14 @@ module _ (size bound : ℕ) (P : List ℕ → Type 0) (decided : (xs : List ℕ)
       go (x ∷ rest) passes = (
         x,
         subst (λ y. y < bound) (get_or_at front x rest 0 (length front) refl)
-            (All-get_or (λ y. y < bound) (front ++ x ∷ rest) (length front) 0 (omega (arith, length-append front (x ∷ rest))) (below (front ++ x ∷ rest) passes)),
+            (All-get_or (λ y. y < bound) (front ++ x ∷ rest) (length front) 0 (omega (arith, length-append front (x ∷ rest)))
+            (below (front ++ x ∷ rest) passes)),
         record { rest = rest; passes = subst P (sym (append_assoc front (x ∷ []) rest)) passes },
       )
 
   pub begins_decided : (n : ℕ) (front : List ℕ) → length front + n ≡ size → IsDecided (Begins front)
-  begins_decided zero front left = decided_by (λ passes. record { rest = []; passes = subst P (sym (append_nil front)) passes }) all_of_it (decided front)
+  begins_decided zero front left = decided_by (λ passes. record { rest = []; passes = subst P (sym (append_nil front)) passes })
+      all_of_it (decided front)
     where
       all_of_it : Begins front → P front
       all_of_it begins = go begins.rest begins.passes
@@ -69,7 +72,8 @@ module _ (size bound : ℕ) (P : List ℕ → Type 0) (decided : (xs : List ℕ)
           go : (rest : List ℕ) → P (front ++ rest) → P front
           go [] passes = subst P (append_nil front) passes
           go (x ∷ rest) passes = absurd (omega (arith, left, length-append front (x ∷ rest), of_size (front ++ x ∷ rest) passes))
-  begins_decided (suc n) front left = go (least_or_none (λ x. Begins (front ++ x ∷ [])) (λ x. begins_decided n (front ++ x ∷ []) (next_size front x n left)) bound)
+  begins_decided (suc n) front left = go (least_or_none (λ x. Begins (front ++ x ∷ [])) (λ x. begins_decided n (front ++ x ∷ [])
+      (next_size front x n left)) bound)
     where
       go : LeastOf (λ x. Begins (front ++ x ∷ [])) ⊎ ((x : ℕ) → x < bound → Begins (front ++ x ∷ []) → ⊥) → IsDecided (Begins front)
       go (inl found) = inl (longer front found.number found.passes)
@@ -93,7 +97,8 @@ module _ (size bound : ℕ) (P : List ℕ → Type 0) (decided : (xs : List ℕ)
         draw : ℕ
         draw = get_or prefer (length front) 0
 
-        least : (Begins (front ++ draw ∷ []) → ⊥) → LeastOf (λ x. Begins (front ++ x ∷ [])) ⊎ ((x : ℕ) → x < bound → Begins (front ++ x ∷ []) → ⊥) → Choice front
+        least : (Begins (front ++ draw ∷ []) → ⊥) → LeastOf (λ x. Begins (front ++ x ∷ [])) ⊎ ((x : ℕ) → x < bound
+            → Begins (front ++ x ∷ []) → ⊥) → Choice front
         least cannot (inl found) = record {
           value = found.number;
           begins = found.passes;
@@ -107,17 +112,25 @@ module _ (size bound : ℕ) (P : List ℕ → Type 0) (decided : (xs : List ℕ)
           begins = can;
           choice = record { preferred_if = λ again. refl; least_else = λ other cannot. absurd (cannot can) };
         }
-        go (inr cannot) = least cannot (least_or_none (λ x. Begins (front ++ x ∷ [])) (λ x. begins_decided n (front ++ x ∷ []) (next_size front x n left)) bound)
+        go (inr cannot) = least cannot (least_or_none (λ x. Begins (front ++ x ∷ [])) (λ x. begins_decided n (front ++ x ∷ [])
+            (next_size front x n left)) bound)
 
     -- from the end of the front on each item is the choice
     record IsGreedyFrom (front : List ℕ) : Type 0 where
       rest : List ℕ
       passes : P (front ++ rest)
-      chosen : (place : ℕ) → length front ≤ place → place < size → IsChoice (take place (front ++ rest)) (get_or prefer place 0) (get_or (front ++ rest) place 0)
+      chosen : (place : ℕ) → length front ≤ place → place < size → IsChoice (take place (front ++ rest)) (get_or prefer place 0)
+          (get_or (front ++ rest) place 0)
 
     greedy_from : (n : ℕ) (front : List ℕ) → length front + n ≡ size → Begins front → IsGreedyFrom front
-    greedy_from zero front left begins = record { rest = begins.rest; passes = begins.passes; chosen = λ place least most. absurd (omega (arith, left, least, most)) }
-    greedy_from (suc n) front left begins = go (choose n front left begins) (λ next. greedy_from n (front ++ next.value ∷ []) (next_size front next.value n left) next.begins)
+    greedy_from zero front left begins = record {
+      rest = begins.rest;
+      passes = begins.passes;
+      chosen = λ place least most. absurd
+          (omega (arith, left, least, most));
+    }
+    greedy_from (suc n) front left begins = go (choose n front left begins) (λ next. greedy_from n (front ++ next.value ∷ [])
+        (next_size front next.value n left) next.begins)
       where
         go : Choice front → ((next : Choice front) → IsGreedyFrom (front ++ next.value ∷ [])) → IsGreedyFrom front
         go next later = behind (later next)
@@ -137,8 +150,10 @@ module _ (size bound : ℕ) (P : List ℕ → Type 0) (decided : (xs : List ℕ)
 
                 first : IsChoice (take (length front) all) (get_or prefer (length front) 0) (get_or all (length front) 0)
                 first =
-                    subst (λ xs. IsChoice xs (get_or prefer (length front) 0) (get_or all (length front) 0)) (sym (take-append_seam front (next.value ∷ more.rest)))
-                    (subst (IsChoice front (get_or prefer (length front) 0)) (sym (get_or_at front next.value more.rest 0 (length front) refl)) next.choice)
+                    subst (λ xs. IsChoice xs (get_or prefer (length front) 0) (get_or all (length front) 0))
+                    (sym (take-append_seam front (next.value ∷ more.rest)))
+                    (subst (IsChoice front (get_or prefer (length front) 0))
+                    (sym (get_or_at front next.value more.rest 0 (length front) refl)) next.choice)
 
                 at : (place : ℕ) → length front ≤ place → place < size → (place ≡ length front) ⊎ (place ≡ length front → ⊥)
                     → IsChoice (take place all) (get_or prefer place 0) (get_or all place 0)

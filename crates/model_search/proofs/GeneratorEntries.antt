@@ -1,6 +1,6 @@
 -- The entries of the values of linear generators: they are affine in the entries that are solved for, and all zero exactly where the generators are.
 use Rattle.std.proofs.Common.{◌≡◌, ℕ, zero, suc, ◌+◌, ◌-◌, ◌*◌, ◌/◌, ◌%◌, ◌<◌, ◌≤◌, ℤ, Bool, true, false, cond, List, [], ◌∷◌, ◌++◌, length, get_or, filter, ◌⊎◌, inl, inr, refl, sym, ap, ap₂, subst, ◌∙◌, arith, div-lt_iff_lt-mul, mod-lt, div-add-mod'}
-use Rattle.std.specs.List.{All, AllByRecursion, list_all, range_with_len}
+use Rattle.std.specs.List.{All, AllByRecursion}
 use Rattle.std.proofs.lemmas.Bool.{cases_lt}
 use Rattle.std.proofs.lemmas.List.{length-append, get_or_append_left, get_or-append_right, get_or-append-add, get_or_past}
 use Rattle.std.proofs.lemmas.List.Elements.{All-append, All-nil}
@@ -59,15 +59,19 @@ zero_entries m r c place = go (cases_lt place (r * c))
         get_or_past (zero_matrix m r c).entries place 0 (omega (arith, past, size))
 
 -- a matrix whose entries are zero
-is_zero_matrix : (m r c : ℕ) (x : Matrix) → IsObject m r → IsObject m c → IsMatrix m x → x.rows ≡ r → x.columns ≡ c → AreZero x.entries → x ≡ zero_matrix m r c
+is_zero_matrix : (m r c : ℕ) (x : Matrix) → IsObject m r → IsObject m c → IsMatrix m x → x.rows ≡ r → x.columns ≡ c → AreZero x.entries
+    → x ≡ zero_matrix m r c
 is_zero_matrix m r c x rows columns is is_rows is_columns none =
     let positive : 0 < m = let least = rows.is_modulus.at_least in omega (arith, least) in
-    same_matrix m x (zero_matrix m r c) is (matrix_of_is_matrix m r c (λ i j. 0) rows columns (λ i j h k. positive)) is_rows is_columns (λ i j h k.
-    none (i * x.columns + j) ∙ sym (entry_at-matrix_of m r c (λ i j. 0) i j (subst (λ n. i < n) is_rows h) (subst (λ n. j < n) is_columns k)))
+    same_matrix m x (zero_matrix m r c) is (matrix_of_is_matrix m r c (λ i j. 0) rows columns (λ i j h k. positive)) is_rows is_columns
+    (λ i j h k.
+    none (i * x.columns + j) ∙ sym (entry_at-matrix_of m r c (λ i j. 0) i j (subst (λ n. i < n) is_rows h)
+    (subst (λ n. j < n) is_columns k)))
 
 -- ---- polynomials that are kept
 -- what holds of all that are kept holds of one
-pub kept_one : (P : List (ℤ × List ℕ) → Type 0) (keep : List (ℤ × List ℕ) → Bool) (ps : List Poly) (place : ℕ) → place < length ps → keep (get_or (polynomials ps) place []) ≡ true
+pub kept_one : (P : List (ℤ × List ℕ) → Type 0) (keep : List (ℤ × List ℕ) → Bool) (ps : List Poly) (place : ℕ) → place < length ps
+    → keep (get_or (polynomials ps) place []) ≡ true
     → AllByRecursion P (polynomials (filter (λ p. keep p.terms) ps)) → P (get_or (polynomials ps) place [])
 kept_one P keep [] place inside kept all = absurd (omega (arith, inside))
 kept_one P keep (p ∷ ps) zero inside kept all =
@@ -81,7 +85,8 @@ kept_one P keep (p ∷ ps) (suc place) inside kept all = kept_one P keep ps plac
 
 -- ---- generators
 module _ (problem : Problem) (s : Shape) (shape : IsShape (object_count problem.parts.quiver) s) (drawn : List ℕ)
-    (count : length drawn ≡ length (entries_of (quiver_of problem.parts.quiver) s)) (drawn_below : All (λ value. value < s.modulus) drawn) where
+    (count : length drawn ≡ length (entries_of (quiver_of problem.parts.quiver) s))
+    (drawn_below : All (λ value. value < s.modulus) drawn) where
   abbrev q : Quiver
   q = quiver_of problem.parts.quiver
 
@@ -115,25 +120,32 @@ module _ (problem : Problem) (s : Shape) (shape : IsShape (object_count problem.
     columns_object = side_is_object q s quiver shape g.sig.source.0 is.source
 
     value_arrow : (values : List ℕ) → Below values → IsArrow (matrices s.modulus) columns rows (value values)
-    value_arrow values below = value_is_matrix q s problem.parts.solved drawn quiver shape count drawn_below (terms_of problem g) g.sig.source.0 g.sig.target.0 is.source is.target values below
+    value_arrow values below = value_is_matrix q s problem.parts.solved drawn quiver shape count drawn_below
+        (terms_of problem g) g.sig.source.0 g.sig.target.0 is.source is.target values below
 
     value_length : (values : List ℕ) → Below values → length (value values).entries ≡ rows * columns
     value_length values below =
         let x = value_arrow values below in
         x.arrow.shape.size ∙ ap₂ ◌*◌ x.target x.source
 
-    entry_is : (values : List ℕ) → Below values → (place : ℕ) → get_or (value values).entries place 0 ≡ entry_at (value values) (place / columns) (place % columns)
+    entry_is : (values : List ℕ) → Below values → (place : ℕ) → get_or (value values).entries place 0 ≡ entry_at (value values)
+        (place / columns) (place % columns)
     entry_is values below place =
         let x = value_arrow values below in
         let whole : place / columns * columns + place % columns ≡ place = div-add-mod' place columns in
-        ap (λ n. get_or (value values).entries n 0) (sym whole) ∙ ap (λ n. get_or (value values).entries (place / columns * n + place % columns) 0) (sym x.source)
+        ap (λ n. get_or (value values).entries n 0) (sym whole)
+        ∙ ap (λ n. get_or (value values).entries (place / columns * n + place % columns) 0) (sym x.source)
 
-    value_affine : (place : ℕ) → place < rows * columns → IsAffine s.modulus (set_count flags) (λ values. get_or (value values).entries place 0)
+    value_affine : (place : ℕ) → place < rows * columns → IsAffine s.modulus (set_count flags)
+        (λ values. get_or (value values).entries place 0)
     value_affine place inside =
-        affine_alike s.modulus (set_count flags) (λ values. get_or (value values).entries place 0) (λ values. entry_at (value values) (place / columns) (place % columns))
+        affine_alike s.modulus (set_count flags) (λ values. get_or (value values).entries place 0)
+        (λ values. entry_at (value values) (place / columns) (place % columns))
         (λ values one_each below. ap (λ x. x % s.modulus) (entry_is values below place))
-        (values_are_affine q s problem.parts.solved drawn quiver shape count drawn_below (terms_of problem g) (linear_words q problem.parts.solved (terms_of problem g) is.linear) g.sig.source.0 g.sig.target.0
-        is.source is.target (place / columns) (place % columns) ((div-lt_iff_lt-mul columns_object.is_side.positive).1 inside) (mod-lt place columns_object.is_side.positive))
+        (values_are_affine q s problem.parts.solved drawn quiver shape count drawn_below (terms_of problem g)
+        (linear_words q problem.parts.solved (terms_of problem g) is.linear) g.sig.source.0 g.sig.target.0
+        is.source is.target (place / columns) (place % columns) ((div-lt_iff_lt-mul columns_object.is_side.positive).1 inside)
+        (mod-lt place columns_object.is_side.positive))
 
     value_zero : (values : List ℕ) → IsZeroAtSignature problem (model_for values) g → AreZero (value values).entries
     value_zero values is_zero = subst (λ x. AreZero x.entries) (sym is_zero) (zero_entries s.modulus rows columns)
@@ -150,7 +162,8 @@ module _ (problem : Problem) (s : Shape) (shape : IsShape (object_count problem.
   abbrev pub AreLinear : List LinearGenerator → Type 0
   AreLinear gs = AllByRecursion (IsLinearGenerator problem) gs
 
-  pub entries_are_affine : (gs : List LinearGenerator) → AreLinear gs → (place : ℕ) → IsAffine s.modulus (set_count flags) (λ values. get_or (entries gs values) place 0)
+  pub entries_are_affine : (gs : List LinearGenerator) → AreLinear gs → (place : ℕ) → IsAffine s.modulus (set_count flags)
+      (λ values. get_or (entries gs values) place 0)
   entries_are_affine [] are place = affine_constant s.modulus (set_count flags) 0
   entries_are_affine (g ∷ gs) are place = go (cases_lt place size) (entries_are_affine gs are.1 (place - size))
     where
@@ -160,31 +173,40 @@ module _ (problem : Problem) (s : Shape) (shape : IsShape (object_count problem.
       go : (place < size) ⊎ (size ≤ place) → IsAffine s.modulus (set_count flags) (λ values. get_or (entries gs values) (place - size) 0)
           → IsAffine s.modulus (set_count flags) (λ values. get_or (entries (g ∷ gs) values) place 0)
       go (inl inside) rest =
-          affine_alike s.modulus (set_count flags) (λ values. get_or (entries (g ∷ gs) values) place 0) (λ values. get_or (value g are.0 values).entries place 0)
+          affine_alike s.modulus (set_count flags) (λ values. get_or (entries (g ∷ gs) values) place 0)
+          (λ values. get_or (value g are.0 values).entries place 0)
           (λ values one_each below. ap (λ x. x % s.modulus) (get_or_append_left (value g are.0 values).entries (entries gs values) 0 place
           (subst (λ n. place < n) (sym (value_length g are.0 values below)) inside)))
           (value_affine g are.0 place inside)
       go (inr past) rest =
-          affine_alike s.modulus (set_count flags) (λ values. get_or (entries (g ∷ gs) values) place 0) (λ values. get_or (entries gs values) (place - size) 0)
-          (λ values one_each below. ap (λ x. x % s.modulus) (get_or-append_right (value g are.0 values).entries (entries gs values) size place 0 (value_length g are.0 values below) past)) rest
+          affine_alike s.modulus (set_count flags) (λ values. get_or (entries (g ∷ gs) values) place 0)
+          (λ values. get_or (entries gs values) (place - size) 0)
+          (λ values one_each below. ap (λ x. x % s.modulus) (get_or-append_right (value g are.0 values).entries (entries gs values) size
+          place 0 (value_length g are.0 values below) past)) rest
 
   pub entries_below : (gs : List LinearGenerator) → AreLinear gs → (values : List ℕ) → Below values → Below (entries gs values)
   entries_below [] are values below = All-nil (λ value. value < s.modulus)
   entries_below (g ∷ gs) are values below =
-      All-append (λ value. value < s.modulus) (value g are.0 values).entries (entries gs values) (value_arrow g are.0 values below).arrow.entries_below (entries_below gs are.1 values below)
+      All-append (λ value. value < s.modulus) (value g are.0 values).entries (entries gs values)
+      (value_arrow g are.0 values below).arrow.entries_below (entries_below gs are.1 values below)
 
-  pub length-entries : (gs : List LinearGenerator) → AreLinear gs → (values others : List ℕ) → Below values → Below others → length (entries gs values) ≡ length (entries gs others)
+  pub length-entries : (gs : List LinearGenerator) → AreLinear gs → (values others : List ℕ) → Below values → Below others
+      → length (entries gs values) ≡ length (entries gs others)
   length-entries [] are values others below others_below = refl
   length-entries (g ∷ gs) are values others below others_below =
       length-append (value g are.0 values).entries (entries gs values)
-      ∙ ap₂ ◌+◌ (value_length g are.0 values below ∙ sym (value_length g are.0 others others_below)) (length-entries gs are.1 values others below others_below)
+      ∙ ap₂ ◌+◌ (value_length g are.0 values below ∙ sym (value_length g are.0 others others_below))
+      (length-entries gs are.1 values others below others_below)
       ∙ sym (length-append (value g are.0 others).entries (entries gs others))
 
-  pub entries_zero : (gs : List LinearGenerator) → AreLinear gs → (values : List ℕ) → AllByRecursion (IsZeroAtSignature problem (model_for values)) gs → AreZero (entries gs values)
+  pub entries_zero : (gs : List LinearGenerator) → AreLinear gs → (values : List ℕ)
+      → AllByRecursion (IsZeroAtSignature problem (model_for values)) gs → AreZero (entries gs values)
   entries_zero [] are values is_zero = λ place. refl
-  entries_zero (g ∷ gs) are values is_zero = zero_both (value g are.0 values).entries (entries gs values) (value_zero g are.0 values is_zero.0) (entries_zero gs are.1 values is_zero.1)
+  entries_zero (g ∷ gs) are values is_zero = zero_both (value g are.0 values).entries (entries gs values)
+      (value_zero g are.0 values is_zero.0) (entries_zero gs are.1 values is_zero.1)
 
-  pub zero_entries_only : (gs : List LinearGenerator) → AreLinear gs → (values : List ℕ) → Below values → AreZero (entries gs values) → AllByRecursion (IsZeroAtSignature problem (model_for values)) gs
+  pub zero_entries_only : (gs : List LinearGenerator) → AreLinear gs → (values : List ℕ) → Below values → AreZero (entries gs values)
+      → AllByRecursion (IsZeroAtSignature problem (model_for values)) gs
   zero_entries_only [] are values below none = tt
   zero_entries_only (g ∷ gs) are values below none = (
     zero_value g are.0 values below (zero_front (value g are.0 values).entries (entries gs values) none),

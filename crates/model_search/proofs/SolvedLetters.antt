@@ -1,6 +1,6 @@
 -- Letters that are solved maps or adjoints of these, and the flags of the entries of a map.
 use Rattle.std.proofs.Common.{◌≡◌, ℕ, ◌<◌, ◌≤◌, suc, Bool, true, false, cond, ◌||◌, nat_eq, List, [], ◌∷◌, length, map, filter, replicate, ◌⊎◌, inl, inr, refl, sym, ap, ap₂, ◌∙◌, eq-eqb, ne_eqb, arith}
-use Rattle.std.specs.List.{AllByRecursion, list_any}
+use Rattle.std.specs.List.{AllByRecursion}
 use Rattle.std.proofs.lemmas.Bool.{cases_eq}
 use Rattle.definitions.specs.Quiver.{Quiver, IsQuiver, letters, star}
 use Rattle.word_core.specs.declared.letter.Letter.{Letter}
@@ -25,7 +25,8 @@ pub solved_by_maps : (q : Quiver) (solved : List Letter) (a : ℕ) → IsQuiver 
 solved_by_maps q [] a quiver in_a in_solved = refl
 solved_by_maps q (l ∷ solved) a quiver in_a in_solved =
     either_of_both (nat_eq a l.0) (is_solved_map solved a) (nat_eq (star q a) l.0) (is_solved_map solved (star q a))
-    ∙ ap₂ (λ x y. (nat_eq a l.0 || x) || y) (sym (adjoint_of q a l.0 quiver in_a in_solved.0)) (solved_by_maps q solved a quiver in_a in_solved.1)
+    ∙ ap₂ (λ x y. (nat_eq a l.0 || x) || y) (sym (adjoint_of q a l.0 quiver in_a in_solved.0))
+    (solved_by_maps q solved a quiver in_a in_solved.1)
 
 -- a test that gives the same for each item
 pub map-same : {X Y : Type 0} (f : X → Y) (xs : List X) (y : Y) → AllByRecursion (λ x. f x ≡ y) xs → map f xs ≡ replicate (length xs) y

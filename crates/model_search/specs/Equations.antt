@@ -1,4 +1,5 @@
--- The linear equations that drawn entries leave for those that are solved for, for private functions: what the units add to the entries of generators.
+-- The linear equations that drawn entries leave for those that are solved for, for private functions: what the units add to the
+-- entries of generators.
 use Rattle.std.specs.Prelude.{ℕ, ◌+◌, ◌-◌, ◌%◌, Bool, List, length, map, get_or}
 use Rattle.std.specs.List.{flat_map, range_with_len}
 use Rattle.definitions.specs.Representation.{value_at}
@@ -35,11 +36,19 @@ factor_by m at_zero place at_unit = (get_or at_unit place 0 + m - get_or at_zero
 
 -- that the number at this place is zero
 abbrev pub row_by : ℕ → List ℕ → List (List ℕ) → ℕ → LinearRow
-row_by m at_zero at_units place = record { factors = map (factor_by m at_zero place) at_units; right = (m - get_or at_zero place 0) % m }
+row_by m at_zero at_units place = record {
+  factors = map (factor_by m at_zero place) at_units;
+  right = (m - get_or at_zero place 0) % m;
+}
 
 -- that all are
 abbrev pub system_by : ℕ → List ℕ → List (List ℕ) → System
-system_by m at_zero at_units = record { modulus = m; unknowns = length at_units; rows = map (row_by m at_zero at_units) (range_with_len 0 (length at_zero)) }
+system_by m at_zero at_units = record {
+  modulus = m;
+  unknowns = length at_units;
+  rows = map (row_by m at_zero at_units)
+      (range_with_len 0 (length at_zero));
+}
 
 -- the equations that the drawn values leave
 abbrev pub system_for : Problem → Shape → List Bool → List LinearGenerator → List ℕ → System

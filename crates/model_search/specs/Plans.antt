@@ -22,7 +22,8 @@ terms_of problem g = get_or (polynomials problem.generators) g.place []
 -- A generator of the problem that is linear in the solved maps, with a signature of it.
 pub record IsLinearGenerator (problem : Problem) (g : LinearGenerator) : Type 0 where
   pub place : g.place < length problem.generators
-  pub linear : IsTrue (list_all (λ t. nat_le (solved_count (quiver_of problem.parts.quiver) problem.parts.solved t.1) 1) (terms_of problem g))
+  pub linear : IsTrue (list_all (λ t. nat_le (solved_count (quiver_of problem.parts.quiver) problem.parts.solved t.1) 1)
+      (terms_of problem g))
   pub source : g.sig.source.0 < object_count problem.parts.quiver
   pub target : g.sig.target.0 < object_count problem.parts.quiver
   pub typed : IsTyped (quiver_of problem.parts.quiver) g.sig.source.0 g.sig.target.0 (terms_of problem g)
@@ -30,14 +31,18 @@ pub record IsLinearGenerator (problem : Problem) (g : LinearGenerator) : Type 0 
 -- it is zero in the model, at the signature
 abbrev pub IsZeroAtSignature : Problem → Model → LinearGenerator → Type 0
 IsZeroAtSignature problem m g =
-    HasValueZeroAt (matrices m.modulus) (quiver_of problem.parts.quiver) (representation_of (quiver_of problem.parts.quiver) m) g.sig.source.0 g.sig.target.0 (terms_of problem g)
+    HasValueZeroAt (matrices m.modulus) (quiver_of problem.parts.quiver) (representation_of (quiver_of problem.parts.quiver) m)
+    g.sig.source.0 g.sig.target.0 (terms_of problem g)
 
--- The linear generators, but for those without a term: a model in which these are zero at their signatures has all linear generators zero.
+-- The linear generators, but for those without a term: a model in which these are zero at their signatures has all linear
+-- generators zero.
 pub record AreLinearGenerators (problem : Problem) (gs : List LinearGenerator) : Type 0 where
   pub each : All (IsLinearGenerator problem) gs
-  pub all : (m : Model) → All (IsZeroAtSignature problem m) gs → AllByRecursion (IsZeroIn problem m) (polynomials (linear_generators problem))
+  pub all : (m : Model) → All (IsZeroAtSignature problem m) gs → AllByRecursion (IsZeroIn problem m)
+      (polynomials (linear_generators problem))
 
--- The plan fits the shape: whether all lists of values are tried, which entries are solved for and how many, and the linear generators.
+-- The plan fits the shape: whether all lists of values are tried, which entries are solved for and how many, and the linear
+-- generators.
 pub record FitsShape (problem : Problem) (s : Shape) (plan : Plan) : Type 0 where
   pub exhaustive : plan.exhaustive ≡ is_exhaustive (quiver_of problem.parts.quiver) s
   pub solved : plan.solved ≡ solved_flags (quiver_of problem.parts.quiver) s problem.parts.solved

@@ -64,7 +64,8 @@ fn entries_at(
     requires shape { IsShape (object_count problem.now.parts.quiver) shape.now }
     requires plan { FitsShape problem.now shape.now plan.now }
     requires drawn { AreEntryValues problem.now shape.now drawn.now }
-    ensures { IfOk result (λ entries. entries ≡ entries_at problem.now shape.now plan.now.solved plan.now.generators drawn.now unknown) }
+    ensures { IfOk result (λ entries. entries
+        ≡ entries_at problem.now shape.now plan.now.solved plan.now.generators drawn.now unknown) }
 {
     let unit = unit_values(alloc, plan.unknowns, unknown)?;
     let values = filled(alloc, plan.solved.as_slice(), drawn, unit.as_slice())?;

@@ -27,7 +27,8 @@ pub fn candidate(
 ) -> Result<Option<Model>, AllocError>
     requires least { 1 ≤ shape }
     requires most { shape ≤ length problem.now.parts.shapes }
-    ensures candidate { IfOk result (λ model. (s : ShapeValue) → IsShapeOf problem.now shape s → IsCandidate problem.now shape s seed k model) }
+    ensures candidate { IfOk result (λ model. (s : ShapeValue) → IsShapeOf problem.now shape s
+        → IsCandidate problem.now shape s seed k model) }
 {
     let plan = plan_of(alloc, problem, shape)?;
     candidate_by(alloc, problem, &plan, seed, k)
@@ -42,7 +43,8 @@ pub(crate) fn candidate_by(
     k: u32,
 ) -> Result<Option<Model>, AllocError>
     requires plan { IsPlan problem.now plan.now }
-    ensures candidate { IfOk result (λ model. (s : ShapeValue) → IsShapeOf problem.now plan.now.number s → IsCandidate problem.now plan.now.number s seed k model) }
+    ensures candidate { IfOk result (λ model. (s : ShapeValue) → IsShapeOf problem.now plan.now.number s
+        → IsCandidate problem.now plan.now.number s seed k model) }
 {
     let quiver = &problem.parts.quiver;
     let shape = problem.parts.shapes.at(plan.number as usize - 1);

@@ -1,8 +1,8 @@
-use Rattle.std.proofs.Common.{rules, ◌≡◌, ℕ, true, not, Option, Some, None, sym, ap, ap₂, subst, ◌∙◌, arith}
+use Rattle.std.proofs.Common.{rules, not, Some, sym, ap, subst, ◌∙◌, arith}
 use Rattle.quiver.specs.Declarations.{object_count, quiver_of}
 use Rattle.adjoint_rules.specs.Problem.{IsShape}
 use Rattle.adjoint_rules.proofs.Generators.{posed_quiver}
-use Rattle.model_search.specs.Candidates.{model_by, draws, IsCandidate, IsGreedy, IsSolution}
+use Rattle.model_search.specs.Candidates.{model_by, IsCandidate, IsGreedy}
 use Rattle.model_search.specs.Plans.{AreEntryValues}
 use Rattle.model_search.proofs.CandidateModels.{modulus_of_shape}
 use Rattle.model_search.proofs.NumberedShapes.{shape_numbered, one_shape, draws_are_values}
@@ -25,7 +25,8 @@ returns-then-plan c =
     let fits = c.requires.plan.fits s (shape_numbered problem plan.number s c.requires.plan.least c.at-shape.ensures) in
     record {
       candidate = λ t numbered.
-          subst (λ x. IsCandidate problem plan.number x c.args.seed c.args.k (Some c.in_ok-numbered_candidate.field-0)) (one_shape problem plan.number s t c.at-shape.ensures numbered)
+          subst (λ x. IsCandidate problem plan.number x c.args.seed c.args.k (Some c.in_ok-numbered_candidate.field-0))
+          (one_shape problem plan.number s t c.at-shape.ensures numbered)
           (IsCandidate.numbered (sym fits.exhaustive ∙ c.if-plan.true) (ap Some c.in_ok-numbered_candidate.ensures));
     }
 
@@ -44,7 +45,8 @@ greedy_values-requires-clause-shape c =
 
 pub greedy_values-requires-clause-plan : goal.greedy_values-requires-clause-plan
 greedy_values-requires-clause-plan c =
-    c.requires.plan.fits c.at-shape.result.now (shape_numbered c.args.problem.now c.args.plan.now.number c.at-shape.result.now c.requires.plan.least c.at-shape.ensures)
+    c.requires.plan.fits c.at-shape.result.now (shape_numbered c.args.problem.now c.args.plan.now.number c.at-shape.result.now
+    c.requires.plan.least c.at-shape.ensures)
 
 pub greedy_values-requires-clause-drawn : goal.greedy_values-requires-clause-drawn
 greedy_values-requires-clause-drawn c =
@@ -53,7 +55,8 @@ greedy_values-requires-clause-drawn c =
     let s = c.at-shape.result.now in
     let shape = all_at (IsShape (object_count parts.quiver)) parts.shapes _ s problem.posed.shapes c.at-shape.ensures in
     let least = (modulus_of_shape (quiver_of parts.quiver) s (posed_quiver parts problem.posed) shape).at_least in
-    subst (AreEntryValues problem s) (sym (c.as_slice.ensures ∙ c.in_ok-drawn.ensures)) (draws_are_values problem s c.args.plan.now.number c.args.seed c.args.k (omega (arith, least)))
+    subst (AreEntryValues problem s) (sym (c.as_slice.ensures ∙ c.in_ok-drawn.ensures))
+    (draws_are_values problem s c.args.plan.now.number c.args.seed c.args.k (omega (arith, least)))
 
 pub model_with-requires-clause-quiver : goal.model_with-requires-clause-quiver
 model_with-requires-clause-quiver c = posed_quiver c.args.problem.now.parts c.args.problem.now.posed
@@ -75,6 +78,7 @@ returns-in-Some c =
     let model_is = c.in_ok-model_with-in-Some.ensures ∙ ap (model_by q s 0) c.as_slice-in-Some.ensures in
     record {
       candidate = λ t numbered.
-          subst (λ x. IsCandidate problem plan.number x c.args.seed c.args.k (Some c.in_ok-model_with-in-Some.field-0)) (one_shape problem plan.number s t c.at-shape.ensures numbered)
+          subst (λ x. IsCandidate problem plan.number x c.args.seed c.args.k (Some c.in_ok-model_with-in-Some.field-0))
+          (one_shape problem plan.number s t c.at-shape.ensures numbered)
           (IsCandidate.drawn (ap not (sym fits.exhaustive ∙ c.if-plan.false)) c.in-Some.values drawn (ap Some model_is));
     }

@@ -1,4 +1,4 @@
-use Rattle.std.proofs.Common.{List, filter, take}
+use Rattle.std.proofs.Common.{filter, take}
 use Rattle.std.specs.List.{All, AllByRecursion}
 use Rattle.quiver.specs.Declarations.{quiver_of}
 use Rattle.matrix_models.specs.declared.model.Model.{Model}
@@ -13,5 +13,6 @@ abbrev pub invariant-loop-place : goal.invariant-loop-place
 invariant-loop-place l = record {
   each : All (IsLinearGenerator l.problem) l.found;
   all : (m : Model) → All (IsZeroAtSignature l.problem m) l.found
-      → AllByRecursion (IsZeroIn l.problem m) (polynomials (filter (is_linear (quiver_of l.problem.parts.quiver) l.problem.parts.solved) (take l.place l.problem.generators)));
+      → AllByRecursion (IsZeroIn l.problem m) (polynomials (filter (is_linear (quiver_of l.problem.parts.quiver) l.problem.parts.solved)
+      (take l.place l.problem.generators)));
 }

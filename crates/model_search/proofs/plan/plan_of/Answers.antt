@@ -1,9 +1,6 @@
-use Rattle.std.proofs.Common.{rules, ◌≡◌, ◌≤◌, ◌^◌, length, nat_le, Some, sym, ap, ◌∙◌, arith}
-use Rattle.quiver.specs.Declarations.{object_count, quiver_of}
+use Rattle.quiver.specs.Declarations.{object_count}
 use Rattle.adjoint_rules.specs.Problem.{IsShape}
 use Rattle.adjoint_rules.proofs.Generators.{posed_quiver}
-use Rattle.model_search.specs.Candidates.{entries_of}
-use Rattle.model_search.proofs.DrawnEntries.{flag_of_each}
 use Rattle.model_search.proofs.Places.{all_at}
 use Rattle.model_search.proofs.plan.plan_of.Goals as goal
 

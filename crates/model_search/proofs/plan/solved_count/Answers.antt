@@ -1,4 +1,4 @@
-use Rattle.std.proofs.Common.{rules, ◌≡◌, ◌+◌, ◌≤◌, filter, length, take, sym, ap, ◌∙◌, arith}
+use Rattle.std.proofs.Common.{rules, ◌≤◌, take, arith}
 use Rattle.std.proofs.lemmas.List.{length-take-le}
 use Rattle.quiver.specs.Declarations.{quiver_of}
 use Rattle.model_search.specs.Candidates.{is_solved}

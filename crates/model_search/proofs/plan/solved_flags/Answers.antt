@@ -1,5 +1,4 @@
-use Rattle.std.proofs.Common.{rules, ◌≡◌, ◌+◌, ◌<◌, ◌++◌, true, false, Bool, length, map, replicate, refl, sym, ap, ap₂, subst, ◌∙◌, arith}
-use Rattle.std.specs.List.{AllByRecursion}
+use Rattle.std.proofs.Common.{rules, ◌≡◌, ◌++◌, true, false, Bool, length, map, replicate, sym, ap, ap₂, ◌∙◌, arith}
 use Rattle.std.proofs.lemmas.List.{map-append}
 use Rattle.std.proofs.lemmas.List.Elements.{All-from_recursion, All-weaker, recursion_from_All}
 use Rattle.definitions.specs.Quiver.{letters}
@@ -24,9 +23,13 @@ loop-number-preserved c =
           let declared : is_declared_map q n ≡ true = search rules in
           let own = map-same flag (map_entries q s n) (is_solved_map c.args.solved.now n)
           (recursion_from_All (λ x. flag x ≡ is_solved_map c.args.solved.now n) (map_entries q s n)
-          (All-weaker (λ x. x.map ≡ n) (λ x. flag x ≡ is_solved_map c.args.solved.now n) (λ x is. ap (is_solved_map c.args.solved.now) is) (map_entries q s n) (All-from_recursion (λ x. x.map ≡ n) (map_entries q s n) (entries_of_map q s n)))) in
-          let pushed : c.if-is_declared.flags ≡ c.loop-number.flags ++ replicate (length (map_entries q s n)) (is_solved_map c.args.solved.now n) = search rules in
-          pushed ∙ ap₂ ◌++◌ c.loop-number.invariant (sym own) ∙ sym (map-append flag (entries_before q s n) (map_entries q s n)) ∙ ap (map flag) (sym (entries_with q s n declared))
+          (All-weaker (λ x. x.map ≡ n) (λ x. flag x ≡ is_solved_map c.args.solved.now n)
+          (λ x is. ap (is_solved_map c.args.solved.now) is) (map_entries q s n)
+          (All-from_recursion (λ x. x.map ≡ n) (map_entries q s n) (entries_of_map q s n)))) in
+          let pushed : c.if-is_declared.flags ≡ c.loop-number.flags ++ replicate (length (map_entries q s n))
+          (is_solved_map c.args.solved.now n) = search rules in
+          pushed ∙ ap₂ ◌++◌ c.loop-number.invariant (sym own) ∙ sym (map-append flag (entries_before q s n) (map_entries q s n))
+          ∙ ap (map flag) (sym (entries_with q s n declared))
       | else-is_declared w ↦
           let other : is_declared_map q n ≡ false = search rules in
           let same : c.if-is_declared.flags ≡ c.loop-number.flags = search rules in
@@ -36,5 +39,11 @@ loop-number-preserved c =
 pub returns : goal.returns
 returns c =
     let q = quiver_of c.args.quiver.now in
-    let all : c.loop-number.number ≡ letters q = omega (arith, c.loop-number.auto.number-end, c.loop-number-test.false, c.letters-number-end.ensures.count, letters-quiver_of c.args.quiver.now) in
+    let all : c.loop-number.number ≡ letters q = omega (
+      arith,
+      c.loop-number.auto.number-end,
+      c.loop-number-test.false,
+      c.letters-number-end.ensures.count,
+      letters-quiver_of c.args.quiver.now,
+    ) in
     c.loop-number.invariant ∙ ap (λ n. map (λ x. is_solved_map c.args.solved.now x.map) (entries_before q c.args.shape.now n)) all
