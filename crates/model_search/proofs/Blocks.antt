@@ -19,7 +19,8 @@ module _ (problem : Problem) (claim seed number : ℕ) {E : Type 0} where
   none_at k answer is tells = subst (Tells k) is tells
 
   -- behind answers that are None
-  found_behind : (f : Found) (after before : List (Result (Option Found) E)) (first n : ℕ) → AllZip Tells (range_with_len first n) (before ++ Ok (Some f) ∷ after) → AllByRecursion IsNone before
+  found_behind : (f : Found) (after before : List (Result (Option Found) E)) (first n : ℕ)
+      → AllZip Tells (range_with_len first n) (before ++ Ok (Some f) ∷ after) → AllByRecursion IsNone before
       → IsFirstFrom problem claim seed number first f
   found_behind f after [] first zero tells none = absurd tells
   found_behind f after [] first (suc n) tells none =
@@ -39,27 +40,34 @@ module _ (problem : Problem) (claim seed number : ℕ) {E : Type 0} where
         earlier = λ k from below. go later k from below (cases_eq k first);
       }
     where
-      go : IsFirstFrom problem claim seed number (first + 1) f → (k : ℕ) → first ≤ k → k < f.candidate → (k ≡ first) ⊎ (k ≡ first → ⊥) → NoneBreaksAt problem claim seed number k
+      go : IsFirstFrom problem claim seed number (first + 1) f → (k : ℕ) → first ≤ k → k < f.candidate → (k ≡ first) ⊎ (k ≡ first → ⊥)
+          → NoneBreaksAt problem claim seed number k
       go later k from below (inl same) = subst (NoneBreaksAt problem claim seed number) (sym same) (none_at first answer none.0 tells.0)
       go later k from below (inr other) = later.earlier k (omega (arith, from, other)) below
 
   -- all are None
-  none_found : (answers : List (Result (Option Found) E)) (first n : ℕ) → AllZip Tells (range_with_len first n) answers → AllByRecursion IsNone answers
+  none_found : (answers : List (Result (Option Found) E)) (first n : ℕ) → AllZip Tells (range_with_len first n) answers
+      → AllByRecursion IsNone answers
       → (k : ℕ) → first ≤ k → k < first + n → NoneBreaksAt problem claim seed number k
   none_found answers first zero tells none k from below = absurd (omega (arith, from, below))
   none_found [] first (suc n) tells none k from below = absurd tells
-  none_found (answer ∷ answers) first (suc n) tells none k from below = go (none_found answers (first + 1) n tells.1 none.1) (cases_eq k first)
+  none_found (answer ∷ answers) first (suc n) tells none k from below = go (none_found answers (first + 1) n tells.1 none.1)
+      (cases_eq k first)
     where
-      go : ((j : ℕ) → first + 1 ≤ j → j < first + 1 + n → NoneBreaksAt problem claim seed number j) → (k ≡ first) ⊎ (k ≡ first → ⊥) → NoneBreaksAt problem claim seed number k
+      go : ((j : ℕ) → first + 1 ≤ j → j < first + 1 + n → NoneBreaksAt problem claim seed number j) → (k ≡ first) ⊎ (k ≡ first → ⊥)
+          → NoneBreaksAt problem claim seed number k
       go later (inl same) = subst (NoneBreaksAt problem claim seed number) (sym same) (none_at first answer none.0 tells.0)
       go later (inr other) = later k (omega (arith, from, other)) (omega (arith, below))
 
   -- what a block finds
-  pub block_answer : (answers : List (Result (Option Found) E)) (first n : ℕ) → AllZip Tells (range_with_len first n) answers → (found : Option Found)
+  pub block_answer : (answers : List (Result (Option Found) E)) (first n : ℕ) → AllZip Tells (range_with_len first n) answers
+      → (found : Option Found)
       → MatchOption found (All IsNone answers) (IsFirstFound answers)
-      → MatchOption found ((k : ℕ) → first ≤ k → k < first + n → NoneBreaksAt problem claim seed number k) (IsFirstFrom problem claim seed number first)
+      → MatchOption found ((k : ℕ) → first ≤ k → k < first + n → NoneBreaksAt problem claim seed number k)
+      (IsFirstFrom problem claim seed number first)
   block_answer answers first n tells None none = none_found answers first n tells (recursion_from_All IsNone answers none)
-  block_answer answers first n tells (Some f) is = found_behind f is.after is.before first n (subst (AllZip Tells (range_with_len first n)) is.splits tells) (recursion_from_All IsNone is.before is.none)
+  block_answer answers first n tells (Some f) is = found_behind f is.after is.before first n
+      (subst (AllZip Tells (range_with_len first n)) is.splits tells) (recursion_from_All IsNone is.before is.none)
 
 -- ---- going through the answers
 -- what is left stands behind answers that are None
@@ -79,9 +87,17 @@ module _ {X E : Type 0} where
     none = All-push (λ answer. answer ≡ Ok None) passed.before (Ok None) passed.none refl;
   }
 
-  pub found_next : (answers rest more : List (Result (Option X) E)) (x : X) → IsPassed answers rest → rest ≡ Ok (Some x) ∷ more → IsFirstFound answers x
-  found_next answers rest more x passed next = record { before = passed.before; after = more; splits = passed.splits ∙ ap (λ xs. passed.before ++ xs) next; none = passed.none }
+  pub found_next : (answers rest more : List (Result (Option X) E)) (x : X) → IsPassed answers rest → rest ≡ Ok (Some x) ∷ more
+      → IsFirstFound answers x
+  found_next answers rest more x passed next = record {
+    before = passed.before;
+    after = more;
+    splits = passed.splits ∙ ap (λ xs. passed.before ++ xs) next;
+    none = passed.none;
+  }
 
-  pub passed_all : (answers rest : List (Result (Option X) E)) → IsPassed answers rest → rest ≡ [] → All (λ answer. answer ≡ Ok None) answers
+  pub passed_all : (answers rest : List (Result (Option X) E)) → IsPassed answers rest → rest ≡ []
+      → All (λ answer. answer ≡ Ok None) answers
   passed_all answers rest passed empty =
-      subst (All (λ answer. answer ≡ Ok None)) (sym (passed.splits ∙ ap (λ xs. passed.before ++ xs) empty ∙ append-nil passed.before)) passed.none
+      let same = passed.splits ∙ ap (λ xs. passed.before ++ xs) empty ∙ append-nil passed.before in
+      subst (All (λ answer. answer ≡ Ok None)) (sym same) passed.none

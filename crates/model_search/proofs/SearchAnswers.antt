@@ -42,7 +42,8 @@ least_breaking_is_unique problem claim seed n k n' k' m m' one other = go (eithe
       same.0,
       same.1,
       breaking_model_is_one problem claim n seed k m m' one.breaks
-          (subst (λ x. Breaks problem claim seed x k m') (sym same.0) (subst (λ x. Breaks problem claim seed n' x m') (sym same.1) other.breaks)),
+          (subst (λ x. Breaks problem claim seed x k m') (sym same.0)
+          (subst (λ x. Breaks problem claim seed n' x m') (sym same.1) other.breaks)),
     )
 
 pub none_breaks_leaves_no_least : NoneBreaksLeavesNoLeast
@@ -80,9 +81,12 @@ module _ (problem : Problem) (claim seed : ℕ) where
 
   -- a candidate in range breaks the claim or doesn't
   candidate_decided : (number k : ℕ) (s : Shape) → IsShapeOf problem number s → k < count s → BreaksAt number k ⊎ NoneAt number k
-  candidate_decided number k s of in_range = go (each_number_has_a_candidate problem number s seed k of).0 (each_number_has_a_candidate problem number s seed k of).1
+  candidate_decided number k s of in_range =
+      let one = each_number_has_a_candidate problem number s seed k of in
+      go one.0 one.1
     where
-      judged : (m : Model) → IsCandidate problem number s seed k (Some m) → IsDecided (Refutes problem (naming claim m)) → BreaksAt number k ⊎ NoneAt number k
+      judged : (m : Model) → IsCandidate problem number s seed k (Some m) → IsDecided (Refutes problem (naming claim m))
+          → BreaksAt number k ⊎ NoneAt number k
       judged m is (inl refutes) = inl (naming claim m, breaks_where_it_refutes problem claim number seed k s of m is in_range refutes)
       judged m is (inr other) = inr (none_where_it_does_not problem claim number seed k s of m is other)
 
@@ -96,7 +100,9 @@ module _ (problem : Problem) (claim seed : ℕ) where
     where
       go : (k < count s) ⊎ (count s ≤ k) → BreaksAt number k ⊎ NoneAt number k
       go (inl in_range) = candidate_decided number k s of in_range
-      go (inr past) = inr (λ m b. absurd (omega (arith, past, subst (λ t. k < count t) (shape_is_one problem number b.shape s b.numbered of) b.in_range)))
+      go (inr past) = inr (λ m b.
+          let in_range = subst (λ t. k < count t) (shape_is_one problem number b.shape s b.numbered of) b.in_range in
+          absurd (omega (arith, past, in_range)))
 
   abbrev FirstOf : ℕ → Type 0
   FirstOf number = First (BreaksAt number) (NoneAt number)
@@ -133,7 +139,8 @@ module _ (problem : Problem) (claim seed : ℕ) where
   answer : HasLeastBreaking problem claim seed ⊎ NoneBreaks problem claim seed
   answer = go (first_or_none FirstOf NoneOf shapes_decided (length problem.parts.shapes + 1))
     where
-      go : First FirstOf NoneOf ⊎ ((number : ℕ) → number < length problem.parts.shapes + 1 → NoneOf number) → HasLeastBreaking problem claim seed ⊎ NoneBreaks problem claim seed
+      go : First FirstOf NoneOf ⊎ ((number : ℕ) → number < length problem.parts.shapes + 1 → NoneOf number)
+          → HasLeastBreaking problem claim seed ⊎ NoneBreaks problem claim seed
       go (inl first) = inl (record {
         number = first.place;
         k = first.here.place;
@@ -156,7 +163,8 @@ each_search_has_an_answer problem claim seed = answer problem claim seed
 pub breaking_candidates_refute : BreakingCandidatesRefute
 breaking_candidates_refute problem claim seed number k m b =
     let q = quiver_of problem.parts.quiver in
-    let model : IsModel q m = subst (IsModel q) (sym b.named) (named_model problem claim number seed k b.shape b.numbered b.candidate b.is_candidate) in
+    let model : IsModel q m = subst (IsModel q) (sym b.named)
+    (named_model problem claim number seed k b.shape b.numbered b.candidate b.is_candidate) in
     record {
       model = model;
       sides = model.side_of_each;

@@ -9,12 +9,14 @@ use Rattle.model_search.specs.Candidates.{Breaks, IsLeastBreaking, NoneBreaks}
 -- Of all candidates one at most is the least that breaks the claim.
 abbrev pub LeastBreakingIsUnique : Type 0
 LeastBreakingIsUnique =
-    (problem : Problem) (claim seed number k number' k' : ℕ) (m m' : Model) → IsLeastBreaking problem claim seed number k m → IsLeastBreaking problem claim seed number' k' m'
+    (problem : Problem) (claim seed number k number' k' : ℕ) (m m' : Model) → IsLeastBreaking problem claim seed number k m
+    → IsLeastBreaking problem claim seed number' k' m'
     → (number ≡ number') × (k ≡ k') × (m ≡ m')
 
 -- Where none breaks it, none is the least that does.
 abbrev pub NoneBreaksLeavesNoLeast : Type 0
-NoneBreaksLeavesNoLeast = (problem : Problem) (claim seed number k : ℕ) (m : Model) → NoneBreaks problem claim seed → IsLeastBreaking problem claim seed number k m → ⊥
+NoneBreaksLeavesNoLeast = (problem : Problem) (claim seed number k : ℕ) (m : Model) → NoneBreaks problem
+    claim seed → IsLeastBreaking problem claim seed number k m → ⊥
 
 -- Some candidate is the least that breaks the claim.
 pub record HasLeastBreaking (problem : Problem) (claim seed : ℕ) : Type 0 where
@@ -37,4 +39,5 @@ pub record IsRefutingModel (problem : Problem) (claim : ℕ) (m : Model) : Type 
 
 -- Each candidate that breaks the claim is one.
 abbrev pub BreakingCandidatesRefute : Type 0
-BreakingCandidatesRefute = (problem : Problem) (claim seed number k : ℕ) (m : Model) → Breaks problem claim seed number k m → IsRefutingModel problem claim m
+BreakingCandidatesRefute = (problem : Problem) (claim seed number k : ℕ) (m : Model) → Breaks problem
+    claim seed number k m → IsRefutingModel problem claim m

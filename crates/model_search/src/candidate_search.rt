@@ -100,7 +100,8 @@ fn search_block<R: Threads + Sync, G: Gate + Sync>(
     requires some_worker { 0 < workers }
     requires at_most_64 { workers ≤ 64 }
     ensures { IfOk result (λ found. MatchOption found
-        ((k : ℕ) → first ≤ k → k < first + count → NoneBreaksAt tester.now.problem.now tester.now.claim tester.now.seed tester.now.plan.now.number k)
+        ((k : ℕ) → first ≤ k → k < first + count
+        → NoneBreaksAt tester.now.problem.now tester.now.claim tester.now.seed tester.now.plan.now.number k)
         (IsFirstFrom tester.now.problem.now tester.now.claim tester.now.seed tester.now.plan.now.number first)) }
 {
     let numbers = numbers_from(tester.alloc, first, count)?;

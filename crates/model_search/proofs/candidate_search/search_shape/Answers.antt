@@ -9,8 +9,10 @@ pub search_block-requires-clause-inside : goal.search_block-requires-clause-insi
 search_block-requires-clause-inside g c κs alive k below =
     let job = c.args.tester.now in
     let s = shape_of_number job.problem.now job.plan.now.number c.requires.plan.least c.requires.plan.most in
-    let exact : c.candidates-count.result ≡ candidate_count (quiver_of job.problem.now.parts.quiver) s.shape = c.candidates-count.ensures.exact s.shape s.is in
-    let size : c.loop-first.first + c.min-size.result ≤ c.candidates-count.result = omega (arith, c.min-size.ensures, c.loop-first-test.true) in
+    let exact : c.candidates-count.result ≡ candidate_count
+    (quiver_of job.problem.now.parts.quiver) s.shape = c.candidates-count.ensures.exact s.shape s.is in
+    let size : c.loop-first.first + c.min-size.result ≤ c.candidates-count.result = omega
+    (arith, c.min-size.ensures, c.loop-first-test.true) in
     record {
       claim_is = c.requires.claim;
       plan_is = c.requires.plan;
@@ -22,7 +24,8 @@ search_block-requires-clause-inside g c κs alive k below =
 pub returns-in-Some : goal.returns-in-Some
 returns-in-Some g c =
     let job = c.args.tester.now in
-    first_of_shape job.problem.now job.claim job.seed job.plan.now.number c.loop-first.first c.min-size.result c.in_ok-found.field-0 c.in-Some.found c.in-Some.is c.loop-first.invariant.none
+    first_of_shape job.problem.now job.claim job.seed job.plan.now.number c.loop-first.first c.min-size.result c.in_ok-found.field-0
+    c.in-Some.found c.in-Some.is c.loop-first.invariant.none
     c.in_ok-found.ensures
 
 pub loop-first-preserved : goal.loop-first-preserved
@@ -30,7 +33,8 @@ loop-first-preserved g c =
     let job = c.args.tester.now in
     record {
       within = omega (arith, c.min-size.ensures, c.loop-first-test.true);
-      none = none_so_far job.problem.now job.claim job.seed job.plan.now.number c.loop-first.first c.min-size.result c.in_ok-found.field-0 c.in_default.is
+      none = none_so_far job.problem.now job.claim job.seed job.plan.now.number c.loop-first.first c.min-size.result c.in_ok-found.field-0
+          c.in_default.is
           c.loop-first.invariant.none c.in_ok-found.ensures;
     }
 

@@ -8,7 +8,8 @@ refutes-requires-clause-model c =
     let job = c.args.tester.now in
     let number = job.plan.now.number in
     let of = c.requires.numbered in
-    let is = subst (IsCandidate job.problem.now number c.requires.shape job.seed c.args.candidate) c.in-Some.is (c.in_ok-model.ensures.candidate c.requires.shape of) in
+    let is = subst (IsCandidate job.problem.now number c.requires.shape job.seed c.args.candidate) c.in-Some.is
+    (c.in_ok-model.ensures.candidate c.requires.shape of) in
     named_model job.problem.now job.claim number job.seed c.args.candidate c.requires.shape of c.in-Some.model is
 
 pub refutes-requires-clause-fitting : goal.refutes-requires-clause-fitting
@@ -16,7 +17,8 @@ refutes-requires-clause-fitting c =
     let job = c.args.tester.now in
     let number = job.plan.now.number in
     let of = c.requires.numbered in
-    let is = subst (IsCandidate job.problem.now number c.requires.shape job.seed c.args.candidate) c.in-Some.is (c.in_ok-model.ensures.candidate c.requires.shape of) in
+    let is = subst (IsCandidate job.problem.now number c.requires.shape job.seed c.args.candidate) c.in-Some.is
+    (c.in_ok-model.ensures.candidate c.requires.shape of) in
     named_fits job.problem.now job.claim number job.seed c.args.candidate c.requires.shape of c.in-Some.model is c.requires.claim_is
 
 pub returns-then-not-branch : goal.returns-then-not-branch
@@ -24,6 +26,7 @@ returns-then-not-branch c =
     let job = c.args.tester.now in
     let number = job.plan.now.number in
     let of = c.requires.numbered in
-    let is = subst (IsCandidate job.problem.now number c.requires.shape job.seed c.args.candidate) c.in-Some.is (c.in_ok-model.ensures.candidate c.requires.shape of) in
+    let is = subst (IsCandidate job.problem.now number c.requires.shape job.seed c.args.candidate) c.in-Some.is
+    (c.in_ok-model.ensures.candidate c.requires.shape of) in
     none_where_it_does_not job.problem.now job.claim number job.seed c.args.candidate c.requires.shape of c.in-Some.model is
     (λ refutes. true≢false (sym (c.in_ok-refutes.ensures.1 refutes) ∙ c.if-not-branch.true))
