@@ -5,9 +5,11 @@ use flow_io::{
 };
 use lists::{Listing, Text};
 use std::alloc::{AllocError, Allocator, Global};
+use std::fmt::Display;
 use std::fs::{self, Metadata, OpenFile, OpenOptions};
 use std::io::{self, ErrorKind, Read, Seek, SeekFrom, Write};
 use std::rt::Files;
+use std::sync::atomic::{AtomicU64, Ordering};
 use std::test::Fail;
 
 enum Want {
@@ -143,6 +145,43 @@ fn standard_output_takes_all_bytes(rt: HostRuntime) -> Result<(), Fail> {
     let mut sink = RealSink::new(rt);
     assert_eq!(rt; put_all(&mut sink, b"put\n"), Ok(()));
     assert_eq!(rt; sink.finish(), Ok(()));
+    Ok(())
+}
+
+// An output that takes one byte a call.
+#[derive(Drop)]
+struct Slow {
+    calls: AtomicU64,
+}
+
+impl Print for Slow {
+    fn print<D: Display + Drop>(&self, _value: D) -> io::Result<()> {
+        Err(unsupported())
+    }
+
+    fn println<D: Display + Drop>(&self, _value: D) -> io::Result<()> {
+        Err(unsupported())
+    }
+
+    fn write_all(&self, _bytes: &[u8]) -> io::Result<()> {
+        Err(unsupported())
+    }
+
+    fn write_some(&self, bytes: &[u8]) -> io::Result<usize> {
+        self.calls.fetch_add(1, Ordering::SeqCst);
+        Ok(bytes.len().min(1))
+    }
+}
+
+#[test]
+fn a_write_that_takes_one_byte_is_told_as_one(rt: HostRuntime) -> Result<(), Fail> {
+    let output = Slow {
+        calls: AtomicU64::new(0),
+    };
+    let mut sink = RealSink::new(&output);
+    assert_eq!(rt; sink.put(b"put"), Ok(1));
+    assert_eq!(rt; put_all(&mut sink, b"put"), Ok(()));
+    assert_eq!(rt; output.calls.load(Ordering::SeqCst), 4);
     Ok(())
 }
 
