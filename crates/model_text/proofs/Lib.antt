@@ -16,8 +16,8 @@ pub mod EachText
 mod Answered
 pub mod ModelValues
 mod Examples
-mod ModelsJoined
-mod ObjectNames
+pub mod ModelsJoined
+pub mod ObjectNames
 mod MatricesBack
 mod NamesApart
-mod ModelsBack
+pub mod ModelsBack
