@@ -15,7 +15,7 @@ use Rattle.opprove.proofs.Statements.{JudgedStatus, zero, three, seven}
 use Rattle.opprove.proofs.Checking.{check_once, check_status}
 use Rattle.opprove.proofs.Confirming.{model_once, model_status, says_confirmed}
 use Rattle.opprove.proofs.Meaning.{says_checked}
-use Rattle.opprove.proofs.Deciding.{decided_once, DecidedStatus, refused, proved, not_derivable, undecided, decided_status, says_decided}
+use Rattle.opprove.proofs.Deciding.{decided_once, DecidedStatus, refused, proved, not_derivable, broken, undecided, not_broken, decided_status, says_decided}
 
 -- no status that the run gives by itself
 pub record IsOwn (status : ℕ) : Type 0 where
@@ -33,6 +33,8 @@ own_decided : {status : ℕ} → DecidedStatus status → IsOwn status
 own_decided (refused is) = record { not_usage = λ e. omega arith; not_loading = λ e. omega arith; not_cut = λ e. omega arith; not_memory = λ e. omega arith }
 own_decided (proved is) = record { not_usage = λ e. omega arith; not_loading = λ e. omega arith; not_cut = λ e. omega arith; not_memory = λ e. omega arith }
 own_decided (not_derivable is) = record { not_usage = λ e. omega arith; not_loading = λ e. omega arith; not_cut = λ e. omega arith; not_memory = λ e. omega arith }
+own_decided (broken is) = record { not_usage = λ e. omega arith; not_loading = λ e. omega arith; not_cut = λ e. omega arith; not_memory = λ e. omega arith }
+own_decided (not_broken is) = record { not_usage = λ e. omega arith; not_loading = λ e. omega arith; not_cut = λ e. omega arith; not_memory = λ e. omega arith }
 own_decided (undecided is) = record { not_usage = λ e. omega arith; not_loading = λ e. omega arith; not_cut = λ e. omega arith; not_memory = λ e. omega arith }
 
 pub answers_once : (call : Call) (contents : List (List ℕ)) (ending ending' : Ending) → Answers call contents ending → Answers call contents ending' → ending ≡ ending'

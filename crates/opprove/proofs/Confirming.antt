@@ -109,6 +109,7 @@ confirmed_means problem m is refutes =
     let q = quiver_of problem.parts.quiver in
     let shown = refuting_models_are_counterexamples problem m (readable problem.parts.quiver m is) refutes in
     record {
+      names = refl;
       represents = shown.represents;
       assumptions = shown.assumptions;
       generators = (star_sound (matrices_laws m.modulus) (transpose_laws m.modulus)).generators q problem.parts.starred (numbers problem.parts.marked) (polynomials problem.parts.assumptions)

@@ -24,7 +24,7 @@ use Rattle.representations.specs.Evidence.{IsEvidenceSound}
 use Rattle.outcome_meanings.specs.Meanings.{OutcomeMeans}
 use Rattle.outcome_meanings.proofs.AskedOrders.{asked_rank, asked_cmp-admissible}
 use Rattle.outcome_meanings.proofs.Meanings.{outcomes_mean_what_they_say}
-use Rattle.report_text.specs.Report.{status_of, is_undecided, is_proved}
+use Rattle.report_text.specs.Report.{status_of, is_proved, is_refuted, is_undecided, is_not_refuted}
 use Rattle.opprove.specs.Ending.{Ending}
 use Rattle.opprove.specs.Statement.{OverStatement}
 use Rattle.opprove.specs.Statement as statements
@@ -69,22 +69,28 @@ decided_once print asked statement ending ending' one other = statement_once sta
 
 -- ---- the status
 
--- 3 for a statement with a fault, and else 0, 10 or 12
+-- 3 for a statement with a fault, and else one of the verdicts
 pub data DecidedStatus (status : ℕ) : Type 0 where
   refused : status ≡ 3 → DecidedStatus status
   proved : status ≡ 0 → DecidedStatus status
   not_derivable : status ≡ 10 → DecidedStatus status
+  broken : status ≡ 11 → DecidedStatus status
   undecided : status ≡ 12 → DecidedStatus status
+  not_broken : status ≡ 13 → DecidedStatus status
 
-verdicts_status : (status : ℕ) (some_undecided all_proved : Bool) → status ≡ (if some_undecided then 12 else (if all_proved then 0 else 10)) → DecidedStatus status
-verdicts_status status true all_proved is = undecided is
-verdicts_status status false true is = proved is
-verdicts_status status false false is = not_derivable is
+verdicts_status : (status : ℕ) (some_undecided some_not_refuted some_refuted all_proved : Bool)
+    → status ≡ (if some_undecided then 12 else (if some_not_refuted then 13 else (if some_refuted then 11 else (if all_proved then 0 else 10)))) → DecidedStatus status
+verdicts_status status true some_not_refuted some_refuted all_proved is = undecided is
+verdicts_status status false true some_refuted all_proved is = not_broken is
+verdicts_status status false false true all_proved is = broken is
+verdicts_status status false false false true is = proved is
+verdicts_status status false false false false is = not_derivable is
 
 pub decided_status : (print : Print) (asked : Asked) (statement : List ℕ) (ending : Ending) → OverStatement statement (AnswersClaims print asked) ending → DecidedStatus ending.status
 decided_status print asked statement ending (statements.faulty text wrong ends) = refused (ap (λ (e : Ending). e.status) ends)
 decided_status print asked statement ending (statements.stated problem is answer) =
-    verdicts_status ending.status (list_any is_undecided answer.verdicts) (list_all is_proved answer.verdicts) (ap (λ (e : Ending). e.status) answer.says)
+    verdicts_status ending.status (list_any is_undecided answer.verdicts) (list_any is_not_refuted answer.verdicts) (list_any is_refuted answer.verdicts) (list_all is_proved answer.verdicts)
+    (ap (λ (e : Ending). e.status) answer.says)
 
 -- ---- what verdicts mean
 

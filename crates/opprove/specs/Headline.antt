@@ -1,5 +1,5 @@
 -- The main theorem: what a report says.
-use Rattle.std.specs.Prelude.{ℕ, ℤ, ◌≡◌, ◌≢◌, false, List, [], ◌∷◌, ◌++◌, String}
+use Rattle.std.specs.Prelude.{ℕ, ℤ, ◌≡◌, ◌≢◌, ⊤, false, List, [], ◌∷◌, ◌++◌, String}
 use Rattle.std.specs.declared.alloc.Global.{Global}
 use Rattle.std.specs.List.{AllByRecursion, AllZip}
 use Rattle.definitions.specs.Category.{Structure, InvolutionLaws}
@@ -21,7 +21,7 @@ use Rattle.model_text.specs.Models.{IsModels}
 use Rattle.outcome_meanings.specs.Meanings.{Follows, EvidenceAddsUp, HaltMeans}
 use Rattle.certificate_text.specs.Evidence.{IsEvidence}
 use Rattle.report_text.specs.declared.verdict.Verdict.{Verdict}
-use Rattle.report_text.specs.declared.verdict.Verdict.TheVariants.{Proved, NotDerivable, Undecided}
+use Rattle.report_text.specs.declared.verdict.Verdict.TheVariants.{Proved, NotDerivable, Refuted, Undecided, NotRefuted}
 use Rattle.report_text.specs.Heads.{denominator_of}
 use Rattle.report_text.specs.Report.{report_of, heads_of, status_of}
 use Rattle.report_text.specs.Bench.{bench_statement}
@@ -66,6 +66,8 @@ pub record ProvedMeans {Object Arrow : Type 0} (s : Structure Object Arrow) (pro
 
 -- What it means that the claim with this number is refuted by this model: matrices over the integers modulo its modulus, with transposes as adjoints.
 pub record RefutedMeans (problem : Problem) (number : ℕ) (m : Model) : Type 0 where
+  -- the model names the claim,
+  pub names : m.claim ≡ number
   -- its matrices are a star representation of what the statement declares
   pub represents : StarRepresents (matrices m.modulus) (transpose m.modulus) (quiver_of problem.parts.quiver) (representation_of (quiver_of problem.parts.quiver) m)
   -- in which the assumptions of the statement have the value zero,
@@ -100,11 +102,14 @@ pub record SaysConfirmed (statement models report : List ℕ) : Type 0 where
 -- ---- `prove` and `bench`
 
 -- What is said of the claim with this number: proved, with its denominator, means so in each category; not derivable means that no
--- positive multiple of the claim is a combination of the generators; undecided means what its place and its least word say.
+-- positive multiple of the claim is a combination of the generators; refuted means that the claim isn't zero in the model; undecided
+-- means what its place and its least word say; not refuted says nothing of the claim.
 abbrev pub VerdictMeans : {Object Arrow : Type 0} → Structure Object Arrow → Problem → ℕ → Verdict → Type 0
 VerdictMeans s problem number (Proved e) = ProvedMeans s problem number e
 VerdictMeans s problem number (NotDerivable rest) = Follows problem number → ⊥
+VerdictMeans s problem number (Refuted m) = RefutedMeans problem number m
 VerdictMeans s problem number (Undecided halt) = HaltMeans problem number halt
+VerdictMeans s problem number (NotRefuted candidates) = ⊤
 
 -- What is printed over a problem are verdicts, one on each claim in order, and each means what it says.
 pub record PrintsMeant {Object Arrow : Type 0} (s : Structure Object Arrow) (print : Print) (problem : Problem) (ending : Ending) : Type 0 where

@@ -2,7 +2,7 @@
 use crate::decided_rows::{OTHERS, PLAIN, PROVED, PROVED_PLAINLY, WITHOUT_FILES};
 use crate::gallery_rows::GALLERY;
 use crate::lemma_rows::{LEMMAS, LONG_WORD};
-use crate::model_rows::MODELS;
+use crate::model_rows::{FAULTS, MODELS};
 use crate::run::run;
 use crate::test_rows::{CALLS, EXAMPLES, JUDGED, REFUSED, SOUND};
 use category_laws::Parity;
@@ -71,9 +71,11 @@ fn each_run_has_its_status_and_report(rt: HostRuntime) -> Result<(), Fail> {
 
 #[test]
 fn models_are_confirmed_or_refused(rt: HostRuntime) -> Result<(), Fail> {
-    for (statement, models, want) in MODELS {
-        let got = answer(&rt, rt.alloc(), MODEL, statement, models, &[])?;
-        assert_eq!(rt; got.as_str(), *want, "{models:?}");
+    for rows in [MODELS, FAULTS] {
+        for (statement, models, want) in rows {
+            let got = answer(&rt, rt.alloc(), MODEL, statement, models, &[])?;
+            assert_eq!(rt; got.as_str(), *want, "{models:?}");
+        }
     }
     Ok(())
 }
