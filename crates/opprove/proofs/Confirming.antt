@@ -16,12 +16,14 @@ use Rattle.model_search.specs.declared.refusal.ModelRefusal.TheVariants as refus
 use Rattle.model_search.specs.Models.{representation_of, Refutes}
 use Rattle.model_search.specs.Models as search
 use Rattle.model_search.specs.Refusals.{RefusesModel, IsMemory}
+use Rattle.model_search.specs.Laws.{HasOtherValue}
 use Rattle.model_search.proofs.Counterexamples.{refuting_models_are_counterexamples}
 use Rattle.model_search.proofs.Judged.{each_model_is_judged}
 use Rattle.model_search.proofs.UniqueRefusals.{model_refusal_is_unique, refuting_model_is_not_refused}
 use Rattle.model_text.specs.Models.{IsModel, IsModels, IsFirstFault}
 use Rattle.model_text.proofs.EachText.{each_text_is_read, models_are_unique, first_fault_is_unique, models_have_no_fault}
 use Rattle.model_text.proofs.ModelValues.{models_are_models}
+use Rattle.claim_decider.specs.Decided.{claim_at}
 use Rattle.opprove.specs.Ending.{Ending}
 use Rattle.opprove.specs.Refusals.{model_cause}
 use Rattle.opprove.specs.Letters.{HasModelLetter}
@@ -104,24 +106,24 @@ model_status statement models ending = judged_statement statement (AnswersModelT
 -- ---- what confirmed models mean
 
 -- a model that refutes the claim that it names is a counterexample to it, in which all generators of the statement are zero
-pub confirmed_means : (problem : Problem) (m : Model) → IsModel problem.parts.quiver m → Refutes problem m → ConfirmedMeans problem m
-confirmed_means problem m is refutes =
+pub refuted_means : (problem : Problem) (number : ℕ) (m : Model) → search.IsModel (quiver_of problem.parts.quiver) m → m.claim ≡ number → Refutes problem m → RefutedMeans problem number m
+refuted_means problem number m is names refutes =
     let q = quiver_of problem.parts.quiver in
-    let shown = refuting_models_are_counterexamples problem m (readable problem.parts.quiver m is) refutes in
+    let shown = refuting_models_are_counterexamples problem m is refutes in
     record {
-      names = refl;
+      names = names;
       represents = shown.represents;
       assumptions = shown.assumptions;
       generators = (star_sound (matrices_laws m.modulus) (transpose_laws m.modulus)).generators q problem.parts.starred (numbers problem.parts.marked) (polynomials problem.parts.assumptions)
           (posed_quiver problem.parts problem.posed) (marked_are_objects problem.parts problem.posed) (representation_of q m) shown.represents shown.assumptions;
-      claim = shown.claim;
+      claim = subst (λ (n : ℕ). HasOtherValue problem m (claim_at problem n)) names shown.claim;
     }
 
 pub each_means : (problem : Problem) (ms : List Model) → All (IsModel problem.parts.quiver) ms → AllByRecursion (Refutes problem) ms → AllByRecursion (ConfirmedMeans problem) ms
 each_means problem [] are refute = tt
 each_means problem (m ∷ ms) are refute =
     let is = IsModel problem.parts.quiver in
-    (confirmed_means problem m (All-head is m ms are) refute.0, each_means problem ms (All-tail is m ms are) refute.1)
+    (refuted_means problem m.claim m (readable problem.parts.quiver m (All-head is m ms are)) refl refute.0, each_means problem ms (All-tail is m ms are) refute.1)
 
 first_of : {A : Type 0} (P : A → Type 0) (first others : List A) → All P (first ++ others) → All P first
 first_of P first others all = λ k d below. all k d (omega (arith, below))
