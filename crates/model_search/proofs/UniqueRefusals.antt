@@ -12,7 +12,7 @@ use Rattle.model_search.specs.declared.refusal.ModelRefusal.TheVariants as refus
 use Rattle.model_search.specs.Models.{map_at, HasEnds, IsSelfTransposed, HasMatrix, HaveMatrices, IsClaimNumber, IsZeroIn, assumptions_of, IsFitting}
 use Rattle.model_search.specs.Memory.{IsMemory}
 use Rattle.model_search.specs.Refusals.{IsAtMap, LacksMatrix, HasOtherEnds, IsNotSelfTransposed, RefusesMap, IsFirstNotZero, MakesClaimZero, RefusesModel}
-use Rattle.model_search.specs.Laws.{ModelRefusalIsUnique, RefutingModelIsNotRefused}
+use Rattle.model_search.specs.Laws.{ModelRefusalIsUnique}
 
 -- ---- declared maps
 module _ (q : Quiver) (m : Model) where
@@ -177,16 +177,3 @@ module _ (problem : Problem) (m : Model) where
 
 pub model_refusal_is_unique : ModelRefusalIsUnique
 model_refusal_is_unique problem m e f one other plain plain' = once problem m e f (reason problem m e one plain) (reason problem m f other plain')
-
--- none of the tests fails where the claim is refuted
-pub refuting_model_is_not_refused : RefutingModelIsNotRefused
-refuting_model_is_not_refused problem m refusal.NoSuchClaim refutes because = absurd (because refutes.assumptions.fitting.claim)
-refuting_model_is_not_refused problem m (refusal.MissingMap letter) refutes because =
-    absurd (not_all (quiver_of problem.parts.quiver) m (refusal.MissingMap letter) (missing letter.0 refl because.1) refutes.assumptions.fitting.maps)
-refuting_model_is_not_refused problem m (refusal.BadShape letter) refutes because =
-    absurd (not_all (quiver_of problem.parts.quiver) m (refusal.BadShape letter) (shape letter.0 refl because.1) refutes.assumptions.fitting.maps)
-refuting_model_is_not_refused problem m (refusal.NotSymmetric letter) refutes because =
-    absurd (not_all (quiver_of problem.parts.quiver) m (refusal.NotSymmetric letter) (symmetry letter.0 refl because.1) refutes.assumptions.fitting.maps)
-refuting_model_is_not_refused problem m (refusal.NotZero number) refutes because = absurd (not_all_zero problem m number because.1 refutes.assumptions.zero)
-refuting_model_is_not_refused problem m refusal.ClaimZero refutes because = absurd (refutes.claim because.claim)
-refuting_model_is_not_refused problem m (refusal.Memory failed) refutes because = tt

@@ -17,8 +17,8 @@ use Rattle.model_search.specs.Models as search
 use Rattle.model_search.specs.Refusals.{RefusesModel, IsMemory}
 use Rattle.model_search.specs.Laws.{HasOtherValue}
 use Rattle.model_search.proofs.Counterexamples.{refuting_models_are_counterexamples}
-use Rattle.model_search.proofs.Judged.{each_model_is_judged}
-use Rattle.model_search.proofs.UniqueRefusals.{model_refusal_is_unique, refuting_model_is_not_refused}
+use Rattle.model_search.proofs.Judged.{each_model_is_judged, refuting_model_is_not_refused}
+use Rattle.model_search.proofs.UniqueRefusals.{model_refusal_is_unique}
 use Rattle.model_text.specs.Models.{IsModel, IsModels, IsFirstFault}
 use Rattle.model_text.proofs.EachText.{each_text_is_read, models_are_unique, first_fault_is_unique, models_have_no_fault}
 use Rattle.model_text.proofs.ModelValues.{models_are_models}

@@ -1,4 +1,4 @@
-use Rattle.model_search.proofs.UniqueRefusals as lemma
+use Rattle.model_search.proofs.Judged as lemma
 use Rattle.model_search.proofs.laws.refuting_model_is_not_refused.Goals as goal
 
 pub returns : goal.returns
