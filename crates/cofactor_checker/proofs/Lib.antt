@@ -1,5 +1,4 @@
 pub mod Words
-pub mod Updates
 pub mod First
 pub mod Adding
 pub mod Descending

@@ -3,7 +3,7 @@ use Rattle.std.specs.BTreeMap.{Updates}
 use Rattle.coef_int.specs.Range.{IsCoefficient}
 use Rattle.word_core.specs.Canonical.{word_cmp}
 use Rattle.nc_polynomial.specs.Collected.{coefficient_in}
-use Rattle.cofactor_checker.proofs.Updates.{adds_from_update, running_from_update}
+use Rattle.nc_polynomial.proofs.Updates.{adds_from_update, running_from_update}
 use Rattle.cofactor_checker.proofs.sum.add_term.Goals as goal
 
 pub returns-then-total-eq0-clause-added : goal.returns-then-total-eq0-clause-added
