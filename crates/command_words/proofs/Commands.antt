@@ -10,7 +10,7 @@ use Rattle.command_words.specs.CommandSet.{command_set, IsTaken, prove_command, 
 use Rattle.command_words.specs.Accepted.{given_words, IsFileWord, option_of, is_flag}
 use Rattle.command_words.specs.Calls.{GivesProve, GivesBench, GivesPair, MatchesGive, Names, NamesProve, NamesBench, NamesPair, prove_spans, bench_spans}
 use Rattle.command_words.specs.declared.call.Call.{Call}
-use Rattle.command_words.specs.declared.call.Call.TheVariants.{Prove, Check, Bench}
+use Rattle.command_words.specs.declared.call.Call.TheVariants.{Prove, Check, Model, Bench}
 use Rattle.command_words.specs.declared.call.ProveCall.{ProveCall}
 use Rattle.command_words.specs.declared.call.BenchCall.{BenchCall}
 use Rattle.command_words.specs.declared.call.PairCall.{PairCall}
@@ -209,6 +209,10 @@ check_named : IsNamed (codes "check") (pair_command (codes "check"))
 unfolding command_set clap_on_literals
 check_named = record { entry = refl; well = refl; found = refl; name_is = refl }
 
+model_named : IsNamed (codes "model") (pair_command (codes "model"))
+unfolding command_set clap_on_literals
+model_named = record { entry = refl; well = refl; found = refl; name_is = refl }
+
 pair_accepted : (name : Text) (words : List Text) (x : PairCall) (call : Call) → IsNamed name (pair_command name) → NamesPair name words x
     → ((rows : List Row) → GivesPair rows x → MatchesGive (Some (name, rows)) call) → IsTaken words × MatchesGive (subcommand_of command_set words) call
 pair_accepted name words x call named n gives =
@@ -220,4 +224,5 @@ pair_accepted name words x call named n gives =
 pub accepted : (words : List Text) (call : Call) → Names words call → IsTaken words × MatchesGive (subcommand_of command_set words) call
 accepted words (Prove x) n = prove_accepted words x n
 accepted words (Check x) n = pair_accepted (codes "check") words x (Check x) check_named n (λ rows g. (refl, g))
+accepted words (Model x) n = pair_accepted (codes "model") words x (Model x) model_named n (λ rows g. (refl, g))
 accepted words (Bench x) n = bench_accepted words x n

@@ -6,12 +6,13 @@ use Rattle.std.specs.Str.Parse.{digits_value, without_leading_plus}
 use Rattle.clap.specs.Walk.{Row, Text}
 use Rattle.clap.specs.Simple.{subcommand_of}
 use Rattle.command_words.specs.CommandSet.{command_set, IsTaken}
-use Rattle.command_words.specs.Present.{HasNumber, HasFlag, HasProve, HasBench, HasCommand, MatchesHave}
-use Rattle.command_words.specs.Calls.{number_of, flag_of, GivesProve, GivesBench, GivesCall, MatchesGive}
+use Rattle.command_words.specs.Present.{HasNumber, HasFlag, HasProve, HasBench, HasPair, HasCommand, MatchesHave}
+use Rattle.command_words.specs.Calls.{number_of, flag_of, GivesProve, GivesBench, GivesPair, GivesCall, MatchesGive}
 use Rattle.command_words.specs.declared.call.Call.{Call}
-use Rattle.command_words.specs.declared.call.Call.TheVariants.{Prove, Check, Bench}
+use Rattle.command_words.specs.declared.call.Call.TheVariants.{Prove, Check, Model, Bench}
 use Rattle.command_words.specs.declared.call.ProveCall.{ProveCall}
 use Rattle.command_words.specs.declared.call.BenchCall.{BenchCall}
+use Rattle.command_words.specs.declared.call.PairCall.{PairCall}
 use Rattle.command_words.proofs.Taken.{taken_has}
 
 number_given : (id : Text) (least most : ℕ) (rows : List Row) → HasNumber id least most rows → (n : ℕ) × (number_of id rows ≡ Some n)
@@ -43,13 +44,20 @@ bench_call rows h =
     let workers = number_given (codes "workers") 1 64 rows h.workers in
     (record { size = size.0; workers = workers.0 }, record { size = size.1; workers = workers.1 })
 
+pair_call : (rows : List Row) → HasPair rows → (p : PairCall) × GivesPair rows p
+pair_call rows h = (record { statement = h.statement.0; evidence = h.evidence.0 }, record { statement = h.statement.1; evidence = h.evidence.1 })
+
 call_given : (name : Text) (rows : List Row) → HasCommand name rows → (call : Call) × GivesCall name rows call
 call_given name rows (inl h) =
     let p = prove_call rows h.1 in
     (Prove p.0, (h.0, p.1))
 call_given name rows (inr (inl h)) =
-    (Check (record { statement = h.1.statement.0; evidence = h.1.evidence.0 }), (h.0, record { statement = h.1.statement.1; evidence = h.1.evidence.1 }))
-call_given name rows (inr (inr h)) =
+    let p = pair_call rows h.1 in
+    (Check p.0, (h.0, p.1))
+call_given name rows (inr (inr (inl h))) =
+    let p = pair_call rows h.1 in
+    (Model p.0, (h.0, p.1))
+call_given name rows (inr (inr (inr h))) =
     let b = bench_call rows h.1 in
     (Bench b.0, (h.0, b.1))
 

@@ -263,7 +263,7 @@ found_in (x ∷ shapes) p s e = go (p x) (found_in shapes p s) e
     go false below same = inr (below same)
 
 leaves : List Shape
-leaves = leaf prove_command ∷ leaf (pair_command (codes "check")) ∷ leaf bench_command ∷ []
+leaves = leaf prove_command ∷ leaf (pair_command (codes "check")) ∷ leaf (pair_command (codes "model")) ∷ leaf bench_command ∷ []
 
 subs_are : (built command_set).subs ≡ leaves
 unfolding command_set leaves clap_on_literals
@@ -276,8 +276,10 @@ leaf_has s (inl is) words e = subst (λ (x : Shape). HasCommand x.name (rows_aft
 leaf_has s (inr (inl is)) words e = subst (λ (x : Shape). HasCommand x.name (rows_after x.rules [] words)) (sym is)
     (inr (inl (refl, pair_has (codes "check") words (subst (λ (x : Shape). level_fault x [] nothing_held words false [] ≡ []) is e))))
 leaf_has s (inr (inr (inl is))) words e = subst (λ (x : Shape). HasCommand x.name (rows_after x.rules [] words)) (sym is)
-    (inr (inr (refl, bench_has words (subst (λ (x : Shape). level_fault x [] nothing_held words false [] ≡ []) is e))))
-leaf_has s (inr (inr (inr none))) words e = absurd none
+    (inr (inr (inl (refl, pair_has (codes "model") words (subst (λ (x : Shape). level_fault x [] nothing_held words false [] ≡ []) is e)))))
+leaf_has s (inr (inr (inr (inl is)))) words e = subst (λ (x : Shape). HasCommand x.name (rows_after x.rules [] words)) (sym is)
+    (inr (inr (inr (refl, bench_has words (subst (λ (x : Shape). level_fault x [] nothing_held words false [] ≡ []) is e)))))
+leaf_has s (inr (inr (inr (inr none)))) words e = absurd none
 
 -- a command was entered, since one is required
 wants_command : (rows : List Row) → check_fault (built command_set).top rows false ≡ [] → ⊥

@@ -5,7 +5,7 @@ use Rattle.std.specs.Str.{bytes_eq}
 use Rattle.clap.specs.Words.{Row, Text, first_of}
 use Rattle.command_words.specs.Calls.{number_of, flag_of, GivesProve, GivesBench, GivesPair, GivesCall, MatchesGive}
 use Rattle.command_words.specs.declared.call.Call.{Call}
-use Rattle.command_words.specs.declared.call.Call.TheVariants.{Prove, Check, Bench}
+use Rattle.command_words.specs.declared.call.Call.TheVariants.{Prove, Check, Model, Bench}
 use Rattle.command_words.specs.declared.call.ProveCall.{ProveCall}
 use Rattle.command_words.specs.declared.call.BenchCall.{BenchCall}
 use Rattle.command_words.specs.declared.call.PairCall.{PairCall}
@@ -71,7 +71,8 @@ pair_is rows p g = rw (is_text (codes "statement") rows p.statement g.statement,
 
 call_from : Text → List Row → Call
 call_from name rows = if bytes_eq name (codes "prove") then Prove (prove_from rows)
-    else (if bytes_eq name (codes "check") then Check (pair_from rows) else Bench (bench_from rows))
+    else (if bytes_eq name (codes "check") then Check (pair_from rows)
+    else (if bytes_eq name (codes "model") then Model (pair_from rows) else Bench (bench_from rows)))
 
 named : (name other : Text) (rows : List Row) (call : Call) → name ≡ other → call_from other rows ≡ call → call_from name rows ≡ call
 named name other rows call e f = ap (λ t. call_from t rows) e ∙ f
@@ -80,6 +81,7 @@ call_is : (name : Text) (rows : List Row) (call : Call) → GivesCall name rows 
 unfolding call_from
 call_is name rows (Prove p) g = named name (codes "prove") rows (Prove p) g.0 (ap (λ x. Prove x) (prove_is rows p g.1))
 call_is name rows (Check p) g = named name (codes "check") rows (Check p) g.0 (ap (λ x. Check x) (pair_is rows p g.1))
+call_is name rows (Model p) g = named name (codes "model") rows (Model p) g.0 (ap (λ x. Model x) (pair_is rows p g.1))
 call_is name rows (Bench b) g = named name (codes "bench") rows (Bench b) g.0 (ap (λ x. Bench x) (bench_is rows b g.1))
 
 pub one_call : (o : Option (Text × List Row)) (a b : Call) → MatchesGive o a → MatchesGive o b → a ≡ b

@@ -5,7 +5,7 @@ use Rattle.std.specs.Str.Parse.{digits_value, without_leading_plus}
 use Rattle.clap.specs.Words.{Row, Text, first_of, one_of}
 use Rattle.command_words.specs.Accepted.{Given, given_words, IsFileWord, Span, AreOptions, option_of, number_or, is_flag}
 use Rattle.command_words.specs.declared.call.Call.{Call}
-use Rattle.command_words.specs.declared.call.Call.TheVariants.{Prove, Check, Bench}
+use Rattle.command_words.specs.declared.call.Call.TheVariants.{Prove, Check, Model, Bench}
 use Rattle.command_words.specs.declared.call.ProveCall.{ProveCall}
 use Rattle.command_words.specs.declared.call.BenchCall.{BenchCall}
 use Rattle.command_words.specs.declared.call.PairCall.{PairCall}
@@ -40,6 +40,7 @@ pub record GivesPair (rows : List Row) (p : PairCall) : Type 0 where
 abbrev pub GivesCall : Text → List Row → Call → Type 0
 GivesCall name rows (Prove p) = (name ≡ codes "prove") × GivesProve rows p
 GivesCall name rows (Check p) = (name ≡ codes "check") × GivesPair rows p
+GivesCall name rows (Model p) = (name ≡ codes "model") × GivesPair rows p
 GivesCall name rows (Bench b) = (name ≡ codes "bench") × GivesBench rows b
 
 abbrev pub MatchesGive : Option (Text × List Row) → Call → Type 0
@@ -55,6 +56,7 @@ abbrev pub IsInRange : Call → Type 0
 IsInRange (Prove p) = IsWithin 1 1000000 p.pairs × IsWithin 1 1000000 p.steps × IsWithin 1 64 p.workers × IsWithin 0 18446744073709551615 p.seed × IsWithin 1 2 p.format
 IsInRange (Bench b) = IsWithin 1 60 b.size × IsWithin 1 64 b.workers
 IsInRange (Check p) = ⊤
+IsInRange (Model p) = ⊤
 
 -- ---- of an accepted list
 
@@ -98,6 +100,7 @@ pub record NamesPair (name : Text) (words : List Text) (p : PairCall) : Type 0 w
 abbrev pub Names : List Text → Call → Type 0
 Names words (Prove p) = NamesProve words p
 Names words (Check p) = NamesPair (codes "check") words p
+Names words (Model p) = NamesPair (codes "model") words p
 Names words (Bench b) = NamesBench words b
 
 -- ---- the files
@@ -113,8 +116,13 @@ statement_limit = 1048576
 abbrev pub evidence_limit : ℕ
 evidence_limit = 67108864
 
+-- a statement file, then a file of evidence
+abbrev pub pair_files : PairCall → List FileWord
+pair_files p = record { name = p.statement; limit = statement_limit } ∷ record { name = p.evidence; limit = evidence_limit } ∷ []
+
 -- the files of a call, in the order in which they are loaded
 abbrev pub files_of : Call → List FileWord
 files_of (Prove p) = record { name = p.file; limit = statement_limit } ∷ []
-files_of (Check p) = record { name = p.statement; limit = statement_limit } ∷ record { name = p.evidence; limit = evidence_limit } ∷ []
+files_of (Check p) = pair_files p
+files_of (Model p) = pair_files p
 files_of (Bench b) = []

@@ -31,7 +31,8 @@ pub record HasPair (rows : List Row) : Type 0 where
   pub evidence : HasText (codes "evidence") rows
 
 abbrev pub HasCommand : Text → List Row → Type 0
-HasCommand name rows = ((name ≡ codes "prove") × HasProve rows) ⊎ ((name ≡ codes "check") × HasPair rows) ⊎ ((name ≡ codes "bench") × HasBench rows)
+HasCommand name rows = ((name ≡ codes "prove") × HasProve rows) ⊎ ((name ≡ codes "check") × HasPair rows)
+    ⊎ ((name ≡ codes "model") × HasPair rows) ⊎ ((name ≡ codes "bench") × HasBench rows)
 
 abbrev pub MatchesHave : Option (Text × List Row) → Type 0
 MatchesHave None = ⊥

@@ -45,6 +45,8 @@ pub enum Call {
     Prove(ProveCall),
     /// Checks certificates.
     Check(PairCall),
+    /// Confirms models.
+    Model(PairCall),
     /// Decides the claims of a statement that the program makes.
     Bench(BenchCall),
 }

@@ -76,6 +76,7 @@ fn call_of(alloc: Global, name: &str, matches: &ArgMatches) -> Result<Call, Allo
     match name {
         "prove" => Ok(Call::Prove(prove_of(alloc, matches)?)),
         "check" => Ok(Call::Check(pair_of(alloc, matches)?)),
+        "model" => Ok(Call::Model(pair_of(alloc, matches)?)),
         _ => Ok(Call::Bench(bench_of(matches))),
     }
 }

@@ -122,5 +122,6 @@ pub fn command_set<'a>(alloc: Global) -> Result<Command<'a>, AllocError>
 {
     let set = with_command(bare_command(alloc), prove_command(alloc)?)?;
     let set = with_command(set, pair_command(alloc, "check")?)?;
+    let set = with_command(set, pair_command(alloc, "model")?)?;
     with_command(set, bench_command(alloc)?)
 }

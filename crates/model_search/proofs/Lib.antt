@@ -4,6 +4,7 @@ pub mod Places
 pub mod Counterexamples
 pub mod Decided
 pub mod Judged
+pub mod UniqueRefusals
 pub mod EntryCounts
 pub mod Streams
 pub mod EntryPlaces

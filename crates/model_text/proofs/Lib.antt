@@ -12,9 +12,9 @@ mod TextLines
 mod NumberedLines
 mod FirstBounds
 mod ReadLines
-mod EachText
+pub mod EachText
 mod Answered
-mod ModelValues
+pub mod ModelValues
 mod Examples
 pub mod ModelsJoined
 pub mod ObjectNames

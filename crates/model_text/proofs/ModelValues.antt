@@ -16,7 +16,7 @@ use Rattle.certificate_text.specs.Fault.{ReadsText}
 use Rattle.certificate_text.specs.Letters.{is_name, is_number}
 use Rattle.model_text.specs.ModelBlocks.{EntryTokens, side, matrix, ModelTokens, BlockTokens, model, other, is_row, is_row_of, is_entry, IsModelBlock, IsBlock}
 use Rattle.model_text.specs.ModelBounds.{Bound, names, numbers, sizes, side_limit, value_of, is_map_named, is_object_named, side_of, matrix_value, matrix_of, model_value, values_in, HasName, IsBelow, IsSmall, KeepsOne, Keeps}
-use Rattle.model_text.specs.Models.{HasMap, IsPlaced, IsModel}
+use Rattle.model_text.specs.Models.{HasMap, IsPlaced, IsModel, IsModels}
 use Rattle.model_text.specs.Reading.{all_models}
 use Rattle.model_text.proofs.EntryValues.{flat_from}
 use Rattle.model_text.proofs.FirstBounds.{kept_at}
@@ -116,8 +116,10 @@ module _ (ds : List Declaration) where
       (values_are_models text (All-tail IsBlock (model b) text each) (λ bound. All-tail (KeepsOne ds bound) (model b) text (keeps bound)))
   values_are_models (other b ∷ text) each keeps = values_are_models text (All-tail IsBlock (other b) text each) (λ bound. All-tail (KeepsOne ds bound) (other b) text (keeps bound))
 
-  pub are_models : (bytes : List ℕ) (r : Result (List Model) CertFault) → ReadsText (λ ms. ms) r (all_models ds bytes) → IfOk r (All (IsModel ds))
-  are_models bytes (Ok ms) read =
-      let is = models_read ds bytes ms read in
+  pub models_are_models : (bytes : List ℕ) (ms : List Model) → IsModels ds bytes ms → All (IsModel ds) ms
+  models_are_models bytes ms is =
       subst (All (IsModel ds)) (sym is.has.models) (values_are_models is.has.blocks is.has.are_blocks.each (λ bound. (kept_at (Keeps ds is.has.blocks) is.has.within bound).each))
+
+  pub are_models : (bytes : List ℕ) (r : Result (List Model) CertFault) → ReadsText (λ ms. ms) r (all_models ds bytes) → IfOk r (All (IsModel ds))
+  are_models bytes (Ok ms) read = models_are_models bytes ms (models_read ds bytes ms read)
   are_models bytes (Err e) read = tt

@@ -6,14 +6,16 @@ use Rattle.representations.specs.Evidence.{IsEvidenceSound}
 use Rattle.report_text.specs.Report.{report_of, heads_of}
 use Rattle.report_text.specs.Bench.{bench_statement}
 use Rattle.command_words.specs.declared.call.Call.{Call}
-use Rattle.command_words.specs.declared.call.Call.TheVariants.{Prove, Check, Bench}
+use Rattle.command_words.specs.declared.call.Call.TheVariants.{Prove, Check, Model, Bench}
 use Rattle.opprove.specs.Ending.{Ending}
 use Rattle.opprove.specs.Answers.{Answers}
 use Rattle.opprove.specs.Decide.{asked_by, asked_by_bench}
 use Rattle.opprove.specs.Headline.{Says}
-use Rattle.opprove.proofs.Checking.{check_once, CheckStatus, zero, three, seven, check_status}
+use Rattle.opprove.proofs.Statements.{JudgedStatus, zero, three, seven}
+use Rattle.opprove.proofs.Checking.{check_once, check_status}
+use Rattle.opprove.proofs.Confirming.{model_once, model_status, says_confirmed}
 use Rattle.opprove.proofs.Meaning.{says_checked}
-use Rattle.opprove.proofs.Deciding.{decided_once, DecidedStatus, refused, proved, not_derivable, undecided, decided_status, says_decided}
+use Rattle.opprove.proofs.Deciding.{decided_once, DecidedStatus, refused, proved, not_derivable, broken, undecided, not_broken, decided_status, says_decided}
 
 -- no status that the run gives by itself
 pub record IsOwn (status : ℕ) : Type 0 where
@@ -22,15 +24,17 @@ pub record IsOwn (status : ℕ) : Type 0 where
   pub not_cut : status ≢ 5
   pub not_memory : status ≢ 6
 
-own_check : {status : ℕ} → CheckStatus status → IsOwn status
-own_check (zero is) = record { not_usage = λ e. omega arith; not_loading = λ e. omega arith; not_cut = λ e. omega arith; not_memory = λ e. omega arith }
-own_check (three is) = record { not_usage = λ e. omega arith; not_loading = λ e. omega arith; not_cut = λ e. omega arith; not_memory = λ e. omega arith }
-own_check (seven is) = record { not_usage = λ e. omega arith; not_loading = λ e. omega arith; not_cut = λ e. omega arith; not_memory = λ e. omega arith }
+own_judged : {status : ℕ} → JudgedStatus status → IsOwn status
+own_judged (zero is) = record { not_usage = λ e. omega arith; not_loading = λ e. omega arith; not_cut = λ e. omega arith; not_memory = λ e. omega arith }
+own_judged (three is) = record { not_usage = λ e. omega arith; not_loading = λ e. omega arith; not_cut = λ e. omega arith; not_memory = λ e. omega arith }
+own_judged (seven is) = record { not_usage = λ e. omega arith; not_loading = λ e. omega arith; not_cut = λ e. omega arith; not_memory = λ e. omega arith }
 
 own_decided : {status : ℕ} → DecidedStatus status → IsOwn status
 own_decided (refused is) = record { not_usage = λ e. omega arith; not_loading = λ e. omega arith; not_cut = λ e. omega arith; not_memory = λ e. omega arith }
 own_decided (proved is) = record { not_usage = λ e. omega arith; not_loading = λ e. omega arith; not_cut = λ e. omega arith; not_memory = λ e. omega arith }
 own_decided (not_derivable is) = record { not_usage = λ e. omega arith; not_loading = λ e. omega arith; not_cut = λ e. omega arith; not_memory = λ e. omega arith }
+own_decided (broken is) = record { not_usage = λ e. omega arith; not_loading = λ e. omega arith; not_cut = λ e. omega arith; not_memory = λ e. omega arith }
+own_decided (not_broken is) = record { not_usage = λ e. omega arith; not_loading = λ e. omega arith; not_cut = λ e. omega arith; not_memory = λ e. omega arith }
 own_decided (undecided is) = record { not_usage = λ e. omega arith; not_loading = λ e. omega arith; not_cut = λ e. omega arith; not_memory = λ e. omega arith }
 
 pub answers_once : (call : Call) (contents : List (List ℕ)) (ending ending' : Ending) → Answers call contents ending → Answers call contents ending' → ending ≡ ending'
@@ -41,6 +45,10 @@ answers_once (Check p) [] ending ending' one other = absurd one
 answers_once (Check p) (statement ∷ []) ending ending' one other = absurd one
 answers_once (Check p) (statement ∷ evidence ∷ []) ending ending' one other = check_once statement evidence ending ending' one other
 answers_once (Check p) (statement ∷ evidence ∷ third ∷ more) ending ending' one other = absurd one
+answers_once (Model p) [] ending ending' one other = absurd one
+answers_once (Model p) (statement ∷ []) ending ending' one other = absurd one
+answers_once (Model p) (statement ∷ models ∷ []) ending ending' one other = model_once statement models ending ending' one other
+answers_once (Model p) (statement ∷ models ∷ third ∷ more) ending ending' one other = absurd one
 answers_once (Bench b) [] ending ending' one other = decided_once heads_of asked_by_bench (bench_statement b.size) ending ending' one other
 answers_once (Bench b) (first ∷ more) ending ending' one other = absurd one
 
@@ -50,8 +58,12 @@ answer_status (Prove p) (statement ∷ []) ending answer = own_decided (decided_
 answer_status (Prove p) (statement ∷ second ∷ more) ending answer = absurd answer
 answer_status (Check p) [] ending answer = absurd answer
 answer_status (Check p) (statement ∷ []) ending answer = absurd answer
-answer_status (Check p) (statement ∷ evidence ∷ []) ending answer = own_check (check_status statement evidence ending answer)
+answer_status (Check p) (statement ∷ evidence ∷ []) ending answer = own_judged (check_status statement evidence ending answer)
 answer_status (Check p) (statement ∷ evidence ∷ third ∷ more) ending answer = absurd answer
+answer_status (Model p) [] ending answer = absurd answer
+answer_status (Model p) (statement ∷ []) ending answer = absurd answer
+answer_status (Model p) (statement ∷ models ∷ []) ending answer = own_judged (model_status statement models ending answer)
+answer_status (Model p) (statement ∷ models ∷ third ∷ more) ending answer = absurd answer
 answer_status (Bench b) [] ending answer = own_decided (decided_status heads_of asked_by_bench (bench_statement b.size) ending answer)
 answer_status (Bench b) (first ∷ more) ending answer = absurd answer
 
@@ -64,5 +76,9 @@ answers_say laws sound with_lemmas (Check p) [] ending answer = absurd answer
 answers_say laws sound with_lemmas (Check p) (statement ∷ []) ending answer = absurd answer
 answers_say laws sound with_lemmas (Check p) (statement ∷ evidence ∷ []) ending answer = says_checked laws sound with_lemmas statement evidence ending answer
 answers_say laws sound with_lemmas (Check p) (statement ∷ evidence ∷ third ∷ more) ending answer = absurd answer
+answers_say laws sound with_lemmas (Model p) [] ending answer = absurd answer
+answers_say laws sound with_lemmas (Model p) (statement ∷ []) ending answer = absurd answer
+answers_say laws sound with_lemmas (Model p) (statement ∷ models ∷ []) ending answer = says_confirmed statement models ending answer
+answers_say laws sound with_lemmas (Model p) (statement ∷ models ∷ third ∷ more) ending answer = absurd answer
 answers_say laws sound with_lemmas (Bench b) [] ending answer = says_decided laws sound with_lemmas heads_of asked_by_bench (bench_statement b.size) ending answer
 answers_say laws sound with_lemmas (Bench b) (first ∷ more) ending answer = absurd answer

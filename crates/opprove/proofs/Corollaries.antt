@@ -5,30 +5,32 @@ use Rattle.definitions.specs.Category.{Structure}
 use Rattle.cofactor_trace.specs.declared.evidence.Evidence.{Evidence}
 use Rattle.cofactor_trace.specs.declared.evidence.Format.TheVariants as format
 use Rattle.certificate_text.specs.Evidence.{IsEvidence}
+use Rattle.model_text.proofs.ModelValues.{models_are_models}
 use Rattle.adjoint_rules.specs.declared.problem.Problem.{Problem}
 use Rattle.opprove.specs.Ending.{Ending}
-use Rattle.opprove.specs.Statement.{IsStated, IsRefusedStatement}
-use Rattle.opprove.specs.Statement as statements
-use Rattle.opprove.specs.Blocks as blocks
-use Rattle.opprove.specs.Check.{question_of, AnswersEvidence}
-use Rattle.opprove.specs.Laws.{AcceptedAreAnswered, AllAccepted, ZeroIsAccepted, ZeroMeans, FaultsAreAnswered, ThreeIsFaulty}
-use Rattle.opprove.proofs.Checking.{accepted_judged, zero_accepted, over_status}
+use Rattle.opprove.specs.Statement.{IsStated, OverStatement, faulty, stated}
+use Rattle.opprove.specs.Check.{AnswersEvidence}
+use Rattle.opprove.specs.Confirm.{AnswersModelText}
+use Rattle.opprove.specs.Laws.{AcceptedAreAnswered, AllAccepted, ZeroIsAccepted, ZeroMeans, ConfirmedAreAnswered, AllConfirmed, ZeroIsConfirmed, FaultsAreAnswered, ThreeIsFaulty}
+use Rattle.opprove.proofs.BlockTexts.{passing_answered, zero_answered, text_status}
+use Rattle.opprove.proofs.Checking.{certificates_are_judged}
+use Rattle.opprove.proofs.Confirming.{models_are_judged, each_means}
+
+-- 0 is answered over a problem of the statement
+over_problem : (statement : List ℕ) (next : Problem → Ending → Type 0) (ending : Ending) → OverStatement statement next ending → ending.status ≡ 0 → (problem : Problem) × IsStated statement problem × next problem ending
+over_problem statement next ending (faulty text refused ends) is_zero = let three = ap (λ (e : Ending). e.status) ends in absurd (omega (arith, is_zero))
+over_problem statement next ending (stated problem is leads) is_zero = (problem, is, leads)
+
+-- ---- certificates
 
 pub accepted_are_answered : AcceptedAreAnswered
-accepted_are_answered statement evidence problem certificates is certificates_are all = statements.stated problem is (blocks.read certificates certificates_are (accepted_judged (question_of problem) 1 certificates all))
-
-status_is : {ending end : Ending} → ending ≡ end → ending.status ≡ end.status
-status_is same = ap (λ (e : Ending). e.status) same
-
-over_zero : (statement evidence : List ℕ) (ending : Ending) (problem : Problem) → IsStated statement problem → AnswersEvidence evidence problem ending → ending.status ≡ 0 → AllAccepted statement evidence ending
-over_zero statement evidence ending problem is (blocks.faulty fault wrong ends) is_zero = let seven = status_is ends in absurd (omega (arith, is_zero))
-over_zero statement evidence ending problem is (blocks.read es right judged) is_zero =
-    let all = zero_accepted (question_of problem) 1 es ending.report ending.status judged is_zero in
-    record { problem = problem; certificates = es; stated = is; read = right; accepted = all.0; report = all.1 }
+accepted_are_answered statement evidence problem certificates is are all = stated problem is (passing_answered (certificates_are_judged problem evidence) certificates are all)
 
 pub zero_is_accepted : ZeroIsAccepted
-zero_is_accepted statement evidence ending (statements.faulty text refused ends) is_zero = let three = status_is ends in absurd (omega (arith, is_zero))
-zero_is_accepted statement evidence ending (statements.stated problem is leads) is_zero = over_zero statement evidence ending problem is leads is_zero
+zero_is_accepted statement evidence ending answers is_zero =
+    let over = over_problem statement (AnswersEvidence evidence) ending answers is_zero in
+    let all = zero_answered (certificates_are_judged over.0 evidence) ending over.2 is_zero in
+    record { problem = over.0; certificates = all.all; stated = over.1; read = all.are; accepted = all.pass; report = all.says }
 
 pub zero_means : {Object Arrow : Type 0} (s : Structure Object Arrow) → ZeroMeans s
 zero_means s statement evidence ending answers says is_zero =
@@ -41,13 +43,34 @@ zero_means s statement evidence ending answers says is_zero =
       each = says.each all.problem all.certificates [] [] all.stated (subst (λ (es : List Evidence). IsEvidence format.Lemmas all.problem.parts.quiver evidence es) (sym (append-nil all.certificates)) all.read) (all.report ∙ sym (append-nil _));
     }
 
+-- ---- models
+
+pub confirmed_are_answered : ConfirmedAreAnswered
+confirmed_are_answered statement text problem models is are all = stated problem is (passing_answered (models_are_judged problem text) models are all)
+
+pub zero_is_confirmed : ZeroIsConfirmed
+zero_is_confirmed statement text ending answers is_zero =
+    let over = over_problem statement (AnswersModelText text) ending answers is_zero in
+    let all = zero_answered (models_are_judged over.0 text) ending over.2 is_zero in
+    record {
+      problem = over.0;
+      models = all.all;
+      stated = over.1;
+      read = all.are;
+      refute = all.pass;
+      mean = each_means over.0 all.all (models_are_models over.0.parts.quiver text all.all all.are) all.pass;
+      report = all.says;
+    }
+
+-- ---- statements
+
 pub faults_are_answered : FaultsAreAnswered
-faults_are_answered statement evidence text refused = statements.faulty text refused refl
+faults_are_answered statement evidence text refused = faulty text refused refl
 
 not_three : (n : ℕ) → (n ≡ 0) ⊎ (n ≡ 7) → n ≡ 3 → ⊥
 not_three n (inl is) three = omega arith
 not_three n (inr is) three = omega arith
 
 pub three_is_faulty : ThreeIsFaulty
-three_is_faulty statement evidence ending (statements.faulty text refused ends) is_three = (text, refused, ends)
-three_is_faulty statement evidence ending (statements.stated problem is leads) is_three = absurd (not_three ending.status (over_status evidence problem ending leads) is_three)
+three_is_faulty statement evidence ending (faulty text refused ends) is_three = (text, refused, ends)
+three_is_faulty statement evidence ending (stated problem is leads) is_three = absurd (not_three ending.status (text_status (certificates_are_judged problem evidence) ending leads) is_three)

@@ -24,7 +24,7 @@ use Rattle.representations.specs.Evidence.{IsEvidenceSound}
 use Rattle.outcome_meanings.specs.Meanings.{OutcomeMeans}
 use Rattle.outcome_meanings.proofs.AskedOrders.{asked_rank, asked_cmp-admissible}
 use Rattle.outcome_meanings.proofs.Meanings.{outcomes_mean_what_they_say}
-use Rattle.report_text.specs.Report.{status_of, is_undecided, is_proved}
+use Rattle.report_text.specs.Report.{status_of, is_proved, is_refuted, is_undecided, is_not_refuted}
 use Rattle.opprove.specs.Ending.{Ending}
 use Rattle.opprove.specs.Statement.{OverStatement}
 use Rattle.opprove.specs.Statement as statements
@@ -34,68 +34,6 @@ use Rattle.opprove.specs.Headline.{VerdictMeans, PrintsMeant, SaysDecided}
 use Rattle.opprove.proofs.Statements.{statement_once}
 use Rattle.opprove.proofs.Stops.{over_statement}
 use Rattle.opprove.proofs.Meaning.{proved_means}
-
--- ---- two problems that say the same
-
-module _ (p q : Problem) (same : AreSame p q) where
-  counted : (ps qs : List Poly) → polynomials ps ≡ polynomials qs → length ps ≡ length qs
-  counted ps qs is = sym (length-map ps (λ (x : Poly). x.terms)) ∙ ap length is ∙ length-map qs (λ (x : Poly). x.terms)
-
-  same_units : units_in p.parts ≡ units_in q.parts
-  same_units = rw (same.quiver, same.starred, same.marked) refl
-
-  same_setting : (budget : Budget) → setting_of p budget ≡ setting_of q budget
-  same_setting budget = rw (same.order, same.generators, ap length same_units, counted p.generators q.generators same.generators) refl
-
-  same_claim : (number : ℕ) → claim_at p number ≡ claim_at q number
-  same_claim number = rw same.claims refl
-
-  same_numbers : claim_numbers p ≡ claim_numbers q
-  same_numbers = ap (range_with_len 1) (counted p.parts.claims q.parts.claims same.claims)
-
-  module _ (budget : Budget) (form : Format) where
-    -- the outcomes of the claims of the one are those of the other
-    outcome_same : (n : ℕ) (o : Outcome) → IsOutcomeOf (setting_of q budget) form n (claim_at q n) o → IsOutcomeOf (setting_of p budget) form n (claim_at p n) o
-    outcome_same n o is =
-        subst (λ (claim : List Term). IsOutcomeOf (setting_of p budget) form n claim o) (sym (same_claim n))
-        (subst (λ (s : Setting). IsOutcomeOf s form n (claim_at q n) o) (sym (same_setting budget)) is)
-
-    zip_same : (ns : List ℕ) (os : List Outcome) → AreOutcomesOf (setting_of q budget) form q ns os → AreOutcomesOf (setting_of p budget) form p ns os
-    zip_same [] [] are = tt
-    zip_same [] (o ∷ os) are = absurd are
-    zip_same (n ∷ ns) [] are = absurd are
-    zip_same (n ∷ ns) (o ∷ os) are = (outcome_same n o are.0, zip_same ns os are.1)
-
-    outcomes_same : (os : List Outcome) → AreOutcomesOf (setting_of q budget) form q (claim_numbers q) os → AreOutcomesOf (setting_of p budget) form p (claim_numbers p) os
-    outcomes_same os are = zip_same (claim_numbers p) os (subst (λ (ns : List ℕ). AreOutcomesOf (setting_of q budget) form q ns os) (sym same_numbers) are)
-
-    -- and so are the last rules
-    gets_same : (rounds n : ℕ) → GetsOutcomeAt (setting_of q budget) form q rounds n → GetsOutcomeAt (setting_of p budget) form p rounds n
-    gets_same rounds n at = record {
-      state = at.state;
-      outcome = at.outcome;
-      gets = subst (λ (claim : List Term). GetsOutcome (setting_of p budget) form n claim rounds at.state at.outcome) (sym (same_claim n))
-          (subst (λ (s : Setting). GetsOutcome s form n (claim_at q n) rounds at.state at.outcome) (sym (same_setting budget)) at.gets);
-    }
-
-    by_same : (rounds n : ℕ) → GetsOutcomeBy (setting_of q budget) form q rounds n → GetsOutcomeBy (setting_of p budget) form p rounds n
-    by_same rounds n by = record { rounds = by.rounds; gets = gets_same by.rounds n by.gets; early = by.early }
-
-    one_same : (rounds : ℕ) (ns : List ℕ) → (rounds ≡ 0) ⊎ OneGetsOutcomeAt (setting_of q budget) form q ns rounds → (rounds ≡ 0) ⊎ OneGetsOutcomeAt (setting_of p budget) form p ns rounds
-    one_same rounds ns (inl none) = inl none
-    one_same rounds ns (inr one) = inr (record { number = one.number; among = one.among; gets = gets_same rounds one.number one.gets })
-
-    rules_over : (ns : List ℕ) (rules : List Poly) → AreLastRules (setting_of q budget) form q ns rules → AreLastRules (setting_of p budget) form p ns rules
-    rules_over ns rules are = record {
-      rounds = are.rounds;
-      state = are.state;
-      last = record { enough = λ k d below. by_same are.rounds _ (are.last.enough k d below); needed = one_same are.rounds ns are.last.needed };
-      run = subst (λ (s : Setting). IsRunState s are.rounds are.state) (sym (same_setting budget)) are.run;
-      are = are.are;
-    }
-
-    rules_same : (rules : List Poly) → AreLastRules (setting_of q budget) form q (claim_numbers q) rules → AreLastRules (setting_of p budget) form p (claim_numbers p) rules
-    rules_same rules are = rules_over (claim_numbers p) rules (subst (λ (ns : List ℕ). AreLastRules (setting_of q budget) form q ns rules) (sym same_numbers) are)
 
 -- ---- one ending
 
@@ -118,14 +56,12 @@ module _ (problem : Problem) (asked : Asked) where
       let order = problem.parts.order in
       last_rules_unique 0 (asked_rank 0 order) (setting_of problem asked.budget) asked.form problem (claim_numbers problem) one other (asked_cmp-admissible 0 order) first second
 
--- two problems that say the same have the same ending
-claims_once : (print : Print) (asked : Asked) (ending ending' : Ending) (p q : Problem) → AreSame p q → AnswersClaims print asked p ending → AnswersClaims print asked q ending' → ending ≡ ending'
-claims_once print asked ending ending' p q same one other =
-    let outcomes : one.decides.outcomes ≡ other.decides.outcomes =
-    zip_once p asked (claim_numbers p) one.decides.outcomes other.decides.outcomes one.decides.are_outcomes (outcomes_same p q same asked.budget asked.form other.decides.outcomes other.decides.are_outcomes) in
+claims_once : (print : Print) (asked : Asked) (ending ending' : Ending) (problem : Problem) → AnswersClaims print asked problem ending → AnswersClaims print asked problem ending' → ending ≡ ending'
+claims_once print asked ending ending' problem one other =
+    let outcomes : one.decides.outcomes ≡ other.decides.outcomes = zip_once problem asked (claim_numbers problem) one.decides.outcomes other.decides.outcomes one.decides.are_outcomes other.decides.are_outcomes in
     let verdicts : one.verdicts ≡ other.verdicts = one.decides.are_verdicts ∙ ap (map verdict_of) outcomes ∙ sym other.decides.are_verdicts in
-    let rules : one.rules ≡ other.rules = rules_once p asked one.rules other.rules one.decides.are_rules (rules_same p q same asked.budget asked.form other.rules other.decides.are_rules) in
-    one.says ∙ (λ i. record { status = status_of (verdicts i); report = print (same.quiver i) (rules i) (verdicts i) }) ∙ sym other.says
+    let rules : one.rules ≡ other.rules = rules_once problem asked one.rules other.rules one.decides.are_rules other.decides.are_rules in
+    one.says ∙ (λ i. record { status = status_of (verdicts i); report = print problem.parts.quiver (rules i) (verdicts i) }) ∙ sym other.says
 
 pub decided_once : (print : Print) (asked : Asked) (statement : List ℕ) (ending ending' : Ending) → OverStatement statement (AnswersClaims print asked) ending
     → OverStatement statement (AnswersClaims print asked) ending' → ending ≡ ending'
@@ -133,22 +69,28 @@ decided_once print asked statement ending ending' one other = statement_once sta
 
 -- ---- the status
 
--- 3 for a statement with a fault, and else 0, 10 or 12
+-- 3 for a statement with a fault, and else one of the verdicts
 pub data DecidedStatus (status : ℕ) : Type 0 where
   refused : status ≡ 3 → DecidedStatus status
   proved : status ≡ 0 → DecidedStatus status
   not_derivable : status ≡ 10 → DecidedStatus status
+  broken : status ≡ 11 → DecidedStatus status
   undecided : status ≡ 12 → DecidedStatus status
+  not_broken : status ≡ 13 → DecidedStatus status
 
-verdicts_status : (status : ℕ) (some_undecided all_proved : Bool) → status ≡ (if some_undecided then 12 else (if all_proved then 0 else 10)) → DecidedStatus status
-verdicts_status status true all_proved is = undecided is
-verdicts_status status false true is = proved is
-verdicts_status status false false is = not_derivable is
+verdicts_status : (status : ℕ) (some_undecided some_not_refuted some_refuted all_proved : Bool)
+    → status ≡ (if some_undecided then 12 else (if some_not_refuted then 13 else (if some_refuted then 11 else (if all_proved then 0 else 10)))) → DecidedStatus status
+verdicts_status status true some_not_refuted some_refuted all_proved is = undecided is
+verdicts_status status false true some_refuted all_proved is = not_broken is
+verdicts_status status false false true all_proved is = broken is
+verdicts_status status false false false true is = proved is
+verdicts_status status false false false false is = not_derivable is
 
 pub decided_status : (print : Print) (asked : Asked) (statement : List ℕ) (ending : Ending) → OverStatement statement (AnswersClaims print asked) ending → DecidedStatus ending.status
 decided_status print asked statement ending (statements.faulty text wrong ends) = refused (ap (λ (e : Ending). e.status) ends)
 decided_status print asked statement ending (statements.stated problem is answer) =
-    verdicts_status ending.status (list_any is_undecided answer.verdicts) (list_all is_proved answer.verdicts) (ap (λ (e : Ending). e.status) answer.says)
+    verdicts_status ending.status (list_any is_undecided answer.verdicts) (list_any is_not_refuted answer.verdicts) (list_any is_refuted answer.verdicts) (list_all is_proved answer.verdicts)
+    (ap (λ (e : Ending). e.status) answer.says)
 
 -- ---- what verdicts mean
 

@@ -2,7 +2,7 @@
 use Rattle.std.proofs.Common.{◌≡◌, ℕ, ◌+◌, ◌<◌, ◌≤◌, ◌⊎◌, inl, inr, List, [], ◌∷◌, ◌++◌, length, drop, get_or, refl, sym, ap, subst, ◌∙◌}
 use Rattle.std.proofs.lemmas.List.{append_assoc, append-nil}
 use Rattle.opprove.specs.Ending.{line}
-use Rattle.opprove.specs.Refusals.{accepted_text, refused_text}
+use Rattle.opprove.specs.Refusals.{block_text, refused_text}
 use Rattle.opprove.specs.Blocks.{accepted, refused, JudgesFrom}
 use Rattle.opprove.proofs.Places.{drop-at, drop-all}
 
@@ -14,11 +14,11 @@ module _ {Block : Type 0} (accepts refuses : Block → List ℕ → Type 0) wher
     GoesOn place report = (lines : List ℕ) (status : ℕ) → JudgesFrom accepts refuses (place + 1) (drop place bs) lines status → JudgesFrom accepts refuses 1 bs (report ++ lines) status
 
     pub with_accepted : (place : ℕ) (report : List ℕ) (b : Block) (text : List ℕ) → place < length bs → b ≡ get_or bs place b → accepts b text → GoesOn place report
-        → GoesOn (place + 1) (report ++ line (accepted_text (place + 1) text))
+        → GoesOn (place + 1) (report ++ line (block_text (place + 1) text))
     with_accepted place report b text inside is holds goes lines status judges =
-        let one : JudgesFrom accepts refuses (place + 1) (b ∷ drop (place + 1) bs) (line (accepted_text (place + 1) text) ++ lines) status = accepted text holds lines judges refl in
-        let there = goes _ status (subst (λ (l : List Block). JudgesFrom accepts refuses (place + 1) l (line (accepted_text (place + 1) text) ++ lines) status) (sym (drop-at bs place b inside is)) one) in
-        subst (λ (l : List ℕ). JudgesFrom accepts refuses 1 bs l status) (sym (append_assoc report (line (accepted_text (place + 1) text)) lines)) there
+        let one : JudgesFrom accepts refuses (place + 1) (b ∷ drop (place + 1) bs) (line (block_text (place + 1) text) ++ lines) status = accepted text holds lines judges refl in
+        let there = goes _ status (subst (λ (l : List Block). JudgesFrom accepts refuses (place + 1) l (line (block_text (place + 1) text) ++ lines) status) (sym (drop-at bs place b inside is)) one) in
+        subst (λ (l : List ℕ). JudgesFrom accepts refuses 1 bs l status) (sym (append_assoc report (line (block_text (place + 1) text)) lines)) there
 
     pub with_refused : (place : ℕ) (report : List ℕ) (b : Block) (cause : List ℕ) → place < length bs → b ≡ get_or bs place b → refuses b cause → GoesOn place report
         → JudgesFrom accepts refuses 1 bs (report ++ line (refused_text (place + 1) cause)) 7
@@ -36,25 +36,3 @@ module _ {Block : Type 0} (accepts refuses : Block → List ℕ → Type 0) wher
   judged_status number [] lines status judges = inl judges.1
   judged_status number (b ∷ bs) lines status (accepted text holds rest next is) = judged_status (number + 1) bs rest status next
   judged_status number (b ∷ bs) lines status (refused cause because is seven) = inr seven
-
-  -- ---- what is told of blocks is told once
-
-  pub record Same (lines lines' : List ℕ) (status status' : ℕ) : Type 0 where
-    pub lines_same : lines ≡ lines'
-    pub status_same : status ≡ status'
-
-  module _ (one_text : (b : Block) (text text' : List ℕ) → accepts b text → accepts b text' → text ≡ text')
-      (one_cause : (b : Block) (cause cause' : List ℕ) → refuses b cause → refuses b cause' → cause ≡ cause')
-      (not_both : (b : Block) (text cause : List ℕ) → accepts b text → refuses b cause → ⊥) where
-    pub judged_once : (number : ℕ) (bs : List Block) (lines lines' : List ℕ) (status status' : ℕ) → JudgesFrom accepts refuses number bs lines status → JudgesFrom accepts refuses number bs lines' status' → Same lines lines' status status'
-    judged_once number [] lines lines' status status' one other = record { lines_same = one.0 ∙ sym other.0; status_same = one.1 ∙ sym other.1 }
-    judged_once number (b ∷ bs) lines lines' status status' (accepted text holds rest next is) (accepted text' holds' rest' next' is') =
-        let same = judged_once (number + 1) bs rest rest' status status' next next' in
-        record {
-          lines_same = is ∙ (λ i. line (accepted_text number (one_text b text text' holds holds' i)) ++ same.lines_same i) ∙ sym is';
-          status_same = same.status_same;
-        }
-    judged_once number (b ∷ bs) lines lines' status status' (accepted text holds rest next is) (refused cause because _ _) = absurd (not_both b text cause holds because)
-    judged_once number (b ∷ bs) lines lines' status status' (refused cause because _ _) (accepted text holds rest next is) = absurd (not_both b text cause holds because)
-    judged_once number (b ∷ bs) lines lines' status status' (refused cause because is seven) (refused cause' because' is' seven') =
-        record { lines_same = is ∙ ap (λ x. line (refused_text number x)) (one_cause b cause cause' because because') ∙ sym is'; status_same = seven ∙ sym seven' }

@@ -2,12 +2,14 @@ pub mod Places
 pub mod AfterFiles
 pub mod Stops
 pub mod Judging
+pub mod BlockTexts
+pub mod Problems
 pub mod Syntax
 pub mod Letters
 pub mod Readable
 pub mod Statements
-pub mod Evidences
 pub mod Checking
+pub mod Confirming
 pub mod Meaning
 pub mod Deciding
 pub mod Writing

@@ -24,7 +24,7 @@ use Rattle.representations.specs.Evidence.{IsEvidenceSound}
 use Rattle.outcome_meanings.specs.Meanings.{EvidenceAddsUp}
 use Rattle.report_text.specs.Heads.{denominator_of}
 use Rattle.opprove.specs.Ending.{Ending}
-use Rattle.opprove.specs.Check.{claim_number, question_of, IsAccepted, AnswersCheck}
+use Rattle.opprove.specs.Check.{claim_number, IsAccepted, AnswersCheck}
 use Rattle.opprove.specs.Headline.{MakesZeroByStar, MeansZero, ProvedMeans, AcceptedMeans, SaysChecked}
 use Rattle.opprove.proofs.Checking.{told_accepted}
 
@@ -86,7 +86,7 @@ module _ {Object Arrow : Type 0} {s : Structure Object Arrow} (laws : Preadditiv
   }
 
   -- evidence that is accepted names a claim
-  names : (e : Evidence) → IsAccepted (question_of problem) e → IsNumberUpTo (length (polynomials problem.parts.claims)) (claim_number e)
+  names : (e : Evidence) → IsAccepted problem e → IsNumberUpTo (length (polynomials problem.parts.claims)) (claim_number e)
   names (Plain c) accepted = accepted.adds_up.begins.posed.claim
   names (Lemmas c) accepted = accepted.adds_up.lemmas.begins.shares.posed.claim
 
@@ -95,7 +95,7 @@ module _ {Object Arrow : Type 0} {s : Structure Object Arrow} (laws : Preadditiv
   adds_up (Plain c) shows = record { claim = refl; combination = shows }
   adds_up (Lemmas c) shows = record { claim = refl; lemmas = all_polynomials (polynomials problem.generators) c; evidence = shows }
 
-  pub accepted_means : (e : Evidence) → IsAccepted (question_of problem) e → AcceptedMeans s problem e
+  pub accepted_means : (e : Evidence) → IsAccepted problem e → AcceptedMeans s problem e
   accepted_means e accepted = proved_means (claim_number e) e (names e accepted) (adds_up e (accepted_evidence_adds_up (polynomials problem.parts.claims) (polynomials problem.generators) e accepted))
 
 -- what each of them means
@@ -107,5 +107,5 @@ pub says_checked : {Object Arrow : Type 0} {s : Structure Object Arrow} → Prea
     → AnswersCheck statement evidence ending → SaysChecked s statement evidence ending.report
 says_checked {s} laws sound with_lemmas statement evidence ending answers = record {
   each = λ problem first others rest is evidence_is begins.
-      each (IsAccepted (question_of problem)) (AcceptedMeans s problem) (accepted_means laws sound with_lemmas problem) first (told_accepted statement evidence ending problem is first others evidence_is rest begins answers);
+      each (IsAccepted problem) (AcceptedMeans s problem) (accepted_means laws sound with_lemmas problem) first (told_accepted statement evidence ending problem is first others rest evidence_is begins answers);
 }

@@ -1,9 +1,10 @@
 -- What each command answers, from the contents of its files.
 use Rattle.std.specs.Prelude.{ℕ, List, [], ◌∷◌}
 use Rattle.command_words.specs.declared.call.Call.{Call}
-use Rattle.command_words.specs.declared.call.Call.TheVariants.{Prove, Check, Bench}
+use Rattle.command_words.specs.declared.call.Call.TheVariants.{Prove, Check, Model, Bench}
 use Rattle.opprove.specs.Ending.{Ending}
 use Rattle.opprove.specs.Check.{AnswersCheck}
+use Rattle.opprove.specs.Confirm.{AnswersModel}
 use Rattle.opprove.specs.Decide.{AnswersProve, AnswersBench}
 
 -- one line a command; a call has no answer over more or fewer contents than it has files
@@ -12,5 +13,7 @@ Answers (Prove p) (statement ∷ []) ending = AnswersProve p statement ending
 Answers (Prove p) _ ending = ⊥
 Answers (Check p) (statement ∷ evidence ∷ []) ending = AnswersCheck statement evidence ending
 Answers (Check p) _ ending = ⊥
+Answers (Model p) (statement ∷ models ∷ []) ending = AnswersModel statement models ending
+Answers (Model p) _ ending = ⊥
 Answers (Bench b) [] ending = AnswersBench b ending
 Answers (Bench b) _ ending = ⊥

@@ -6,7 +6,8 @@ use Rattle.command_words.specs.CommandSet.{command_set}
 use Rattle.command_words.specs.CommandSet as set
 use Rattle.command_words.specs.Calls.{MatchesGive}
 use Rattle.command_words.specs.declared.call.Call.{Call}
-use Rattle.command_words.specs.declared.call.Call.TheVariants.{Prove, Check, Bench}
+use Rattle.command_words.specs.declared.call.Call.TheVariants.{Prove, Check, Model, Bench}
+use Rattle.command_words.specs.declared.call.PairCall.{PairCall}
 use Rattle.opprove.specs.declared.call.FileWord.{FileWord}
 
 -- clap's stated function of the command set takes the words
@@ -28,8 +29,13 @@ evidence_limit = 67108864
 abbrev pub file_word : List ℕ → ℕ → FileWord
 file_word name limit = record { name = name; limit = limit }
 
+-- a statement, then a text of evidence
+abbrev pub pair_files : PairCall → List FileWord
+pair_files p = file_word p.statement statement_limit ∷ file_word p.evidence evidence_limit ∷ []
+
 -- the files of a call, in the order in which they are loaded
 abbrev pub files_of : Call → List FileWord
 files_of (Prove p) = file_word p.file statement_limit ∷ []
-files_of (Check p) = file_word p.statement statement_limit ∷ file_word p.evidence evidence_limit ∷ []
+files_of (Check p) = pair_files p
+files_of (Model p) = pair_files p
 files_of (Bench b) = []

@@ -1,6 +1,5 @@
 -- What `check` answers.
-use Rattle.std.specs.Prelude.{ℕ, ◌+◌, ℤ, ◌≡◌, List, [], ◌∷◌, ◌++◌, Some}
-use Rattle.quiver.specs.Declarations.{Declaration}
+use Rattle.std.specs.Prelude.{ℕ, List}
 use Rattle.adjoint_rules.specs.declared.problem.Problem.{Problem}
 use Rattle.adjoint_rules.specs.Problem.{polynomials}
 use Rattle.cofactor_trace.specs.declared.evidence.Evidence.{Evidence}
@@ -10,19 +9,10 @@ use Rattle.evidence_checker.specs.declared.refusal.EvidenceRefusal.{EvidenceRefu
 use Rattle.evidence_checker.specs.Acceptance.{AcceptsEvidence, RefusesEvidence}
 use Rattle.certificate_text.specs.Evidence.{IsEvidence, IsFirstFault}
 use Rattle.report_text.specs.Heads.{denominator_of}
-use Rattle.opprove.specs.Ending.{Ending, line}
-use Rattle.opprove.specs.Refusals.{claim_text, accepted_text, cause_text}
+use Rattle.opprove.specs.Ending.{Ending}
+use Rattle.opprove.specs.Refusals.{claim_text, cause_text}
 use Rattle.opprove.specs.Statement.{OverStatement}
-use Rattle.opprove.specs.Blocks.{OverEvidence, Judges}
-
--- what evidence is judged by: the names of letters, the claims and the generators
-pub record Question : Type 0 where
-  pub declared : List Declaration
-  pub claims : List (List (ℤ × List ℕ))
-  pub generators : List (List (ℤ × List ℕ))
-
-abbrev pub question_of : Problem → Question
-question_of problem = record { declared = problem.parts.quiver; claims = polynomials problem.parts.claims; generators = polynomials problem.generators }
+use Rattle.opprove.specs.Blocks.{OverEvidence, AcceptsBlock, RefusesBlock, Judges, lines_on}
 
 -- the number of the claim that the evidence names
 abbrev pub claim_number : Evidence → ℕ
@@ -34,25 +24,25 @@ abbrev pub named_text : Evidence → List ℕ
 named_text e = claim_text (claim_number e) (denominator_of e)
 
 -- no test of the evidence fails
-abbrev pub IsAccepted : Question → Evidence → Type 0
-IsAccepted question e = AcceptsEvidence question.claims question.generators e
+abbrev pub IsAccepted : Problem → Evidence → Type 0
+IsAccepted problem e = AcceptsEvidence (polynomials problem.parts.claims) (polynomials problem.generators) e
 
--- no test fails, and the text names the claim and its denominator
-pub record AcceptsBlock (question : Question) (e : Evidence) (text : List ℕ) : Type 0 where
-  pub holds : IsAccepted question e
-  pub says : text ≡ named_text e
+-- this one is the first that fails
+abbrev pub IsRefused : Problem → Evidence → EvidenceRefusal → Type 0
+IsRefused problem e refusal = RefusesEvidence (polynomials problem.parts.claims) (polynomials problem.generators) e refusal
 
--- the first test that fails is the cause
-pub record RefusesBlock (question : Question) (e : Evidence) (cause : List ℕ) : Type 0 where
-  pub refusal : EvidenceRefusal
-  pub fails : RefusesEvidence question.claims question.generators e refusal
-  pub says : cause_text question.declared refusal ≡ Some cause
+-- a certificate is accepted, with its claim and its denominator, or refused with its cause
+abbrev pub AcceptsCertificate : Problem → Evidence → List ℕ → Type 0
+AcceptsCertificate problem e text = AcceptsBlock (IsAccepted problem) named_text e text
+
+abbrev pub RefusesCertificate : Problem → Evidence → List ℕ → Type 0
+RefusesCertificate problem e cause = RefusesBlock (IsRefused problem) (cause_text problem.parts.quiver) e cause
 
 -- how a run ends over a problem and an evidence text, which has blocks of both formats
 abbrev pub AnswersEvidence : List ℕ → Problem → Ending → Type 0
 AnswersEvidence evidence problem ending =
     OverEvidence (IsEvidence format.Lemmas problem.parts.quiver evidence) (IsFirstFault format.Lemmas problem.parts.quiver evidence)
-    (Judges (AcceptsBlock (question_of problem)) (RefusesBlock (question_of problem))) ending
+    (Judges (AcceptsCertificate problem) (RefusesCertificate problem)) ending
 
 -- how a run ends over the two texts
 abbrev pub AnswersCheck : List ℕ → List ℕ → Ending → Type 0
@@ -60,5 +50,4 @@ AnswersCheck statement evidence ending = OverStatement statement (AnswersEvidenc
 
 -- the lines on certificates that are all accepted
 abbrev pub accepted_lines : ℕ → List Evidence → List ℕ
-accepted_lines number [] = []
-accepted_lines number (e ∷ es) = line (accepted_text number (named_text e)) ++ accepted_lines (number + 1) es
+accepted_lines number es = lines_on named_text number es

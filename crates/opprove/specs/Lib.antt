@@ -6,6 +6,8 @@ pub mod Files
 pub mod Statement
 pub mod Blocks
 pub mod Check
+pub mod Confirm
+pub mod Judged
 pub mod Decide
 pub mod Answers
 pub mod Ends

@@ -1,23 +1,31 @@
 -- The lines of a report on the blocks of an evidence text.
 use Rattle.std.specs.Prelude.{ℕ, ℤ, Bool, List, ◌++◌, codes, decimal, if◌then◌else◌, Option, Some, None}
 use Rattle.std.specs.Fmt.{signed_decimal}
-use Rattle.quiver.specs.Declarations.{Declaration}
+use Rattle.quiver.specs.Declarations.{Declaration, letter_name}
 use Rattle.cofactor_checker.specs.declared.Refusal.{Refusal}
 use Rattle.cofactor_checker.specs.declared.Refusal.TheVariants as certificate
 use Rattle.evidence_checker.specs.declared.refusal.EvidenceRefusal.{EvidenceRefusal}
 use Rattle.evidence_checker.specs.declared.refusal.EvidenceRefusal.TheVariants as refusal
+use Rattle.model_search.specs.declared.refusal.ModelRefusal.{ModelRefusal}
+use Rattle.model_search.specs.declared.refusal.ModelRefusal.TheVariants as model
 use Rattle.certificate_text.specs.Written.{word_text}
 
 abbrev pub operation_text : Bool → List ℕ
 operation_text product = if product then codes " times " else codes " plus "
 
+-- this is said of the block with this number
+abbrev pub block_text : ℕ → List ℕ → List ℕ
+block_text block text = codes "# block " ++ (decimal block ++ (codes " " ++ text))
+
+-- it is refused for this cause
+abbrev pub refused_text : ℕ → List ℕ → List ℕ
+refused_text block cause = block_text block (codes "refused " ++ cause)
+
+-- ---- certificates
+
 -- what accepting a certificate says
 abbrev pub claim_text : ℕ → ℤ → List ℕ
-claim_text claim denominator = codes "claim " ++ (decimal claim ++ (codes " denominator " ++ signed_decimal denominator))
-
--- the block with this number is accepted, and this is said of it
-abbrev pub accepted_text : ℕ → List ℕ → List ℕ
-accepted_text block text = codes "# block " ++ (decimal block ++ (codes " accepted " ++ text))
+claim_text claim denominator = codes "accepted claim " ++ (decimal claim ++ (codes " denominator " ++ signed_decimal denominator))
 
 -- why a certificate of rows over generators alone is refused; want of memory is told by no line
 abbrev pub certificate_cause : List Declaration → Refusal → Option (List ℕ)
@@ -48,6 +56,22 @@ cause_text ds (refusal.LooseScale lemma) = Some (codes "C10 lemma " ++ decimal l
 cause_text ds (refusal.Kept row) = Some (codes "C11 row " ++ (decimal row ++ codes " limit 1000000"))
 cause_text ds (refusal.Memory failed) = None
 
--- the block with this number is refused for this cause
-abbrev pub refused_text : ℕ → List ℕ → List ℕ
-refused_text block cause = codes "# block " ++ (decimal block ++ (codes " refused " ++ cause))
+-- ---- models
+
+-- what confirming a model says
+abbrev pub claim_confirmed : ℕ → List ℕ
+claim_confirmed claim = codes "confirmed claim " ++ decimal claim
+
+-- a cause with the declared map that it is about
+abbrev pub map_cause : List Declaration → List ℕ → ℕ → List ℕ
+map_cause ds code map = code ++ (codes " map " ++ letter_name ds map)
+
+-- why a model is refused; want of memory is told by no line
+abbrev pub model_cause : List Declaration → ModelRefusal → Option (List ℕ)
+model_cause ds model.NoSuchClaim = Some (codes "M1")
+model_cause ds (model.MissingMap letter) = Some (map_cause ds (codes "M2") letter.0)
+model_cause ds (model.BadShape letter) = Some (map_cause ds (codes "M3") letter.0)
+model_cause ds (model.NotZero number) = Some (codes "M4 assumption " ++ decimal number)
+model_cause ds model.ClaimZero = Some (codes "M5")
+model_cause ds (model.NotSymmetric letter) = Some (map_cause ds (codes "M6") letter.0)
+model_cause ds (model.Memory failed) = None

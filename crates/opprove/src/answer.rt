@@ -7,6 +7,7 @@ ghost use Rattle.opprove.specs.Answers.{Answers};
 ghost use Rattle.opprove.specs.Stop.{EndsAs};
 
 use crate::check::check_texts;
+use crate::confirm::confirm_texts;
 use crate::decide::{bench, prove};
 use crate::ending::Ending;
 use crate::stop::Stop;
@@ -32,6 +33,9 @@ pub fn answer<R: Threads + Sync, G: Gate + Sync>(
         (Call::Prove(call), [statement]) => prove(rt, alloc, call, statement.as_slice(), gate),
         (Call::Check(_), [statement, evidence]) => {
             check_texts(alloc, statement.as_slice(), evidence.as_slice())
+        }
+        (Call::Model(_), [statement, models]) => {
+            confirm_texts(alloc, statement.as_slice(), models.as_slice())
         }
         (Call::Bench(call), []) => bench(rt, alloc, call, gate),
         _ => unreachable!(),

@@ -1,8 +1,8 @@
 // The files of a call.
 ghost use Rattle.std.specs.Prelude.{◌≡◌, IfOk};
-ghost use Rattle.opprove.specs.Call.{file_word, files_of};
+ghost use Rattle.opprove.specs.Call.{file_word, pair_files, files_of};
 
-use command_words::Call;
+use command_words::{Call, PairCall};
 use lists::{Duplicate, Listing, Text};
 use std::alloc::{AllocError, Global};
 
@@ -24,12 +24,19 @@ pub fn call_files(alloc: Global, call: &Call) -> Result<Listing<FileWord>, Alloc
     let mut files = Listing::new(alloc);
     match call {
         Call::Prove(prove) => files.push(file_word(&prove.file, STATEMENT_LIMIT)?)?,
-        Call::Check(pair) => {
-            files.push(file_word(&pair.statement, STATEMENT_LIMIT)?)?;
-            files.push(file_word(&pair.evidence, EVIDENCE_LIMIT)?)?;
-        }
+        Call::Check(pair) | Call::Model(pair) => return pair_files(alloc, pair),
         Call::Bench(_) => {}
     }
+    Ok(files)
+}
+
+// A statement, then a text of evidence.
+fn pair_files(alloc: Global, pair: &PairCall) -> Result<Listing<FileWord>, AllocError>
+    ensures { IfOk result (λ files. files ≡ pair_files pair.now) }
+{
+    let mut files = Listing::new(alloc);
+    files.push(file_word(&pair.statement, STATEMENT_LIMIT)?)?;
+    files.push(file_word(&pair.evidence, EVIDENCE_LIMIT)?)?;
     Ok(files)
 }
 

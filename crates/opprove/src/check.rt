@@ -1,22 +1,28 @@
 // What `check` answers over a statement and an evidence text.
-ghost use Rattle.std.specs.Prelude.{◌≤◌, IfOk, IfErr, length};
+ghost use Rattle.std.specs.Prelude.{◌≡◌, ◌≤◌, IfOk, IfErr, length};
 ghost use Rattle.std.specs.List.{All};
 ghost use Rattle.cofactor_trace.specs.declared.evidence.Format.TheVariants.{Lemmas};
 ghost use Rattle.certificate_text.specs.Evidence.{IsEvidence, IsFirstFault, IsCheckableEvidence};
+ghost use Rattle.opprove.specs.Refusals.{claim_text};
 ghost use Rattle.opprove.specs.Blocks.{OverEvidence};
-ghost use Rattle.opprove.specs.Check.{AnswersCheck};
+ghost use Rattle.opprove.specs.Check.{AcceptsCertificate, RefusesCertificate, AnswersCheck};
 ghost use Rattle.opprove.specs.Stop.{StopsBy, EndsAs};
 
 use crate::ending::Ending;
 use crate::fault::evidence_fault;
-use crate::judge::judge;
+use crate::judge::{Block, Judged, judge_blocks};
+use crate::refusal::cause_text;
 use crate::statement::read_statement;
 use crate::stop::Stop;
+use adjoint_rules::Problem;
 use certificate_text::{CertFault, read_evidence};
+use cofactor_checker::Accepted;
 use cofactor_trace::Evidence;
+use evidence_checker::check_evidence;
+use itoa::Buffer;
 use lists::Listing;
 use quiver::Quiver;
-use std::alloc::Global;
+use std::alloc::{AllocError, Global};
 
 /// How a run of `check` ends that has loaded both files.
 pub fn check_texts(alloc: Global, statement: &[u8], evidence: &[u8]) -> Result<Ending, Stop>
@@ -26,7 +32,7 @@ pub fn check_texts(alloc: Global, statement: &[u8], evidence: &[u8]) -> Result<E
 {
     let problem = read_statement(alloc, statement)?;
     let certificates = certificates_of(alloc, evidence, &problem.parts.quiver)?;
-    judge(alloc, &problem, certificates.as_slice())
+    judge_blocks(alloc, &problem, certificates.as_slice())
 }
 
 // The certificates of the text, or the ending that tells its first fault.
@@ -48,4 +54,36 @@ fn certificates_of(
         }
         Err(CertFault::Memory(failed)) => Err(Stop::Memory(failed)),
     }
+}
+
+impl Block for Evidence {
+    ghost can_judge = { λ problem e. IsCheckableEvidence problem.parts.quiver e };
+
+    ghost accepts = { AcceptsCertificate };
+
+    ghost refuses = { RefusesCertificate };
+
+    fn judge(&self, alloc: Global, problem: &Problem) -> Result<Judged, AllocError> {
+        match check_evidence(alloc, problem, self) {
+            Ok(accepted) => Ok(Judged::Accepted(claim_text(alloc, &accepted)?)),
+            Err(refusal) => {
+                let cause = cause_text(alloc, &problem.parts.quiver, &refusal)?;
+                Ok(Judged::Refused(cause))
+            }
+        }
+    }
+}
+
+// What accepting a certificate says.
+fn claim_text(alloc: Global, accepted: &Accepted) -> Result<Vec<u8>, AllocError>
+    ensures { IfOk result (λ text. text.items ≡ claim_text accepted.now.claim accepted.now.denominator) }
+{
+    let mut claim = Buffer::new();
+    let mut denominator = Buffer::new();
+    let text = format!(in alloc;
+        "accepted claim {} denominator {}",
+        claim.format(accepted.claim),
+        denominator.format(accepted.denominator)
+    )?;
+    Ok(text.into_bytes())
 }

@@ -1,39 +1,59 @@
 // The blocks of an evidence text, judged one after another.
-ghost use Rattle.std.specs.Prelude.{◌≡◌, ◌++◌, IfOk, OnOk, codes, decimal};
+ghost use Rattle.std.specs.Prelude.{ℕ, List, ◌≡◌, ◌++◌, IfOk, OnOk, codes, decimal};
 ghost use Rattle.std.specs.List.{All};
-ghost use Rattle.certificate_text.specs.Evidence.{IsCheckableEvidence};
+ghost use Rattle.adjoint_rules.specs.declared.problem.Problem.{Problem as Posed};
 ghost use Rattle.opprove.specs.Ending.{line};
-ghost use Rattle.opprove.specs.Refusals.{claim_text};
 ghost use Rattle.opprove.specs.Blocks.{Judges};
-ghost use Rattle.opprove.specs.Check.{question_of, AcceptsBlock, RefusesBlock};
+ghost use Rattle.opprove.specs.Judged.{Tells};
 ghost use Rattle.opprove.specs.Stop.{EndsAs};
 
 use crate::ending::Ending;
-use crate::refusal::cause_text;
 use crate::stop::Stop;
 use adjoint_rules::Problem;
-use cofactor_checker::Accepted;
-use cofactor_trace::Evidence;
-use evidence_checker::check_evidence;
 use itoa::Buffer;
 use std::alloc::{AllocError, Global};
 
-/// How a run ends over a problem and certificates of both formats: a line on each block, up to the first that is refused.
-pub fn judge(alloc: Global, problem: &Problem, certificates: &[Evidence]) -> Result<Ending, Stop>
-    requires { All (IsCheckableEvidence problem.now.parts.quiver) certificates.now }
-    ensures { EndsAs (Judges (AcceptsBlock (question_of problem.now)) (RefusesBlock (question_of problem.now)) certificates.now) result }
+/// What judging a block comes to.
+#[derive(Drop)]
+pub enum Judged {
+    /// It is accepted, and the text says what that shows.
+    Accepted(Vec<u8>),
+    /// It is refused, and the text is the cause.
+    Refused(Vec<u8>),
+}
+
+/// A block of an evidence text, which is judged over the problem of a statement.
+pub trait Block {
+    /// Whether it can be judged.
+    ghost can_judge: { Posed → Self → Type 0 };
+
+    /// What accepting it says.
+    ghost accepts: { Posed → Self → List ℕ → Type 0 };
+
+    /// For which cause it is refused.
+    ghost refuses: { Posed → Self → List ℕ → Type 0 };
+
+    /// Judges the block.
+    fn judge(&self, alloc: Global, problem: &Problem) -> Result<Judged, AllocError>
+        requires { can_judge problem.now self.now }
+        ensures { IfOk result (Tells (accepts problem.now self.now) (refuses problem.now self.now)) };
+}
+
+/// How a run ends over a problem and blocks: a line on each block, up to the first that is refused.
+pub fn judge_blocks<B: Block>(
+    alloc: Global,
+    problem: &Problem,
+    blocks: &[B],
+) -> Result<Ending, Stop>
+    requires { All (B.can_judge problem.now) blocks.now }
+    ensures { EndsAs (Judges (B.accepts problem.now) (B.refuses problem.now) blocks.now) result }
 {
     let mut report = Vec::new(alloc);
-    for (place, certificate) in certificates.iter().enumerate() {
-        let block = place + 1;
-        match check_evidence(alloc, problem, certificate) {
-            Ok(accepted) => {
-                let text = claim_text(alloc, &accepted)?;
-                push_block(&mut report, block, " accepted ", &text)?;
-            }
-            Err(refusal) => {
-                let cause = cause_text(alloc, &problem.parts.quiver, &refusal)?;
-                push_block(&mut report, block, " refused ", &cause)?;
+    for (place, block) in blocks.iter().enumerate() {
+        match block.judge(alloc, problem)? {
+            Judged::Accepted(text) => push_block(&mut report, place + 1, " ", &text)?,
+            Judged::Refused(cause) => {
+                push_block(&mut report, place + 1, " refused ", &cause)?;
                 return Ok(Ending::refused_block(report));
             }
         }
@@ -41,21 +61,7 @@ pub fn judge(alloc: Global, problem: &Problem, certificates: &[Evidence]) -> Res
     Ok(Ending::accepted(report))
 }
 
-// What accepting a certificate says.
-fn claim_text(alloc: Global, accepted: &Accepted) -> Result<Vec<u8>, AllocError>
-    ensures { IfOk result (λ text. text.items ≡ claim_text accepted.now.claim accepted.now.denominator) }
-{
-    let mut claim = Buffer::new();
-    let mut denominator = Buffer::new();
-    let text = format!(in alloc;
-        "claim {} denominator {}",
-        claim.format(accepted.claim),
-        denominator.format(accepted.denominator)
-    )?;
-    Ok(text.into_bytes())
-}
-
-// The line of a block: its number, the verdict, and what it says.
+// The line of a block: its number, and what is said of it.
 fn push_block(
     report: &mut Vec<u8>,
     block: usize,

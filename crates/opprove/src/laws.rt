@@ -1,5 +1,5 @@
 // What users ask of the answers.
-ghost use Rattle.opprove.specs.Laws.{AcceptedAreAnswered, ZeroIsAccepted, ZeroMeans, FaultsAreAnswered, ThreeIsFaulty, AnswersOnce, EachCallHasAnEnding};
+ghost use Rattle.opprove.specs.Laws.{AcceptedAreAnswered, ZeroIsAccepted, ZeroMeans, ConfirmedAreAnswered, ZeroIsConfirmed, FaultsAreAnswered, ThreeIsFaulty, AnswersOnce, EachCallHasAnEnding};
 
 use category_laws::Preadditive;
 
@@ -13,6 +13,13 @@ pub fn accepted_certificates_are_answered_by_0()
 /// category that is handed in.
 pub fn status_0_means_what_certificates_mean<C: Preadditive>(category: &C)
     ensures { ZeroMeans (C.structure category.now) }
+{}
+
+/// Models that all refute the claims that they name are answered by 0 and a line on each, by no other status and by no other lines,
+/// and each of them has the meaning of the main theorem.
+pub fn confirmed_models_are_answered_by_0()
+    ensures answered { ConfirmedAreAnswered }
+    ensures no_others { ZeroIsConfirmed }
 {}
 
 /// A statement with a fault is answered by 3 and the line on its first fault, and no other is.

@@ -4,6 +4,7 @@
 mod answer;
 mod call;
 mod check;
+mod confirm;
 mod decide;
 mod ending;
 mod fault;
@@ -57,6 +58,8 @@ mod gallery_rows;
 mod gate_tests;
 #[cfg(test)]
 mod lemma_rows;
+#[cfg(test)]
+mod model_rows;
 #[cfg(test)]
 mod round_tests;
 #[cfg(test)]

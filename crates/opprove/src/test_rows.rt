@@ -240,6 +240,8 @@ pub const CALLS: &[(&[&str], &str)] = &[
     (&[], USAGE),
     (&["check", "s", "-c"], USAGE),
     (&["check", "s"], USAGE),
+    (&["model", "s"], USAGE),
+    (&["model", "s", "g"], "4 # load failed g\n"),
     (&["prove", "s", "c"], USAGE),
     (&["check", "s", "c", "c"], USAGE),
 ];

@@ -2,6 +2,7 @@
 use crate::decided_rows::{OTHERS, PLAIN, PROVED, PROVED_PLAINLY, WITHOUT_FILES};
 use crate::gallery_rows::GALLERY;
 use crate::lemma_rows::{LEMMAS, LONG_WORD};
+use crate::model_rows::{FAULTS, MODELS};
 use crate::run::run;
 use crate::test_rows::{CALLS, EXAMPLES, JUDGED, REFUSED, SOUND};
 use category_laws::Parity;
@@ -13,6 +14,8 @@ use std::test::Fail;
 use std::thread::Threads;
 
 const CHECK: &[&str] = &["check", "s", "c"];
+
+const MODEL: &[&str] = &["model", "s", "c"];
 
 // A shelf with the files `s` and `c`.
 fn shelf_of(
@@ -62,6 +65,17 @@ fn each_run_has_its_status_and_report(rt: HostRuntime) -> Result<(), Fail> {
     for (words, want) in CALLS {
         let got = answer(&rt, alloc, words, SOUND.0, SOUND.1, &[])?;
         assert_eq!(rt; got.as_str(), *want, "{words:?}");
+    }
+    Ok(())
+}
+
+#[test]
+fn models_are_confirmed_or_refused(rt: HostRuntime) -> Result<(), Fail> {
+    for rows in [MODELS, FAULTS] {
+        for (statement, models, want) in rows {
+            let got = answer(&rt, rt.alloc(), MODEL, statement, models, &[])?;
+            assert_eq!(rt; got.as_str(), *want, "{models:?}");
+        }
     }
     Ok(())
 }

@@ -7,7 +7,7 @@ use Rattle.certificate_text.specs.Evidence.{IsEvidence, IsFirstFault}
 use Rattle.opprove.specs.Ending.{Ending}
 use Rattle.opprove.specs.Statement.{OverStatement, stated}
 use Rattle.opprove.specs.Blocks.{OverEvidence, read, Judges}
-use Rattle.opprove.specs.Check.{question_of, AcceptsBlock, RefusesBlock, AnswersEvidence, AnswersCheck}
+use Rattle.opprove.specs.Check.{AcceptsCertificate, RefusesCertificate, AnswersEvidence, AnswersCheck}
 use Rattle.opprove.proofs.Stops.{stops_weaker, ends_weaker, ended_by, over_statement, over_evidence}
 use Rattle.opprove.proofs.check.check_texts.Goals as goal
 
@@ -31,7 +31,7 @@ returns-in_err-certificates c =
     let back : c.from_residual-in_err-certificates.result ≡ Err stop = search rules in
     ended_by answers c.from_residual-in_err-certificates.result stop back
     (stops_weaker (OverEvidence is_evidence is_fault (λ _ _. ⊥)) answers
-    (λ ending over. stated problem c.in_ok-problem.ensures.stated (over_evidence is_evidence is_fault (λ _ _. ⊥) (Judges (AcceptsBlock (question_of problem)) (RefusesBlock (question_of problem))) ending (λ es none. absurd none) over))
+    (λ ending over. stated problem c.in_ok-problem.ensures.stated (over_evidence is_evidence is_fault (λ _ _. ⊥) (Judges (AcceptsCertificate problem) (RefusesCertificate problem)) ending (λ es none. absurd none) over))
     stop c.in_err-certificates.ensures.stopped)
 
 -- the certificates are judged
@@ -39,10 +39,10 @@ pub returns : goal.returns
 returns c =
     let answers : Ending → Type 0 = AnswersCheck c.args.statement.now c.args.evidence.now in
     let problem : Problem = c.in_ok-problem.problem in
-    let judges : List Evidence → Ending → Type 0 = Judges (AcceptsBlock (question_of problem)) (RefusesBlock (question_of problem)) in
+    let judges : List Evidence → Ending → Type 0 = Judges (AcceptsCertificate problem) (RefusesCertificate problem) in
     let es : List Evidence = c.in_ok-certificates.certificates in
     let is_evidence : IsEvidence Lemmas problem.parts.quiver c.args.evidence.now es = c.in_ok-certificates.ensures.read in
     let same : c.as_slice.result.now ≡ es = search rules in
     ends_weaker (judges c.as_slice.result.now) answers
-    (λ ending judged. stated problem c.in_ok-problem.ensures.stated (read es is_evidence (subst (λ (l : List Evidence). Judges (AcceptsBlock (question_of problem)) (RefusesBlock (question_of problem)) l ending) same judged)))
-    c.judge.result c.judge.ensures
+    (λ ending judged. stated problem c.in_ok-problem.ensures.stated (read es is_evidence (subst (λ (l : List Evidence). Judges (AcceptsCertificate problem) (RefusesCertificate problem) l ending) same judged)))
+    c.judge_blocks.result c.judge_blocks.ensures
