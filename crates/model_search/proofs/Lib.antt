@@ -15,3 +15,15 @@ pub mod CandidateModels
 pub mod AffineMatrices
 pub mod AffineArrows
 pub mod AffineValues
+pub mod LinearRows
+pub mod SolvedEntries
+pub mod DistinctEntries
+pub mod GeneratorEntries
+pub mod DrawnEntries
+pub mod SystemSolutions
+pub mod PlanSystems
+pub mod SolvedLetters
+pub mod LinearGenerators
+pub mod NumberedShapes
+pub mod FiniteSearch
+pub mod CandidateLaws

@@ -1,5 +1,5 @@
 // How many candidates a shape has.
-ghost use Rattle.std.specs.Prelude.{◌≡◌, ◌≤◌, length};
+ghost use Rattle.std.specs.Prelude.{◌≡◌, ◌≤◌, ◌^◌, length, nat_le};
 ghost use Rattle.definitions.specs.Quiver.{IsQuiver};
 ghost use Rattle.quiver.specs.Declarations.{object_count, quiver_of};
 ghost use Rattle.adjoint_rules.specs.declared.parts.Shape.{Shape as ShapeValue};
@@ -36,5 +36,15 @@ fn count_for(quiver: &Quiver, shape: &Shape) -> u32
     match shape.modulus.checked_pow(entry_count(quiver, shape)) {
         Some(count) if count <= EXHAUSTIVE_LIMIT => count,
         _ => DRAWN_COUNT,
+    }
+}
+
+/// Whether there are so few lists of values of the entries that all are tried.
+pub(crate) fn is_exhaustive(modulus: u32, entries: u32) -> bool
+    ensures { result ≡ nat_le (modulus ^ entries) 65536 }
+{
+    match modulus.checked_pow(entries) {
+        Some(count) => count <= EXHAUSTIVE_LIMIT,
+        None => false,
     }
 }
