@@ -27,3 +27,7 @@ pub mod LinearGenerators
 pub mod NumberedShapes
 pub mod FiniteSearch
 pub mod CandidateLaws
+pub mod Breaking
+pub mod SearchAnswers
+pub mod Blocks
+pub mod SearchSteps
