@@ -24,7 +24,7 @@ use Rattle.representations.specs.Evidence.{IsEvidenceSound}
 use Rattle.outcome_meanings.specs.Meanings.{OutcomeMeans}
 use Rattle.outcome_meanings.proofs.AskedOrders.{asked_rank, asked_cmp-admissible}
 use Rattle.outcome_meanings.proofs.Meanings.{outcomes_mean_what_they_say}
-use Rattle.report_text.specs.Report.{status_of, is_proved, is_refuted, is_undecided, is_not_refuted}
+use Rattle.report_text.specs.Report.{status_of}
 use Rattle.opprove.specs.Ending.{Ending}
 use Rattle.opprove.specs.Statement.{OverStatement}
 use Rattle.opprove.specs.Statement as statements
@@ -34,21 +34,21 @@ use Rattle.opprove.specs.Headline.{VerdictMeans, PrintsMeant, SaysDecided}
 use Rattle.opprove.proofs.Statements.{statement_once}
 use Rattle.opprove.proofs.Stops.{over_statement}
 use Rattle.opprove.proofs.Meaning.{proved_means}
+use Rattle.opprove.proofs.Verdicts.{DecidedStatus, refused, verdicts_status}
+use Rattle.opprove.proofs.Zips.{zip_once}
 
 -- ---- one ending
 
 module _ (problem : Problem) (asked : Asked) where
-  zip_once : (ns : List ℕ) (one other : List Outcome) → AreOutcomesOf (setting_of problem asked.budget) asked.form problem ns one → AreOutcomesOf (setting_of problem asked.budget) asked.form problem ns other → one ≡ other
-  zip_once [] [] [] first second = refl
-  zip_once [] [] (o ∷ os) first second = absurd second
-  zip_once [] (o ∷ os) other first second = absurd first
-  zip_once (n ∷ ns) [] other first second = absurd first
-  zip_once (n ∷ ns) (o ∷ os) [] first second = absurd second
-  zip_once (n ∷ ns) (o ∷ os) (o' ∷ os') first second =
+  outcome_once : (n : ℕ) (o o' : Outcome) → IsOutcomeOf (setting_of problem asked.budget) asked.form n (claim_at problem n) o → IsOutcomeOf (setting_of problem asked.budget) asked.form n (claim_at problem n) o' → o ≡ o'
+  outcome_once n o o' one other =
       let order = problem.parts.order in
-      let here : o ≡ o' = outcomes_unique 0 (asked_rank 0 order) (setting_of problem asked.budget) asked.form n (claim_at problem n) o o' (asked_cmp-admissible 0 order) first.0 second.0 in
-      let rest : os ≡ os' = zip_once ns os os' first.1 second.1 in
-      λ i. here i ∷ rest i
+      outcomes_unique 0 (asked_rank 0 order) (setting_of problem asked.budget) asked.form n (claim_at problem n) o o' (asked_cmp-admissible 0 order) one other
+
+  outcomes_once : (one other : List Outcome) → AreOutcomesOf (setting_of problem asked.budget) asked.form problem (claim_numbers problem) one
+      → AreOutcomesOf (setting_of problem asked.budget) asked.form problem (claim_numbers problem) other → one ≡ other
+  outcomes_once one other first second =
+      zip_once (λ n o. IsOutcomeOf (setting_of problem asked.budget) asked.form n (claim_at problem n) o) outcome_once (claim_numbers problem) one other first second
 
   rules_once : (one other : List Poly) → AreLastRules (setting_of problem asked.budget) asked.form problem (claim_numbers problem) one
       → AreLastRules (setting_of problem asked.budget) asked.form problem (claim_numbers problem) other → one ≡ other
@@ -58,7 +58,7 @@ module _ (problem : Problem) (asked : Asked) where
 
 claims_once : (print : Print) (asked : Asked) (ending ending' : Ending) (problem : Problem) → AnswersClaims print asked problem ending → AnswersClaims print asked problem ending' → ending ≡ ending'
 claims_once print asked ending ending' problem one other =
-    let outcomes : one.decides.outcomes ≡ other.decides.outcomes = zip_once problem asked (claim_numbers problem) one.decides.outcomes other.decides.outcomes one.decides.are_outcomes other.decides.are_outcomes in
+    let outcomes : one.decides.outcomes ≡ other.decides.outcomes = outcomes_once problem asked one.decides.outcomes other.decides.outcomes one.decides.are_outcomes other.decides.are_outcomes in
     let verdicts : one.verdicts ≡ other.verdicts = one.decides.are_verdicts ∙ ap (map verdict_of) outcomes ∙ sym other.decides.are_verdicts in
     let rules : one.rules ≡ other.rules = rules_once problem asked one.rules other.rules one.decides.are_rules other.decides.are_rules in
     one.says ∙ (λ i. record { status = status_of (verdicts i); report = print problem.parts.quiver (rules i) (verdicts i) }) ∙ sym other.says
@@ -69,28 +69,10 @@ decided_once print asked statement ending ending' one other = statement_once sta
 
 -- ---- the status
 
--- 3 for a statement with a fault, and else one of the verdicts
-pub data DecidedStatus (status : ℕ) : Type 0 where
-  refused : status ≡ 3 → DecidedStatus status
-  proved : status ≡ 0 → DecidedStatus status
-  not_derivable : status ≡ 10 → DecidedStatus status
-  broken : status ≡ 11 → DecidedStatus status
-  undecided : status ≡ 12 → DecidedStatus status
-  not_broken : status ≡ 13 → DecidedStatus status
-
-verdicts_status : (status : ℕ) (some_undecided some_not_refuted some_refuted all_proved : Bool)
-    → status ≡ (if some_undecided then 12 else (if some_not_refuted then 13 else (if some_refuted then 11 else (if all_proved then 0 else 10)))) → DecidedStatus status
-verdicts_status status true some_not_refuted some_refuted all_proved is = undecided is
-verdicts_status status false true some_refuted all_proved is = not_broken is
-verdicts_status status false false true all_proved is = broken is
-verdicts_status status false false false true is = proved is
-verdicts_status status false false false false is = not_derivable is
-
 pub decided_status : (print : Print) (asked : Asked) (statement : List ℕ) (ending : Ending) → OverStatement statement (AnswersClaims print asked) ending → DecidedStatus ending.status
 decided_status print asked statement ending (statements.faulty text wrong ends) = refused (ap (λ (e : Ending). e.status) ends)
 decided_status print asked statement ending (statements.stated problem is answer) =
-    verdicts_status ending.status (list_any is_undecided answer.verdicts) (list_any is_not_refuted answer.verdicts) (list_any is_refuted answer.verdicts) (list_all is_proved answer.verdicts)
-    (ap (λ (e : Ending). e.status) answer.says)
+    verdicts_status ending.status answer.verdicts (ap (λ (e : Ending). e.status) answer.says)
 
 -- ---- what verdicts mean
 

@@ -1,7 +1,7 @@
 -- Each call has an ending over the contents of its files.
 use Rattle.std.proofs.Common.{List, [], ◌∷◌, map, refl, arith}
 use Rattle.adjoint_rules.specs.declared.problem.Problem.{Problem}
-use Rattle.command_words.specs.declared.call.Call.TheVariants.{Prove, Check, Model, Bench}
+use Rattle.command_words.specs.declared.call.Call.TheVariants.{Prove, Check, Refute, Model, Bench}
 use Rattle.outcome_existence.proofs.Problems.{each_problem_has_outcomes}
 use Rattle.report_text.specs.declared.verdict.Verdict.{Verdict}
 use Rattle.report_text.specs.Report.{report_of, heads_of, status_of}
@@ -13,6 +13,7 @@ use Rattle.opprove.specs.Laws.{EachCallHasAnEnding}
 use Rattle.opprove.proofs.Statements.{statement_ends}
 use Rattle.opprove.proofs.Checking.{check_answered}
 use Rattle.opprove.proofs.Confirming.{model_answered}
+use Rattle.opprove.proofs.Searching.{refute_answered}
 
 -- ---- the claims
 
@@ -39,6 +40,9 @@ each_call_has_an_ending (Check p) [] as_many = absurd (omega arith)
 each_call_has_an_ending (Check p) (statement ∷ []) as_many = absurd (omega arith)
 each_call_has_an_ending (Check p) (statement ∷ evidence ∷ []) as_many = check_answered statement evidence
 each_call_has_an_ending (Check p) (statement ∷ evidence ∷ third ∷ more) as_many = absurd (omega arith)
+each_call_has_an_ending (Refute p) [] as_many = absurd (omega arith)
+each_call_has_an_ending (Refute p) (statement ∷ []) as_many = refute_answered p.seed statement
+each_call_has_an_ending (Refute p) (statement ∷ second ∷ more) as_many = absurd (omega arith)
 each_call_has_an_ending (Model p) [] as_many = absurd (omega arith)
 each_call_has_an_ending (Model p) (statement ∷ []) as_many = absurd (omega arith)
 each_call_has_an_ending (Model p) (statement ∷ models ∷ []) as_many = model_answered statement models
