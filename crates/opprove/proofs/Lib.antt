@@ -14,6 +14,7 @@ pub mod Meaning
 pub mod Verdicts
 pub mod Zips
 pub mod Searching
+pub mod Outcomes
 pub mod Deciding
 pub mod Writing
 pub mod BenchSize
