@@ -1,12 +1,11 @@
 -- What follows of what `model` answers, and what a confirmed model means.
-use Rattle.std.proofs.Common.{◌≡◌, ℕ, List, [], ◌∷◌, ◌++◌, Some, get_or, codes, refl, ap, subst, sym, ◌∙◌, arith}
+use Rattle.std.proofs.Common.{◌≡◌, ◌<◌, ℕ, List, [], ◌∷◌, ◌++◌, Some, get_or, codes, refl, ap, subst, sym, ◌∙◌, arith}
 use Rattle.std.specs.List.{All, AllByRecursion}
-use Rattle.std.proofs.lemmas.List.Elements.{All-head, All-tail}
+use Rattle.std.proofs.lemmas.List.Elements.{All-nil, All-cons, All-head, All-tail}
 use Rattle.definitions.proofs.StarSound.{star_sound}
-use Rattle.quiver.specs.Declarations.{Declaration, letter_count, quiver_of}
+use Rattle.quiver.specs.Declarations.{Declaration, quiver_of}
 use Rattle.quiver.proofs.Counts.{letters-quiver_of}
 use Rattle.matrix_models.specs.Laws.{matrices_laws, transpose_laws}
-use Rattle.matrix_models.specs.Matrices.{transpose}
 use Rattle.matrix_models.specs.declared.model.Model.{Model}
 use Rattle.adjoint_rules.specs.declared.problem.Problem.{Problem}
 use Rattle.adjoint_rules.specs.Problem.{polynomials, numbers}
@@ -27,7 +26,6 @@ use Rattle.claim_decider.specs.Decided.{claim_at}
 use Rattle.opprove.specs.Ending.{Ending}
 use Rattle.opprove.specs.Refusals.{model_cause}
 use Rattle.opprove.specs.Letters.{HasModelLetter}
-use Rattle.opprove.specs.Statement.{IsStated}
 use Rattle.opprove.specs.Confirm.{confirmed_text, AnswersModelText, AnswersModel}
 use Rattle.opprove.specs.Headline.{RefutedMeans, ConfirmedMeans, SaysConfirmed}
 use Rattle.opprove.proofs.BlockTexts.{IsKind, text_answered, text_answered_once, text_status, first_answered}
@@ -126,7 +124,8 @@ each_means problem (m ∷ ms) are refute =
     (refuted_means problem m.claim m (readable problem.parts.quiver m (All-head is m ms are)) refl refute.0, each_means problem ms (All-tail is m ms are) refute.1)
 
 first_of : {A : Type 0} (P : A → Type 0) (first others : List A) → All P (first ++ others) → All P first
-first_of P first others all = λ k d below. all k d (omega (arith, below))
+first_of P [] others all = All-nil P
+first_of P (x ∷ first) others all = All-cons P x first (All-head P x (first ++ others) all) (first_of P first others (All-tail P x (first ++ others) all))
 
 pub says_confirmed : (statement models : List ℕ) (ending : Ending) → AnswersModel statement models ending → SaysConfirmed statement models ending.report
 says_confirmed statement models ending answers = record {

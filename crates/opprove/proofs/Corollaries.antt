@@ -11,7 +11,7 @@ use Rattle.opprove.specs.Ending.{Ending}
 use Rattle.opprove.specs.Statement.{IsStated, OverStatement, faulty, stated}
 use Rattle.opprove.specs.Check.{AnswersEvidence}
 use Rattle.opprove.specs.Confirm.{AnswersModelText}
-use Rattle.opprove.specs.Laws.{AcceptedAreAnswered, AllAccepted, ZeroIsAccepted, ZeroMeans, ConfirmedAreAnswered, AllConfirmed, ZeroIsConfirmed, FaultsAreAnswered, ThreeIsFaulty}
+use Rattle.opprove.specs.Laws.{AcceptedAreAnswered, ZeroIsAccepted, ZeroMeans, ConfirmedAreAnswered, ZeroIsConfirmed, FaultsAreAnswered, ThreeIsFaulty}
 use Rattle.opprove.proofs.BlockTexts.{passing_answered, zero_answered, text_status}
 use Rattle.opprove.proofs.Checking.{certificates_are_judged}
 use Rattle.opprove.proofs.Confirming.{models_are_judged, each_means}

@@ -1,23 +1,19 @@
 -- What `prove` and `bench` answer: one ending, its status, and what its verdicts mean.
-use Rattle.std.proofs.Common.{◌≡◌, ◌≤◌, ◌⊎◌, inl, inr, ℕ, zero, suc, ◌+◌, Bool, true, false, List, [], ◌∷◌, length, map, if◌then◌else◌, refl, sym, ap, subst, ◌∙◌, arith}
+use Rattle.std.proofs.Common.{◌≡◌, ◌≤◌, ℕ, zero, suc, ◌+◌, Bool, true, false, List, [], ◌∷◌, length, map, if◌then◌else◌, refl, sym, ap, subst, ◌∙◌, arith}
 use Rattle.std.specs.List.{AllZip, range_with_len, list_any, list_all}
 use Rattle.std.proofs.lemmas.List.{length-map}
 use Rattle.definitions.specs.Category.{Structure, PreadditiveLaws}
-use Rattle.definitions.specs.Poly.{Term}
 use Rattle.definitions.specs.Soundness.{IsSound}
 use Rattle.nc_polynomial.specs.declared.poly.Poly.{Poly}
 use Rattle.cofactor_trace.specs.declared.halt.Halt.{Halt}
 use Rattle.cofactor_checker.specs.Rows.{IsNumberUpTo}
 use Rattle.adjoint_rules.specs.declared.problem.Problem.{Problem}
 use Rattle.adjoint_rules.specs.Problem.{polynomials}
-use Rattle.adjoint_rules.specs.Parts.{units_in}
-use Rattle.signature_typing.specs.Unique.{AreSame}
 use Rattle.traced_completion.specs.declared.budget.Budget.{Budget}
-use Rattle.traced_completion.specs.PlainRun.{Setting, IsRunState, setting_of}
+use Rattle.traced_completion.specs.PlainRun.{setting_of}
 use Rattle.claim_decider.specs.declared.outcome.Outcome.{Outcome}
 use Rattle.claim_decider.specs.declared.outcome.Outcome.TheVariants as outcome
-use Rattle.claim_decider.specs.Outcomes.{GetsOutcome, IsOutcomeOf}
-use Rattle.claim_decider.specs.Decided.{claim_at, claim_numbers, AreOutcomesOf, GetsOutcomeAt, GetsOutcomeBy, OneGetsOutcomeAt, AreLastRules}
+use Rattle.claim_decider.specs.Decided.{claim_at, claim_numbers, AreOutcomesOf, AreLastRules}
 use Rattle.claim_decider.proofs.UniqueOutcomes.{outcomes_unique}
 use Rattle.claim_decider.proofs.UniqueRules.{last_rules_unique}
 use Rattle.representations.specs.Evidence.{IsEvidenceSound}

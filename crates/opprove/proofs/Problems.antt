@@ -1,5 +1,5 @@
 -- Problems that say the same are one.
-use Rattle.std.proofs.Common.{◌≡◌, ℕ, ◌≤◌, List, [], ◌∷◌, length, refl, subst}
+use Rattle.std.proofs.Common.{◌≡◌, ◌≤◌, List, [], ◌∷◌, length, refl, subst}
 use Rattle.std.proofs.Props as std
 use Rattle.definitions.specs.Poly.{Term}
 use Rattle.nc_polynomial.specs.Shape.{IsCanonical}

@@ -1,8 +1,7 @@
 //! Runs of `model` over models, worked out by hand from the grammar and the tests of a model.
 use crate::test_rows::Row;
 
-const MAPS: &[u8] =
-    b"object U V\nmap p : U -> U self\nmap a : U -> V\nclaim a = 0\n";
+const MAPS: &[u8] = b"object U V\nmap p : U -> U self\nmap a : U -> V\nclaim a = 0\n";
 
 const ONE_SIDED: &[u8] =
     b"object U V\nmap a : U -> V\nmap b : V -> U\nassume a b = [V]\nclaim b a = [U]\nmodel 2 U 2 V 1\n";
@@ -106,7 +105,11 @@ pub const MODELS: &[Row] = &[
         "7 # block 1 confirmed claim 1\n# block 2 refused M5\n",
     ),
     // faults of the statement come before all of these
-    (b"object U\nclaim\n", SELF, "3 # refused S3 line 2 column 6\n"),
+    (
+        b"object U\nclaim\n",
+        SELF,
+        "3 # refused S3 line 2 column 6\n",
+    ),
 ];
 
 /// Texts that are no models, each with its first fault.
@@ -118,7 +121,11 @@ pub const FAULTS: &[Row] = &[
     (MAPS, b"model 1", "7 # refused K6\n"),
     (MAPS, b"model 1\nclaim 1\n", "7 # refused K6\n"),
     (MAPS, b"model 1\nclaim 1\nmodulus 3\n", "7 # refused K6\n"),
-    (MAPS, b"model 1\nclaim 1\nmodulus 3\nside U 1\nmap a = 1\n", "7 # refused K6\n"),
+    (
+        MAPS,
+        b"model 1\nclaim 1\nmodulus 3\nside U 1\nmap a = 1\n",
+        "7 # refused K6\n",
+    ),
     (MAPS, b"basis 1\nclaim 1\n", "7 # refused K6\n"),
     // a line that doesn't fit the grammar at its place: the first, one in the middle, the last
     (MAPS, b"modle 1\n", "7 # refused K2 line 1\n"),
@@ -127,28 +134,108 @@ pub const FAULTS: &[Row] = &[
     (MAPS, b"claim 1\n", "7 # refused K2 line 1\n"),
     (MAPS, b"model 1\nmodulus 3\n", "7 # refused K2 line 2\n"),
     (MAPS, b"model 1\nclaim 1\nend\n", "7 # refused K2 line 3\n"),
-    (MAPS, b"model 1\nclaim 1\nmodulus 1\n", "7 # refused K2 line 3\n"),
-    (MAPS, b"model 1\nclaim 1\nmodulus 3\nclaim 1\n", "7 # refused K2 line 4\n"),
-    (MAPS, b"model 1\nclaim 1\nmodulus 3\nside U 0\n", "7 # refused K2 line 4\n"),
-    (MAPS, b"model 1\nclaim 1\nmodulus 3\nside U 1\nside U 1\n", "7 # refused K2 line 5\n"),
-    (MAPS, b"model 1\nclaim 1\nmodulus 3\nmap a = 1\nmap a = 1\n", "7 # refused K2 line 5\n"),
-    (MAPS, b"model 1\nclaim 1\nmodulus 3\nmap a =\n", "7 # refused K2 line 4\n"),
-    (MAPS, b"model 1\nclaim 1\nmodulus 3\nmap a = 1 ;\n", "7 # refused K2 line 4\n"),
-    (MAPS, b"model 1\nclaim 1\nmodulus 3\nmap a = ; 1\n", "7 # refused K2 line 4\n"),
-    (MAPS, b"model 1\nclaim 1\nmodulus 3\nmap a = -1\n", "7 # refused K2 line 4\n"),
-    (MAPS, b"model 1\nclaim 1\nmodulus 3\nmap p = 1 0 ; 1\n", "7 # refused K2 line 4\n"),
-    (MAPS, b"model 1\nclaim 1\nmodulus 3\nmap a' = 1\n", "7 # refused K2 line 4\n"),
-    (MAPS, b"model 1\nclaim 1\nmodulus 3\nend 1\n", "7 # refused K2 line 4\n"),
+    (
+        MAPS,
+        b"model 1\nclaim 1\nmodulus 1\n",
+        "7 # refused K2 line 3\n",
+    ),
+    (
+        MAPS,
+        b"model 1\nclaim 1\nmodulus 3\nclaim 1\n",
+        "7 # refused K2 line 4\n",
+    ),
+    (
+        MAPS,
+        b"model 1\nclaim 1\nmodulus 3\nside U 0\n",
+        "7 # refused K2 line 4\n",
+    ),
+    (
+        MAPS,
+        b"model 1\nclaim 1\nmodulus 3\nside U 1\nside U 1\n",
+        "7 # refused K2 line 5\n",
+    ),
+    (
+        MAPS,
+        b"model 1\nclaim 1\nmodulus 3\nmap a = 1\nmap a = 1\n",
+        "7 # refused K2 line 5\n",
+    ),
+    (
+        MAPS,
+        b"model 1\nclaim 1\nmodulus 3\nmap a =\n",
+        "7 # refused K2 line 4\n",
+    ),
+    (
+        MAPS,
+        b"model 1\nclaim 1\nmodulus 3\nmap a = 1 ;\n",
+        "7 # refused K2 line 4\n",
+    ),
+    (
+        MAPS,
+        b"model 1\nclaim 1\nmodulus 3\nmap a = ; 1\n",
+        "7 # refused K2 line 4\n",
+    ),
+    (
+        MAPS,
+        b"model 1\nclaim 1\nmodulus 3\nmap a = -1\n",
+        "7 # refused K2 line 4\n",
+    ),
+    (
+        MAPS,
+        b"model 1\nclaim 1\nmodulus 3\nmap p = 1 0 ; 1\n",
+        "7 # refused K2 line 4\n",
+    ),
+    (
+        MAPS,
+        b"model 1\nclaim 1\nmodulus 3\nmap a' = 1\n",
+        "7 # refused K2 line 4\n",
+    ),
+    (
+        MAPS,
+        b"model 1\nclaim 1\nmodulus 3\nend 1\n",
+        "7 # refused K2 line 4\n",
+    ),
     // names that are not declared, or are of the other kind
-    (MAPS, b"model 1\nclaim 1\nmodulus 3\nside W 1\n", "7 # refused K3 line 4\n"),
-    (MAPS, b"model 1\nclaim 1\nmodulus 3\nside a 1\n", "7 # refused K3 line 4\n"),
-    (MAPS, b"model 1\nclaim 1\nmodulus 3\nmap U = 1\n", "7 # refused K3 line 4\n"),
-    (MAPS, b"model 1\nclaim 1\nmodulus 3\nmap b = 1\n", "7 # refused K3 line 4\n"),
+    (
+        MAPS,
+        b"model 1\nclaim 1\nmodulus 3\nside W 1\n",
+        "7 # refused K3 line 4\n",
+    ),
+    (
+        MAPS,
+        b"model 1\nclaim 1\nmodulus 3\nside a 1\n",
+        "7 # refused K3 line 4\n",
+    ),
+    (
+        MAPS,
+        b"model 1\nclaim 1\nmodulus 3\nmap U = 1\n",
+        "7 # refused K3 line 4\n",
+    ),
+    (
+        MAPS,
+        b"model 1\nclaim 1\nmodulus 3\nmap b = 1\n",
+        "7 # refused K3 line 4\n",
+    ),
     // numbers past their bounds
-    (MAPS, b"model 1\nclaim 4294967296\n", "7 # refused K4 line 2\n"),
-    (MAPS, b"model 1\nclaim 1\nmodulus 2147483648\n", "7 # refused K4 line 3\n"),
-    (MAPS, b"model 1\nclaim 1\nmodulus 3\nmap a = 1 3\n", "7 # refused K4 line 4\n"),
-    (MAPS, b"model 1\nclaim 1\nmodulus 3\nside U 65\n", "7 # refused K5 line 4 limit 64\n"),
+    (
+        MAPS,
+        b"model 1\nclaim 4294967296\n",
+        "7 # refused K4 line 2\n",
+    ),
+    (
+        MAPS,
+        b"model 1\nclaim 1\nmodulus 2147483648\n",
+        "7 # refused K4 line 3\n",
+    ),
+    (
+        MAPS,
+        b"model 1\nclaim 1\nmodulus 3\nmap a = 1 3\n",
+        "7 # refused K4 line 4\n",
+    ),
+    (
+        MAPS,
+        b"model 1\nclaim 1\nmodulus 3\nside U 65\n",
+        "7 # refused K5 line 4 limit 64\n",
+    ),
     (
         MAPS,
         b"model 1\nclaim 1\nmodulus 3\nmap a = 1 1 1 1 1 1 1 1 1 1 1 1 1 1 1 1 1 1 1 1 1 1 1 1 1 1 1 1 1 1 1 1 1 1 1 1 1 1 1 1 1 1 1 1 1 1 1 1 1 1 1 1 1 1 1 1 1 1 1 1 1 1 1 1 1\n",

@@ -1,6 +1,6 @@
 use Rattle.std.proofs.Common.{◌≡◌, ◌++◌, ℕ, ◌+◌, List, sym, subst, rules}
 use Rattle.opprove.specs.Ending.{line}
-use Rattle.opprove.specs.Refusals.{block_text, refused_text}
+use Rattle.opprove.specs.Refusals.{block_text}
 use Rattle.opprove.specs.Judged.{Tells}
 use Rattle.opprove.proofs.Judging.{GoesOn, with_accepted, with_refused, all_judged}
 use Rattle.opprove.proofs.judge.judge_blocks.Goals as goal

@@ -1,5 +1,5 @@
 use Rattle.opprove.proofs.Letters.{refused_letters}
-use Rattle.opprove.proofs.Readable.{readable, named}
+use Rattle.opprove.proofs.Readable.{readable}
 use Rattle.opprove.proofs.check.EvidenceBlock.judge.Goals as goal
 
 -- the block can be checked
