@@ -13,6 +13,7 @@ use Rattle.traced_completion.specs.declared.budget.Budget.{Budget}
 use Rattle.traced_completion.specs.PlainRun.{setting_of}
 use Rattle.claim_decider.specs.declared.outcome.Outcome.{Outcome}
 use Rattle.claim_decider.specs.declared.outcome.Outcome.TheVariants as outcome
+use Rattle.claim_decider.specs.Outcomes.{IsOutcomeOf}
 use Rattle.claim_decider.specs.Decided.{claim_at, claim_numbers, AreOutcomesOf, AreLastRules}
 use Rattle.claim_decider.proofs.UniqueOutcomes.{outcomes_unique}
 use Rattle.claim_decider.proofs.UniqueRules.{last_rules_unique}

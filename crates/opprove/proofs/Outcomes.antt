@@ -19,6 +19,10 @@ use Rattle.opprove.proofs.Searching.{least_once, none_least}
 -- ---- one claim
 
 module _ (problem : Problem) (asked : Asked) (claim : ℕ) where
+  -- it is refuted, where models are looked for and one breaks it
+  pub refuted_by : (halt : Halt) (o : Outcome) (m : Model) → o ≡ outcome.Halted halt → (asked.models ≡ true) × LeastBreaks problem claim asked.seed m → IsVerdictOn problem asked claim o (verdict.Refuted m)
+  refuted_by halt o m is (on, least) = refuted halt m is on least refl
+
   -- what is said of a claim that halted
   pub data OnHalted (halt : Halt) (v : Verdict) : Type 0 where
     broken : (m : Model) → asked.models ≡ true → LeastBreaks problem claim asked.seed m → v ≡ verdict.Refuted m → OnHalted halt v

@@ -10,7 +10,7 @@ use Rattle.opprove.proofs.decide.decide.Goals as goal
 
 -- each claim has an outcome
 pub verdicts_of-requires-clause-one_each : goal.verdicts_of-requires-clause-one_each
-verdicts_of-requires-clause-one_each g c =
+verdicts_of-requires-clause-one_each g c κs within =
     let problem = c.args.problem.now in
     let asked = c.args.asked in
     AllZip-long (λ n o. IsOutcomeOf (setting_of problem asked.budget) asked.form n (claim_at problem n) o) (claim_numbers problem) c.in_ok-decided.decided.outcomes c.in_ok-decided.ensures.outcomes

@@ -20,7 +20,7 @@ loop-outcome-init g c = record {
 
 -- there is a claim with the next number
 pub verdict_of-requires-clause-claim : goal.verdict_of-requires-clause-claim
-verdict_of-requires-clause-claim g c =
+verdict_of-requires-clause-claim g c κs within =
     let at = c.loop-outcome in
     let steps : into_iter_items at.outcome-iterator ≡ c.in-Some.outcome ∷ into_iter_items c.next.new.self = c.in-Some.ensures.steps.0 in
     let whole : length at.yielded + length (into_iter_items at.outcome-iterator) ≡ length c.args.outcomes = sym (length-append at.yielded _) ∙ ap length at.invariant.splits in
@@ -39,7 +39,7 @@ loop-outcome-preserved g c =
     let v = c.in_ok-verdict_of.field-0 in
     let steps : into_iter_items at.outcome-iterator ≡ o ∷ into_iter_items c.next.new.self = c.in-Some.ensures.steps.0 in
     let pushed : c.push.new.self ≡ at.verdicts ++ v ∷ [] = search rules in
-    let said : IsVerdictOn problem asked (at.claim + 1) o v = search rules in
+    let said : IsVerdictOn problem asked (at.claim + 1) o v = c.in_ok-verdict_of.ensures in
     let next : 1 + at.claim ≡ at.claim + 1 = omega arith in
     let numbers : range_with_len 1 at.claim ++ (at.claim + 1) ∷ [] ≡ range_with_len 1 (at.claim + 1) = ap (λ n. range_with_len 1 at.claim ++ n ∷ []) (sym next) ∙ sym (range_with_len-more 1 at.claim) in
     let more = verdicts_push problem asked (range_with_len 1 at.claim) at.yielded at.verdicts (at.claim + 1) o v at.invariant.made said in

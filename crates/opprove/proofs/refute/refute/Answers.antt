@@ -27,7 +27,7 @@ pub returns : goal.returns
 returns g c =
     let problem : Problem = c.in_ok-problem.problem in
     let verdicts : List Verdict = c.in_ok-verdicts.verdicts in
-    let verdicts_are : c.as_slice.result.now ≡ verdicts = search rules in
+    let verdicts_are : c.as_slice-verdicts.result.now ≡ verdicts = search rules in
     let status : c.status_of.result ≡ status_of verdicts = c.status_of.ensures ∙ ap status_of verdicts_are in
     let report : c.in_ok-report.report.items ≡ report_of problem.parts.quiver [] verdicts = c.in_ok-report.ensures ∙ ap (report_of problem.parts.quiver []) verdicts_are in
     stated problem c.in_ok-problem.ensures.stated (record {
