@@ -6,12 +6,13 @@ use Rattle.clap.specs.Simple.{App, subcommand_of}
 use Rattle.clap.specs.Faults.{check_fault, turn_fault, walk_fault}
 use Rattle.clap.proofs.OnLiterals.{clap_on_literals}
 use Rattle.clap.specs.declared.builder.value_parser.ValueParser.TheVariants as parser
-use Rattle.command_words.specs.CommandSet.{command_set, IsTaken, prove_command, bench_command, pair_command}
+use Rattle.command_words.specs.CommandSet.{command_set, IsTaken, prove_command, refute_command, bench_command, pair_command}
 use Rattle.command_words.specs.Accepted.{given_words, IsFileWord, option_of, is_flag}
-use Rattle.command_words.specs.Calls.{GivesProve, GivesBench, GivesPair, MatchesGive, Names, NamesProve, NamesBench, NamesPair, prove_spans, bench_spans}
+use Rattle.command_words.specs.Calls.{GivesProve, GivesRefute, GivesBench, GivesPair, MatchesGive, Names, NamesProve, NamesRefute, NamesBench, NamesPair, prove_spans, refute_spans, bench_spans}
 use Rattle.command_words.specs.declared.call.Call.{Call}
-use Rattle.command_words.specs.declared.call.Call.TheVariants.{Prove, Check, Model, Bench}
+use Rattle.command_words.specs.declared.call.Call.TheVariants.{Prove, Check, Refute, Model, Bench}
 use Rattle.command_words.specs.declared.call.ProveCall.{ProveCall}
+use Rattle.command_words.specs.declared.call.RefuteCall.{RefuteCall}
 use Rattle.command_words.specs.declared.call.BenchCall.{BenchCall}
 use Rattle.command_words.specs.declared.call.PairCall.{PairCall}
 use Rattle.command_words.proofs.Steps.{given_row, plain_word, between}
@@ -104,6 +105,56 @@ prove_accepted words x n =
       models = reads_flag s.rules (codes "file") v prove_spans (codes "no-models" ∷ []) given n.options (codes "no-models") refl refl (refl, (refl, (refl, (refl, (refl, tt))))) ∙ ap Some (flipped x.models (is_flag (option_of (codes "no-models") given)) n.models);
     } in
     accepted_as (codes "prove") prove_command words (v ∷ flat_map given_words given) (fold with_default all s.rules) (Prove x) prove_named n.words_are l (refl, gives)
+
+-- ---- refute
+
+refute_named : IsNamed (codes "refute") refute_command
+unfolding command_set clap_on_literals
+refute_named = record { entry = refl; well = refl; found = refl; name_is = refl }
+
+refute_place : IsPlaceOf (leaf refute_command).rules (codes "file") 1 (parser.String)
+refute_place = record { by_index = refl; by_id = refl; reading = refl }
+
+refute_spans_known : (v : Text) → KnowsSpans (leaf refute_command) (given_row (codes "file") v ∷ []) refute_spans
+refute_spans_known v = (
+  (codes "4", record { dashes = refl; long = refl; by_long = refl; by_id = refl; same = refl }),
+  omega arith,
+  refl,
+  (
+    (codes "1", record { dashes = refl; long = refl; by_long = refl; by_id = refl; same = refl }),
+    omega arith,
+    refl,
+    tt,
+  ),
+)
+
+refute_flags_known : (v : Text) → KnowsFlags (leaf refute_command) (given_row (codes "file") v ∷ []) []
+refute_flags_known v = tt
+
+refute_clean : AreClean (leaf refute_command).rules
+unfolding clap_on_literals
+refute_clean = (refl, (refl, (refl, tt)))
+
+refute_check : (rows : List Row) (v : Text) → row_at (codes "file") rows ≡ Some (given_row (codes "file") v) → check_fault (leaf refute_command) rows false ≡ []
+refute_check rows v e = rw e refl
+
+pub refute_accepted : (words : List Text) (x : RefuteCall) → NamesRefute words x → IsTaken words × MatchesGive (subcommand_of command_set words) (Refute x)
+unfolding value_in
+refute_accepted words x n =
+    let s = leaf refute_command in
+    let v : Text = x.file in
+    let given = n.given in
+    let all : List Row = given_row (codes "file") v ∷ map row_given given in
+    let g = goes_after_first s refl (codes "file") (parser.String) refute_place v n.file refl refute_spans [] given
+    (refute_spans_known v) (refute_flags_known v) n.options in
+    let kept : row_at (codes "file") (fold with_default all s.rules) ≡ Some (given_row (codes "file") v) = row_kept s.rules (codes "file") (given_row (codes "file") v) all refl in
+    let l = level s (v ∷ flat_map given_words given) all 2 g refute_clean (refute_check (fold with_default all s.rules) v kept) in
+    let gives : GivesRefute (fold with_default all s.rules) x = record {
+      file = ap value_in kept;
+      workers = reads_number s.rules (codes "file") v refute_spans [] given n.options (codes "workers") refl 4 refl (omega arith, (omega arith, tt)) tt ∙ ap Some (sym n.workers);
+      seed = reads_number s.rules (codes "file") v refute_spans [] given n.options (codes "seed") refl 1 refl (omega arith, (omega arith, tt)) tt ∙ ap Some (sym n.seed);
+    } in
+    accepted_as (codes "refute") refute_command words (v ∷ flat_map given_words given) (fold with_default all s.rules) (Refute x) refute_named n.words_are l (refl, gives)
 
 -- ---- bench
 
@@ -224,5 +275,6 @@ pair_accepted name words x call named n gives =
 pub accepted : (words : List Text) (call : Call) → Names words call → IsTaken words × MatchesGive (subcommand_of command_set words) call
 accepted words (Prove x) n = prove_accepted words x n
 accepted words (Check x) n = pair_accepted (codes "check") words x (Check x) check_named n (λ rows g. (refl, g))
+accepted words (Refute x) n = refute_accepted words x n
 accepted words (Model x) n = pair_accepted (codes "model") words x (Model x) model_named n (λ rows g. (refl, g))
 accepted words (Bench x) n = bench_accepted words x n

@@ -9,10 +9,10 @@ use Rattle.std.specs.Str.Parse.{ParsesUnsigned, digits_value, without_leading_pl
 use Rattle.clap.specs.Values.{IsUnsignedIn}
 use Rattle.clap.specs.Matches.{ReadsOne}
 use Rattle.clap.specs.Words.{Row}
-use Rattle.command_words.specs.Present.{HasNumber, HasProve, HasBench, HasCommand, MatchesHave}
+use Rattle.command_words.specs.Present.{HasNumber, HasProve, HasRefute, HasBench, HasCommand, MatchesHave}
 use Rattle.command_words.specs.Calls.{number_of, IsWithin, IsInRange, GivesCall, MatchesGive}
 use Rattle.command_words.specs.declared.call.Call.{Call}
-use Rattle.command_words.specs.declared.call.Call.TheVariants.{Prove, Check, Model, Bench}
+use Rattle.command_words.specs.declared.call.Call.TheVariants.{Prove, Check, Refute, Model, Bench}
 
 pub some_text : (o : Option (Bor (List ℕ))) (t : List ℕ) → option_map (λ s. s.now) o ≡ Some t → IsSome o
 some_text None t e = cc
@@ -35,14 +35,23 @@ apart a b differ e =
 pub is_prove : (name : List ℕ) (rows : List Row) → HasCommand name rows → name ≡ codes "prove" → HasProve rows
 is_prove name rows (inl h) e = h.1
 is_prove name rows (inr (inl h)) e = absurd (apart (codes "check") (codes "prove") refl (sym h.0 ∙ e))
-is_prove name rows (inr (inr (inl h))) e = absurd (apart (codes "model") (codes "prove") refl (sym h.0 ∙ e))
-is_prove name rows (inr (inr (inr h))) e = absurd (apart (codes "bench") (codes "prove") refl (sym h.0 ∙ e))
+is_prove name rows (inr (inr (inl h))) e = absurd (apart (codes "refute") (codes "prove") refl (sym h.0 ∙ e))
+is_prove name rows (inr (inr (inr (inl h)))) e = absurd (apart (codes "model") (codes "prove") refl (sym h.0 ∙ e))
+is_prove name rows (inr (inr (inr (inr h)))) e = absurd (apart (codes "bench") (codes "prove") refl (sym h.0 ∙ e))
+
+pub is_refute : (name : List ℕ) (rows : List Row) → HasCommand name rows → name ≡ codes "refute" → HasRefute rows
+is_refute name rows (inl h) e = absurd (apart (codes "prove") (codes "refute") refl (sym h.0 ∙ e))
+is_refute name rows (inr (inl h)) e = absurd (apart (codes "check") (codes "refute") refl (sym h.0 ∙ e))
+is_refute name rows (inr (inr (inl h))) e = h.1
+is_refute name rows (inr (inr (inr (inl h)))) e = absurd (apart (codes "model") (codes "refute") refl (sym h.0 ∙ e))
+is_refute name rows (inr (inr (inr (inr h)))) e = absurd (apart (codes "bench") (codes "refute") refl (sym h.0 ∙ e))
 
 pub is_bench : (name : List ℕ) (rows : List Row) → HasCommand name rows → name ≡ codes "bench" → HasBench rows
 is_bench name rows (inl h) e = absurd (apart (codes "prove") (codes "bench") refl (sym h.0 ∙ e))
 is_bench name rows (inr (inl h)) e = absurd (apart (codes "check") (codes "bench") refl (sym h.0 ∙ e))
-is_bench name rows (inr (inr (inl h))) e = absurd (apart (codes "model") (codes "bench") refl (sym h.0 ∙ e))
-is_bench name rows (inr (inr (inr h))) e = h.1
+is_bench name rows (inr (inr (inl h))) e = absurd (apart (codes "refute") (codes "bench") refl (sym h.0 ∙ e))
+is_bench name rows (inr (inr (inr (inl h)))) e = absurd (apart (codes "model") (codes "bench") refl (sym h.0 ∙ e))
+is_bench name rows (inr (inr (inr (inr h)))) e = h.1
 
 within : (id : List ℕ) (low high n : ℕ) (rows : List Row) → HasNumber id low high rows → number_of id rows ≡ Some n → IsWithin low high n
 within id low high n rows h e =
@@ -60,6 +69,9 @@ in_range name rows (Prove p) has g =
       within (codes "seed") 0 18446744073709551615 p.seed rows h.seed g.1.seed,
       within (codes "format") 1 2 p.format rows h.format g.1.format,
     )
+in_range name rows (Refute r) has g =
+    let h = is_refute name rows has g.0 in
+    (within (codes "workers") 1 64 r.workers rows h.workers g.1.workers, within (codes "seed") 0 18446744073709551615 r.seed rows h.seed g.1.seed)
 in_range name rows (Bench b) has g =
     let h = is_bench name rows has g.0 in
     (within (codes "size") 1 60 b.size rows h.size g.1.size, within (codes "workers") 1 64 b.workers rows h.workers g.1.workers)

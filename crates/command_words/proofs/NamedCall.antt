@@ -6,11 +6,12 @@ use Rattle.std.specs.Str.Parse.{digits_value, without_leading_plus}
 use Rattle.clap.specs.Walk.{Row, Text}
 use Rattle.clap.specs.Simple.{subcommand_of}
 use Rattle.command_words.specs.CommandSet.{command_set, IsTaken}
-use Rattle.command_words.specs.Present.{HasNumber, HasFlag, HasProve, HasBench, HasPair, HasCommand, MatchesHave}
-use Rattle.command_words.specs.Calls.{number_of, flag_of, GivesProve, GivesBench, GivesPair, GivesCall, MatchesGive}
+use Rattle.command_words.specs.Present.{HasNumber, HasFlag, HasProve, HasRefute, HasBench, HasPair, HasCommand, MatchesHave}
+use Rattle.command_words.specs.Calls.{number_of, flag_of, GivesProve, GivesRefute, GivesBench, GivesPair, GivesCall, MatchesGive}
 use Rattle.command_words.specs.declared.call.Call.{Call}
-use Rattle.command_words.specs.declared.call.Call.TheVariants.{Prove, Check, Model, Bench}
+use Rattle.command_words.specs.declared.call.Call.TheVariants.{Prove, Check, Refute, Model, Bench}
 use Rattle.command_words.specs.declared.call.ProveCall.{ProveCall}
+use Rattle.command_words.specs.declared.call.RefuteCall.{RefuteCall}
 use Rattle.command_words.specs.declared.call.BenchCall.{BenchCall}
 use Rattle.command_words.specs.declared.call.PairCall.{PairCall}
 use Rattle.command_words.proofs.Taken.{taken_has}
@@ -38,6 +39,12 @@ prove_call rows h =
       record { file = h.file.1; pairs = pairs.1; steps = steps.1; workers = workers.1; seed = seed.1; format = format.1; models = flag.1 ∙ ap Some (twice flag.0) },
     )
 
+refute_call : (rows : List Row) → HasRefute rows → (r : RefuteCall) × GivesRefute rows r
+refute_call rows h =
+    let workers = number_given (codes "workers") 1 64 rows h.workers in
+    let seed = number_given (codes "seed") 0 18446744073709551615 rows h.seed in
+    (record { file = h.file.0; workers = workers.0; seed = seed.0 }, record { file = h.file.1; workers = workers.1; seed = seed.1 })
+
 bench_call : (rows : List Row) → HasBench rows → (b : BenchCall) × GivesBench rows b
 bench_call rows h =
     let size = number_given (codes "size") 1 60 rows h.size in
@@ -55,9 +62,12 @@ call_given name rows (inr (inl h)) =
     let p = pair_call rows h.1 in
     (Check p.0, (h.0, p.1))
 call_given name rows (inr (inr (inl h))) =
+    let r = refute_call rows h.1 in
+    (Refute r.0, (h.0, r.1))
+call_given name rows (inr (inr (inr (inl h)))) =
     let p = pair_call rows h.1 in
     (Model p.0, (h.0, p.1))
-call_given name rows (inr (inr (inr h))) =
+call_given name rows (inr (inr (inr (inr h)))) =
     let b = bench_call rows h.1 in
     (Bench b.0, (h.0, b.1))
 

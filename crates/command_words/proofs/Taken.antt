@@ -18,8 +18,8 @@ use Rattle.clap.proofs.OnLiterals.{clap_on_literals}
 use Rattle.clap.specs.declared.builder.value_parser.ValueParser.{ValueParser}
 use Rattle.clap.specs.declared.builder.value_parser.ValueParser.TheVariants as parser
 use Rattle.clap.specs.declared.builder.value_parser.Reading.TheVariants.{AsWritten}
-use Rattle.command_words.specs.CommandSet.{command_set, IsTaken, prove_command, bench_command, pair_command}
-use Rattle.command_words.specs.Present.{HasText, HasNumber, HasFlag, HasProve, HasBench, HasPair, HasCommand, MatchesHave}
+use Rattle.command_words.specs.CommandSet.{command_set, IsTaken, prove_command, refute_command, bench_command, pair_command}
+use Rattle.command_words.specs.Present.{HasText, HasNumber, HasFlag, HasProve, HasRefute, HasBench, HasPair, HasCommand, MatchesHave}
 use Rattle.command_words.proofs.Ends.{row_at, row_kept, row_defaulted, default_list}
 use Rattle.command_words.proofs.Gives.{not_there}
 use Rattle.command_words.proofs.Top.{leaf}
@@ -181,6 +181,40 @@ prove_has words e =
       models = option_flag c g.base g.good (codes "no-models") _ refl refl refl (inr refl);
     })
 
+-- ---- refute
+
+refute_plain : ArePlainRules (leaf refute_command).rules (leaf refute_command).rules
+refute_plain = (
+  record { by_id = refl; reading = refl; no_short = λ x. refl; form = inl (refl, refl) },
+  (
+    record { by_id = refl; reading = refl; no_short = λ x. refl; form = inl (refl, refl) },
+    (
+      record { by_id = refl; reading = refl; no_short = λ x. refl; form = inl (refl, refl) },
+      tt,
+    ),
+  ),
+)
+
+refute_given : (rows : List Row) → check_fault (leaf refute_command) rows false ≡ [] → is_given (codes "file") rows ≡ true
+refute_given rows e = go (is_given (codes "file") rows) refl
+  where
+    go : (b : Bool) → is_given (codes "file") rows ≡ b → b ≡ true
+    go true is = refl
+    go false is =
+        let bad = rw is at e in
+        absurd cc
+
+refute_has : (words : List Text) → level_fault (leaf refute_command) [] nothing_held words false [] ≡ [] → HasRefute (rows_after (leaf refute_command).rules [] words)
+refute_has words e =
+    let c = (leaf refute_command).rules in
+    let g = good_level (leaf refute_command) refute_plain refl words e in
+    let first = required_row c g.base (codes "file") (refute_given (fold with_default g.base c) g.check) refl in
+    subst HasRefute (sym g.is) (record {
+      file = given_text c g.base g.good (codes "file") _ refl refl first.0 first.1;
+      workers = option_number c g.base g.good (codes "workers") _ refl refl 1 64 refl (codes "4", refl, accepts-Accepts false (parser.Unsigned 1 64) (codes "4") refl);
+      seed = option_number c g.base g.good (codes "seed") _ refl refl 0 18446744073709551615 refl (codes "1", refl, accepts-Accepts false (parser.Unsigned 0 18446744073709551615) (codes "1") refl);
+    })
+
 -- ---- bench
 
 bench_plain : ArePlainRules (leaf bench_command).rules (leaf bench_command).rules
@@ -263,7 +297,7 @@ found_in (x ∷ shapes) p s e = go (p x) (found_in shapes p s) e
     go false below same = inr (below same)
 
 leaves : List Shape
-leaves = leaf prove_command ∷ leaf (pair_command (codes "check")) ∷ leaf (pair_command (codes "model")) ∷ leaf bench_command ∷ []
+leaves = leaf prove_command ∷ leaf (pair_command (codes "check")) ∷ leaf refute_command ∷ leaf (pair_command (codes "model")) ∷ leaf bench_command ∷ []
 
 subs_are : (built command_set).subs ≡ leaves
 unfolding command_set leaves clap_on_literals
@@ -276,10 +310,12 @@ leaf_has s (inl is) words e = subst (λ (x : Shape). HasCommand x.name (rows_aft
 leaf_has s (inr (inl is)) words e = subst (λ (x : Shape). HasCommand x.name (rows_after x.rules [] words)) (sym is)
     (inr (inl (refl, pair_has (codes "check") words (subst (λ (x : Shape). level_fault x [] nothing_held words false [] ≡ []) is e))))
 leaf_has s (inr (inr (inl is))) words e = subst (λ (x : Shape). HasCommand x.name (rows_after x.rules [] words)) (sym is)
-    (inr (inr (inl (refl, pair_has (codes "model") words (subst (λ (x : Shape). level_fault x [] nothing_held words false [] ≡ []) is e)))))
+    (inr (inr (inl (refl, refute_has words (subst (λ (x : Shape). level_fault x [] nothing_held words false [] ≡ []) is e)))))
 leaf_has s (inr (inr (inr (inl is)))) words e = subst (λ (x : Shape). HasCommand x.name (rows_after x.rules [] words)) (sym is)
-    (inr (inr (inr (refl, bench_has words (subst (λ (x : Shape). level_fault x [] nothing_held words false [] ≡ []) is e)))))
-leaf_has s (inr (inr (inr (inr none)))) words e = absurd none
+    (inr (inr (inr (inl (refl, pair_has (codes "model") words (subst (λ (x : Shape). level_fault x [] nothing_held words false [] ≡ []) is e))))))
+leaf_has s (inr (inr (inr (inr (inl is))))) words e = subst (λ (x : Shape). HasCommand x.name (rows_after x.rules [] words)) (sym is)
+    (inr (inr (inr (inr (refl, bench_has words (subst (λ (x : Shape). level_fault x [] nothing_held words false [] ≡ []) is e))))))
+leaf_has s (inr (inr (inr (inr (inr none))))) words e = absurd none
 
 -- a command was entered, since one is required
 wants_command : (rows : List Row) → check_fault (built command_set).top rows false ≡ [] → ⊥

@@ -3,10 +3,11 @@ use Rattle.std.proofs.Common.{◌≡◌, ◌∙◌, ap, sym, refl, ℕ, Bool, tr
 use Rattle.std.specs.Prelude.{if◌then◌else◌, unwrap_or}
 use Rattle.std.specs.Str.{bytes_eq}
 use Rattle.clap.specs.Words.{Row, Text, first_of}
-use Rattle.command_words.specs.Calls.{number_of, flag_of, GivesProve, GivesBench, GivesPair, GivesCall, MatchesGive}
+use Rattle.command_words.specs.Calls.{number_of, flag_of, GivesProve, GivesRefute, GivesBench, GivesPair, GivesCall, MatchesGive}
 use Rattle.command_words.specs.declared.call.Call.{Call}
-use Rattle.command_words.specs.declared.call.Call.TheVariants.{Prove, Check, Model, Bench}
+use Rattle.command_words.specs.declared.call.Call.TheVariants.{Prove, Check, Refute, Model, Bench}
 use Rattle.command_words.specs.declared.call.ProveCall.{ProveCall}
+use Rattle.command_words.specs.declared.call.RefuteCall.{RefuteCall}
 use Rattle.command_words.specs.declared.call.BenchCall.{BenchCall}
 use Rattle.command_words.specs.declared.call.PairCall.{PairCall}
 
@@ -55,6 +56,13 @@ prove_is rows p g = rw (
   is_unflagged (codes "no-models") rows p.models g.models,
 ) refl
 
+refute_from : List Row → RefuteCall
+refute_from rows = record { file = text_at (codes "file") rows; workers = number_at (codes "workers") rows; seed = number_at (codes "seed") rows }
+
+refute_is : (rows : List Row) (r : RefuteCall) → GivesRefute rows r → refute_from rows ≡ r
+unfolding refute_from
+refute_is rows r g = rw (is_text (codes "file") rows r.file g.file, is_number (codes "workers") rows r.workers g.workers, is_number (codes "seed") rows r.seed g.seed) refl
+
 bench_from : List Row → BenchCall
 bench_from rows = record { size = number_at (codes "size") rows; workers = number_at (codes "workers") rows }
 
@@ -72,7 +80,8 @@ pair_is rows p g = rw (is_text (codes "statement") rows p.statement g.statement,
 call_from : Text → List Row → Call
 call_from name rows = if bytes_eq name (codes "prove") then Prove (prove_from rows)
     else (if bytes_eq name (codes "check") then Check (pair_from rows)
-    else (if bytes_eq name (codes "model") then Model (pair_from rows) else Bench (bench_from rows)))
+    else (if bytes_eq name (codes "refute") then Refute (refute_from rows)
+    else (if bytes_eq name (codes "model") then Model (pair_from rows) else Bench (bench_from rows))))
 
 named : (name other : Text) (rows : List Row) (call : Call) → name ≡ other → call_from other rows ≡ call → call_from name rows ≡ call
 named name other rows call e f = ap (λ t. call_from t rows) e ∙ f
@@ -81,6 +90,7 @@ call_is : (name : Text) (rows : List Row) (call : Call) → GivesCall name rows 
 unfolding call_from
 call_is name rows (Prove p) g = named name (codes "prove") rows (Prove p) g.0 (ap (λ x. Prove x) (prove_is rows p g.1))
 call_is name rows (Check p) g = named name (codes "check") rows (Check p) g.0 (ap (λ x. Check x) (pair_is rows p g.1))
+call_is name rows (Refute r) g = named name (codes "refute") rows (Refute r) g.0 (ap (λ x. Refute x) (refute_is rows r g.1))
 call_is name rows (Model p) g = named name (codes "model") rows (Model p) g.0 (ap (λ x. Model x) (pair_is rows p g.1))
 call_is name rows (Bench b) g = named name (codes "bench") rows (Bench b) g.0 (ap (λ x. Bench x) (bench_is rows b g.1))
 

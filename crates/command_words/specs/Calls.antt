@@ -5,8 +5,9 @@ use Rattle.std.specs.Str.Parse.{digits_value, without_leading_plus}
 use Rattle.clap.specs.Words.{Row, Text, first_of, one_of}
 use Rattle.command_words.specs.Accepted.{Given, given_words, IsFileWord, Span, AreOptions, option_of, number_or, is_flag}
 use Rattle.command_words.specs.declared.call.Call.{Call}
-use Rattle.command_words.specs.declared.call.Call.TheVariants.{Prove, Check, Model, Bench}
+use Rattle.command_words.specs.declared.call.Call.TheVariants.{Prove, Check, Refute, Model, Bench}
 use Rattle.command_words.specs.declared.call.ProveCall.{ProveCall}
+use Rattle.command_words.specs.declared.call.RefuteCall.{RefuteCall}
 use Rattle.command_words.specs.declared.call.BenchCall.{BenchCall}
 use Rattle.command_words.specs.declared.call.PairCall.{PairCall}
 
@@ -28,6 +29,11 @@ pub record GivesProve (rows : List Row) (p : ProveCall) : Type 0 where
   pub format : number_of (codes "format") rows ≡ Some p.format
   pub models : flag_of (codes "no-models") rows ≡ Some (not p.models)
 
+pub record GivesRefute (rows : List Row) (r : RefuteCall) : Type 0 where
+  pub file : first_of (codes "file") rows ≡ Some r.file
+  pub workers : number_of (codes "workers") rows ≡ Some r.workers
+  pub seed : number_of (codes "seed") rows ≡ Some r.seed
+
 pub record GivesBench (rows : List Row) (b : BenchCall) : Type 0 where
   pub size : number_of (codes "size") rows ≡ Some b.size
   pub workers : number_of (codes "workers") rows ≡ Some b.workers
@@ -40,6 +46,7 @@ pub record GivesPair (rows : List Row) (p : PairCall) : Type 0 where
 abbrev pub GivesCall : Text → List Row → Call → Type 0
 GivesCall name rows (Prove p) = (name ≡ codes "prove") × GivesProve rows p
 GivesCall name rows (Check p) = (name ≡ codes "check") × GivesPair rows p
+GivesCall name rows (Refute r) = (name ≡ codes "refute") × GivesRefute rows r
 GivesCall name rows (Model p) = (name ≡ codes "model") × GivesPair rows p
 GivesCall name rows (Bench b) = (name ≡ codes "bench") × GivesBench rows b
 
@@ -54,6 +61,7 @@ IsWithin least most n = (least ≤ n) × (n ≤ most)
 
 abbrev pub IsInRange : Call → Type 0
 IsInRange (Prove p) = IsWithin 1 1000000 p.pairs × IsWithin 1 1000000 p.steps × IsWithin 1 64 p.workers × IsWithin 0 18446744073709551615 p.seed × IsWithin 1 2 p.format
+IsInRange (Refute r) = IsWithin 1 64 r.workers × IsWithin 0 18446744073709551615 r.seed
 IsInRange (Bench b) = IsWithin 1 60 b.size × IsWithin 1 64 b.workers
 IsInRange (Check p) = ⊤
 IsInRange (Model p) = ⊤
@@ -66,6 +74,10 @@ prove_spans = record { id = codes "pairs"; least = 1; most = 1000000 }
     ∷ record { id = codes "workers"; least = 1; most = 64 }
     ∷ record { id = codes "seed"; least = 0; most = 18446744073709551615 }
     ∷ record { id = codes "format"; least = 1; most = 2 } ∷ []
+
+abbrev pub refute_spans : List Span
+refute_spans = record { id = codes "workers"; least = 1; most = 64 }
+    ∷ record { id = codes "seed"; least = 0; most = 18446744073709551615 } ∷ []
 
 abbrev pub bench_spans : List Span
 bench_spans = record { id = codes "workers"; least = 1; most = 64 } ∷ []
@@ -82,6 +94,14 @@ pub record NamesProve (words : List Text) (p : ProveCall) : Type 0 where
   pub seed : p.seed ≡ number_or 1 (option_of (codes "seed") given)
   pub format : p.format ≡ number_or 2 (option_of (codes "format") given)
   pub models : p.models ≡ not (is_flag (option_of (codes "no-models") given))
+
+pub record NamesRefute (words : List Text) (r : RefuteCall) : Type 0 where
+  pub given : List Given
+  pub words_are : words ≡ codes "refute" ∷ r.file ∷ flat_map given_words given
+  pub file : IsFileWord r.file
+  pub options : AreOptions refute_spans [] given
+  pub workers : r.workers ≡ number_or 4 (option_of (codes "workers") given)
+  pub seed : r.seed ≡ number_or 1 (option_of (codes "seed") given)
 
 pub record NamesBench (words : List Text) (b : BenchCall) : Type 0 where
   pub given : List Given
@@ -100,6 +120,7 @@ pub record NamesPair (name : Text) (words : List Text) (p : PairCall) : Type 0 w
 abbrev pub Names : List Text → Call → Type 0
 Names words (Prove p) = NamesProve words p
 Names words (Check p) = NamesPair (codes "check") words p
+Names words (Refute r) = NamesRefute words r
 Names words (Model p) = NamesPair (codes "model") words p
 Names words (Bench b) = NamesBench words b
 
@@ -124,5 +145,6 @@ pair_files p = record { name = p.statement; limit = statement_limit } ∷ record
 abbrev pub files_of : Call → List FileWord
 files_of (Prove p) = record { name = p.file; limit = statement_limit } ∷ []
 files_of (Check p) = pair_files p
+files_of (Refute r) = record { name = r.file; limit = statement_limit } ∷ []
 files_of (Model p) = pair_files p
 files_of (Bench b) = []

@@ -41,6 +41,9 @@ prove_command = with_rule (with_rule (with_rule (with_rule (with_rule (with_rule
     (number_option (codes "format") 1 2 (codes "2")))
     (flag_option (codes "no-models"))
 
+abbrev pub refute_command : App
+refute_command = with_rule (with_rule (with_rule (new_app (codes "refute")) (required_word (codes "file"))) workers_option) seed_option
+
 abbrev pub bench_command : App
 bench_command = with_rule (with_rule (new_app (codes "bench")) (required_number (codes "size") 1 60)) workers_option
 
@@ -55,9 +58,10 @@ bare_command =
     record a { top = record a.top { no_binary_name = true; disable_help_flag = true; disable_help_subcommand = true; subcommand_required = true } }
 
 unfoldable pub command_set : App
-command_set = with_subcommand (with_subcommand (with_subcommand (with_subcommand bare_command
+command_set = with_subcommand (with_subcommand (with_subcommand (with_subcommand (with_subcommand bare_command
     prove_command.top)
     (pair_command (codes "check")).top)
+    refute_command.top)
     (pair_command (codes "model")).top)
     bench_command.top
 

@@ -22,6 +22,11 @@ pub record HasProve (rows : List Row) : Type 0 where
   pub format : HasNumber (codes "format") 1 2 rows
   pub models : HasFlag (codes "no-models") rows
 
+pub record HasRefute (rows : List Row) : Type 0 where
+  pub file : HasText (codes "file") rows
+  pub workers : HasNumber (codes "workers") 1 64 rows
+  pub seed : HasNumber (codes "seed") 0 18446744073709551615 rows
+
 pub record HasBench (rows : List Row) : Type 0 where
   pub size : HasNumber (codes "size") 1 60 rows
   pub workers : HasNumber (codes "workers") 1 64 rows
@@ -32,7 +37,7 @@ pub record HasPair (rows : List Row) : Type 0 where
 
 abbrev pub HasCommand : Text → List Row → Type 0
 HasCommand name rows = ((name ≡ codes "prove") × HasProve rows) ⊎ ((name ≡ codes "check") × HasPair rows)
-    ⊎ ((name ≡ codes "model") × HasPair rows) ⊎ ((name ≡ codes "bench") × HasBench rows)
+    ⊎ ((name ≡ codes "refute") × HasRefute rows) ⊎ ((name ≡ codes "model") × HasPair rows) ⊎ ((name ≡ codes "bench") × HasBench rows)
 
 abbrev pub MatchesHave : Option (Text × List Row) → Type 0
 MatchesHave None = ⊥

@@ -20,6 +20,17 @@ pub struct ProveCall {
     pub models: bool,
 }
 
+/// `refute FILE` with its options.
+#[derive(Drop)]
+pub struct RefuteCall {
+    /// The statement file.
+    pub file: Text,
+    /// The number of threads, from 1 to 64.
+    pub workers: u64,
+    /// The seed of the search for models.
+    pub seed: u64,
+}
+
 /// `bench N` with its option.
 #[derive(Drop)]
 pub struct BenchCall {
@@ -45,6 +56,8 @@ pub enum Call {
     Prove(ProveCall),
     /// Checks certificates.
     Check(PairCall),
+    /// Searches models that refute the claims of a statement.
+    Refute(RefuteCall),
     /// Confirms models.
     Model(PairCall),
     /// Decides the claims of a statement that the program makes.

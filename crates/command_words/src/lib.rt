@@ -5,5 +5,5 @@ mod call;
 mod read;
 mod set;
 
-pub use call::{BenchCall, Call, PairCall, ProveCall};
+pub use call::{BenchCall, Call, PairCall, ProveCall, RefuteCall};
 pub use read::{Refusal, read_words};

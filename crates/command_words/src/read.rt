@@ -2,10 +2,10 @@
 ghost use Rattle.std.specs.Prelude.{◌≡◌, IfOk, IsErrOf, List, MatchResult, Some, map, string_bytes, ℕ};
 ghost use Rattle.clap.specs.Words.{subcommand_of, subcommand_rows_of, kind_of, rows_of, found_of, first_of};
 ghost use Rattle.command_words.specs.CommandSet.{command_set, IsTaken};
-ghost use Rattle.command_words.specs.Calls.{number_of, flag_of, GivesProve, GivesBench, GivesPair, GivesCall, MatchesGive, Names, IsInRange};
-ghost use Rattle.command_words.specs.Present.{HasText, HasNumber, HasFlag, HasProve, HasBench, HasPair, HasCommand, MatchesHave};
+ghost use Rattle.command_words.specs.Calls.{number_of, flag_of, GivesProve, GivesRefute, GivesBench, GivesPair, GivesCall, MatchesGive, Names, IsInRange};
+ghost use Rattle.command_words.specs.Present.{HasText, HasNumber, HasFlag, HasProve, HasRefute, HasBench, HasPair, HasCommand, MatchesHave};
 
-use crate::call::{BenchCall, Call, PairCall, ProveCall};
+use crate::call::{BenchCall, Call, PairCall, ProveCall, RefuteCall};
 use crate::set::command_set;
 use clap::error::ErrorKind;
 use clap::{ArgMatches, Error};
@@ -49,6 +49,17 @@ fn prove_of(alloc: Global, matches: &ArgMatches) -> Result<ProveCall, AllocError
     })
 }
 
+fn refute_of(alloc: Global, matches: &ArgMatches) -> Result<RefuteCall, AllocError>
+    requires { HasRefute (rows_of (found_of matches.now)) }
+    ensures { IfOk result (λ call. GivesRefute (rows_of (found_of matches.now)) call) }
+{
+    Ok(RefuteCall {
+        file: text_of(alloc, matches, "file")?,
+        workers: number_of(matches, "workers"),
+        seed: number_of(matches, "seed"),
+    })
+}
+
 fn bench_of(matches: &ArgMatches) -> BenchCall
     requires { HasBench (rows_of (found_of matches.now)) }
     ensures { GivesBench (rows_of (found_of matches.now)) result }
@@ -76,6 +87,7 @@ fn call_of(alloc: Global, name: &str, matches: &ArgMatches) -> Result<Call, Allo
     match name {
         "prove" => Ok(Call::Prove(prove_of(alloc, matches)?)),
         "check" => Ok(Call::Check(pair_of(alloc, matches)?)),
+        "refute" => Ok(Call::Refute(refute_of(alloc, matches)?)),
         "model" => Ok(Call::Model(pair_of(alloc, matches)?)),
         _ => Ok(Call::Bench(bench_of(matches))),
     }

@@ -2,7 +2,7 @@
 ghost use Rattle.std.specs.Prelude.{◌≡◌, IfOk, false};
 ghost use Rattle.clap.specs.Words.{app_of, rule_of, with_rule, with_subcommand};
 ghost use Rattle.clap.specs.declared.builder.command.Command.TheViews.{out-Command as fields_of};
-ghost use Rattle.command_words.specs.CommandSet.{command_set, bare_command, prove_command, bench_command, pair_command, required_word, required_number, number_option, workers_option, seed_option, flag_option};
+ghost use Rattle.command_words.specs.CommandSet.{command_set, bare_command, prove_command, refute_command, bench_command, pair_command, required_word, required_number, number_option, workers_option, seed_option, flag_option};
 
 use clap::builder::ValueParser;
 use clap::{Arg, ArgAction, Command};
@@ -77,6 +77,15 @@ fn prove_command<'a>(alloc: Global) -> Result<Command<'a>, AllocError>
     with_arg(command, flag_option(alloc, "no-models"))
 }
 
+fn refute_command<'a>(alloc: Global) -> Result<Command<'a>, AllocError>
+    ensures app { IfOk result (λ c. app_of c ≡ refute_command) }
+    ensures local { IfOk result (λ c. (fields_of c).has_globals ≡ false) }
+{
+    let command = with_arg(Command::new(alloc, "refute"), required_word(alloc, "file"))?;
+    let command = with_arg(command, workers_option(alloc))?;
+    with_arg(command, seed_option(alloc))
+}
+
 fn bench_command<'a>(alloc: Global) -> Result<Command<'a>, AllocError>
     ensures app { IfOk result (λ c. app_of c ≡ bench_command) }
     ensures local { IfOk result (λ c. (fields_of c).has_globals ≡ false) }
@@ -122,6 +131,7 @@ pub fn command_set<'a>(alloc: Global) -> Result<Command<'a>, AllocError>
 {
     let set = with_command(bare_command(alloc), prove_command(alloc)?)?;
     let set = with_command(set, pair_command(alloc, "check")?)?;
+    let set = with_command(set, refute_command(alloc)?)?;
     let set = with_command(set, pair_command(alloc, "model")?)?;
     with_command(set, bench_command(alloc)?)
 }

@@ -6,7 +6,7 @@ use Rattle.representations.specs.Evidence.{IsEvidenceSound}
 use Rattle.report_text.specs.Report.{report_of, heads_of}
 use Rattle.report_text.specs.Bench.{bench_statement}
 use Rattle.command_words.specs.declared.call.Call.{Call}
-use Rattle.command_words.specs.declared.call.Call.TheVariants.{Prove, Check, Model, Bench}
+use Rattle.command_words.specs.declared.call.Call.TheVariants.{Prove, Check, Refute, Model, Bench}
 use Rattle.opprove.specs.Ending.{Ending}
 use Rattle.opprove.specs.Answers.{Answers}
 use Rattle.opprove.specs.Decide.{asked_by, asked_by_bench}
@@ -15,7 +15,9 @@ use Rattle.opprove.proofs.Statements.{JudgedStatus, zero, three, seven}
 use Rattle.opprove.proofs.Checking.{check_once, check_status}
 use Rattle.opprove.proofs.Confirming.{model_once, model_status, says_confirmed}
 use Rattle.opprove.proofs.Meaning.{says_checked}
-use Rattle.opprove.proofs.Deciding.{decided_once, DecidedStatus, refused, proved, not_derivable, broken, undecided, not_broken, decided_status, says_decided}
+use Rattle.opprove.proofs.Verdicts.{DecidedStatus, refused, proved, not_derivable, broken, undecided, not_broken}
+use Rattle.opprove.proofs.Deciding.{decided_once, decided_status, says_decided}
+use Rattle.opprove.proofs.Searching.{refute_once, refute_status, says_searched}
 
 -- no status that the run gives by itself
 pub record IsOwn (status : ℕ) : Type 0 where
@@ -45,6 +47,9 @@ answers_once (Check p) [] ending ending' one other = absurd one
 answers_once (Check p) (statement ∷ []) ending ending' one other = absurd one
 answers_once (Check p) (statement ∷ evidence ∷ []) ending ending' one other = check_once statement evidence ending ending' one other
 answers_once (Check p) (statement ∷ evidence ∷ third ∷ more) ending ending' one other = absurd one
+answers_once (Refute p) [] ending ending' one other = absurd one
+answers_once (Refute p) (statement ∷ []) ending ending' one other = refute_once p.seed statement ending ending' one other
+answers_once (Refute p) (statement ∷ second ∷ more) ending ending' one other = absurd one
 answers_once (Model p) [] ending ending' one other = absurd one
 answers_once (Model p) (statement ∷ []) ending ending' one other = absurd one
 answers_once (Model p) (statement ∷ models ∷ []) ending ending' one other = model_once statement models ending ending' one other
@@ -60,6 +65,9 @@ answer_status (Check p) [] ending answer = absurd answer
 answer_status (Check p) (statement ∷ []) ending answer = absurd answer
 answer_status (Check p) (statement ∷ evidence ∷ []) ending answer = own_judged (check_status statement evidence ending answer)
 answer_status (Check p) (statement ∷ evidence ∷ third ∷ more) ending answer = absurd answer
+answer_status (Refute p) [] ending answer = absurd answer
+answer_status (Refute p) (statement ∷ []) ending answer = own_decided (refute_status p.seed statement ending answer)
+answer_status (Refute p) (statement ∷ second ∷ more) ending answer = absurd answer
 answer_status (Model p) [] ending answer = absurd answer
 answer_status (Model p) (statement ∷ []) ending answer = absurd answer
 answer_status (Model p) (statement ∷ models ∷ []) ending answer = own_judged (model_status statement models ending answer)
@@ -76,6 +84,9 @@ answers_say laws sound with_lemmas (Check p) [] ending answer = absurd answer
 answers_say laws sound with_lemmas (Check p) (statement ∷ []) ending answer = absurd answer
 answers_say laws sound with_lemmas (Check p) (statement ∷ evidence ∷ []) ending answer = says_checked laws sound with_lemmas statement evidence ending answer
 answers_say laws sound with_lemmas (Check p) (statement ∷ evidence ∷ third ∷ more) ending answer = absurd answer
+answers_say laws sound with_lemmas (Refute p) [] ending answer = absurd answer
+answers_say {s} laws sound with_lemmas (Refute p) (statement ∷ []) ending answer = says_searched s p.seed statement ending answer
+answers_say laws sound with_lemmas (Refute p) (statement ∷ second ∷ more) ending answer = absurd answer
 answers_say laws sound with_lemmas (Model p) [] ending answer = absurd answer
 answers_say laws sound with_lemmas (Model p) (statement ∷ []) ending answer = absurd answer
 answers_say laws sound with_lemmas (Model p) (statement ∷ models ∷ []) ending answer = says_confirmed statement models ending answer

@@ -5,7 +5,7 @@ use Rattle.std.proofs.lemmas.List.{length-map}
 use Rattle.definitions.specs.Category.{Structure, PreadditiveLaws}
 use Rattle.definitions.specs.Soundness.{IsSound}
 use Rattle.nc_polynomial.specs.declared.poly.Poly.{Poly}
-use Rattle.cofactor_trace.specs.declared.evidence.Format.{Format}
+use Rattle.cofactor_trace.specs.declared.halt.Halt.{Halt}
 use Rattle.cofactor_checker.specs.Rows.{IsNumberUpTo}
 use Rattle.adjoint_rules.specs.declared.problem.Problem.{Problem}
 use Rattle.adjoint_rules.specs.Problem.{polynomials}
@@ -13,38 +13,42 @@ use Rattle.traced_completion.specs.declared.budget.Budget.{Budget}
 use Rattle.traced_completion.specs.PlainRun.{setting_of}
 use Rattle.claim_decider.specs.declared.outcome.Outcome.{Outcome}
 use Rattle.claim_decider.specs.declared.outcome.Outcome.TheVariants as outcome
+use Rattle.claim_decider.specs.Outcomes.{IsOutcomeOf}
 use Rattle.claim_decider.specs.Decided.{claim_at, claim_numbers, AreOutcomesOf, AreLastRules}
 use Rattle.claim_decider.proofs.UniqueOutcomes.{outcomes_unique}
 use Rattle.claim_decider.proofs.UniqueRules.{last_rules_unique}
 use Rattle.representations.specs.Evidence.{IsEvidenceSound}
-use Rattle.outcome_meanings.specs.Meanings.{OutcomeMeans}
+use Rattle.outcome_meanings.specs.Meanings.{OutcomeMeans, HaltMeans}
 use Rattle.outcome_meanings.proofs.AskedOrders.{asked_rank, asked_cmp-admissible}
 use Rattle.outcome_meanings.proofs.Meanings.{outcomes_mean_what_they_say}
-use Rattle.report_text.specs.Report.{status_of, is_proved, is_refuted, is_undecided, is_not_refuted}
+use Rattle.report_text.specs.declared.verdict.Verdict.{Verdict}
+use Rattle.report_text.specs.Report.{status_of}
 use Rattle.opprove.specs.Ending.{Ending}
 use Rattle.opprove.specs.Statement.{OverStatement}
 use Rattle.opprove.specs.Statement as statements
 use Rattle.opprove.specs.declared.decide.Asked.{Asked}
-use Rattle.opprove.specs.Decide.{Print, verdict_of, AnswersClaims}
+use Rattle.opprove.specs.Decide.{Print, IsVerdictOn, AreVerdictsOn, AnswersClaims}
 use Rattle.opprove.specs.Headline.{VerdictMeans, PrintsMeant, SaysDecided}
 use Rattle.opprove.proofs.Statements.{statement_once}
 use Rattle.opprove.proofs.Stops.{over_statement}
 use Rattle.opprove.proofs.Meaning.{proved_means}
+use Rattle.opprove.proofs.Verdicts.{DecidedStatus, refused, verdicts_status}
+use Rattle.opprove.proofs.Zips.{zip_once}
+use Rattle.opprove.proofs.Searching.{least_means}
+use Rattle.opprove.proofs.Outcomes.{OnHalted, broken, left, OnOutcome, by_outcome, verdicts_once, verdicts_follow}
 
 -- ---- one ending
 
 module _ (problem : Problem) (asked : Asked) where
-  zip_once : (ns : List ℕ) (one other : List Outcome) → AreOutcomesOf (setting_of problem asked.budget) asked.form problem ns one → AreOutcomesOf (setting_of problem asked.budget) asked.form problem ns other → one ≡ other
-  zip_once [] [] [] first second = refl
-  zip_once [] [] (o ∷ os) first second = absurd second
-  zip_once [] (o ∷ os) other first second = absurd first
-  zip_once (n ∷ ns) [] other first second = absurd first
-  zip_once (n ∷ ns) (o ∷ os) [] first second = absurd second
-  zip_once (n ∷ ns) (o ∷ os) (o' ∷ os') first second =
+  outcome_once : (n : ℕ) (o o' : Outcome) → IsOutcomeOf (setting_of problem asked.budget) asked.form n (claim_at problem n) o → IsOutcomeOf (setting_of problem asked.budget) asked.form n (claim_at problem n) o' → o ≡ o'
+  outcome_once n o o' one other =
       let order = problem.parts.order in
-      let here : o ≡ o' = outcomes_unique 0 (asked_rank 0 order) (setting_of problem asked.budget) asked.form n (claim_at problem n) o o' (asked_cmp-admissible 0 order) first.0 second.0 in
-      let rest : os ≡ os' = zip_once ns os os' first.1 second.1 in
-      λ i. here i ∷ rest i
+      outcomes_unique 0 (asked_rank 0 order) (setting_of problem asked.budget) asked.form n (claim_at problem n) o o' (asked_cmp-admissible 0 order) one other
+
+  outcomes_once : (one other : List Outcome) → AreOutcomesOf (setting_of problem asked.budget) asked.form problem (claim_numbers problem) one
+      → AreOutcomesOf (setting_of problem asked.budget) asked.form problem (claim_numbers problem) other → one ≡ other
+  outcomes_once one other first second =
+      zip_once (λ n o. IsOutcomeOf (setting_of problem asked.budget) asked.form n (claim_at problem n) o) outcome_once (claim_numbers problem) one other first second
 
   rules_once : (one other : List Poly) → AreLastRules (setting_of problem asked.budget) asked.form problem (claim_numbers problem) one
       → AreLastRules (setting_of problem asked.budget) asked.form problem (claim_numbers problem) other → one ≡ other
@@ -54,8 +58,10 @@ module _ (problem : Problem) (asked : Asked) where
 
 claims_once : (print : Print) (asked : Asked) (ending ending' : Ending) (problem : Problem) → AnswersClaims print asked problem ending → AnswersClaims print asked problem ending' → ending ≡ ending'
 claims_once print asked ending ending' problem one other =
-    let outcomes : one.decides.outcomes ≡ other.decides.outcomes = zip_once problem asked (claim_numbers problem) one.decides.outcomes other.decides.outcomes one.decides.are_outcomes other.decides.are_outcomes in
-    let verdicts : one.verdicts ≡ other.verdicts = one.decides.are_verdicts ∙ ap (map verdict_of) outcomes ∙ sym other.decides.are_verdicts in
+    let outcomes : one.decides.outcomes ≡ other.decides.outcomes = outcomes_once problem asked one.decides.outcomes other.decides.outcomes one.decides.are_outcomes other.decides.are_outcomes in
+    let over : AreVerdictsOn problem asked (claim_numbers problem) one.decides.outcomes other.verdicts =
+    subst (λ (os : List Outcome). AreVerdictsOn problem asked (claim_numbers problem) os other.verdicts) (sym outcomes) other.decides.are_verdicts in
+    let verdicts : one.verdicts ≡ other.verdicts = verdicts_once problem asked (claim_numbers problem) one.decides.outcomes one.verdicts other.verdicts one.decides.are_verdicts over in
     let rules : one.rules ≡ other.rules = rules_once problem asked one.rules other.rules one.decides.are_rules other.decides.are_rules in
     one.says ∙ (λ i. record { status = status_of (verdicts i); report = print problem.parts.quiver (rules i) (verdicts i) }) ∙ sym other.says
 
@@ -65,48 +71,44 @@ decided_once print asked statement ending ending' one other = statement_once sta
 
 -- ---- the status
 
--- 3 for a statement with a fault, and else one of the verdicts
-pub data DecidedStatus (status : ℕ) : Type 0 where
-  refused : status ≡ 3 → DecidedStatus status
-  proved : status ≡ 0 → DecidedStatus status
-  not_derivable : status ≡ 10 → DecidedStatus status
-  broken : status ≡ 11 → DecidedStatus status
-  undecided : status ≡ 12 → DecidedStatus status
-  not_broken : status ≡ 13 → DecidedStatus status
-
-verdicts_status : (status : ℕ) (some_undecided some_not_refuted some_refuted all_proved : Bool)
-    → status ≡ (if some_undecided then 12 else (if some_not_refuted then 13 else (if some_refuted then 11 else (if all_proved then 0 else 10)))) → DecidedStatus status
-verdicts_status status true some_not_refuted some_refuted all_proved is = undecided is
-verdicts_status status false true some_refuted all_proved is = not_broken is
-verdicts_status status false false true all_proved is = broken is
-verdicts_status status false false false true is = proved is
-verdicts_status status false false false false is = not_derivable is
-
 pub decided_status : (print : Print) (asked : Asked) (statement : List ℕ) (ending : Ending) → OverStatement statement (AnswersClaims print asked) ending → DecidedStatus ending.status
 decided_status print asked statement ending (statements.faulty text wrong ends) = refused (ap (λ (e : Ending). e.status) ends)
 decided_status print asked statement ending (statements.stated problem is answer) =
-    verdicts_status ending.status (list_any is_undecided answer.verdicts) (list_any is_not_refuted answer.verdicts) (list_any is_refuted answer.verdicts) (list_all is_proved answer.verdicts)
-    (ap (λ (e : Ending). e.status) answer.says)
+    verdicts_status ending.status answer.verdicts (ap (λ (e : Ending). e.status) answer.says)
 
 -- ---- what verdicts mean
 
 module _ {Object Arrow : Type 0} {s : Structure Object Arrow} (laws : PreadditiveLaws s) (sound : IsSound s) (with_lemmas : IsEvidenceSound s) (problem : Problem) where
-  outcome_means : (number : ℕ) (o : Outcome) → IsNumberUpTo (length problem.parts.claims) number → OutcomeMeans problem number o → VerdictMeans s problem number (verdict_of o)
-  outcome_means number (outcome.Derived e) is adds =
-      let count : length problem.parts.claims ≡ length (polynomials problem.parts.claims) = sym (length-map problem.parts.claims (λ (x : Poly). x.terms)) in
-      proved_means laws sound with_lemmas problem number e (subst (λ (n : ℕ). IsNumberUpTo n number) count is) adds
-  outcome_means number (outcome.Closed rest) is outside = outside
-  outcome_means number (outcome.Halted halt) is bounded = bounded
+  module _ (asked : Asked) where
+    halted_means : (number : ℕ) (halt : Halt) (v : Verdict) → HaltMeans problem number halt → OnHalted problem asked number halt v → VerdictMeans s problem number v
+    halted_means number halt v bounded (broken m on least is) = subst (VerdictMeans s problem number) (sym is) (least_means problem number asked.seed m least)
+    halted_means number halt v bounded (left none is) = subst (VerdictMeans s problem number) (sym is) bounded
 
-  module _ (budget : Budget) (form : Format) where
+    outcome_means : (number : ℕ) (o : Outcome) (v : Verdict) → IsNumberUpTo (length problem.parts.claims) number → OutcomeMeans problem number o → OnOutcome problem asked number o v → VerdictMeans s problem number v
+    outcome_means number (outcome.Derived e) v is adds says =
+        let count : length problem.parts.claims ≡ length (polynomials problem.parts.claims) = sym (length-map problem.parts.claims (λ (x : Poly). x.terms)) in
+        subst (VerdictMeans s problem number) (sym says) (proved_means laws sound with_lemmas problem number e (subst (λ (n : ℕ). IsNumberUpTo n number) count is) adds)
+    outcome_means number (outcome.Closed rest) v is outside says = subst (VerdictMeans s problem number) (sym says) outside
+    outcome_means number (outcome.Halted halt) v is bounded on = halted_means number halt v bounded on
+
+    -- the outcome of a claim of the problem, with its meaning
+    abbrev Meant : ℕ → Outcome → Type 0
+    Meant number o = IsNumberUpTo (length problem.parts.claims) number × OutcomeMeans problem number o
+
     -- the claims from a number on
-    verdicts_mean : (first count : ℕ) (os : List Outcome) → 1 ≤ first → first + count ≤ length problem.parts.claims + 1
-        → AreOutcomesOf (setting_of problem budget) form problem (range_with_len first count) os → AllZip (VerdictMeans s problem) (range_with_len first count) (map verdict_of os)
-    verdicts_mean first zero [] least most are = tt
-    verdicts_mean first zero (o ∷ os) least most are = absurd are
-    verdicts_mean first (suc count) [] least most are = absurd are
-    verdicts_mean first (suc count) (o ∷ os) least most are =
-        (outcome_means first o (record { least = least; most = omega arith }) (outcomes_mean_what_they_say problem budget form first o are.0), verdicts_mean (first + 1) count os (omega arith) (omega arith) are.1)
+    outcomes_meant : (first count : ℕ) (os : List Outcome) → 1 ≤ first → first + count ≤ length problem.parts.claims + 1
+        → AreOutcomesOf (setting_of problem asked.budget) asked.form problem (range_with_len first count) os → AllZip Meant (range_with_len first count) os
+    outcomes_meant first zero [] least most are = tt
+    outcomes_meant first zero (o ∷ os) least most are = absurd are
+    outcomes_meant first (suc count) [] least most are = absurd are
+    outcomes_meant first (suc count) (o ∷ os) least most are =
+        ((record { least = least; most = omega arith }, outcomes_mean_what_they_say problem asked.budget asked.form first o are.0), outcomes_meant (first + 1) count os (omega arith) (omega arith) are.1)
+
+    verdicts_mean : (os : List Outcome) (vs : List Verdict) → AreOutcomesOf (setting_of problem asked.budget) asked.form problem (claim_numbers problem) os
+        → AreVerdictsOn problem asked (claim_numbers problem) os vs → AllZip (VerdictMeans s problem) (claim_numbers problem) vs
+    verdicts_mean os vs outcomes verdicts =
+        verdicts_follow problem asked Meant (VerdictMeans s problem) (λ number o v meant is. outcome_means number o v meant.0 meant.1 (by_outcome problem asked number o v is)) (claim_numbers problem) os vs
+        (outcomes_meant 1 (length problem.parts.claims) os (omega arith) (omega arith) outcomes) verdicts
 
 prints_meant : {Object Arrow : Type 0} {s : Structure Object Arrow} → PreadditiveLaws s → IsSound s → IsEvidenceSound s → (print : Print) (asked : Asked) (ending : Ending) (problem : Problem)
     → AnswersClaims print asked problem ending → PrintsMeant s print problem ending
@@ -115,8 +117,7 @@ prints_meant {s} laws sound with_lemmas print asked ending problem answer = reco
   rules = answer.rules;
   printed = ap (λ (e : Ending). e.report) answer.says;
   status = ap (λ (e : Ending). e.status) answer.says;
-  each = subst (AllZip (VerdictMeans s problem) (claim_numbers problem)) (sym answer.decides.are_verdicts)
-      (verdicts_mean laws sound with_lemmas problem asked.budget asked.form 1 (length problem.parts.claims) answer.decides.outcomes (omega arith) (omega arith) answer.decides.are_outcomes);
+  each = verdicts_mean laws sound with_lemmas problem asked answer.decides.outcomes answer.verdicts answer.decides.are_outcomes answer.decides.are_verdicts;
 }
 
 pub says_decided : {Object Arrow : Type 0} {s : Structure Object Arrow} → PreadditiveLaws s → IsSound s → IsEvidenceSound s → (print : Print) (asked : Asked) (statement : List ℕ) (ending : Ending)

@@ -11,6 +11,10 @@ pub mod Statements
 pub mod Checking
 pub mod Confirming
 pub mod Meaning
+pub mod Verdicts
+pub mod Zips
+pub mod Searching
+pub mod Outcomes
 pub mod Deciding
 pub mod Writing
 pub mod BenchSize

@@ -1,11 +1,12 @@
 -- What each command answers, from the contents of its files.
 use Rattle.std.specs.Prelude.{ℕ, List, [], ◌∷◌}
 use Rattle.command_words.specs.declared.call.Call.{Call}
-use Rattle.command_words.specs.declared.call.Call.TheVariants.{Prove, Check, Model, Bench}
+use Rattle.command_words.specs.declared.call.Call.TheVariants.{Prove, Check, Refute, Model, Bench}
 use Rattle.opprove.specs.Ending.{Ending}
 use Rattle.opprove.specs.Check.{AnswersCheck}
 use Rattle.opprove.specs.Confirm.{AnswersModel}
 use Rattle.opprove.specs.Decide.{AnswersProve, AnswersBench}
+use Rattle.opprove.specs.Refute.{AnswersRefute}
 
 -- one line a command; a call has no answer over more or fewer contents than it has files
 abbrev pub Answers : Call → List (List ℕ) → Ending → Type 0
@@ -13,6 +14,8 @@ Answers (Prove p) (statement ∷ []) ending = AnswersProve p statement ending
 Answers (Prove p) _ ending = ⊥
 Answers (Check p) (statement ∷ evidence ∷ []) ending = AnswersCheck statement evidence ending
 Answers (Check p) _ ending = ⊥
+Answers (Refute p) (statement ∷ []) ending = AnswersRefute p statement ending
+Answers (Refute p) _ ending = ⊥
 Answers (Model p) (statement ∷ models ∷ []) ending = AnswersModel statement models ending
 Answers (Model p) _ ending = ⊥
 Answers (Bench b) [] ending = AnswersBench b ending

@@ -6,7 +6,7 @@ use Rattle.command_words.specs.CommandSet.{command_set}
 use Rattle.command_words.specs.CommandSet as set
 use Rattle.command_words.specs.Calls.{MatchesGive}
 use Rattle.command_words.specs.declared.call.Call.{Call}
-use Rattle.command_words.specs.declared.call.Call.TheVariants.{Prove, Check, Model, Bench}
+use Rattle.command_words.specs.declared.call.Call.TheVariants.{Prove, Check, Refute, Model, Bench}
 use Rattle.command_words.specs.declared.call.PairCall.{PairCall}
 use Rattle.opprove.specs.declared.call.FileWord.{FileWord}
 
@@ -37,5 +37,6 @@ pair_files p = file_word p.statement statement_limit ∷ file_word p.evidence ev
 abbrev pub files_of : Call → List FileWord
 files_of (Prove p) = file_word p.file statement_limit ∷ []
 files_of (Check p) = pair_files p
+files_of (Refute p) = file_word p.file statement_limit ∷ []
 files_of (Model p) = pair_files p
 files_of (Bench b) = []

@@ -99,7 +99,7 @@ pub record SaysConfirmed (statement models report : List ℕ) : Type 0 where
   pub each : (problem : Problem) (first others : List Model) (rest : List ℕ)
       → IsStated statement problem → IsModels problem.parts.quiver models (first ++ others) → report ≡ confirmed_lines 1 first ++ rest → AllByRecursion (ConfirmedMeans problem) first
 
--- ---- `prove` and `bench`
+-- ---- `prove`, `bench` and `refute`
 
 -- What is said of the claim with this number: proved, with its denominator, means so in each category; not derivable means that no
 -- positive multiple of the claim is a combination of the generators; refuted means that the claim isn't zero in the model; undecided
@@ -131,6 +131,8 @@ Says s (call.Prove p) (statement ∷ []) ending = SaysDecided s report_of statem
 Says s (call.Prove p) _ ending = ⊥
 Says s (call.Bench b) [] ending = SaysDecided s heads_of (bench_statement b.size) ending
 Says s (call.Bench b) _ ending = ⊥
+Says s (call.Refute p) (statement ∷ []) ending = SaysDecided s report_of statement ending
+Says s (call.Refute p) _ ending = ⊥
 Says s (call.Check p) (statement ∷ evidence ∷ []) ending = SaysChecked s statement evidence ending.report
 Says s (call.Check p) _ ending = ⊥
 Says s (call.Model p) (statement ∷ models ∷ []) ending = SaysConfirmed statement models ending.report

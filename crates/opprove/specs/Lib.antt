@@ -9,6 +9,7 @@ pub mod Check
 pub mod Confirm
 pub mod Judged
 pub mod Decide
+pub mod Refute
 pub mod Answers
 pub mod Ends
 pub mod Put

@@ -10,6 +10,7 @@ use crate::check::check_texts;
 use crate::confirm::confirm_texts;
 use crate::decide::{bench, prove};
 use crate::ending::Ending;
+use crate::refute::refute;
 use crate::stop::Stop;
 use command_words::Call;
 use in_order_parallel::Gate;
@@ -34,6 +35,7 @@ pub fn answer<R: Threads + Sync, G: Gate + Sync>(
         (Call::Check(_), [statement, evidence]) => {
             check_texts(alloc, statement.as_slice(), evidence.as_slice())
         }
+        (Call::Refute(call), [statement]) => refute(rt, alloc, call, statement.as_slice(), gate),
         (Call::Model(_), [statement, models]) => {
             confirm_texts(alloc, statement.as_slice(), models.as_slice())
         }

@@ -24,6 +24,7 @@ pub fn call_files(alloc: Global, call: &Call) -> Result<Listing<FileWord>, Alloc
     let mut files = Listing::new(alloc);
     match call {
         Call::Prove(prove) => files.push(file_word(&prove.file, STATEMENT_LIMIT)?)?,
+        Call::Refute(refute) => files.push(file_word(&refute.file, STATEMENT_LIMIT)?)?,
         Call::Check(pair) | Call::Model(pair) => return pair_files(alloc, pair),
         Call::Bench(_) => {}
     }

@@ -1,11 +1,15 @@
 // What `prove` and `bench` answer.
-ghost use Rattle.std.specs.Prelude.{◌≡◌, ◌<◌, ◌≤◌, IfOk, length, map};
+ghost use Rattle.std.specs.Prelude.{◌≡◌, ◌<◌, ◌≤◌, true, IfOk, IfSome, IfNone, length};
 ghost use Rattle.std.specs.List.{All};
 ghost use Rattle.command_words.specs.Calls.{IsInRange};
 ghost use Rattle.command_words.specs.declared.call.Call.TheVariants.{Prove, Bench};
+ghost use Rattle.claim_decider.specs.Decided.{claim_numbers};
+ghost use Rattle.model_search.specs.Candidates.{NoneBreaks};
+ghost use Rattle.model_search.specs.Models.{IsClaimNumber};
 ghost use Rattle.report_text.specs.Report.{report_of, heads_of, status_of, IsPolyOver, IsVerdictOver};
 ghost use Rattle.traced_completion.specs.Completions.{IsBudget};
-ghost use Rattle.opprove.specs.Decide.{verdict_of, format_of, asked_by, asked_by_bench, Decides, AnswersClaims, AnswersProve, AnswersBench};
+ghost use Rattle.opprove.specs.Decide.{format_of, asked_by, asked_by_bench, IsVerdictOn, AreVerdictsOn, Decides, AnswersClaims, AnswersProve, AnswersBench};
+ghost use Rattle.opprove.specs.Refute.{LeastBreaks};
 ghost use Rattle.opprove.specs.Stop.{EndsAs};
 
 use crate::ending::Ending;
@@ -17,6 +21,8 @@ use cofactor_trace::Format;
 use command_words::{BenchCall, ProveCall};
 use in_order_parallel::Gate;
 use lists::Listing;
+use matrix_models::Model;
+use model_search::search;
 use nc_polynomial::Poly;
 use report_text::{Verdict, heads, report, status_of, write_bench};
 use std::alloc::{AllocError, Global};
@@ -35,6 +41,10 @@ pub struct Asked {
     pub budget: Budget,
     /// The format of evidence.
     pub form: Format,
+    /// The seed of the search for models.
+    pub seed: u64,
+    /// Whether models are looked for where a claim is left undecided.
+    pub models: bool,
 }
 
 // What is said of the claims of a problem: a verdict on each, and the rules by which they were decided.
@@ -65,26 +75,86 @@ fn asked_by(call: &ProveCall) -> Asked
             steps: call.steps as u32,
         },
         form: format_of(call.format),
+        seed: call.seed,
+        models: call.models,
     }
 }
 
-// What is said of a claim with this outcome.
-fn verdict_of(outcome: Outcome) -> Verdict
-    ensures { result ≡ verdict_of outcome }
+// The least model that breaks the claim, where models are looked for and there is one.
+fn model_against<R: Threads + Sync, G: Gate + Sync>(
+    rt: &R,
+    alloc: Global,
+    problem: &Problem,
+    asked: Asked,
+    claim: u32,
+    workers: u32,
+    gate: &G,
+) -> Result<Option<Model>, AllocError>
+    requires claim { IsClaimNumber problem.now claim }
+    requires some_worker { 0 < workers }
+    requires at_most_64 { workers ≤ 64 }
+    ensures found { IfOk result (λ found. IfSome found (λ model. (asked.models ≡ true) × LeastBreaks problem.now claim asked.seed model)) }
+    ensures none { IfOk result (λ found. IfNone found (asked.models ≡ true → NoneBreaks problem.now claim asked.seed)) }
+{
+    if !asked.models {
+        return Ok(None);
+    }
+    match search(rt, alloc, problem, claim, asked.seed, workers, gate)? {
+        Some(found) => Ok(Some(found.model)),
+        None => Ok(None),
+    }
+}
+
+// What is said of the claim with this number by its outcome.
+fn verdict_of<R: Threads + Sync, G: Gate + Sync>(
+    rt: &R,
+    alloc: Global,
+    problem: &Problem,
+    asked: Asked,
+    claim: u32,
+    outcome: Outcome,
+    workers: u32,
+    gate: &G,
+) -> Result<Verdict, AllocError>
+    requires claim { IsClaimNumber problem.now claim }
+    requires some_worker { 0 < workers }
+    requires at_most_64 { workers ≤ 64 }
+    ensures { IfOk result (IsVerdictOn problem.now asked claim outcome) }
 {
     match outcome {
-        Outcome::Derived(evidence) => Verdict::Proved(evidence),
-        Outcome::Closed { rest } => Verdict::NotDerivable { rest },
-        Outcome::Halted(halt) => Verdict::Undecided(halt),
+        Outcome::Derived(evidence) => Ok(Verdict::Proved(evidence)),
+        Outcome::Closed { rest } => Ok(Verdict::NotDerivable { rest }),
+        Outcome::Halted(halt) => {
+            match model_against(rt, alloc, problem, asked, claim, workers, gate)? {
+                Some(model) => Ok(Verdict::Refuted(model)),
+                None => Ok(Verdict::Undecided(halt)),
+            }
+        }
     }
 }
 
-fn verdicts_of(alloc: Global, outcomes: Listing<Outcome>) -> Result<Listing<Verdict>, AllocError>
-    ensures { IfOk result (λ verdicts. verdicts ≡ map verdict_of outcomes) }
+// What is said of each claim by its outcome.
+fn verdicts_of<R: Threads + Sync, G: Gate + Sync>(
+    rt: &R,
+    alloc: Global,
+    problem: &Problem,
+    asked: Asked,
+    outcomes: Listing<Outcome>,
+    workers: u32,
+    gate: &G,
+) -> Result<Listing<Verdict>, AllocError>
+    requires one_each { length outcomes ≡ length problem.now.parts.claims }
+    requires some_worker { 0 < workers }
+    requires at_most_64 { workers ≤ 64 }
+    ensures { IfOk result (AreVerdictsOn problem.now asked (claim_numbers problem.now) outcomes) }
 {
     let mut verdicts = Listing::new(alloc);
+    let mut claim = 0;
     for outcome in outcomes.into_vec() {
-        verdicts.push(verdict_of(outcome))?;
+        claim += 1;
+        verdicts.push(verdict_of(
+            rt, alloc, problem, asked, claim, outcome, workers, gate,
+        )?)?;
     }
     Ok(verdicts)
 }
@@ -106,7 +176,7 @@ fn decide<R: Threads + Sync, G: Gate + Sync>(
     ensures rules { IfOk result (λ said. All (IsPolyOver problem.now.parts.quiver) said.rules) }
 {
     let decided = decide_all(rt, alloc, problem, asked.budget, asked.form, workers, gate)?;
-    let verdicts = verdicts_of(alloc, decided.outcomes)?;
+    let verdicts = verdicts_of(rt, alloc, problem, asked, decided.outcomes, workers, gate)?;
     Ok(Said {
         verdicts,
         rules: decided.rules,
@@ -159,6 +229,8 @@ pub fn bench<R: Threads + Sync, G: Gate + Sync>(
     let asked = Asked {
         budget: BENCH_BUDGET,
         form: Format::Lemmas,
+        seed: 1,
+        models: false,
     };
     let said = decide(rt, alloc, &problem, asked, call.workers as u32, gate)?;
     let verdicts = said.verdicts.as_slice();

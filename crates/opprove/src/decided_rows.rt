@@ -1,11 +1,12 @@
-//! Runs of `prove` and `bench`: words, a statement, and the status with the report, worked out by hand.
+//! Runs of `prove`, `refute` and `bench`: words, a statement, and the status with the report, worked out by hand.
 
 /// The words, the statement that they name by `s`, and the status with the report.
 pub type Row = (&'static [&'static str], &'static [u8], &'static str);
 
 const REFLEXIVE: &[u8] = b"object U\nmap a : U -> U\nclaim a = a\n";
 
-const DOUBLED: &[u8] = b"object U\nmap x : U -> U\nassume 2 x = 0\nclaim x = 0\n";
+/// Twice a map is zero.
+pub const DOUBLED: &[u8] = b"object U\nmap x : U -> U\nassume 2 x = 0\nclaim x = 0\n";
 
 const PSEUDOINVERSE: &[u8] =
     b"object U V\nmap a : U -> V\nmap x : V -> U\npinv a x\nclaim a' x' a' = a'\n";
@@ -36,6 +37,13 @@ pub const POWER: &[u8] =
 pub const POWER_TWICE: &[u8] =
     b"object U\nmap a : U -> U\nassume a a a a a a a a a a a a a a a a a a a a a a a a a a a a a a a a a a = 0\nclaim a = 0\nclaim a = 0\n";
 
+/// A true claim with one shape of side 1 modulo 2.
+pub const TWO_CANDIDATES: &[u8] = b"object U\nmap a : U -> U\nclaim a = a\nmodel 2 U 1\n";
+
+/// A map and an inner inverse, which isn't determined by it. The candidates of its shape are drawn.
+pub const INNER: &[u8] =
+    b"object U V\nmap a : U -> V\nmap x : V -> U\ninner a x\nclaim x a x = x\nmodel 7 U 2 V 2\n";
+
 const BRACKETS_64: &[u8] =
     b"object U\nmap a : U -> U\nclaim ((((((((((((((((((((((((((((((((((((((((((((((((((((((((((((((((a)))))))))))))))))))))))))))))))))))))))))))))))))))))))))))))))) = a\n";
 
@@ -46,6 +54,11 @@ const PROVE: &[&str] = &["prove", "s"];
 
 /// By rows over generators alone.
 pub const PLAIN: &[&str] = &["prove", "s", "--format", "1"];
+
+const REFUTE: &[&str] = &["refute", "s"];
+
+const BROKEN_BRAID: &str =
+    "11 # claim 1 refuted\nmodel 1\nclaim 1\nmodulus 2\nside V 1\nmap a = 1\nmap b = 0\nend\n";
 
 const USAGE: &str = "2 # usage: opprove prove|check|refute|model|bench\n";
 
@@ -143,6 +156,76 @@ pub const OTHERS: &[Row] = &[
         "12 # claim 1 undecided overflow 170141183460469231731687303715884105727 times -170141183460469231731687303715884105727 at claim after round 0\n",
     ),
     (PROVE, BRACKETS_65, "3 # refused S5 line 3 column 71\n"),
+];
+
+/// Claims that a small model breaks, and claims that none of the candidates does.
+pub const BROKEN: &[Row] = &[
+    (
+        REFUTE,
+        ONE_SIDED,
+        "11 # claim 1 refuted\nmodel 1\nclaim 1\nmodulus 2\nside U 2\nside V 1\nmap a = 1 0\nmap b = 1 ; 0\nend\n",
+    ),
+    (&["prove", "s", "--pairs", "1"], BRAID, BROKEN_BRAID),
+    (REFUTE, BRAID, BROKEN_BRAID),
+    (
+        PROVE,
+        LARGE,
+        "11 # claim 1 refuted\nmodel 1\nclaim 1\nmodulus 2\nside V 1\nmap a = 1\nmap b = 1\nend\n",
+    ),
+    // a matrix of side 1 with a power that is zero is zero; one of side 2 needn't be
+    (
+        &["prove", "s", "--pairs", "32"],
+        POWER,
+        "11 # claim 1 refuted\nmodel 1\nclaim 1\nmodulus 2\nside U 2\nmap a = 0 1 ; 0 0\nend\n",
+    ),
+    // 2 does not cancel modulo 2: the claim is proved with denominator 2, and broken there
+    (
+        REFUTE,
+        DOUBLED,
+        "11 # claim 1 refuted\nmodel 1\nclaim 1\nmodulus 2\nside U 1\nmap x = 1\nend\n",
+    ),
+    // the adjoint is the transpose, and the columns of 1 0 ; 1 0 are orthogonal modulo 2
+    (
+        REFUTE,
+        b"object U\nmap a : U -> U\nassume a' a = 0\nclaim a = 0\nmodel 2 U 2\n",
+        "11 # claim 1 refuted\nmodel 1\nclaim 1\nmodulus 2\nside U 2\nmap a = 1 0 ; 1 0\nend\n",
+    ),
+    // no map: one candidate a shape, in which nothing is but identities
+    (
+        REFUTE,
+        b"object U\nclaim [U] = 0\nmodel 3 U 1\n",
+        "11 # claim 1 refuted\nmodel 1\nclaim 1\nmodulus 3\nside U 1\nend\n",
+    ),
+    (
+        REFUTE,
+        b"object U\nclaim [U] = [U]\nmodel 3 U 1\n",
+        "13 # claim 1 not refuted candidates 1\n",
+    ),
+    // two claims, of which one is broken
+    (
+        REFUTE,
+        b"object U\nmap a : U -> U\nclaim a = a\nclaim a = 0\nmodel 2 U 1\n",
+        "13 # claim 1 not refuted candidates 2\n# claim 2 refuted\nmodel 1\nclaim 2\nmodulus 2\nside U 1\nmap a = 1\nend\n",
+    ),
+    // 2 of side 1 and 16 of side 2
+    (
+        REFUTE,
+        REFLEXIVE,
+        "13 # claim 1 not refuted candidates 18\n",
+    ),
+    (REFUTE, TWO_CANDIDATES, "13 # claim 1 not refuted candidates 2\n"),
+    // a proved claim beside one that is broken
+    (
+        &["prove", "s", "--pairs", "1"],
+        b"object V\nmap a b : V -> V\nassume b a b = a b a\nclaim b a b = a b a\nclaim a = b\n",
+        "11 # claim 1 proved denominator 1 rows 1\ncertificate 2\nclaim 1\ndenominator 1\ngoal scale 1\nrow 1 () 1 ()\nend\n# claim 2 refuted\nmodel 1\nclaim 2\nmodulus 2\nside V 1\nmap a = 1\nmap b = 0\nend\n",
+    ),
+    // no candidate breaks what is true
+    (
+        &["prove", "s", "--steps", "1"],
+        b"object U\nmap a : U -> U\nassume a a = a\nclaim a a a = a\n",
+        "12 # claim 1 undecided steps 1 at claim after round 0\n",
+    ),
 ];
 
 /// Runs of `bench`, and words that are not taken.

@@ -1,5 +1,6 @@
-// What no clause says of the run that decides claims: that its rounds are on threads, and that all claims share one run.
-use crate::decided_rows::{POWER, POWER_TWICE};
+// What no clause says of the runs that decide and refute claims: that rounds and candidates are on threads, and that all claims
+// share one run.
+use crate::decided_rows::{POWER, POWER_TWICE, TWO_CANDIDATES};
 use crate::run::run;
 use category_laws::Parity;
 use flow_io::{MemoryShelf, MemorySink};
@@ -71,11 +72,12 @@ fn shelf_of(alloc: Global, statement: &[u8]) -> Result<MemoryShelf, AllocError> 
 fn status<R: Threads + Sync, G: Gate + Sync>(
     rt: &R,
     alloc: Global,
+    call: &[&str],
     statement: &[u8],
     gate: &G,
 ) -> Result<u8, AllocError> {
     let mut words = Vec::new(alloc);
-    for word in WORDS {
+    for word in call {
         words.push(String::from_str(alloc, word)?)?;
     }
     let mut shelf = shelf_of(alloc, statement)?;
@@ -89,23 +91,37 @@ fn claims_share_one_run(rt: HostRuntime) -> Result<(), Fail> {
         let gate = Counting {
             passed: AtomicU64::new(0),
         };
-        assert_eq!(rt; status(&rt, rt.alloc(), statement, &gate)?, 10);
+        assert_eq!(rt; status(&rt, rt.alloc(), WORDS, statement, &gate)?, 10);
         assert_eq!(rt; gate.passed.load(Ordering::SeqCst), 33);
     }
     Ok(())
 }
 
-#[test]
-fn reductions_of_a_round_meet(rt: HostRuntime) -> Result<(), Fail> {
-    let mut flags = Vec::new(rt.alloc());
-    for _ in 0..32u32 {
+// So many flags, none of which is set.
+fn meeting(alloc: Global, items: u32) -> Result<Meeting, AllocError> {
+    let mut flags = Vec::new(alloc);
+    for _ in 0..items {
         flags.push(AtomicU64::new(0))?;
     }
-    let gate = Meeting {
+    Ok(Meeting {
         flags,
         met: AtomicU64::new(0),
-    };
-    assert_eq!(rt; status(&rt, rt.alloc(), POWER, &gate)?, 10);
+    })
+}
+
+#[test]
+fn reductions_of_a_round_meet(rt: HostRuntime) -> Result<(), Fail> {
+    let gate = meeting(rt.alloc(), 32)?;
+    assert_eq!(rt; status(&rt, rt.alloc(), WORDS, POWER, &gate)?, 10);
     assert_eq!(rt; gate.met.load(Ordering::SeqCst), 33);
+    Ok(())
+}
+
+#[test]
+fn candidates_of_a_block_meet(rt: HostRuntime) -> Result<(), Fail> {
+    let gate = meeting(rt.alloc(), 2)?;
+    let words = &["refute", "s", "--workers", "2"];
+    assert_eq!(rt; status(&rt, rt.alloc(), words, TWO_CANDIDATES, &gate)?, 13);
+    assert_eq!(rt; gate.met.load(Ordering::SeqCst), 2);
     Ok(())
 }

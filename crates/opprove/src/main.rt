@@ -12,6 +12,7 @@ mod files;
 mod judge;
 mod laws;
 mod refusal;
+mod refute;
 mod run;
 mod statement;
 mod stop;

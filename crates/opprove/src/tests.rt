@@ -1,5 +1,5 @@
 //! Runs of the program over files and a sink in memory.
-use crate::decided_rows::{OTHERS, PLAIN, PROVED, PROVED_PLAINLY, WITHOUT_FILES};
+use crate::decided_rows::{BROKEN, DOUBLED, INNER, OTHERS, PLAIN, PROVED, PROVED_PLAINLY, WITHOUT_FILES};
 use crate::gallery_rows::GALLERY;
 use crate::lemma_rows::{LEMMAS, LONG_WORD};
 use crate::model_rows::{FAULTS, MODELS};
@@ -82,7 +82,7 @@ fn models_are_confirmed_or_refused(rt: HostRuntime) -> Result<(), Fail> {
 
 #[test]
 fn each_claim_has_its_verdict(rt: HostRuntime) -> Result<(), Fail> {
-    for rows in [PROVED, PROVED_PLAINLY, OTHERS, WITHOUT_FILES] {
+    for rows in [PROVED, PROVED_PLAINLY, OTHERS, BROKEN, WITHOUT_FILES] {
         for (words, statement, want) in rows {
             let got = answer(&rt, rt.alloc(), words, statement, b"", &[])?;
             assert_eq!(rt; got.as_str(), *want, "{words:?} {statement:?}");
@@ -163,6 +163,52 @@ fn reports_are_evidence(rt: HostRuntime) -> Result<(), Fail> {
     let report = told.strip_prefix("10 ").unwrap_or("");
     let got = answer(&rt, rt.alloc(), CHECK, statement, report.as_bytes(), &[])?;
     assert_eq!(rt; got.as_str(), "7 # refused K7\n");
+    Ok(())
+}
+
+// The report of a refuted claim is a text of models, the first of which is confirmed.
+#[test]
+fn models_of_refuted_claims_are_confirmed(rt: HostRuntime) -> Result<(), Fail> {
+    for (_, statement, told) in BROKEN {
+        if let Some(report) = told.strip_prefix("11 ") {
+            let got = answer(&rt, rt.alloc(), MODEL, statement, report.as_bytes(), &[])?;
+            assert!(rt; got.as_str().starts_with("0 # block 1 confirmed claim "), "{got:?}");
+        }
+    }
+    Ok(())
+}
+
+// Candidates that are drawn are the same on any number of threads.
+#[test]
+fn drawn_models_are_the_same_on_all_threads(rt: HostRuntime) -> Result<(), Fail> {
+    let words = &["refute", "s", "--workers", "1"];
+    let one = answer(&rt, rt.alloc(), words, INNER, b"", &[])?;
+    let report = one.as_str().strip_prefix("11 ").unwrap_or("");
+    for workers in ["3", "64"] {
+        let words = &["refute", "s", "--workers", workers];
+        let got = answer(&rt, rt.alloc(), words, INNER, b"", &[])?;
+        assert_eq!(rt; got.as_str(), one.as_str(), "{workers}");
+    }
+    let got = answer(&rt, rt.alloc(), MODEL, INNER, report.as_bytes(), &[])?;
+    assert_eq!(rt; got.as_str(), "0 # block 1 confirmed claim 1\n");
+    Ok(())
+}
+
+// A text has at most 100 blocks.
+#[test]
+fn a_text_has_at_most_100_models(rt: HostRuntime) -> Result<(), Fail> {
+    let mut text = String::new(rt.alloc());
+    let mut lines = String::from_str(rt.alloc(), "0 ")?;
+    for block in 1..=100u32 {
+        text.push_str("model 1\nclaim 1\nmodulus 2\nside U 1\nmap x = 1\nend\n")?;
+        lines.push_str(format!(in rt.alloc(); "# block {block} confirmed claim 1\n")?.as_str())?;
+    }
+    let got = answer(&rt, rt.alloc(), MODEL, DOUBLED, text.as_bytes(), &[])?;
+    assert_eq!(rt; got.as_str(), lines.as_str());
+    text.push_str("model 1\nclaim 1\nmodulus 2\nside U 1\nmap x = 1\nend\n")?;
+    let got = answer(&rt, rt.alloc(), MODEL, DOUBLED, text.as_bytes(), &[])?;
+    assert!(rt; got.as_str().starts_with("7 # refused K5 "), "{got:?}");
+    assert!(rt; got.as_str().ends_with(" limit 100\n"), "{got:?}");
     Ok(())
 }
 
