@@ -1,3 +1,5 @@
+//! Adjoints of words and polynomials, and those of the assumptions, which become generators.
+
 ghost use Rattle.std.specs.Prelude.{◌≡◌, IfOk, OnOk, ◌++◌, ℕ, ℤ, List, length, negsuc};
 ghost use Rattle.std.specs.List.{All, AllZip};
 ghost use Rattle.definitions.specs.Poly.{SamePolynomial, poly_multiple};

@@ -1,3 +1,5 @@
+//! The laws of problems and of adjoints. They have nothing to run.
+
 ghost use Rattle.std.specs.List.{AllByRecursion};
 ghost use Rattle.definitions.specs.Quiver.{IsQuiver};
 ghost use Rattle.definitions.specs.Soundness.{HasSignature};

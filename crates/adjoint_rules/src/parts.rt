@@ -1,3 +1,5 @@
+//! What a statement says, before its generators are made.
+
 use lists::Listing;
 use nc_polynomial::Poly;
 use quiver::{Quiver, Sig};

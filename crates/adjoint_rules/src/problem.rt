@@ -1,3 +1,5 @@
+//! Problems: what a statement says, with its generators.
+
 ghost use Rattle.std.specs.Prelude.{◌≡◌, ◌≤◌, length, IfOk};
 ghost use Rattle.adjoint_rules.specs.Problem.{IsPosed, IsClosed};
 ghost use Rattle.adjoint_rules.specs.Props.{props};

@@ -1,3 +1,5 @@
+//! The relations of the identities that a statement writes, as generators.
+
 ghost use Rattle.std.specs.Prelude.{◌≡◌, ◌<◌, IfOk, OnOk, [], ◌∷◌, ◌++◌, pos, negsuc};
 ghost use Rattle.definitions.specs.Generators.{units, letter_units};
 ghost use Rattle.quiver.specs.Declarations.{letter_count, object_count, quiver_of, ObjectsFirst};

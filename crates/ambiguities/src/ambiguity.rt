@@ -1,3 +1,5 @@
+//! Ambiguities: two rules, and how and where their leading words meet.
+
 /// How the leading words of two rules meet.
 #[derive(Clone, Copy, Debug, PartialEq, Eq)]
 pub enum Kind {

@@ -1,3 +1,5 @@
+//! The factors by which two leading coefficients become equal.
+
 ghost use Rattle.std.specs.Prelude.{◌≡◌, ◌<ℤ◌, pos, int_div};
 ghost use Rattle.coef_int.specs.Range.{IsCoefficient};
 ghost use Rattle.coef_int.specs.Divisor.{gcd_of};

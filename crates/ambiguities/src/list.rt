@@ -1,3 +1,5 @@
+//! The list of all ambiguities of rules, each once and in order.
+
 ghost use Rattle.std.specs.Prelude.{◌≡◌, ◌↔◌, ◌≤◌, ◌<◌, ◌^◌, ◌++◌, map, length, Contains, IfOk, OnOk};
 ghost use Rattle.std.specs.List.{All, AllPairs};
 ghost use Rattle.ambiguities.specs.Listed.{IsBefore, ListsExactly, IsAmbiguityFrom, IsOfFirst, IsOfPair, IsGrown, ambiguity_at};

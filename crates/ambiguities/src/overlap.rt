@@ -1,3 +1,5 @@
+//! The word in which the leading words of an ambiguity meet.
+
 ghost use Rattle.std.specs.Prelude.{◌≡◌, ◌<◌, ◌≤◌, length, IfOk, Some};
 ghost use Rattle.word_core.specs.Letters.{IsOver};
 ghost use Rattle.ambiguities.specs.Ambiguities.{IsAmbiguity, overlap_word_of};

@@ -1,3 +1,5 @@
+//! Preadditive and involutive categories, as traits whose laws each category proves.
+
 ghost use Rattle.std.specs.Prelude.{◌≡◌, IfOk, IsTrue, ◌↔◌};
 ghost use Rattle.definitions.specs.Category.{Structure, PreadditiveLaws, InvolutionLaws};
 

@@ -1,3 +1,5 @@
+//! The opposite of a category: its arrows are turned round.
+
 ghost use Rattle.category_laws.specs.Opposite.{opposite, opposite_laws, opposite_involution_laws};
 
 use crate::category::{Category, Involutive, Preadditive};

@@ -1,3 +1,5 @@
+//! The product of two categories: pairs of objects and pairs of arrows.
+
 ghost use Rattle.category_laws.specs.Pair.{pair, pair_laws, pair_involution_laws};
 
 use crate::category::{Category, Involutive, Preadditive};

@@ -1,3 +1,5 @@
+//! The category with one object and two arrows, the integers modulo 2.
+
 ghost use Rattle.category_laws.specs.Parity.{parity, parity_laws, parity_involution_laws};
 
 use crate::category::{Category, Involutive, Preadditive};

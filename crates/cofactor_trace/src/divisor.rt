@@ -8,7 +8,6 @@ use crate::CertRow;
 use coef_int::{divisor, quotient};
 use lists::Listing;
 use std::alloc::{AllocError, Global};
-use std::collections::VecDeque;
 
 // The greatest common divisor of the denominator and the coefficients.
 pub(crate) fn content(denominator: i128, rows: &[CertRow]) -> i128
@@ -38,8 +37,7 @@ pub(crate) fn divide_rows(
     ensures in_range { IfOk result (All (λ r. IsCoefficient r.coef)) }
 {
     let mut divided = Listing::new(alloc);
-    let mut rest = VecDeque::from_vec(rows.into_vec());
-    while let Some(row) = rest.pop_front() {
+    for row in rows.into_vec() {
         let CertRow {
             coef,
             left,

@@ -3,11 +3,8 @@ ghost use Rattle.std.specs.Prelude.{◌≡◌, ◌++◌, ◌∷◌, [], Some, No
 ghost use Rattle.cofactor_trace.specs.LemmaSizes.{extended, extended_all, no_extent, limit_of};
 ghost use Rattle.cofactor_trace.specs.Naming.{records};
 
+use crate::size::{LETTER_LIMIT, ROW_LIMIT};
 use crate::{GatherFault, Made};
-
-const ROW_LIMIT: usize = 200_000;
-
-const LETTER_LIMIT: usize = 1_000_000;
 
 /// How many rows there are and how many letters they have. A count stops at the greatest number.
 #[derive(Clone, Copy)]

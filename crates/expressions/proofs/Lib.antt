@@ -9,6 +9,7 @@ pub mod Multiples
 pub mod Letters
 pub mod Range
 pub mod PolynomialLoops
+pub mod Totals
 pub mod Maps
 pub mod Written
 pub mod TypedParts

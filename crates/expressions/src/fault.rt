@@ -1,3 +1,4 @@
+//! Faults of signatures.
 use quiver::Sig;
 use statement_syntax::Spot;
 use thiserror::Error;

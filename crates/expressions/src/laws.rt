@@ -1,3 +1,4 @@
+//! Laws on expressions, which have nothing to run.
 ghost use Rattle.expressions.specs.Laws.{EquationsAreTyped, LettersAreWritten};
 
 /// The law that an equation with a signature and a polynomial has a typed one: each word is a path of the signature.

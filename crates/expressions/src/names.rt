@@ -1,3 +1,4 @@
+//! Letters and objects by their names.
 ghost use Rattle.std.specs.Prelude.{◌≡◌, ◌<◌, IsTrue};
 ghost use Rattle.quiver.specs.Declarations.{named_in, letter_count, object_count};
 ghost use Rattle.expressions.specs.Names.{is_map, is_object, letter_of, object_of};

@@ -1,3 +1,4 @@
+//! Whether a mark or an identity occurs in an expression.
 ghost use Rattle.std.specs.Prelude.{◌≡◌};
 ghost use Rattle.std.specs.List.{list_any};
 ghost use Rattle.expressions.specs.Occurrences.{is_adjoint, has_mark, has_mark_in_term, has_mark_in_primary};

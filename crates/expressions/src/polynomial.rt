@@ -1,3 +1,4 @@
+//! The polynomial of an expression, or the first fault of its arithmetic.
 ghost use Rattle.std.specs.Prelude.{◌≡◌, ◌<◌, [], map, MatchResult, Ok, IfOk, IfErr, IsTrue};
 ghost use Rattle.std.specs.List.{All};
 ghost use Rattle.definitions.specs.Generators.{adjoint_poly};
@@ -13,11 +14,10 @@ use crate::names::{letter_of, object_of};
 use adjoint_rules::adjoint_word;
 use coef_int::Overflow;
 use lists::Listing;
-use nc_polynomial::{Poly, PolyFault, merge_terms, negate_terms};
+use nc_polynomial::{Poly, PolyFault, RunningSum, merge_terms, negate_terms};
 use quiver::Quiver;
 use statement_syntax::{Factor, Mark, Number, Primary, Sum, Term};
 use std::alloc::{AllocError, Global};
-use std::collections::VecDeque;
 use word_core::{Letter, Word};
 
 /// The left side of an equation minus the right side, or the first fault of the arithmetic: an inner expression comes
@@ -46,26 +46,37 @@ fn sum_poly(alloc: Global, quiver: &Quiver, sum: &Sum) -> Result<Poly, PolyFault
     requires names { AreNames quiver.now sum.now }
     ensures { MatchResult result (λ p. sum_poly quiver.now sum.now ≡ Ok p.terms) (Explains (sum_poly quiver.now sum.now)) }
 {
-    let mut summands = VecDeque::new(alloc);
+    let mut summands = Vec::new(alloc);
     for term in sum.terms.as_slice() {
         let poly = term_poly(alloc, quiver, term)?;
-        summands.push_back((term.negative, poly))?;
+        summands.push((term.negative, poly))?;
     }
     total(alloc, summands)
 }
 
-// The first summand, and then the others added or subtracted from the left.
-fn total(alloc: Global, mut summands: VecDeque<(bool, Poly)>) -> Result<Poly, PolyFault>
+// The first summand, and then the others added or subtracted from the left. One alone takes no sum.
+fn total(alloc: Global, mut summands: Vec<(bool, Poly)>) -> Result<Poly, PolyFault>
     ensures { MatchResult result (λ p. total (map (λ s. (s.0, s.1.terms)) summands.items) ≡ Ok p.terms) (Explains (total (map (λ s. (s.0, s.1.terms)) summands.items))) }
 {
-    let Some((negative, first)) = summands.pop_front() else {
-        return Ok(Poly::zero(alloc));
-    };
-    let mut sum = signed(alloc, negative, first)?;
-    while let Some((negative, poly)) = summands.pop_front() {
-        sum = add_summand(alloc, sum, negative, poly)?;
+    if summands.len() > 1 {
+        return running_total(alloc, summands);
     }
-    Ok(sum)
+    match summands.pop() {
+        None => Ok(Poly::zero(alloc)),
+        Some((negative, poly)) => Ok(signed(alloc, negative, poly)?),
+    }
+}
+
+// The summands added up from the left. Each is moved into the sum and gone then.
+fn running_total(alloc: Global, summands: Vec<(bool, Poly)>) -> Result<Poly, PolyFault>
+    ensures { MatchResult result (λ p. total (map (λ s. (s.0, s.1.terms)) summands.items) ≡ Ok p.terms) (Explains (total (map (λ s. (s.0, s.1.terms)) summands.items))) }
+{
+    let mut sum = RunningSum::new(alloc);
+    for (negative, poly) in summands {
+        let summand = signed(alloc, negative, poly)?;
+        sum.add(summand)?;
+    }
+    Ok(sum.into_poly(alloc)?)
 }
 
 // The summand, negated where it is subtracted.
@@ -100,22 +111,23 @@ fn term_poly(alloc: Global, quiver: &Quiver, term: &Term) -> Result<Poly, PolyFa
     requires names { IsTrue (are_names_of_term quiver.now term.now) }
     ensures { MatchResult result (λ p. term_poly quiver.now term.now ≡ Ok p.terms) (Explains (term_poly quiver.now term.now)) }
 {
-    let mut polys = VecDeque::new(alloc);
+    let mut polys = Vec::new(alloc);
     for factor in term.factors.as_slice() {
-        polys.push_back(factor_poly(alloc, quiver, factor)?)?;
+        polys.push(factor_poly(alloc, quiver, factor)?)?;
     }
     let product = product(alloc, polys)?;
     scaled_by(product, &term.literal)
 }
 
 // The product from the left.
-fn product(alloc: Global, mut polys: VecDeque<Poly>) -> Result<Poly, PolyFault>
+fn product(alloc: Global, polys: Vec<Poly>) -> Result<Poly, PolyFault>
     ensures { MatchResult result (λ p. product_poly (map (λ f. f.terms) polys.items) ≡ Ok p.terms) (Explains (product_poly (map (λ f. f.terms) polys.items))) }
 {
-    let Some(mut product) = polys.pop_front() else {
+    let mut factors = polys.into_iter();
+    let Some(mut product) = factors.next() else {
         return Ok(Poly::zero(alloc));
     };
-    while let Some(next) = polys.pop_front() {
+    for next in factors {
         product = product.product(&next)?;
     }
     Ok(product)

@@ -1,3 +1,4 @@
+//! The signature of an expression, or the first fault of its signatures.
 ghost use Rattle.std.specs.Prelude.{◌≡◌, ◌<◌, IfOk, IsTrue};
 ghost use Rattle.quiver.specs.Declarations.{object_count};
 ghost use Rattle.expressions.specs.Names.{AreNames, are_names_of_term, are_names_of_primary};

@@ -1,3 +1,5 @@
+//! Files in memory, with loads that are made to fail.
+
 ghost use Rattle.std.specs.Prelude.{◌≡◌, ◌≢◌, ◌+◌, ◌<◌, ◌≤◌, ◌↔◌, ℕ, List, Some, IfOk, AllPairs, length, set, slice_get, slice_index};
 ghost use Rattle.flow_io.specs.Causes.{Rose, next_count};
 ghost use Rattle.flow_io.specs.Shelf.{LoadAnswers};

@@ -1,3 +1,5 @@
+//! Output that is kept in memory, with puts and finishes that are made to fail.
+
 ghost use Rattle.std.specs.Prelude.{◌≡◌, ◌<◌, ◌≤◌, Some, IfOk, OnErr, length};
 ghost use Rattle.flow_io.specs.Causes.{Rose};
 ghost use Rattle.flow_io.specs.MemorySink.{new_sink, PutGives, FinishGives};

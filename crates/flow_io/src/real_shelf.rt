@@ -1,3 +1,5 @@
+//! The files of the machine, each read whole and within a limit.
+
 ghost use Rattle.std.specs.Prelude.{◌≡◌, ◌+◌, ◌<◌, ◌≤◌, IsErr, IsErrOf, IfOk};
 ghost use Rattle.flow_io.specs.Shelf.{LoadAnswers};
 ghost use Rattle.flow_io.specs.Told.{Untold, told_by};

@@ -1,3 +1,5 @@
+//! The standard output of the machine.
+
 ghost use Rattle.std.specs.Prelude.{◌≡◌, ◌<◌, ◌≤◌, None, false, length, IfOk, OnOk, OnErr, IsTrue};
 ghost use Rattle.flow_io.specs.Causes.{Rose, CountsFault};
 

@@ -1,3 +1,5 @@
+//! Where files come from, and why a load gives none.
+
 ghost use Rattle.std.specs.Prelude.{◌≡◌, ◌<◌, ◌≤◌, List, ℕ};
 ghost use Rattle.flow_io.specs.Shelf.{LoadAnswers};
 ghost use Rattle.flow_io.specs.Told.{Told};

@@ -1,3 +1,5 @@
+//! The gate that each item passes before its work begins.
+
 /// What each item passes before its work begins. A gate can count the items or see that two of them are
 /// worked on at once, and has no influence on the answers.
 pub trait Gate {

@@ -1,3 +1,5 @@
+//! The work that is done at each item.
+
 /// Work that is done at each of many items, each by itself. A job that takes memory keeps its own allocator,
 /// and its answer says where it found none.
 pub trait Job {

@@ -1,7 +1,7 @@
 pub mod Matrix
 pub mod Matrices
 pub mod Totals
-mod Entries
+pub mod Entries
 pub mod Laws
 pub mod Systems
 pub mod Greedy

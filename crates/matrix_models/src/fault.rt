@@ -1,3 +1,5 @@
+//! Why numbers are no matrix.
+
 use std::alloc::AllocError;
 use thiserror::Error;
 

@@ -1,3 +1,5 @@
+//! The greedy solution of linear equations, by pivots and then from the first unknown to the last.
+
 ghost use Rattle.std.specs.Prelude.{◌≡◌, ◌↔◌, ◌+◌, ◌-◌, ◌*◌, ◌%◌, ◌<◌, length, get_or, replicate, None, IfOk, IfSome, IfNone};
 ghost use Rattle.matrix_models.specs.Matrices.{total};
 ghost use Rattle.matrix_models.specs.Systems.{IsSystem, AreValues, HasNoSolution};

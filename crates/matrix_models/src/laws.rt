@@ -1,3 +1,5 @@
+//! The laws of greedy solutions: there is at most one, and one where there is a solution. They have nothing to run.
+
 ghost use Rattle.matrix_models.specs.Greedy.{GreedySolutionIsUnique, SolvableSystemsHaveAGreedySolution};
 
 /// A system and preferred values have at most one greedy solution.

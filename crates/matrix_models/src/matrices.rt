@@ -1,3 +1,5 @@
+//! Matrices over the integers modulo a number, as an involutive category.
+
 ghost use Rattle.std.specs.Prelude.{◌≡◌, ◌*◌, ◌%◌, ◌<◌};
 ghost use Rattle.matrix_models.specs.Matrix.{entry_at, IsMatrix};
 ghost use Rattle.matrix_models.specs.Matrices.{matrices, transpose, total};

@@ -1,3 +1,5 @@
+//! Matrices whose entries are below a modulus.
+
 ghost use Rattle.std.specs.Prelude.{◌≡◌, ◌≢◌, ◌↔◌, ℕ, ◌<◌, ◌≤◌, ◌^◌, length, Some, All, IfOk, IfNone, IsTrue, IsErrOf, refl};
 ghost use Rattle.matrix_models.specs.Matrix.{entry_at, matrix_of, first_too_large, IsModulus, IsSide, HasShape, IsMatrix};
 ghost use Rattle.matrix_models.specs.Matrices.{IsObject};

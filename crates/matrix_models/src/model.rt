@@ -1,3 +1,5 @@
+//! Models: matrices for the maps of a statement, which say nothing by themselves.
+
 use crate::Matrix;
 use lists::Listing;
 

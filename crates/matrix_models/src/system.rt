@@ -1,3 +1,5 @@
+//! Linear equations over the integers modulo a prime.
+
 use lists::Listing;
 
 /// Linear equations over the integers modulo a prime. What `solve` asks of them is a condition of its own.

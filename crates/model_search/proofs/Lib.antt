@@ -8,3 +8,9 @@ pub mod EntryCounts
 pub mod Streams
 pub mod EntryPlaces
 pub mod Affine
+pub mod AffineNumbers
+pub mod FilledValues
+pub mod CandidateModels
+pub mod AffineMatrices
+pub mod AffineArrows
+pub mod AffineValues

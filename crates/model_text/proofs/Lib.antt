@@ -16,8 +16,8 @@ mod EachText
 mod Answered
 mod ModelValues
 mod Examples
-mod ModelsJoined
-mod ObjectNames
+pub mod ModelsJoined
+pub mod ObjectNames
 mod MatricesBack
 mod NamesApart
-mod ModelsBack
+pub mod ModelsBack

@@ -32,6 +32,10 @@ first-append (o ∷ os) more = go (is_coefficient (exact_value o)) (first-append
 pub first-fits : (o : Overflow) (os : List Overflow) → IsCoefficient (exact_value o) → first_overflow (o ∷ os) ≡ first_overflow os
 first-fits o os fits = grind (arith, nat_tests)
 
+-- one that does not is the first
+pub first-fails : (o : Overflow) (os : List Overflow) → ¬ IsCoefficient (exact_value o) → first_overflow (o ∷ os) ≡ Some o
+first-fails o os fails = grind (arith, nat_tests)
+
 pub no_error : {A : Type 0} (x : A) (e : PolyFault) → ◌≡◌ {A = Result A PolyFault} (Ok x) (Err e) → ⊥
 no_error x e h = cc
 

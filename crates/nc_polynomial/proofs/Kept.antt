@@ -10,7 +10,7 @@ use Rattle.nc_polynomial.specs.Terms.{keep, scaled}
 use Rattle.nc_polynomial.proofs.Checked.{keep-nonzero}
 use Rattle.nc_polynomial.proofs.Divisors.{abs_positive}
 
-product_nonzero : (k z : ℤ) → k ≢ pos 0 → z ≢ pos 0 → k *ℤ z ≢ pos 0
+pub product_nonzero : (k z : ℤ) → k ≢ pos 0 → z ≢ pos 0 → k *ℤ z ≢ pos 0
 product_nonzero k z left right e =
     let size = unsigned_abs-mul k z in
     let both = mul-pos (abs_positive k left) (abs_positive z right) in

@@ -8,7 +8,10 @@ pub mod Values
 pub mod Unique
 pub mod Words
 pub mod Distinct
+pub mod Updates
+pub mod TableSums
 pub mod Tables
+pub mod RunningSums
 pub mod CollectedTerms
 pub mod Divisors
 pub mod Kept
@@ -16,6 +19,7 @@ pub mod Units
 pub mod AlignedMultiples
 pub mod Around
 pub mod Products
+pub mod OneTerm
 pub mod Adjoints
 pub mod Rests
 mod Examples

@@ -1,23 +1,25 @@
 -- Products of polynomials.
-use Rattle.std.proofs.Common.{◌≡◌, ℕ, ◌≤◌, ℤ, pos, ◌+ℤ◌, ◌*ℤ◌, Bool, true, false, cond, ◌||◌, nat_lt, List, [], ◌∷◌, ◌++◌, length, map, None, Result, Ok, Err, sym, refl, ap, ap₂, subst, ◌∙◌, arith}
+use Rattle.std.proofs.Common.{◌≡◌, ℕ, ◌≤◌, ℤ, pos, ◌+ℤ◌, ◌*ℤ◌, Bool, true, false, cond, ◌||◌, nat_lt, List, [], ◌∷◌, ◌++◌, length, map, Option, Some, None, Result, Ok, Err, sym, refl, ap, ap₂, subst, ◌∙◌, arith}
 use Rattle.std.proofs.lemmas.Bool.Decides.{nat_tests}
 use Rattle.std.proofs.Math.IntN.{+ℤ_idl, +ℤ_idr, +ℤ_assoc}
 use Rattle.std.proofs.lemmas.List.{append-nil}
-use Rattle.std.proofs.lemmas.List.Elements.{All-from_recursion}
-use Rattle.std.specs.List.{AllByRecursion}
+use Rattle.std.proofs.lemmas.List.Elements.{All-from_recursion, recursion_from_All}
+use Rattle.std.specs.List.{All, AllByRecursion}
+use Rattle.coef_int.specs.declared.Overflow.{Overflow}
 use Rattle.coef_int.specs.Operations.{product_of, first_overflow}
 use Rattle.definitions.specs.Poly.{Term, SamePolynomial, coefficient_of, poly_multiple, poly_between, poly_product}
 use Rattle.definitions.proofs.Coefficients.{coefficient_of-append, coefficient_of-multiple}
 use Rattle.nc_polynomial.specs.declared.fault.PolyFault.{PolyFault}
+use Rattle.nc_polynomial.specs.declared.fault.PolyFault.TheVariants as fault
 use Rattle.nc_polynomial.specs.Terms.{keep, scaled, products, shifted, added, sums}
 use Rattle.nc_polynomial.specs.Shape.{IsShaped, IsCanonical}
-use Rattle.nc_polynomial.specs.Faults.{checked, unless_overflow, finished, sized, size_fault, has_long_word}
-use Rattle.nc_polynomial.specs.Arithmetic.{combined}
+use Rattle.nc_polynomial.specs.Faults.{Explains, checked, unless_overflow, finished, sized, size_fault, has_long_word}
+use Rattle.nc_polynomial.specs.Arithmetic.{combined, sum_result}
 use Rattle.nc_polynomial.specs.Product.{and_then, product_step, product_from}
 use Rattle.nc_polynomial.proofs.Around.{shaped-between}
-use Rattle.nc_polynomial.proofs.Chains.{first-append, or_first, no_error, none_overflows, value_is, sized-value, finished-value}
+use Rattle.nc_polynomial.proofs.Chains.{first-append, or_first, no_error, none_overflows, value_is, passes, explains-itself, explains-first, sized-value, finished-value}
 use Rattle.nc_polynomial.proofs.CoefficientLaws.{coefficient_of-added, coefficient_of-scaled}
-use Rattle.nc_polynomial.proofs.Shapes.{shaped-scaled}
+use Rattle.nc_polynomial.proofs.Shapes.{all-scaled, shaped-scaled, shaped-added}
 use Rattle.nc_polynomial.proofs.Units.{one-*ℤ, once_fits}
 
 -- ---- one step
@@ -72,6 +74,43 @@ canonical_sized p v h e = go (has_long_word p) (nat_lt 20000 (length p)) refl re
     go true many a b k = absurd (no_error v (size_fault true) (sym k))
     go false true a b k = absurd (no_error v (size_fault false) (sym k))
     go false false a b k = record { shaped = h; short = All-from_recursion (λ (t : Term). length t.1 ≤ 500) p (short_words p a); few = within (length p) b }
+
+-- a sum within the limits is canonical
+pub canonical_sum : (p q v : List Term) → IsShaped p → IsShaped q → sum_result p q ≡ Ok v → IsCanonical v
+canonical_sum p q v h k e = go (first_overflow (sums p q)) refl e
+  where
+    go : (o : Option Overflow) → first_overflow (sums p q) ≡ o → unless_overflow o (sized (added p q)) ≡ Ok v → IsCanonical v
+    go None fits limits = subst IsCanonical (sized-value (added p q) v limits) (canonical_sized (added p q) v (shaped-added p q fits h k) limits)
+    go (Some o) over limits = absurd (no_error v (fault.Overflow o) (sym limits))
+
+-- the multiple of a moved polynomial within the limits has short words
+pub short_shift : (k : ℤ) (w : List ℕ) (q v : List Term) → IsShaped q → sized (poly_between w q []) ≡ Ok (poly_between w q []) → checked (products k q) (shifted k w q []) ≡ Ok v → All (λ t. length t.1 ≤ 500) v
+short_shift k w q v h within e =
+    let moved = poly_between w q [] in
+    let short = canonical_sized moved moved (shaped-between w [] q h) within in
+    subst (All (λ t. length t.1 ≤ 500)) (scaled-between k w q [] ∙ value_is (products k q) (shifted k w q []) v e)
+    (All-from_recursion (λ (t : Term). length t.1 ≤ 500) (scaled k moved) (all-scaled (λ u. length u ≤ 500) k moved (recursion_from_All (λ (t : Term). length t.1 ≤ 500) moved short.short)))
+
+-- where the moved factor is within the limits and its multiple fits, a step is a sum
+pub step_adds : (sum : List Term) (k : ℤ) (w : List ℕ) (q v : List Term) → IsShaped sum → sized (poly_between w q []) ≡ Ok (poly_between w q []) → checked (products k q) (shifted k w q []) ≡ Ok v
+    → product_step sum (k, w) q ≡ sum_result sum v
+step_adds sum k w q v h within fits =
+    let multiple = shifted k w q [] in
+    step_is sum k w q h within
+    ∙ passes (products k q) (sums sum multiple) multiple v (sized (added sum multiple)) fits
+    ∙ ap (sum_result sum) (value_is (products k q) multiple v fits)
+
+-- a step fails at the multiple
+pub step_fails : (sum : List Term) (k : ℤ) (w : List ℕ) (q : List Term) (e : PolyFault) → IsShaped sum → sized (poly_between w q []) ≡ Ok (poly_between w q []) → Explains (checked (products k q) (shifted k w q [])) e
+    → Explains (product_step sum (k, w) q) e
+step_fails sum k w q e h within why =
+    let multiple = shifted k w q [] in
+    subst (λ r. Explains r e) (sym (step_is sum k w q h within)) (explains-first (products k q) (sums sum multiple) multiple (sized (added sum multiple)) e why)
+
+-- a step fails at the limits of the moved factor
+pub step_refuses : (sum : List Term) (k : ℤ) (w : List ℕ) (q : List Term) (e : PolyFault) → sized (poly_between w q []) ≡ Err e → Explains (product_step sum (k, w) q) e
+step_refuses sum k w q e limits =
+    explains-itself (product_step sum (k, w) q) e (ap (λ r. and_then r (λ moved. combined (pos 1) sum k moved)) limits)
 
 -- ---- what a product is
 moved-row : (t : Term) (q : List Term) → map (λ u. (t.0 *ℤ u.0, t.1 ++ u.1)) q ≡ poly_multiple t.0 (poly_between t.1 q [])

@@ -68,7 +68,7 @@ abbrev pub IsFalling : List Pair → Type 0
 IsFalling [] = Unit {0}
 IsFalling (a ∷ rest) = AllByRecursion (λ b. word_cmp a.2 b.2 ≡ Greater) rest × IsFalling rest
 
-higher : (u v : List ℕ) (p : List Term) → word_cmp u v ≡ Greater → AllByRecursion (λ t. word_cmp v t.1 ≡ Greater) p → AllByRecursion (λ t. word_cmp u t.1 ≡ Greater) p
+pub higher : (u v : List ℕ) (p : List Term) → word_cmp u v ≡ Greater → AllByRecursion (λ t. word_cmp v t.1 ≡ Greater) p → AllByRecursion (λ t. word_cmp u t.1 ≡ Greater) p
 higher u v [] h k = tt
 higher u v (t ∷ p) h k = (word_cmp-trans u v t.1 h k.0, higher u v p h k.1)
 

@@ -1,9 +1,10 @@
 -- The terms of a table of words.
-use Rattle.std.proofs.Common.{◌≡◌, ◌≢◌, ℕ, zero, suc, ◌+◌, ◌≤◌, ℤ, pos, negsuc, ◌+ℤ◌, length, Bool, true, false, cond, List, [], ◌∷◌, ◌++◌, map, Some, unwrap_or, sym, refl, ap, subst, ◌∙◌, arith, append_assoc}
+use Rattle.std.proofs.Common.{◌≡◌, ◌≢◌, ℕ, zero, suc, ◌+◌, ◌≤◌, ℤ, pos, negsuc, ◌+ℤ◌, length, Bool, true, false, cond, List, [], ◌∷◌, ◌++◌, map, Some, None, unwrap_or, sym, refl, ap, subst, ◌∙◌, arith, append_assoc}
 use Rattle.std.proofs.lemmas.Int.{ints}
 use Rattle.std.proofs.Math.IntN.{+ℤ_idr}
 use Rattle.std.specs.List.{AllByRecursion}
-use Rattle.std.specs.BTreeMap.{BTreeMap, IsOrdered}
+use Rattle.std.specs.BTreeMap.{BTreeMap, IsOrdered, get}
+use Rattle.std.specs.Cmp.{Equal-is}
 use Rattle.std.proofs.lemmas.List.Elements.{All-from_recursion}
 use Rattle.std.specs.List.Sorted.{IsStrictlySortedBy}
 use Rattle.std.specs.Map.{keys_of, lookup}
@@ -13,12 +14,13 @@ use Rattle.coef_int.specs.Range.{IsCoefficient}
 use Rattle.definitions.specs.Poly.{Term, word_eq, coefficient_of}
 use Rattle.definitions.proofs.Linear.{word_eq-true, coefficient_other}
 use Rattle.word_core.specs.Canonical.{word_cmp}
-use Rattle.word_core.proofs.Order.{word_cmp-turned}
+use Rattle.word_core.proofs.Order.{word_cmp-turned, word_cmp-same, word_cmp-itself}
 use Rattle.nc_polynomial.specs.Terms.{keep}
 use Rattle.nc_polynomial.specs.Ascending.{reversed}
 use Rattle.nc_polynomial.specs.Collected.{coefficient_in}
+use Rattle.nc_polynomial.specs.Running.{IsRunning, terms_in}
 use Rattle.nc_polynomial.specs.Shape.{IsShaped}
-use Rattle.nc_polynomial.proofs.Checked.{keep-append}
+use Rattle.nc_polynomial.proofs.Checked.{keep-append, keep-nonzero}
 use Rattle.nc_polynomial.proofs.CoefficientLaws.{coefficient_of-keep}
 use Rattle.nc_polynomial.proofs.Shapes.{Descends, IsDescending-from_recursion, nonzero-keep, descending-keep, all-keep}
 use Rattle.nc_polynomial.proofs.Words.{word_eq-cmp, word_eq-turned}
@@ -132,3 +134,50 @@ length-reversed (e ∷ entries) later =
     let rest = length-reversed entries (keep e.1 e.0 later) in
     let first = length-keep e.1 e.0 later in
     omega arith
+
+-- ---- a table without zeros
+-- a word below all listed ones isn't listed
+lookup-below : (v : List ℕ) (entries : List Entry) → AllByRecursion (λ x. word_cmp v x.0 ≡ Less) entries → lookup (λ k. is_eq (word_cmp v k)) entries ≡ None
+lookup-below v [] h = refl
+lookup-below v (e ∷ entries) h = ap (λ o. cond (is_eq o) (Some e.1) (lookup (λ k. is_eq (word_cmp v k)) entries)) h.0 ∙ lookup-below v entries h.1
+
+nonzero-entries : (entries : List Entry) → Ascends entries → ((w : List ℕ) → lookup (λ k. is_eq (word_cmp w k)) entries ≢ Some (pos 0)) → AllByRecursion (λ e. e.1 ≢ pos 0) entries
+nonzero-entries [] up h = tt
+nonzero-entries (e ∷ entries) up h = (
+  λ zero. h e.0 (ap (λ b. cond b (Some e.1) (lookup (λ k. is_eq (word_cmp e.0 k)) entries)) (ap is_eq (word_cmp-itself e.0)) ∙ ap Some zero),
+  nonzero-entries entries up.1 (λ w there. go w (is_eq (word_cmp w e.0)) refl there),
+)
+  where
+    go : (w : List ℕ) (b : Bool) → is_eq (word_cmp w e.0) ≡ b → lookup (λ k. is_eq (word_cmp w k)) entries ≡ Some (pos 0) → ⊥
+    go w true same there =
+        let word = word_cmp-same w e.0 ((Equal-is (word_cmp w e.0)).0 same) in
+        let none = lookup-below w entries (subst (λ v. AllByRecursion (λ (x : Entry). word_cmp v x.0 ≡ Less) entries) (sym word) up.0) in
+        (cc)
+    go w false other there = h w (ap (λ b. cond b (Some e.1) (lookup (λ k. is_eq (word_cmp w k)) entries)) other ∙ there)
+
+length-all : (entries : List Entry) (later : List Term) → AllByRecursion (λ e. e.1 ≢ pos 0) entries → length (reversed entries later) ≡ length entries + length later
+length-all [] later h = omega arith
+length-all (e ∷ entries) later h =
+    let rest = length-all entries (keep e.1 e.0 later) h.1 in
+    let first = ap length (keep-nonzero e.1 e.0 later h.0) in
+    omega arith
+
+module _ (table : BTreeMap (List ℕ) ℤ) (sorted : IsOrdered word_cmp table) (running : IsRunning table) where
+  pub shaped-running : IsShaped (terms_in table)
+  shaped-running = shaped-table table sorted running.in_range
+
+  -- each entry is a term
+  pub length-running : length (terms_in table) ≡ length table.entries
+  length-running =
+      let all = length-all table.entries [] (nonzero-entries table.entries (ascends table.entries sorted) running.nonzero) in
+      omega arith
+
+-- the table before the first term
+pub running-empty : (table : BTreeMap (List ℕ) ℤ) → table.entries ≡ [] → IsRunning table
+running-empty table empty = record {
+  nonzero = λ w there. let none = absent w in (cc);
+  in_range = λ w. subst IsCoefficient (sym (ap (λ o. unwrap_or o (pos 0)) (absent w))) (omega arith);
+}
+  where
+    absent : (w : List ℕ) → get word_cmp table w ≡ None
+    absent w = ap (lookup (λ k. is_eq (word_cmp w k))) empty

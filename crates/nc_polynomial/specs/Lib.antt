@@ -5,6 +5,7 @@ pub mod Faults
 pub mod Arithmetic
 pub mod Ascending
 pub mod Collected
+pub mod Running
 pub mod Product
 pub mod Content
 pub mod Adjoint

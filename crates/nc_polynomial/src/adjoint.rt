@@ -1,10 +1,11 @@
+//! Adjoints of polynomials.
 ghost use Rattle.std.specs.Prelude.{◌≡◌, length, IfOk};
 ghost use Rattle.std.specs.List.{All};
 ghost use Rattle.word_core.specs.Letters.{IsOver};
 ghost use Rattle.nc_polynomial.specs.Adjoint.{IsAdjoint, IsInvolution, numbers_of, reversed_star};
 
 use crate::Poly;
-use crate::collect::descending;
+use crate::table::descending;
 use std::alloc::{AllocError, Global};
 use std::collections::BTreeMap;
 use word_core::{Letter, Word};

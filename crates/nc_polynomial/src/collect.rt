@@ -1,4 +1,5 @@
-ghost use Rattle.std.specs.Prelude.{◌≡◌, ◌+ℤ◌, ℕ, List, [], ◌∷◌, ◌++◌, IfOk, OnOk, MatchResult, Ok};
+//! Sums of terms in any order.
+ghost use Rattle.std.specs.Prelude.{◌≡◌, ◌+ℤ◌, ℕ, List, [], ◌∷◌, IfOk, OnOk, MatchResult, Ok};
 ghost use Rattle.std.specs.List.{All};
 ghost use Rattle.std.specs.BTreeMap.{IsOrdered};
 ghost use Rattle.coef_int.specs.Range.{IsCoefficient};
@@ -7,12 +8,10 @@ ghost use Rattle.definitions.specs.Poly.{SamePolynomial, coefficient_of};
 ghost use Rattle.word_core.specs.Canonical.{word_cmp};
 ghost use Rattle.nc_polynomial.specs.Faults.{Explains, checked};
 ghost use Rattle.nc_polynomial.specs.Collected.{collection_result, coefficient_in};
-ghost use Rattle.nc_polynomial.specs.Ascending.{reversed};
 
-use crate::push::push_nonzero;
+use crate::table::descending;
 use crate::{Poly, PolyFault};
-use lists::Listing;
-use std::alloc::{AllocError, Global};
+use std::alloc::Global;
 use std::collections::BTreeMap;
 use word_core::Word;
 
@@ -57,18 +56,4 @@ fn add_term(
         Err(fault) => return Err(PolyFault::Overflow(fault)),
     }
     Ok(())
-}
-
-// The nonzero coefficients with their words, descending.
-pub(crate) fn descending(
-    alloc: Global,
-    mut table: BTreeMap<Word, i128>,
-) -> Result<Listing<(i128, Word)>, AllocError>
-    ensures { IfOk result (λ terms. terms ≡ reversed table.entries []) }
-{
-    let mut terms = Listing::new(alloc);
-    while let Some((word, coefficient)) = table.pop_last() {
-        push_nonzero(&mut terms, coefficient, word)?;
-    }
-    Ok(terms)
 }

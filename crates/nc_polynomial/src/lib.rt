@@ -11,11 +11,14 @@ mod multiples;
 mod poly;
 mod product;
 mod push;
+mod running;
 mod size;
+mod table;
 mod terms;
 
 pub use fault::{PolyFault, SizeFault};
 pub use laws::canonical_is_unique;
 pub use poly::Poly;
+pub use running::RunningSum;
 pub use size::check_size;
 pub use terms::{merge_terms, multiply_terms, negate_terms, scale_terms, shift_terms};

@@ -1,9 +1,14 @@
+//! The limits on the size of a polynomial.
 ghost use Rattle.std.specs.Prelude.{◌≡◌, ◌≤◌, MatchResult, Ok, Err, length};
 ghost use Rattle.definitions.specs.Poly.{poly_between};
 ghost use Rattle.nc_polynomial.specs.Faults.{sized, has_long_word};
 
 use crate::{PolyFault, SizeFault};
 use word_core::Word;
+
+pub(crate) const LETTER_LIMIT: usize = 500;
+
+pub(crate) const TERM_LIMIT: usize = 20_000;
 
 /// Refuses a polynomial in which a word has more than 500 letters, or else one of more than 20,000 terms.
 pub fn check_size(terms: &[(i128, Word)]) -> Result<(), PolyFault>
@@ -12,7 +17,7 @@ pub fn check_size(terms: &[(i128, Word)]) -> Result<(), PolyFault>
     if has_long_word(terms) {
         return Err(PolyFault::Size(SizeFault { letters: true }));
     }
-    if terms.len() > 20_000 {
+    if terms.len() > TERM_LIMIT {
         return Err(PolyFault::Size(SizeFault { letters: false }));
     }
     Ok(())
@@ -22,7 +27,7 @@ fn has_long_word(terms: &[(i128, Word)]) -> bool
     ensures { result ≡ has_long_word terms.now }
 {
     for term in terms {
-        if term.1.len() > 500 {
+        if term.1.len() > LETTER_LIMIT {
             return true;
         }
     }
@@ -40,7 +45,7 @@ pub(crate) fn check_moved(
 {
     let around = left.len().saturating_add(right.len());
     for term in terms {
-        if term.1.len().saturating_add(around) > 500 {
+        if term.1.len().saturating_add(around) > LETTER_LIMIT {
             return Err(PolyFault::Size(SizeFault { letters: true }));
         }
     }

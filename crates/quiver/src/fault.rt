@@ -1,3 +1,5 @@
+//! Why a declaration of an object or a map is refused.
+
 ghost use Rattle.quiver.specs.Refusals.{IsMemory};
 
 use std::alloc::{AllocError, AllocFailed};

@@ -1,3 +1,5 @@
+//! What a name stands for, and signatures: a source and a target.
+
 use word_core::{Letter, Object};
 
 /// The source and the target of a letter, a word or a polynomial.

@@ -1,3 +1,5 @@
+//! Quivers: declared objects and maps, with the letters that they number.
+
 ghost use Rattle.std.specs.Prelude.{◌≡◌, ◌<◌, ◌≤◌, ◌++◌, ◌∷◌, [], IfOk, IfErr, IfSome, OnOk, OnErr, None, Some};
 ghost use Rattle.definitions.specs.Quiver.{IsQuiver, star, source, target};
 ghost use Rattle.quiver.specs.Declarations.{object, arrow, object_count, map_count, letter_count, named_in, name_at, object_at, letter_at, object_name, letter_name, identity_in, quiver_of, IsNamed, IsDeclared, ObjectsFirst};

@@ -1,3 +1,5 @@
+//! The signatures of words and polynomials over a quiver.
+
 ghost use Rattle.std.specs.Prelude.{◌≡◌, ◌≢◌, ◌<◌, ◌↔◌, ℕ, [], All, IfSome, IfNone, IsTrue, option_map};
 ghost use Rattle.definitions.specs.Quiver.{IsPath, IsTyped, signature_of};
 ghost use Rattle.word_core.specs.Letters.{IsOver};

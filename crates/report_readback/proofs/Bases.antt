@@ -58,7 +58,7 @@ basis_is_part ds rules claim rest =
 
 -- ---- it is a part
 
-claim_is_body : (claim : ℕ) → IsBodyLine (claim_body claim)
+pub claim_is_body : (claim : ℕ) → IsBodyLine (claim_body claim)
 claim_is_body claim = record {
   text = line_text-append (codes "claim ") (decimal claim) (literal (codes "claim ") refl refl) (decimal_is_line claim);
   goes_on = begins_no_end (codes "claim") (tokens_of (decimal claim)) refl;

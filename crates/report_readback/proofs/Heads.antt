@@ -70,7 +70,9 @@ module _ (ds : List Declaration) (declared : IsDeclared ds) (known : IsTrue (lis
   said_is_line : (rules : ℕ) (v : Verdict) → IsWritableVerdict ds v → IsLineText (said_of ds rules v)
   said_is_line rules (verdict.Proved e) writable = proved_is_line e
   said_is_line rules (verdict.NotDerivable rest) writable = labelled_is_line (codes " not derivable rules ") rules (literal (codes " not derivable rules ") refl refl)
+  said_is_line rules (verdict.Refuted m) writable = literal (codes " refuted") refl refl
   said_is_line rules (verdict.Undecided h) writable = undecided_is_line h writable
+  said_is_line rules (verdict.NotRefuted candidates) writable = labelled_is_line (codes " not refuted candidates ") candidates (literal (codes " not refuted candidates ") refl refl)
 
   pub told_is_line : (rules claim : ℕ) (v : Verdict) → IsWritableVerdict ds v → IsLineText (told_of ds rules claim v)
   told_is_line rules claim v writable =

@@ -1,10 +1,14 @@
 pub mod Numerals
 pub mod Heads
 pub mod Bases
+pub mod Models
 pub mod Reports
+pub mod SkippedEvidence
+pub mod ModelReports
 pub mod Writable
 pub mod ClaimNumbers
 pub mod Outcomes
+pub mod WithoutModels
 pub mod PlainAnswers
 pub mod OneLemma
 pub mod LemmaAnswers

@@ -22,13 +22,16 @@ use Rattle.report_text.specs.Report.{block_text, report_from, report_of, IsPolyO
 use Rattle.report_readback.specs.ReadBack.{IsReadAs, proved_in, IsWritableVerdict, ReportsReadBack}
 use Rattle.report_readback.proofs.Heads.{told_of, head_is_comment, told_is_line}
 use Rattle.report_readback.proofs.Bases.{basis_head, basis_lines, basis_is_part, basis_is}
+use Rattle.report_readback.proofs.Models.{model_head, model_lines, model_is_part, model_is}
 
 -- ---- the parts of a report
 
 abbrev block_parts : List Declaration → List Poly → ℕ → Verdict → List Part
 block_parts ds rules claim (verdict.Proved e) = certificate e ∷ []
 block_parts ds rules claim (verdict.NotDerivable rest) = other basis_head (basis_lines ds rules claim rest) ∷ []
+block_parts ds rules claim (verdict.Refuted m) = other model_head (model_lines ds m) ∷ []
 block_parts ds rules claim (verdict.Undecided h) = []
+block_parts ds rules claim (verdict.NotRefuted candidates) = []
 
 abbrev parts_from : List Declaration → List Poly → ℕ → List Verdict → List Part
 parts_from ds rules claim [] = []
@@ -37,7 +40,9 @@ parts_from ds rules claim (v ∷ verdicts) = comment (told_of ds (length rules) 
 block_is_parts : (ds : List Declaration) (rules : List Poly) (claim : ℕ) (v : Verdict) → block_text ds rules claim v ≡ flat_map (part_text ds) (block_parts ds rules claim v)
 block_is_parts ds rules claim (verdict.Proved e) = sym (append-nil (part_text ds (certificate e)))
 block_is_parts ds rules claim (verdict.NotDerivable rest) = basis_is_part ds rules claim rest ∙ sym (append-nil (part_text ds (other basis_head (basis_lines ds rules claim rest))))
+block_is_parts ds rules claim (verdict.Refuted m) = model_is_part ds m ∙ sym (append-nil (part_text ds (other model_head (model_lines ds m))))
 block_is_parts ds rules claim (verdict.Undecided h) = refl
+block_is_parts ds rules claim (verdict.NotRefuted candidates) = refl
 
 report_is_parts : (ds : List Declaration) (rules : List Poly) (claim : ℕ) (verdicts : List Verdict) → report_from ds rules claim verdicts ≡ flat_map (part_text ds) (parts_from ds rules claim verdicts)
 report_is_parts ds rules claim [] = refl
@@ -53,13 +58,17 @@ parts_have : (ds : List Declaration) (rules : List Poly) (claim : ℕ) (verdicts
 parts_have ds rules claim [] = refl
 parts_have ds rules claim (verdict.Proved e ∷ verdicts) = ap (λ es. e ∷ es) (parts_have ds rules (suc claim) verdicts)
 parts_have ds rules claim (verdict.NotDerivable rest ∷ verdicts) = parts_have ds rules (suc claim) verdicts
+parts_have ds rules claim (verdict.Refuted m ∷ verdicts) = parts_have ds rules (suc claim) verdicts
 parts_have ds rules claim (verdict.Undecided h ∷ verdicts) = parts_have ds rules (suc claim) verdicts
+parts_have ds rules claim (verdict.NotRefuted candidates ∷ verdicts) = parts_have ds rules (suc claim) verdicts
 
 few_proved : (verdicts : List Verdict) → length (proved_in verdicts) ≤ length verdicts
 few_proved [] = omega arith
 few_proved (verdict.Proved e ∷ verdicts) = omega (arith, few_proved verdicts)
 few_proved (verdict.NotDerivable rest ∷ verdicts) = omega (arith, few_proved verdicts)
+few_proved (verdict.Refuted m ∷ verdicts) = omega (arith, few_proved verdicts)
 few_proved (verdict.Undecided h ∷ verdicts) = omega (arith, few_proved verdicts)
+few_proved (verdict.NotRefuted candidates ∷ verdicts) = omega (arith, few_proved verdicts)
 
 of_some_format : (e : Evidence) → IsOfFormat Lemmas e
 of_some_format (evidence.Plain c) = tt
@@ -70,7 +79,9 @@ module _ (ds : List Declaration) (rules : List Poly) (declared : IsDeclared ds) 
   block_parts_are claim (verdict.Proved e) writable = All-cons (IsPart Lemmas ds) (certificate e) [] (of_some_format e, writable) (All-nil (IsPart Lemmas ds))
   block_parts_are claim (verdict.NotDerivable rest) writable =
       All-cons (IsPart Lemmas ds) (other basis_head (basis_lines ds rules claim rest)) [] (basis_is ds declared known rules claim rest over writable) (All-nil (IsPart Lemmas ds))
+  block_parts_are claim (verdict.Refuted m) writable = All-cons (IsPart Lemmas ds) (other model_head (model_lines ds m)) [] (model_is ds declared known m) (All-nil (IsPart Lemmas ds))
   block_parts_are claim (verdict.Undecided h) writable = All-nil (IsPart Lemmas ds)
+  block_parts_are claim (verdict.NotRefuted candidates) writable = All-nil (IsPart Lemmas ds)
 
   parts_are : (claim : ℕ) (verdicts : List Verdict) → All (IsWritableVerdict ds) verdicts → All (IsPart Lemmas ds) (parts_from ds rules claim verdicts)
   parts_are claim [] writable = All-nil (IsPart Lemmas ds)

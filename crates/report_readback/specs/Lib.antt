@@ -1,2 +1,3 @@
 pub mod ReadBack
+pub mod ModelsReadBack
 pub mod Answered

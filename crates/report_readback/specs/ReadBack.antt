@@ -1,11 +1,13 @@
 -- What is read of a report as evidence: the evidence of the claims that are proved, in their order.
-use Rattle.std.specs.Prelude.{◌≡◌, ◌<◌, ◌≤◌, ℕ, List, [], ◌∷◌, map, length, IsTrue}
-use Rattle.std.specs.List.{All, list_all}
+use Rattle.std.specs.Prelude.{◌≡◌, ◌<◌, ◌≤◌, ◌⊎◌, ⊤, ℕ, List, [], ◌∷◌, length, IsTrue}
+use Rattle.std.specs.List.{All, AllZip, list_all}
 use Rattle.nc_polynomial.specs.declared.poly.Poly.{Poly}
 use Rattle.quiver.specs.Declarations.{Declaration, IsDeclared}
 use Rattle.cofactor_trace.specs.declared.evidence.Evidence.{Evidence}
 use Rattle.cofactor_trace.specs.declared.evidence.Format.{Format}
 use Rattle.cofactor_trace.specs.declared.evidence.Format.TheVariants.{Lemmas}
+use Rattle.cofactor_trace.specs.declared.halt.Halt.{Halt}
+use Rattle.matrix_models.specs.declared.model.Model.{Model}
 use Rattle.adjoint_rules.specs.declared.problem.Problem.{Problem}
 use Rattle.statement_syntax.specs.declared.tree.Statement.{Statement}
 use Rattle.statement_syntax.specs.Fault.{IsTreeOf}
@@ -18,6 +20,7 @@ use Rattle.claim_decider.specs.Decided.{claim_numbers, AreOutcomesOf, AreLastRul
 use Rattle.certificate_text.specs.Fault.{no_block}
 use Rattle.certificate_text.specs.Evidence.{HasCertificates, IsEvidence, IsFirstFault}
 use Rattle.certificate_text.specs.Back.{IsWritableEvidence, is_named}
+use Rattle.model_text.specs.Written.{HasPlaces}
 use Rattle.report_text.specs.declared.verdict.Verdict.{Verdict}
 use Rattle.report_text.specs.declared.verdict.Verdict.TheVariants as verdict
 use Rattle.report_text.specs.Report.{report_of, IsPolyOver, IsLeastOver}
@@ -38,13 +41,17 @@ abbrev pub proved_in : List Verdict → List Evidence
 proved_in [] = []
 proved_in (verdict.Proved e ∷ verdicts) = e ∷ proved_in verdicts
 proved_in (verdict.NotDerivable rest ∷ verdicts) = proved_in verdicts
+proved_in (verdict.Refuted m ∷ verdicts) = proved_in verdicts
 proved_in (verdict.Undecided h ∷ verdicts) = proved_in verdicts
+proved_in (verdict.NotRefuted candidates ∷ verdicts) = proved_in verdicts
 
--- its evidence is within the limits of evidence text, and letters are letters of the quiver
+-- its evidence is within the limits of evidence text, letters are letters of the quiver, and a model has its places
 abbrev pub IsWritableVerdict : List Declaration → Verdict → Type 0
 IsWritableVerdict ds (verdict.Proved e) = IsWritableEvidence ds e
 IsWritableVerdict ds (verdict.NotDerivable rest) = IsPolyOver ds rest
+IsWritableVerdict ds (verdict.Refuted m) = HasPlaces ds m
 IsWritableVerdict ds (verdict.Undecided h) = IsLeastOver ds h.least
+IsWritableVerdict ds (verdict.NotRefuted candidates) = ⊤
 
 -- A report of at most 100 such verdicts is read as the evidence of those that are proved.
 abbrev pub ReportsReadBack : Type 0
@@ -54,11 +61,19 @@ ReportsReadBack = (ds : List Declaration) (rules : List Poly) (verdicts : List V
 
 -- ---- reports of outcomes
 
--- what is said of a claim with this outcome
-abbrev pub verdict_of : Outcome → Verdict
-verdict_of (outcome.Derived e) = verdict.Proved e
-verdict_of (outcome.Closed rest) = verdict.NotDerivable rest
-verdict_of (outcome.Halted h) = verdict.Undecided h
+-- what may be said of a claim whose run stopped: that it is undecided, or that it is refuted, by whatever model
+abbrev pub IsVerdictOfHalt : List Declaration → Halt → Verdict → Type 0
+IsVerdictOfHalt ds h v = (v ≡ verdict.Undecided h) ⊎ ((m : Model) × HasPlaces ds m × (v ≡ verdict.Refuted m))
+
+-- what may be said of a claim with this outcome
+abbrev pub IsVerdictOf : List Declaration → Outcome → Verdict → Type 0
+IsVerdictOf ds (outcome.Derived e) v = v ≡ verdict.Proved e
+IsVerdictOf ds (outcome.Closed rest) v = v ≡ verdict.NotDerivable rest
+IsVerdictOf ds (outcome.Halted h) v = IsVerdictOfHalt ds h v
+
+-- of each claim
+abbrev pub AreVerdictsOf : List Declaration → List Outcome → List Verdict → Type 0
+AreVerdictsOf ds outcomes verdicts = AllZip (IsVerdictOf ds) outcomes verdicts
 
 -- the evidence of the claims that are derived
 abbrev pub derived_in : List Outcome → List Evidence
@@ -67,17 +82,19 @@ derived_in (outcome.Derived e ∷ outcomes) = e ∷ derived_in outcomes
 derived_in (outcome.Closed rest ∷ outcomes) = derived_in outcomes
 derived_in (outcome.Halted h ∷ outcomes) = derived_in outcomes
 
--- The report of the outcomes of all claims of a problem, with the last rules, is read as the evidence of the claims that are derived.
--- That objects and maps have names of the language is asked for.
+-- The report of verdicts by the outcomes of all claims of a problem, with the last rules, is read as the evidence of the claims that
+-- are derived. That objects and maps have names of the language is asked for.
 abbrev pub OutcomeReportsReadBack : Type 0
-OutcomeReportsReadBack = (problem : Problem) (budget : Budget) (form : Format) (outcomes : List Outcome) (rules : List Poly)
-    → AreOutcomesOf (setting_of problem budget) form problem (claim_numbers problem) outcomes → AreLastRules (setting_of problem budget) form problem (claim_numbers problem) rules
+OutcomeReportsReadBack = (problem : Problem) (budget : Budget) (form : Format) (outcomes : List Outcome) (verdicts : List Verdict) (rules : List Poly)
+    → AreOutcomesOf (setting_of problem budget) form problem (claim_numbers problem) outcomes → AreVerdictsOf problem.parts.quiver outcomes verdicts
+    → AreLastRules (setting_of problem budget) form problem (claim_numbers problem) rules
     → IsTrue (list_all is_named problem.parts.quiver)
-    → IsReadAs problem.parts.quiver (report_of problem.parts.quiver rules (map verdict_of outcomes)) (derived_in outcomes)
+    → IsReadAs problem.parts.quiver (report_of problem.parts.quiver rules verdicts) (derived_in outcomes)
 
 -- So is the report on a statement, whose objects and maps have names of the language.
 abbrev pub StatementReportsReadBack : Type 0
-StatementReportsReadBack = (bytes : List ℕ) (statements : List Statement) (problem : Problem) (budget : Budget) (form : Format) (outcomes : List Outcome) (rules : List Poly)
+StatementReportsReadBack = (bytes : List ℕ) (statements : List Statement) (problem : Problem) (budget : Budget) (form : Format) (outcomes : List Outcome) (verdicts : List Verdict) (rules : List Poly)
     → IsTreeOf bytes statements → IsProblemOf statements problem
-    → AreOutcomesOf (setting_of problem budget) form problem (claim_numbers problem) outcomes → AreLastRules (setting_of problem budget) form problem (claim_numbers problem) rules
-    → IsReadAs problem.parts.quiver (report_of problem.parts.quiver rules (map verdict_of outcomes)) (derived_in outcomes)
+    → AreOutcomesOf (setting_of problem budget) form problem (claim_numbers problem) outcomes → AreVerdictsOf problem.parts.quiver outcomes verdicts
+    → AreLastRules (setting_of problem budget) form problem (claim_numbers problem) rules
+    → IsReadAs problem.parts.quiver (report_of problem.parts.quiver rules verdicts) (derived_in outcomes)

@@ -1,5 +1,6 @@
-//! What is read of a report as evidence, and what is answered to it, as laws over the definitions.
+//! What is read of a report as evidence and as models, and what is answered to its evidence, as laws over the definitions.
 ghost use Rattle.report_readback.specs.Answered.{DerivedEvidenceIsAnswered, ReportedEvidenceIsAnswered};
+ghost use Rattle.report_readback.specs.ModelsReadBack.{ReportsReadBackAsModels};
 ghost use Rattle.report_readback.specs.ReadBack.{OutcomeReportsReadBack, ReportsReadBack, StatementReportsReadBack};
 
 /// A report is read as the evidence of its proved claims, in their order. Where no claim is proved, it has no certificate.
@@ -7,7 +8,8 @@ pub fn reports_are_read_back()
     ensures { ReportsReadBack }
 {}
 
-/// So is the report of the outcomes of all claims of a problem, whatever the budget and the format.
+/// So is the report on the claims of a problem, by the outcomes of all claims and whatever models refute those whose runs stopped,
+/// and whatever the budget and the format.
 pub fn outcome_reports_are_read_back()
     ensures { OutcomeReportsReadBack }
 {}
@@ -15,6 +17,11 @@ pub fn outcome_reports_are_read_back()
 /// So is the report on the claims of a statement: what it declares has names of the language.
 pub fn statement_reports_are_read_back()
     ensures { StatementReportsReadBack }
+{}
+
+/// A report is read as the models of its refuted claims, in their order. Where no claim is refuted, it has no model.
+pub fn reports_are_read_back_as_models()
+    ensures { ReportsReadBackAsModels }
 {}
 
 /// The evidence of a derived claim is accepted, unless a limit is passed in adding it up: by a coefficient, by the terms of a

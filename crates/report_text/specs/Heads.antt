@@ -68,13 +68,20 @@ undecided_text ds h = codes " undecided " ++ cause_text h.cause ++ place_text h.
 abbrev pub not_derivable_text : ℕ → List ℕ
 not_derivable_text rules = codes " not derivable rules " ++ decimal rules
 
+-- ---- not refuted
+
+abbrev pub not_refuted_text : ℕ → List ℕ
+not_refuted_text candidates = codes " not refuted candidates " ++ decimal candidates
+
 -- ---- the line
 
 -- what is said of a claim; the number is that of the rules
 abbrev pub said_of : List Declaration → ℕ → Verdict → List ℕ
 said_of ds rules (verdict.Proved e) = proved_text e
 said_of ds rules (verdict.NotDerivable rest) = not_derivable_text rules
+said_of ds rules (verdict.Refuted m) = codes " refuted"
 said_of ds rules (verdict.Undecided h) = undecided_text ds h
+said_of ds rules (verdict.NotRefuted candidates) = not_refuted_text candidates
 
 abbrev pub head_line : List Declaration → ℕ → ℕ → Verdict → List ℕ
 head_line ds rules claim v = codes "# claim " ++ decimal claim ++ said_of ds rules v ++ codes "\n"

@@ -5,6 +5,7 @@ use Rattle.word_core.specs.Letters.{IsOver}
 use Rattle.nc_polynomial.specs.declared.poly.Poly.{Poly}
 use Rattle.quiver.specs.Declarations.{Declaration, letter_count}
 use Rattle.certificate_text.specs.Written.{poly_text, evidence_text, IsEvidenceOver}
+use Rattle.model_text.specs.Written.{model_text, HasPlaces}
 use Rattle.report_text.specs.declared.verdict.Verdict.{Verdict}
 use Rattle.report_text.specs.declared.verdict.Verdict.TheVariants as verdict
 use Rattle.report_text.specs.Heads.{head_line}
@@ -21,7 +22,9 @@ basis_text ds rules claim rest = codes "basis 1\nclaim " ++ decimal claim ++ cod
 abbrev pub block_text : List Declaration → List Poly → ℕ → Verdict → List ℕ
 block_text ds rules claim (verdict.Proved e) = evidence_text ds e
 block_text ds rules claim (verdict.NotDerivable rest) = basis_text ds rules claim rest
+block_text ds rules claim (verdict.Refuted m) = model_text ds m
 block_text ds rules claim (verdict.Undecided h) = []
+block_text ds rules claim (verdict.NotRefuted candidates) = []
 
 -- ---- the report
 
@@ -46,16 +49,38 @@ heads_of ds rules verdicts = heads_from ds (length rules) 1 verdicts
 abbrev pub is_proved : Verdict → Bool
 is_proved (verdict.Proved e) = true
 is_proved (verdict.NotDerivable rest) = false
+is_proved (verdict.Refuted m) = false
 is_proved (verdict.Undecided h) = false
+is_proved (verdict.NotRefuted candidates) = false
+
+abbrev pub is_refuted : Verdict → Bool
+is_refuted (verdict.Proved e) = false
+is_refuted (verdict.NotDerivable rest) = false
+is_refuted (verdict.Refuted m) = true
+is_refuted (verdict.Undecided h) = false
+is_refuted (verdict.NotRefuted candidates) = false
 
 abbrev pub is_undecided : Verdict → Bool
 is_undecided (verdict.Proved e) = false
 is_undecided (verdict.NotDerivable rest) = false
+is_undecided (verdict.Refuted m) = false
 is_undecided (verdict.Undecided h) = true
+is_undecided (verdict.NotRefuted candidates) = false
 
--- 12 where some claim is undecided, else 0 where each is proved, else 10
+abbrev pub is_not_refuted : Verdict → Bool
+is_not_refuted (verdict.Proved e) = false
+is_not_refuted (verdict.NotDerivable rest) = false
+is_not_refuted (verdict.Refuted m) = false
+is_not_refuted (verdict.Undecided h) = false
+is_not_refuted (verdict.NotRefuted candidates) = true
+
+-- 12 where some claim is undecided; else 13 where some is not refuted; else 11 where some is refuted; else 0 where each is proved; else 10
 abbrev pub status_of : List Verdict → ℕ
-status_of verdicts = if list_any is_undecided verdicts then 12 else (if list_all is_proved verdicts then 0 else 10)
+status_of verdicts =
+    if list_any is_undecided verdicts then 12
+    else (if list_any is_not_refuted verdicts then 13
+    else (if list_any is_refuted verdicts then 11
+    else (if list_all is_proved verdicts then 0 else 10)))
 
 -- ---- what can be written
 
@@ -67,8 +92,10 @@ abbrev pub IsLeastOver : List Declaration → Option (List ℕ) → Type 0
 IsLeastOver ds None = ⊤
 IsLeastOver ds (Some word) = IsOver (letter_count ds) word
 
--- and those of a verdict
+-- and those of a verdict; a model has a side for each object and a place for each letter
 abbrev pub IsVerdictOver : List Declaration → Verdict → Type 0
 IsVerdictOver ds (verdict.Proved e) = IsEvidenceOver ds e
 IsVerdictOver ds (verdict.NotDerivable rest) = IsPolyOver ds rest
+IsVerdictOver ds (verdict.Refuted m) = HasPlaces ds m
 IsVerdictOver ds (verdict.Undecided h) = IsLeastOver ds h.least
+IsVerdictOver ds (verdict.NotRefuted candidates) = ⊤

@@ -2,7 +2,7 @@
 
 ghost use Rattle.std.specs.Prelude.{◌≡◌, ◌++◌, OnOk, decimal};
 ghost use Rattle.std.specs.Fmt.{signed_decimal};
-ghost use Rattle.report_text.specs.Heads.{lemma_row_count, denominator_of, row_count, denominator_text, proved_text, not_derivable_text, overflow_text, cause_text, place_text, least_text, undecided_text, said_of, head_line};
+ghost use Rattle.report_text.specs.Heads.{lemma_row_count, denominator_of, row_count, denominator_text, proved_text, not_derivable_text, not_refuted_text, overflow_text, cause_text, place_text, least_text, undecided_text, said_of, head_line};
 ghost use Rattle.report_text.specs.Report.{IsLeastOver, IsVerdictOver};
 
 use crate::Verdict;
@@ -74,6 +74,12 @@ fn put_not_derivable(out: &mut Vec<u8>, rules: usize) -> Result<(), AllocError>
     ensures { OnOk result (out.new.items ≡ out.old.items ++ not_derivable_text rules) }
 {
     put_labelled(out, " not derivable rules ", rules as u128)
+}
+
+fn put_not_refuted(out: &mut Vec<u8>, candidates: u64) -> Result<(), AllocError>
+    ensures { OnOk result (out.new.items ≡ out.old.items ++ not_refuted_text candidates) }
+{
+    put_labelled(out, " not refuted candidates ", u128::from(candidates))
 }
 
 fn put_overflow(out: &mut Vec<u8>, overflow: &Overflow) -> Result<(), AllocError>
@@ -162,7 +168,9 @@ fn put_said(
     match verdict {
         Verdict::Proved(evidence) => put_proved(out, evidence),
         Verdict::NotDerivable { rest: _ } => put_not_derivable(out, rules),
+        Verdict::Refuted(_) => put(out, " refuted"),
         Verdict::Undecided(halt) => put_undecided(out, quiver, halt),
+        Verdict::NotRefuted { candidates } => put_not_refuted(out, *candidates),
     }
 }
 

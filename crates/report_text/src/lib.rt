@@ -4,8 +4,10 @@
 mod bench;
 mod head;
 mod lines;
+mod status;
 mod verdict;
 
 pub use bench::write_bench;
-pub use lines::{heads, report, status_of};
+pub use lines::{heads, report};
+pub use status::status_of;
 pub use verdict::Verdict;

@@ -1,12 +1,13 @@
-//! The report of all verdicts, its head lines alone, and the status.
+//! The report of all verdicts, and its head lines alone.
 
-ghost use Rattle.std.specs.Prelude.{◌≡◌, ◌++◌, IfOk, OnOk, length, IsTrue};
-ghost use Rattle.std.specs.List.{All, flat_map, list_all, list_any};
-ghost use Rattle.report_text.specs.Report.{rule_line, basis_text, block_text, report_of, heads_of, is_proved, is_undecided, status_of, IsPolyOver, IsVerdictOver};
+ghost use Rattle.std.specs.Prelude.{◌≡◌, ◌++◌, IfOk, OnOk, length};
+ghost use Rattle.std.specs.List.{All, flat_map};
+ghost use Rattle.report_text.specs.Report.{rule_line, basis_text, block_text, report_of, heads_of, IsPolyOver, IsVerdictOver};
 
 use crate::Verdict;
 use crate::head::put_head;
 use certificate_text::{put, put_evidence, put_number, put_poly};
+use model_text::put_model;
 use nc_polynomial::Poly;
 use quiver::Quiver;
 use std::alloc::{AllocError, Global};
@@ -64,12 +65,13 @@ fn put_block(
     match verdict {
         Verdict::Proved(evidence) => put_evidence(out, quiver, evidence),
         Verdict::NotDerivable { rest } => put_basis(out, quiver, rules, claim, rest),
-        Verdict::Undecided(_) => Ok(()),
+        Verdict::Refuted(model) => put_model(out, quiver, model),
+        Verdict::Undecided(_) | Verdict::NotRefuted { .. } => Ok(()),
     }
 }
 
-/// The report of the verdicts on the claims, in their order: for each a head line, and a block with its evidence, or
-/// with all rules and what is left of the claim by them.
+/// The report of the verdicts on the claims, in their order: for each a head line, and a block with its evidence, with
+/// all rules and what is left of the claim by them, or with its model.
 pub fn report(
     alloc: Global,
     quiver: &Quiver,
@@ -103,41 +105,4 @@ pub fn heads(
         put_head(&mut out, quiver, rules.len(), place + 1, verdict)?;
     }
     Ok(out)
-}
-
-fn is_proved(verdict: &Verdict) -> bool
-    ensures { result ≡ is_proved verdict.now }
-{
-    matches!(verdict, Verdict::Proved(_))
-}
-
-fn is_undecided(verdict: &Verdict) -> bool
-    ensures { result ≡ is_undecided verdict.now }
-{
-    matches!(verdict, Verdict::Undecided(_))
-}
-
-fn all_are_proved(verdicts: &[Verdict]) -> bool
-    ensures { result ≡ list_all is_proved verdicts.now }
-{
-    verdicts.iter().all(|verdict| is_proved(verdict))
-}
-
-fn some_is_undecided(verdicts: &[Verdict]) -> bool
-    ensures { result ≡ list_any is_undecided verdicts.now }
-{
-    verdicts.iter().any(|verdict| is_undecided(verdict))
-}
-
-/// The status of a call with these verdicts: 12 where some claim is undecided, else 0 where each is proved, else 10.
-pub fn status_of(verdicts: &[Verdict]) -> u8
-    ensures { result ≡ status_of verdicts.now }
-{
-    if some_is_undecided(verdicts) {
-        12
-    } else if all_are_proved(verdicts) {
-        0
-    } else {
-        10
-    }
 }

@@ -1,3 +1,5 @@
+//! The laws that give certificates their meaning, in every category. They have nothing to run.
+
 ghost use Rattle.definitions.specs.Soundness.{IsSound, IsStarSound, IsUnitSound, TypedRowsSuffice};
 ghost use Rattle.representations.specs.Evidence.{IsEvidenceSound, IsEvidenceStarSound};
 

@@ -1,3 +1,5 @@
+//! Integer multiples of the arrows of a category.
+
 ghost use Rattle.std.specs.Prelude.{◌≡◌, IfOk};
 ghost use Rattle.definitions.specs.Category.{IsArrow};
 ghost use Rattle.definitions.specs.Representation.{natural_multiple, multiple};

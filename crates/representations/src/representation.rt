@@ -1,3 +1,5 @@
+//! Representations: an object for each object of a quiver, and an arrow for each letter.
+
 ghost use Rattle.std.specs.Prelude.{◌≡◌, ◌<◌, length, slice_index_or};
 
 use category_laws::Preadditive;

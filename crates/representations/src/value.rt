@@ -1,3 +1,5 @@
+//! The values of polynomials and paths in a representation.
+
 ghost use Rattle.std.specs.Prelude.{◌≡◌, ◌<◌, IfOk, IsSome};
 ghost use Rattle.definitions.specs.Quiver.{IsTyped, signature_of};
 ghost use Rattle.definitions.specs.Representation.{word_value};

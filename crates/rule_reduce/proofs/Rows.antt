@@ -1,8 +1,7 @@
 -- rows that stand before what a call returns
 use Rattle.std.proofs.Common.{◌≡◌, ℤ, ◌*ℤ◌, List, [], ◌∷◌, ◌++◌, map, Option, Some, None, Result, Ok, Err, refl, sym, ap, ◌∙◌, subst, append_assoc}
 use Rattle.std.specs.List.{All, AllByRecursion}
-use Rattle.std.specs.Prelude.{option_to_list}
-use Rattle.std.proofs.lemmas.List.Elements.{All-tail, All-from_recursion, recursion_from_All}
+use Rattle.std.proofs.lemmas.List.Elements.{All-from_recursion, recursion_from_All}
 use Rattle.coef_int.specs.declared.Overflow.{Overflow}
 use Rattle.coef_int.specs.Range.{IsCoefficient}
 use Rattle.nc_polynomial.specs.declared.fault.PolyFault.{PolyFault}
@@ -16,9 +15,9 @@ abbrev pub join_rows : List Row → Result (List Row) PolyFault → Result (List
 join_rows out (Ok xs) = Ok (out ++ xs)
 join_rows out (Err e) = Err e
 
-pub all_rest : {X : Type 0} (P : X → Type 0) (xs ys : List X) (o : Option X) → xs ≡ option_to_list o ++ ys → All P xs → All P ys
-all_rest P xs ys None e h = subst (All P) e h
-all_rest P xs ys (Some x) e h = All-tail P x ys (subst (All P) e h)
+pub join_rows-none : (r : Result (List Row) PolyFault) → join_rows [] r ≡ r
+join_rows-none (Ok xs) = refl
+join_rows-none (Err e) = refl
 
 pub row-fits : (row : Row) (rest out : List Row) (by : ℤ) → IsCoefficient (row.coef *ℤ by)
     → join_rows out (checked (row_operations (row ∷ rest) by) (map (multiplied_row by) (row ∷ rest))) ≡ join_rows (out ++ multiplied_row by row ∷ []) (checked (row_operations rest by) (map (multiplied_row by) rest))

@@ -12,7 +12,8 @@ use Rattle.rule_reduce.specs.Laws.{IsByRule, RowsAreByRules}
 use Rattle.rule_reduce.proofs.Rows.{all-multiplied}
 use Rattle.rule_reduce.proofs.Runs.{reduction_keeps}
 
-number_within : (rules : List Rule) (n : ℕ) (g : Rule) → rule_at rules n ≡ Some g → (0 < n) × (n ≤ length rules)
+-- the number of a rule is that of a place
+pub number_within : (rules : List Rule) (n : ℕ) (g : Rule) → rule_at rules n ≡ Some g → (0 < n) × (n ≤ length rules)
 number_within rules zero g has = absurd (cc)
 number_within rules (suc n) g has = let within = slice_get_within rules n g has in (omega arith, omega arith)
 

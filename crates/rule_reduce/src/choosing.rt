@@ -1,3 +1,5 @@
+//! The choice of a step: the greatest word that can be reduced, the least rule for it, and its leftmost place.
+
 ghost use Rattle.std.specs.Prelude.{◌≡◌, IfOk, IfSome};
 ghost use Rattle.std.specs.List.{All};
 ghost use Rattle.coef_int.specs.Range.{IsCoefficient};

@@ -1,3 +1,5 @@
+//! Why a polynomial gets no normal form.
+
 ghost use Rattle.std.specs.Prelude.{◌≡◌};
 ghost use Rattle.rule_reduce.specs.NormalForms.{IsMemory, halt_of};
 

@@ -16,5 +16,5 @@ pub use laws::{
     choices_are_exact, letters_are_kept, multipliers_are_positive, reductions_balance,
     rests_are_irreducible, rows_are_by_rules, types_are_kept, words_stay_below,
 };
-pub use rule::{Rule, leading_place};
+pub use rule::{Rule, leading_place, rule_with};
 pub use rules::{Reduced, Rules};

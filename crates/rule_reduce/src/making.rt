@@ -1,3 +1,5 @@
+//! Rules that are made of polynomials, and which polynomials may become rules.
+
 ghost use Rattle.std.specs.Prelude.{◌≡◌, ◌↔◌, ◌<◌, ◌<ℤ◌, pos, length, IfOk, IsSomeAnd, IsTrue, Some};
 ghost use Rattle.std.specs.List.{All};
 ghost use Rattle.word_core.specs.Letters.{IsOver};

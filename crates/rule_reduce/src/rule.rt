@@ -1,8 +1,11 @@
-ghost use Rattle.std.specs.Prelude.{◌≡◌, ◌<◌, length, slice_get, get_or};
+//! Rules: polynomials with their leading terms.
+
+ghost use Rattle.std.specs.Prelude.{◌≡◌, ◌<◌, ◌≤◌, length, slice_get, get_or, Some};
 ghost use Rattle.std.specs.List.{All};
 ghost use Rattle.word_core.specs.Letters.{IsOver};
 ghost use Rattle.definitions.specs.Poly.{Term};
 ghost use Rattle.rule_reduce.specs.Leading.{greater_term, leading_term};
+ghost use Rattle.rule_reduce.specs.RuleLists.{rule_at};
 
 use nc_polynomial::Poly;
 use std::cmp::Ordering;
@@ -18,6 +21,15 @@ pub struct Rule {
     pub lead: Word,
     /// The polynomial.
     pub poly: Poly,
+}
+
+/// The rule with this number, which there is.
+pub fn rule_with(rules: &[Rule], number: u32) -> &Rule
+    requires first { 0 < number }
+    requires last { number ≤ length rules.now }
+    ensures { rule_at rules.now number ≡ Some result.now }
+{
+    &rules[number as usize - 1]
 }
 
 /// The place of the leading term.

@@ -1,3 +1,5 @@
+//! Numbered rules, and the normal forms that they give.
+
 ghost use Rattle.std.specs.Prelude.{◌≡◌, ◌<◌, ◌^◌, length};
 ghost use Rattle.std.specs.List.{All};
 ghost use Rattle.rule_reduce.specs.RuleLists.{IsRule, entries_of};

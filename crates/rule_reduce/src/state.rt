@@ -1,3 +1,5 @@
+//! How far a reduction has come, and what its next step takes away.
+
 use cofactor_trace::Row;
 use lists::Listing;
 use word_core::Word;

@@ -1,21 +1,22 @@
-ghost use Rattle.std.specs.Prelude.{◌≡◌, ◌<◌, ◌≤◌, ◌<ℤ◌, ◌+◌, ◌^◌, ℕ, pos, map, MatchResult, MatchOption, IfOk, Ok, Some, None};
+//! One step of a reduction: a multiple of a rule is taken away, and a row is added.
+
+ghost use Rattle.std.specs.Prelude.{◌≡◌, ◌<◌, ◌≤◌, ◌<ℤ◌, ◌+◌, ◌^◌, ℕ, pos, map, length, MatchResult, IfOk, Ok};
 ghost use Rattle.std.specs.List.{All};
 ghost use Rattle.coef_int.specs.Range.{IsCoefficient};
 ghost use Rattle.word_core.specs.Letters.{IsOver};
 ghost use Rattle.nc_polynomial.specs.Shape.{IsShaped};
 ghost use Rattle.nc_polynomial.specs.Faults.{checked, finished, Explains};
-ghost use Rattle.rule_reduce.specs.RuleLists.{rule_at};
 ghost use Rattle.rule_reduce.specs.Steps.{multiplied_row, row_operations, multiplied_state, state_operations, less_multiple, less_operations, move_of, move_result, step_result, IsInRange};
 
 use crate::Rule;
 use crate::parts::{back, front};
+use crate::rule::rule_with;
 use crate::state::{Choice, State};
 use coef_int::{divisor, quotient};
 use cofactor_trace::{Origin, Row};
 use lists::Listing;
 use nc_polynomial::{Poly, PolyFault, merge_terms, multiply_terms, negate_terms, shift_terms};
 use std::alloc::Global;
-use std::collections::VecDeque;
 use word_core::Word;
 
 // The rows with their coefficients times a number, which is the right operand of each product.
@@ -26,8 +27,7 @@ fn multiply_rows(alloc: Global, rows: Listing<Row>, by: i128) -> Result<Listing<
     ensures exact { MatchResult result (λ v. checked (row_operations rows by) (map (multiplied_row by) rows) ≡ Ok v) (Explains (checked (row_operations rows by) (map (multiplied_row by) rows))) }
 {
     let mut multiplied = Listing::new(alloc);
-    let mut rest = VecDeque::from_vec(rows.into_vec());
-    while let Some(row) = rest.pop_front() {
+    for row in rows.into_vec() {
         let Row {
             coef,
             left,
@@ -126,17 +126,6 @@ fn take_away(alloc: Global, rule: &Rule, choice: Choice, state: State) -> Result
     Ok(next)
 }
 
-// The rule with this number.
-fn find_rule(rules: &[Rule], number: u32) -> Option<&Rule>
-    ensures { MatchOption result (rule_at rules.now number ≡ None) (λ g. rule_at rules.now number ≡ Some g.now) }
-{
-    let count = number as usize;
-    if count == 0 || count > rules.len() {
-        return None;
-    }
-    Some(&rules[count - 1])
-}
-
 // The step with this choice.
 pub(crate) fn take_step(
     alloc: Global,
@@ -146,6 +135,8 @@ pub(crate) fn take_step(
 ) -> Result<State, PolyFault>
     requires leading_in { All (λ g. IsCoefficient g.leading) rules.now }
     requires positive { All (λ g. pos 0 <ℤ g.leading) rules.now }
+    requires first { 0 < choice.number }
+    requires last { choice.number ≤ length rules.now }
     requires choice_in { IsCoefficient choice.coefficient }
     requires in_range { IsInRange state }
     requires steps { state.used + 1 < 2 ^ 32 }
@@ -154,8 +145,5 @@ pub(crate) fn take_step(
     ensures letters { IfOk result (λ t. (n : ℕ) → All (λ g. All (λ u. IsOver n u.1) g.poly.terms) rules.now → IsOver n choice.word → All (λ u. IsOver n u.1) state.rest → All (λ u. IsOver n u.1) t.rest) }
     ensures exact { MatchResult result (λ t. step_result rules.now choice state ≡ Ok t) (Explains (step_result rules.now choice state)) }
 {
-    match find_rule(rules, choice.number) {
-        Some(rule) => take_away(alloc, rule, choice, state),
-        None => Ok(state),
-    }
+    take_away(alloc, rule_with(rules, choice.number), choice, state)
 }

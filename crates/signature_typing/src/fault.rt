@@ -1,3 +1,5 @@
+//! Why a tree has no problem: the first fault with its code, its place and what is told of it.
+
 ghost use Rattle.std.specs.Prelude.{◌≡◌};
 ghost use Rattle.signature_typing.specs.Fault.{IsMemory, fault_at, told_name, told_polynomial, no_claim};
 

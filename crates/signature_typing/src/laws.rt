@@ -1,3 +1,5 @@
+//! The laws of statements and their problems. They have nothing to run.
+
 ghost use Rattle.signature_typing.specs.Laws.{EachStatementHasAProblemOrAFault};
 ghost use Rattle.signature_typing.specs.Unique.{ProblemIsUnique};
 

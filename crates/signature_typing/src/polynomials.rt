@@ -1,3 +1,5 @@
+//! The polynomials of the assumptions and the claims of a file, each its left side less its right one.
+
 ghost use Rattle.std.specs.Prelude.{◌≡◌, ◌++◌, None, Ok, IfOk, IfErr};
 ghost use Rattle.std.specs.List.{All};
 ghost use Rattle.statement_names.specs.Written.{equations_of, assumptions_of, claims_in, claims_of};

@@ -1,3 +1,5 @@
+//! The signatures of the assumptions and the claims of a file.
+
 ghost use Rattle.std.specs.Prelude.{◌≡◌, ◌++◌, None, Ok, IfOk, IfErr};
 ghost use Rattle.std.specs.List.{All};
 ghost use Rattle.statement_names.specs.Written.{equations_of, assumptions_of, claims_in, claims_of};

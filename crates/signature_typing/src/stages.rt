@@ -1,3 +1,5 @@
+//! The stages from a tree to its problem: names, signatures, polynomials, and at least one claim.
+
 ghost use Rattle.std.specs.Prelude.{◌≡◌, None, OnOk, IfOk, IfErr};
 ghost use Rattle.adjoint_rules.specs.Problem.{IsPosed};
 ghost use Rattle.signature_typing.specs.Fault.{Explains};

@@ -1,3 +1,5 @@
+//! What can be wrong with a name, a literal or a statement.
+
 ghost use Rattle.statement_names.specs.Faults.{IsMemory};
 
 use statement_syntax::Spot;

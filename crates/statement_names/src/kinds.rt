@@ -1,3 +1,5 @@
+//! What names are declared as: objects or maps.
+
 ghost use Rattle.std.specs.Prelude.{◌≡◌, ◌++◌, [], IfOk, OnOk};
 ghost use Rattle.statement_names.specs.Faults.{declared_in, kind_in};
 ghost use Rattle.statement_names.specs.Occurrences.{occurrences_of};

@@ -1,3 +1,5 @@
+//! The values of literals, and which values may stand where.
+
 ghost use Rattle.std.specs.Prelude.{◌≡◌, None, Some, OnOk, IfErr};
 ghost use Rattle.statement_names.specs.Faults.{is_between, is_modulus, value_of};
 ghost use Rattle.statement_names.specs.Survey.{number_fault};

@@ -1,3 +1,5 @@
+//! The objects whose identities the assumptions and the claims of a file write.
+
 ghost use Rattle.std.specs.Prelude.{◌≡◌, ◌≤◌, ◌^◌, ◌||◌, false, length, map, IfOk, OnOk};
 ghost use Rattle.std.specs.List.{list_any, slice_index_or};
 ghost use Rattle.quiver.specs.Declarations.{named_in, object_count};

@@ -1,3 +1,5 @@
+//! What the names of a file stand for, or the first thing that is wrong with them.
+
 ghost use Rattle.std.specs.Prelude.{◌≡◌, IfOk, IfErr, OnOk, None};
 ghost use Rattle.statement_names.specs.Faults.{name_fault_of, Explains};
 ghost use Rattle.statement_names.specs.Numbered.{declarations_of};

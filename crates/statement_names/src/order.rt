@@ -1,3 +1,5 @@
+//! The order of words that a file asks for.
+
 ghost use Rattle.std.specs.Prelude.{◌≡◌, ◌≤◌, None, IfOk, IsTrue};
 ghost use Rattle.std.specs.List.{All, flat_map};
 ghost use Rattle.quiver.specs.Declarations.{named_in};

@@ -1,3 +1,5 @@
+//! The shapes of models that a file asks for, or the two that are looked for where it asks for none.
+
 ghost use Rattle.std.specs.Prelude.{◌≡◌, ◌≢◌, ◌≤◌, ◌<◌, ◌^◌, AllPairs, replicate, None, IfOk, IsTrue};
 ghost use Rattle.std.specs.List.{All};
 ghost use Rattle.quiver.specs.Declarations.{named_in, object_count};

@@ -1,3 +1,5 @@
+//! The maps that a file solves for.
+
 ghost use Rattle.std.specs.Prelude.{◌≡◌, ◌≤◌, ◌^◌, false, length, map, IfOk};
 ghost use Rattle.std.specs.List.{list_any, slice_index_or};
 ghost use Rattle.quiver.specs.Declarations.{letter_count};

@@ -1,3 +1,5 @@
+//! Whether a file speaks of adjoints.
+
 ghost use Rattle.std.specs.Prelude.{◌≡◌};
 ghost use Rattle.statement_names.specs.Marked.{is_starred, is_starred_in};
 

@@ -12,7 +12,6 @@ use Rattle.statement_syntax.specs.declared.tree.StatementKind.{StatementKind}
 use Rattle.statement_syntax.specs.declared.tree.StatementKind.TheVariants as statement
 use Rattle.statement_syntax.specs.declared.expression.Misfit.{Misfit}
 use Rattle.statement_syntax.specs.declared.expression.Misfit.TheVariants.{Expected}
-use Rattle.statement_syntax.specs.declared.expression.ReadError.{ReadError}
 use Rattle.statement_syntax.specs.declared.expression.Reading.{Reading}
 use Rattle.statement_syntax.specs.declared.expression.Part.TheVariants.{Nothing}
 use Rattle.statement_syntax.specs.declared.line.ListWord.{ListWord}
@@ -221,11 +220,6 @@ shape_end m p = whole_pairs p >>= λ ps. Ok (statement.Shape m ps)
 
 abbrev pub statement_by : Spot → Result StatementKind Misfit → Result Statement Misfit
 statement_by at r = r >>= λ kind. Ok (record { at = at; kind = kind })
-
--- the same where memory may have run out
-abbrev pub statement_of : Spot → Result StatementKind ReadError → Result Statement ReadError
-statement_of at (Ok kind) = Ok (record { at = at; kind = kind })
-statement_of at (Err e) = Err e
 
 abbrev pub line_end : Line → Result Statement Misfit
 line_end line.Start = Err Expected

@@ -1,27 +1,26 @@
 //! A token where one of its kind is expected.
 
 ghost use Rattle.std.specs.Prelude.{◌≡◌};
-ghost use Rattle.statement_syntax.specs.Steps.{Gives};
 ghost use Rattle.statement_syntax.specs.Lines.{name_in, number_in, is_word};
 
-use crate::expression::{Misfit, ReadError};
+use crate::expression::Misfit;
 use crate::token::{Token, TokenKind};
 use crate::tree::{Name, Number};
 
 /// The name.
-pub fn name_in(token: Token) -> Result<Name, ReadError>
-    ensures { Gives result (name_in token.kind token.at) }
+pub fn name_in(token: Token) -> Result<Name, Misfit>
+    ensures { result ≡ name_in token.kind token.at }
 {
     let Token { at, kind } = token;
     match kind {
         TokenKind::Name(text) => Ok(Name { text, at }),
-        _ => Err(ReadError::Misfit(Misfit::Expected)),
+        _ => Err(Misfit::Expected),
     }
 }
 
 /// The literal.
-pub fn number_in(token: &Token) -> Result<Number, ReadError>
-    ensures { Gives result (number_in token.now.kind token.now.at) }
+pub fn number_in(token: &Token) -> Result<Number, Misfit>
+    ensures { result ≡ number_in token.now.kind token.now.at }
 {
     match &token.kind {
         TokenKind::Literal(value) => {
@@ -31,7 +30,7 @@ pub fn number_in(token: &Token) -> Result<Number, ReadError>
                 at: token.at,
             })
         }
-        _ => Err(ReadError::Misfit(Misfit::Expected)),
+        _ => Err(Misfit::Expected),
     }
 }
 

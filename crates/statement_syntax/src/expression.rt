@@ -1,9 +1,9 @@
 //! What has been read of an expression.
 
-ghost use Rattle.std.specs.Prelude.{◌≡◌};
+ghost use Rattle.std.specs.Prelude.{◌≡◌, MatchResult, Ok, Err};
 ghost use Rattle.statement_syntax.specs.Steps.{Gives, Turns, empty_head, close_step, open_step, literal_step, signed_step, outside_step, token_step, whole_sum};
 ghost use Rattle.statement_syntax.specs.declared.expression.Focus.TheVariants.{Outside};
-ghost use Rattle.statement_syntax.specs.declared.expression.ReadError.TheVariants.{Memory};
+ghost use Rattle.statement_syntax.specs.declared.expression.ReadError.TheVariants as read_error;
 
 use crate::part::{ended_part, part_with, quote_step, sign_step, sum_with};
 use crate::place::Spot;
@@ -14,6 +14,9 @@ use lists::Listing;
 use std::alloc::{AllocError, AllocFailed, Global};
 use std::mem;
 use thiserror::Error;
+
+/// The greatest number of open round brackets.
+const BRACKET_LIMIT: usize = 64;
 
 /// What stands before the term that is read: the place of the sum's first token, if there is one, and the sign.
 #[derive(Drop)]
@@ -79,8 +82,16 @@ pub enum ReadError {
     Memory,
 }
 
+impl From<Misfit> for ReadError {
+    ghost from_gives = { λ misfit e. e ≡ read_error.Misfit misfit };
+
+    fn from(misfit: Misfit) -> ReadError {
+        ReadError::Misfit(misfit)
+    }
+}
+
 impl From<AllocError> for ReadError {
-    ghost from_gives = { λ _ e. e ≡ Memory };
+    ghost from_gives = { λ _ e. e ≡ read_error.Memory };
 
     fn from(_failed: AllocError) -> ReadError {
         ReadError::Memory
@@ -88,7 +99,7 @@ impl From<AllocError> for ReadError {
 }
 
 impl<T: Drop> From<AllocFailed<T>> for ReadError {
-    ghost from_gives = { λ _ e. e ≡ Memory };
+    ghost from_gives = { λ _ e. e ≡ read_error.Memory };
 
     fn from(_failed: AllocFailed<T>) -> ReadError {
         ReadError::Memory
@@ -127,7 +138,7 @@ fn open_step(alloc: Global, reading: &mut Reading, at: Spot) -> Result<(), ReadE
     requires { reading.old.focus ≡ Outside }
     ensures { Turns result reading.new (open_step reading.old.levels reading.old.head reading.old.part at) }
 {
-    if reading.levels.len() >= 64 {
+    if reading.levels.len() >= BRACKET_LIMIT {
         return Err(ReadError::Misfit(Misfit::TooDeep));
     }
     let head = mem::replace(&mut reading.head, empty_head(alloc));
@@ -136,16 +147,17 @@ fn open_step(alloc: Global, reading: &mut Reading, at: Spot) -> Result<(), ReadE
     Ok(())
 }
 
-fn literal_step(reading: &mut Reading, number: Number) -> Result<(), ReadError>
+fn literal_step(reading: &mut Reading, number: Number) -> Result<(), Misfit>
     requires { reading.old.focus ≡ Outside }
-    ensures { Turns result reading.new (literal_step reading.old.levels reading.old.head reading.old.part number) }
+    ensures { MatchResult result (λ _. literal_step reading.old.levels reading.old.head reading.old.part number ≡ Ok reading.new)
+        (λ misfit. literal_step reading.old.levels reading.old.head reading.old.part number ≡ Err misfit) }
 {
     match reading.part {
         Part::Nothing => {
             reading.part = Part::Scaled(number);
             Ok(())
         }
-        _ => Err(ReadError::Misfit(Misfit::Expected)),
+        _ => Err(Misfit::Expected),
     }
 }
 
@@ -173,7 +185,7 @@ fn outside_step(alloc: Global, reading: &mut Reading, token: Token) -> Result<()
             let letter = Primary::Letter(Name { text, at });
             Ok(part_with(alloc, &mut reading.part, letter, at)?)
         }
-        TokenKind::Literal(value) => literal_step(reading, Number { value, at }),
+        TokenKind::Literal(value) => Ok(literal_step(reading, Number { value, at })?),
         TokenKind::Plus => signed_step(alloc, reading, at, false),
         TokenKind::Minus => signed_step(alloc, reading, at, true),
         TokenKind::Open => open_step(alloc, reading, at),

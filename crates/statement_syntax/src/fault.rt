@@ -1,3 +1,5 @@
+//! What can be wrong with a text, with its place.
+
 ghost use Rattle.std.specs.Prelude.{◌≡◌};
 ghost use Rattle.statement_syntax.specs.Fault.{code_of, fault_at, scan_fault, misfit_fault};
 

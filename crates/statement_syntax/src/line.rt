@@ -2,7 +2,7 @@
 
 ghost use Rattle.std.specs.Prelude.{◌≡◌};
 ghost use Rattle.statement_syntax.specs.Steps.{Gives, Turns};
-ghost use Rattle.statement_syntax.specs.Lines.{IsPlain, line_step, statement_of, line_end};
+ghost use Rattle.statement_syntax.specs.Lines.{IsPlain, line_step, line_end};
 
 use crate::expected::number_in;
 use crate::expression::{Misfit, ReadError, Reading};
@@ -125,12 +125,12 @@ fn plain_line(alloc: Global, line: Line, token: Token) -> Result<Line, ReadError
     ensures { Gives result (line_step line token.kind token.at) }
 {
     match line {
-        Line::Start => start_step(alloc, &token),
+        Line::Start => Ok(start_step(alloc, &token)?),
         Line::List { word, at, names } => list_step(word, at, names, token),
         Line::Map { at, names, rest } => map_step(at, names, rest, token),
-        Line::Pair { word, at, first } => pair_step(word, at, first, token),
-        Line::Projection(at) => projection_step(at, token),
-        Line::Order(at) => order_step(alloc, at, &token),
+        Line::Pair { word, at, first } => Ok(pair_step(word, at, first, token)?),
+        Line::Projection(at) => Ok(projection_step(at, token)?),
+        Line::Order(at) => Ok(order_step(alloc, at, &token)?),
         Line::Weights(at, pairs) => Ok(Line::Weights(at, pairs_step(pairs, token)?)),
         Line::Model(at) => Ok(Line::Shape(at, number_in(&token)?, no_pairs(alloc))),
         Line::Shape(at, modulus, pairs) => {
@@ -140,30 +140,36 @@ fn plain_line(alloc: Global, line: Line, token: Token) -> Result<Line, ReadError
     }
 }
 
-fn statement_of(at: Spot, kind: Result<StatementKind, ReadError>) -> Result<Statement, ReadError>
-    ensures { result ≡ statement_of at kind }
-{
-    match kind {
-        Ok(kind) => Ok(Statement { at, kind }),
-        Err(error) => Err(error),
-    }
-}
-
 /// The statement, where the line may end here.
 pub fn line_end(alloc: Global, line: Line) -> Result<Statement, ReadError>
     ensures { Gives result (line_end line) }
 {
     match line {
-        Line::List { word, at, names } => statement_of(at, list_end(word, names)),
-        Line::Map { at, names, rest } => statement_of(at, map_end(names, rest)),
+        Line::List { word, at, names } => Ok(Statement {
+            at,
+            kind: list_end(word, names)?,
+        }),
+        Line::Map { at, names, rest } => Ok(Statement {
+            at,
+            kind: map_end(names, rest)?,
+        }),
         Line::Sides {
             word,
             at,
             left,
             reading,
-        } => statement_of(at, sides_end(alloc, word, left, reading)),
-        Line::Weights(at, pairs) => statement_of(at, weights_end(pairs)),
-        Line::Shape(at, modulus, pairs) => statement_of(at, shape_end(modulus, pairs)),
+        } => Ok(Statement {
+            at,
+            kind: sides_end(alloc, word, left, reading)?,
+        }),
+        Line::Weights(at, pairs) => Ok(Statement {
+            at,
+            kind: weights_end(pairs)?,
+        }),
+        Line::Shape(at, modulus, pairs) => Ok(Statement {
+            at,
+            kind: shape_end(modulus, pairs)?,
+        }),
         Line::Whole(statement) => Ok(statement),
         Line::Start | Line::Pair { .. } | Line::Projection(_) | Line::Order(_) | Line::Model(_) =>
             Err(ReadError::Misfit(Misfit::Expected)),

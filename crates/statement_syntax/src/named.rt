@@ -28,11 +28,11 @@ pub fn list_step(
 }
 
 /// The statement, where there is a name.
-pub fn list_end(word: ListWord, names: Listing<Name>) -> Result<StatementKind, ReadError>
-    ensures { Gives result (list_end word names) }
+pub fn list_end(word: ListWord, names: Listing<Name>) -> Result<StatementKind, Misfit>
+    ensures { result ≡ list_end word names }
 {
     if names.len() == 0 {
-        return Err(ReadError::Misfit(Misfit::Expected));
+        return Err(Misfit::Expected);
     }
     match word {
         ListWord::Object => Ok(StatementKind::Objects(names)),
@@ -102,8 +102,8 @@ pub fn map_step(
 }
 
 /// The map without `self`, where its target is read.
-pub fn map_end(names: Listing<Name>, rest: MapRest) -> Result<StatementKind, ReadError>
-    ensures { Gives result (map_end names rest) }
+pub fn map_end(names: Listing<Name>, rest: MapRest) -> Result<StatementKind, Misfit>
+    ensures { result ≡ map_end names rest }
 {
     match rest {
         MapRest::Target(source, target) => Ok(StatementKind::Maps {
@@ -112,7 +112,7 @@ pub fn map_end(names: Listing<Name>, rest: MapRest) -> Result<StatementKind, Rea
             target,
             selfmade: false,
         }),
-        _ => Err(ReadError::Misfit(Misfit::Expected)),
+        _ => Err(Misfit::Expected),
     }
 }
 
@@ -132,8 +132,8 @@ pub fn pair_step(
     at: Spot,
     first: Option<Name>,
     token: Token,
-) -> Result<Line, ReadError>
-    ensures { Gives result (pair_step word at first token.kind token.at) }
+) -> Result<Line, Misfit>
+    ensures { result ≡ pair_step word at first token.kind token.at }
 {
     let name = name_in(token)?;
     match first {
@@ -150,8 +150,8 @@ pub fn pair_step(
 }
 
 /// The name of `projection`.
-pub fn projection_step(at: Spot, token: Token) -> Result<Line, ReadError>
-    ensures { Gives result (projection_step at token.kind token.at) }
+pub fn projection_step(at: Spot, token: Token) -> Result<Line, Misfit>
+    ensures { result ≡ projection_step at token.kind token.at }
 {
     let kind = StatementKind::Projection(name_in(token)?);
     Ok(Line::Whole(Statement { at, kind }))

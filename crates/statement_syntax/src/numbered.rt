@@ -40,18 +40,18 @@ pub fn pairs_step(pairs: Pairs, token: Token) -> Result<Pairs, ReadError>
     }
 }
 
-fn whole_pairs(pairs: Pairs) -> Result<Listing<(Name, Number)>, ReadError>
-    ensures { Gives result (whole_pairs pairs) }
+fn whole_pairs(pairs: Pairs) -> Result<Listing<(Name, Number)>, Misfit>
+    ensures { result ≡ whole_pairs pairs }
 {
     match pairs.half {
         None => Ok(pairs.whole),
-        Some(_) => Err(ReadError::Misfit(Misfit::Expected)),
+        Some(_) => Err(Misfit::Expected),
     }
 }
 
 /// The word after `order`.
-pub fn order_step(alloc: Global, at: Spot, token: &Token) -> Result<Line, ReadError>
-    ensures { Gives result (order_step at token.now.kind) }
+pub fn order_step(alloc: Global, at: Spot, token: &Token) -> Result<Line, Misfit>
+    ensures { result ≡ order_step at token.now.kind }
 {
     if is_word(token, "degree") {
         let kind = StatementKind::Degree;
@@ -60,23 +60,23 @@ pub fn order_step(alloc: Global, at: Spot, token: &Token) -> Result<Line, ReadEr
     if is_word(token, "weight") {
         return Ok(Line::Weights(at, no_pairs(alloc)));
     }
-    Err(ReadError::Misfit(Misfit::Expected))
+    Err(Misfit::Expected)
 }
 
 /// The statement, where each of one or more names has its weight.
-pub fn weights_end(pairs: Pairs) -> Result<StatementKind, ReadError>
-    ensures { Gives result (weights_end pairs) }
+pub fn weights_end(pairs: Pairs) -> Result<StatementKind, Misfit>
+    ensures { result ≡ weights_end pairs }
 {
     let weights = whole_pairs(pairs)?;
     if weights.len() == 0 {
-        return Err(ReadError::Misfit(Misfit::Expected));
+        return Err(Misfit::Expected);
     }
     Ok(StatementKind::Weight(weights))
 }
 
 /// The statement, where each name has its side.
-pub fn shape_end(modulus: Number, pairs: Pairs) -> Result<StatementKind, ReadError>
-    ensures { Gives result (shape_end modulus pairs) }
+pub fn shape_end(modulus: Number, pairs: Pairs) -> Result<StatementKind, Misfit>
+    ensures { result ≡ shape_end modulus pairs }
 {
     let sides = whole_pairs(pairs)?;
     Ok(StatementKind::Shape { modulus, sides })

@@ -1,10 +1,9 @@
 //! The first word of a line.
 
 ghost use Rattle.std.specs.Prelude.{◌≡◌};
-ghost use Rattle.statement_syntax.specs.Steps.{Gives};
 ghost use Rattle.statement_syntax.specs.Lines.{opening_in, opened, start_step};
 
-use crate::expression::{Misfit, ReadError};
+use crate::expression::Misfit;
 use crate::line::{Line, ListWord, MapRest, Opening, PairWord, SidesWord};
 use crate::place::Spot;
 use crate::sides::start_reading;
@@ -75,14 +74,14 @@ fn opened(alloc: Global, opening: Opening, at: Spot) -> Line
 }
 
 /// The line that a word begins.
-pub fn start_step(alloc: Global, token: &Token) -> Result<Line, ReadError>
-    ensures { Gives result (start_step token.now.kind token.now.at) }
+pub fn start_step(alloc: Global, token: &Token) -> Result<Line, Misfit>
+    ensures { result ≡ start_step token.now.kind token.now.at }
 {
     match &token.kind {
         TokenKind::Name(text) => match opening_in(text.as_str()) {
             Some(opening) => Ok(opened(alloc, opening, token.at)),
-            None => Err(ReadError::Misfit(Misfit::Expected)),
+            None => Err(Misfit::Expected),
         },
-        _ => Err(ReadError::Misfit(Misfit::Expected)),
+        _ => Err(Misfit::Expected),
     }
 }

@@ -59,6 +59,14 @@ pub enum ScanError {
     Memory,
 }
 
+impl From<ScanFault> for ItemError {
+    ghost from_gives = { λ fault e. e ≡ item_error.Fault fault };
+
+    fn from(fault: ScanFault) -> ItemError {
+        ItemError::Fault(fault)
+    }
+}
+
 impl From<AllocError> for ItemError {
     ghost from_gives = { λ _ e. e ≡ item_error.Memory };
 
@@ -116,8 +124,8 @@ fn spelled(alloc: Global, first: char, more: &[char]) -> Result<Text, AllocError
     Ok(out)
 }
 
-fn sign_at(ch: char) -> Result<Item, ItemError>
-    ensures { GivesItem result (sign_at ch) }
+fn sign_at(ch: char) -> Result<Item, ScanFault>
+    ensures { result ≡ sign_at ch }
 {
     let kind = match ch {
         ':' => TokenKind::Colon,
@@ -128,11 +136,12 @@ fn sign_at(ch: char) -> Result<Item, ItemError>
         '[' => TokenKind::OpenSquare,
         ']' => TokenKind::CloseSquare,
         '\'' => TokenKind::Quote,
-        _ => return Err(ItemError::Fault(ScanFault::BadToken)),
+        _ => return Err(ScanFault::BadToken),
     };
     Ok(Item::Token(kind, 0))
 }
 
+// The greatest value of a literal.
 const LARGEST: u128 = 170141183460469231731687303715884105727;
 
 // The value of digits, or None where it is 2^127 or more.
@@ -153,25 +162,28 @@ fn value_of(first: char, more: &[char]) -> Option<u128>
     Some(value)
 }
 
+// The greatest number of bytes of a name.
+const NAME_LIMIT: usize = 32;
+
 fn name_at(alloc: Global, first: char, rest: &[char]) -> Result<Item, ItemError>
     ensures { GivesItem result (name_of (encode_utf8_all (first ∷ take_while is_xid_continue rest.now)) (prefix_len is_xid_continue rest.now)) }
 {
     let more = run_len(Class::Name, rest);
     let text = spelled(alloc, first, &rest[..more])?;
-    if text.len() <= 32 {
+    if text.len() <= NAME_LIMIT {
         Ok(Item::Token(TokenKind::Name(text), more))
     } else {
         Err(ItemError::Fault(ScanFault::BadToken))
     }
 }
 
-fn literal_at(first: char, rest: &[char]) -> Result<Item, ItemError>
-    ensures { GivesItem result (literal_of (value_from 0 (first ∷ take_while is_digit rest.now)) (prefix_len is_digit rest.now)) }
+fn literal_at(first: char, rest: &[char]) -> Result<Item, ScanFault>
+    ensures { result ≡ literal_of (value_from 0 (first ∷ take_while is_digit rest.now)) (prefix_len is_digit rest.now) }
 {
     let more = run_len(Class::Digit, rest);
     match value_of(first, &rest[..more]) {
         Some(value) => Ok(Item::Token(TokenKind::Literal(value as i128), more)),
-        None => Err(ItemError::Fault(ScanFault::LiteralTooLarge)),
+        None => Err(ScanFault::LiteralTooLarge),
     }
 }
 
@@ -198,7 +210,7 @@ fn item_at(alloc: Global, first: char, rest: &[char]) -> Result<Item, ItemError>
     } else if starts_name(first) {
         name_at(alloc, first, rest)
     } else if is_in(Class::Digit, first) {
-        literal_at(first, rest)
+        Ok(literal_at(first, rest)?)
     } else if first == '-' {
         if begins_with('>', rest) {
             Ok(Item::Token(TokenKind::Arrow, 1))
@@ -206,7 +218,7 @@ fn item_at(alloc: Global, first: char, rest: &[char]) -> Result<Item, ItemError>
             Ok(Item::Token(TokenKind::Minus, 0))
         }
     } else {
-        sign_at(first)
+        Ok(sign_at(first)?)
     }
 }
 

@@ -1,3 +1,5 @@
+//! Tokens with their places.
+
 use crate::place::Spot;
 use lists::Text;
 

@@ -1,3 +1,5 @@
+//! Trees: the statements of a text, with their names, literals and expressions.
+
 ghost use Rattle.statement_syntax.specs.Fault.{HasText};
 
 use crate::place::Spot;

@@ -1,3 +1,5 @@
+//! The places at which an end of one word is a beginning of another.
+
 ghost use Rattle.std.specs.Prelude.{◌≡◌, ◌≤◌, length, IfOk};
 ghost use Rattle.word_core.specs.Overlap.{overlap_places, overlaps_at};
 

@@ -1,3 +1,5 @@
+//! The order that a statement asks for, one of three.
+
 ghost use Rattle.std.specs.Prelude.{◌≡◌, ◌≤◌, ◌^◌, ℕ, List, IfOk, MatchResult};
 ghost use Rattle.word_orders.specs.Specified.{asked_cmp, IsSound, ExplainsSpec, made_cmp, letters_of, made_rank, made_cmp-admissible};
 

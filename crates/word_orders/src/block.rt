@@ -1,4 +1,6 @@
-ghost use Rattle.std.specs.Prelude.{◌≡◌, ℕ, length, replicate, set, count_by, MatchResult, IfOk, OnOk, Some, None, true, false};
+//! The order of words by the numbers of letters of a block.
+
+ghost use Rattle.std.specs.Prelude.{◌≡◌, ℕ, length, replicate, set, count_by, MatchResult, IfOk, OnOk, OnErr, Some, None, true, false};
 ghost use Rattle.word_orders.specs.Faults.{block_fault, Explains, HasNoFault};
 ghost use Rattle.word_orders.specs.Tables.{is_in, fault_in_block};
 ghost use Rattle.word_orders.specs.Lists.{is_listed};
@@ -51,11 +53,12 @@ impl BlockLex {
         })
     }
 
-    // Puts a letter into the block, unless it is there or is no letter.
+    // Puts a letter into the block, unless it is there or is no letter; all stays then.
     fn put(&mut self, letter: Letter) -> Result<(), OrderFault>
         ensures ok { OnOk result (self.new ≡ set self.old letter.0 true) }
         ensures fault { MatchResult result (λ _. fault_in_block self.old letter ≡ None)
             (λ fault. fault_in_block self.old letter ≡ Some fault) }
+        ensures err { OnErr result (self.new ≡ self.old) }
     {
         let number = usize::from(letter.0);
         match self.block.get(number) {

@@ -1,3 +1,5 @@
+//! The canonical order of words: shorter words first, and then letter by letter.
+
 ghost use Rattle.std.specs.Prelude.{◌^◌};
 ghost use Rattle.word_core.specs.Canonical.{word_cmp};
 ghost use Rattle.word_orders.specs.Rank.{rank_of};

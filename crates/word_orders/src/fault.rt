@@ -1,3 +1,5 @@
+//! What can be wrong with the list of an order.
+
 ghost use Rattle.word_orders.specs.Faults.{IsMemory};
 
 use std::alloc::{AllocError, AllocFailed};

@@ -1,3 +1,5 @@
+//! Admissible orders of words, as a trait whose laws each order proves.
+
 ghost use Rattle.std.specs.Prelude.{◌≡◌, List, ℕ};
 ghost use Rattle.std.specs.declared.cmp.Ordering.{Ordering};
 ghost use Rattle.word_core.specs.Letters.{IsOver};

@@ -1,4 +1,6 @@
-ghost use Rattle.std.specs.Prelude.{◌≡◌, ℕ, length, replicate, set, sum_by, MatchResult, IfOk, OnOk, Some, None};
+//! The order of words by the sums of their letters' weights.
+
+ghost use Rattle.std.specs.Prelude.{◌≡◌, ℕ, length, replicate, set, sum_by, MatchResult, IfOk, OnOk, OnErr, Some, None};
 ghost use Rattle.word_orders.specs.Faults.{entry_fault, Explains, HasNoFault};
 ghost use Rattle.word_orders.specs.Tables.{weight_in, fault_in};
 ghost use Rattle.word_orders.specs.Lists.{weight_of};
@@ -59,11 +61,12 @@ impl WeightLex {
         })
     }
 
-    // Gives a letter its weight, unless the letter has one or the entry is no entry of a list of weights.
+    // Gives a letter its weight, unless the letter has one or the entry is no entry of a list of weights; all stays then.
     fn put(&mut self, entry: &(Letter, u32)) -> Result<(), OrderFault>
         ensures ok { OnOk result (self.new ≡ set self.old entry.now.0.0 (Some entry.now.1)) }
         ensures fault { MatchResult result (λ _. fault_in self.old entry.now ≡ None)
             (λ fault. fault_in self.old entry.now ≡ Some fault) }
+        ensures err { OnErr result (self.new ≡ self.old) }
     {
         let (letter, weight) = *entry;
         let number = usize::from(letter.0);

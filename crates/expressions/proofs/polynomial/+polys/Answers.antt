@@ -42,7 +42,7 @@ sum_poly-returns-in_err-poly t c =
 pub sum_poly-loop-term-preserved : goal.sum_poly-loop-term-preserved
 sum_poly-loop-term-preserved t c =
     let ok : term_poly c.args.quiver.now c.term-item.result ≡ Ok c.in_ok-poly.poly.terms = search rules in
-    sum-next c.args.quiver.now c.args.sum.now c.as_slice-term-items.result.now c.as_slice-term-items.ensures c.loop-term.term-index c.loop-term.summands.items c.loop-term.invariant c.term-item.result c.loop-term-test.true c.term-item.is c.in_ok-poly.poly ok c.push_back.new.self.items (search rules)
+    sum-next c.args.quiver.now c.args.sum.now c.as_slice-term-items.result.now c.as_slice-term-items.ensures c.loop-term.term-index c.loop-term.summands.items c.loop-term.invariant c.term-item.result c.loop-term-test.true c.term-item.is c.in_ok-poly.poly ok c.push.new.self.items (search rules)
 
 pub sum_poly-returns : goal.sum_poly-returns
 sum_poly-returns t c =
@@ -65,7 +65,7 @@ term_poly-returns-in_err-factor_poly t c =
 pub term_poly-loop-factor-preserved : goal.term_poly-loop-factor-preserved
 term_poly-loop-factor-preserved t c =
     let ok : factor_poly c.args.quiver.now c.factor-item.result ≡ Ok c.in_ok-factor_poly.field-0.terms = search rules in
-    product-next c.args.quiver.now c.args.term.now c.as_slice-factor-items.result.now c.as_slice-factor-items.ensures c.loop-factor.factor-index c.loop-factor.polys.items c.loop-factor.invariant c.factor-item.result c.loop-factor-test.true c.factor-item.is c.in_ok-factor_poly.field-0 ok c.push_back.new.self.items (search rules)
+    product-next c.args.quiver.now c.args.term.now c.as_slice-factor-items.result.now c.as_slice-factor-items.ensures c.loop-factor.factor-index c.loop-factor.polys.items c.loop-factor.invariant c.factor-item.result c.loop-factor-test.true c.factor-item.is c.in_ok-factor_poly.field-0 ok c.push.new.self.items (search rules)
 
 pub term_poly-returns-in_err-product : goal.term_poly-returns-in_err-product
 term_poly-returns-in_err-product t c =

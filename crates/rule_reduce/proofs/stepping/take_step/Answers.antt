@@ -5,8 +5,8 @@ use Rattle.rule_reduce.specs.Steps.{step_result}
 use Rattle.rule_reduce.proofs.LettersKept.{step_letters}
 use Rattle.rule_reduce.proofs.stepping.take_step.Goals as goal
 
-pub returns-in-Some-clause-letters : goal.returns-in-Some-clause-letters
-returns-in-Some-clause-letters c =
+pub returns-clause-letters : goal.returns-clause-letters
+returns-clause-letters c =
     let choice = c.args.choice in
     let s = c.args.state in
     let whole = step_result c.args.rules.now choice s in

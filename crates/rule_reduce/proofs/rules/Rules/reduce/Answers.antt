@@ -1,4 +1,4 @@
-use Rattle.std.proofs.Common.{rules, ◌≡◌, ◌+◌, ◌-◌, suc, zero, List, Some, None, Ok, Result, IfSome, arith, sym, ap, ◌∙◌, subst}
+use Rattle.std.proofs.Common.{rules, ◌≡◌, ◌≤◌, ◌+◌, ◌-◌, suc, length, zero, List, Some, None, Ok, Result, IfSome, arith, sym, ap, ◌∙◌, subst}
 use Rattle.std.specs.List.{All}
 use Rattle.word_core.specs.Letters.{IsOver}
 use Rattle.nc_polynomial.specs.Faults.{Explains}
@@ -11,6 +11,8 @@ use Rattle.rule_reduce.specs.Steps.{step_result}
 use Rattle.rule_reduce.specs.NormalForms.{halt_of, reduction, ExplainsHalt}
 use Rattle.rule_reduce.proofs.Settled.{if_borrowed, step_settles}
 use Rattle.rule_reduce.proofs.Rounds.{stops, goes_on, explains_fault, runs_out}
+use Rattle.rule_reduce.proofs.Chosen.{found}
+use Rattle.rule_reduce.proofs.RowsByRules.{number_within}
 use Rattle.rule_reduce.proofs.rules.Rules.reduce.Goals as goal
 
 pub returns-in-Err-clause-exact : goal.returns-in-Err-clause-exact
@@ -22,8 +24,8 @@ returns-in-Err-clause-exact g c =
     let choice = c.in-Some.choice in
     let e = c.in-Err.fault in
     let left = limit - c.loop.counter - 1 in
-    let found : choice_of compare c.args.self.now.index s.rest ≡ Some choice = search rules in
-    let pick = subst (λ es. choice_of compare es s.rest ≡ Some choice) c.args.self.now.indexed found in
+    let picked : choice_of compare c.args.self.now.index s.rest ≡ Some choice = search rules in
+    let pick = subst (λ es. choice_of compare es s.rest ≡ Some choice) c.args.self.now.indexed picked in
     let why : Explains (step_result all choice s) e = search rules in
     let more : suc left ≡ limit - c.loop.counter = omega arith in
     let same = ap (λ n. reduction limit compare all n s) more ∙ c.loop.invariant.same in
@@ -40,8 +42,8 @@ loop-preserved g c =
     let choice = c.in-Some.choice in
     let next = c.in-Ok.next in
     let left = limit - c.loop.counter - 1 in
-    let found : choice_of compare c.args.self.now.index s.rest ≡ Some choice = search rules in
-    let pick = subst (λ es. choice_of compare es s.rest ≡ Some choice) c.args.self.now.indexed found in
+    let picked : choice_of compare c.args.self.now.index s.rest ≡ Some choice = search rules in
+    let pick = subst (λ es. choice_of compare es s.rest ≡ Some choice) c.args.self.now.indexed picked in
     let same_rules : c.as_slice.result.now ≡ all = search rules in
     let stepped : step_result all choice s ≡ Ok next = search rules in
     let more : suc left ≡ limit - c.loop.counter = omega arith in
@@ -68,8 +70,8 @@ returns-in-Some-2-clause-exact g c =
     let limit = c.args.steps in
     let s = c.loop.state in
     let choice = c.in-Some-2.field-0 in
-    let found : choice_of compare c.args.self.now.index s.rest ≡ Some choice = search rules in
-    let pick = subst (λ es. choice_of compare es s.rest ≡ Some choice) c.args.self.now.indexed found in
+    let picked : choice_of compare c.args.self.now.index s.rest ≡ Some choice = search rules in
+    let pick = subst (λ es. choice_of compare es s.rest ≡ Some choice) c.args.self.now.indexed picked in
     let none_left : limit - c.loop.counter ≡ zero = omega arith in
     sym c.loop.invariant.same ∙ ap (λ n. reduction limit compare all n s) none_left ∙ runs_out limit compare all s choice pick
 
@@ -79,8 +81,8 @@ returns-in-None-2-clause-exact g c =
     let all = c.args.self.now.rules in
     let limit = c.args.steps in
     let s = c.loop.state in
-    let found : choice_of compare c.args.self.now.index s.rest ≡ None = search rules in
-    let pick = subst (λ es. choice_of compare es s.rest ≡ None) c.args.self.now.indexed found in
+    let picked : choice_of compare c.args.self.now.index s.rest ≡ None = search rules in
+    let pick = subst (λ es. choice_of compare es s.rest ≡ None) c.args.self.now.indexed picked in
     sym c.loop.invariant.same ∙ stops limit compare all s (limit - c.loop.counter) pick
 
 pub returns-in-None-clause-exact : goal.returns-in-None-clause-exact
@@ -89,9 +91,33 @@ returns-in-None-clause-exact g c =
     let all = c.args.self.now.rules in
     let limit = c.args.steps in
     let s = c.loop.state in
-    let found : choice_of compare c.args.self.now.index s.rest ≡ None = search rules in
-    let pick = subst (λ es. choice_of compare es s.rest ≡ None) c.args.self.now.indexed found in
+    let picked : choice_of compare c.args.self.now.index s.rest ≡ None = search rules in
+    let pick = subst (λ es. choice_of compare es s.rest ≡ None) c.args.self.now.indexed picked in
     sym c.loop.invariant.same ∙ stops limit compare all s (limit - c.loop.counter) pick
+
+-- the rule that is chosen is there
+pub take_step-requires-clause-first : goal.take_step-requires-clause-first
+take_step-requires-clause-first g c =
+    let compare = g.O.WordOrder.compare c.args.self.now.order in
+    let all = c.args.self.now.rules in
+    let terms = c.loop.state.rest in
+    let choice = c.in-Some.choice in
+    let picked : choice_of compare c.args.self.now.index terms ≡ Some choice = search rules in
+    let pick = subst (λ es. choice_of compare es terms ≡ Some choice) c.args.self.now.indexed picked in
+    let match = (found compare all terms choice pick).match in
+    (number_within all choice.number match.rule match.numbered).0
+
+pub take_step-requires-clause-last : goal.take_step-requires-clause-last
+take_step-requires-clause-last g c =
+    let compare = g.O.WordOrder.compare c.args.self.now.order in
+    let all = c.args.self.now.rules in
+    let terms = c.loop.state.rest in
+    let choice = c.in-Some.choice in
+    let picked : choice_of compare c.args.self.now.index terms ≡ Some choice = search rules in
+    let pick = subst (λ es. choice_of compare es terms ≡ Some choice) c.args.self.now.indexed picked in
+    let match = (found compare all terms choice pick).match in
+    let same : c.as_slice.result.now ≡ all = search rules in
+    subst (λ rs. choice.number ≤ length rs) (sym same) (number_within all choice.number match.rule match.numbered).1
 
 pub choose-requires-clause-settled : goal.choose-requires-clause-settled
 choose-requires-clause-settled g c =

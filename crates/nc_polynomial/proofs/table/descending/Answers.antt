@@ -2,7 +2,7 @@ use Rattle.std.proofs.Common.{rules, ◌≡◌, ◌++◌, [], ◌∷◌, ap, ◌
 use Rattle.nc_polynomial.specs.Ascending.{reversed}
 use Rattle.nc_polynomial.specs.Terms.{keep}
 use Rattle.nc_polynomial.proofs.Tables.{reversed-step}
-use Rattle.nc_polynomial.proofs.collect.descending.Goals as goal
+use Rattle.nc_polynomial.proofs.table.descending.Goals as goal
 
 pub loop-word-preserved : goal.loop-word-preserved
 loop-word-preserved c =

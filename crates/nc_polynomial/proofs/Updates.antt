@@ -1,0 +1,47 @@
+-- one change of the table in which a sum is kept
+use Rattle.std.proofs.Common.{◌≡◌, ◌≢◌, ℕ, ℤ, pos, ◌+ℤ◌, List, [], ◌∷◌, Bool, true, false, cond, Option, Some, unwrap_or, sym, refl, ap, ◌∙◌, subst}
+use Rattle.std.specs.BTreeMap.{BTreeMap, get, is_at, Updates}
+use Rattle.std.specs.Map.{lookup}
+use Rattle.std.proofs.Math.IntN.{+ℤ_idr}
+use Rattle.coef_int.specs.Range.{IsCoefficient}
+use Rattle.word_core.specs.Canonical.{word_cmp}
+use Rattle.definitions.specs.Poly.{word_eq}
+use Rattle.definitions.proofs.Linear.{word_eq-true}
+use Rattle.nc_polynomial.specs.Collected.{coefficient_in}
+use Rattle.nc_polynomial.specs.Running.{IsRunning, Adds}
+use Rattle.nc_polynomial.proofs.Words.{word_eq-cmp}
+
+module _ (m n : BTreeMap (List ℕ) ℤ) (w : List ℕ) (v : Option ℤ) (update : Updates word_cmp m n w v) where
+  -- what the map has after the change
+  get_after : (u : List ℕ) → get word_cmp n u ≡ cond (word_eq w u) v (get word_cmp m u)
+  get_after u = update.0 u ∙ ap (λ b. cond b v (get word_cmp m u)) (sym (word_eq-cmp w u))
+
+  -- the word's coefficient has grown by x, and no other has changed
+  pub adds_from_update : (x : ℤ) → unwrap_or v (pos 0) ≡ coefficient_in m w +ℤ x → Adds m n ((x, w) ∷ [])
+  adds_from_update x grown = record { at = λ u. ap (λ o. unwrap_or o (pos 0)) (get_after u) ∙ go u (word_eq w u) refl }
+    where
+      go : (u : List ℕ) (b : Bool) → word_eq w u ≡ b → unwrap_or (cond b v (get word_cmp m u)) (pos 0) ≡ coefficient_in m u +ℤ (cond (word_eq w u) x (pos 0) +ℤ pos 0)
+      go u true same = grown ∙ ap (λ y. coefficient_in m y +ℤ x) (word_eq-true w u same) ∙ ap (λ k. coefficient_in m u +ℤ k) (sym (ap (λ b. cond b x (pos 0) +ℤ pos 0) same ∙ +ℤ_idr x))
+      go u false apart = sym (ap (λ b. coefficient_in m u +ℤ (cond b x (pos 0) +ℤ pos 0)) apart ∙ +ℤ_idr (coefficient_in m u))
+
+  -- the map has still no zeros, and coefficients alone
+  pub running_from_update : IsRunning m → v ≢ Some (pos 0) → IsCoefficient (unwrap_or v (pos 0)) → IsRunning n
+  running_from_update running nonzero in_range = record {
+    nonzero = λ u zero. go u (word_eq w u) (sym (get_after u) ∙ zero);
+    in_range = λ u. subst (λ o. IsCoefficient (unwrap_or o (pos 0))) (sym (get_after u)) (within u (word_eq w u));
+  }
+    where
+      go : (u : List ℕ) (b : Bool) → cond b v (get word_cmp m u) ≡ Some (pos 0) → ⊥
+      go u true zero = nonzero zero
+      go u false zero = running.nonzero u zero
+
+      within : (u : List ℕ) (b : Bool) → IsCoefficient (unwrap_or (cond b v (get word_cmp m u)) (pos 0))
+      within u true = in_range
+      within u false = running.in_range u
+
+-- a map with the same entries
+pub running_from_entries : (m n : BTreeMap (List ℕ) ℤ) → n.entries ≡ m.entries → IsRunning m → IsRunning n
+running_from_entries m n same running = record {
+  nonzero = λ w zero. running.nonzero w (ap (lookup (is_at (word_cmp w))) (sym same) ∙ zero);
+  in_range = λ w. subst (λ es. IsCoefficient (unwrap_or (lookup (is_at (word_cmp w)) es) (pos 0))) (sym same) (running.in_range w);
+}

@@ -1,6 +1,0 @@
-use Rattle.std.proofs.Common.{◌≡◌, [], drop}
-use Rattle.nc_polynomial.specs.Product.{product_from}
-use Rattle.nc_polynomial.proofs.poly.Poly.product.Given as goal
-
-abbrev pub invariant-loop-term : goal.invariant-loop-term
-invariant-loop-term l = product_from l.sum.terms (drop l.term-index l.self.terms) l.right.terms ≡ product_from [] l.self.terms l.right.terms

@@ -1,0 +1,35 @@
+-- What is read of a report as models: the models of the claims that are refuted, in their order.
+use Rattle.std.specs.Prelude.{◌≡◌, ◌<◌, ◌≤◌, ℕ, List, [], ◌∷◌, length, IsTrue}
+use Rattle.std.specs.List.{All, list_all}
+use Rattle.nc_polynomial.specs.declared.poly.Poly.{Poly}
+use Rattle.quiver.specs.Declarations.{Declaration, IsDeclared}
+use Rattle.matrix_models.specs.declared.model.Model.{Model}
+use Rattle.certificate_text.specs.Fault.{no_block}
+use Rattle.certificate_text.specs.Back.{is_named}
+use Rattle.model_text.specs.Models.{HasModels, IsModels, IsFirstFault}
+use Rattle.model_text.specs.Back.{IsWritableModel}
+use Rattle.report_text.specs.declared.verdict.Verdict.{Verdict}
+use Rattle.report_text.specs.declared.verdict.Verdict.TheVariants as verdict
+use Rattle.report_text.specs.Report.{report_of, IsPolyOver}
+use Rattle.report_readback.specs.ReadBack.{IsWritableVerdict}
+
+-- The text has these models. Where there is one at least, they are what it is read as; where there is none, that is its first fault.
+pub record IsReadAsModels (ds : List Declaration) (bytes : List ℕ) (ms : List Model) : Type 0 where
+  pub has : HasModels ds bytes ms
+  pub some : 0 < length ms → IsModels ds bytes ms
+  pub none : ms ≡ [] → IsFirstFault ds bytes no_block
+
+-- the models of the claims that are refuted
+abbrev pub refuted_in : List Verdict → List Model
+refuted_in [] = []
+refuted_in (verdict.Proved e ∷ verdicts) = refuted_in verdicts
+refuted_in (verdict.NotDerivable rest ∷ verdicts) = refuted_in verdicts
+refuted_in (verdict.Refuted m ∷ verdicts) = m ∷ refuted_in verdicts
+refuted_in (verdict.Undecided h ∷ verdicts) = refuted_in verdicts
+refuted_in (verdict.NotRefuted candidates ∷ verdicts) = refuted_in verdicts
+
+-- A report of at most 100 verdicts is read as the models of those that are refuted, if these are models of the declarations.
+abbrev pub ReportsReadBackAsModels : Type 0
+ReportsReadBackAsModels = (ds : List Declaration) (rules : List Poly) (verdicts : List Verdict)
+    → IsDeclared ds → IsTrue (list_all is_named ds) → All (IsPolyOver ds) rules → All (IsWritableVerdict ds) verdicts → All (IsWritableModel ds) (refuted_in verdicts) → length verdicts ≤ 100
+    → IsReadAsModels ds (report_of ds rules verdicts) (refuted_in verdicts)
