@@ -4,11 +4,10 @@ ghost use Rattle.std.specs.Prelude.{◌≡◌, ◌↔◌, ◌≤◌, ◌<◌, �
 ghost use Rattle.std.specs.List.{All, AllPairs};
 ghost use Rattle.ambiguities.specs.Listed.{IsBefore, ListsExactly, IsAmbiguityFrom, IsOfFirst, IsOfPair, IsGrown, ambiguity_at};
 
-use crate::overlap::rule_with;
 use crate::places::inclusions;
 use crate::{Ambiguity, Kind};
 use lists::Listing;
-use rule_reduce::{Rule, Rules};
+use rule_reduce::{Rule, Rules, rule_with};
 use std::alloc::{AllocError, Global};
 use word_orders::WordOrder;
 

@@ -1,12 +1,11 @@
 //! The word in which the leading words of an ambiguity meet.
 
-ghost use Rattle.std.specs.Prelude.{◌≡◌, ◌<◌, ◌≤◌, length, IfOk, Some};
+ghost use Rattle.std.specs.Prelude.{◌≡◌, IfOk};
 ghost use Rattle.word_core.specs.Letters.{IsOver};
 ghost use Rattle.ambiguities.specs.Ambiguities.{IsAmbiguity, overlap_word_of};
-ghost use Rattle.rule_reduce.specs.RuleLists.{rule_at};
 
 use crate::{Ambiguity, Kind};
-use rule_reduce::{Rule, Rules};
+use rule_reduce::{Rule, Rules, rule_with};
 use std::alloc::AllocError;
 use word_core::Word;
 use word_orders::WordOrder;
@@ -33,13 +32,4 @@ pub(crate) fn make_word(rules: &[Rule], which: &Ambiguity) -> Result<Word, Alloc
         }
         Kind::Inclusion => first.lead.copy(),
     }
-}
-
-// The rule with this number.
-pub(crate) fn rule_with(rules: &[Rule], number: u32) -> &Rule
-    requires first { 0 < number }
-    requires last { number ≤ length rules.now }
-    ensures { rule_at rules.now number ≡ Some result.now }
-{
-    &rules[number as usize - 1]
 }

@@ -10,11 +10,11 @@ ghost use Rattle.ambiguities.specs.SPolynomials.{first_row, second_row, s_rows_o
 
 use crate::Ambiguity;
 use crate::factors::factors;
-use crate::overlap::{make_word, rule_with};
+use crate::overlap::make_word;
 use cofactor_trace::{Origin, Row};
 use lists::Listing;
 use nc_polynomial::{Poly, PolyFault};
-use rule_reduce::{Rule, Rules};
+use rule_reduce::{Rule, Rules, rule_with};
 use std::alloc::{AllocError, Global};
 use word_core::Word;
 use word_orders::WordOrder;

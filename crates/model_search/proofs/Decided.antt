@@ -32,7 +32,7 @@ lt_decided a b = go (cases_lt a b)
     go (inl h) = inl h
     go (inr above) = inr (λ h. absurd (omega (arith, above, h)))
 
-all_decided : {X : Type 0} (P : X → Type 0) → ((x : X) → IsDecided (P x)) → (xs : List X) → IsDecided (AllByRecursion P xs)
+pub all_decided : {X : Type 0} (P : X → Type 0) → ((x : X) → IsDecided (P x)) → (xs : List X) → IsDecided (AllByRecursion P xs)
 all_decided P each [] = inl tt
 all_decided P each (x ∷ xs) = both_decided (each x) (all_decided P each xs)
 

@@ -26,10 +26,10 @@ module _ {X : Type 0} (p : X → Bool) where
       let next : 1 + position_or_len p xs ≡ suc (position_or_len p xs) = omega arith in
       ap (λ b. cond (not b) (1 + position_or_len p xs) 0) fails ∙ next
 
-  place_here : (x : X) (xs : List X) → p x ≡ true → position_or_len p (x ∷ xs) ≡ 0
+  pub place_here : (x : X) (xs : List X) → p x ≡ true → position_or_len p (x ∷ xs) ≡ 0
   place_here x xs passes = ap (λ b. cond (not b) (1 + position_or_len p xs) 0) passes
 
-  hit : (xs ys : List X) (i : ℕ) → FirstAt p xs i → FirstAt p (xs ++ ys) i
+  pub hit : (xs ys : List X) (i : ℕ) → FirstAt p xs i → FirstAt p (xs ++ ys) i
   hit [] ys i at = let inside = at.inside in absurd (omega arith)
   hit (x ∷ xs) ys i at = go (p x) refl (hit xs ys)
     where
@@ -41,7 +41,7 @@ module _ {X : Type 0} (p : X → Bool) where
           let before : FirstAt p (xs ++ ys) (position_or_len p xs) = later (position_or_len p xs) (record { inside = omega (arith, next); first = refl }) in
           record { inside = let within = before.inside in omega (arith, next); first = place_cons x (xs ++ ys) fails ∙ ap suc before.first ∙ next }
 
-  miss : (xs ys : List X) (i : ℕ) → Misses xs → FirstAt p ys i → FirstAt p (xs ++ ys) (length xs + i)
+  pub miss : (xs ys : List X) (i : ℕ) → Misses xs → FirstAt p ys i → FirstAt p (xs ++ ys) (length xs + i)
   miss [] ys i none at = record { inside = let within = at.inside in omega arith; first = let first = at.first in omega arith }
   miss (x ∷ xs) ys i none at = go (p x) refl none (λ missed. miss xs ys i missed at)
     where
@@ -89,7 +89,7 @@ module _ {X : Type 0} (p : X → Bool) where
       ap (λ b. cond b (Some (position_or_len p xs)) None) (lt-ltb (position_or_len p xs) (length xs) below) ∙ ap Some first
 
 -- what a function gives on the items that are kept
-flat_map-filter : {X Y : Type 0} (f : X → List Y) (keep : X → Bool) (xs : List X) → flat_map f (filter keep xs) ≡ flat_map (λ x. cond (keep x) (f x) []) xs
+pub flat_map-filter : {X Y : Type 0} (f : X → List Y) (keep : X → Bool) (xs : List X) → flat_map f (filter keep xs) ≡ flat_map (λ x. cond (keep x) (f x) []) xs
 flat_map-filter f keep [] = refl
 flat_map-filter f keep (x ∷ xs) = go (keep x) refl (flat_map-filter f keep xs)
   where
@@ -107,21 +107,21 @@ and_false : (b : Bool) → (b && false) ≡ false
 and_false true = refl
 and_false false = refl
 
-other_map : (a row column b r c : ℕ) → (a ≡ b → ⊥) → is_same_entry (entry a row column) (entry b r c) ≡ false
+pub other_map : (a row column b r c : ℕ) → (a ≡ b → ⊥) → is_same_entry (entry a row column) (entry b r c) ≡ false
 other_map a row column b r c other = ap (λ x. x && (nat_eq row r && nat_eq column c)) (ne_eqb a b other)
 
-other_row : (a row column b r c : ℕ) → (row ≡ r → ⊥) → is_same_entry (entry a row column) (entry b r c) ≡ false
+pub other_row : (a row column b r c : ℕ) → (row ≡ r → ⊥) → is_same_entry (entry a row column) (entry b r c) ≡ false
 other_row a row column b r c other = ap (λ x. nat_eq a b && (x && nat_eq column c)) (ne_eqb row r other) ∙ and_false (nat_eq a b)
 
-other_column : (a row column b r c : ℕ) → (column ≡ c → ⊥) → is_same_entry (entry a row column) (entry b r c) ≡ false
+pub other_column : (a row column b r c : ℕ) → (column ≡ c → ⊥) → is_same_entry (entry a row column) (entry b r c) ≡ false
 other_column a row column b r c other =
     ap (λ x. nat_eq a b && (nat_eq row r && x)) (ne_eqb column c other) ∙ ap (λ x. nat_eq a b && x) (and_false (nat_eq row r)) ∙ and_false (nat_eq a b)
 
-own_entry : (a row column : ℕ) → is_same_entry (entry a row column) (entry a row column) ≡ true
+pub own_entry : (a row column : ℕ) → is_same_entry (entry a row column) (entry a row column) ≡ true
 own_entry a row column = ap₂ ◌&&◌ (eq-eqb a a refl) (ap₂ ◌&&◌ (eq-eqb row row refl) (eq-eqb column column refl))
 
 -- ---- the place of an entry
-piece_misses : (p : Entry → Bool) (a row column : ℕ) (self : Bool) → p (entry a row column) ≡ false → Misses p (piece a self row column)
+pub piece_misses : (p : Entry → Bool) (a row column : ℕ) (self : Bool) → p (entry a row column) ≡ false → Misses p (piece a self row column)
 piece_misses p a row column self fails = go (is_kept self row column)
   where
     go : (b : Bool) → Misses p (cond b (entry a row column ∷ []) [])
@@ -144,7 +144,7 @@ module _ (q : Quiver) (s : Shape) where
   row_entries-pieces : (a row : ℕ) → row_entries q s a row ≡ row_pieces a (is_self q a) (side_in s (source q a)) row
   row_entries-pieces a row = map_pieces (entry a row) _ ∙ flat_map-filter (λ column. entry a row column ∷ []) (is_kept (is_self q a) row) (range_with_len 0 (side_in s (source q a)))
 
-  map_entries-pieces : (a : ℕ) → map_entries q s a ≡ pieces a (is_self q a) (side_in s (source q a)) (side_in s (target q a))
+  pub map_entries-pieces : (a : ℕ) → map_entries q s a ≡ pieces a (is_self q a) (side_in s (source q a)) (side_in s (target q a))
   map_entries-pieces a = λ i. flat_map (λ row. row_entries-pieces a row i) (range_with_len 0 (side_in s (target q a)))
 
   map_misses : (a row column b : ℕ) → (a ≡ b → ⊥) → Misses (is_same_entry (entry a row column)) (map_entries q s b)
@@ -154,7 +154,7 @@ module _ (q : Quiver) (s : Shape) where
       ∙ misses_all p (row_pieces b (is_self q b) (side_in s (source q b)))
       (λ r. misses_all p (piece b (is_self q b) r) (λ j. piece_misses p b r j (is_self q b) (other_map a row column b r j other)) (range_with_len 0 (side_in s (source q b)))) (range_with_len 0 (side_in s (target q b)))
 
-  abbrev declared_entries : ℕ → List Entry
+  abbrev pub declared_entries : ℕ → List Entry
   declared_entries a = cond (is_declared_map q a) (map_entries q s a) []
 
   declared_misses : (a row column b : ℕ) → (a ≡ b → ⊥) → Misses (is_same_entry (entry a row column)) (declared_entries b)

@@ -1,11 +1,13 @@
 -- Each model refutes its claim, or one of the tests is the first that fails.
-use Rattle.std.proofs.Common.{◌≡◌, ℕ, zero, suc, ◌+◌, ◌-◌, ◌<◌, ◌≤◌, length, take, Option, Some, None, ◌⊎◌, inl, inr, refl, sym, subst, arith}
+use Rattle.std.proofs.Common.{◌≡◌, ℕ, zero, suc, ◌+◌, ◌-◌, ◌<◌, ◌≤◌, [], length, take, Option, Some, None, ◌⊎◌, inl, inr, refl, sym, subst, ◌∙◌, arith}
 use Rattle.std.specs.List.{AllByRecursion}
 use Rattle.std.proofs.Math.Seq.{take-length}
 use Rattle.std.proofs.lemmas.List.{length-map}
 use Rattle.std.proofs.lemmas.Bool.{cases_eq}
+use Rattle.std.proofs.lemmas.List.Elements.{All-get_or, All-from_recursion}
 use Rattle.std.proofs.lemmas.Slice.Zip.{AllZip-long}
 use Rattle.definitions.specs.Quiver.{Quiver, letters, source, target, star}
+use Rattle.definitions.specs.Combination.{generator_at}
 use Rattle.definitions.specs.Representation.{value_at}
 use Rattle.nc_polynomial.specs.declared.poly.Poly.{Poly}
 use Rattle.quiver.specs.declared.named.Sig.{Sig}
@@ -20,7 +22,7 @@ use Rattle.model_search.specs.declared.refusal.ModelRefusal.TheVariants as refus
 use Rattle.model_search.specs.Models.{side_of, map_at, representation_of, IsMap, HasEnds, IsSelfTransposed, HasMatrix, HaveMatrices, IsClaimNumber, IsZeroIn, assumptions_of, claim_polynomial, IsFitting, Refutes}
 use Rattle.model_search.specs.Memory.{IsMemory}
 use Rattle.model_search.specs.Refusals.{RefusesMap, IsFirstNotZero, RefusesModel}
-use Rattle.model_search.specs.Laws.{EachModelIsJudged}
+use Rattle.model_search.specs.Laws.{EachModelIsJudged, RefutingModelIsNotRefused}
 use Rattle.model_search.proofs.Counterexamples.{Both, both_at, IsPosedOf, claims_are_posed, claim_at, claim_is, zero_from_posed}
 use Rattle.model_search.proofs.Decided.{IsDecided, decided_by, both_decided, le_decided, lt_decided, matrix_decided, is_matrix_decided}
 use Rattle.model_search.proofs.Places.{all_at, zip_at, generator_at-suc, inside, one_more}
@@ -183,3 +185,40 @@ pub each_model_is_judged : EachModelIsJudged
 each_model_is_judged problem m =
     judged problem m
     (decided_by (λ h. record { least = h.0; most = h.1 }) (λ is. (is.least, is.most)) (both_decided (le_decided 1 m.claim) (le_decided m.claim (length problem.parts.claims))))
+
+-- ---- whether it refutes its claim
+pub refuting_model_is_not_refused : RefutingModelIsNotRefused
+refuting_model_is_not_refused problem m e refutes refuses = go e refuses
+  where
+    fitting : IsFitting problem m
+    fitting = refutes.assumptions.fitting
+
+    has : (a : ℕ) → IsMap (quiver_of problem.parts.quiver) a → HasMatrix (quiver_of problem.parts.quiver) m a
+    has a map = fitting.maps.each a map.letter map
+
+    one_there : (a : ℕ) (x y : Matrix) → map_at m a ≡ Some x → map_at m a ≡ Some y → x ≡ y
+    one_there a x y one other = cc
+
+    go : (e : ModelRefusal) → RefusesModel problem m e → IsMemory e
+    go refusal.NoSuchClaim none = none fitting.claim
+    go (refusal.MissingMap letter) h = let there = (has letter.0 h.1.at.map).there in let none = h.1.none in absurd (cc)
+    go (refusal.BadShape letter) h =
+        let one = has letter.0 h.1.at.map in
+        h.1.other (subst (HasEnds (quiver_of problem.parts.quiver) m letter.0) (one_there letter.0 one.matrix h.1.matrix one.there h.1.there) one.ends)
+    go (refusal.NotSymmetric letter) h =
+        let one = has letter.0 h.1.at.map in
+        h.1.other (subst (IsSelfTransposed (quiver_of problem.parts.quiver) m letter.0) (one_there letter.0 one.matrix h.1.matrix one.there h.1.there) one.self_transposed)
+    go (refusal.NotZero number) h =
+        let first = h.1 in
+        let next : first.before + 1 ≡ suc first.before = omega arith in
+        let zero = All-get_or (IsZeroIn problem m) (assumptions_of problem) first.before [] first.inside (All-from_recursion (IsZeroIn problem m) (assumptions_of problem) refutes.assumptions.zero) in
+        first.other (subst (λ n. IsZeroIn problem m (generator_at (assumptions_of problem) n)) (sym (first.numbered ∙ next)) zero)
+    go refusal.ClaimZero h = refutes.claim h.claim
+    go (refusal.Memory failed) h = tt
+
+pub refutes_decided : (problem : Problem) (m : Model) → IsDecided (Refutes problem m)
+refutes_decided problem m = go (each_model_is_judged problem m)
+  where
+    go : Refutes problem m ⊎ ((e : ModelRefusal) × RefusesModel problem m e × (IsMemory e → ⊥)) → IsDecided (Refutes problem m)
+    go (inl refutes) = inl refutes
+    go (inr refused) = inr (λ refutes. refused.2 (refuting_model_is_not_refused problem m refused.0 refutes refused.1))

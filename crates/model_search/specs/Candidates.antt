@@ -1,6 +1,6 @@
 -- The candidates of a shape: which matrices are tried as models of a statement, and in which order.
 use Rattle.std.specs.Prelude.{◌≡◌, ◌<◌, ◌≤◌, ℕ, ◌+◌, ◌*◌, ◌/◌, ◌%◌, ◌^◌, Bool, not, ◌&&◌, ◌||◌, nat_eq, nat_lt, nat_le, IsTrue, List, [], ◌∷◌, ◌++◌, length, map, filter, take, get_or, position, Option, Some, None, slice_get, ◌⊎◌, if◌then◌else◌}
-use Rattle.std.specs.List.{All, AllByRecursion, flat_map, list_all, list_any, range_with_len}
+use Rattle.std.specs.List.{All, AllByRecursion, flat_map, list_all, list_any, range_with_len, sum_by}
 use Rattle.definitions.specs.Quiver.{Quiver, letters, source, target, star}
 use Rattle.rand_pcg.specs.Lcg.{advance, started, increment_of}
 use Rattle.rand_pcg.specs.Pcg.{multiplier_64, pcg32}
@@ -99,6 +99,10 @@ is_exhaustive q s = nat_le (value_lists q s) 65536
 
 abbrev pub candidate_count : Quiver → Shape → ℕ
 candidate_count q s = if is_exhaustive q s then value_lists q s else 4096
+
+-- those of all shapes of the problem
+abbrev pub all_candidate_count : Problem → ℕ
+all_candidate_count problem = sum_by (candidate_count (quiver_of problem.parts.quiver)) problem.parts.shapes
 
 -- ---- all lists of values
 

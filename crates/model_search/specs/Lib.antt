@@ -5,5 +5,9 @@ pub mod Laws
 pub mod Listed
 pub mod Shapes
 pub mod Candidates
+pub mod SearchLaws
 pub mod EntryPlaces
 pub mod Unknowns
+pub mod Plans
+pub mod Searches
+pub mod Equations

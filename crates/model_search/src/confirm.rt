@@ -1,9 +1,9 @@
 // Whether a model refutes its claim.
-ghost use Rattle.std.specs.Prelude.{IfOk, IfErr, OnOk, IfSome, IfNone};
+ghost use Rattle.std.specs.Prelude.{IfOk, IfErr, OnOk, IfSome, IfNone, IsTrue, ◌↔◌};
 ghost use Rattle.std.specs.List.{AllByRecursion};
 ghost use Rattle.definitions.specs.Quiver.{letters};
 ghost use Rattle.quiver.specs.Declarations.{quiver_of};
-ghost use Rattle.model_search.specs.Models.{IsModel, HaveMatrices, IsZeroIn, assumptions_of, Refutes};
+ghost use Rattle.model_search.specs.Models.{IsModel, HaveMatrices, IsClaimNumber, IsFitting, IsZeroIn, assumptions_of, claim_polynomial, Refutes};
 ghost use Rattle.model_search.specs.Refusals.{RefusesModel, IsFirstNotZero};
 ghost use Rattle.model_search.specs.Memory.{IsMemory};
 ghost use Rattle.model_search.specs.Listed.{AreOfModel};
@@ -37,12 +37,43 @@ pub fn confirm_model(alloc: Global, problem: &Problem, model: &Model) -> Result<
     if let Some(assumption) = first_not_zero(alloc, problem, model, &representation)? {
         return Err(ModelRefusal::NotZero { assumption });
     }
-    let place = model.claim as usize - 1;
-    let (claim, sig) = (parts.claims.at(place), *parts.claim_sigs.at(place));
-    if is_zero(alloc, &parts.quiver, model, &representation, claim, sig)? {
+    if is_claim_zero(alloc, problem, model, &representation)? {
         return Err(ModelRefusal::ClaimZero);
     }
     Ok(())
+}
+
+/// Whether the model refutes the claim that it names. It names one, and each declared map has its matrix.
+pub(crate) fn refutes(alloc: Global, problem: &Problem, model: &Model) -> Result<bool, AllocError>
+    requires model { IsModel (quiver_of problem.now.parts.quiver) model.now }
+    requires fitting { IsFitting problem.now model.now }
+    ensures { IfOk result (λ refuted. IsTrue refuted ↔ Refutes problem.now model.now) }
+{
+    let representation = representation_of(alloc, &problem.parts.quiver, model)?;
+    if first_not_zero(alloc, problem, model, &representation)?.is_some() {
+        return Ok(false);
+    }
+    let zero = is_claim_zero(alloc, problem, model, &representation)?;
+    Ok(!zero)
+}
+
+// Whether the claim that the model names is zero.
+fn is_claim_zero(
+    alloc: Global,
+    problem: &Problem,
+    model: &Model,
+    representation: &Representation<Matrices>,
+) -> Result<bool, AllocError>
+    requires model { IsModel (quiver_of problem.now.parts.quiver) model.now }
+    requires maps { HaveMatrices (quiver_of problem.now.parts.quiver) model.now (letters (quiver_of problem.now.parts.quiver)) }
+    requires lists { AreOfModel (quiver_of problem.now.parts.quiver) model.now representation.now.objects representation.now.arrows }
+    requires claim { IsClaimNumber problem.now model.now.claim }
+    ensures { IfOk result (λ zero. IsTrue zero ↔ IsZeroIn problem.now model.now (claim_polynomial problem.now model.now.claim)) }
+{
+    let parts = &problem.parts;
+    let place = model.claim as usize - 1;
+    let (claim, sig) = (parts.claims.at(place), *parts.claim_sigs.at(place));
+    is_zero(alloc, &parts.quiver, model, representation, claim, sig)
 }
 
 // The number of the first assumption, counted from 1, that isn't zero.

@@ -1,5 +1,6 @@
-//! The laws of models.
+//! The laws of models and of the search for them.
 ghost use Rattle.model_search.specs.Laws.{RefutingModelsAreCounterexamples, RefutedClaimsDoNotFollow, ModelRefusalIsUnique, RefutingModelIsNotRefused, EachModelIsJudged};
+ghost use Rattle.model_search.specs.SearchLaws.{LeastBreakingIsUnique, NoneBreaksLeavesNoLeast, EachSearchHasAnAnswer, BreakingCandidatesRefute};
 
 /// A model that refutes its claim is a representation in matrices modulo its modulus, with transposes as adjoints, in
 /// which the assumptions and all generators of the problem have the value zero, and the claim hasn't. It does nothing
@@ -28,4 +29,26 @@ pub fn refuting_model_is_not_refused()
 /// Each model refutes its claim, or one of the tests is the first that fails. It does nothing when it runs.
 pub fn each_model_is_judged()
     ensures { EachModelIsJudged }
+{}
+
+/// Of all candidates one at most is the least that breaks a claim. It does nothing when it runs.
+pub fn least_breaking_is_unique()
+    ensures { LeastBreakingIsUnique }
+{}
+
+/// Where no candidate breaks a claim, none is the least that does. It does nothing when it runs.
+pub fn none_breaks_leaves_no_least()
+    ensures { NoneBreaksLeavesNoLeast }
+{}
+
+/// A candidate is the least that breaks a claim, or none breaks it: so `search` has an answer, whatever the problem, the
+/// claim and the seed. It does nothing when it runs.
+pub fn each_search_has_an_answer()
+    ensures { EachSearchHasAnAnswer }
+{}
+
+/// A candidate that breaks a claim is a model of this claim, with a side for each object and a place for each letter, that
+/// refutes it. It does nothing when it runs.
+pub fn breaking_candidates_refute()
+    ensures { BreakingCandidatesRefute }
 {}

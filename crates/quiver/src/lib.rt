@@ -8,4 +8,4 @@ mod signatures;
 
 pub use fault::QuiverFault;
 pub use named::{Named, Sig};
-pub use quiver::Quiver;
+pub use quiver::{MAP_LIMIT, OBJECT_LIMIT, Quiver};

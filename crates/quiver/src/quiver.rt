@@ -12,9 +12,11 @@ use std::alloc::{AllocError, Global};
 use std::marker::Model;
 use word_core::{Letter, Object};
 
-const OBJECT_LIMIT: u32 = 64;
+/// The greatest number of objects.
+pub const OBJECT_LIMIT: u32 = 64;
 
-const MAP_LIMIT: u32 = 200;
+/// The greatest number of maps.
+pub const MAP_LIMIT: u32 = 200;
 
 // An object: the letter that is its identity, and the place of its declaration.
 #[derive(Clone, Copy)]

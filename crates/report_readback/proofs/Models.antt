@@ -1,5 +1,5 @@
 -- The block of a refuted claim is a block of another kind.
-use Rattle.std.proofs.Common.{◌≡◌, ◌<◌, ◌==◌, ℕ, Bool, true, false, cond, List, [], ◌∷◌, ◌++◌, Option, Some, None, arith, refl, sym, ap, ap₂, ◌∙◌, map, length, get_or, codes, IsTrue, if◌then◌else◌}
+use Rattle.std.proofs.Common.{◌≡◌, ◌<◌, ◌==◌, ℕ, Bool, true, false, List, [], ◌∷◌, ◌++◌, Option, Some, None, arith, refl, sym, ap, ap₂, ◌∙◌, map, get_or, codes, IsTrue, if◌then◌else◌}
 use Rattle.std.specs.Prelude.{decimal}
 use Rattle.std.specs.List.{All, list_all, flat_map, range_with_len}
 use Rattle.std.proofs.lemmas.Grind.{flat_map-append}
@@ -19,7 +19,7 @@ use Rattle.certificate_text.proofs.NameBytes.{name_text}
 use Rattle.certificate_text.proofs.PartsBack.{begins_no_end}
 use Rattle.certificate_text.proofs.PolysBack.{nothing_is_line}
 use Rattle.certificate_text.proofs.TextsBack.{literal, line_text-append, plain_name}
-use Rattle.model_text.specs.Written.{between, entry_text, row_text, part_text as row_part, rows_text, side_text, sides_text, is_map, map_text, maps_text, head_text, model_text}
+use Rattle.model_text.specs.Written.{between, entry_text, row_text, part_text as row_part, rows_text, sides_text, is_map, map_text, maps_text, model_text}
 use Rattle.model_text.proofs.ObjectNames.{object_is_named}
 use Rattle.report_readback.proofs.Bases.{claim_body, claim_is_body}
 use Rattle.report_readback.proofs.Numerals.{either, decimal_is_line}

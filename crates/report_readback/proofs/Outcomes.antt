@@ -18,7 +18,6 @@ use Rattle.claim_decider.specs.Decided.{claim_at, claim_numbers, AreOutcomesOf}
 use Rattle.outcome_limits.proofs.EvidenceFits.{evidence_fits}
 use Rattle.outcome_limits.proofs.OutcomeLetters.{outcomes_have_letters, last_rules_have_letters}
 use Rattle.report_text.specs.declared.verdict.Verdict.{Verdict}
-use Rattle.report_text.specs.declared.verdict.Verdict.TheVariants as verdict
 use Rattle.report_text.specs.Report.{report_of, IsLeastOver}
 use Rattle.report_readback.specs.ReadBack.{IsReadAs, proved_in, IsWritableVerdict, IsVerdictOfHalt, IsVerdictOf, AreVerdictsOf, derived_in, OutcomeReportsReadBack}
 use Rattle.report_readback.proofs.ClaimNumbers.{numbers_there}
@@ -63,12 +62,21 @@ module _ (problem : Problem) (budget : Budget) (form : Format) where
       All-cons (IsWritableVerdict problem.parts.quiver) v verdicts (writable n o v (All-head (IsNumberUpTo (length problem.parts.claims)) n numbers there) are.0 said.0)
       (all_writable numbers outcomes verdicts (All-tail (IsNumberUpTo (length problem.parts.claims)) n numbers there) are.1 said.1)
 
+  pub verdicts_writable : (outcomes : List Outcome) (verdicts : List Verdict) → AreOutcomesOf (setting_of problem budget) form problem (claim_numbers problem) outcomes
+      → AreVerdictsOf problem.parts.quiver outcomes verdicts → All (IsWritableVerdict problem.parts.quiver) verdicts
+  verdicts_writable outcomes verdicts are said = all_writable (claim_numbers problem) outcomes verdicts (numbers_there problem) are said
+
+  -- there are as many as claims
+  pub few_verdicts : (outcomes : List Outcome) (verdicts : List Verdict) → AreOutcomesOf (setting_of problem budget) form problem (claim_numbers problem) outcomes
+      → AreVerdictsOf problem.parts.quiver outcomes verdicts → length verdicts ≤ 100
+  few_verdicts outcomes verdicts are said =
+      let long = AllZip-long (λ n o. IsOutcomeOf (setting_of problem budget) form n (claim_at problem n) o) (claim_numbers problem) outcomes are in
+      let as_many = AllZip-long (IsVerdictOf problem.parts.quiver) outcomes verdicts said in
+      omega (arith, long, as_many, length-range_with_len 1 (length problem.parts.claims), problem.posed.few_claims)
+
 pub outcome_reports_read_back : OutcomeReportsReadBack
 outcome_reports_read_back problem budget form outcomes verdicts rules are said last known =
     let ds = problem.parts.quiver in
-    let long = AllZip-long (λ n o. IsOutcomeOf (setting_of problem budget) form n (claim_at problem n) o) (claim_numbers problem) outcomes are in
-    let as_many = AllZip-long (IsVerdictOf ds) outcomes verdicts said in
-    let few : length verdicts ≤ 100 = omega (arith, long, as_many, length-range_with_len 1 (length problem.parts.claims), problem.posed.few_claims) in
     subst (IsReadAs ds (report_of ds rules verdicts)) (proved_is_derived ds outcomes verdicts said)
     (reports_read_back ds rules verdicts problem.posed.declared known (last_rules_have_letters problem budget form (claim_numbers problem) rules last)
-    (all_writable problem budget form (claim_numbers problem) outcomes verdicts (numbers_there problem) are said) few)
+    (verdicts_writable problem budget form outcomes verdicts are said) (few_verdicts problem budget form outcomes verdicts are said))

@@ -18,13 +18,12 @@ use Rattle.report_readback.specs.ReadBack.{IsReadAs, AreVerdictsOf, derived_in}
 use Rattle.report_readback.proofs.Outcomes.{outcome_reports_read_back}
 
 -- what is said without models
-verdict_of : Outcome → Verdict
+abbrev pub verdict_of : Outcome → Verdict
 verdict_of (outcome.Derived e) = verdict.Proved e
 verdict_of (outcome.Closed rest) = verdict.NotDerivable rest
 verdict_of (outcome.Halted h) = verdict.Undecided h
 
 are_verdicts : (ds : List Declaration) (outcomes : List Outcome) → AreVerdictsOf ds outcomes (map verdict_of outcomes)
-unfolding verdict_of
 are_verdicts ds [] = tt
 are_verdicts ds (outcome.Derived e ∷ outcomes) = (refl, are_verdicts ds outcomes)
 are_verdicts ds (outcome.Closed rest ∷ outcomes) = (refl, are_verdicts ds outcomes)

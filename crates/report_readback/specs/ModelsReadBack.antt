@@ -3,7 +3,16 @@ use Rattle.std.specs.Prelude.{◌≡◌, ◌<◌, ◌≤◌, ℕ, List, [], ◌�
 use Rattle.std.specs.List.{All, list_all}
 use Rattle.nc_polynomial.specs.declared.poly.Poly.{Poly}
 use Rattle.quiver.specs.Declarations.{Declaration, IsDeclared}
+use Rattle.cofactor_trace.specs.declared.evidence.Format.{Format}
 use Rattle.matrix_models.specs.declared.model.Model.{Model}
+use Rattle.adjoint_rules.specs.declared.problem.Problem.{Problem}
+use Rattle.statement_syntax.specs.declared.tree.Statement.{Statement}
+use Rattle.statement_syntax.specs.Fault.{IsTreeOf}
+use Rattle.signature_typing.specs.Typing.{IsProblemOf}
+use Rattle.traced_completion.specs.declared.budget.Budget.{Budget}
+use Rattle.traced_completion.specs.PlainRun.{setting_of}
+use Rattle.claim_decider.specs.declared.outcome.Outcome.{Outcome}
+use Rattle.claim_decider.specs.Decided.{claim_numbers, AreOutcomesOf, AreLastRules}
 use Rattle.certificate_text.specs.Fault.{no_block}
 use Rattle.certificate_text.specs.Back.{is_named}
 use Rattle.model_text.specs.Models.{HasModels, IsModels, IsFirstFault}
@@ -11,7 +20,7 @@ use Rattle.model_text.specs.Back.{IsWritableModel}
 use Rattle.report_text.specs.declared.verdict.Verdict.{Verdict}
 use Rattle.report_text.specs.declared.verdict.Verdict.TheVariants as verdict
 use Rattle.report_text.specs.Report.{report_of, IsPolyOver}
-use Rattle.report_readback.specs.ReadBack.{IsWritableVerdict}
+use Rattle.report_readback.specs.ReadBack.{IsWritableVerdict, AreVerdictsOf}
 
 -- The text has these models. Where there is one at least, they are what it is read as; where there is none, that is its first fault.
 pub record IsReadAsModels (ds : List Declaration) (bytes : List ℕ) (ms : List Model) : Type 0 where
@@ -33,3 +42,11 @@ abbrev pub ReportsReadBackAsModels : Type 0
 ReportsReadBackAsModels = (ds : List Declaration) (rules : List Poly) (verdicts : List Verdict)
     → IsDeclared ds → IsTrue (list_all is_named ds) → All (IsPolyOver ds) rules → All (IsWritableVerdict ds) verdicts → All (IsWritableModel ds) (refuted_in verdicts) → length verdicts ≤ 100
     → IsReadAsModels ds (report_of ds rules verdicts) (refuted_in verdicts)
+
+-- So is the report of verdicts by the outcomes of all claims of a statement, with the last rules.
+abbrev pub StatementReportsReadBackAsModels : Type 0
+StatementReportsReadBackAsModels = (bytes : List ℕ) (statements : List Statement) (problem : Problem) (budget : Budget) (form : Format) (outcomes : List Outcome) (verdicts : List Verdict) (rules : List Poly)
+    → IsTreeOf bytes statements → IsProblemOf statements problem
+    → AreOutcomesOf (setting_of problem budget) form problem (claim_numbers problem) outcomes → AreVerdictsOf problem.parts.quiver outcomes verdicts
+    → AreLastRules (setting_of problem budget) form problem (claim_numbers problem) rules → All (IsWritableModel problem.parts.quiver) (refuted_in verdicts)
+    → IsReadAsModels problem.parts.quiver (report_of problem.parts.quiver rules verdicts) (refuted_in verdicts)

@@ -6,4 +6,5 @@ mod laws;
 pub use laws::{
     derived_evidence_is_answered, outcome_reports_are_read_back, reported_evidence_is_answered,
     reports_are_read_back, reports_are_read_back_as_models, statement_reports_are_read_back,
+    statement_reports_are_read_back_as_models,
 };

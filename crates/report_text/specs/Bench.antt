@@ -1,5 +1,5 @@
 -- A statement of any size, whose claims are decided in a number of steps that is known.
-use Rattle.std.specs.Prelude.{ℕ, ◌+◌, ◌-◌, List, [], ◌++◌, decimal, codes}
+use Rattle.std.specs.Prelude.{ℕ, ◌+◌, ◌-◌, List, ◌++◌, decimal, codes}
 use Rattle.std.specs.List.{flat_map, range_with_len}
 
 -- a name that ends with a number

@@ -1,6 +1,6 @@
 -- Each statement has a problem or a fault.
-use Rattle.std.proofs.Common.{◌≡◌, ◌⊎◌, inl, inr, ℕ, ◌+◌, Bool, true, false, cond, not, ◌&&◌, nat_lt, List, [], ◌∷◌, ◌++◌, Option, Some, None, Result, Ok, Err, refl, ap}
-use Rattle.std.specs.Prelude.{⊤, is_some, sum_by}
+use Rattle.std.proofs.Common.{◌≡◌, ◌⊎◌, inl, inr, List, [], ◌∷◌, Option, Some, None, Result, Ok, Err, refl, ap}
+use Rattle.std.specs.Prelude.{⊤}
 use Rattle.std.specs.List.{AllByRecursion}
 use Rattle.std.specs.Option.{option_or, option_map}
 use Rattle.definitions.specs.Poly.{Poly}
@@ -17,10 +17,7 @@ use Rattle.statement_syntax.specs.declared.tree.Statement.{Statement}
 use Rattle.statement_names.specs.declared.written.Equation.{Equation}
 use Rattle.statement_names.specs.declared.fault.NameFault.{NameFault}
 use Rattle.statement_names.specs.declared.fault.NameFault.TheVariants as name
-use Rattle.statement_names.specs.declared.kinds.Kind.{Kind}
-use Rattle.statement_names.specs.Occurrences as occurrence
-use Rattle.statement_names.specs.Faults.{fault_behind, first_fault, name_fault_of, kind_in, declared_in}
-use Rattle.statement_names.specs.Faults as names
+use Rattle.statement_names.specs.Faults.{name_fault_of}
 use Rattle.statement_names.specs.Ready.{IsReady}
 use Rattle.statement_names.specs.Numbered.{declarations_of}
 use Rattle.statement_names.specs.Written.{assumptions_of, claims_of}
@@ -60,61 +57,12 @@ told-first f h [] = tt
 told-first f h (x ∷ xs) = told-or (f x) (first_among f xs) (h x) (told-first f h xs)
 
 -- of names
-abbrev IsNamed : Option NameFault → Type 0
-IsNamed None = ⊤
-IsNamed (Some f) = names.IsMemory f → ⊥
-
-if-fault : (b : Bool) (f : NameFault) (p : Option NameFault) → (names.IsMemory f → ⊥) → IsNamed p → IsNamed (cond b (Some f) p)
-if-fault true f p h k = h
-if-fault false f p h k = k
-
-if-none : (b : Bool) (f : NameFault) → (names.IsMemory f → ⊥) → IsNamed (cond b None (Some f))
-if-none true f h = tt
-if-none false f h = h
-
-named-or : (o p : Option NameFault) → IsNamed o → IsNamed p → IsNamed (option_or o p)
-named-or None p h k = k
-named-or (Some f) p h k = h
-
-named-behind : (kind : List ℕ → Option Kind) (before : List occurrence.Occurrence) (o : occurrence.Occurrence) → IsNamed (fault_behind kind before o)
-named-behind kind before (occurrence.declares_object n) = go (is_some (kind_in (declared_in before) n.text)) (nat_lt 64 (sum_by names.objects_by before + 1))
-  where
-    go : (double many : Bool) → IsNamed (cond double (Some (name.Double n.at)) (cond many (Some (name.TooMany n.at 64)) None))
-    go true many = λ m. m
-    go false true = λ m. m
-    go false false = tt
-named-behind kind before (occurrence.declares_map n source target selfmade) = go (is_some (kind_in (declared_in before) n.text)) (nat_lt 200 (sum_by names.maps_by before + 1)) (selfmade && names.are_two_objects kind source target)
-  where
-    go : (double many apart : Bool) → IsNamed (cond double (Some (name.Double n.at)) (cond many (Some (name.TooMany n.at 200)) (cond apart (Some (name.NotSquare n.at)) None)))
-    go true many apart = λ m. m
-    go false true apart = λ m. m
-    go false false true = λ m. m
-    go false false false = tt
-named-behind kind before (occurrence.uses u) = if-none (names.is_kind (kind u.name.text) u.kind) (name.Unknown u.name.at) (λ m. m)
-named-behind kind before (occurrence.lists front u) = go (not (names.is_kind (kind u.name.text) u.kind)) (names.is_among front u.name.text)
-  where
-    go : (unknown double : Bool) → IsNamed (cond unknown (Some (name.Unknown u.name.at)) (cond double (Some (name.Double u.name.at)) None))
-    go true double = λ m. m
-    go false true = λ m. m
-    go false false = tt
-named-behind kind before (occurrence.counts most n) = if-none (names.is_between 1 most (names.value_of n.value)) (name.BadNumber n.at) (λ m. m)
-named-behind kind before (occurrence.modulus n) = if-none (names.is_modulus (names.value_of n.value)) (name.BadNumber n.at) (λ m. m)
-named-behind kind before (occurrence.begins_order at) = if-fault (nat_lt 1 (sum_by names.orders_by before + 1)) (name.Double at) None (λ m. m) tt
-named-behind kind before (occurrence.begins_assumptions count at) = if-fault (nat_lt 500 (sum_by names.assumptions_by before + count)) (name.TooMany at 500) None (λ m. m) tt
-named-behind kind before (occurrence.begins_claim at) = if-fault (nat_lt 100 (sum_by names.claims_by before + 1)) (name.TooMany at 100) None (λ m. m) tt
-named-behind kind before (occurrence.begins_shape at) = if-fault (nat_lt 16 (sum_by names.shapes_by before + 1)) (name.TooMany at 16) None (λ m. m) tt
-
-named-first : (kind : List ℕ → Option Kind) (before os : List occurrence.Occurrence) → IsNamed (first_fault kind before os)
-named-first kind before [] = tt
-named-first kind before (o ∷ os) = named-or (fault_behind kind before o) (first_fault kind (before ++ o ∷ []) os) (named-behind kind before o) (named-first kind (before ++ o ∷ []) os)
-
-told-name : (f : NameFault) → (names.IsMemory f → ⊥) → IsMemory (told_name f) → ⊥
-told-name (name.Unknown at) h = λ m. m
-told-name (name.Double at) h = λ m. m
-told-name (name.TooMany at limit) h = λ m. m
-told-name (name.NotSquare at) h = λ m. m
-told-name (name.BadNumber at) h = λ m. m
-told-name (name.Memory e) h = h
+told-name : (f : NameFault) → IsMemory (told_name f) → ⊥
+told-name (name.Unknown at) = λ m. m
+told-name (name.Double at) = λ m. m
+told-name (name.TooMany at limit) = λ m. m
+told-name (name.NotSquare at) = λ m. m
+told-name (name.BadNumber at) = λ m. m
 
 -- of signatures
 told-signature : (ds : List Declaration) (f : SignatureFault) → IsMemory (told_signature ds f) → ⊥
@@ -233,9 +181,9 @@ module _ (statements : List Statement) (clean : name_fault_of statements ≡ Non
   by_fault (Some f) is h = inl (f, is, h)
 
 pub each_statement_has_a_problem_or_a_fault : EachStatementHasAProblemOrAFault
-each_statement_has_a_problem_or_a_fault statements = by (name_fault_of statements) refl (named-first (kind_in (declared_in (occurrence.occurrences_of statements))) [] (occurrence.occurrences_of statements))
+each_statement_has_a_problem_or_a_fault statements = by (name_fault_of statements) refl
   where
-    by : (o : Option NameFault) → name_fault_of statements ≡ o → IsNamed o → ((fault : TypeFault) × (fault_of statements ≡ Some fault) × (IsMemory fault → ⊥)) ⊎ ((p : Problem) × IsProblemOf statements p)
-    by None clean h = by_fault statements clean (fault_of statements) refl (told statements clean (name_fault_of statements) clean)
-    by (Some f) is h =
-        inl (told_name f, ap (λ o. option_or (option_map told_name o) (option_or (first_among (wrong_signature (declarations_of statements)) statements) (option_or (first_among (wrong_polynomial (declarations_of statements)) statements) (wrong_claims (claims_of statements))))) is, told-name f h)
+    by : (o : Option NameFault) → name_fault_of statements ≡ o → ((fault : TypeFault) × (fault_of statements ≡ Some fault) × (IsMemory fault → ⊥)) ⊎ ((p : Problem) × IsProblemOf statements p)
+    by None clean = by_fault statements clean (fault_of statements) refl (told statements clean (name_fault_of statements) clean)
+    by (Some f) is =
+        inl (told_name f, ap (λ o. option_or (option_map told_name o) (option_or (first_among (wrong_signature (declarations_of statements)) statements) (option_or (first_among (wrong_polynomial (declarations_of statements)) statements) (wrong_claims (claims_of statements))))) is, told-name f)

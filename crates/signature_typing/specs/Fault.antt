@@ -5,6 +5,8 @@ use Rattle.quiver.specs.declared.named.Sig.{Sig}
 use Rattle.quiver.specs.Declarations.{Declaration, object_name}
 use Rattle.statement_names.specs.declared.fault.NameFault.{NameFault}
 use Rattle.statement_names.specs.declared.fault.NameFault.TheVariants as name
+use Rattle.statement_names.specs.declared.fault.NameStop.{NameStop}
+use Rattle.statement_names.specs.declared.fault.NameStop.TheVariants as stop
 use Rattle.expressions.specs.declared.fault.SignatureFault.{SignatureFault}
 use Rattle.expressions.specs.declared.fault.SignatureFault.TheVariants as signature
 use Rattle.nc_polynomial.specs.declared.fault.PolyFault.{PolyFault}
@@ -23,7 +25,11 @@ told_name (name.Double at) = fault_at 7 at
 told_name (name.TooMany at limit) = Fault 8 at.line at.column None None limit
 told_name (name.NotSquare at) = fault_at 9 at
 told_name (name.BadNumber at) = fault_at 16 at
-told_name (name.Memory e) = Memory e
+
+-- of the names of a file, or want of memory
+abbrev pub told_stop : NameStop → TypeFault
+told_stop (stop.Fault fault) = told_name fault
+told_stop (stop.Memory e) = Memory e
 
 -- the names of the source and the target
 abbrev pub end_names : List Declaration → Sig → List ℕ × List ℕ

@@ -1,11 +1,11 @@
 //! Why a tree has no problem: the first fault with its code, its place and what is told of it.
 
 ghost use Rattle.std.specs.Prelude.{◌≡◌};
-ghost use Rattle.signature_typing.specs.Fault.{IsMemory, fault_at, told_name, told_polynomial, no_claim};
+ghost use Rattle.signature_typing.specs.Fault.{IsMemory, fault_at, told_name, told_stop, told_polynomial, no_claim};
 
 use lists::Text;
 use nc_polynomial::PolyFault;
-use statement_names::NameFault;
+use statement_names::{NameFault, NameStop};
 use statement_syntax::Spot;
 use std::alloc::{AllocError, AllocFailed};
 use std::fmt;
@@ -53,25 +53,34 @@ impl<T: Drop> From<AllocFailed<T>> for TypeFault {
     }
 }
 
-impl From<NameFault> for TypeFault {
-    ghost from_gives = { λ fault told. told ≡ told_name fault };
+impl From<NameStop> for TypeFault {
+    ghost from_gives = { λ stopped told. told ≡ told_stop stopped };
 
-    fn from(fault: NameFault) -> TypeFault {
-        match fault {
-            NameFault::Unknown { at } => fault_at(6, at),
-            NameFault::Double { at } => fault_at(7, at),
-            NameFault::TooMany { at, limit } => TypeFault::Fault {
-                code: 8,
-                line: at.line,
-                column: at.column,
-                left: None,
-                right: None,
-                limit,
-            },
-            NameFault::NotSquare { at } => fault_at(9, at),
-            NameFault::BadNumber { at } => fault_at(16, at),
-            NameFault::Memory(failed) => TypeFault::Memory(failed),
+    fn from(stopped: NameStop) -> TypeFault {
+        match stopped {
+            NameStop::Fault(fault) => name_fault(fault),
+            NameStop::Memory(failed) => TypeFault::Memory(failed),
         }
+    }
+}
+
+// The fault of a name, a literal or a count.
+fn name_fault(fault: NameFault) -> TypeFault
+    ensures { result ≡ told_name fault }
+{
+    match fault {
+        NameFault::Unknown { at } => fault_at(6, at),
+        NameFault::Double { at } => fault_at(7, at),
+        NameFault::TooMany { at, limit } => TypeFault::Fault {
+            code: 8,
+            line: at.line,
+            column: at.column,
+            left: None,
+            right: None,
+            limit,
+        },
+        NameFault::NotSquare { at } => fault_at(9, at),
+        NameFault::BadNumber { at } => fault_at(16, at),
     }
 }
 

@@ -2,7 +2,8 @@
 use Rattle.std.proofs.Common.{◌≡◌, ℕ, ◌+◌, ◌<◌, List, [], ◌∷◌, ◌++◌, length, map, drop, get_or, Option, Some, None, Result, Ok, Err, refl, sym, ap, ◌∙◌, subst, add-one, drop-cons}
 use Rattle.std.specs.List.{flat_map}
 use Rattle.statement_names.specs.declared.fault.NameFault.{NameFault}
-use Rattle.statement_names.specs.declared.fault.NameFault.TheVariants.{Unknown, Double, TooMany, NotSquare, BadNumber, Memory}
+use Rattle.statement_names.specs.declared.fault.NameStop.{NameStop}
+use Rattle.statement_names.specs.declared.fault.NameStop.TheVariants.{Fault, Memory}
 use Rattle.statement_names.specs.declared.survey.Survey.{Survey}
 use Rattle.statement_names.specs.Occurrences.{Occurrence}
 use Rattle.statement_names.specs.Faults.{Explains}
@@ -10,20 +11,16 @@ use Rattle.statement_names.proofs.Items.{rest_is}
 use Rattle.statement_names.specs.Survey.{fault_at, behind, goes_on, run, fault_in}
 
 -- ---- one fault for another
-pub explained : (found other : Option NameFault) → ((fault : NameFault) → found ≡ Some fault → other ≡ Some fault) → (fault : NameFault) → Explains found fault → Explains other fault
-explained found other same (Unknown at) h = same (Unknown at) h
-explained found other same (Double at) h = same (Double at) h
-explained found other same (TooMany at limit) h = same (TooMany at limit) h
-explained found other same (NotSquare at) h = same (NotSquare at) h
-explained found other same (BadNumber at) h = same (BadNumber at) h
+pub explained : (found other : Option NameFault) → ((fault : NameFault) → found ≡ Some fault → other ≡ Some fault) → (why : NameStop) → Explains found why → Explains other why
+explained found other same (Fault fault) h = same fault h
 explained found other same (Memory e) h = tt
 
 -- ---- one occurrence
 pub step_on : (s t : Survey) (o : Occurrence) (os : List Occurrence) → fault_at s o ≡ None → t ≡ behind s o → run s (o ∷ os) ≡ run t os
 step_on s t o os good t_is = ap (λ f. goes_on f (run (behind s o) os)) good ∙ ap (λ u. run u os) (sym t_is)
 
-pub step_stops : (s : Survey) (o : Occurrence) (os : List Occurrence) (fault : NameFault) → Explains (fault_at s o) fault → Explains (fault_in (run s (o ∷ os))) fault
-step_stops s o os = explained (fault_at s o) (fault_in (run s (o ∷ os))) (λ fault is. ap (λ f. fault_in (goes_on f (run (behind s o) os))) is)
+pub step_stops : (s : Survey) (o : Occurrence) (os : List Occurrence) (fault : NameFault) → fault_at s o ≡ Some fault → fault_in (run s (o ∷ os)) ≡ Some fault
+step_stops s o os fault is = ap (λ f. fault_in (goes_on f (run (behind s o) os))) is
 
 -- ---- some occurrences and then others
 abbrev then_run : Result Survey NameFault → List Occurrence → Result Survey NameFault
@@ -45,8 +42,11 @@ then_run-stops : (r : Result Survey NameFault) (ys : List Occurrence) (fault : N
 then_run-stops (Ok s) ys fault is = absurd (cc)
 then_run-stops (Err e) ys fault is = is
 
-pub run_stops : (s : Survey) (xs ys : List Occurrence) (fault : NameFault) → Explains (fault_in (run s xs)) fault → Explains (fault_in (run s (xs ++ ys))) fault
-run_stops s xs ys = explained (fault_in (run s xs)) (fault_in (run s (xs ++ ys))) (λ fault is. ap fault_in (run-append s xs ys) ∙ then_run-stops (run s xs) ys fault is)
+pub run_stops : (s : Survey) (xs ys : List Occurrence) (fault : NameFault) → fault_in (run s xs) ≡ Some fault → fault_in (run s (xs ++ ys)) ≡ Some fault
+run_stops s xs ys fault is = ap fault_in (run-append s xs ys) ∙ then_run-stops (run s xs) ys fault is
+
+pub run_ends : (s : Survey) (xs ys : List Occurrence) (why : NameStop) → Explains (fault_in (run s xs)) why → Explains (fault_in (run s (xs ++ ys))) why
+run_ends s xs ys = explained (fault_in (run s xs)) (fault_in (run s (xs ++ ys))) (run_stops s xs ys)
 
 -- ---- the occurrences of items, one after another
 module _ {A : Type 0} (of : A → List Occurrence) (items : List A) (i : ℕ) (x : A) (below : i < length items) (at : x ≡ get_or items i x) where
@@ -54,8 +54,12 @@ module _ {A : Type 0} (of : A → List Occurrence) (items : List A) (i : ℕ) (x
       → run t (flat_map of (drop (i + 1) items)) ≡ run first (flat_map of items)
   items_on first s t so_far is = sym (run_on s t (of x) (flat_map of (drop (i + 1) items)) is) ∙ sym (ap (λ xs. run s (flat_map of xs)) (rest_is items i x below at)) ∙ so_far
 
-  pub items_stop : (first s : Survey) (fault : NameFault) → run s (flat_map of (drop i items)) ≡ run first (flat_map of items) → Explains (fault_in (run s (of x))) fault
-      → Explains (fault_in (run first (flat_map of items))) fault
+  pub items_stop : (first s : Survey) (fault : NameFault) → run s (flat_map of (drop i items)) ≡ run first (flat_map of items) → fault_in (run s (of x)) ≡ Some fault
+      → fault_in (run first (flat_map of items)) ≡ Some fault
   items_stop first s fault so_far is =
-      subst (λ r. Explains (fault_in r) fault) (sym (ap (λ xs. run s (flat_map of xs)) (rest_is items i x below at)) ∙ so_far)
-      (run_stops s (of x) (flat_map of (drop (i + 1) items)) fault is)
+      sym (ap fault_in (sym (ap (λ xs. run s (flat_map of xs)) (rest_is items i x below at)) ∙ so_far))
+      ∙ run_stops s (of x) (flat_map of (drop (i + 1) items)) fault is
+
+  pub items_end : (first s : Survey) (why : NameStop) → run s (flat_map of (drop i items)) ≡ run first (flat_map of items) → Explains (fault_in (run s (of x))) why
+      → Explains (fault_in (run first (flat_map of items))) why
+  items_end first s why so_far = explained (fault_in (run s (of x))) (fault_in (run first (flat_map of items))) (λ fault. items_stop first s fault so_far) why

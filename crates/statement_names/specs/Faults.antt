@@ -7,7 +7,9 @@ use Rattle.std.specs.Str.{bytes_eq}
 use Rattle.statement_syntax.specs.declared.tree.Statement.{Statement}
 use Rattle.adjoint_rules.specs.Problem.{moduli}
 use Rattle.statement_names.specs.declared.fault.NameFault.{NameFault}
-use Rattle.statement_names.specs.declared.fault.NameFault.TheVariants.{Unknown, Double, TooMany, NotSquare, BadNumber, Memory}
+use Rattle.statement_names.specs.declared.fault.NameFault.TheVariants.{Unknown, Double, TooMany, NotSquare, BadNumber}
+use Rattle.statement_names.specs.declared.fault.NameStop.{NameStop}
+use Rattle.statement_names.specs.declared.fault.NameStop.TheVariants as stop
 use Rattle.statement_names.specs.declared.kinds.Kind.{Kind}
 use Rattle.statement_names.specs.declared.kinds.Kind.TheVariants.{Object, Map}
 use Rattle.statement_names.specs.Uses.{Use}
@@ -112,18 +114,10 @@ abbrev pub name_fault_of : List Statement → Option NameFault
 name_fault_of statements = let os = occurrences_of statements in first_fault (kind_in (declared_in os)) [] os
 
 -- the fault that is found is the answer, or memory was short
-abbrev pub Explains : Option NameFault → NameFault → Type 0
-Explains found (Unknown at) = found ≡ Some (Unknown at)
-Explains found (Double at) = found ≡ Some (Double at)
-Explains found (TooMany at limit) = found ≡ Some (TooMany at limit)
-Explains found (NotSquare at) = found ≡ Some (NotSquare at)
-Explains found (BadNumber at) = found ≡ Some (BadNumber at)
-Explains found (Memory e) = Unit {0}
+abbrev pub Explains : Option NameFault → NameStop → Type 0
+Explains found (stop.Fault fault) = found ≡ Some fault
+Explains found (stop.Memory e) = Unit {0}
 
-abbrev pub IsMemory : NameFault → Type 0
-IsMemory (Unknown at) = ⊥
-IsMemory (Double at) = ⊥
-IsMemory (TooMany at limit) = ⊥
-IsMemory (NotSquare at) = ⊥
-IsMemory (BadNumber at) = ⊥
-IsMemory (Memory e) = Unit {0}
+abbrev pub IsMemory : NameStop → Type 0
+IsMemory (stop.Fault fault) = ⊥
+IsMemory (stop.Memory e) = Unit {0}

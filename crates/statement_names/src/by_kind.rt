@@ -1,28 +1,24 @@
 //! The names, literals and first words of a statement, kind by kind.
 
-ghost use Rattle.std.specs.Prelude.{◌≡◌, ◌∷◌, [], ◌++◌, map, Ok, OnOk, IfErr};
+ghost use Rattle.std.specs.Prelude.{◌≡◌, ◌∷◌, [], ◌++◌, map, Some, Ok, OnOk, IfErr};
 ghost use Rattle.statement_names.specs.Faults.{Explains};
 ghost use Rattle.statement_names.specs.Occurrences.{declares_map, begins_assumptions, use_of, used_names, kind_occurrences, statement_occurrences};
 ghost use Rattle.statement_names.specs.Survey.{run, fault_in};
 
-use crate::fault::NameFault;
+use crate::fault::{NameFault, NameStop};
 use crate::kinds::Kind;
 use crate::literal::check_modulus;
 use crate::survey::Survey;
 use statement_syntax::{Name, Number, Spot, Statement, StatementKind, Sum};
 use std::alloc::Global;
+use word_orders::WEIGHT_LIMIT;
 
-const GREATEST_WEIGHT: u32 = 1000;
-
-const GREATEST_SIDE: u32 = 6;
+// The greatest side of an object in a shape.
+const SIDE_LIMIT: u32 = 6;
 
 impl Survey {
     // All names, literals and first words of a statement.
-    pub(crate) fn statement(
-        &mut self,
-        alloc: Global,
-        statement: &Statement,
-    ) -> Result<(), NameFault>
+    pub(crate) fn statement(&mut self, alloc: Global, statement: &Statement) -> Result<(), NameStop>
         ensures ok { OnOk result (run self.old (statement_occurrences statement.now) ≡ Ok self.new) }
         ensures err { IfErr result (Explains (fault_in (run self.old (statement_occurrences statement.now)))) }
     {
@@ -35,13 +31,13 @@ impl Survey {
                 target,
                 selfmade,
             } => self.maps_between(names.as_slice(), source, target, *selfmade),
-            StatementKind::Assume(left, right) => self.assumption(at, left, right),
-            StatementKind::Claim(left, right) => self.claimed(at, left, right),
-            StatementKind::Pinv(a, x) => self.abbreviation(4, at, a, x),
-            StatementKind::Inverse(a, x) => self.abbreviation(2, at, a, x),
-            StatementKind::Inner(a, x) => self.abbreviation(1, at, a, x),
-            StatementKind::Projection(p) => self.projection(at, p),
-            StatementKind::Degree => self.order(at),
+            StatementKind::Assume(left, right) => Ok(self.assumption(at, left, right)?),
+            StatementKind::Claim(left, right) => Ok(self.claimed(at, left, right)?),
+            StatementKind::Pinv(a, x) => Ok(self.abbreviation(4, at, a, x)?),
+            StatementKind::Inverse(a, x) => Ok(self.abbreviation(2, at, a, x)?),
+            StatementKind::Inner(a, x) => Ok(self.abbreviation(1, at, a, x)?),
+            StatementKind::Projection(p) => Ok(self.projection(at, p)?),
+            StatementKind::Degree => Ok(self.order(at)?),
             StatementKind::Weight(weights) => self.weights(alloc, at, weights.as_slice()),
             StatementKind::Solve(names) => self.names(alloc, names.as_slice()),
             StatementKind::Shape { modulus, sides } => self.shape_with(
@@ -60,18 +56,18 @@ impl Survey {
         source: &Name,
         target: &Name,
         selfmade: bool,
-    ) -> Result<(), NameFault>
+    ) -> Result<(), NameStop>
         ensures ok { OnOk result (run self.old (map (λ name. declares_map name source.now.text target.now.text selfmade) names.now ++ used_names (use_of Kind.Object source.now ∷ use_of Kind.Object target.now ∷ [])) ≡ Ok self.new) }
         ensures err { IfErr result (Explains (fault_in (run self.old (map (λ name. declares_map name source.now.text target.now.text selfmade) names.now ++ used_names (use_of Kind.Object source.now ∷ use_of Kind.Object target.now ∷ []))))) }
     {
         self.maps(names, source, target, selfmade)?;
-        self.two(source, target, Kind::Object)
+        Ok(self.two(source, target, Kind::Object)?)
     }
 
     // An assumption.
     fn assumption(&mut self, at: Spot, left: &Sum, right: &Sum) -> Result<(), NameFault>
         ensures ok { OnOk result (run self.old (kind_occurrences at (StatementKind.Assume left.now right.now)) ≡ Ok self.new) }
-        ensures err { IfErr result (Explains (fault_in (run self.old (kind_occurrences at (StatementKind.Assume left.now right.now))))) }
+        ensures err { IfErr result (λ e. fault_in (run self.old (kind_occurrences at (StatementKind.Assume left.now right.now))) ≡ Some e) }
     {
         self.assumptions(1, at)?;
         self.sides(left, right)
@@ -80,7 +76,7 @@ impl Survey {
     // A claim.
     fn claimed(&mut self, at: Spot, left: &Sum, right: &Sum) -> Result<(), NameFault>
         ensures ok { OnOk result (run self.old (kind_occurrences at (StatementKind.Claim left.now right.now)) ≡ Ok self.new) }
-        ensures err { IfErr result (Explains (fault_in (run self.old (kind_occurrences at (StatementKind.Claim left.now right.now))))) }
+        ensures err { IfErr result (λ e. fault_in (run self.old (kind_occurrences at (StatementKind.Claim left.now right.now))) ≡ Some e) }
     {
         self.claim(at)?;
         self.sides(left, right)
@@ -95,7 +91,7 @@ impl Survey {
         second: &Name,
     ) -> Result<(), NameFault>
         ensures ok { OnOk result (run self.old (begins_assumptions count at ∷ used_names (use_of Kind.Map first.now ∷ use_of Kind.Map second.now ∷ [])) ≡ Ok self.new) }
-        ensures err { IfErr result (Explains (fault_in (run self.old (begins_assumptions count at ∷ used_names (use_of Kind.Map first.now ∷ use_of Kind.Map second.now ∷ []))))) }
+        ensures err { IfErr result (λ e. fault_in (run self.old (begins_assumptions count at ∷ used_names (use_of Kind.Map first.now ∷ use_of Kind.Map second.now ∷ []))) ≡ Some e) }
     {
         self.assumptions(count, at)?;
         self.two(first, second, Kind::Map)
@@ -104,7 +100,7 @@ impl Survey {
     // A projection.
     fn projection(&mut self, at: Spot, name: &Name) -> Result<(), NameFault>
         ensures ok { OnOk result (run self.old (kind_occurrences at (StatementKind.Projection name.now)) ≡ Ok self.new) }
-        ensures err { IfErr result (Explains (fault_in (run self.old (kind_occurrences at (StatementKind.Projection name.now))))) }
+        ensures err { IfErr result (λ e. fault_in (run self.old (kind_occurrences at (StatementKind.Projection name.now))) ≡ Some e) }
     {
         self.assumptions(2, at)?;
         self.name(name, Kind::Map)
@@ -116,12 +112,12 @@ impl Survey {
         alloc: Global,
         at: Spot,
         weights: &[(Name, Number)],
-    ) -> Result<(), NameFault>
+    ) -> Result<(), NameStop>
         ensures ok { OnOk result (run self.old (kind_occurrences at (StatementKind.Weight weights.now)) ≡ Ok self.new) }
         ensures err { IfErr result (Explains (fault_in (run self.old (kind_occurrences at (StatementKind.Weight weights.now))))) }
     {
         self.order(at)?;
-        self.pairs(alloc, weights, Kind::Map, GREATEST_WEIGHT)
+        self.pairs(alloc, weights, Kind::Map, WEIGHT_LIMIT)
     }
 
     // A shape of models.
@@ -131,12 +127,12 @@ impl Survey {
         at: Spot,
         modulus: &Number,
         sides: &[(Name, Number)],
-    ) -> Result<(), NameFault>
+    ) -> Result<(), NameStop>
         ensures ok { OnOk result (run self.old (kind_occurrences at (StatementKind.Shape modulus.now sides.now)) ≡ Ok self.new) }
         ensures err { IfErr result (Explains (fault_in (run self.old (kind_occurrences at (StatementKind.Shape modulus.now sides.now))))) }
     {
         self.shape(at)?;
         check_modulus(modulus)?;
-        self.pairs(alloc, sides, Kind::Object, GREATEST_SIDE)
+        self.pairs(alloc, sides, Kind::Object, SIDE_LIMIT)
     }
 }

@@ -5,9 +5,10 @@ ghost use Rattle.statement_names.specs.Faults.{Explains, kind_in, are_two_object
 ghost use Rattle.statement_names.specs.Occurrences.{declares_object, declares_map};
 ghost use Rattle.statement_names.specs.Survey.{fault_at, behind, run, fault_in, declared_fault};
 
-use crate::fault::NameFault;
+use crate::fault::{NameFault, NameStop};
 use crate::kinds::{Kind, Kinds};
-use crate::survey::{MAP_LIMIT, OBJECT_LIMIT, Survey, take_room};
+use crate::survey::{Survey, take_room};
+use quiver::{MAP_LIMIT, OBJECT_LIMIT};
 use statement_syntax::Name;
 
 // Takes in a name that is declared, where it is new and there is room for it.
@@ -17,7 +18,7 @@ fn declare(
     limit: u32,
     name: &Name,
     kind: Kind,
-) -> Result<(), NameFault>
+) -> Result<(), NameStop>
     ensures ok { OnOk result (declared_fault declared.old room.old limit name.now ≡ None) }
     ensures taken { OnOk result (declared.new ≡ declared.old ++ (name.now.text, kind) ∷ []) }
     ensures left { OnOk result (room.new ≡ room.old - 1) }
@@ -26,7 +27,7 @@ fn declare(
     let text = name.text.as_str();
     let at = name.at;
     if declared.kind_of(text).is_some() {
-        return Err(NameFault::Double { at });
+        return Err(NameStop::Fault(NameFault::Double { at }));
     }
     take_room(room, 1, NameFault::TooMany { at, limit })?;
     declared.declare(text, kind)?;
@@ -35,7 +36,7 @@ fn declare(
 
 impl Survey {
     // Objects that are declared.
-    pub(crate) fn objects(&mut self, names: &[Name]) -> Result<(), NameFault>
+    pub(crate) fn objects(&mut self, names: &[Name]) -> Result<(), NameStop>
         ensures ok { OnOk result (run self.old (map (λ name. declares_object name) names.now) ≡ Ok self.new) }
         ensures err { IfErr result (Explains (fault_in (run self.old (map (λ name. declares_object name) names.now)))) }
     {
@@ -52,7 +53,7 @@ impl Survey {
         source: &Name,
         target: &Name,
         selfmade: bool,
-    ) -> Result<(), NameFault>
+    ) -> Result<(), NameStop>
         ensures ok { OnOk result (run self.old (map (λ name. declares_map name source.now.text target.now.text selfmade) names.now) ≡ Ok self.new) }
         ensures err { IfErr result (Explains (fault_in (run self.old (map (λ name. declares_map name source.now.text target.now.text selfmade) names.now)))) }
     {
@@ -63,7 +64,7 @@ impl Survey {
     }
 
     // An object that is declared.
-    fn object(&mut self, name: &Name) -> Result<(), NameFault>
+    fn object(&mut self, name: &Name) -> Result<(), NameStop>
         ensures ok { OnOk result (fault_at self.old (declares_object name.now) ≡ None) }
         ensures after { OnOk result (self.new ≡ behind self.old (declares_object name.now)) }
         ensures err { IfErr result (Explains (fault_at self.old (declares_object name.now))) }
@@ -85,7 +86,7 @@ impl Survey {
         source: &Name,
         target: &Name,
         selfmade: bool,
-    ) -> Result<(), NameFault>
+    ) -> Result<(), NameStop>
         ensures ok { OnOk result (fault_at self.old (declares_map name.now source.now.text target.now.text selfmade) ≡ None) }
         ensures after { OnOk result (self.new ≡ behind self.old (declares_map name.now source.now.text target.now.text selfmade)) }
         ensures err { IfErr result (Explains (fault_at self.old (declares_map name.now source.now.text target.now.text selfmade))) }
@@ -93,7 +94,7 @@ impl Survey {
         let declared = &mut self.declared;
         declare(declared, &mut self.maps, MAP_LIMIT, name, Kind::Map)?;
         if selfmade && self.are_two_objects(source, target) {
-            return Err(NameFault::NotSquare { at: name.at });
+            return Err(NameStop::Fault(NameFault::NotSquare { at: name.at }));
         }
         Ok(())
     }

@@ -1,13 +1,15 @@
 //! What can be wrong with a name, a literal or a statement.
 
+ghost use Rattle.std.specs.Prelude.{◌≡◌};
 ghost use Rattle.statement_names.specs.Faults.{IsMemory};
+ghost use Rattle.statement_names.specs.declared.fault.NameStop.TheVariants as stop;
 
 use statement_syntax::Spot;
 use std::alloc::{AllocError, AllocFailed};
 use thiserror::Error;
 
 /// What is wrong with a name, a literal or a statement, with its place.
-#[derive(Debug, Drop, Error)]
+#[derive(Clone, Copy, Debug, PartialEq, Eq, Error)]
 pub enum NameFault {
     /// The name isn't declared, or it is a map's where an object stands, or an object's where a map stands.
     #[error("line {}, column {}: no such name", at.line, at.column)]
@@ -24,23 +26,39 @@ pub enum NameFault {
     /// A weight, a modulus or a side that may not be.
     #[error("line {}, column {}: no such number may stand here", at.line, at.column)]
     BadNumber { at: Spot },
+}
+
+/// Why the names of a file are not read: the first thing that is wrong with them, or want of memory.
+#[derive(Debug, Drop, Error)]
+pub enum NameStop {
+    /// Something is wrong with a name, a literal or a statement.
+    #[error(transparent)]
+    Fault(NameFault),
     /// Memory is short.
     #[error(transparent)]
     Memory(AllocError),
 }
 
-impl From<AllocError> for NameFault {
-    ghost from_gives = { λ _ fault. IsMemory fault };
+impl From<NameFault> for NameStop {
+    ghost from_gives = { λ fault stopped. stopped ≡ stop.Fault fault };
 
-    fn from(error: AllocError) -> NameFault {
-        NameFault::Memory(error)
+    fn from(fault: NameFault) -> NameStop {
+        NameStop::Fault(fault)
     }
 }
 
-impl<T: Drop> From<AllocFailed<T>> for NameFault {
-    ghost from_gives = { λ _ fault. IsMemory fault };
+impl From<AllocError> for NameStop {
+    ghost from_gives = { λ _ stopped. IsMemory stopped };
 
-    fn from(_error: AllocFailed<T>) -> NameFault {
-        NameFault::Memory(AllocError)
+    fn from(error: AllocError) -> NameStop {
+        NameStop::Memory(error)
+    }
+}
+
+impl<T: Drop> From<AllocFailed<T>> for NameStop {
+    ghost from_gives = { λ _ stopped. IsMemory stopped };
+
+    fn from(_error: AllocFailed<T>) -> NameStop {
+        NameStop::Memory(AllocError)
     }
 }

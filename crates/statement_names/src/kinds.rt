@@ -1,6 +1,6 @@
 //! What names are declared as: objects or maps.
 
-ghost use Rattle.std.specs.Prelude.{◌≡◌, ◌++◌, [], IfOk, OnOk};
+ghost use Rattle.std.specs.Prelude.{◌≡◌, ◌++◌, [], IfOk, OnOk, OnErr};
 ghost use Rattle.statement_names.specs.Faults.{declared_in, kind_in};
 ghost use Rattle.statement_names.specs.Occurrences.{occurrences_of};
 ghost use Rattle.statement_names.specs.Survey.{with_kind, kinded, kinds_by, SameKinds};
@@ -49,9 +49,10 @@ impl Kinds {
         self.kinds.get(name).copied()
     }
 
-    /// Declares the name, unless it is declared already.
+    /// Declares the name, unless it is declared already. Where memory is short, all stays as it was.
     pub fn declare(&mut self, name: &str, kind: Kind) -> Result<(), AllocError>
         ensures ok { OnOk result (self.new ≡ with_kind self.old name.now kind) }
+        ensures err { OnErr result (self.new ≡ self.old) }
     {
         if self.kind_of(name).is_some() {
             return Ok(());

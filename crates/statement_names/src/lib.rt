@@ -17,6 +17,6 @@ mod survey;
 mod used;
 mod written;
 
-pub use fault::NameFault;
+pub use fault::{NameFault, NameStop};
 pub use names::{Names, read_names};
 pub use written::{Equation, abbreviation};

@@ -10,7 +10,7 @@ ghost use Rattle.statement_names.specs.Shapes.{shapes_of};
 ghost use Rattle.statement_names.specs.Ready.{IsReady};
 
 use crate::declarations::declare_all;
-use crate::fault::NameFault;
+use crate::fault::NameStop;
 use crate::marked::read_marked;
 use crate::order::read_order;
 use crate::shapes::read_shapes;
@@ -43,7 +43,7 @@ pub struct Names {
 }
 
 /// What the names of a file stand for, or the first thing that is wrong with them.
-pub fn read_names(alloc: Global, tree: &Tree) -> Result<Names, NameFault>
+pub fn read_names(alloc: Global, tree: &Tree) -> Result<Names, NameStop>
     ensures sound { OnOk result (name_fault_of tree.now.statements ≡ None) }
     ensures fault { IfErr result (Explains (name_fault_of tree.now.statements)) }
     ensures quiver { IfOk result (λ names. names.quiver ≡ declarations_of tree.now.statements) }

@@ -1,25 +1,23 @@
 //! The search for the first fault: each name, literal and first word of the file, in reading order.
 
-ghost use Rattle.std.specs.Prelude.{◌≡◌, ◌-◌, None, Some, OnOk, IfErr};
+ghost use Rattle.std.specs.Prelude.{◌≡◌, ◌-◌, None, Some, OnOk, OnErr, IfErr};
 ghost use Rattle.statement_names.specs.Faults.{name_fault_of, Explains};
 ghost use Rattle.statement_names.specs.Occurrences.{begins_order, begins_assumptions, begins_claim, begins_shape};
 ghost use Rattle.statement_names.specs.Survey.{fault_at, behind, short_of};
 
-use crate::fault::NameFault;
+use crate::fault::{NameFault, NameStop};
 use crate::kinds::{Kinds, kinds_of};
+use quiver::{MAP_LIMIT, OBJECT_LIMIT};
 use statement_syntax::{Spot, Statement};
 use std::alloc::Global;
 
-/// The greatest number of objects.
-pub const OBJECT_LIMIT: u32 = 64;
-
-/// The greatest number of maps.
-pub const MAP_LIMIT: u32 = 200;
-
+// The greatest number of assumptions.
 const ASSUMPTION_LIMIT: u32 = 500;
 
+// The greatest number of claims.
 const CLAIM_LIMIT: u32 = 100;
 
+// The greatest number of shapes.
 const SHAPE_LIMIT: u32 = 16;
 
 /// What all of a file declares, what is declared so far, and how many more of each may come.
@@ -36,7 +34,7 @@ pub struct Survey {
 }
 
 /// Looks for the first thing that is wrong with the names, the literals and the numbers of statements.
-pub fn check_names(alloc: Global, statements: &[Statement]) -> Result<(), NameFault>
+pub fn check_names(alloc: Global, statements: &[Statement]) -> Result<(), NameStop>
     ensures ok { OnOk result (name_fault_of statements.now ≡ None) }
     ensures err { IfErr result (Explains (name_fault_of statements.now)) }
 {
@@ -56,11 +54,12 @@ pub fn check_names(alloc: Global, statements: &[Statement]) -> Result<(), NameFa
     Ok(())
 }
 
-/// Takes room for so many more, or gives the fault.
+/// Takes room for so many more, or gives the fault and leaves the room as it was.
 pub fn take_room(room: &mut u32, more: u32, fault: NameFault) -> Result<(), NameFault>
     ensures ok { OnOk result (short_of room.old more fault ≡ None) }
     ensures left { OnOk result (room.new ≡ room.old - more) }
     ensures err { IfErr result (λ e. short_of room.old more fault ≡ Some e) }
+    ensures unchanged { OnErr result (room.new ≡ room.old) }
 {
     if *room < more {
         return Err(fault);
@@ -74,7 +73,7 @@ impl Survey {
     pub(crate) fn assumptions(&mut self, count: u32, at: Spot) -> Result<(), NameFault>
         ensures ok { OnOk result (fault_at self.old (begins_assumptions count at) ≡ None) }
         ensures after { OnOk result (self.new ≡ behind self.old (begins_assumptions count at)) }
-        ensures err { IfErr result (Explains (fault_at self.old (begins_assumptions count at))) }
+        ensures err { IfErr result (λ e. fault_at self.old (begins_assumptions count at) ≡ Some e) }
     {
         let full = NameFault::TooMany {
             at,
@@ -87,7 +86,7 @@ impl Survey {
     pub(crate) fn claim(&mut self, at: Spot) -> Result<(), NameFault>
         ensures ok { OnOk result (fault_at self.old (begins_claim at) ≡ None) }
         ensures after { OnOk result (self.new ≡ behind self.old (begins_claim at)) }
-        ensures err { IfErr result (Explains (fault_at self.old (begins_claim at))) }
+        ensures err { IfErr result (λ e. fault_at self.old (begins_claim at) ≡ Some e) }
     {
         let full = NameFault::TooMany {
             at,
@@ -100,7 +99,7 @@ impl Survey {
     pub(crate) fn shape(&mut self, at: Spot) -> Result<(), NameFault>
         ensures ok { OnOk result (fault_at self.old (begins_shape at) ≡ None) }
         ensures after { OnOk result (self.new ≡ behind self.old (begins_shape at)) }
-        ensures err { IfErr result (Explains (fault_at self.old (begins_shape at))) }
+        ensures err { IfErr result (λ e. fault_at self.old (begins_shape at) ≡ Some e) }
     {
         let full = NameFault::TooMany {
             at,
@@ -113,7 +112,7 @@ impl Survey {
     pub(crate) fn order(&mut self, at: Spot) -> Result<(), NameFault>
         ensures ok { OnOk result (fault_at self.old (begins_order at) ≡ None) }
         ensures after { OnOk result (self.new ≡ behind self.old (begins_order at)) }
-        ensures err { IfErr result (Explains (fault_at self.old (begins_order at))) }
+        ensures err { IfErr result (λ e. fault_at self.old (begins_order at) ≡ Some e) }
     {
         take_room(&mut self.orders, 1, NameFault::Double { at })
     }

@@ -6,7 +6,7 @@ ghost use Rattle.statement_names.specs.Occurrences.{use_of, lists, names_behind,
 ghost use Rattle.statement_names.specs.Survey.{fault_at, run, fault_in, used_fault, names_in};
 ghost use Rattle.statement_names.specs.Uses.{primary_uses, term_uses, sum_uses};
 
-use crate::fault::NameFault;
+use crate::fault::{NameFault, NameStop};
 use crate::kinds::{Kind, Kinds};
 use crate::literal::check_count;
 use crate::survey::Survey;
@@ -33,12 +33,7 @@ impl Survey {
     }
 
     // A name of a list, behind those that are listed.
-    pub(crate) fn listed(
-        &self,
-        listed: &mut Kinds,
-        name: &Name,
-        kind: Kind,
-    ) -> Result<(), NameFault>
+    pub(crate) fn listed(&self, listed: &mut Kinds, name: &Name, kind: Kind) -> Result<(), NameStop>
         ensures ok { OnOk result (fault_at self.now (lists (names_in listed.old) (use_of kind name.now)) ≡ None) }
         ensures after { OnOk result (names_in listed.new ≡ names_in listed.old ++ name.now.text ∷ []) }
         ensures err { IfErr result (Explains (fault_at self.now (lists (names_in listed.old) (use_of kind name.now)))) }
@@ -46,14 +41,14 @@ impl Survey {
         self.name(name, kind)?;
         let text = name.text.as_str();
         if listed.kind_of(text).is_some() {
-            return Err(NameFault::Double { at: name.at });
+            return Err(NameStop::Fault(NameFault::Double { at: name.at }));
         }
         listed.declare(text, kind)?;
         Ok(())
     }
 
     // A list of names of maps.
-    pub(crate) fn names(&self, alloc: Global, names: &[Name]) -> Result<(), NameFault>
+    pub(crate) fn names(&self, alloc: Global, names: &[Name]) -> Result<(), NameStop>
         ensures ok { OnOk result (run self.now (names_behind Kind.Map [] names.now) ≡ Ok self.now) }
         ensures err { IfErr result (Explains (fault_in (run self.now (names_behind Kind.Map [] names.now)))) }
     {
@@ -71,7 +66,7 @@ impl Survey {
         pairs: &[(Name, Number)],
         kind: Kind,
         most: u32,
-    ) -> Result<(), NameFault>
+    ) -> Result<(), NameStop>
         ensures ok { OnOk result (run self.now (pairs_behind kind most [] pairs.now) ≡ Ok self.now) }
         ensures err { IfErr result (Explains (fault_in (run self.now (pairs_behind kind most [] pairs.now)))) }
     {
@@ -87,7 +82,7 @@ impl Survey {
     #[cycle(expressions)]
     pub(crate) fn sum(&self, sum: &Sum) -> Result<(), NameFault>
         ensures ok { OnOk result (run self.now (used_names (sum_uses sum.now)) ≡ Ok self.now) }
-        ensures err { IfErr result (Explains (fault_in (run self.now (used_names (sum_uses sum.now))))) }
+        ensures err { IfErr result (λ e. fault_in (run self.now (used_names (sum_uses sum.now))) ≡ Some e) }
     {
         for term in sum.terms.as_slice() {
             self.term(term)?;
@@ -98,7 +93,7 @@ impl Survey {
     #[cycle(expressions)]
     fn term(&self, term: &Term) -> Result<(), NameFault>
         ensures ok { OnOk result (run self.now (used_names (term_uses term.now)) ≡ Ok self.now) }
-        ensures err { IfErr result (Explains (fault_in (run self.now (used_names (term_uses term.now))))) }
+        ensures err { IfErr result (λ e. fault_in (run self.now (used_names (term_uses term.now))) ≡ Some e) }
     {
         for factor in term.factors.as_slice() {
             self.primary(&factor.primary)?;
@@ -109,7 +104,7 @@ impl Survey {
     #[cycle(expressions)]
     fn primary(&self, primary: &Primary) -> Result<(), NameFault>
         ensures ok { OnOk result (run self.now (used_names (primary_uses primary.now)) ≡ Ok self.now) }
-        ensures err { IfErr result (Explains (fault_in (run self.now (used_names (primary_uses primary.now))))) }
+        ensures err { IfErr result (λ e. fault_in (run self.now (used_names (primary_uses primary.now))) ≡ Some e) }
     {
         match primary {
             Primary::Letter(name) => self.name(name, Kind::Map),
@@ -121,7 +116,7 @@ impl Survey {
     // Both sides of an equation.
     pub(crate) fn sides(&self, left: &Sum, right: &Sum) -> Result<(), NameFault>
         ensures ok { OnOk result (run self.now (sides_occurrences left.now right.now) ≡ Ok self.now) }
-        ensures err { IfErr result (Explains (fault_in (run self.now (sides_occurrences left.now right.now)))) }
+        ensures err { IfErr result (λ e. fault_in (run self.now (sides_occurrences left.now right.now)) ≡ Some e) }
     {
         self.sum(left)?;
         self.sum(right)
@@ -130,7 +125,7 @@ impl Survey {
     // Two names that are used.
     pub(crate) fn two(&self, first: &Name, second: &Name, kind: Kind) -> Result<(), NameFault>
         ensures ok { OnOk result (run self.now (used_names (use_of kind first.now ∷ use_of kind second.now ∷ [])) ≡ Ok self.now) }
-        ensures err { IfErr result (Explains (fault_in (run self.now (used_names (use_of kind first.now ∷ use_of kind second.now ∷ []))))) }
+        ensures err { IfErr result (λ e. fault_in (run self.now (used_names (use_of kind first.now ∷ use_of kind second.now ∷ []))) ≡ Some e) }
     {
         self.name(first, kind)?;
         self.name(second, kind)

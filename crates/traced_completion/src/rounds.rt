@@ -31,6 +31,9 @@ use std::alloc::{AllocError, Global};
 use std::thread::Threads;
 use word_core::Word;
 
+// The greatest number of ambiguities that a round takes.
+const ROUND_LIMIT: usize = 32;
+
 // The cause of a fault.
 fn cause_of(fault: ReduceFault) -> Result<Cause, AllocError>
     ensures { IfOk result (IsCauseOf fault) }
@@ -154,13 +157,13 @@ impl Completion {
         })
     }
 
-    // How many ambiguities the next round takes: the least of 32, the pairs left and the number pending.
+    // How many ambiguities the next round takes: the least of the limit, the pairs left and the number pending.
     pub(crate) fn next_count(&self) -> usize
         requires { length self.now.treated ≤ self.now.budget.pairs }
         ensures { result ≡ taken_count self.now.budget (state_of self.now) self.now.waiting }
     {
         let left = self.budget.pairs as usize - self.treated.len();
-        32.min(left.min(self.waiting.len()))
+        ROUND_LIMIT.min(left.min(self.waiting.len()))
     }
 
     // Takes back the rules and the treated ambiguities behind the first ones.

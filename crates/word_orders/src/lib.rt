@@ -13,4 +13,4 @@ pub use block::BlockLex;
 pub use degree::DegLex;
 pub use fault::OrderFault;
 pub use order::WordOrder;
-pub use weight::WeightLex;
+pub use weight::{WEIGHT_LIMIT, WeightLex};

@@ -14,7 +14,7 @@ use std::marker::Model;
 use word_core::{Letter, Word};
 
 /// The greatest weight of a letter.
-const GREATEST_WEIGHT: u32 = 1000;
+pub const WEIGHT_LIMIT: u32 = 1000;
 
 /// The order by the sum of the letters' weights, and canonically where two sums are equal.
 #[derive(Drop)]
@@ -73,7 +73,7 @@ impl WeightLex {
         match self.weights.get(number) {
             None => Err(OrderFault::NoSuchLetter { letter }),
             Some(Some(_)) => Err(OrderFault::RepeatedLetter { letter }),
-            Some(None) if weight == 0 || weight > GREATEST_WEIGHT => {
+            Some(None) if weight == 0 || weight > WEIGHT_LIMIT => {
                 Err(OrderFault::BadWeight { letter })
             }
             Some(None) => {

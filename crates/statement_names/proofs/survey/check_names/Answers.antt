@@ -5,7 +5,7 @@ use Rattle.statement_names.specs.Occurrences.{statement_occurrences, occurrences
 use Rattle.statement_names.specs.Faults.{Explains, kind_in, declared_in, name_fault_of}
 use Rattle.statement_names.specs.Survey.{run, fault_in}
 use Rattle.statement_names.proofs.Bridge.{Agrees, first_same}
-use Rattle.statement_names.proofs.Runs.{items_on, items_stop}
+use Rattle.statement_names.proofs.Runs.{items_on, items_end}
 use Rattle.statement_names.proofs.survey.check_names.Goals as goal
 
 pub loop-statement-preserved : goal.loop-statement-preserved
@@ -22,7 +22,7 @@ returns-in_err-statement-clause-err c =
     let told : Explains (fault_in (run c.loop-statement.survey (statement_occurrences c.statement-item.result))) c.in_err-statement.field-0.0 = search rules in
     let whole : Explains (name_fault_of c.args.statements.now) c.in_err-statement.field-0.0 =
     subst (λ found. Explains found c.in_err-statement.field-0.0) (sym (first_same kind [] first agrees (occurrences_of c.args.statements.now)))
-    (items_stop statement_occurrences c.args.statements.now c.loop-statement.statement-index c.statement-item.result c.loop-statement-test.true c.statement-item.is
+    (items_end statement_occurrences c.args.statements.now c.loop-statement.statement-index c.statement-item.result c.loop-statement-test.true c.statement-item.is
     first c.loop-statement.survey c.in_err-statement.field-0.0 c.loop-statement.invariant told) in
     search rules
 

@@ -1,9 +1,8 @@
-use Rattle.std.proofs.Common.{◌≡◌, List, rules, arith, ap, sym, subst, ◌∙◌, length, drop, ◌≤◌}
+use Rattle.std.proofs.Common.{◌≡◌, List, Some, rules, arith, ap, sym, ◌∙◌, length, drop, ◌≤◌}
 use Rattle.std.specs.List.{flat_map}
 use Rattle.std.proofs.lemmas.Grind.{common_steps}
 use Rattle.statement_syntax.specs.declared.tree.Sum.{Sum, out-Sum}
 use Rattle.statement_syntax.specs.declared.tree.Term.{Term, out-Term}
-use Rattle.statement_names.specs.Faults.{Explains}
 use Rattle.statement_names.specs.Occurrences.{used_names}
 use Rattle.statement_names.specs.Survey.{run, fault_in}
 use Rattle.statement_names.specs.Uses.{sum_uses, term_uses}
@@ -15,9 +14,9 @@ pub sum-returns-in_err-term-clause-err : goal.sum-returns-in_err-term-clause-err
 sum-returns-in_err-term-clause-err t c =
     let items = c.as_slice-term-items.result.now in
     let flat : used_names (sum_uses c.args.sum.now) ≡ flat_map term_names items = sum_names-flat c.args.sum.now ∙ ap (flat_map term_names) (sym c.as_slice-term-items.ensures) in
-    let told : Explains (fault_in (run c.args.self.now (term_names c.term-item.result))) c.in_err-term.field-0.0 = search rules in
-    let whole : Explains (fault_in (run c.args.self.now (used_names (sum_uses c.args.sum.now)))) c.in_err-term.field-0.0 =
-    subst (λ os. Explains (fault_in (run c.args.self.now os)) c.in_err-term.field-0.0) (sym flat)
+    let told : fault_in (run c.args.self.now (term_names c.term-item.result)) ≡ Some c.in_err-term.field-0.0 = search rules in
+    let whole : fault_in (run c.args.self.now (used_names (sum_uses c.args.sum.now))) ≡ Some c.in_err-term.field-0.0 =
+    ap (λ os. fault_in (run c.args.self.now os)) flat ∙
     (items_stop term_names items c.loop-term.term-index c.term-item.result c.loop-term-test.true c.term-item.is c.args.self.now c.args.self.now c.in_err-term.field-0.0 c.loop-term.invariant told) in
     search rules
 
@@ -33,9 +32,9 @@ pub term-returns-in_err-primary-clause-err : goal.term-returns-in_err-primary-cl
 term-returns-in_err-primary-clause-err t c =
     let items = c.as_slice-factor-items.result.now in
     let flat : used_names (term_uses c.args.term.now) ≡ flat_map factor_names items = term_names-flat c.args.term.now ∙ ap (flat_map factor_names) (sym c.as_slice-factor-items.ensures) in
-    let told : Explains (fault_in (run c.args.self.now (factor_names c.factor-item.result))) c.in_err-primary.field-0.0 = search rules in
-    let whole : Explains (fault_in (run c.args.self.now (used_names (term_uses c.args.term.now)))) c.in_err-primary.field-0.0 =
-    subst (λ os. Explains (fault_in (run c.args.self.now os)) c.in_err-primary.field-0.0) (sym flat)
+    let told : fault_in (run c.args.self.now (factor_names c.factor-item.result)) ≡ Some c.in_err-primary.field-0.0 = search rules in
+    let whole : fault_in (run c.args.self.now (used_names (term_uses c.args.term.now))) ≡ Some c.in_err-primary.field-0.0 =
+    ap (λ os. fault_in (run c.args.self.now os)) flat ∙
     (items_stop factor_names items c.loop-factor.factor-index c.factor-item.result c.loop-factor-test.true c.factor-item.is c.args.self.now c.args.self.now c.in_err-primary.field-0.0 c.loop-factor.invariant told) in
     search rules
 

@@ -1,5 +1,4 @@
-use Rattle.std.proofs.Common.{◌≡◌, Ok, rules}
-use Rattle.statement_names.specs.Faults.{Explains}
+use Rattle.std.proofs.Common.{◌≡◌, Some, Ok, rules}
 use Rattle.statement_names.specs.Occurrences.{used_names, sides_occurrences}
 use Rattle.statement_names.specs.Survey.{run, fault_in}
 use Rattle.statement_names.specs.Uses.{sum_uses}
@@ -9,8 +8,8 @@ use Rattle.statement_names.proofs.survey.Survey.sides.Goals as goal
 pub returns-in_err-sum-clause-err : goal.returns-in_err-sum-clause-err
 returns-in_err-sum-clause-err c =
     let left = used_names (sum_uses c.args.left.now) in
-    let told : Explains (fault_in (run c.args.self.now left)) c.in_err-sum.field-0.0 = search rules in
-    let whole : Explains (fault_in (run c.args.self.now (sides_occurrences c.args.left.now c.args.right.now))) c.in_err-sum.field-0.0 =
+    let told : fault_in (run c.args.self.now left) ≡ Some c.in_err-sum.field-0.0 = search rules in
+    let whole : fault_in (run c.args.self.now (sides_occurrences c.args.left.now c.args.right.now)) ≡ Some c.in_err-sum.field-0.0 =
     run_stops c.args.self.now left (used_names (sum_uses c.args.right.now)) c.in_err-sum.field-0.0 told in
     search rules
 

@@ -1,0 +1,20 @@
+use Rattle.std.proofs.Common.{rules, ◌≡◌, ◌+◌, ◌-◌, ◌%◌, ℕ, List, ◌++◌, ◌∷◌, [], get_or, map, take, sym, ap, ap₂, ◌∙◌}
+use Rattle.std.proofs.lemmas.List.{take_more, map-append}
+use Rattle.std.proofs.lemmas.Option.{get_or_from_slice_get}
+use Rattle.model_search.specs.Equations.{factor_by}
+use Rattle.model_search.proofs.equations.row_by.Goals as goal
+
+pub loop-at_unit-preserved : goal.loop-at_unit-preserved
+loop-at_unit-preserved c =
+    let units = c.args.at_units.now in
+    let k = c.loop-at_unit.at_unit-index in
+    let u = c.at_unit-item.result in
+    let f : List ℕ → ℕ = factor_by c.args.modulus c.args.at_zero.now c.args.place in
+    let read = get_or_from_slice_get u c.args.place c.at.result.now 0 c.at.ensures in
+    let m = c.args.modulus in
+    let constant = get_or c.args.at_zero.now c.args.place 0 in
+    let pushed : c.push.new.self ≡ c.loop-at_unit.factors ++ ((c.at.result.now + m - constant) % m) ∷ [] = search rules in
+    pushed ∙ ap₂ (λ xs x. xs ++ ((x + m - constant) % m) ∷ []) c.loop-at_unit.invariant (sym read)
+    ∙ ap (λ x. map f (take k units) ++ f x ∷ []) c.at_unit-item.is
+    ∙ sym (map-append f (take k units) (get_or units k u ∷ []))
+    ∙ ap (map f) (sym (take_more units k u c.loop-at_unit-test.true))
