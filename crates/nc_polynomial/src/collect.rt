@@ -51,9 +51,6 @@ fn add_term(
         }
         Some(sum) => sum,
     };
-    match coef_int::plus(*sum, coefficient) {
-        Ok(total) => *sum = total,
-        Err(fault) => return Err(PolyFault::Overflow(fault)),
-    }
+    *sum = coef_int::plus(*sum, coefficient)?;
     Ok(())
 }

@@ -1,3 +1,4 @@
+//! Sums, differences and multiples of polynomials.
 ghost use Rattle.std.specs.Prelude.{◌≡◌, negsuc, IfOk, MatchResult, Ok};
 ghost use Rattle.coef_int.specs.Range.{IsCoefficient};
 ghost use Rattle.definitions.specs.Poly.{SamePolynomial, poly_sum, poly_multiple};

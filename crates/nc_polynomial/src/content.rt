@@ -1,3 +1,4 @@
+//! Common divisors of the coefficients of a polynomial.
 ghost use Rattle.std.specs.Prelude.{◌≡◌, ◌≢◌, ◌↔◌, [], pos, IfOk};
 ghost use Rattle.std.specs.Int.RustNames.{unsigned_abs};
 ghost use Rattle.coef_int.specs.Range.{IsCoefficient};

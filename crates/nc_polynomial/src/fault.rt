@@ -1,4 +1,7 @@
+//! What can go wrong in the arithmetic of polynomials.
+ghost use Rattle.std.specs.Prelude.{◌≡◌};
 ghost use Rattle.nc_polynomial.specs.Faults.{IsMemory};
+ghost use Rattle.nc_polynomial.specs.declared.fault.PolyFault.TheVariants as fault;
 
 use coef_int::Overflow;
 use std::alloc::{AllocError, AllocFailed};
@@ -39,5 +42,21 @@ impl From<AllocError> for PolyFault {
 
     fn from(failed: AllocError) -> PolyFault {
         PolyFault::Memory(failed)
+    }
+}
+
+impl From<Overflow> for PolyFault {
+    ghost from_gives = { λ overflow e. e ≡ fault.Overflow overflow };
+
+    fn from(overflow: Overflow) -> PolyFault {
+        PolyFault::Overflow(overflow)
+    }
+}
+
+impl From<SizeFault> for PolyFault {
+    ghost from_gives = { λ size e. e ≡ fault.Size size };
+
+    fn from(size: SizeFault) -> PolyFault {
+        PolyFault::Size(size)
     }
 }

@@ -1,3 +1,4 @@
+//! Laws on polynomials, which have nothing to run.
 ghost use Rattle.nc_polynomial.specs.Shape.{CanonicalIsUnique};
 
 /// The law that a polynomial is fixed by its coefficients. It has nothing to run.

@@ -26,9 +26,7 @@ pub(crate) fn kept_terms<'a>(
     ensures exact { MatchResult result (λ kept. checked (products by terms.now) (scaled by terms.now) ≡ Ok (poly_multiple by kept.now)) (λ e. checked (products by terms.now) (scaled by terms.now) ≡ Err e) }
 {
     for term in terms {
-        if let Err(overflow) = coef_int::times(by, term.0) {
-            return Err(PolyFault::Overflow(overflow));
-        }
+        coef_int::times(by, term.0)?;
     }
     Ok(kept_by(by, terms))
 }
@@ -120,10 +118,7 @@ pub(crate) fn merge_multiples(
     let mut left = p;
     let mut right = q;
     while let Some(next) = next_word(left, right) {
-        let total = match coef_int::plus(a * next.left, b * next.right) {
-            Ok(total) => total,
-            Err(fault) => return Err(PolyFault::Overflow(fault)),
-        };
+        let total = coef_int::plus(a * next.left, b * next.right)?;
         push_copy(&mut sum, total, next.word)?;
         left = next.left_rest;
         right = next.right_rest;

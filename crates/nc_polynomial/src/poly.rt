@@ -1,3 +1,4 @@
+//! Polynomials: their terms, and copies and comparisons of them.
 ghost use Rattle.nc_polynomial.specs.Shape.{IsCanonical};
 
 use crate::{PolyFault, check_size};

@@ -86,10 +86,7 @@ fn behind(left: &(i128, Word), right: &(i128, Word)) -> Result<(i128, Word), Pol
     if left.1.len().saturating_add(right.1.len()) > LETTER_LIMIT {
         return Err(PolyFault::Size(SizeFault { letters: true }));
     }
-    let coefficient = match coef_int::times(left.0, right.0) {
-        Ok(product) => product,
-        Err(fault) => return Err(PolyFault::Overflow(fault)),
-    };
+    let coefficient = coef_int::times(left.0, right.0)?;
     Ok((coefficient, left.1.concat(&right.1)?))
 }
 

@@ -2,8 +2,9 @@
 ghost use Rattle.std.specs.Prelude.{◌≡◌, ◌≤◌, MatchResult, Ok, Err, length};
 ghost use Rattle.definitions.specs.Poly.{poly_between};
 ghost use Rattle.nc_polynomial.specs.Faults.{sized, has_long_word};
+ghost use Rattle.nc_polynomial.specs.declared.fault.PolyFault.TheVariants as fault;
 
-use crate::{PolyFault, SizeFault};
+use crate::SizeFault;
 use word_core::Word;
 
 pub(crate) const LETTER_LIMIT: usize = 500;
@@ -11,14 +12,14 @@ pub(crate) const LETTER_LIMIT: usize = 500;
 pub(crate) const TERM_LIMIT: usize = 20_000;
 
 /// Refuses a polynomial in which a word has more than 500 letters, or else one of more than 20,000 terms.
-pub fn check_size(terms: &[(i128, Word)]) -> Result<(), PolyFault>
-    ensures { MatchResult result (λ _. sized terms.now ≡ Ok terms.now) (λ e. sized terms.now ≡ Err e) }
+pub fn check_size(terms: &[(i128, Word)]) -> Result<(), SizeFault>
+    ensures { MatchResult result (λ _. sized terms.now ≡ Ok terms.now) (λ e. sized terms.now ≡ Err (fault.Size e)) }
 {
     if has_long_word(terms) {
-        return Err(PolyFault::Size(SizeFault { letters: true }));
+        return Err(SizeFault { letters: true });
     }
     if terms.len() > TERM_LIMIT {
-        return Err(PolyFault::Size(SizeFault { letters: false }));
+        return Err(SizeFault { letters: false });
     }
     Ok(())
 }
@@ -39,14 +40,14 @@ pub(crate) fn check_moved(
     left: &Word,
     terms: &[(i128, Word)],
     right: &Word,
-) -> Result<(), PolyFault>
+) -> Result<(), SizeFault>
     requires { length terms.now ≤ 20000 }
-    ensures { MatchResult result (λ _. sized (poly_between left.now terms.now right.now) ≡ Ok (poly_between left.now terms.now right.now)) (λ e. sized (poly_between left.now terms.now right.now) ≡ Err e) }
+    ensures { MatchResult result (λ _. sized (poly_between left.now terms.now right.now) ≡ Ok (poly_between left.now terms.now right.now)) (λ e. sized (poly_between left.now terms.now right.now) ≡ Err (fault.Size e)) }
 {
     let around = left.len().saturating_add(right.len());
     for term in terms {
         if term.1.len().saturating_add(around) > LETTER_LIMIT {
-            return Err(PolyFault::Size(SizeFault { letters: true }));
+            return Err(SizeFault { letters: true });
         }
     }
     Ok(())

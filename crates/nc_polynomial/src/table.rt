@@ -35,10 +35,7 @@ pub(crate) fn add_term(
     ensures exact { MatchResult result (λ _. IsCoefficient (coefficient_in table.old word +ℤ coefficient)) (Explains (checked (sum_of (coefficient_in table.old word) coefficient ∷ []) coefficient)) }
 {
     let so_far = table.get(&word).copied().unwrap_or(0);
-    let total = match coef_int::plus(so_far, coefficient) {
-        Ok(total) => total,
-        Err(fault) => return Err(PolyFault::Overflow(fault)),
-    };
+    let total = coef_int::plus(so_far, coefficient)?;
     if total == 0 {
         table.remove(&word);
     } else {

@@ -28,10 +28,7 @@ pub fn scale_terms(
 {
     let mut scaled = Listing::new(alloc);
     for term in terms {
-        let product = match coef_int::times(by, term.0) {
-            Ok(product) => product,
-            Err(fault) => return Err(PolyFault::Overflow(fault)),
-        };
+        let product = coef_int::times(by, term.0)?;
         push_copy(&mut scaled, product, &term.1)?;
     }
     Ok(scaled)
@@ -50,12 +47,8 @@ pub fn multiply_terms(
     ensures exact { MatchResult result (λ v. checked (multiplications terms by) (multiplied terms by) ≡ Ok v) (Explains (checked (multiplications terms by) (multiplied terms by))) }
 {
     let mut multiplied = Listing::new(alloc);
-    let mut rest = VecDeque::from_vec(terms.into_vec());
-    while let Some((coefficient, word)) = rest.pop_front() {
-        let product = match coef_int::times(coefficient, by) {
-            Ok(product) => product,
-            Err(fault) => return Err(PolyFault::Overflow(fault)),
-        };
+    for (coefficient, word) in terms.into_vec() {
+        let product = coef_int::times(coefficient, by)?;
         push_nonzero(&mut multiplied, product, word)?;
     }
     Ok(multiplied)
@@ -77,10 +70,7 @@ pub fn shift_terms(
 {
     let mut shifted = Listing::new(alloc);
     for term in terms {
-        let product = match coef_int::times(by, term.0) {
-            Ok(product) => product,
-            Err(fault) => return Err(PolyFault::Overflow(fault)),
-        };
+        let product = coef_int::times(by, term.0)?;
         push_between(&mut shifted, product, left, &term.1, right)?;
     }
     Ok(shifted)
@@ -95,8 +85,7 @@ pub fn negate_terms(
     ensures { IfOk result (λ v. v ≡ negated terms) }
 {
     let mut turned = Listing::new(alloc);
-    let mut rest = VecDeque::from_vec(terms.into_vec());
-    while let Some((coefficient, word)) = rest.pop_front() {
+    for (coefficient, word) in terms.into_vec() {
         turned.push((coef_int::negate(coefficient), word))?;
     }
     Ok(turned)
@@ -161,10 +150,7 @@ pub fn merge_terms(
     let mut left = VecDeque::from_vec(p.into_vec());
     let mut right = VecDeque::from_vec(q.into_vec());
     while let Some((x, y, word)) = next_pair(&mut left, &mut right) {
-        let total = match coef_int::plus(x, y) {
-            Ok(total) => total,
-            Err(fault) => return Err(PolyFault::Overflow(fault)),
-        };
+        let total = coef_int::plus(x, y)?;
         push_nonzero(&mut sum, total, word)?;
     }
     Ok(sum)

@@ -12,6 +12,6 @@ returns-in-None-clause-added c =
 
 pub returns-clause-added : goal.returns-clause-added
 returns-clause-added c =
-    let total : c.in-Ok.total ≡ coefficient_in c.args.table.now c.args.word.now +ℤ c.args.coefficient = search rules in
-    let new = c.get_mut.follows.lender (to_z w128 (of_z w128 c.in-Ok.total)) in
-    coefficient_in-written c.args.table.now new c.args.word.now c.args.coefficient c.in-Ok.total (λ w. search rules) total
+    let total : c.in_ok-sum.field-0 ≡ coefficient_in c.args.table.now c.args.word.now +ℤ c.args.coefficient = search rules in
+    let new = c.get_mut.follows.lender (to_z w128 (of_z w128 c.in_ok-sum.field-0)) in
+    coefficient_in-written c.args.table.now new c.args.word.now c.args.coefficient c.in_ok-sum.field-0 (λ w. search rules) total

@@ -47,8 +47,8 @@ overflow_mul-b c =
     let fits : IsCoefficient (b *ℤ n.right) = (next-in_range a b pairs rest (n.left, n.right, n.word.now) next in_range).0.1 in
     search rules
 
-pub returns-in-Err : goal.returns-in-Err
-returns-in-Err c =
+pub returns-in_err-total : goal.returns-in_err-total
+returns-in_err-total c =
     let a = c.args.a in
     let b = c.args.b in
     let p = c.args.p.now in
@@ -60,8 +60,10 @@ returns-in-Err c =
     let next : pairs ≡ (n.left, n.right, n.word.now) ∷ rest = search rules in
     let same : join out (total_from (multiplied_pairs a b pairs)) ≡ total_from (multiplied_pairs a b (aligned p q)) = search rules in
     let misses : IsCoefficient (a *ℤ n.left +ℤ b *ℤ n.right) → ⊥ = search rules in
-    let operands : c.in-Err.fault ≡ sum_of (a *ℤ n.left) (b *ℤ n.right) = search rules in
-    ap total_from (aligned-multiples a b p q) ∙ sym same ∙ next-overflows a b pairs rest (n.left, n.right, n.word.now) next out misses ∙ ap (λ o. Err (fault.Overflow o)) (sym operands)
+    let overflow = c.in_err-total.field-0.0 in
+    let given : c.from_residual.result ≡ Err (fault.Overflow overflow) = search rules in
+    let operands : overflow ≡ sum_of (a *ℤ n.left) (b *ℤ n.right) = search rules in
+    rw given (ap total_from (aligned-multiples a b p q) ∙ sym same ∙ next-overflows a b pairs rest (n.left, n.right, n.word.now) next out misses ∙ ap (λ o. Err (fault.Overflow o)) (sym operands))
 
 pub loop-next-preserved : goal.loop-next-preserved
 loop-next-preserved c =
@@ -78,9 +80,9 @@ loop-next-preserved c =
     let next : pairs ≡ (n.left, n.right, n.word.now) ∷ rest = search rules in
     let in_range : AreInRange (multiplied_pairs a b pairs) = search rules in
     let same : join out (total_from (multiplied_pairs a b pairs)) ≡ total_from (multiplied_pairs a b (aligned p q)) = search rules in
-    let total : c.in-Ok.total ≡ a *ℤ n.left +ℤ b *ℤ n.right = search rules in
+    let total : c.in_ok-total.total ≡ a *ℤ n.left +ℤ b *ℤ n.right = search rules in
     let fits : IsCoefficient (a *ℤ n.left +ℤ b *ℤ n.right) = search rules in
-    let pushed : c.push_copy.new.terms ≡ out ++ keep c.in-Ok.total n.word.now [] = search rules in
+    let pushed : c.push_copy.new.terms ≡ out ++ keep c.in_ok-total.total n.word.now [] = search rules in
     rw (a_is, b_is) (record {
       in_range = (next-in_range a b pairs rest (n.left, n.right, n.word.now) next in_range).1;
       same =

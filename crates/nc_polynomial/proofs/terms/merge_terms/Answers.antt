@@ -15,9 +15,9 @@ loop-x-preserved c =
     let out = c.loop-x.sum in
     let rest = aligned c.next_pair.new.left.items c.next_pair.new.right.items in
     let next : aligned c.loop-x.left.items c.loop-x.right.items ≡ (x, y, w) ∷ rest = search rules in
-    let total : c.in-Ok.total ≡ x +ℤ y = search rules in
+    let total : c.in_ok-total.total ≡ x +ℤ y = search rules in
     let fits : IsCoefficient (x +ℤ y) = search rules in
-    let pushed : c.push_nonzero.new.terms ≡ out ++ keep c.in-Ok.total w [] = search rules in
+    let pushed : c.push_nonzero.new.terms ≡ out ++ keep c.in_ok-total.total w [] = search rules in
     record {
       left_in = c.next_pair.ensures.left_coefficients;
       right_in = c.next_pair.ensures.right_coefficients;

@@ -1,14 +1,13 @@
 use Rattle.std.proofs.Common.{◌≡◌, ◌++◌, length}
 use Rattle.std.specs.List.{All}
+use Rattle.std.specs.Vec.Iter.{into_iter_items, into_iter_len}
 use Rattle.coef_int.specs.Range.{IsCoefficient}
 use Rattle.nc_polynomial.specs.Terms.{negated}
 use Rattle.nc_polynomial.proofs.terms.negate_terms.Given as goal
 
 abbrev pub invariant-loop-coefficient : goal.invariant-loop-coefficient
 invariant-loop-coefficient l = record {
-  terms_in : All (λ t. IsCoefficient t.0) l.rest.items;
-  same : l.turned ++ negated l.rest.items ≡ negated l.fn.terms;
+  left : into_iter_len l.coefficient-iterator ≡ length (into_iter_items l.coefficient-iterator);
+  terms_in : All (λ t. IsCoefficient t.0) (into_iter_items l.coefficient-iterator);
+  same : l.turned ++ negated (into_iter_items l.coefficient-iterator) ≡ negated l.fn.terms;
 }
-
-abbrev pub decreases-loop-coefficient : goal.decreases-loop-coefficient
-decreases-loop-coefficient l = length l.rest.items
