@@ -209,7 +209,7 @@ class Problem:
 
     def __init__(self, path: str) -> None:
         texts = [tokens_of(text, number) for number, text in read_lines(path, "# refused S1 byte {}")]
-        lines = [Line(tokens).statement() for tokens in texts if tokens]
+        self.lines = lines = [Line(tokens).statement() for tokens in texts if tokens]
         check_names(lines)
         self.names, self.stars, self.ends = [], [], []  # of each letter: as it is written, its adjoint, its signature
         self.numbers: Dict[str, int] = {}  # of each way to write a letter
@@ -287,23 +287,12 @@ def is_letter(text: str) -> bool:
     return is_name(text[1:-1] if text[:1] + text[-1:] == "[]" else text)
 
 
-class Evidence:
-    """The certificates of an evidence text."""
+class Blocks:
+    """An evidence text: its lines, but for those that are skipped, and the blocks of other kinds."""
 
-    def __init__(self, problem: Problem, path: str) -> None:
-        self.letters = problem.numbers
+    def __init__(self, path: str) -> None:
         self.lines = read_lines(path, "# refused K1")
-        self.certificates: List[Certificate] = []
         self.advance()
-        while self.line:
-            if self.line.startswith("certificate "):
-                self.certificates.append(self.certificate())
-            else:
-                self.take("(model|basis)( .*)?")
-                while self.take("(.+)") != ("end",):
-                    pass
-        if not self.certificates:
-            raise Refusal("# refused K7")
 
     def advance(self) -> None:
         """Goes to the next line that isn't skipped, with one blank between its tokens; at the end it is empty."""
@@ -314,6 +303,12 @@ class Evidence:
                 return
         self.line = ""
 
+    def skip(self, kinds: str) -> None:
+        """Goes behind a block that begins with one of these words."""
+        self.take(f"({kinds})( .*)?")
+        while self.take("(.+)") != ("end",):
+            pass
+
     def take(self, pattern: str) -> Tuple[str, ...]:
         match = re.fullmatch(pattern, self.line)
         if not match:
@@ -323,6 +318,22 @@ class Evidence:
 
     def take_number(self, words: str) -> int:
         return int(self.take(words + " ([0-9]+)")[0])
+
+
+class Evidence(Blocks):
+    """The certificates of an evidence text."""
+
+    def __init__(self, problem: Problem, path: str) -> None:
+        super().__init__(path)
+        self.letters = problem.numbers
+        self.certificates: List[Certificate] = []
+        while self.line:
+            if self.line.startswith("certificate "):
+                self.certificates.append(self.certificate())
+            else:
+                self.skip("model|basis")
+        if not self.certificates:
+            raise Refusal("# refused K7")
 
     def certificate(self) -> Certificate:
         has_lemmas = self.take("certificate ([12])") == ("2",)

@@ -1,5 +1,5 @@
 #!/usr/bin/env python3
-"""Tries the tools of contrib/, and compares check.py with opprove where that is built.
+"""Tries the tools of contrib/, and compares check.py, check_model.py and candidates.py with opprove where that is built.
 
 Each check is a function that gives a line on what it found, and raises Failed where a tool does not do what it should.
 What is not installed is skipped with a line. The status is 0 where nothing failed, and else 1.
@@ -10,53 +10,15 @@ import functools
 import json
 import os
 import re
-import shutil
 import subprocess
 import sys
 import tempfile
 from pathlib import Path
-from typing import Callable, Iterator, List, NamedTuple, Tuple
+from typing import Callable, Iterator, List, Tuple
 
-TOP = Path(__file__).resolve().parent.parent
-CONTRIB, EXAMPLES = TOP / "contrib", TOP / "examples"
-PROGRAM = TOP / "crates" / "opprove" / "out" / "opprove"
-
-
-class Failed(Exception):
-    """What a tool did, and should not do."""
-
-
-class Skipped(Exception):
-    """What is not there."""
-
-
-class Answer(NamedTuple):
-    status: int
-    out: str
-    error: str
-
-
-def run(*words: object, folder: Path = TOP) -> Answer:
-    """The answer of a program, which gets no input and two minutes."""
-    command = [str(word) for word in words]
-    environment = {**os.environ, "LC_ALL": "C.UTF-8", "PYTHONDONTWRITEBYTECODE": "1"}
-    done = subprocess.run(
-        command, cwd=folder, env=environment, stdin=subprocess.DEVNULL, capture_output=True, timeout=120
-    )
-    return Answer(done.returncode, done.stdout.decode(), done.stderr.decode())
-
-
-def need(condition: bool, what: object) -> None:
-    if not condition:
-        raise Failed(str(what))
-
-
-def installed(name: str) -> str:
-    path = shutil.which(name)
-    if not path:
-        raise Skipped(f"{name} is not installed")
-    return path
-
+sys.dont_write_bytecode = True
+import try_models
+from trying import CONTRIB, EXAMPLES, PROGRAM, Answer, Failed, Skipped, installed, need, run
 
 # ---- The two checkers
 
@@ -124,12 +86,13 @@ def reports(folder: Path) -> str:
     for statement in sorted(EXAMPLES.glob("**/*.op")):
         for number in (1, 2):
             answer = run(PROGRAM, "prove", statement, "--pairs", 200, "--format", number)
-            need(answer.status in (0, 10, 12), (statement, answer))
+            need(answer.status in (0, 10, 11, 12), (statement, answer))
             evidence = folder / "report.cert"
             evidence.write_text(answer.out)
             if "\ncertificate " in answer.out:
                 expect(True, statement, evidence)
                 count += 1
+            try_models.refuted_claims(statement, answer.out, folder)
     need(count >= 20, f"{count} reports with certificates")
     return f"{count} reports of prove are accepted by check.py, and by opprove where it reads their format"
 
@@ -317,13 +280,15 @@ def grammars() -> str:
 
 
 def main(words: List[str]) -> int:
-    """Tries the second checker, and, but for the word `checker`, all other tools."""
+    """Tries the second checkers and the second search, and, but for the word `checker`, all other tools."""
     with tempfile.TemporaryDirectory() as name:
         folder = Path(name)
         checker: List[Callable[[], str]] = [
             examples, lambda: reports(folder), lambda: changes(folder), lambda: bad_input(folder), translations,
+            *(functools.partial(check, folder) for check in try_models.CHECKS),
         ]  # fmt: skip
         others: List[Callable[[], str]] = [
+            lambda: try_models.example_searches(folder),
             lambda: singular(folder), lambda: sympy(folder), cofactors, lambda: latex(folder), manual,
             shell("bash", "opprove.bash"), shell("zsh", "_opprove"), shell("fish", "opprove.fish"),
             lambda: vim(folder), grammars,

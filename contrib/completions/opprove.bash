@@ -6,6 +6,12 @@ _opprove_files() {
   mapfile -t COMPREPLY < <(compgen -f -X "!*.$1" -- "$2"; compgen -d -- "$2")
 }
 
+# Offers files of any name, and folders.
+_opprove_all_files() {
+  compopt -o filenames
+  mapfile -t COMPREPLY < <(compgen -f -- "$1")
+}
+
 _opprove_words() {
   mapfile -t COMPREPLY < <(compgen -W "$1" -- "$2")
 }
@@ -14,7 +20,7 @@ _opprove() {
   local current=${COMP_WORDS[COMP_CWORD]} previous=${COMP_WORDS[COMP_CWORD - 1]}
   COMPREPLY=()
   if ((COMP_CWORD == 1)); then
-    _opprove_words "prove check bench" "$current"
+    _opprove_words "prove check refute model bench" "$current"
     return
   fi
   case ${COMP_WORDS[1]} in
@@ -35,6 +41,24 @@ _opprove() {
       case $COMP_CWORD in
         2) _opprove_files op "$current" ;;
         3) _opprove_files cert "$current" ;;
+      esac
+      ;;
+    refute)
+      case $previous in
+        --workers | --seed) ;;
+        *)
+          if [[ $current == -* ]]; then
+            _opprove_words "--workers --seed" "$current"
+          else
+            _opprove_files op "$current"
+          fi
+          ;;
+      esac
+      ;;
+    model)
+      case $COMP_CWORD in
+        2) _opprove_files op "$current" ;;
+        3) _opprove_all_files "$current" ;;
       esac
       ;;
     bench)

@@ -5,12 +5,12 @@ endif
 
 syntax match opprovecertBlock "^\s*\zs\(certificate\|basis\|model\)\>"
 syntax match opprovecertBlock "^\s*\zsend\ze\s*$"
-syntax match opprovecertWord "^\s*\zs\(claim\|denominator\|row\|rule\|rest\)\>"
+syntax match opprovecertWord "^\s*\zs\(claim\|denominator\|row\|rule\|rest\|modulus\|side\|map\)\>"
 syntax match opprovecertWord "^\s*\zslemma\s\+\d\+\s\+scale\>"
 syntax match opprovecertWord "^\s*\zsgoal\s\+scale\>"
 syntax match opprovecertLemma "\()\s*\)\@<=lemma\ze\s\+\d"
 syntax match opprovecertIdentity "\[[^] \t]*\]"
-syntax match opprovecertNumber "\(^\|[ \t()]\)\@<=-\?\d\+\>"
+syntax match opprovecertNumber "\(^\|[ \t()=;]\)\@<=-\?\d\+\>"
 syntax match opprovecertComment "^\s*#.*$" contains=@Spell
 
 highlight default link opprovecertBlock Statement

@@ -1,0 +1,48 @@
+"""What try.py and try_models.py share: programs that are run, and what is needed of them."""
+from __future__ import annotations
+
+import os
+import shutil
+import subprocess
+from pathlib import Path
+from typing import NamedTuple
+
+TOP = Path(__file__).resolve().parent.parent
+CONTRIB, EXAMPLES = TOP / "contrib", TOP / "examples"
+PROGRAM = TOP / "crates" / "opprove" / "out" / "opprove"
+
+
+class Failed(Exception):
+    """What a tool did, and should not do."""
+
+
+class Skipped(Exception):
+    """What is not there."""
+
+
+class Answer(NamedTuple):
+    status: int
+    out: str
+    error: str
+
+
+def run(*words: object, folder: Path = TOP) -> Answer:
+    """The answer of a program, which gets no input and two minutes."""
+    command = [str(word) for word in words]
+    environment = {**os.environ, "LC_ALL": "C.UTF-8", "PYTHONDONTWRITEBYTECODE": "1"}
+    done = subprocess.run(
+        command, cwd=folder, env=environment, stdin=subprocess.DEVNULL, capture_output=True, timeout=120
+    )
+    return Answer(done.returncode, done.stdout.decode(), done.stderr.decode())
+
+
+def need(condition: bool, what: object) -> None:
+    if not condition:
+        raise Failed(str(what))
+
+
+def installed(name: str) -> str:
+    path = shutil.which(name)
+    if not path:
+        raise Skipped(f"{name} is not installed")
+    return path
