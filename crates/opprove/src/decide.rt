@@ -152,9 +152,7 @@ fn verdicts_of<R: Threads + Sync, G: Gate + Sync>(
     let mut claim = 0;
     for outcome in outcomes.into_vec() {
         claim += 1;
-        verdicts.push(verdict_of(
-            rt, alloc, problem, asked, claim, outcome, workers, gate,
-        )?)?;
+        verdicts.push(verdict_of(rt, alloc, problem, asked, claim, outcome, workers, gate)?)?;
     }
     Ok(verdicts)
 }

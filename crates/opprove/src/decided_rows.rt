@@ -213,7 +213,11 @@ pub const BROKEN: &[Row] = &[
         REFLEXIVE,
         "13 # claim 1 not refuted candidates 18\n",
     ),
-    (REFUTE, TWO_CANDIDATES, "13 # claim 1 not refuted candidates 2\n"),
+    (
+        REFUTE,
+        TWO_CANDIDATES,
+        "13 # claim 1 not refuted candidates 2\n",
+    ),
     // a proved claim beside one that is broken
     (
         &["prove", "s", "--pairs", "1"],

@@ -1,5 +1,7 @@
 //! Runs of the program over files and a sink in memory.
-use crate::decided_rows::{BROKEN, DOUBLED, INNER, OTHERS, PLAIN, PROVED, PROVED_PLAINLY, WITHOUT_FILES};
+use crate::decided_rows::{
+    BROKEN, DOUBLED, INNER, OTHERS, PLAIN, PROVED, PROVED_PLAINLY, WITHOUT_FILES,
+};
 use crate::gallery_rows::GALLERY;
 use crate::lemma_rows::{LEMMAS, LONG_WORD};
 use crate::model_rows::{FAULTS, MODELS};
@@ -172,7 +174,10 @@ fn models_of_refuted_claims_are_confirmed(rt: HostRuntime) -> Result<(), Fail> {
     for (_, statement, told) in BROKEN {
         if let Some(report) = told.strip_prefix("11 ") {
             let got = answer(&rt, rt.alloc(), MODEL, statement, report.as_bytes(), &[])?;
-            assert!(rt; got.as_str().starts_with("0 # block 1 confirmed claim "), "{got:?}");
+            assert!(rt;
+                got.as_str().starts_with("0 # block 1 confirmed claim "),
+                "{got:?}"
+            );
         }
     }
     Ok(())
