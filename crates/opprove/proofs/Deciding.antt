@@ -1,6 +1,6 @@
 -- What `prove` and `bench` answer: one ending, its status, and what its verdicts mean.
-use Rattle.std.proofs.Common.{◌≡◌, ◌≤◌, ℕ, zero, suc, ◌+◌, Bool, true, false, List, [], ◌∷◌, length, map, if◌then◌else◌, refl, sym, ap, subst, ◌∙◌, arith}
-use Rattle.std.specs.List.{AllZip, range_with_len, list_any, list_all}
+use Rattle.std.proofs.Common.{◌≡◌, ◌≤◌, ℕ, zero, suc, ◌+◌, List, [], ◌∷◌, length, sym, ap, subst, ◌∙◌, arith}
+use Rattle.std.specs.List.{AllZip, range_with_len}
 use Rattle.std.proofs.lemmas.List.{length-map}
 use Rattle.definitions.specs.Category.{Structure, PreadditiveLaws}
 use Rattle.definitions.specs.Soundness.{IsSound}
@@ -9,7 +9,6 @@ use Rattle.cofactor_trace.specs.declared.halt.Halt.{Halt}
 use Rattle.cofactor_checker.specs.Rows.{IsNumberUpTo}
 use Rattle.adjoint_rules.specs.declared.problem.Problem.{Problem}
 use Rattle.adjoint_rules.specs.Problem.{polynomials}
-use Rattle.traced_completion.specs.declared.budget.Budget.{Budget}
 use Rattle.traced_completion.specs.PlainRun.{setting_of}
 use Rattle.claim_decider.specs.declared.outcome.Outcome.{Outcome}
 use Rattle.claim_decider.specs.declared.outcome.Outcome.TheVariants as outcome
@@ -27,7 +26,7 @@ use Rattle.opprove.specs.Ending.{Ending}
 use Rattle.opprove.specs.Statement.{OverStatement}
 use Rattle.opprove.specs.Statement as statements
 use Rattle.opprove.specs.declared.decide.Asked.{Asked}
-use Rattle.opprove.specs.Decide.{Print, IsVerdictOn, AreVerdictsOn, AnswersClaims}
+use Rattle.opprove.specs.Decide.{Print, AreVerdictsOn, AnswersClaims}
 use Rattle.opprove.specs.Headline.{VerdictMeans, PrintsMeant, SaysDecided}
 use Rattle.opprove.proofs.Statements.{statement_once}
 use Rattle.opprove.proofs.Stops.{over_statement}
