@@ -98,7 +98,7 @@ fn claims_share_one_run(rt: HostRuntime) -> Result<(), Fail> {
 }
 
 // So many flags, none of which is set.
-fn meeting(alloc: Global, items: u32) -> Result<Meeting, AllocError> {
+fn meeting_of(alloc: Global, items: u32) -> Result<Meeting, AllocError> {
     let mut flags = Vec::new(alloc);
     for _ in 0..items {
         flags.push(AtomicU64::new(0))?;
@@ -111,7 +111,7 @@ fn meeting(alloc: Global, items: u32) -> Result<Meeting, AllocError> {
 
 #[test]
 fn reductions_of_a_round_meet(rt: HostRuntime) -> Result<(), Fail> {
-    let gate = meeting(rt.alloc(), 32)?;
+    let gate = meeting_of(rt.alloc(), 32)?;
     assert_eq!(rt; status(&rt, rt.alloc(), WORDS, POWER, &gate)?, 10);
     assert_eq!(rt; gate.met.load(Ordering::SeqCst), 33);
     Ok(())
@@ -119,7 +119,7 @@ fn reductions_of_a_round_meet(rt: HostRuntime) -> Result<(), Fail> {
 
 #[test]
 fn candidates_of_a_block_meet(rt: HostRuntime) -> Result<(), Fail> {
-    let gate = meeting(rt.alloc(), 2)?;
+    let gate = meeting_of(rt.alloc(), 2)?;
     let words = &["refute", "s", "--workers", "2"];
     assert_eq!(rt; status(&rt, rt.alloc(), words, TWO_CANDIDATES, &gate)?, 13);
     assert_eq!(rt; gate.met.load(Ordering::SeqCst), 2);
