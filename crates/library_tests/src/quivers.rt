@@ -1,7 +1,7 @@
 //! Quivers: numbers and names of letters, refused declarations, and signatures.
 use crate::texts::{all_over, is_over, quiver_of, same, word};
 use nc_polynomial::{Poly, PolyFault};
-use quiver::{Named, Quiver, QuiverFault, Sig};
+use quiver::{Named, Quiver, QuiverStop, Sig};
 use std::alloc::{AllocError, Global};
 use std::test::Fail;
 use word_core::{Letter, Object};
@@ -136,7 +136,7 @@ const REFUSALS: [(u32, u32, &[Refusal]); 3] = [
     ),
 ];
 
-fn declare(alloc: Global, quiver: &mut Quiver, objects: u32, maps: u32) -> Result<(), QuiverFault> {
+fn declare(alloc: Global, quiver: &mut Quiver, objects: u32, maps: u32) -> Result<(), QuiverStop> {
     for number in 0..objects {
         quiver.add_object(&format!(in alloc; "V{number}")?)?;
     }

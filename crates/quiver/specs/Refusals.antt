@@ -1,7 +1,9 @@
 -- The first thing that is wrong with a declaration.
 use Rattle.std.specs.Prelude.{◌≡◌, ⊤, ℕ, ◌&&◌, Bool, not, nat_eq, nat_le, if◌then◌else◌, is_some, List, Option, None, Some}
 use Rattle.quiver.specs.declared.fault.QuiverFault.{QuiverFault}
-use Rattle.quiver.specs.declared.fault.QuiverFault.TheVariants.{DoubleName, TooMany, NotSquare, Memory}
+use Rattle.quiver.specs.declared.fault.QuiverFault.TheVariants.{DoubleName, TooMany, NotSquare}
+use Rattle.quiver.specs.declared.fault.QuiverStop.{QuiverStop}
+use Rattle.quiver.specs.declared.fault.QuiverStop.TheVariants as stop
 use Rattle.quiver.specs.Declarations.{Declaration, named_in, object_count, map_count}
 
 abbrev pub is_named : List Declaration → List ℕ → Bool
@@ -23,14 +25,10 @@ map_fault ds name u v selfmade =
     else None
 
 -- The fault that is found is the answer; want of memory is the answer only where there is none.
-abbrev pub Explains : Option QuiverFault → QuiverFault → Type 0
-Explains found DoubleName = found ≡ Some DoubleName
-Explains found (TooMany limit) = found ≡ Some (TooMany limit)
-Explains found NotSquare = found ≡ Some NotSquare
-Explains found (Memory e) = found ≡ None
+abbrev pub Explains : Option QuiverFault → QuiverStop → Type 0
+Explains found (stop.Fault fault) = found ≡ Some fault
+Explains found (stop.Memory e) = found ≡ None
 
-abbrev pub IsMemory : QuiverFault → Type 0
-IsMemory DoubleName = ⊥
-IsMemory (TooMany limit) = ⊥
-IsMemory NotSquare = ⊥
-IsMemory (Memory e) = ⊤
+abbrev pub IsMemory : QuiverStop → Type 0
+IsMemory (stop.Fault fault) = ⊥
+IsMemory (stop.Memory e) = ⊤

@@ -1,12 +1,14 @@
-//! Why a declaration of an object or a map is refused.
+//! What can be wrong with a declaration of an object or a map.
 
+ghost use Rattle.std.specs.Prelude.{◌≡◌};
 ghost use Rattle.quiver.specs.Refusals.{IsMemory};
+ghost use Rattle.quiver.specs.declared.fault.QuiverStop.TheVariants as stop;
 
 use std::alloc::{AllocError, AllocFailed};
 use thiserror::Error;
 
-/// Why a declaration is refused.
-#[derive(Debug, Drop, Error)]
+/// What is wrong with a declaration.
+#[derive(Clone, Copy, Debug, PartialEq, Eq, Error)]
 pub enum QuiverFault {
     /// An object or a map has this name.
     #[error("the name is declared")]
@@ -17,23 +19,39 @@ pub enum QuiverFault {
     /// A map that is to be its own adjoint has two different ends.
     #[error("the source and the target differ")]
     NotSquare,
+}
+
+/// Why nothing is declared: what is wrong with the declaration, or want of memory.
+#[derive(Debug, Drop, Error)]
+pub enum QuiverStop {
+    /// Something is wrong with the declaration.
+    #[error(transparent)]
+    Fault(QuiverFault),
     /// Memory is short.
     #[error(transparent)]
     Memory(AllocError),
 }
 
-impl From<AllocError> for QuiverFault {
-    ghost from_gives = { λ _ fault. IsMemory fault };
+impl From<QuiverFault> for QuiverStop {
+    ghost from_gives = { λ fault stopped. stopped ≡ stop.Fault fault };
 
-    fn from(error: AllocError) -> QuiverFault {
-        QuiverFault::Memory(error)
+    fn from(fault: QuiverFault) -> QuiverStop {
+        QuiverStop::Fault(fault)
     }
 }
 
-impl<T: Drop> From<AllocFailed<T>> for QuiverFault {
-    ghost from_gives = { λ _ fault. IsMemory fault };
+impl From<AllocError> for QuiverStop {
+    ghost from_gives = { λ _ stopped. IsMemory stopped };
 
-    fn from(_error: AllocFailed<T>) -> QuiverFault {
-        QuiverFault::Memory(AllocError)
+    fn from(error: AllocError) -> QuiverStop {
+        QuiverStop::Memory(error)
+    }
+}
+
+impl<T: Drop> From<AllocFailed<T>> for QuiverStop {
+    ghost from_gives = { λ _ stopped. IsMemory stopped };
+
+    fn from(_error: AllocFailed<T>) -> QuiverStop {
+        QuiverStop::Memory(AllocError)
     }
 }

@@ -6,7 +6,7 @@ ghost use Rattle.quiver.specs.Declarations.{object, arrow, object_count, map_cou
 ghost use Rattle.quiver.specs.Tables.{object_entry, letter_entry};
 ghost use Rattle.quiver.specs.Refusals.{object_fault, map_fault, Explains};
 
-use crate::{Named, QuiverFault, Sig};
+use crate::{Named, QuiverFault, QuiverStop, Sig};
 use indexmap::IndexMap;
 use std::alloc::{AllocError, Global};
 use std::marker::Model;
@@ -71,7 +71,7 @@ impl Quiver {
     /// Declares an object and its identity, which take the next free numbers of an object and a letter.
     /// `DoubleName` exactly where the name is declared, and else `TooMany` exactly where there are 64 objects.
     /// A refusal leaves the quiver as it was.
-    pub fn add_object(&mut self, name: &str) -> Result<Object, QuiverFault>
+    pub fn add_object(&mut self, name: &str) -> Result<Object, QuiverStop>
         ensures declared { OnOk result (self.new ≡ self.old ++ object name.now ∷ []) }
         ensures number { IfOk result (λ v. v.0 ≡ object_count self.old) }
         ensures fits { OnOk result (object_fault self.old name.now ≡ None) }
@@ -112,7 +112,7 @@ impl Quiver {
         source: Object,
         target: Object,
         selfmade: bool,
-    ) -> Result<Letter, QuiverFault>
+    ) -> Result<Letter, QuiverStop>
         requires source_in { source.0 < object_count self.old }
         requires target_in { target.0 < object_count self.old }
         ensures declared { OnOk result (self.new ≡ self.old ++ arrow name.now source.0 target.0 selfmade ∷ []) }

@@ -7,7 +7,9 @@ use Rattle.std.proofs.lemmas.Bool.{ltb-true}
 use Rattle.std.proofs.lemmas.Bool.Decides.{nat_tests}
 use Rattle.std.proofs.lemmas.List.{map-append}
 use Rattle.quiver.specs.declared.fault.QuiverFault.{QuiverFault}
-use Rattle.quiver.specs.declared.fault.QuiverFault.TheVariants.{DoubleName, TooMany, NotSquare, Memory}
+use Rattle.quiver.specs.declared.fault.QuiverFault.TheVariants.{DoubleName, TooMany, NotSquare}
+use Rattle.quiver.specs.declared.fault.QuiverStop.{QuiverStop}
+use Rattle.quiver.specs.declared.fault.QuiverStop.TheVariants as stop
 use Rattle.quiver.specs.Declarations.{Declaration, object, arrow, name_of, object_count, map_count, named_in, has_ends, IsDeclared}
 use Rattle.quiver.specs.Refusals.{object_fault, map_fault, Explains, IsMemory}
 use Rattle.quiver.proofs.Letters.{ends_of}
@@ -95,8 +97,6 @@ no_map_fault xs name u v selfmade ys declared =
     ∙ ap (λ b. if b then Some NotSquare else None) square
 
 -- only memory is left
-pub only_memory : (found : Option QuiverFault) (fault : QuiverFault) → found ≡ None → Explains found fault → IsMemory fault
-only_memory found DoubleName none h = absurd (cc)
-only_memory found (TooMany limit) none h = absurd (cc)
-only_memory found NotSquare none h = absurd (cc)
-only_memory found (Memory e) none h = tt
+pub only_memory : (found : Option QuiverFault) (stopped : QuiverStop) → found ≡ None → Explains found stopped → IsMemory stopped
+only_memory found (stop.Fault fault) none h = absurd (cc)
+only_memory found (stop.Memory e) none h = tt

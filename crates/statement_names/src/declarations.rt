@@ -7,7 +7,7 @@ ghost use Rattle.statement_names.specs.Faults.{name_fault_of};
 ghost use Rattle.statement_names.specs.Numbered.{objects_in, maps_in, declarations_of, HasEnds};
 
 use expressions::object_of;
-use quiver::{Quiver, QuiverFault};
+use quiver::{Quiver, QuiverStop};
 use statement_syntax::{Statement, StatementKind};
 use std::alloc::{AllocError, Global};
 
@@ -35,7 +35,7 @@ fn add_objects(quiver: &mut Quiver, statement: &StatementKind) -> Result<(), All
         for name in names.as_slice() {
             match quiver.add_object(name.text.as_str()) {
                 Ok(_) => {}
-                Err(fault) => return Err(memory_of(fault)),
+                Err(stop) => return Err(memory_of(stop)),
             }
         }
     }
@@ -60,7 +60,7 @@ fn add_maps(quiver: &mut Quiver, statement: &StatementKind) -> Result<(), AllocE
         for name in names.as_slice() {
             match quiver.add_map(name.text.as_str(), source, target, *selfmade) {
                 Ok(_) => {}
-                Err(fault) => return Err(memory_of(fault)),
+                Err(stop) => return Err(memory_of(stop)),
             }
         }
     }
@@ -68,11 +68,11 @@ fn add_maps(quiver: &mut Quiver, statement: &StatementKind) -> Result<(), AllocE
 }
 
 // The want of memory, where nothing else is wrong with a declaration.
-fn memory_of(fault: QuiverFault) -> AllocError
-    requires { IsMemory fault }
+fn memory_of(stop: QuiverStop) -> AllocError
+    requires { IsMemory stop }
 {
-    match fault {
-        QuiverFault::Memory(error) => error,
-        _ => unreachable!(),
+    match stop {
+        QuiverStop::Memory(error) => error,
+        QuiverStop::Fault(_) => unreachable!(),
     }
 }

@@ -125,8 +125,8 @@ impl Word {
         None
     }
 
-    // Whether `sub` occurs at this place.
-    fn occurs_at(&self, sub: &Word, place: usize) -> bool
+    /// Whether `sub` occurs at this place.
+    pub fn occurs_at(&self, sub: &Word, place: usize) -> bool
         requires { place ≤ length self.now }
         ensures { IsTrue result ↔ OccursAt self.now sub.now place }
     {

@@ -39,5 +39,5 @@ memory_of-requires c =
     ∙ ap (λ q. q ++ made c.name-item.result ∷ rest) (sym c.loop-name.invariant) in
     let none : map_fault c.loop-name.quiver c.name-item.result.text u v c.in-Maps.selfmade ≡ None =
     no_map_fault c.loop-name.quiver c.name-item.result.text u v c.in-Maps.selfmade rest (subst IsDeclared whole c.requires.fits) in
-    only_memory (map_fault c.loop-name.quiver c.name-item.result.text u v c.in-Maps.selfmade) c.in-Err.fault none
-    (subst (λ t. Explains (map_fault c.loop-name.quiver t u v c.in-Maps.selfmade) c.in-Err.fault) c.as_str.ensures c.in-Err.ensures.fault)
+    only_memory (map_fault c.loop-name.quiver c.name-item.result.text u v c.in-Maps.selfmade) c.in-Err.stop none
+    (subst (λ t. Explains (map_fault c.loop-name.quiver t u v c.in-Maps.selfmade) c.in-Err.stop) c.as_str.ensures c.in-Err.ensures.fault)

@@ -21,8 +21,8 @@ memory_of-requires c =
     ∙ ap (λ q. q ++ object c.name-item.result.text ∷ map declaration (drop (c.loop-name.name-index + 1) names)) (sym c.loop-name.invariant) in
     let none : object_fault c.loop-name.quiver c.name-item.result.text ≡ None =
     no_object_fault c.loop-name.quiver c.name-item.result.text (map declaration (drop (c.loop-name.name-index + 1) names)) (subst IsDeclared whole c.requires) in
-    only_memory (object_fault c.loop-name.quiver c.name-item.result.text) c.in-Err.fault none
-    (subst (λ t. Explains (object_fault c.loop-name.quiver t) c.in-Err.fault) c.as_str.ensures c.in-Err.ensures.fault)
+    only_memory (object_fault c.loop-name.quiver c.name-item.result.text) c.in-Err.stop none
+    (subst (λ t. Explains (object_fault c.loop-name.quiver t) c.in-Err.stop) c.as_str.ensures c.in-Err.ensures.fault)
 
 pub returns-after-loop-name : goal.returns-after-loop-name
 returns-after-loop-name c =
