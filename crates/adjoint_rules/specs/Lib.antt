@@ -1,3 +1,4 @@
+pub mod Limits
 pub mod Problem
 pub mod Parts
 pub mod Props

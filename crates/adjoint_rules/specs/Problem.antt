@@ -12,6 +12,7 @@ use Rattle.quiver.specs.declared.named.Sig.{Sig}
 use Rattle.quiver.specs.Declarations.{Declaration, object_count, letter_count, quiver_of, IsDeclared, ObjectsFirst}
 use Rattle.adjoint_rules.specs.declared.parts.Shape.{Shape}
 use Rattle.adjoint_rules.specs.declared.parts.Parts.{Parts}
+use Rattle.adjoint_rules.specs.Limits.{assumption_limit, claim_limit, shape_limit}
 
 -- the lists of terms
 abbrev pub polynomials : List Poly → List (List (ℤ × List ℕ))
@@ -73,18 +74,18 @@ pub record IsPosed (p : Parts) : Type 0 where
   pub marked_objects : All (λ v. v.0 < object_count p.quiver) p.marked
   pub marked_ascending : AllPairs (λ v w. v.0 < w.0) p.marked
   -- the assumptions
-  pub few_assumptions : length p.assumptions ≤ 500
+  pub few_assumptions : length p.assumptions ≤ assumption_limit
   pub assumptions_typed : AllZip (IsTypedOf p.quiver) p.assumptions p.sigs
   pub assumption_ends : All (HasObjects p.quiver) p.sigs
   pub assumption_letters : All (HasLettersInPlay p.quiver p.starred (numbers p.marked)) p.assumptions
   -- the claims
-  pub few_claims : length p.claims ≤ 100
+  pub few_claims : length p.claims ≤ claim_limit
   pub claims_typed : AllZip (IsTypedOf p.quiver) p.claims p.claim_sigs
   pub claim_ends : All (HasObjects p.quiver) p.claim_sigs
   pub claim_letters : All (HasLettersInPlay p.quiver p.starred (numbers p.marked)) p.claims
   -- the models that are looked for
   pub some_shape : 1 ≤ length p.shapes
-  pub few_shapes : length p.shapes ≤ 16
+  pub few_shapes : length p.shapes ≤ shape_limit
   pub shapes : All (IsShape (object_count p.quiver)) p.shapes
   pub solved_maps : All (IsDeclaredMap p.quiver) p.solved
   pub solved_ascending : AllPairs (λ a b. a.0 < b.0) p.solved

@@ -2,6 +2,7 @@
 
 ghost use Rattle.std.specs.Prelude.{◌≡◌, ◌↔◌, ◌≤◌, ◌<◌, ◌^◌, ◌++◌, map, length, Contains, IfOk, OnOk};
 ghost use Rattle.std.specs.List.{All, AllPairs};
+ghost use Rattle.nc_polynomial.specs.Limits.{word_limit};
 ghost use Rattle.ambiguities.specs.Listed.{IsBefore, ListsExactly, IsAmbiguityFrom, IsOfFirst, IsOfPair, IsGrown, ambiguity_at};
 
 use crate::places::inclusions;
@@ -23,7 +24,7 @@ pub fn between<O: WordOrder>(rules: &Rules<O>, from: u32) -> Result<Listing<Ambi
 // Those of all first rules.
 fn list_all(alloc: Global, rules: &[Rule], from: u32) -> Result<Listing<Ambiguity>, AllocError>
     requires few { length rules.now < 2 ^ 32 }
-    requires short { All (λ g. length g.lead ≤ 500) rules.now }
+    requires short { All (λ g. length g.lead ≤ word_limit) rules.now }
     ensures { IfOk result (ListsExactly IsBefore (IsAmbiguityFrom from rules.now)) }
 {
     let mut found = Listing::new(alloc);
@@ -41,7 +42,7 @@ fn push_first(
     i: u32,
 ) -> Result<(), AllocError>
     requires few { length rules.now < 2 ^ 32 }
-    requires short { All (λ g. length g.lead ≤ 500) rules.now }
+    requires short { All (λ g. length g.lead ≤ word_limit) rules.now }
     requires first { 0 < i }
     requires last { i ≤ length rules.now }
     ensures { OnOk result (IsGrown (IsOfFirst from rules.now i) found.old found.new) }
@@ -60,7 +61,7 @@ fn push_pair(
     i: u32,
     j: u32,
 ) -> Result<(), AllocError>
-    requires short { All (λ g. length g.lead ≤ 500) rules.now }
+    requires short { All (λ g. length g.lead ≤ word_limit) rules.now }
     requires i_first { 0 < i }
     requires i_last { i ≤ length rules.now }
     requires j_first { 0 < j }

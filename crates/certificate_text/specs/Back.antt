@@ -20,9 +20,11 @@ use Rattle.cofactor_trace.specs.Lemmas.{row_count, letter_count as letters_of_le
 use Rattle.cofactor_trace.specs.GatheringLaws.{parts_of}
 use Rattle.certificate_text.specs.Letters.{is_name}
 use Rattle.certificate_text.specs.Tokens.{tokens_of}
-use Rattle.certificate_text.specs.Lines.{is_other_head, is_end}
+use Rattle.certificate_text.specs.Lines.{block_limit, is_other_head, is_end}
 use Rattle.certificate_text.specs.Evidence.{IsRowOver, IsLemmaRowOver, HasCertificates}
 use Rattle.certificate_text.specs.Written.{evidence_text}
+use Rattle.nc_polynomial.specs.Limits.{word_limit}
+use Rattle.cofactor_trace.specs.Limits.{row_limit, letter_limit}
 
 -- ---- certificates within the limits
 
@@ -30,8 +32,8 @@ pub record IsWritableRow (ds : List Declaration) (row : CertRow) : Type 0 where
   pub coefficient : IsCoefficient row.coef
   pub generator : row.generator < 2 ^ 32
   pub letters : IsRowOver ds row
-  pub short_left : length row.left ≤ 500
-  pub short_right : length row.right ≤ 500
+  pub short_left : length row.left ≤ word_limit
+  pub short_right : length row.right ≤ word_limit
 
 pub record IsWritable (ds : List Declaration) (c : Certificate) : Type 0 where
   pub claim : c.claim < 2 ^ 32
@@ -40,8 +42,8 @@ pub record IsWritable (ds : List Declaration) (c : Certificate) : Type 0 where
   pub denominator : c.denominator ≡ pos size
   pub in_range : size < 2 ^ 127
   pub rows : All (IsWritableRow ds) c.rows
-  pub few : length c.rows ≤ 200000
-  pub letters : letter_count c.rows ≤ 1000000
+  pub few : length c.rows ≤ row_limit
+  pub letters : letter_count c.rows ≤ letter_limit
 
 -- ---- certificates with lemmas within the limits
 
@@ -54,8 +56,8 @@ pub record IsWritableLemmaRow (ds : List Declaration) (row : LemmaRow) : Type 0 
   pub coefficient : IsCoefficient row.coef
   pub number : number_of row.from < 2 ^ 32
   pub letters : IsLemmaRowOver ds row
-  pub short_left : length row.left ≤ 500
-  pub short_right : length row.right ≤ 500
+  pub short_left : length row.left ≤ word_limit
+  pub short_right : length row.right ≤ word_limit
 
 pub record IsWritableLemma (ds : List Declaration) (l : Lemma) : Type 0 where
   -- the scale is not negative
@@ -73,9 +75,9 @@ pub record IsWritableByLemmas (ds : List Declaration) (c : LemmaCertificate) : T
   pub in_range : size < 2 ^ 127
   pub lemmas : All (IsWritableLemma ds) c.lemmas
   pub goal : IsWritableLemma ds c.goal
-  pub few_lemmas : length c.lemmas ≤ 200000
-  pub few_rows : row_count (parts_of c) ≤ 200000
-  pub letters : letters_of_lemmas (parts_of c) ≤ 1000000
+  pub few_lemmas : length c.lemmas ≤ row_limit
+  pub few_rows : row_count (parts_of c) ≤ row_limit
+  pub letters : letters_of_lemmas (parts_of c) ≤ letter_limit
 
 -- ---- evidence of either format
 
@@ -155,5 +157,5 @@ evidence_in (other head lines ∷ parts) = evidence_in parts
 -- The certificates of a text of such parts are those among the parts, in their order.
 abbrev pub ArePartsReadBack : Type 0
 ArePartsReadBack = (most : Format) (ds : List Declaration) (parts : List Part)
-    → IsDeclared ds → IsTrue (list_all is_named ds) → All (IsPart most ds) parts → length (evidence_in parts) ≤ 100
+    → IsDeclared ds → IsTrue (list_all is_named ds) → All (IsPart most ds) parts → length (evidence_in parts) ≤ block_limit
     → HasCertificates most ds (flat_map (part_text ds) parts) (evidence_in parts)

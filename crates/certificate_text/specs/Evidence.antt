@@ -20,6 +20,7 @@ use Rattle.certificate_text.specs.Fault.{Fault, in_line, not_utf8, truncated, no
 use Rattle.certificate_text.specs.Tokens.{tokens_of, is_skipped}
 use Rattle.certificate_text.specs.Blocks.{Line, BlockTokens, AreBlocks}
 use Rattle.certificate_text.specs.Bounds.{Bound, flaw_of, before, bounds, Keeps, certificates_in, AreCertificatesOf}
+use Rattle.cofactor_trace.specs.Limits.{row_limit}
 
 -- ---- lines
 
@@ -99,7 +100,7 @@ pub record IsLemmaRowOver (ds : List Declaration) (row : LemmaRow) : Type 0 wher
   pub right : IsOver (letter_count ds) row.right
 
 pub record IsCheckable (ds : List Declaration) (certificate : Certificate) : Type 0 where
-  pub few : length certificate.rows ≤ 200000
+  pub few : length certificate.rows ≤ row_limit
   pub denominator : IsCoefficient certificate.denominator
   pub coefficients : All (λ row. IsCoefficient row.coef) certificate.rows
   pub letters : All (IsRowOver ds) certificate.rows
@@ -111,8 +112,8 @@ pub record IsCheckableLemma (ds : List Declaration) (l : Lemma) : Type 0 where
   pub letters : All (IsLemmaRowOver ds) l.rows
 
 pub record IsCheckableByLemmas (ds : List Declaration) (c : LemmaCertificate) : Type 0 where
-  pub few_lemmas : length c.lemmas ≤ 200000
-  pub few_rows : length (flat_map (λ l. l.rows) c.lemmas) + length c.goal.rows ≤ 200000
+  pub few_lemmas : length c.lemmas ≤ row_limit
+  pub few_rows : length (flat_map (λ l. l.rows) c.lemmas) + length c.goal.rows ≤ row_limit
   pub denominator : IsCoefficient c.denominator
   pub lemmas : All (IsCheckableLemma ds) c.lemmas
   pub goal : IsCheckableLemma ds c.goal

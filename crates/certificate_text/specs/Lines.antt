@@ -16,6 +16,8 @@ use Rattle.certificate_text.specs.declared.fault.Flaw.TheVariants.{BadLine, Unkn
 use Rattle.certificate_text.specs.declared.place.Size.{Size}
 use Rattle.certificate_text.specs.Fault.{◌>>=◌, asked}
 use Rattle.certificate_text.specs.Letters.{is_letter, letter_of, is_number, number_within, is_integer, integer_within}
+pub use Rattle.nc_polynomial.specs.Limits.{word_limit}
+pub use Rattle.cofactor_trace.specs.Limits.{row_limit, letter_limit}
 
 -- ---- limits
 
@@ -26,16 +28,7 @@ number_limit = 2 ^ 32 - 1
 abbrev pub integer_limit : ℕ
 integer_limit = 2 ^ 127 - 1
 
--- of the letters of a word, of the rows and the lemmas of a block, of the letters in its rows, and of the blocks
-abbrev pub word_limit : ℕ
-word_limit = 500
-
-abbrev pub row_limit : ℕ
-row_limit = 200000
-
-abbrev pub letter_limit : ℕ
-letter_limit = 1000000
-
+-- of the blocks
 abbrev pub block_limit : ℕ
 block_limit = 100
 

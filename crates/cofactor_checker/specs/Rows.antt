@@ -10,6 +10,10 @@ use Rattle.cofactor_checker.specs.Operations.{row_operations}
 abbrev pub term_count : List (ℤ × List ℕ) → ℕ
 term_count p = length (collected p)
 
+-- the limit of the terms of a sum
+abbrev pub sum_limit : ℕ
+sum_limit = 200000
+
 -- a number from 1 to the count
 pub record IsNumberUpTo (count number : ℕ) : Type 0 where
   pub least : 1 ≤ number
@@ -19,7 +23,7 @@ pub record IsNumberUpTo (count number : ℕ) : Type 0 where
 pub record RowPasses (generators : List (List (ℤ × List ℕ))) (rows : List Row) (i : ℕ) (r : Row) : Type 0 where
   pub generator : IsNumberUpTo (length generators) r.generator
   pub operations : first_overflow (row_operations generators rows i r) ≡ None
-  pub size : term_count (row_sum generators (take (i + 1) rows)) ≤ 200000
+  pub size : term_count (row_sum generators (take (i + 1) rows)) ≤ sum_limit
 
 -- each of the first n rows passes
 pub record RowsPass (generators : List (List (ℤ × List ℕ))) (rows : List Row) (n : ℕ) : Type 0 where
@@ -53,4 +57,4 @@ pub record Outgrows (generators : List (List (ℤ × List ℕ))) (rows : List Ro
   pub reached : Reaches generators rows number before row
   pub generator : IsNumberUpTo (length generators) row.generator
   pub operations : first_overflow (row_operations generators rows before row) ≡ None
-  pub size : 200000 < term_count (row_sum generators (take (before + 1) rows))
+  pub size : sum_limit < term_count (row_sum generators (take (before + 1) rows))

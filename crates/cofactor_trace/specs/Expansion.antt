@@ -13,6 +13,8 @@ use Rattle.cofactor_trace.specs.declared.fault.ExpandFault.{ExpandFault}
 use Rattle.cofactor_trace.specs.declared.fault.ExpandFault.TheVariants as fault
 use Rattle.coef_int.specs.Divisor.{gcd_of}
 use Rattle.cofactor_trace.specs.Gathered.{gathered, sums_of_gathering}
+use Rattle.nc_polynomial.specs.Limits.{word_limit}
+use Rattle.cofactor_trace.specs.Limits.{row_limit, letter_limit}
 
 -- what each generator and each rule expands to
 abbrev pub Known : Type 0
@@ -71,7 +73,7 @@ joined_products known common rows = flat_map (row_products known common) rows
 -- ---- the limits
 -- whether a word has more than 500 letters
 abbrev pub has_long_word : List CertRow → Bool
-has_long_word rows = list_any (λ r. nat_lt 500 (length r.left) || nat_lt 500 (length r.right)) rows
+has_long_word rows = list_any (λ r. nat_lt word_limit (length r.left) || nat_lt word_limit (length r.right)) rows
 
 -- how many letters all words have
 abbrev pub letter_count : List CertRow → ℕ
@@ -80,8 +82,8 @@ letter_count rows = sum_by (λ r. length r.left + length r.right) rows
 -- the first limit that is passed: 500 letters of a word, 200,000 rows, 1,000,000 letters in all
 abbrev pub limit_fault : List CertRow → Option ExpandFault
 limit_fault rows = if has_long_word rows then Some fault.Size
-    else (if nat_lt 200000 (length rows) then Some (fault.Rows false)
-    else (if nat_lt 1000000 (letter_count rows) then Some (fault.Rows true) else None))
+    else (if nat_lt row_limit (length rows) then Some (fault.Rows false)
+    else (if nat_lt letter_limit (letter_count rows) then Some (fault.Rows true) else None))
 
 -- ---- the result
 -- the greatest common divisor of the denominator and the coefficients

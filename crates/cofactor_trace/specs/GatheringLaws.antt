@@ -12,6 +12,7 @@ use Rattle.cofactor_trace.specs.Needed.{IsRecord, AreRecords}
 use Rattle.cofactor_trace.specs.Laws.{Traces, AreTraces, NamesUpTo}
 use Rattle.cofactor_trace.specs.LemmaRows.{IsEvidenceOf}
 use Rattle.cofactor_trace.specs.Lemmas.{lemma_rules, row_count, letter_count, gathered_of}
+use Rattle.cofactor_trace.specs.Limits.{row_limit, letter_limit}
 
 -- the lemmas and then the goal
 abbrev pub parts_of : LemmaCertificate → List Lemma
@@ -33,12 +34,12 @@ GatheringsAddUp = (generators rules : List (List (ℤ × List ℕ))) (claim : �
 -- There are at most 200,000 rows and 1,000,000 letters.
 abbrev pub GatheringsFit : Type 0
 GatheringsFit = (claim : ℕ) (made : List Made) (target : Made) (c : LemmaCertificate) → gathered_of claim made target ≡ Ok c
-    → (row_count (parts_of c) ≤ 200000) × (letter_count (parts_of c) ≤ 1000000)
+    → (row_count (parts_of c) ≤ row_limit) × (letter_count (parts_of c) ≤ letter_limit)
 
 -- Where each record has a row, so has each lemma, and there are at most 200,000 of them.
 abbrev pub LemmasHaveRows : Type 0
 LemmasHaveRows = (claim : ℕ) (made : List Made) (target : Made) (c : LemmaCertificate) → All (λ m. 1 ≤ length m.rows) made → gathered_of claim made target ≡ Ok c
-    → All (λ l. 1 ≤ length l.rows) c.lemmas × (length c.lemmas ≤ 200000)
+    → All (λ l. 1 ≤ length l.rows) c.lemmas × (length c.lemmas ≤ row_limit)
 
 -- ---- numbers and words
 -- the scale and the coefficients of all rows are coefficients

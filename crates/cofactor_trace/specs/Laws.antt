@@ -12,6 +12,8 @@ use Rattle.cofactor_trace.specs.Rows.{rows_of}
 use Rattle.cofactor_trace.specs.Traces.{traced_sum}
 use Rattle.cofactor_trace.specs.Expansion.{letter_count}
 use Rattle.cofactor_trace.specs.Needed.{IsRecord, AreRecords, expansion_of}
+use Rattle.nc_polynomial.specs.Limits.{word_limit}
+use Rattle.cofactor_trace.specs.Limits.{row_limit, letter_limit}
 
 -- The rows of the record add up to its scale times the polynomial.
 abbrev pub Traces : List (List (ℤ × List ℕ)) → List (List (ℤ × List ℕ)) → Made → List (ℤ × List ℕ) → Type 0
@@ -30,9 +32,9 @@ ExpansionsBalance = (generators rules : List (List (ℤ × List ℕ))) (made : L
 
 -- No word has more than 500 letters, there are at most 200,000 rows, and their words have at most 1,000,000 letters.
 pub record IsWithinLimits (rows : List CertRow) : Type 0 where
-  pub short : All (λ r. (length r.left ≤ 500) × (length r.right ≤ 500)) rows
-  pub few : length rows ≤ 200000
-  pub letters : letter_count rows ≤ 1000000
+  pub short : All (λ r. (length r.left ≤ word_limit) × (length r.right ≤ word_limit)) rows
+  pub few : length rows ≤ row_limit
+  pub letters : letter_count rows ≤ letter_limit
 
 abbrev pub ExpansionsFit : Type 0
 ExpansionsFit = (made : List Made) (target : Made) (c : Cofactors) → expansion_of made target ≡ Ok c → IsWithinLimits c.rows

@@ -7,6 +7,7 @@ use Rattle.cofactor_trace.specs.declared.fault.GatherFault.{GatherFault}
 use Rattle.cofactor_trace.specs.declared.fault.GatherFault.TheVariants as fault
 use Rattle.cofactor_trace.specs.declared.extent.Extent.{Extent}
 use Rattle.cofactor_trace.specs.Sizes.{counted}
+use Rattle.cofactor_trace.specs.Limits.{row_limit, letter_limit}
 
 -- with one row more
 abbrev pub letters_with : ℕ → Row → ℕ
@@ -25,5 +26,5 @@ no_extent = record { rows = 0; letters = 0 }
 
 -- the first limit that is passed
 abbrev pub limit_of : Extent → Option GatherFault
-limit_of extent = if nat_lt 200000 extent.rows then Some (fault.Rows false)
-    else (if nat_lt 1000000 extent.letters then Some (fault.Rows true) else None)
+limit_of extent = if nat_lt row_limit extent.rows then Some (fault.Rows false)
+    else (if nat_lt letter_limit extent.letters then Some (fault.Rows true) else None)

@@ -18,6 +18,7 @@ use Rattle.cofactor_trace.specs.declared.fault.GatherFault.TheVariants as fault
 use Rattle.cofactor_trace.specs.declared.replacement.Replacement.{Replacement}
 use Rattle.cofactor_trace.specs.Expansion.{common_multiple, multiple_products, unless}
 use Rattle.cofactor_trace.specs.Needed.{Numbered, needed_rules}
+use Rattle.cofactor_trace.specs.Limits.{row_limit, letter_limit}
 
 -- ---- direct rules
 -- the generator, or its negative, where the integer is 1 or -1
@@ -89,8 +90,8 @@ letter_count lemmas = sum_by (λ l. sum_by (λ r. length r.left + length r.right
 
 -- the first limit that is passed: 200,000 rows, 1,000,000 letters
 abbrev pub limit_fault : List Lemma → Option GatherFault
-limit_fault lemmas = if nat_lt 200000 (row_count lemmas) then Some (fault.Rows false)
-    else (if nat_lt 1000000 (letter_count lemmas) then Some (fault.Rows true) else None)
+limit_fault lemmas = if nat_lt row_limit (row_count lemmas) then Some (fault.Rows false)
+    else (if nat_lt letter_limit (letter_count lemmas) then Some (fault.Rows true) else None)
 
 -- the first product of their common denominator that overflows
 abbrev pub scale_fault : List ℤ → Option GatherFault

@@ -5,6 +5,8 @@ use Rattle.cofactor_trace.specs.declared.CertRow.{CertRow}
 use Rattle.cofactor_trace.specs.declared.fault.ExpandFault.{ExpandFault}
 use Rattle.cofactor_trace.specs.declared.fault.ExpandFault.TheVariants as fault
 use Rattle.cofactor_trace.specs.declared.size.Size.{Size}
+use Rattle.nc_polynomial.specs.Limits.{word_limit}
+use Rattle.cofactor_trace.specs.Limits.{row_limit, letter_limit}
 
 -- a sum that stops at the greatest number
 abbrev pub counted : ℕ → ℕ → ℕ
@@ -13,7 +15,7 @@ counted m n = min (m + n) (2 ^ 64 - 1)
 -- with one row more
 abbrev pub measured : Size → CertRow → Size
 measured size r = record {
-  long = size.long || (nat_lt 500 (length r.left) || nat_lt 500 (length r.right));
+  long = size.long || (nat_lt word_limit (length r.left) || nat_lt word_limit (length r.right));
   rows = counted size.rows 1;
   letters = counted size.letters (length r.left + length r.right);
 }
@@ -28,5 +30,5 @@ no_size = record { long = false; rows = 0; letters = 0 }
 -- the first limit that is passed
 abbrev pub limit_of : Size → Option ExpandFault
 limit_of size = if size.long then Some fault.Size
-    else (if nat_lt 200000 size.rows then Some (fault.Rows false)
-    else (if nat_lt 1000000 size.letters then Some (fault.Rows true) else None))
+    else (if nat_lt row_limit size.rows then Some (fault.Rows false)
+    else (if nat_lt letter_limit size.letters then Some (fault.Rows true) else None))

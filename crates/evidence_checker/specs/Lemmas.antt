@@ -34,6 +34,10 @@ abbrev pub term_total : List (List (ℤ × List ℕ)) → ℕ
 term_total [] = 0
 term_total (p ∷ ps) = length p + term_total ps
 
+-- the limit of that
+abbrev pub kept_limit : ℕ
+kept_limit = 1000000
+
 -- The scale divides each coefficient.
 pub record IsDivisible (scale : ℤ) (p : List (ℤ × List ℕ)) : Type 0 where
   pub each : DividesEach (unsigned_abs scale) p
@@ -47,7 +51,7 @@ pub record IsMade (generators before : List (List (ℤ × List ℕ))) (l : Lemma
 -- It is made, and the polynomials up to it have at most 1,000,000 terms together.
 pub record LemmaPasses (generators before : List (List (ℤ × List ℕ))) (l : Lemma) : Type 0 where
   pub made : IsMade generators before l
-  pub kept : term_total before + length (lemma_polynomial generators before l) ≤ 1000000
+  pub kept : term_total before + length (lemma_polynomial generators before l) ≤ kept_limit
 
 -- each of the lemmas passes
 abbrev pub LemmasPass : List (List (ℤ × List ℕ)) → List (List (ℤ × List ℕ)) → List Lemma → Type 0
@@ -134,7 +138,7 @@ pub record IsTooLarge (generators before : List (List (ℤ × List ℕ))) (l : L
 pub record KeepsTooMuch (generators before : List (List (ℤ × List ℕ))) (rows_before : ℕ) (l : Lemma) (row : ℕ) : Type 0 where
   pub last_row : row ≡ rows_before + length l.rows
   pub made : IsMade generators before l
-  pub kept : 1000000 < term_total before + length (lemma_polynomial generators before l)
+  pub kept : kept_limit < term_total before + length (lemma_polynomial generators before l)
 
 -- what is told of a lemma, where so many rows stand before it
 abbrev pub RefusesLemma : List (List (ℤ × List ℕ)) → List (List (ℤ × List ℕ)) → ℕ → Lemma → EvidenceRefusal → Type 0

@@ -14,3 +14,4 @@ pub mod Maps
 pub mod Written
 pub mod TypedParts
 pub mod Typed
+pub mod WordRuns

@@ -4,3 +4,4 @@ pub mod Occurrences
 pub mod Signatures
 pub mod Polynomials
 pub mod Laws
+pub mod Begun

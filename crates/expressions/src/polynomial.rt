@@ -1,5 +1,5 @@
 //! The polynomial of an expression, or the first fault of its arithmetic.
-ghost use Rattle.std.specs.Prelude.{◌≡◌, ◌<◌, [], map, MatchResult, Ok, IfOk, IfErr, IsTrue};
+ghost use Rattle.std.specs.Prelude.{◌≡◌, ◌<◌, [], ◌∷◌, pos, map, MatchResult, Ok, IfOk, IfErr, IfSome, IsTrue};
 ghost use Rattle.std.specs.List.{All};
 ghost use Rattle.definitions.specs.Generators.{adjoint_poly};
 ghost use Rattle.word_core.specs.Letters.{IsOver};
@@ -8,6 +8,9 @@ ghost use Rattle.nc_polynomial.specs.Collected.{collection_result};
 ghost use Rattle.nc_polynomial.specs.Faults.{Explains, IsMemory};
 ghost use Rattle.quiver.specs.Declarations.{letter_count, quiver_of, identity_in, IsDeclared};
 ghost use Rattle.expressions.specs.Names.{AreNames, are_names_of_term, are_names_of_primary, letter_of, object_of};
+ghost use Rattle.nc_polynomial.specs.Product.{product_result};
+ghost use Rattle.expressions.specs.Results.{◌>>=◌};
+ghost use Rattle.expressions.specs.Begun.{product_begun};
 ghost use Rattle.expressions.specs.Polynomials.{letter_poly, adjoint_by, marked_poly, product_poly, scaled_by, signed, sum_step, total, sum_poly, term_poly, factor_poly, primary_poly, equation_poly};
 
 use crate::names::{letter_of, object_of};
@@ -19,6 +22,9 @@ use quiver::Quiver;
 use statement_syntax::{Factor, Mark, Number, Primary, Sum, Term};
 use std::alloc::{AllocError, Global};
 use word_core::{Letter, Word};
+
+// The letters that a run of letters may have before it is multiplied in.
+const WORD_LIMIT: usize = 500;
 
 /// The left side of an equation minus the right side, or the first fault of the arithmetic: an inner expression comes
 /// before the outer one and the left before the right; of a product or a sum all parts come first, and then its own
@@ -124,13 +130,66 @@ fn product(alloc: Global, polys: Vec<Poly>) -> Result<Poly, PolyFault>
     ensures { MatchResult result (λ p. product_poly (map (λ f. f.terms) polys.items) ≡ Ok p.terms) (Explains (product_poly (map (λ f. f.terms) polys.items))) }
 {
     let mut factors = polys.into_iter();
-    let Some(mut product) = factors.next() else {
+    let Some(first) = factors.next() else {
         return Ok(Poly::zero(alloc));
     };
+    let mut begun = Begun {
+        product: first,
+        word: Word::new(alloc),
+    };
     for next in factors {
-        product = product.product(&next)?;
+        begun = followed(alloc, begun, next)?;
     }
-    Ok(product)
+    multiplied(begun)
+}
+
+// A product of which the last factors are letters: the word that they are isn't multiplied in yet, so that a run of
+// letters moves what stands in front of it once.
+#[derive(Drop)]
+struct Begun {
+    product: Poly,
+    word: Word,
+}
+
+// The product with one factor more.
+fn followed(alloc: Global, begun: Begun, next: Poly) -> Result<Begun, PolyFault>
+    ensures { MatchResult result (λ b. product_begun b ≡ (product_begun begun >>= λ p. product_result p next.terms)) (Explains (product_begun begun >>= λ p. product_result p next.terms)) }
+{
+    if let Some(word) = word_in(&next) {
+        if begun.word.len().saturating_add(word.len()) <= WORD_LIMIT {
+            let word = begun.word.concat(word)?;
+            return Ok(Begun {
+                product: begun.product,
+                word,
+            });
+        }
+    }
+    Ok(Begun {
+        product: multiplied(begun)?.product(&next)?,
+        word: Word::new(alloc),
+    })
+}
+
+// The word that the polynomial is, where it is one.
+fn word_in(poly: &Poly) -> Option<&Word>
+    ensures { IfSome result (λ w. poly.now.terms ≡ (pos 1, w.now) ∷ []) }
+{
+    match poly.terms.as_slice() {
+        [(1, word)] => Some(word),
+        _ => None,
+    }
+}
+
+// The product with its word multiplied in.
+fn multiplied(begun: Begun) -> Result<Poly, PolyFault>
+    ensures { MatchResult result (λ p. product_begun begun ≡ Ok p.terms) (Explains (product_begun begun)) }
+{
+    let Begun { product, word } = begun;
+    if word.len() == 0 {
+        return Ok(product);
+    }
+    let nothing = Word::new(product.terms.allocator());
+    product.left_right(&nothing, &word)
 }
 
 // The multiple by a literal, where there is one.

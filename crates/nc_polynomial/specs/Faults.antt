@@ -6,6 +6,7 @@ use Rattle.coef_int.specs.Operations.{first_overflow}
 use Rattle.definitions.specs.Poly.{Term}
 use Rattle.nc_polynomial.specs.declared.fault.PolyFault.{PolyFault}
 use Rattle.nc_polynomial.specs.declared.fault.PolyFault.TheVariants as fault
+use Rattle.nc_polynomial.specs.Limits.{word_limit, term_limit}
 
 -- a result, unless an operation overflowed
 abbrev pub unless_overflow : {A : Type 0} → Option Overflow → Result A PolyFault → Result A PolyFault
@@ -22,12 +23,12 @@ size_fault letters = fault.Size (record { letters = letters })
 
 -- whether a word has more than 500 letters
 abbrev pub has_long_word : List Term → Bool
-has_long_word p = list_any (λ t. nat_lt 500 (length t.1)) p
+has_long_word p = list_any (λ t. nat_lt word_limit (length t.1)) p
 
 -- a polynomial, unless a word is too long or there are more than 20,000 terms
 abbrev pub sized : List Term → Result (List Term) PolyFault
 sized p = if has_long_word p then Err (size_fault true)
-    else (if nat_lt 20000 (length p) then Err (size_fault false) else Ok p)
+    else (if nat_lt term_limit (length p) then Err (size_fault false) else Ok p)
 
 -- a polynomial, unless one of the operations overflows or it is too large
 abbrev pub finished : List Overflow → List Term → Result (List Term) PolyFault

@@ -4,6 +4,7 @@ use Rattle.std.specs.List.{All}
 use Rattle.coef_int.specs.Range.{IsCoefficient}
 use Rattle.definitions.specs.Poly.{SamePolynomial}
 use Rattle.nc_polynomial.specs.Terms.{IsDescending}
+use Rattle.nc_polynomial.specs.Limits.{word_limit, term_limit}
 
 -- a polynomial with any number of terms and letters
 pub record IsShaped (p : List (ℤ × List ℕ)) : Type 0 where
@@ -14,8 +15,8 @@ pub record IsShaped (p : List (ℤ × List ℕ)) : Type 0 where
 -- one within the limits
 pub record IsCanonical (p : List (ℤ × List ℕ)) : Type 0 where
   pub shaped : IsShaped p
-  pub short : All (λ t. length t.1 ≤ 500) p
-  pub few : length p ≤ 20000
+  pub short : All (λ t. length t.1 ≤ word_limit) p
+  pub few : length p ≤ term_limit
 
 -- Two canonical lists with the same coefficients are equal.
 abbrev pub CanonicalIsUnique : Type 0

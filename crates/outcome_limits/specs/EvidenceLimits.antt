@@ -19,13 +19,15 @@ use Rattle.traced_completion.specs.PlainRun.{setting_of}
 use Rattle.claim_decider.specs.declared.outcome.Outcome.TheVariants as outcome
 use Rattle.claim_decider.specs.Outcomes.{IsOutcomeOf}
 use Rattle.claim_decider.specs.Decided.{claim_at}
+use Rattle.nc_polynomial.specs.Limits.{word_limit}
+use Rattle.cofactor_trace.specs.Limits.{row_limit, letter_limit}
 
 -- ---- rows over generators alone
 -- The integer in front is a coefficient, no word has more than 500 letters, and the row is over one of so many generators.
 pub record IsRowWithin (generators : ℕ) (row : CertRow) : Type 0 where
   pub coefficient : IsCoefficient row.coef
-  pub short_left : length row.left ≤ 500
-  pub short_right : length row.right ≤ 500
+  pub short_left : length row.left ≤ word_limit
+  pub short_right : length row.right ≤ word_limit
   pub first : 1 ≤ row.generator
   pub last : row.generator ≤ generators
 
@@ -36,15 +38,15 @@ pub record IsCertificateWithin (generators number : ℕ) (c : Certificate) : Typ
   pub positive : pos 0 <ℤ c.denominator
   pub denominator : IsCoefficient c.denominator
   pub rows : All (IsRowWithin generators) c.rows
-  pub few : length c.rows ≤ 200000
-  pub letters : letter_count c.rows ≤ 1000000
+  pub few : length c.rows ≤ row_limit
+  pub letters : letter_count c.rows ≤ letter_limit
 
 -- ---- rows over generators and lemmas
 -- The integer in front is a coefficient, and no word has more than 500 letters.
 pub record IsLemmaRowWithin (row : LemmaRow) : Type 0 where
   pub coefficient : IsCoefficient row.coef
-  pub short_left : length row.left ≤ 500
-  pub short_right : length row.right ≤ 500
+  pub short_left : length row.left ≤ word_limit
+  pub short_right : length row.right ≤ word_limit
 
 -- The scale is positive and a coefficient, and each row is within the limits.
 pub record IsLemmaWithin (l : Lemma) : Type 0 where
@@ -63,9 +65,9 @@ pub record IsLemmaCertificateWithin (generators number : ℕ) (c : LemmaCertific
   pub goal : IsLemmaWithin c.goal
   pub earlier : NameEarlier generators 0 c.lemmas
   pub goal_names : NamesWithin generators (length c.lemmas) c.goal
-  pub few_lemmas : length c.lemmas ≤ 200000
-  pub few_rows : gathering.row_count (parts_of c) ≤ 200000
-  pub letters : gathering.letter_count (parts_of c) ≤ 1000000
+  pub few_lemmas : length c.lemmas ≤ row_limit
+  pub few_rows : gathering.row_count (parts_of c) ≤ row_limit
+  pub letters : gathering.letter_count (parts_of c) ≤ letter_limit
 
 -- ---- evidence of either format
 -- The evidence is of the claim with this number, is over the generators of the problem, and is within the limits of its format.

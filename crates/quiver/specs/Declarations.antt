@@ -6,6 +6,7 @@ use Rattle.std.specs.Str.{bytes_eq}
 use Rattle.quiver.specs.declared.named.Named.{Named}
 use Rattle.quiver.specs.declared.named.Named.TheVariants.{Object, Map}
 use Rattle.definitions.specs.Quiver.{Quiver}
+use Rattle.quiver.specs.Limits.{object_limit, map_limit}
 
 -- An object, or a map with its source, its target, and whether it is its own adjoint. A name is the bytes of its text.
 pub data Declaration : Type 0 where
@@ -161,6 +162,6 @@ has_ends n (arrow name u v selfmade) = nat_lt u n && (nat_lt v n && (not selfmad
 -- What holds of the declarations of each quiver.
 pub record IsDeclared (ds : List Declaration) : Type 0 where
   pub distinct : AllPairs (λ x y. x ≢ y) (map name_of ds)
-  pub few_objects : object_count ds ≤ 64
-  pub few_maps : map_count ds ≤ 200
+  pub few_objects : object_count ds ≤ object_limit
+  pub few_maps : map_count ds ≤ map_limit
   pub ends : IsTrue (list_all (has_ends (object_count ds)) ds)

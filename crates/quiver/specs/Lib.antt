@@ -1,3 +1,4 @@
+pub mod Limits
 pub mod Declarations
 pub mod Refusals
 pub mod Signatures

@@ -5,6 +5,7 @@ use Rattle.quiver.specs.declared.fault.QuiverFault.TheVariants.{DoubleName, TooM
 use Rattle.quiver.specs.declared.fault.QuiverStop.{QuiverStop}
 use Rattle.quiver.specs.declared.fault.QuiverStop.TheVariants as stop
 use Rattle.quiver.specs.Declarations.{Declaration, named_in, object_count, map_count}
+use Rattle.quiver.specs.Limits.{object_limit, map_limit}
 
 abbrev pub is_named : List Declaration → List ℕ → Bool
 is_named ds name = is_some (named_in ds name)
@@ -13,14 +14,14 @@ is_named ds name = is_some (named_in ds name)
 abbrev pub object_fault : List Declaration → List ℕ → Option QuiverFault
 object_fault ds name =
     if is_named ds name then Some DoubleName
-    else if nat_le 64 (object_count ds) then Some (TooMany 64)
+    else if nat_le object_limit (object_count ds) then Some (TooMany object_limit)
     else None
 
 -- of a map with this name and these ends, which is to be its own adjoint or not
 abbrev pub map_fault : List Declaration → List ℕ → ℕ → ℕ → Bool → Option QuiverFault
 map_fault ds name u v selfmade =
     if is_named ds name then Some DoubleName
-    else if nat_le 200 (map_count ds) then Some (TooMany 200)
+    else if nat_le map_limit (map_count ds) then Some (TooMany map_limit)
     else if selfmade && not (nat_eq u v) then Some NotSquare
     else None
 

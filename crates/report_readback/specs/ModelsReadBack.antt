@@ -14,6 +14,7 @@ use Rattle.traced_completion.specs.PlainRun.{setting_of}
 use Rattle.claim_decider.specs.declared.outcome.Outcome.{Outcome}
 use Rattle.claim_decider.specs.Decided.{claim_numbers, AreOutcomesOf, AreLastRules}
 use Rattle.certificate_text.specs.Fault.{no_block}
+use Rattle.certificate_text.specs.Lines.{block_limit}
 use Rattle.certificate_text.specs.Back.{is_named}
 use Rattle.model_text.specs.Models.{HasModels, IsModels, IsFirstFault}
 use Rattle.model_text.specs.Back.{IsWritableModel}
@@ -40,7 +41,7 @@ refuted_in (verdict.NotRefuted candidates ∷ verdicts) = refuted_in verdicts
 -- A report of at most 100 verdicts is read as the models of those that are refuted, if these are models of the declarations.
 abbrev pub ReportsReadBackAsModels : Type 0
 ReportsReadBackAsModels = (ds : List Declaration) (rules : List Poly) (verdicts : List Verdict)
-    → IsDeclared ds → IsTrue (list_all is_named ds) → All (IsPolyOver ds) rules → All (IsWritableVerdict ds) verdicts → All (IsWritableModel ds) (refuted_in verdicts) → length verdicts ≤ 100
+    → IsDeclared ds → IsTrue (list_all is_named ds) → All (IsPolyOver ds) rules → All (IsWritableVerdict ds) verdicts → All (IsWritableModel ds) (refuted_in verdicts) → length verdicts ≤ block_limit
     → IsReadAsModels ds (report_of ds rules verdicts) (refuted_in verdicts)
 
 -- So is the report of verdicts by the outcomes of all claims of a statement, with the last rules.

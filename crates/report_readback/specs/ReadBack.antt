@@ -18,6 +18,7 @@ use Rattle.claim_decider.specs.declared.outcome.Outcome.{Outcome}
 use Rattle.claim_decider.specs.declared.outcome.Outcome.TheVariants as outcome
 use Rattle.claim_decider.specs.Decided.{claim_numbers, AreOutcomesOf, AreLastRules}
 use Rattle.certificate_text.specs.Fault.{no_block}
+use Rattle.certificate_text.specs.Lines.{block_limit}
 use Rattle.certificate_text.specs.Evidence.{HasCertificates, IsEvidence, IsFirstFault}
 use Rattle.certificate_text.specs.Back.{IsWritableEvidence, is_named}
 use Rattle.model_text.specs.Written.{HasPlaces}
@@ -56,7 +57,7 @@ IsWritableVerdict ds (verdict.NotRefuted candidates) = ⊤
 -- A report of at most 100 such verdicts is read as the evidence of those that are proved.
 abbrev pub ReportsReadBack : Type 0
 ReportsReadBack = (ds : List Declaration) (rules : List Poly) (verdicts : List Verdict)
-    → IsDeclared ds → IsTrue (list_all is_named ds) → All (IsPolyOver ds) rules → All (IsWritableVerdict ds) verdicts → length verdicts ≤ 100
+    → IsDeclared ds → IsTrue (list_all is_named ds) → All (IsPolyOver ds) rules → All (IsWritableVerdict ds) verdicts → length verdicts ≤ block_limit
     → IsReadAs ds (report_of ds rules verdicts) (proved_in verdicts)
 
 -- ---- reports of outcomes

@@ -14,6 +14,8 @@ use Rattle.statement_names.specs.declared.kinds.Kind.{Kind}
 use Rattle.statement_names.specs.declared.kinds.Kind.TheVariants.{Object, Map}
 use Rattle.statement_names.specs.Uses.{Use}
 use Rattle.statement_names.specs.Occurrences.{Occurrence, declares_object, declares_map, uses, lists, counts, modulus, begins_order, begins_assumptions, begins_claim, begins_shape, occurrences_of}
+use Rattle.quiver.specs.Limits.{object_limit, map_limit}
+use Rattle.adjoint_rules.specs.Limits.{assumption_limit, claim_limit, shape_limit}
 
 -- ---- what occurrences declare, and how much they begin
 
@@ -84,11 +86,11 @@ is_modulus n = list_any (nat_eq n) moduli
 abbrev pub fault_behind : (List ℕ → Option Kind) → List Occurrence → Occurrence → Option NameFault
 fault_behind kind before (declares_object name) =
     if is_some (kind_in (declared_in before) name.text) then Some (Double name.at)
-    else if nat_lt 64 (sum_by objects_by before + 1) then Some (TooMany name.at 64)
+    else if nat_lt object_limit (sum_by objects_by before + 1) then Some (TooMany name.at object_limit)
     else None
 fault_behind kind before (declares_map name source target selfmade) =
     if is_some (kind_in (declared_in before) name.text) then Some (Double name.at)
-    else if nat_lt 200 (sum_by maps_by before + 1) then Some (TooMany name.at 200)
+    else if nat_lt map_limit (sum_by maps_by before + 1) then Some (TooMany name.at map_limit)
     else if selfmade && are_two_objects kind source target then Some (NotSquare name.at)
     else None
 fault_behind kind before (uses u) =
@@ -100,9 +102,9 @@ fault_behind kind before (lists front u) =
 fault_behind kind before (counts most n) = if is_between 1 most (value_of n.value) then None else Some (BadNumber n.at)
 fault_behind kind before (modulus n) = if is_modulus (value_of n.value) then None else Some (BadNumber n.at)
 fault_behind kind before (begins_order at) = if nat_lt 1 (sum_by orders_by before + 1) then Some (Double at) else None
-fault_behind kind before (begins_assumptions count at) = if nat_lt 500 (sum_by assumptions_by before + count) then Some (TooMany at 500) else None
-fault_behind kind before (begins_claim at) = if nat_lt 100 (sum_by claims_by before + 1) then Some (TooMany at 100) else None
-fault_behind kind before (begins_shape at) = if nat_lt 16 (sum_by shapes_by before + 1) then Some (TooMany at 16) else None
+fault_behind kind before (begins_assumptions count at) = if nat_lt assumption_limit (sum_by assumptions_by before + count) then Some (TooMany at assumption_limit) else None
+fault_behind kind before (begins_claim at) = if nat_lt claim_limit (sum_by claims_by before + 1) then Some (TooMany at claim_limit) else None
+fault_behind kind before (begins_shape at) = if nat_lt shape_limit (sum_by shapes_by before + 1) then Some (TooMany at shape_limit) else None
 
 -- the fault of the first of some occurrences that has one behind all before it
 abbrev pub first_fault : (List ℕ → Option Kind) → List Occurrence → List Occurrence → Option NameFault

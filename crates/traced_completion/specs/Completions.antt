@@ -18,12 +18,15 @@ use Rattle.traced_completion.specs.Pending.{AreAllPending}
 use Rattle.traced_completion.specs.PlainRun.{RunState, Outcome, went, closed, stopped, IsCauseOf, recorded, IsRunState, setting_of}
 use Rattle.traced_completion.specs.Reductions.{HasRecords}
 
--- both numbers are from 1 to 1,000,000
+abbrev pub budget_limit : ℕ
+budget_limit = 1000000
+
+-- both numbers are from 1 to the limit
 pub record IsBudget (b : Budget) : Type 0 where
   pub some_pairs : 1 ≤ b.pairs
-  pub most_pairs : b.pairs ≤ 1000000
+  pub most_pairs : b.pairs ≤ budget_limit
   pub some_steps : 1 ≤ b.steps
-  pub most_steps : b.steps ≤ 1000000
+  pub most_steps : b.steps ≤ budget_limit
 
 abbrev pub state_of : Completion → RunState
 state_of c = record { rules = c.rules.rules; made = c.made; treated = c.treated }
