@@ -1,7 +1,7 @@
 -- What is asked of the parts of a statement, and what its generators are.
-use Rattle.std.specs.Prelude.{◌≡◌, ℕ, ℤ, ◌<◌, ◌≤◌, Bool, ◌&&◌, ◌||◌, nat_eq, nat_lt, nat_le, IsTrue, if◌then◌else◌, List, [], ◌∷◌, length, map, AllPairs}
+use Rattle.std.specs.Prelude.{◌≡◌, ℕ, ◌<◌, ◌≤◌, Bool, ◌&&◌, ◌||◌, nat_eq, nat_lt, nat_le, IsTrue, if◌then◌else◌, List, [], ◌∷◌, length, map, AllPairs}
 use Rattle.std.specs.List.{All, AllZip, list_any}
-use Rattle.definitions.specs.Poly.{SamePolynomial}
+use Rattle.definitions.specs.Poly.{Term, SamePolynomial}
 use Rattle.definitions.specs.Quiver.{IsTyped, star}
 use Rattle.definitions.specs.Generators.{generators_of}
 use Rattle.word_core.specs.declared.letter.Object.{Object}
@@ -15,7 +15,7 @@ use Rattle.adjoint_rules.specs.declared.parts.Parts.{Parts}
 use Rattle.adjoint_rules.specs.Limits.{assumption_limit, claim_limit, shape_limit}
 
 -- the lists of terms
-abbrev pub polynomials : List Poly → List (List (ℤ × List ℕ))
+abbrev pub polynomials : List Poly → List (List Term)
 polynomials ps = map (λ p. p.terms) ps
 
 -- the numbers of objects
@@ -91,7 +91,7 @@ pub record IsPosed (p : Parts) : Type 0 where
   pub solved_ascending : AllPairs (λ a b. a.0 < b.0) p.solved
 
 -- the generators of the parts
-abbrev pub generators_in : Parts → List (List (ℤ × List ℕ))
+abbrev pub generators_in : Parts → List (List Term)
 generators_in p = generators_of (quiver_of p.quiver) p.starred (numbers p.marked) (polynomials p.assumptions)
 
 -- The polynomials are the generators of the parts, in their order.

@@ -2,6 +2,7 @@
 use Rattle.std.specs.Prelude.{ℕ, ℤ, Bool, List, [], ◌&&◌, nat_lt}
 use Rattle.std.specs.List.{list_all}
 use Rattle.std.specs.Ordering.{is_lt}
+use Rattle.definitions.specs.Poly.{Poly}
 use Rattle.definitions.specs.Combination.{Row, IsCombinationBelow}
 use Rattle.word_orders.specs.Admissible.{Compare}
 use Rattle.word_orders.specs.Orders.{IsBelow}
@@ -21,13 +22,13 @@ abbrev pub is_below : ℕ → Compare → List ℕ → List ℕ → Bool
 is_below letters compare u v = is_over letters u && (is_over letters v && is_lt (compare u v))
 
 -- Some positive multiple of the polynomial is a combination of the others in which all words are below the bound.
-pub record ComesBelow (letters : ℕ) (compare : Compare) (polys : List (List (ℤ × List ℕ))) (bound : List ℕ) (p : List (ℤ × List ℕ)) : Type 0 where
+pub record ComesBelow (letters : ℕ) (compare : Compare) (polys : List Poly) (bound : List ℕ) (p : Poly) : Type 0 where
   pub denominator : ℤ
   pub rows : List Row
   pub combination : IsCombinationBelow (is_below letters compare) polys bound rows denominator p
 
 -- the sum of the two rows of the S-polynomial
-abbrev pub s_sum : List Rule → Ambiguity → List (ℤ × List ℕ)
+abbrev pub s_sum : List Rule → Ambiguity → Poly
 s_sum rules a = traced_sum [] (polynomials_of rules) (s_rows_of rules a)
 
 -- It is an ambiguity of the rules, and its S-polynomial comes from the rules below the overlap word.

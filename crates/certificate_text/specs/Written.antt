@@ -4,6 +4,7 @@ use Rattle.std.specs.Fmt.{signed_decimal}
 use Rattle.std.specs.Int.{is_negative}
 use Rattle.std.specs.Int.RustNames.{unsigned_abs}
 use Rattle.std.specs.List.{All, flat_map, join_with_byte}
+use Rattle.definitions.specs.Poly.{Poly, Term}
 use Rattle.quiver.specs.declared.named.Named.{Named}
 use Rattle.quiver.specs.declared.named.Named.TheVariants.{Object, Map}
 use Rattle.quiver.specs.Declarations.{Declaration, named_in, letter_name}
@@ -41,17 +42,17 @@ word_text ds word = join_with_byte 32 (map (letter_text ds) word)
 abbrev pub factor_text : ℕ → List ℕ
 factor_text n = if n == 1 then [] else decimal n ++ codes " "
 
-abbrev pub term_text : List Declaration → ℤ × List ℕ → List ℕ
+abbrev pub term_text : List Declaration → Term → List ℕ
 term_text ds t = factor_text (unsigned_abs t.0) ++ word_text ds t.1
 
-abbrev pub first_text : List Declaration → ℤ × List ℕ → List ℕ
+abbrev pub first_text : List Declaration → Term → List ℕ
 first_text ds t = (if is_negative t.0 then codes "- " else []) ++ term_text ds t
 
-abbrev pub later_text : List Declaration → ℤ × List ℕ → List ℕ
+abbrev pub later_text : List Declaration → Term → List ℕ
 later_text ds t = (if is_negative t.0 then codes " - " else codes " + ") ++ term_text ds t
 
 -- terms with their signs between them, or 0
-abbrev pub poly_text : List Declaration → List (ℤ × List ℕ) → List ℕ
+abbrev pub poly_text : List Declaration → Poly → List ℕ
 poly_text ds [] = codes "0"
 poly_text ds (t ∷ terms) = first_text ds t ++ flat_map (later_text ds) terms
 

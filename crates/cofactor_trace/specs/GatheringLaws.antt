@@ -1,7 +1,8 @@
 -- What a gathered certificate adds up to, how large it is, and what it names.
-use Rattle.std.specs.Prelude.{◌≡◌, ◌≤◌, ℕ, suc, ℤ, List, [], ◌∷◌, ◌++◌, map, length, Bool, IsTrue, Ok, ⊤}
+use Rattle.std.specs.Prelude.{◌≡◌, ◌≤◌, ℕ, suc, List, [], ◌∷◌, ◌++◌, map, length, Bool, IsTrue, Ok, ⊤}
 use Rattle.std.specs.List.{All}
 use Rattle.coef_int.specs.Range.{IsCoefficient}
+use Rattle.definitions.specs.Poly.{Poly}
 use Rattle.definitions.specs.Combination.{generator_at}
 use Rattle.cofactor_trace.specs.declared.Made.{Made}
 use Rattle.cofactor_trace.specs.declared.evidence.CertFrom.{CertFrom}
@@ -20,13 +21,13 @@ parts_of c = c.lemmas ++ c.goal ∷ []
 
 -- ---- sums
 -- the rules of the lemmas, as polynomials
-abbrev pub lemma_polys : List (List (ℤ × List ℕ)) → List Made → Made → List (List (ℤ × List ℕ))
+abbrev pub lemma_polys : List Poly → List Made → Made → List Poly
 lemma_polys rules made target = map (λ e. generator_at rules e.0) (lemma_rules made target)
 
 -- Where the rows of each record add up to its scale times its rule, a gathered certificate is evidence of the target's polynomial,
 -- and its lemmas are rules.
 abbrev pub GatheringsAddUp : Type 0
-GatheringsAddUp = (generators rules : List (List (ℤ × List ℕ))) (claim : ℕ) (made : List Made) (target : Made) (p : List (ℤ × List ℕ)) (c : LemmaCertificate)
+GatheringsAddUp = (generators rules : List Poly) (claim : ℕ) (made : List Made) (target : Made) (p : Poly) (c : LemmaCertificate)
     → AreRecords made → IsRecord (length made) target → AreTraces generators rules made → Traces generators rules target p
     → gathered_of claim made target ≡ Ok c → IsEvidenceOf generators (lemma_polys rules made target) c p
 

@@ -1,7 +1,7 @@
 -- What an expansion adds up to, and how large it is.
-use Rattle.std.specs.Prelude.{◌≡◌, ◌≤◌, ℕ, suc, ℤ, List, slice_get, length, Some, Ok, ⊤}
+use Rattle.std.specs.Prelude.{◌≡◌, ◌≤◌, ℕ, suc, List, slice_get, length, Some, Ok, ⊤}
 use Rattle.std.specs.List.{All}
-use Rattle.definitions.specs.Poly.{SamePolynomial, poly_multiple}
+use Rattle.definitions.specs.Poly.{Poly, SamePolynomial, poly_multiple}
 use Rattle.definitions.specs.Combination.{generator_at, IsCombination}
 use Rattle.cofactor_trace.specs.declared.Origin.{Origin}
 use Rattle.cofactor_trace.specs.declared.Origin.TheVariants as origin
@@ -16,17 +16,17 @@ use Rattle.nc_polynomial.specs.Limits.{word_limit}
 use Rattle.cofactor_trace.specs.Limits.{row_limit, letter_limit}
 
 -- The rows of the record add up to its scale times the polynomial.
-abbrev pub Traces : List (List (ℤ × List ℕ)) → List (List (ℤ × List ℕ)) → Made → List (ℤ × List ℕ) → Type 0
+abbrev pub Traces : List Poly → List Poly → Made → Poly → Type 0
 Traces generators rules m p = SamePolynomial (traced_sum generators rules m.rows) (poly_multiple m.scale p)
 
 -- the records say how the rules were made
-pub record AreTraces (generators rules : List (List (ℤ × List ℕ))) (made : List Made) : Type 0 where
+pub record AreTraces (generators rules : List Poly) (made : List Made) : Type 0 where
   pub at : (place : ℕ) (m : Made) → slice_get made place ≡ Some m → Traces generators rules m (generator_at rules (suc place))
 
 -- Where the rows of each record add up to its scale times its rule, those of an expansion add up, over the generators alone,
 -- to its denominator, which is positive, times the polynomial of the target.
 abbrev pub ExpansionsBalance : Type 0
-ExpansionsBalance = (generators rules : List (List (ℤ × List ℕ))) (made : List Made) (target : Made) (p : List (ℤ × List ℕ)) (c : Cofactors)
+ExpansionsBalance = (generators rules : List Poly) (made : List Made) (target : Made) (p : Poly) (c : Cofactors)
     → AreRecords made → IsRecord (length made) target → AreTraces generators rules made → Traces generators rules target p
     → expansion_of made target ≡ Ok c → IsCombination generators (rows_of c.rows) c.denominator p
 

@@ -1,9 +1,9 @@
 -- Rows over generators and lemmas, their sum, and what a certificate with lemmas says.
-use Rattle.std.specs.Prelude.{◌<ℤ◌, ℕ, ℤ, pos, List, [], ◌∷◌, ◌++◌, ⊤}
+use Rattle.std.specs.Prelude.{◌<ℤ◌, ℤ, pos, List, [], ◌∷◌, ◌++◌, ⊤}
 use Rattle.std.specs.List.{All}
 use Rattle.std.specs.Int.{◌∣◌}
 use Rattle.std.specs.Int.RustNames.{unsigned_abs}
-use Rattle.definitions.specs.Poly.{SamePolynomial, poly_sum, poly_multiple, poly_between}
+use Rattle.definitions.specs.Poly.{Poly, SamePolynomial, poly_sum, poly_multiple, poly_between}
 use Rattle.definitions.specs.Combination.{generator_at}
 use Rattle.cofactor_trace.specs.declared.evidence.CertFrom.{CertFrom}
 use Rattle.cofactor_trace.specs.declared.evidence.CertFrom.TheVariants as cert
@@ -12,25 +12,25 @@ use Rattle.cofactor_trace.specs.declared.evidence.Lemma.{Lemma}
 use Rattle.cofactor_trace.specs.declared.evidence.LemmaCertificate.{LemmaCertificate}
 
 -- the generator or the lemma, and the zero polynomial where there is none with the number
-abbrev pub cert_poly : List (List (ℤ × List ℕ)) → List (List (ℤ × List ℕ)) → CertFrom → List (ℤ × List ℕ)
+abbrev pub cert_poly : List Poly → List Poly → CertFrom → Poly
 cert_poly generators lemmas (cert.Generator n) = generator_at generators n
 cert_poly generators lemmas (cert.Lemma n) = generator_at lemmas n
 
 -- c l G r as a polynomial
-abbrev pub lemma_row_poly : List (List (ℤ × List ℕ)) → List (List (ℤ × List ℕ)) → LemmaRow → List (ℤ × List ℕ)
+abbrev pub lemma_row_poly : List Poly → List Poly → LemmaRow → Poly
 lemma_row_poly generators lemmas r = poly_multiple r.coef (poly_between r.left (cert_poly generators lemmas r.from) r.right)
 
 -- the sum of the rows
-abbrev pub lemma_sum : List (List (ℤ × List ℕ)) → List (List (ℤ × List ℕ)) → List LemmaRow → List (ℤ × List ℕ)
+abbrev pub lemma_sum : List Poly → List Poly → List LemmaRow → Poly
 lemma_sum generators lemmas [] = []
 lemma_sum generators lemmas (r ∷ rows) = poly_sum (lemma_row_poly generators lemmas r) (lemma_sum generators lemmas rows)
 
 -- The rows, over the generators and the lemmas with these polynomials, add up to the scale times the polynomial.
-abbrev pub AddsUpTo : List (List (ℤ × List ℕ)) → List (List (ℤ × List ℕ)) → Lemma → List (ℤ × List ℕ) → Type 0
+abbrev pub AddsUpTo : List Poly → List Poly → Lemma → Poly → Type 0
 AddsUpTo generators lemmas l p = SamePolynomial (lemma_sum generators lemmas l.rows) (poly_multiple l.scale p)
 
 -- The polynomials are those of the lemmas: each lemma's rows add up over the generators and the lemmas before it.
-abbrev pub AreOfLemmas : List (List (ℤ × List ℕ)) → List (List (ℤ × List ℕ)) → List Lemma → List (List (ℤ × List ℕ)) → Type 0
+abbrev pub AreOfLemmas : List Poly → List Poly → List Lemma → List Poly → Type 0
 AreOfLemmas generators before [] [] = ⊤
 AreOfLemmas generators before [] (p ∷ ps) = ⊥
 AreOfLemmas generators before (l ∷ lemmas) [] = ⊥
@@ -42,7 +42,7 @@ IsShareOf d l = (pos 0 <ℤ l.scale) × (unsigned_abs l.scale ∣ unsigned_abs d
 
 -- The certificate is evidence of p, with these polynomials of its lemmas: lemmas and goal add up, and each scale is positive and
 -- divides the denominator, which is positive.
-pub record IsEvidenceOf (generators : List (List (ℤ × List ℕ))) (lemmas : List (List (ℤ × List ℕ))) (c : LemmaCertificate) (p : List (ℤ × List ℕ)) : Type 0 where
+pub record IsEvidenceOf (generators : List Poly) (lemmas : List Poly) (c : LemmaCertificate) (p : Poly) : Type 0 where
   pub positive : pos 0 <ℤ c.denominator
   pub shares : All (IsShareOf c.denominator) (c.lemmas ++ c.goal ∷ [])
   pub lemmas_add_up : AreOfLemmas generators [] c.lemmas lemmas

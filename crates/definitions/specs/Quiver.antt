@@ -1,7 +1,7 @@
 -- Labelled quivers, paths, and typed polynomials.
-use Rattle.std.specs.Prelude.{◌≡◌, ◌≢◌, ℕ, ℤ, pos, ◌<◌, List, [], ◌∷◌, length, get_or, Bool, false, ◌&&◌, nat_eq, nat_lt, IsTrue, Option, Some, None, if◌then◌else◌}
+use Rattle.std.specs.Prelude.{◌≡◌, ◌≢◌, ℕ, pos, ◌<◌, List, [], ◌∷◌, length, get_or, Bool, false, ◌&&◌, nat_eq, nat_lt, IsTrue, Option, Some, None, if◌then◌else◌}
 use Rattle.std.specs.Option.{option_map}
-use Rattle.definitions.specs.Poly.{coefficient_of}
+use Rattle.definitions.specs.Poly.{Poly, coefficient_of}
 
 -- Objects and letters are numbered from 0. The letter with the number of an object is that object's identity.
 pub record Quiver : Type 0 where
@@ -54,7 +54,7 @@ abbrev pub IsPath : Quiver → ℕ → ℕ → List ℕ → Type 0
 IsPath q u v w = IsTrue (is_path q u v w)
 
 -- Every word with a nonzero coefficient is a path of the signature (u, v).
-pub record IsTyped (q : Quiver) (u v : ℕ) (p : List (ℤ × List ℕ)) : Type 0 where
+pub record IsTyped (q : Quiver) (u v : ℕ) (p : Poly) : Type 0 where
   pub at : (w : List ℕ) → coefficient_of p w ≢ pos 0 → IsPath q u v w
 
 -- The source of the last letter and the target of the first, where the word is a path.

@@ -1,5 +1,6 @@
 -- Representations of a quiver in a category, and the values of words and polynomials.
 use Rattle.std.specs.Prelude.{◌≡◌, ℕ, zero, suc, ℤ, pos, negsuc, ◌<◌, ◌≤◌, List, [], ◌∷◌, cond}
+use Rattle.definitions.specs.Poly.{Poly}
 use Rattle.definitions.specs.Category.{Structure, IsArrow}
 use Rattle.definitions.specs.Quiver.{Quiver, letters, source, target, star, is_path}
 
@@ -44,7 +45,7 @@ word_value s f none [] = none
 word_value s f none (a ∷ w) = path_value s f a w
 
 -- The value of a polynomial at the signature (u, v): the sum of its terms whose words are paths of that signature.
-abbrev pub value_at : {Object Arrow : Type 0} → Structure Object Arrow → Quiver → Representation Object Arrow → ℕ → ℕ → List (ℤ × List ℕ) → Arrow
+abbrev pub value_at : {Object Arrow : Type 0} → Structure Object Arrow → Quiver → Representation Object Arrow → ℕ → ℕ → Poly → Arrow
 value_at s q f u v [] = s.zero (f.object u) (f.object v)
 value_at s q f u v (t ∷ p) =
     let rest = value_at s q f u v p in

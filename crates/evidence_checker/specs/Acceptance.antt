@@ -6,7 +6,7 @@ use Rattle.std.specs.Int.RustNames.{unsigned_abs}
 use Rattle.coef_int.specs.declared.Overflow.{Overflow}
 use Rattle.coef_int.specs.Operations.{first_overflow}
 use Rattle.coef_int.specs.Range.{IsCoefficient}
-use Rattle.definitions.specs.Poly.{coefficient_of, poly_multiple, SamePolynomial}
+use Rattle.definitions.specs.Poly.{Poly, coefficient_of, poly_multiple, SamePolynomial}
 use Rattle.definitions.specs.Combination.{generator_at, IsCombination}
 use Rattle.nc_polynomial.specs.Terms.{products}
 use Rattle.cofactor_trace.specs.declared.Certificate.{Certificate}
@@ -27,11 +27,11 @@ use Rattle.evidence_checker.specs.declared.refusal.EvidenceRefusal.{EvidenceRefu
 use Rattle.evidence_checker.specs.declared.refusal.EvidenceRefusal.TheVariants as refusal
 
 -- the claim that the certificate names
-abbrev pub goal_claim : List (List (ℤ × List ℕ)) → LemmaCertificate → List (ℤ × List ℕ)
+abbrev pub goal_claim : List Poly → LemmaCertificate → Poly
 goal_claim claims c = generator_at claims c.claim
 
 -- the polynomials of all its lemmas
-abbrev pub all_polynomials : List (List (ℤ × List ℕ)) → LemmaCertificate → List (List (ℤ × List ℕ))
+abbrev pub all_polynomials : List Poly → LemmaCertificate → List Poly
 all_polynomials generators c = lemma_polynomials generators [] c.lemmas
 
 -- the scale is at least 1
@@ -53,7 +53,7 @@ pub record IsPositive (c : LemmaCertificate) : Type 0 where
   pub goal : HasScale c.goal
 
 -- The certificate names a claim, and its denominator and scales are at least 1.
-pub record IsPosed (claims : List (List (ℤ × List ℕ))) (c : LemmaCertificate) : Type 0 where
+pub record IsPosed (claims : List Poly) (c : LemmaCertificate) : Type 0 where
   pub claim : IsNumberUpTo (length claims) c.claim
   pub positive : IsPositive c
 
@@ -63,37 +63,37 @@ pub record HasTightScales (c : LemmaCertificate) : Type 0 where
   pub goal : IsTight c.denominator c.goal
 
 -- It is posed, and each scale divides the denominator.
-pub record HasShares (claims : List (List (ℤ × List ℕ))) (c : LemmaCertificate) : Type 0 where
+pub record HasShares (claims : List Poly) (c : LemmaCertificate) : Type 0 where
   pub posed : IsPosed claims c
   pub tight : HasTightScales c
 
 -- Its scales divide, and no product of the goal's scale with a coefficient of the claim leaves the range.
-pub record Begins (claims : List (List (ℤ × List ℕ))) (c : LemmaCertificate) : Type 0 where
+pub record Begins (claims : List Poly) (c : LemmaCertificate) : Type 0 where
   pub shares : HasShares claims c
   pub products : first_overflow (products c.goal.scale (goal_claim claims c)) ≡ None
 
 -- It begins, and each lemma passes.
-pub record HasLemmas (claims generators : List (List (ℤ × List ℕ))) (c : LemmaCertificate) : Type 0 where
+pub record HasLemmas (claims generators : List Poly) (c : LemmaCertificate) : Type 0 where
   pub begins : Begins claims c
   pub lemmas : LemmasPass generators [] c.lemmas
 
 -- It has its lemmas, and each row of the goal passes.
-pub record AddsUp (claims generators : List (List (ℤ × List ℕ))) (c : LemmaCertificate) : Type 0 where
+pub record AddsUp (claims generators : List Poly) (c : LemmaCertificate) : Type 0 where
   pub lemmas : HasLemmas claims generators c
   pub rows : LemmaRowsPass generators (all_polynomials generators c) c.goal.rows
 
 -- It adds up, and the sum of the goal's rows is its scale times the claim.
-pub record AcceptsLemmas (claims generators : List (List (ℤ × List ℕ))) (c : LemmaCertificate) : Type 0 where
+pub record AcceptsLemmas (claims generators : List Poly) (c : LemmaCertificate) : Type 0 where
   pub adds_up : AddsUp claims generators c
   pub sum : SamePolynomial (plain_sum generators (all_polynomials generators c) c.goal.rows) (poly_multiple c.goal.scale (goal_claim claims c))
 
 -- each test of the evidence passes
-abbrev pub AcceptsEvidence : List (List (ℤ × List ℕ)) → List (List (ℤ × List ℕ)) → Evidence → Type 0
+abbrev pub AcceptsEvidence : List Poly → List Poly → Evidence → Type 0
 AcceptsEvidence claims generators (Plain c) = certificate.Accepts claims generators c
 AcceptsEvidence claims generators (Lemmas c) = AcceptsLemmas claims generators c
 
 -- what accepted evidence shows of the claim that it names
-abbrev pub ShowsClaim : List (List (ℤ × List ℕ)) → List (List (ℤ × List ℕ)) → Evidence → Type 0
+abbrev pub ShowsClaim : List Poly → List Poly → Evidence → Type 0
 ShowsClaim claims generators (Plain c) = IsCombination generators (rows_of c.rows) c.denominator (claim_of claims c)
 ShowsClaim claims generators (Lemmas c) = IsEvidenceOf generators (all_polynomials generators c) c (goal_claim claims c)
 
@@ -103,7 +103,7 @@ NamesClaim (Plain c) accepted = accepted ≡ record { claim = c.claim; denominat
 NamesClaim (Lemmas c) accepted = accepted ≡ record { claim = c.claim; denominator = c.denominator }
 
 -- The certificate names a claim, and its denominator or a scale is below 1.
-pub record LacksDenominator (claims : List (List (ℤ × List ℕ))) (c : LemmaCertificate) : Type 0 where
+pub record LacksDenominator (claims : List Poly) (c : LemmaCertificate) : Type 0 where
   pub claim : IsNumberUpTo (length claims) c.claim
   pub positive : IsPositive c → ⊥
 
@@ -123,24 +123,24 @@ pub record HasLooseGoal (c : LemmaCertificate) (number : ℕ) : Type 0 where
   pub loose : IsTight c.denominator c.goal → ⊥
 
 -- The scales divide, and this is the first product of the goal's scale with a coefficient of the claim that leaves the range. It stands before all rows, and so in row 0.
-pub record MultipleOverflows (claims : List (List (ℤ × List ℕ))) (c : LemmaCertificate) (row : ℕ) (overflow : Overflow) : Type 0 where
+pub record MultipleOverflows (claims : List Poly) (c : LemmaCertificate) (row : ℕ) (overflow : Overflow) : Type 0 where
   pub before_rows : row ≡ 0
   pub shares : HasShares claims c
   pub products : first_overflow (products c.goal.scale (goal_claim claims c)) ≡ Some overflow
 
 -- Each row passes, and this is the least word at which the sum of the goal's rows isn't its scale times the claim.
-pub record SumDiffers (claims generators : List (List (ℤ × List ℕ))) (c : LemmaCertificate) (word : List ℕ) (want got : ℤ) : Type 0 where
+pub record SumDiffers (claims generators : List Poly) (c : LemmaCertificate) (word : List ℕ) (want got : ℤ) : Type 0 where
   pub adds_up : AddsUp claims generators c
   pub difference : IsLeastDifference (coefficient_of (poly_multiple c.goal.scale (goal_claim claims c))) (coefficient_of (plain_sum generators (all_polynomials generators c) c.goal.rows)) word want got
 
 -- The first lemma that does not pass, or else the first row of the goal that does not, and what is told of it.
-abbrev pub RefusesBlock : List (List (ℤ × List ℕ)) → List (List (ℤ × List ℕ)) → LemmaCertificate → EvidenceRefusal → Type 0
+abbrev pub RefusesBlock : List Poly → List Poly → LemmaCertificate → EvidenceRefusal → Type 0
 RefusesBlock claims generators c e =
     (Begins claims c × RefusesLemmas generators [] 0 c.lemmas e)
     ⊎ (HasLemmas claims generators c × RefusesRows generators (all_polynomials generators c) (row_count c.lemmas) c.goal.rows e)
 
 -- Of a certificate with lemmas each refusal comes where its test is the first that fails, and want of memory can come at any time.
-abbrev pub RefusesLemmaCertificate : List (List (ℤ × List ℕ)) → List (List (ℤ × List ℕ)) → LemmaCertificate → EvidenceRefusal → Type 0
+abbrev pub RefusesLemmaCertificate : List Poly → List Poly → LemmaCertificate → EvidenceRefusal → Type 0
 RefusesLemmaCertificate claims generators c refusal.NoSuchClaim = IsNumberUpTo (length claims) c.claim → ⊥
 RefusesLemmaCertificate claims generators c refusal.ZeroDenominator = LacksDenominator claims c
 RefusesLemmaCertificate claims generators c (refusal.LooseScale lemma) = IsPosed claims c × (IsFirstLoose c.denominator c.lemmas lemma ⊎ HasLooseGoal c lemma)
@@ -156,7 +156,7 @@ RefusesLemmaCertificate claims generators c (refusal.Memory failed) = ⊤
 RefusesLemmaCertificate claims generators c (refusal.Certificate e) = ⊥
 
 -- a refusal of evidence: that of its certificate, and of a certificate without lemmas as it is passed on
-abbrev pub RefusesEvidence : List (List (ℤ × List ℕ)) → List (List (ℤ × List ℕ)) → Evidence → EvidenceRefusal → Type 0
+abbrev pub RefusesEvidence : List Poly → List Poly → Evidence → EvidenceRefusal → Type 0
 RefusesEvidence claims generators (Plain c) (refusal.Certificate e) = certificate.Refuses claims generators c e
 RefusesEvidence claims generators (Plain c) refusal.NoSuchClaim = ⊥
 RefusesEvidence claims generators (Plain c) refusal.ZeroDenominator = ⊥

@@ -1,5 +1,6 @@
 -- The rows of a lemma or of the goal, as rows over one list: the generators and, behind them, the lemmas before.
-use Rattle.std.specs.Prelude.{ℕ, ◌+◌, ℤ, List, ◌++◌, length, map, nat_lt, nat_le, ◌&&◌, if◌then◌else◌, ⊤}
+use Rattle.std.specs.Prelude.{ℕ, ◌+◌, List, ◌++◌, length, map, nat_lt, nat_le, ◌&&◌, if◌then◌else◌, ⊤}
+use Rattle.definitions.specs.Poly.{Poly}
 use Rattle.definitions.specs.Combination.{Row, row_sum}
 use Rattle.cofactor_trace.specs.declared.evidence.CertFrom.{CertFrom}
 use Rattle.cofactor_trace.specs.declared.evidence.CertFrom.TheVariants as cert
@@ -13,11 +14,11 @@ place_of generators lemmas (cert.Lemma n) = if nat_lt 0 n && nat_le n lemmas the
 abbrev pub plain_row : ℕ → ℕ → LemmaRow → Row
 plain_row generators lemmas r = record { coefficient = r.coef; left = r.left; generator = place_of generators lemmas r.from; right = r.right }
 
-abbrev pub plain_rows : List (List (ℤ × List ℕ)) → List (List (ℤ × List ℕ)) → List LemmaRow → List Row
+abbrev pub plain_rows : List Poly → List Poly → List LemmaRow → List Row
 plain_rows generators lemmas rows = map (plain_row (length generators) (length lemmas)) rows
 
 -- the sum of the rows
-abbrev pub plain_sum : List (List (ℤ × List ℕ)) → List (List (ℤ × List ℕ)) → List LemmaRow → List (ℤ × List ℕ)
+abbrev pub plain_sum : List Poly → List Poly → List LemmaRow → Poly
 plain_sum generators lemmas rows = row_sum (generators ++ lemmas) (plain_rows generators lemmas rows)
 
 -- what a row is over

@@ -1,6 +1,7 @@
 -- What a model that refutes a claim is, and that each model has one outcome.
 use Rattle.std.specs.Prelude.{◌≡◌, ◌⊎◌, ℕ, ℤ, ◌<◌, List}
 use Rattle.std.specs.List.{AllByRecursion}
+use Rattle.definitions.specs.Poly.{Poly}
 use Rattle.definitions.specs.Quiver.{IsTyped}
 use Rattle.definitions.specs.Representation.{StarRepresents, Cancels}
 use Rattle.definitions.specs.Combination.{Row, IsCombination}
@@ -15,7 +16,7 @@ use Rattle.model_search.specs.Models.{representation_of, IsModel, IsZeroIn, assu
 use Rattle.model_search.specs.Refusals.{RefusesModel, IsMemory}
 
 -- The polynomial has a signature, and at this its value in the model isn't the zero matrix.
-pub record HasOtherValue (problem : Problem) (m : Model) (p : List (ℤ × List ℕ)) : Type 0 where
+pub record HasOtherValue (problem : Problem) (m : Model) (p : Poly) : Type 0 where
   pub source : ℕ
   pub target : ℕ
   pub source_is_object : source < object_count problem.parts.quiver

@@ -1,6 +1,7 @@
 -- The representation that matrices for the declared maps describe, and when they refute a claim.
-use Rattle.std.specs.Prelude.{◌≡◌, ◌<◌, ◌≤◌, ℕ, ℤ, List, length, get_or, nat_lt, nat_le, Option, Some, None, if◌then◌else◌}
+use Rattle.std.specs.Prelude.{◌≡◌, ◌<◌, ◌≤◌, ℕ, List, length, get_or, nat_lt, nat_le, Option, Some, None, if◌then◌else◌}
 use Rattle.std.specs.List.{All, AllByRecursion}
+use Rattle.definitions.specs.Poly.{Poly}
 use Rattle.definitions.specs.Quiver.{Quiver, letters, source, target, star}
 use Rattle.definitions.specs.Combination.{generator_at}
 use Rattle.definitions.specs.Representation.{Representation}
@@ -78,14 +79,14 @@ pub record IsClaimNumber (problem : Problem) (number : ℕ) : Type 0 where
   pub most : number ≤ length problem.parts.claims
 
 -- the value in the model is the zero matrix
-abbrev pub IsZeroIn : Problem → Model → List (ℤ × List ℕ) → Type 0
+abbrev pub IsZeroIn : Problem → Model → Poly → Type 0
 IsZeroIn problem m p = HasValueZero (matrices m.modulus) (quiver_of problem.parts.quiver) (representation_of (quiver_of problem.parts.quiver) m) p
 
 -- the polynomials of the assumptions, and that of the claim
-abbrev pub assumptions_of : Problem → List (List (ℤ × List ℕ))
+abbrev pub assumptions_of : Problem → List Poly
 assumptions_of problem = polynomials problem.parts.assumptions
 
-abbrev pub claim_polynomial : Problem → ℕ → List (ℤ × List ℕ)
+abbrev pub claim_polynomial : Problem → ℕ → Poly
 claim_polynomial problem number = generator_at (polynomials problem.parts.claims) number
 
 -- The model names a claim, and each declared map has its matrix.

@@ -1,6 +1,7 @@
 -- What all candidates of a shape share, for private functions.
-use Rattle.std.specs.Prelude.{◌≡◌, ℕ, ℤ, ◌<◌, ◌≤◌, List, [], length, get_or, nat_le, IsTrue}
+use Rattle.std.specs.Prelude.{◌≡◌, ℕ, ◌<◌, ◌≤◌, List, [], length, get_or, nat_le, IsTrue}
 use Rattle.std.specs.List.{All, AllByRecursion, list_all}
+use Rattle.definitions.specs.Poly.{Poly}
 use Rattle.definitions.specs.Quiver.{IsTyped}
 use Rattle.definitions.specs.Soundness.{HasValueZeroAt}
 use Rattle.quiver.specs.Declarations.{object_count, quiver_of}
@@ -16,7 +17,7 @@ use Rattle.model_search.specs.Candidates.{IsShapeOf, entries_of, is_exhaustive, 
 use Rattle.model_search.specs.Unknowns.{set_count, solved_flags}
 
 -- the terms of the generator that is meant
-abbrev pub terms_of : Problem → LinearGenerator → List (ℤ × List ℕ)
+abbrev pub terms_of : Problem → LinearGenerator → Poly
 terms_of problem g = get_or (polynomials problem.generators) g.place []
 
 -- A generator of the problem that is linear in the solved maps, with a signature of it.

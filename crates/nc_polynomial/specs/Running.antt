@@ -3,7 +3,7 @@ use Rattle.std.specs.Prelude.{◌≡◌, ◌≢◌, ℕ, ℤ, pos, ◌+ℤ◌, L
 use Rattle.std.specs.BTreeMap.{BTreeMap, get}
 use Rattle.coef_int.specs.Range.{IsCoefficient}
 use Rattle.word_core.specs.Canonical.{word_cmp}
-use Rattle.definitions.specs.Poly.{Term, coefficient_of}
+use Rattle.definitions.specs.Poly.{Poly, Term, coefficient_of}
 use Rattle.nc_polynomial.specs.Ascending.{reversed}
 use Rattle.nc_polynomial.specs.Collected.{coefficient_in}
 
@@ -17,9 +17,9 @@ pub record IsRunning (m : BTreeMap (List ℕ) ℤ) : Type 0 where
   pub in_range : (w : List ℕ) → IsCoefficient (coefficient_in m w)
 
 -- p is added
-pub record Adds (old new : BTreeMap (List ℕ) ℤ) (p : List (ℤ × List ℕ)) : Type 0 where
+pub record Adds (old new : BTreeMap (List ℕ) ℤ) (p : Poly) : Type 0 where
   pub at : (w : List ℕ) → coefficient_in new w ≡ coefficient_in old w +ℤ coefficient_of p w
 
 -- the map has the coefficients of p
-pub record IsSumOf (m : BTreeMap (List ℕ) ℤ) (p : List (ℤ × List ℕ)) : Type 0 where
+pub record IsSumOf (m : BTreeMap (List ℕ) ℤ) (p : Poly) : Type 0 where
   pub at : (w : List ℕ) → coefficient_in m w ≡ coefficient_of p w

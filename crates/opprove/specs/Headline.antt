@@ -6,6 +6,7 @@ use Rattle.definitions.specs.Category.{Structure, InvolutionLaws}
 use Rattle.definitions.specs.Quiver.{Quiver}
 use Rattle.definitions.specs.Representation.{Representation, StarRepresents, Cancels}
 use Rattle.definitions.specs.Soundness.{HasSignature, HasValueZero, MakesZero}
+use Rattle.definitions.specs.Poly.{Term}
 use Rattle.matrix_models.specs.Matrices.{matrices, transpose}
 use Rattle.matrix_models.specs.declared.model.Model.{Model}
 use Rattle.quiver.specs.Declarations.{quiver_of}
@@ -40,12 +41,12 @@ use Rattle.opprove.specs.Run.{Run}
 -- ---- what evidence means
 
 -- Whatever the involution, each star representation in which d cancels and the assumptions have the value zero gives the claim the value zero.
-pub record MakesZeroByStar {Object Arrow : Type 0} (s : Structure Object Arrow) (q : Quiver) (assumptions : List (List (ℤ × List ℕ))) (d : ℤ) (claim : List (ℤ × List ℕ)) : Type 0 where
+pub record MakesZeroByStar {Object Arrow : Type 0} (s : Structure Object Arrow) (q : Quiver) (assumptions : List (List Term)) (d : ℤ) (claim : List Term) : Type 0 where
   pub zero : (adjoint : Arrow → Arrow) → InvolutionLaws s adjoint
       → (f : Representation Object Arrow) → StarRepresents s adjoint q f → Cancels s d → AllByRecursion (HasValueZero s q f) assumptions → HasValueZero s q f claim
 
 -- What it means in a category that d times the claim is a combination of the generators of the problem.
-pub record MeansZero {Object Arrow : Type 0} (s : Structure Object Arrow) (problem : Problem) (d : ℤ) (claim : List (ℤ × List ℕ)) : Type 0 where
+pub record MeansZero {Object Arrow : Type 0} (s : Structure Object Arrow) (problem : Problem) (d : ℤ) (claim : List Term) : Type 0 where
   -- the claim is typed of its signature
   pub typed : HasSignature (quiver_of problem.parts.quiver) claim
   -- each representation in which d cancels and all generators of the statement have the value zero gives the claim the value zero

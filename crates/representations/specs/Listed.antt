@@ -1,5 +1,6 @@
 -- A representation that is given by lists.
-use Rattle.std.specs.Prelude.{◌≡◌, ℕ, ℤ, List, length, get_or}
+use Rattle.std.specs.Prelude.{◌≡◌, ℕ, List, length, get_or}
+use Rattle.definitions.specs.Poly.{Poly}
 use Rattle.definitions.specs.Category.{Structure}
 use Rattle.definitions.specs.Quiver.{Quiver, letters}
 use Rattle.definitions.specs.Representation.{Representation, Represents, StarRepresents, value_at}
@@ -20,5 +21,5 @@ pub record IsStarRepresentation {Object Arrow : Type 0} (s : Structure Object Ar
   pub represents : (o : Object) (a : Arrow) → StarRepresents s adjoint q (listed objects arrows o a)
 
 -- The arrow is the value of the polynomial at the signature (u, v).
-pub record IsValue {Object Arrow : Type 0} (s : Structure Object Arrow) (q : Quiver) (objects : List Object) (arrows : List Arrow) (u v : ℕ) (p : List (ℤ × List ℕ)) (x : Arrow) : Type 0 where
+pub record IsValue {Object Arrow : Type 0} (s : Structure Object Arrow) (q : Quiver) (objects : List Object) (arrows : List Arrow) (u v : ℕ) (p : Poly) (x : Arrow) : Type 0 where
   pub at : (o : Object) (a : Arrow) → x ≡ value_at s q (listed objects arrows o a) u v p

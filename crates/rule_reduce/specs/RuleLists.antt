@@ -4,6 +4,7 @@ use Rattle.std.specs.List.{All}
 use Rattle.std.specs.Option.{option_map}
 use Rattle.coef_int.specs.Range.{IsCoefficient}
 use Rattle.word_core.specs.Letters.{IsOver}
+use Rattle.definitions.specs.Poly.{Term}
 use Rattle.word_orders.specs.Admissible.{Compare}
 use Rattle.nc_polynomial.specs.declared.poly.Poly.{Poly}
 use Rattle.rule_reduce.specs.declared.rule.Rule.{Rule}
@@ -28,7 +29,7 @@ rule_at rules zero = None
 rule_at rules (suc n) = slice_get rules n
 
 -- the polynomials of the rules
-abbrev pub polynomials_of : List Rule → List (List (ℤ × List ℕ))
+abbrev pub polynomials_of : List Rule → List (List Term)
 polynomials_of rules = map (λ g. g.poly.terms) rules
 
 -- the leading words with the numbers of their rules, which start with the given one
