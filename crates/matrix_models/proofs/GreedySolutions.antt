@@ -101,7 +101,7 @@ greedy-left s pivots prefer values is_system stand solved =
 
 -- ---- at most one
 -- lists that agree at each place where they agree before it
-same_fronts : (values others : List ℕ) (n : ℕ) → n ≤ length values → n ≤ length others
+pub same_fronts : (values others : List ℕ) (n : ℕ) → n ≤ length values → n ≤ length others
     → ((place : ℕ) → place < n → take place values ≡ take place others → get_or values place 0 ≡ get_or others place 0) → take n values ≡ take n others
 same_fronts values others zero in_values in_others step = refl
 same_fronts values others (suc n) in_values in_others step =

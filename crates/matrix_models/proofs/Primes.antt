@@ -56,7 +56,8 @@ prime_from m n tried root d least most = go (cases_eq (m % d) 0)
     go (inl divides) = absurd (none divides)
     go (inr nonzero) = omega arith
 
-any_of : (P : ℕ → Type 0) (m : ℕ) (ks : List ℕ) → AllByRecursion P ks → list_any (nat_eq m) ks ≡ true → P m
+-- what holds of each number of a list holds of any that is among them
+pub any_of : (P : ℕ → Type 0) (m : ℕ) (ks : List ℕ) → AllByRecursion P ks → list_any (nat_eq m) ks ≡ true → P m
 any_of P m [] each is = absurd (false≢true is)
 any_of P m (k ∷ ks) each is = go (or_cases _ _ is) (any_of P m ks each.1)
   where
