@@ -45,6 +45,12 @@ pub const MODELS: &[Row] = &[
         b"model 1\nclaim 1\nmodulus 2147483647\nside U 2\nside V 1\nmap a = 2147483646 0\nmap b = 2147483646 ; 5\nend\n",
         CONFIRMED,
     ),
+    // a matrix of 64 columns
+    (
+        ONE_SIDED,
+        b"model 1\nclaim 1\nmodulus 2\nside U 64\nmap a = 1 1 1 1 1 1 1 1 1 1 1 1 1 1 1 1 1 1 1 1 1 1 1 1 1 1 1 1 1 1 1 1 1 1 1 1 1 1 1 1 1 1 1 1 1 1 1 1 1 1 1 1 1 1 1 1 1 1 1 1 1 1 1 1\nend\n",
+        "7 # block 1 refused M2 map b\n",
+    ),
     (MAPS, SELF, CONFIRMED),
     (
         MAPS,
@@ -117,6 +123,16 @@ pub const FAULTS: &[Row] = &[
     (MAPS, b"", "7 # refused K7\n"),
     (MAPS, b"certificate 1\nend\n", "7 # refused K7\n"),
     (MAPS, b"# \xff\n", "7 # refused K1\n"),
+    (
+        MAPS,
+        b"model 1\nclaim 1\n# \xff\nmodulus 3\nend\n",
+        "7 # refused K1\n",
+    ),
+    (
+        MAPS,
+        b"modle 1\nclaim 1\nmodulus 3\nend\n\xff",
+        "7 # refused K1\n",
+    ),
     // the text ends inside a block
     (MAPS, b"model 1", "7 # refused K6\n"),
     (MAPS, b"model 1\nclaim 1\n", "7 # refused K6\n"),
@@ -127,6 +143,42 @@ pub const FAULTS: &[Row] = &[
         "7 # refused K6\n",
     ),
     (MAPS, b"basis 1\nclaim 1\n", "7 # refused K6\n"),
+    (
+        MAPS,
+        b"model 1\nclaim 1\nmodulus 3\nside U 2\n",
+        "7 # refused K6\n",
+    ),
+    (
+        MAPS,
+        b"model 1\nclaim 1\nmodulus 3\nside U 2\nside V 1\n",
+        "7 # refused K6\n",
+    ),
+    (
+        MAPS,
+        b"model 1\nclaim 1\nmodulus 3\nside U 2\nside V 1\nmap p = 0 1 ; 1 0\n",
+        "7 # refused K6\n",
+    ),
+    (
+        MAPS,
+        b"model 1\nclaim 1\nmodulus 3\nside U 2\nside V 1\nmap p = 0 1 ; 1 0\nmap a = 1 0\n",
+        "7 # refused K6\n",
+    ),
+    (
+        MAPS,
+        b"model 1\nclaim 1\nmodulus 3\nmap p = 1\nmap a = 1\nend\nmodel 1\n",
+        "7 # refused K6\n",
+    ),
+    (
+        MAPS,
+        b"model 1\nclaim 1\nmodulus 3\nmap p = 1\nmap a = 1\nend\nmodel 1\nclaim 1\nmodulus 3\nside U 2\n",
+        "7 # refused K6\n",
+    ),
+    (
+        MAPS,
+        b"model 1\nclaim 1\nmodulus 3\nmap p = 1\nmap a = 1\nend\nbasis 1\n",
+        "7 # refused K6\n",
+    ),
+    (MAPS, b"certificate 1\n", "7 # refused K6\n"),
     // a line that doesn't fit the grammar at its place: the first, one in the middle, the last
     (MAPS, b"modle 1\n", "7 # refused K2 line 1\n"),
     (MAPS, b"model 01\n", "7 # refused K2 line 1\n"),
@@ -194,6 +246,31 @@ pub const FAULTS: &[Row] = &[
         b"model 1\nclaim 1\nmodulus 3\nend 1\n",
         "7 # refused K2 line 4\n",
     ),
+    (
+        MAPS,
+        b"model 1\nclaim 1\nmodulus 3\nside U 2\nmap p = 0 1 ; 1\nmap a = 1 0\nend\n",
+        "7 # refused K2 line 5\n",
+    ),
+    (
+        MAPS,
+        b"model 1\nclaim 1\nmodulus 3\nside U 2\nmap p = 0 1 ; 1 0\nmap a = 1 0\nside U 2\nend\n",
+        "7 # refused K2 line 7\n",
+    ),
+    (
+        MAPS,
+        b"model 1\nclaim 1\nmodulus 3\nmap p = 1\nmap a = 1\nend\nmodel 2\n",
+        "7 # refused K2 line 7\n",
+    ),
+    (
+        MAPS,
+        b"model 1\nclaim 1\nmodulus 3\nside [U] 1\n",
+        "7 # refused K2 line 4\n",
+    ),
+    (
+        MAPS,
+        b"model 1\nclaim 1\nmodulus 3\nside nnnnnnnnnnnnnnnnnnnnnnnnnnnnnnnnn 1\n",
+        "7 # refused K2 line 4\n",
+    ),
     // names that are not declared, or are of the other kind
     (
         MAPS,
@@ -215,6 +292,36 @@ pub const FAULTS: &[Row] = &[
         b"model 1\nclaim 1\nmodulus 3\nmap b = 1\n",
         "7 # refused K3 line 4\n",
     ),
+    (
+        MAPS,
+        b"model 1\nclaim 1\nmodulus 3\nside U 2\nside W 1\nmap p = 0 1 ; 1 0\nmap a = 1 0\nend\n",
+        "7 # refused K3 line 5\n",
+    ),
+    (
+        MAPS,
+        b"model 1\nclaim 1\nmodulus 3\nside U 2\nmap b = 1\nmap p = 0 1 ; 1 0\nmap a = 1 0\nend\n",
+        "7 # refused K3 line 5\n",
+    ),
+    (
+        MAPS,
+        b"model 1\nclaim 1\nmodulus 3\nmap p = 1\nmap a = 1\nside W 1\nend\n",
+        "7 # refused K3 line 6\n",
+    ),
+    (
+        MAPS,
+        b"model 1\nclaim 1\nmodulus 3\nside U 2\nside V 1\nmap p = 0 1 ; 1 0\nmap b = 1 0\nend\n",
+        "7 # refused K3 line 7\n",
+    ),
+    (
+        MAPS,
+        b"model 1\nclaim 1\nmodulus 3\nmap p = 1\nmap a = 1\nend\nmodel 1\nclaim 1\nmodulus 3\nside W 1\nend\n",
+        "7 # refused K3 line 10\n",
+    ),
+    (
+        MAPS,
+        b"# a model\n\nmodel 1\nclaim 1\n\nmodulus 3\nmap nnnnnnnnnnnnnnnnnnnnnnnnnnnnnnnn = 1\nend\n",
+        "7 # refused K3 line 7\n",
+    ),
     // numbers past their bounds
     (
         MAPS,
@@ -233,6 +340,36 @@ pub const FAULTS: &[Row] = &[
     ),
     (
         MAPS,
+        b"model 1\nclaim 1\nmodulus 3\nside U 2\nmap p = 0 1 ; 3 0\nmap a = 1 0\nend\n",
+        "7 # refused K4 line 5\n",
+    ),
+    (
+        MAPS,
+        b"model 1\nclaim 1\nmodulus 3\nside U 2\nmap p = 0 1 ; 1 0\nmap a = 1 3\nend\n",
+        "7 # refused K4 line 6\n",
+    ),
+    (
+        MAPS,
+        b"model 1\nclaim 18446744073709551617\nmodulus 3\nend\n",
+        "7 # refused K4 line 2\n",
+    ),
+    (
+        MAPS,
+        b"model 1\nclaim 1\nmodulus 4294967299\nend\n",
+        "7 # refused K4 line 3\n",
+    ),
+    (
+        MAPS,
+        b"model 1\nclaim 1\nmodulus 3\nmap a = 4294967297\nend\n",
+        "7 # refused K4 line 4\n",
+    ),
+    (
+        MAPS,
+        b"model 1\nclaim 1\nmodulus 3\nmap p = 1\nmap a = 1\nend\nmodel 1\nclaim 4294967296\nmodulus 3\nend\n",
+        "7 # refused K4 line 8\n",
+    ),
+    (
+        MAPS,
         b"model 1\nclaim 1\nmodulus 3\nside U 65\n",
         "7 # refused K5 line 4 limit 64\n",
     ),
@@ -245,5 +382,76 @@ pub const FAULTS: &[Row] = &[
         MAPS,
         b"model 1\nclaim 1\nmodulus 3\nmap a = 1 ; 1 ; 1 ; 1 ; 1 ; 1 ; 1 ; 1 ; 1 ; 1 ; 1 ; 1 ; 1 ; 1 ; 1 ; 1 ; 1 ; 1 ; 1 ; 1 ; 1 ; 1 ; 1 ; 1 ; 1 ; 1 ; 1 ; 1 ; 1 ; 1 ; 1 ; 1 ; 1 ; 1 ; 1 ; 1 ; 1 ; 1 ; 1 ; 1 ; 1 ; 1 ; 1 ; 1 ; 1 ; 1 ; 1 ; 1 ; 1 ; 1 ; 1 ; 1 ; 1 ; 1 ; 1 ; 1 ; 1 ; 1 ; 1 ; 1 ; 1 ; 1 ; 1 ; 1 ; 1\n",
         "7 # refused K5 line 4 limit 64\n",
+    ),
+    (
+        MAPS,
+        b"model 1\nclaim 1\nmodulus 3\nside U 2\nside V 65\nmap p = 0 1 ; 1 0\nmap a = 1 0\nend\n",
+        "7 # refused K5 line 5 limit 64\n",
+    ),
+    (
+        MAPS,
+        b"model 1\nclaim 1\nmodulus 3\nside U 2\nmap p = 1 1 1 1 1 1 1 1 1 1 1 1 1 1 1 1 1 1 1 1 1 1 1 1 1 1 1 1 1 1 1 1 1 1 1 1 1 1 1 1 1 1 1 1 1 1 1 1 1 1 1 1 1 1 1 1 1 1 1 1 1 1 1 1 1\nmap a = 1 0\nend\n",
+        "7 # refused K5 line 5 limit 64\n",
+    ),
+    (
+        MAPS,
+        b"model 1\nclaim 1\nmodulus 3\nmap p = 1\nmap a = 1\nside U 65\nend\n",
+        "7 # refused K5 line 6 limit 64\n",
+    ),
+    (
+        MAPS,
+        b"model 1\nclaim 1\nmodulus 3\nside U 2\nside V 1\nmap p = 0 1 ; 1 0\nmap a = 1 ; 1 ; 1 ; 1 ; 1 ; 1 ; 1 ; 1 ; 1 ; 1 ; 1 ; 1 ; 1 ; 1 ; 1 ; 1 ; 1 ; 1 ; 1 ; 1 ; 1 ; 1 ; 1 ; 1 ; 1 ; 1 ; 1 ; 1 ; 1 ; 1 ; 1 ; 1 ; 1 ; 1 ; 1 ; 1 ; 1 ; 1 ; 1 ; 1 ; 1 ; 1 ; 1 ; 1 ; 1 ; 1 ; 1 ; 1 ; 1 ; 1 ; 1 ; 1 ; 1 ; 1 ; 1 ; 1 ; 1 ; 1 ; 1 ; 1 ; 1 ; 1 ; 1 ; 1 ; 1\nend\n",
+        "7 # refused K5 line 7 limit 64\n",
+    ),
+    (
+        MAPS,
+        b"model 1\nclaim 1\nmodulus 3\nside U 18446744073709551617\nend\n",
+        "7 # refused K5 line 4 limit 64\n",
+    ),
+    (
+        MAPS,
+        b"basis 1\nside W 1\nend\nmodel 1\nclaim 1\nmodulus 3\nside U 4294967297\nend\n",
+        "7 # refused K5 line 7 limit 64\n",
+    ),
+    // on one line the lowest code counts, and of lines the first
+    (
+        MAPS,
+        b"model 1\nclaim 1\nmodulus 3\nside U 1\nmap U = 1\n",
+        "7 # refused K2 line 5\n",
+    ),
+    (
+        MAPS,
+        b"model 1\nclaim 1\nmodulus 3\nside W 0\n",
+        "7 # refused K2 line 4\n",
+    ),
+    (
+        MAPS,
+        b"model 1\nclaim 1\nmodulus 3\nmap b = 3 ; 1 1\n",
+        "7 # refused K2 line 4\n",
+    ),
+    (
+        MAPS,
+        b"model 1\nclaim 1\nmodulus 3\nside W 65\n",
+        "7 # refused K3 line 4\n",
+    ),
+    (
+        MAPS,
+        b"model 1\nclaim 1\nmodulus 3\nmap b = 3\n",
+        "7 # refused K3 line 4\n",
+    ),
+    (
+        MAPS,
+        b"model 1\nclaim 1\nmodulus 3\nmap a = 3 1 1 1 1 1 1 1 1 1 1 1 1 1 1 1 1 1 1 1 1 1 1 1 1 1 1 1 1 1 1 1 1 1 1 1 1 1 1 1 1 1 1 1 1 1 1 1 1 1 1 1 1 1 1 1 1 1 1 1 1 1 1 1 1\n",
+        "7 # refused K4 line 4\n",
+    ),
+    (
+        MAPS,
+        b"model 1\nclaim 1\nmodulus 3\nside U 65\nside W 0\n",
+        "7 # refused K5 line 4 limit 64\n",
+    ),
+    (
+        MAPS,
+        b"model 1\nclaim 1\nmodulus 3\nside W 1\nside W 1\n",
+        "7 # refused K3 line 4\n",
     ),
 ];
