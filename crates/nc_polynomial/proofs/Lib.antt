@@ -3,6 +3,7 @@ pub mod CoefficientLaws
 pub mod Shapes
 pub mod Chains
 pub mod Results
+pub mod Stopped
 pub mod Steps
 pub mod Values
 pub mod Unique

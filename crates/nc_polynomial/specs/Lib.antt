@@ -7,6 +7,7 @@ pub mod Arithmetic
 pub mod Ascending
 pub mod Collected
 pub mod Running
+pub mod Stops
 pub mod Product
 pub mod Content
 pub mod Adjoint

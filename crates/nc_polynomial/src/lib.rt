@@ -13,10 +13,10 @@ mod product;
 mod push;
 mod running;
 mod size;
-mod table;
+pub mod table;
 mod terms;
 
-pub use fault::{PolyFault, SizeFault};
+pub use fault::{PolyFault, SizeFault, SumFault};
 pub use laws::canonical_is_unique;
 pub use poly::Poly;
 pub use running::RunningSum;

@@ -3,43 +3,54 @@ ghost use Rattle.std.specs.Prelude.{◌≡◌, ◌≤◌, ◌+ℤ◌, [], ◌∷
 ghost use Rattle.std.specs.List.{All};
 ghost use Rattle.std.specs.BTreeMap.{IsOrdered};
 ghost use Rattle.coef_int.specs.Range.{IsCoefficient};
-ghost use Rattle.coef_int.specs.Operations.{sum_of};
+ghost use Rattle.coef_int.specs.Operations.{sum_of, first_overflow};
 ghost use Rattle.word_core.specs.Canonical.{word_cmp};
 ghost use Rattle.nc_polynomial.specs.Arithmetic.{sum_result};
 ghost use Rattle.nc_polynomial.specs.Collected.{coefficient_in};
 ghost use Rattle.nc_polynomial.specs.Faults.{Explains, checked};
 ghost use Rattle.nc_polynomial.specs.Running.{IsRunning, Adds, terms_in};
 ghost use Rattle.nc_polynomial.specs.Shape.{IsShaped};
+ghost use Rattle.nc_polynomial.specs.Stops.{IsStoppedBy};
 ghost use Rattle.nc_polynomial.specs.Terms.{added, sums};
 
 use crate::push::push_nonzero;
 use crate::size::TERM_LIMIT;
-use crate::{PolyFault, SizeFault};
+use crate::{PolyFault, SizeFault, SumFault};
 use lists::Listing;
 use std::alloc::{AllocError, Global};
 use std::collections::BTreeMap;
+use std::collections::btree_map::Entry;
 use word_core::Word;
 
-// Adds to the coefficient of a word, and takes the word out where that becomes zero.
-pub(crate) fn add_term(
+/// Adds to the coefficient of a word, and takes the word out where that becomes zero.
+pub fn add_term(
     table: &mut BTreeMap<Word, i128>,
     coefficient: i128,
     word: Word,
-) -> Result<(), PolyFault>
+) -> Result<(), SumFault>
     requires running { IsRunning table.old }
     requires ordered { IsOrdered word_cmp table.old }
     requires coefficient_in { IsCoefficient coefficient }
     ensures running { IsRunning table.new }
     ensures ordered { IsOrdered word_cmp table.new }
     ensures added { OnOk result (Adds table.old table.new ((coefficient, word) ∷ [])) }
-    ensures exact { MatchResult result (λ _. IsCoefficient (coefficient_in table.old word +ℤ coefficient)) (Explains (checked (sum_of (coefficient_in table.old word) coefficient ∷ []) coefficient)) }
+    ensures exact { MatchResult result (λ _. IsCoefficient (coefficient_in table.old word +ℤ coefficient)) (IsStoppedBy (first_overflow (sum_of (coefficient_in table.old word) coefficient ∷ []))) }
 {
-    let so_far = table.get(&word).copied().unwrap_or(0);
-    let total = coef_int::plus(so_far, coefficient)?;
-    if total == 0 {
-        table.remove(&word);
-    } else {
-        table.insert(word, total)?;
+    if coefficient == 0 {
+        return Ok(());
+    }
+    match table.entry(word)? {
+        Entry::Vacant(entry) => {
+            entry.insert(coefficient);
+        }
+        Entry::Occupied(mut entry) => {
+            let total = coef_int::plus(*entry.get(), coefficient)?;
+            if total == 0 {
+                entry.remove();
+            } else {
+                entry.insert(total);
+            }
+        }
     }
     Ok(())
 }
@@ -84,8 +95,8 @@ pub(crate) fn add_within(
     Ok(())
 }
 
-// The nonzero coefficients with their words, descending.
-pub(crate) fn descending(
+/// The nonzero coefficients with their words, descending.
+pub fn descending(
     alloc: Global,
     mut table: BTreeMap<Word, i128>,
 ) -> Result<Listing<(i128, Word)>, AllocError>

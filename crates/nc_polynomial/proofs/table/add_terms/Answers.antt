@@ -1,15 +1,17 @@
-use Rattle.std.proofs.Common.{rules, ◌≡◌, ◌++◌, ◌+ℤ◌, ◌∷◌, [], length, Err, sym, ap, ◌∙◌, arith, append_assoc, append-nil}
+use Rattle.std.proofs.Common.{rules, ◌≡◌, ◌++◌, ◌+ℤ◌, ◌∷◌, [], length, sym, ap, ◌∙◌, arith, append_assoc, append-nil}
 use Rattle.std.specs.Vec.Iter.{into_iter_items}
 use Rattle.std.proofs.lemmas.List.{nil_from_length}
 use Rattle.coef_int.specs.Range.{IsCoefficient}
 use Rattle.coef_int.specs.Operations.{sum_of, first_overflow}
 use Rattle.definitions.specs.Poly.{Term, coefficient_of}
 use Rattle.nc_polynomial.specs.Collected.{coefficient_in}
-use Rattle.nc_polynomial.specs.Faults.{Explains, checked}
 use Rattle.nc_polynomial.specs.Running.{Adds}
+use Rattle.nc_polynomial.specs.Stops.{IsStoppedBy}
 use Rattle.nc_polynomial.proofs.Chains.{first-fits}
+use Rattle.nc_polynomial.proofs.Results.{err_whole}
 use Rattle.nc_polynomial.proofs.RunningSums.{table-fault, table-sum}
 use Rattle.nc_polynomial.proofs.Shapes.{recursion_from_IsDescending}
+use Rattle.nc_polynomial.proofs.Stopped.{stop-explains}
 use Rattle.nc_polynomial.proofs.TableSums.{sums_with, sums-next, coefficients-more}
 use Rattle.nc_polynomial.proofs.table.add_terms.Goals as goal
 
@@ -45,11 +47,13 @@ returns-in_err-add_term-clause-exact c =
     let more = into_iter_items c.next.new.self in
     let steps : into_iter_items at.coefficient-iterator ≡ t ∷ more = c.in-Some.ensures.steps.0 in
     let splits : at.yielded ++ t ∷ more ≡ c.args.terms = ap (λ l. at.yielded ++ l) (sym steps) ∙ at.invariant.splits in
-    let e = c.in_err-add_term.field-0.0 in
-    let why : Explains (checked (sum_of (coefficient_in at.table t.1) t.0 ∷ []) t.0) e = search rules in
-    let given : c.from_residual.result ≡ Err e = search rules in
-    rw given (table-fault c.args.table.now c.requires.ordered c.requires.running c.args.terms c.requires.shaped (coefficient_in at.table) at.yielded t more splits at.invariant.coefficients
-    (at.invariant.rest ∙ ap (λ l. first_overflow (sums_with (coefficient_in c.args.table.now) l)) steps) e why)
+    let why : IsStoppedBy (first_overflow (sum_of (coefficient_in at.table t.1) t.0 ∷ [])) c.in_err-add_term.field-0.0 = search rules in
+    err_whole c.from_residual.result _
+    (λ e same.
+    table-fault c.args.table.now c.requires.ordered c.requires.running c.args.terms c.requires.shaped (coefficient_in at.table) at.yielded t more splits at.invariant.coefficients
+    (at.invariant.rest ∙ ap (λ l. first_overflow (sums_with (coefficient_in c.args.table.now) l)) steps) e
+    (stop-explains (sum_of (coefficient_in at.table t.1) t.0 ∷ []) t.0 c.in_err-add_term.field-0.0 e why same))
+    c.from_residual.ensures.1
 
 pub returns-clause-exact : goal.returns-clause-exact
 returns-clause-exact c =
