@@ -5,6 +5,7 @@ ghost use Rattle.coef_int.specs.Range.{IsCoefficient};
 ghost use Rattle.definitions.specs.Poly.{Term, SamePolynomial, poly_between, poly_product};
 ghost use Rattle.nc_polynomial.specs.Arithmetic.{sum_result};
 ghost use Rattle.nc_polynomial.specs.Faults.{Explains};
+ghost use Rattle.nc_polynomial.specs.Limits.{word_limit};
 ghost use Rattle.nc_polynomial.specs.Product.{moved_result, product_step, product_result};
 ghost use Rattle.nc_polynomial.specs.Shape.{IsShaped};
 
@@ -80,7 +81,7 @@ fn behind(left: &(i128, Word), right: &(i128, Word)) -> Result<(i128, Word), Pol
     requires right_nonzero { right.now.0 ≢ pos 0 }
     ensures exact { IfOk result (λ t. t ≡ (left.now.0 *ℤ right.now.0, left.now.1 ++ right.now.1)) }
     ensures fits { OnOk result (IsCoefficient (left.now.0 *ℤ right.now.0)) }
-    ensures short { OnOk result (length left.now.1 + length right.now.1 ≤ 500) }
+    ensures short { OnOk result (length left.now.1 + length right.now.1 ≤ word_limit) }
     ensures fault { IfErr result (λ e. (sum : List Term) → IsShaped sum → Explains (product_step sum left.now (right.now ∷ [])) e) }
 {
     if left.1.len().saturating_add(right.1.len()) > LETTER_LIMIT {
@@ -110,7 +111,7 @@ pub(crate) fn moved_multiple(
 ) -> Result<Listing<(i128, Word)>, PolyFault>
     requires { IsCoefficient coefficient }
     ensures shaped { IfOk result IsShaped }
-    ensures short { IfOk result (All (λ t. length t.1 ≤ 500)) }
+    ensures short { IfOk result (All (λ t. length t.1 ≤ word_limit)) }
     ensures step { IfOk result (λ v. (sum : List Term) → IsShaped sum → product_step sum (coefficient, word.now) poly.now.terms ≡ sum_result sum v) }
     ensures fault { IfErr result (λ e. (sum : List Term) → IsShaped sum → Explains (product_step sum (coefficient, word.now) poly.now.terms) e) }
 {

@@ -2,6 +2,7 @@
 ghost use Rattle.std.specs.Prelude.{◌≡◌, ◌≤◌, MatchResult, Ok, Err, length};
 ghost use Rattle.definitions.specs.Poly.{poly_between};
 ghost use Rattle.nc_polynomial.specs.Faults.{sized, has_long_word};
+ghost use Rattle.nc_polynomial.specs.Limits.{term_limit};
 ghost use Rattle.nc_polynomial.specs.declared.fault.PolyFault.TheVariants as fault;
 
 use crate::SizeFault;
@@ -41,7 +42,7 @@ pub(crate) fn check_moved(
     terms: &[(i128, Word)],
     right: &Word,
 ) -> Result<(), SizeFault>
-    requires { length terms.now ≤ 20000 }
+    requires { length terms.now ≤ term_limit }
     ensures { MatchResult result (λ _. sized (poly_between left.now terms.now right.now) ≡ Ok (poly_between left.now terms.now right.now)) (λ e. sized (poly_between left.now terms.now right.now) ≡ Err (fault.Size e)) }
 {
     let around = left.len().saturating_add(right.len());

@@ -8,6 +8,7 @@ ghost use Rattle.word_core.specs.Canonical.{word_cmp};
 ghost use Rattle.nc_polynomial.specs.Arithmetic.{sum_result};
 ghost use Rattle.nc_polynomial.specs.Collected.{coefficient_in};
 ghost use Rattle.nc_polynomial.specs.Faults.{Explains, checked};
+ghost use Rattle.nc_polynomial.specs.Limits.{word_limit};
 ghost use Rattle.nc_polynomial.specs.Running.{IsRunning, Adds, terms_in};
 ghost use Rattle.nc_polynomial.specs.Shape.{IsShaped};
 ghost use Rattle.nc_polynomial.specs.Stops.{IsStoppedBy};
@@ -81,9 +82,9 @@ pub(crate) fn add_within(
 ) -> Result<(), PolyFault>
     requires running { IsRunning table.old }
     requires ordered { IsOrdered word_cmp table.old }
-    requires short_sum { All (λ t. length t.1 ≤ 500) (terms_in table.old) }
+    requires short_sum { All (λ t. length t.1 ≤ word_limit) (terms_in table.old) }
     requires shaped { IsShaped terms }
-    requires short { All (λ t. length t.1 ≤ 500) terms }
+    requires short { All (λ t. length t.1 ≤ word_limit) terms }
     ensures running { IsRunning table.new }
     ensures ordered { IsOrdered word_cmp table.new }
     ensures exact { MatchResult result (λ _. sum_result (terms_in table.old) terms ≡ Ok (terms_in table.new)) (Explains (sum_result (terms_in table.old) terms)) }
