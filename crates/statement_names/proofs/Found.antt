@@ -1,18 +1,17 @@
 -- The declarations that names stand for.
-use Rattle.std.proofs.Common.{◌≡◌, ◌≢◌, ℕ, zero, suc, ◌+◌, ◌<◌, ◌≤◌, Bool, true, false, cond, if◌then◌else◌, nat_eq, IsTrue, List, [], ◌∷◌, ◌++◌, length, map, get_or, Option, Some, None, refl, ap, ap₂, sym, subst, ◌∙◌, arith}
+use Rattle.std.proofs.Common.{◌≡◌, ℕ, zero, suc, ◌+◌, ◌<◌, ◌≤◌, Bool, true, false, cond, if◌then◌else◌, nat_eq, List, [], ◌∷◌, ◌++◌, length, Option, Some, refl, ap, sym, subst, ◌∙◌, arith}
 use Rattle.std.specs.Map.{lookup}
 use Rattle.std.specs.Option.{option_or}
 use Rattle.std.specs.Str.{bytes_eq}
-use Rattle.std.proofs.lemmas.List.{map-append, length-map, get_or-append-add}
 use Rattle.std.proofs.lemmas.Bool.Decides.{nat_tests, Decides-eqb}
-use Rattle.std.proofs.Math.Seq.{get_or-append_seam}
 use Rattle.word_core.specs.declared.letter.Letter.{Letter}
 use Rattle.definitions.specs.Quiver.{star}
 use Rattle.quiver.specs.declared.named.Named.{Named}
 use Rattle.quiver.specs.declared.named.Named.TheVariants as named
-use Rattle.quiver.specs.Declarations.{Declaration, object, arrow, name_of, objects_of, letters_of, object_count, letter_count, named_by, named_in, naming_table, object_table, letter_table, LetterEntry, no_object, no_letter, object_at, letter_at, name_at, object_name, letter_name, quiver_of}
-use Rattle.quiver.proofs.Counts.{length-object_table, length-letter_table, object_count-append, letter_count-append}
-use Rattle.quiver.proofs.Growth.{turn, names_from, objects_from, letters_from, object_table-append, letter_table-append, naming_table-append}
+use Rattle.quiver.specs.Declarations.{Declaration, object, arrow, letters_of, object_count, letter_count, named_in, naming_table, letter_at, object_name, letter_name, quiver_of}
+use Rattle.quiver.proofs.Counts.{letter_count-append}
+use Rattle.quiver.proofs.Found.{plus_zero, letter_at-split, object_name-split, letter_name-split}
+use Rattle.quiver.proofs.Growth.{names_from, naming_table-append}
 use Rattle.quiver.proofs.Letters.{star-quiver_of}
 use Rattle.expressions.specs.Names.{letter_number}
 use Rattle.statement_names.proofs.Apart.{Apart, own_bytes}
@@ -21,29 +20,6 @@ use Rattle.statement_names.proofs.Each.{Each}
 use Rattle.statement_names.proofs.Fresh.{fresh_name}
 use Rattle.statement_names.proofs.KindsFound.{same_bytes, lookup-append}
 use Rattle.statement_names.proofs.NamedKinds.{kinds}
-
--- ---- a declaration between others
-module _ (before : List Declaration) (d : Declaration) (after : List Declaration) where
-  name_at-split : name_at (before ++ d ∷ after) (length before) ≡ name_of d
-  name_at-split =
-      ap (λ names. get_or names (length before) []) (map-append name_of before (d ∷ after))
-      ∙ ap (λ n. get_or (map name_of before ++ name_of d ∷ map name_of after) n []) (sym (length-map before name_of))
-      ∙ get_or-append_seam (map name_of before) (name_of d) (map name_of after) []
-
-  object_at-split : (k : ℕ) → object_at (before ++ d ∷ after) (object_count before + k) ≡ get_or (objects_from (length before) (object_count before) (letter_count before) (d ∷ after)) k no_object
-  object_at-split k =
-      ap (λ table. get_or table (object_count before + k) no_object) (object_table-append before (d ∷ after))
-      ∙ ap (λ n. get_or (object_table before ++ objects_from (length before) (object_count before) (letter_count before) (d ∷ after)) (n + k) no_object) (sym (length-object_table before))
-      ∙ get_or-append-add (object_table before) (objects_from (length before) (object_count before) (letter_count before) (d ∷ after)) k no_object
-
-  letter_at-split : (k : ℕ) → letter_at (before ++ d ∷ after) (letter_count before + k) ≡ get_or (letters_from (length before) (object_count before) (letter_count before) (d ∷ after)) k no_letter
-  letter_at-split k =
-      ap (λ table. get_or table (letter_count before + k) no_letter) (letter_table-append before (d ∷ after))
-      ∙ ap (λ n. get_or (letter_table before ++ letters_from (length before) (object_count before) (letter_count before) (d ∷ after)) (n + k) no_letter) (sym (length-letter_table before))
-      ∙ get_or-append-add (letter_table before) (letters_from (length before) (object_count before) (letter_count before) (d ∷ after)) k no_letter
-
-plus_zero : (n : ℕ) → n ≡ n + 0
-plus_zero n = omega arith
 
 -- ---- an object by its number
 pub record ObjectAt (ds : List Declaration) (v : ℕ) : Type 0 where
@@ -68,11 +44,6 @@ object_split (arrow name x y selfmade ∷ ds) v below =
     record { before = arrow name x y selfmade ∷ later.before; name = later.name; after = later.after; whole = ap (λ es. arrow name x y selfmade ∷ es) later.whole; number = next }
 
 -- its name stands for it
-object_name-split : (before : List Declaration) (name : List ℕ) (after : List Declaration) → object_name (before ++ object name ∷ after) (object_count before) ≡ name
-object_name-split before name after =
-    ap (object_name (before ++ object name ∷ after)) (plus_zero (object_count before))
-    ∙ ap (λ e. name_at (before ++ object name ∷ after) e.declaration) (object_at-split before (object name) after 0) ∙ name_at-split before (object name) after
-
 named_in-split : (before : List Declaration) (name : List ℕ) (after : List Declaration) → Apart (kinds (before ++ object name ∷ after))
     → named_in (before ++ object name ∷ after) name ≡ Some (named.Object (record { 0 = object_count before }))
 named_in-split before name after apart =
@@ -87,7 +58,7 @@ named_object ds apart v below =
     let split = at.before ++ object at.name ∷ at.after in
     subst (λ es. named_in es (object_name es v) ≡ Some (named.Object (record { 0 = v }))) (sym at.whole)
     (subst (λ n. named_in split (object_name split n) ≡ Some (named.Object (record { 0 = n }))) (sym at.number)
-    (ap (named_in split) (object_name-split at.before at.name at.after)
+    (ap (named_in split) (ap (object_name split) (plus_zero (object_count at.before)) ∙ object_name-split at.before at.name at.after)
     ∙ named_in-split at.before at.name at.after (subst (λ es. Apart (kinds es)) at.whole apart)))
 
 -- ---- a map by its name
@@ -156,17 +127,6 @@ module _ (before : List Declaration) (q : List ℕ) (u v : ℕ) (after : List De
   letter_in_range : (own : Bool) (k : ℕ) → k < letters_of (arrow q u v own) → letter_count before + k < letter_count (before ++ arrow q u v own ∷ after)
   letter_in_range own k below = omega (arith, letter_count-append before (arrow q u v own ∷ after))
 
-  letter_name-split : (own : Bool) (k : ℕ) → k < letters_of (arrow q u v own) → letter_name (before ++ arrow q u v own ∷ after) (letter_count before + k) ≡ q
-  letter_name-split own k below =
-      ap (name_at (before ++ arrow q u v own ∷ after)) (declaration own k below) ∙ name_at-split before (arrow q u v own) after
-    where
-      declaration : (own : Bool) (k : ℕ) → k < letters_of (arrow q u v own) → (letter_at (before ++ arrow q u v own ∷ after) (letter_count before + k)).declaration ≡ length before
-      declaration true zero below = ap (λ e. e.declaration) (letter_at-split before (arrow q u v true) after 0)
-      declaration true (suc k) below = absurd (omega arith)
-      declaration false zero below = ap (λ e. e.declaration) (letter_at-split before (arrow q u v false) after 0)
-      declaration false (suc zero) below = ap (λ e. e.declaration) (letter_at-split before (arrow q u v false) after 1)
-      declaration false (suc (suc k)) below = absurd (omega arith)
-
   star-split : (own : Bool) → star (quiver_of (before ++ arrow q u v own ∷ after)) (letter_count before) ≡ (if own then letter_count before else letter_count before + 1)
   star-split own =
       let ds = before ++ arrow q u v own ∷ after in
@@ -195,14 +155,14 @@ first_letters : (before : List Declaration) (q : List ℕ) (u v : ℕ) (own : Bo
 first_letters before q u v true after =
     let ds = before ++ arrow q u v true ∷ after in (
       subst (IsLetterOf ds q) (sym (plus_zero (letter_count before)))
-          (record { in_range = letter_in_range before q u v after true 0 (omega arith); named = letter_name-split before q u v after true 0 (omega arith) }),
+          (record { in_range = letter_in_range before q u v after true 0 (omega arith); named = letter_name-split before (arrow q u v true) after 0 (omega arith) }),
       tt,
     )
 first_letters before q u v false after =
     let ds = before ++ arrow q u v false ∷ after in (
       subst (IsLetterOf ds q) (sym (plus_zero (letter_count before)))
-          (record { in_range = letter_in_range before q u v after false 0 (omega arith); named = letter_name-split before q u v after false 0 (omega arith) }),
-      (record { in_range = letter_in_range before q u v after false 1 (omega arith); named = letter_name-split before q u v after false 1 (omega arith) }, tt),
+          (record { in_range = letter_in_range before q u v after false 0 (omega arith); named = letter_name-split before (arrow q u v false) after 0 (omega arith) }),
+      (record { in_range = letter_in_range before q u v after false 1 (omega arith); named = letter_name-split before (arrow q u v false) after 1 (omega arith) }, tt),
     )
 
 -- what the letter is that the name of a map stands for
