@@ -5,8 +5,9 @@ use Rattle.cofactor_trace.specs.Needed.{IsRecord}
 use Rattle.cofactor_trace.specs.Lemmas.{direct_of, is_lemma, lemma_at}
 use Rattle.cofactor_trace.specs.Naming.{records}
 use Rattle.cofactor_trace.proofs.Lists.{all_front, last_in}
-use Rattle.cofactor_trace.proofs.NamingLaws.{taken, lemmas_before, goes_on, starts, all_named, all_found, are_records}
+use Rattle.cofactor_trace.proofs.NamingLaws.{IsTaken, taken, lemmas_before, goes_on, starts, all_named, all_found, are_records}
 use Rattle.cofactor_trace.proofs.naming.name_rules.Goals as goal
+use Rattle.cofactor_trace.proofs.naming.name_rules.Goals.{After-index-made-number}
 
 pub loop-number-init : goal.loop-number-init
 loop-number-init c =
@@ -17,55 +18,42 @@ loop-number-init c =
       in_range = c.in_ok-numbers.ensures.in_range;
     }
 
-pub overflow_sub-number : goal.overflow_sub-number
-overflow_sub-number c =
+-- the record is taken
+at_hand : (c : After-index-made-number)
+    → IsTaken c.args.made.now c.args.target.now c.pop.new.self.items c.in-Some.number c.index-made-number.result c.loop-number.replacements.items (records c.loop-number.lemmas.items)
+at_hand c =
     let removed : c.loop-number.numbers.items ≡ c.pop.new.self.items ++ c.in-Some.number ∷ [] = search rules in
-    (taken c.args.made.now c.args.target.now c.loop-number.numbers.items c.pop.new.self.items c.in-Some.number c.loop-number.replacements.items (records c.loop-number.lemmas.items) removed c.loop-number.invariant.under_way).0
+    (taken c.args.made.now c.args.target.now c.loop-number.numbers.items c.pop.new.self.items c.in-Some.number c.loop-number.replacements.items (records c.loop-number.lemmas.items) removed c.loop-number.invariant.under_way).2
+    c.index-made-number.result c.index-made-number.is
+
+pub overflow_sub-number : goal.overflow_sub-number
+overflow_sub-number c = (taken c.args.made.now c.args.target.now c.loop-number.numbers.items c.pop.new.self.items c.in-Some.number c.loop-number.replacements.items (records c.loop-number.lemmas.items) (search rules) c.loop-number.invariant.under_way).0
 
 pub bounds-made-number : goal.bounds-made-number
-bounds-made-number c =
-    let removed : c.loop-number.numbers.items ≡ c.pop.new.self.items ++ c.in-Some.number ∷ [] = search rules in
-    (taken c.args.made.now c.args.target.now c.loop-number.numbers.items c.pop.new.self.items c.in-Some.number c.loop-number.replacements.items (records c.loop-number.lemmas.items) removed c.loop-number.invariant.under_way).1
+bounds-made-number c = (taken c.args.made.now c.args.target.now c.loop-number.numbers.items c.pop.new.self.items c.in-Some.number c.loop-number.replacements.items (records c.loop-number.lemmas.items) (search rules) c.loop-number.invariant.under_way).1
 
 pub name_rule-requires : goal.name_rule-requires
 name_rule-requires c =
-    let made = c.args.made.now in
-    let target = c.args.target.now in
+    let items = c.loop-number.lemmas.items in
     let front = c.pop.new.self.items in
     let number = c.in-Some.number in
-    let table = c.loop-number.replacements.items in
-    let lemmas = records c.loop-number.lemmas.items in
-    let m = c.index-made-number.result in
     let removed : c.loop-number.numbers.items ≡ front ++ number ∷ [] = search rules in
-    let t = (taken made target c.loop-number.numbers.items front number table lemmas removed c.loop-number.invariant.under_way).2 m c.index-made-number.is in
-    let before = lemmas_before made target front number m table lemmas t in
-    let sized : length lemmas ≡ length c.loop-number.lemmas.items = length-map c.loop-number.lemmas.items (λ m. m.now) in
+    let before = lemmas_before c.args.made.now c.args.target.now front number c.index-made-number.result c.loop-number.replacements.items (records items) (at_hand c) in
+    let sized : length (records items) ≡ length items = length-map items (λ m. m.now) in
     let small : number < 2 ^ 32 = last_in (λ n. n < 2 ^ 32) c.loop-number.numbers.items front number removed c.loop-number.invariant.in_range in
     omega (arith, before, sized, small)
 
 pub overflow_sub-number-in-Some : goal.overflow_sub-number-in-Some
-overflow_sub-number-in-Some c =
-    let removed : c.loop-number.numbers.items ≡ c.pop.new.self.items ++ c.in-Some.number ∷ [] = search rules in
-    (taken c.args.made.now c.args.target.now c.loop-number.numbers.items c.pop.new.self.items c.in-Some.number c.loop-number.replacements.items (records c.loop-number.lemmas.items) removed c.loop-number.invariant.under_way).0
+overflow_sub-number-in-Some c = (at_hand (goal.at.overflow_sub-number-in-Some c).After-index-made-number).positive
 
 pub index_mut-requires : goal.index_mut-requires
 index_mut-requires c =
-    let made = c.args.made.now in
-    let target = c.args.target.now in
-    let front = c.pop.new.self.items in
-    let number = c.in-Some.number in
-    let table = c.loop-number.replacements.items in
-    let lemmas = records c.loop-number.lemmas.items in
-    let m = c.index-made-number.result in
-    let removed : c.loop-number.numbers.items ≡ front ++ number ∷ [] = search rules in
-    let t = (taken made target c.loop-number.numbers.items front number table lemmas removed c.loop-number.invariant.under_way).2 m c.index-made-number.is in
-    let inside : number - 1 < length table = subst (λ n. number - 1 < n) (sym t.sized) t.inside in
+    let t = at_hand (goal.at.index_mut-requires c).After-index-made-number in
+    let inside : c.in-Some.number - 1 < length c.loop-number.replacements.items = subst (λ n. c.in-Some.number - 1 < n) (sym t.sized) t.inside in
     search (rules, inside)
 
 pub loop-number-preserved : goal.loop-number-preserved
 loop-number-preserved c =
-    let made = c.args.made.now in
-    let target = c.args.target.now in
     let front = c.pop.new.self.items in
     let number = c.in-Some.number in
     let table = c.loop-number.replacements.items in
@@ -73,13 +61,13 @@ loop-number-preserved c =
     let more = records c.name_rule.new.lemmas.items in
     let m = c.index-made-number.result in
     let removed : c.loop-number.numbers.items ≡ front ++ number ∷ [] = search rules in
-    let t = (taken made target c.loop-number.numbers.items front number table lemmas removed c.loop-number.invariant.under_way).2 m c.index-made-number.is in
+    let t = at_hand (goal.at.loop-number-preserved c).After-index-made-number in
     let sized : length c.loop-number.lemmas.items ≡ length lemmas = sym (length-map c.loop-number.lemmas.items (λ m. m.now)) in
     let value : c.in_ok-replacements-2.field-0 ≡ unwrap_or (direct_of m) (lemma_at (length lemmas + 1)) =
     c.in_ok-replacements-2.ensures.exact ∙ ap (λ n. unwrap_or (direct_of m) (lemma_at (n + 1))) sized in
     let pushed : more ≡ lemmas ++ filter is_lemma (m ∷ []) = c.in_ok-replacements-2.ensures.lemmas in
     record {
-      under_way = goes_on made target front number m table lemmas t (set table (number - 1) c.in_ok-replacements-2.field-0) more (ap (set table (number - 1)) value) pushed;
+      under_way = goes_on c.args.made.now c.args.target.now front number m table lemmas t (set table (number - 1) c.in_ok-replacements-2.field-0) more (ap (set table (number - 1)) value) pushed;
       in_range = all_front (λ n. n < 2 ^ 32) c.loop-number.numbers.items front number removed c.loop-number.invariant.in_range;
     }
 
@@ -95,8 +83,4 @@ returns-clause-named c =
 
 pub returns-clause-are_records : goal.returns-clause-are_records
 returns-clause-are_records c =
-    let made = c.args.made.now in
-    let none : c.loop-number.numbers.items ≡ [] = search rules in
-    subst (All (IsRecord (length made)))
-    (sym (all_found made c.args.target.now c.loop-number.numbers.items c.loop-number.replacements.items (records c.loop-number.lemmas.items) none c.loop-number.invariant.under_way))
-    (are_records made c.args.target.now c.requires.records)
+    subst (All (IsRecord (length c.args.made.now))) (sym (returns-clause-lemmas c)) (are_records c.args.made.now c.args.target.now c.requires.records)

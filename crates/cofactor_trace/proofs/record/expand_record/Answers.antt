@@ -10,8 +10,47 @@ use Rattle.cofactor_trace.specs.Faults.{IsFirst, IsOverflowOf}
 use Rattle.cofactor_trace.specs.Needed.{known_from}
 use Rattle.cofactor_trace.specs.Table.{with_rows, rows_in}
 use Rattle.cofactor_trace.proofs.Divisors.{product_positive, quotient_positive, content-first}
-use Rattle.cofactor_trace.proofs.RecordLaws.{IsCommon, AddsUp, at_common, at_denominator, at_limits, at_rows, at_gathering, at_end}
+use Rattle.cofactor_trace.proofs.RecordLaws.{IsCommon, Begins, AddsUp, at_common, at_denominator, at_limits, at_rows, at_gathering, at_end}
 use Rattle.cofactor_trace.proofs.record.expand_record.Goals as goal
+use Rattle.cofactor_trace.proofs.record.expand_record.Goals.{In_ok-denominator, In_ok-check_limits, In_ok-sums}
+
+-- the least common multiple is found, and the denominator is a coefficient
+begins : (c : In_ok-denominator) → Begins (known_from c.args.expansions.now.entries) c.args.made.now c.as_slice-rows.result.now c.in_ok-common.common
+begins c = record {
+  found = record { same_rows = c.as_slice-rows.ensures; products = c.in_ok-common.ensures.exact.0; value = c.in_ok-common.ensures.exact.1 };
+  fits = search rules;
+}
+
+-- the number that the later calls take is the least common multiple
+same_common : (c : In_ok-denominator) → to_z w128 (of_z w128 c.in_ok-common.common) ≡ c.in_ok-common.common
+same_common c = search rules
+
+denominator_positive : (c : In_ok-denominator) → pos 0 <ℤ c.in_ok-denominator.denominator
+denominator_positive c =
+    let product : c.in_ok-denominator.denominator ≡ c.args.made.now.scale *ℤ c.in_ok-common.common = search rules in
+    let common_in : pos 0 <ℤ c.in_ok-common.common = search rules in
+    subst (λ z. pos 0 <ℤ z) (sym product) (product_positive c.args.made.now.scale c.in_ok-common.common c.requires.positive common_in)
+
+-- the limits are kept
+short : (c : In_ok-check_limits) → limit_fault (joined (known_from c.args.expansions.now.entries) c.in_ok-common.common c.as_slice-rows.result.now) ≡ None
+short c =
+    let same : to_z w128 (of_z w128 c.in_ok-common.common) ≡ c.in_ok-common.common = search rules in
+    subst (λ z. limit_fault (joined (known_from c.args.expansions.now.entries) z c.as_slice-rows.result.now) ≡ None) same c.in_ok-check_limits.ensures
+
+-- and the rows are added up
+adds_up : (c : In_ok-sums) → Begins (known_from c.args.expansions.now.entries) c.args.made.now c.as_slice-rows.result.now c.in_ok-common.common
+    → limit_fault (joined (known_from c.args.expansions.now.entries) c.in_ok-common.common c.as_slice-rows.result.now) ≡ None
+    → AddsUp (known_from c.args.expansions.now.entries) c.args.made.now c.as_slice-rows.result.now c.in_ok-common.common c.in_ok-sums.sums.entries
+adds_up c begun kept =
+    let known = known_from c.args.expansions.now.entries in
+    let rows = c.as_slice-rows.result.now in
+    let same : to_z w128 (of_z w128 c.in_ok-common.common) ≡ c.in_ok-common.common = search rules in
+    record {
+      begins = begun;
+      short = kept;
+      products = subst (λ z. overflow_in (joined_products known z rows) ≡ None) same c.in_ok-sums.ensures.exact;
+      entries_are = subst (λ z. c.in_ok-sums.sums.entries ≡ with_rows [] (joined known z rows)) same c.in_ok-sums.ensures.added;
+    }
 
 pub returns-in_err-common-clause-exact : goal.returns-in_err-common-clause-exact
 returns-in_err-common-clause-exact c =
@@ -33,69 +72,45 @@ returns-in_err-denominator-clause-exact c =
 
 pub returns-in_err-check_limits-clause-exact : goal.returns-in_err-check_limits-clause-exact
 returns-in_err-check_limits-clause-exact c =
+    let passed = goal.at.returns-in_err-check_limits-clause-exact c in
     let known = known_from c.args.expansions.now.entries in
-    let m = c.args.made.now in
     let rows = c.as_slice-rows.result.now in
-    let common = c.in_ok-common.common in
-    let found : IsCommon known m rows common = record { same_rows = c.as_slice-rows.ensures; products = c.in_ok-common.ensures.exact.0; value = c.in_ok-common.ensures.exact.1 } in
-    let fits : IsCoefficient (m.scale *ℤ common) = search rules in
     let e = c.in_err-check_limits.field-0.0 in
-    let same : to_z w128 (of_z w128 common) ≡ common = search rules in
-    let stopped = subst (λ z. IsFirst (limit_fault (joined known z rows)) e) same c.in_err-check_limits.ensures in
+    let stopped = subst (λ z. IsFirst (limit_fault (joined known z rows)) e) (same_common passed.In_ok-denominator) c.in_err-check_limits.ensures in
     let back : c.from_residual-in_err-check_limits.result ≡ Err e = search rules in
-    rw back (at_limits known m rows common e (record { found = found; fits = fits }) stopped)
+    rw back (at_limits known c.args.made.now rows c.in_ok-common.common e (begins passed.In_ok-denominator) stopped)
 
 pub returns-in_err-sums-clause-exact : goal.returns-in_err-sums-clause-exact
 returns-in_err-sums-clause-exact c =
+    let passed = goal.at.returns-in_err-sums-clause-exact c in
     let known = known_from c.args.expansions.now.entries in
-    let m = c.args.made.now in
     let rows = c.as_slice-rows.result.now in
-    let common = c.in_ok-common.common in
-    let found : IsCommon known m rows common = record { same_rows = c.as_slice-rows.ensures; products = c.in_ok-common.ensures.exact.0; value = c.in_ok-common.ensures.exact.1 } in
-    let fits : IsCoefficient (m.scale *ℤ common) = search rules in
-    let same : to_z w128 (of_z w128 common) ≡ common = search rules in
-    let short = subst (λ z. limit_fault (joined known z rows) ≡ None) same c.in_ok-check_limits.ensures in
     let e = c.in_err-sums.field-0.0 in
-    let stopped = subst (λ z. IsFirst (overflow_in (joined_products known z rows)) e) same c.in_err-sums.ensures.exact in
+    let stopped = subst (λ z. IsFirst (overflow_in (joined_products known z rows)) e) (same_common passed.In_ok-denominator) c.in_err-sums.ensures.exact in
     let back : c.from_residual-in_err-sums.result ≡ Err e = search rules in
-    rw back (at_rows known m rows common e (record { found = found; fits = fits }) short stopped)
+    rw back (at_rows known c.args.made.now rows c.in_ok-common.common e (begins passed.In_ok-denominator) (short passed.In_ok-check_limits) stopped)
 
 pub returns-in_err-gathered-clause-exact : goal.returns-in_err-gathered-clause-exact
 returns-in_err-gathered-clause-exact c =
-    let known = known_from c.args.expansions.now.entries in
-    let m = c.args.made.now in
-    let rows = c.as_slice-rows.result.now in
-    let common = c.in_ok-common.common in
+    let passed = goal.at.returns-in_err-gathered-clause-exact c in
+    let added = adds_up passed.In_ok-sums (begins passed.In_ok-denominator) (short passed.In_ok-check_limits) in
     let entries = c.in_ok-sums.sums.entries in
-    let found : IsCommon known m rows common = record { same_rows = c.as_slice-rows.ensures; products = c.in_ok-common.ensures.exact.0; value = c.in_ok-common.ensures.exact.1 } in
-    let fits : IsCoefficient (m.scale *ℤ common) = search rules in
-    let same : to_z w128 (of_z w128 common) ≡ common = search rules in
-    let short = subst (λ z. limit_fault (joined known z rows) ≡ None) same c.in_ok-check_limits.ensures in
-    let products = subst (λ z. overflow_in (joined_products known z rows) ≡ None) same c.in_ok-sums.ensures.exact in
-    let entries_are = subst (λ z. entries ≡ with_rows [] (joined known z rows)) same c.in_ok-sums.ensures.added in
-    let adds_up : AddsUp known m rows common entries = record { begins = record { found = found; fits = fits }; short = short; products = products; entries_are = entries_are } in
     let e = c.in_err-gathered.field-0.0 in
     let stopped : IsOverflowOf (rows_in entries) e = search rules in
     let back : c.from_residual-in_err-gathered.result ≡ Err e = search rules in
-    rw back (at_gathering known m rows common entries e adds_up stopped)
+    rw back (at_gathering (known_from c.args.expansions.now.entries) c.args.made.now c.as_slice-rows.result.now c.in_ok-common.common entries e added stopped)
 
 pub content-by-requires-clause-positive : goal.content-by-requires-clause-positive
 content-by-requires-clause-positive c =
-    let m = c.args.made.now in
-    let product : c.in_ok-denominator.denominator ≡ m.scale *ℤ c.in_ok-common.common = search rules in
-    let common_in : pos 0 <ℤ c.in_ok-common.common = search rules in
-    let positive : pos 0 <ℤ c.in_ok-denominator.denominator = subst (λ z. pos 0 <ℤ z) (sym product) (product_positive m.scale c.in_ok-common.common c.requires.positive common_in) in
+    let positive = denominator_positive (goal.at.content-by-requires-clause-positive c).In_ok-denominator in
     search (rules, positive)
 
 pub returns-clause-ranged : goal.returns-clause-ranged
 returns-clause-ranged c =
-    let m = c.args.made.now in
-    let product : c.in_ok-denominator.denominator ≡ m.scale *ℤ c.in_ok-common.common = search rules in
-    let common_in : pos 0 <ℤ c.in_ok-common.common = search rules in
     let d = c.in_ok-denominator.denominator in
     let gathered = c.in_ok-gathered.gathered in
     let by = c.content-by.result in
-    let d_in : pos 0 <ℤ d = subst (λ z. pos 0 <ℤ z) (sym product) (product_positive m.scale c.in_ok-common.common c.requires.positive common_in) in
+    let d_in = denominator_positive (goal.at.returns-clause-ranged c).In_ok-denominator in
     let by_is : by ≡ content_of d gathered = search rules in
     let by_in : pos 0 <ℤ by = search rules in
     let divides : unsigned_abs by ∣ unsigned_abs d = subst (λ g. unsigned_abs g ∣ unsigned_abs d) (sym by_is) (content-first d (map (λ r. r.coef) gathered)) in
@@ -105,27 +120,18 @@ returns-clause-ranged c =
 
 pub returns-clause-exact : goal.returns-clause-exact
 returns-clause-exact c =
-    let known = known_from c.args.expansions.now.entries in
-    let m = c.args.made.now in
-    let rows = c.as_slice-rows.result.now in
-    let common = c.in_ok-common.common in
+    let passed = goal.at.returns-clause-exact c in
+    let added = adds_up passed.In_ok-sums (begins passed.In_ok-denominator) (short passed.In_ok-check_limits) in
     let entries = c.in_ok-sums.sums.entries in
     let gathered = c.in_ok-gathered.gathered in
-    let found : IsCommon known m rows common = record { same_rows = c.as_slice-rows.ensures; products = c.in_ok-common.ensures.exact.0; value = c.in_ok-common.ensures.exact.1 } in
-    let fits : IsCoefficient (m.scale *ℤ common) = search rules in
-    let same : to_z w128 (of_z w128 common) ≡ common = search rules in
-    let short = subst (λ z. limit_fault (joined known z rows) ≡ None) same c.in_ok-check_limits.ensures in
-    let products = subst (λ z. overflow_in (joined_products known z rows) ≡ None) same c.in_ok-sums.ensures.exact in
-    let entries_are = subst (λ z. entries ≡ with_rows [] (joined known z rows)) same c.in_ok-sums.ensures.added in
-    let adds_up : AddsUp known m rows common entries = record { begins = record { found = found; fits = fits }; short = short; products = products; entries_are = entries_are } in
     let ends : rows_in entries ≡ Ok gathered = search rules in
-    let d = m.scale *ℤ common in
+    let d = c.args.made.now.scale *ℤ c.in_ok-common.common in
     let d_is : c.in_ok-denominator.denominator ≡ d = search rules in
     let by = c.content-by.result in
     let by_is : by ≡ content_of d gathered = search rules in
     let quotient_is : c.quotient.result ≡ int_div d by = search rules in
     let rows_are : c.in_ok-divide_rows.field-0 ≡ map (divided_row by) gathered = search rules in
     let same_quotient : to_z w128 (of_z w128 c.quotient.result) ≡ c.quotient.result = search rules in
-    at_end known m rows common entries gathered adds_up ends
+    at_end (known_from c.args.expansions.now.entries) c.args.made.now c.as_slice-rows.result.now c.in_ok-common.common entries gathered added ends
     ∙ ap (λ g. Ok (record { denominator = int_div d g; rows = map (divided_row g) gathered })) (sym by_is)
     ∙ ap₂ (λ q l. Ok (record { denominator = q; rows = l })) (sym (same_quotient ∙ quotient_is)) (sym rows_are)
