@@ -17,6 +17,7 @@ from pathlib import Path
 from typing import Callable, Iterator, List, Tuple
 
 sys.dont_write_bytecode = True
+import measure
 import try_models
 from trying import CONTRIB, EXAMPLES, PROGRAM, Answer, Failed, Skipped, installed, need, run
 
@@ -245,6 +246,19 @@ def latex(folder: Path) -> str:
     return f"{len(body)} identities are typeset by pdflatex"
 
 
+def plain(folder: Path) -> str:
+    """The program that opprove is measured by, and a row of the table where opprove is built."""
+    program = measure.build_plain(folder)
+    cases = [words for words in stored() if words[0].stem in ("pasted_squares", "equal_maps", "halved")]
+    for statement, evidence in cases:
+        answer = run(program, statement, evidence)
+        need((answer.status == 0) == ("refused" not in evidence.stem), (evidence, answer))
+    if os.access(PROGRAM, os.X_OK):
+        answer = run(sys.executable, CONTRIB / "measure.py", "growth: 10")
+        need(answer.status == 0 and answer.out.count("\n") == 3, answer)
+    return f"{len(cases)} certificates are answered right by plain.rs"
+
+
 def manual() -> str:
     answer = run(installed("man"), "--warnings", "-E", "UTF-8", "-l", "-Tutf8", "-Z", CONTRIB / "opprove.1")
     need(answer.status == 0 and not answer.error, answer)
@@ -291,7 +305,7 @@ def main(words: List[str]) -> int:
             lambda: try_models.example_searches(folder),
             lambda: singular(folder), lambda: sympy(folder), cofactors, lambda: latex(folder), manual,
             shell("bash", "opprove.bash"), shell("zsh", "_opprove"), shell("fish", "opprove.fish"),
-            lambda: vim(folder), grammars,
+            lambda: vim(folder), grammars, lambda: plain(folder),
         ]  # fmt: skip
         for check in checker if words == ["checker"] else checker + others:
             try:

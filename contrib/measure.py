@@ -1,0 +1,273 @@
+#!/usr/bin/env python3
+"""Measures opprove beside a plain program: measure.py [WORD]
+
+Makes statements and certificates that are small and cost much, or are as large as may be, runs `opprove check` and
+contrib/plain.rs on each, and prints a table in Markdown: processor time and peak memory of both, the least of three
+runs or of those that begin within ten seconds, and the quotient of the times. With a word it makes the rows alone whose
+name begins with it. It wants rustc and the program that is built, or another one that the variable OPPROVE names. A run
+may take 8 GB of memory. Memory is seen from that of this script upwards.
+"""
+from __future__ import annotations
+
+import itertools
+import os
+import resource
+import string
+import sys
+import tempfile
+from pathlib import Path
+from typing import Callable, Iterator, List, NamedTuple, Optional, Tuple
+
+sys.dont_write_bytecode = True
+from trying import CONTRIB, PROGRAM, Failed, Skipped, installed, need, run
+
+OPPROVE = Path(os.environ.get("OPPROVE", PROGRAM))
+RUNS, PATIENCE, MEMORY_LIMIT = 3, 10, 8 * 10**9
+STATEMENT_LIMIT, EVIDENCE_LIMIT = 2**20, 2**26
+FINE, NO_MEMORY, REFUSED = 0, 6, 7
+MAPS = string.ascii_lowercase + "A"
+HEAD = f"object U\nmap {' '.join(MAPS)} : U -> U\n"
+ZERO_CLAIM = "claim a = a\n"
+
+Text = Iterator[str]
+
+
+class Case(NamedTuple):
+    name: str
+    statement: Callable[[], Text]
+    evidence: Optional[Callable[[], Text]] = None
+    answer: str = "# refused K7\n"  # how the report of opprove begins
+    plain_status: int = FINE
+
+
+class Usage(NamedTuple):
+    status: int
+    seconds: float
+    megabytes: float
+
+
+# ---- Statements
+
+POWER = "(a+b)" * 14  # 16,384 terms
+CUBE = f"({'+'.join(MAPS)})" * 3  # 19,683 terms
+WORDS = [word for count in (1, 2, 3) for word in itertools.product(MAPS, repeat=count)]
+
+
+def claim(left: str) -> Callable[[], Text]:
+    return lambda: iter([HEAD, f"claim {left} = 0\n"])
+
+
+def letters(count: int, text: str = " a") -> str:
+    return text * count
+
+
+def long_sum() -> Text:
+    """A sum of 19,990 words, and then a letter added and taken off to the end of the file."""
+    front = f"{HEAD}claim {'+'.join(' '.join(word) for word in WORDS[:19_990])}"
+    yield front
+    yield "+a-a" * ((STATEMENT_LIMIT - len(front) - len(" = 0\n")) // 4)
+    yield " = 0\n"
+
+
+def powers_of_one() -> str:
+    """Forty words, times seven sums of the powers up to the 64th of one letter, every other one with changing signs."""
+    powers = [f"{f'(a{sign}a' * 63}(a){')' * 63}" for sign in "+-"]
+    return f"({'+'.join(' '.join(word) for word in WORDS[:40])})" + "".join((powers * 4)[:7])
+
+
+def nested(level: str, count: int) -> str:
+    """A polynomial of 16,384 terms in so many brackets."""
+    return "(" * count + POWER + level * count
+
+
+def assumptions(count: int, length: int) -> Callable[[], Text]:
+    """Assumptions of 16,384 terms, each word of which has so many letters."""
+    line = f"assume {POWER}{letters(length - 14)} = 0\n"
+    return lambda: itertools.chain([HEAD], itertools.repeat(line, count), [ZERO_CLAIM])
+
+
+STATEMENTS = [
+    *(Case(f"growth: {count} brackets `(a+b)`", claim("(a+b)" * count)) for count in range(10, 15)),
+    Case("word: 14 brackets and 20 letters behind", claim(POWER + letters(20))),
+    Case("word: 19,683 terms and 480 letters behind", claim(CUBE + letters(480))),
+    Case("word: 19,683 terms and 300 times `(a)` behind", claim(CUBE + letters(300, "(a)"))),
+    Case("sum: 19,990 terms and then `+a-a` up to 1 MiB", long_sum),
+    Case("cancel: 16,384 terms less themselves, 20 times", claim("+".join([f"({POWER}-{POWER})"] * 20))),
+    Case("cancel: seven sums of powers of one letter", claim(powers_of_one())),
+    Case("nested: 16,384 terms in 64 brackets", claim(nested(")", 63))),
+    Case("nested: the same, `+c-c` in each", claim(nested("+c-c)", 63))),
+    Case("nested: the same, `c` behind each", claim(nested(")c", 63))),
+    Case("marks: 16,384 terms and 64 times `'`", claim(f"({POWER}){chr(39) * 64}")),
+    Case("three: `(a+..)(a+..)(a+..)` of 27 letters each", claim(CUBE)),
+    *(
+        Case(f"assumptions: 500 of 16,384 words of {length} letters", assumptions(500, length))
+        for length in (20, 100, 200, 500)
+    ),
+]
+
+
+# ---- Evidence
+
+
+def of(*lines: str) -> Callable[[], Text]:
+    return lambda: iter([HEAD, *(line + "\n" for line in lines), ZERO_CLAIM])
+
+
+CYCLE = of("assume a = b", "assume b = c", "assume c = a")
+START = "certificate {}\nclaim 1\ndenominator 1\n"
+END = "end\n"
+
+
+def word(number: int, length: int) -> str:
+    """The word with this number among those of so many letters; words that follow each other stand far apart."""
+    number = number * 7919 % 26**length
+    return " ".join(MAPS[number // 26**place % 26] for place in range(length))
+
+
+def distinct_rows() -> Text:
+    """Each word with the three generators of a cycle, whose sum is zero: 199,998 rows of five letters."""
+    yield START.format(1)
+    for generator in (1, 2, 3):
+        for number in range(66_666):
+            text = word(number, 5)
+            yield f"row 1 ({text[:3]}) {generator} ({text[4:]})\n"
+    yield END
+
+
+def rows_in_turn(count: int, words: List[Tuple[str, str]]) -> Text:
+    """Rows over the first generator with these words, which are added and then taken off, again and again."""
+    yield START.format(1)
+    for number in range(count):
+        turn, place = divmod(number, len(words))
+        left, right = words[place]
+        yield f"row {-1 if turn % 2 else 1} ({left}) 1 ({right})\n"
+    yield END
+
+
+def few_words() -> Text:
+    return rows_in_turn(200_000, [("", ""), ("a", ""), ("", "b"), ("a", "b")])
+
+
+def large_generators() -> Text:
+    return rows_in_turn(200, [(" ".join("a" * count), "") for count in range(10)])
+
+
+def many_blocks() -> Text:
+    """A hundred blocks in 64 MiB, each of words of four letters that are added and then taken off."""
+    row = len("row -1 (a b) 1 (c d)\n")
+    count = (EVIDENCE_LIMIT // 100 - len(START.format(1) + END)) // (2 * row)
+    words = [(text[:3], text[4:]) for text in (word(number, 4) for number in range(count))]
+    return itertools.chain.from_iterable(rows_in_turn(2 * count, words) for _ in range(100))
+
+
+def brackets() -> Text:
+    return itertools.repeat("(" * 2**16, EVIDENCE_LIMIT // 2**16)
+
+
+def long_row() -> Text:
+    yield START.format(1) + "row 1 ("
+    yield from itertools.repeat("a " * 2**15, EVIDENCE_LIMIT // 2**16 - 1)
+    yield ") 1 ()\n" + END
+
+
+def many_lemmas() -> Text:
+    """20,000 lemmas, each from the one before with nine rows, and a goal of 20,000 rows that takes half of them off."""
+    yield START.format(2)
+    for number in range(1, 20_001):
+        rows = [f"row 1 ({word(number, 3)}) 1 ()"]
+        if number > 1:
+            rows += [f"row 1 () lemma {number - 1} ()", f"row -1 ({word(number - 1, 3)}) 1 ()"]
+        rows += [f"row {sign} (a) 1 ({letter})" for sign in (1, -1) for letter in "xyz"]
+        yield f"lemma {number} scale 1\n" + "".join(row + "\n" for row in rows)
+    yield "goal scale 1\n"
+    for number in range(1, 10_001):
+        yield f"row 1 () lemma {number} ()\nrow -1 ({word(number, 3)}) 1 ()\n"
+    yield END
+
+
+ACCEPTED = "# block 1 accepted"
+EVIDENCE = [
+    Case("rows: 200,000 with 1,000,000 letters of distinct words", CYCLE, distinct_rows, ACCEPTED),
+    Case("rows: 200,000 over four words", CYCLE, few_words, ACCEPTED),
+    Case("rows: 200 over a generator of 16,384 terms", of(f"assume {POWER} = 0"), large_generators, ACCEPTED),
+    Case("rows: 100 blocks in 64 MiB", CYCLE, many_blocks, ACCEPTED),
+    Case("lemmas: 20,000 with 200,000 rows", CYCLE, many_lemmas, ACCEPTED),
+    Case("line: 64 MiB of `(`", CYCLE, brackets, "# refused K2 line 1\n", REFUSED),
+    Case("line: a row of 33 million letters", CYCLE, long_row, "# refused K5 line 4 limit 500\n", REFUSED),
+]
+
+
+# ---- Runs
+
+
+def write(path: Path, text: Text) -> int:
+    with path.open("w", newline="\n") as file:
+        file.writelines(text)
+    return path.stat().st_size
+
+
+def measured(words: List[str], out: Path) -> Usage:
+    """One run, whose answer goes to a file. A program that is ended by a signal found no memory."""
+    to_file = (os.POSIX_SPAWN_OPEN, 1, str(out), os.O_WRONLY | os.O_CREAT | os.O_TRUNC, 0o600)
+    silent = (os.POSIX_SPAWN_OPEN, 2, os.devnull, os.O_WRONLY, 0)
+    process = os.posix_spawn(words[0], words, os.environ, file_actions=[to_file, silent])
+    _, ending, usage = os.wait4(process, 0)
+    status = os.WEXITSTATUS(ending) if os.WIFEXITED(ending) else NO_MEMORY
+    return Usage(status, usage.ru_utime + usage.ru_stime, usage.ru_maxrss / 1000)
+
+
+def least(words: List[str], out: Path, status: int, answer: str) -> Usage:
+    """The least of some runs, each of which ends with this status and an answer that begins so, or without memory."""
+    runs: List[Usage] = []
+    while len(runs) < RUNS and sum(usage.seconds for usage in runs) < PATIENCE:
+        runs.append(measured(words, out))
+        text = out.read_text()
+        is_right = runs[-1].status == status and text.startswith(answer)
+        need(is_right or runs[-1].status == NO_MEMORY, (words, runs[-1], text[:200]))
+    return Usage(runs[-1].status, min(usage.seconds for usage in runs), min(usage.megabytes for usage in runs))
+
+
+def told(usage: Usage) -> str:
+    if usage.status == NO_MEMORY:
+        return f"{usage.seconds:.3f} | none left"
+    floor = resource.getrusage(resource.RUSAGE_SELF).ru_maxrss / 1000
+    return f"{usage.seconds:.3f} | {'' if usage.megabytes > 1.05 * floor else 'below '}{usage.megabytes:.0f}"
+
+
+def row(case: Case, plain: str, folder: Path) -> str:
+    """A line of the table."""
+    statement, evidence, out = folder / "statement.op", folder / "evidence.cert", folder / "out"
+    size = write(statement, case.statement()) + write(evidence, case.evidence() if case.evidence else iter(()))
+    files = [str(statement)] + ([str(evidence)] if case.evidence else [])
+    other = least([plain, *files], out, case.plain_status, "")
+    status = FINE if case.answer == ACCEPTED else REFUSED
+    own = least([str(OPPROVE), "check", str(statement), str(evidence)], out, status, case.answer)
+    quotient = "" if NO_MEMORY in (own.status, other.status) else f"{own.seconds / other.seconds:.2f}"
+    return f"| {case.name} | {size:,} | {told(own)} | {told(other)} | {quotient} |"
+
+
+def build_plain(folder: Path) -> str:
+    program = folder / "plain"
+    answer = run(installed("rustc"), "-O", CONTRIB / "plain.rs", "-o", program)
+    need(answer.status == 0, answer.error)
+    return str(program)
+
+
+def main(words: List[str]) -> int:
+    try:
+        need(os.access(OPPROVE, os.X_OK), f"{OPPROVE} is not built")
+        with tempfile.TemporaryDirectory() as name:
+            plain = build_plain(Path(name))
+            resource.setrlimit(resource.RLIMIT_AS, (MEMORY_LIMIT, MEMORY_LIMIT))
+            print("| | bytes | `opprove` s | MB | plain s | MB | quotient |\n|---|---|---|---|---|---|---|")
+            for case in STATEMENTS + EVIDENCE:
+                if case.name.startswith(tuple(words[:1])) or not words:
+                    print(row(case, plain, Path(name)), flush=True)
+    except (Failed, Skipped) as reason:
+        print(reason, file=sys.stderr)
+        return 1
+    return 0
+
+
+if __name__ == "__main__":
+    sys.exit(main(sys.argv[1:]))

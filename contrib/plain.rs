@@ -1,0 +1,498 @@
+//! A plain program to measure `opprove` by: hash maps, and no proofs.
+//!
+//! `plain STATEMENT` multiplies out and prints how many terms each claim has; `plain STATEMENT EVIDENCE` adds up the
+//! certificates of both formats, over statements without adjoints, and says of each whether it gives its claim. It reads
+//! `object`, `map`, `assume` and `claim` with sums, products, brackets, integers and adjoints, and looks neither at
+//! signatures nor at all that a faulty file may hold. `rustc -O contrib/plain.rs` builds it; `measure.py` runs it.
+
+use std::collections::hash_map::Entry;
+use std::collections::HashMap;
+use std::{env, fs, process::ExitCode, str};
+
+type Letter = u16;
+type Word = Box<[Letter]>;
+/// Words with their coefficients, none of which is 0.
+type Polynomial = HashMap<Word, i128>;
+type Answer<T> = Result<T, String>;
+
+const TERM_LIMIT: usize = 20_000;
+const LETTER_LIMIT: usize = 500;
+const DEPTH_LIMIT: usize = 64;
+const SUM_LIMIT: usize = 200_000;
+
+fn main() -> ExitCode {
+    let paths: Vec<String> = env::args().skip(1).collect();
+    let (text, status) = match report(&paths) {
+        Ok(lines) => (lines, 0),
+        Err(fault) => (format!("refused: {fault}\n"), 7),
+    };
+    print!("{text}");
+    ExitCode::from(status)
+}
+
+fn report(paths: &[String]) -> Answer<String> {
+    match paths {
+        [statement] => Ok(claim_sizes(&read_statement(&load(statement)?)?)),
+        [statement, evidence] => {
+            let problem = read_statement(&load(statement)?)?;
+            judge_all(&problem, &load(evidence)?)
+        }
+        _ => Err("usage: plain STATEMENT [EVIDENCE]".to_string()),
+    }
+}
+
+fn load(path: &str) -> Answer<String> {
+    fs::read_to_string(path).map_err(|fault| format!("{path}: {fault}"))
+}
+
+fn claim_sizes(problem: &Problem) -> String {
+    let numbered = (1..).zip(&problem.claims);
+    numbered.map(|(number, claim)| format!("claim {number} terms {}\n", claim.len())).collect()
+}
+
+// ---- Polynomials
+
+/// Adds to the coefficient of a word, and takes the word out where that becomes zero.
+fn add_term(total: &mut Polynomial, word: Word, coefficient: i128) -> Answer<()> {
+    match total.entry(word) {
+        Entry::Vacant(place) => {
+            place.insert(coefficient);
+        }
+        Entry::Occupied(mut place) => match place.get().checked_add(coefficient) {
+            None => return Err("a sum is too large".to_string()),
+            Some(0) => {
+                place.remove();
+            }
+            Some(sum) => *place.get_mut() = sum,
+        },
+    }
+    Ok(())
+}
+
+/// Adds a multiple of a polynomial with a word on each side.
+fn add_multiple(
+    total: &mut Polynomial,
+    factor: i128,
+    left: &[Letter],
+    polynomial: &Polynomial,
+    right: &[Letter],
+) -> Answer<()> {
+    if factor == 0 {
+        return Ok(());
+    }
+    for (middle, coefficient) in polynomial {
+        let multiple = coefficient.checked_mul(factor).ok_or("a product is too large")?;
+        add_term(total, [left, middle, right].concat().into_boxed_slice(), multiple)?;
+    }
+    Ok(())
+}
+
+/// The product of two polynomials with a word between them.
+fn product(left: &Polynomial, between: &[Letter], right: &Polynomial) -> Answer<Polynomial> {
+    let mut total = Polynomial::new();
+    for (word, coefficient) in left {
+        let front = [word, between].concat();
+        add_multiple(&mut total, *coefficient, &front, right, &[])?;
+        check_size(&total)?;
+    }
+    Ok(total)
+}
+
+fn check_size(polynomial: &Polynomial) -> Answer<()> {
+    if polynomial.len() > TERM_LIMIT {
+        return Err(format!("a polynomial has more than {TERM_LIMIT} terms"));
+    }
+    Ok(())
+}
+
+// ---- Statements
+
+/// What a statement says.
+#[derive(Default)]
+struct Problem {
+    /// The letter of each map, and of its adjoint with `'` behind the name.
+    letters: HashMap<String, Letter>,
+    /// The adjoint of each letter.
+    adjoints: Vec<Letter>,
+    is_starred: bool,
+    assumptions: Vec<Polynomial>,
+    claims: Vec<Polynomial>,
+}
+
+impl Problem {
+    /// Numbers the maps of a line `map NAME .. : NAME -> NAME [self]`, each with its adjoint behind it.
+    fn declare(&mut self, line: &str) -> Answer<()> {
+        let (names, ends) = line.split_once(':').ok_or("a map has no ends")?;
+        let is_self = ends.split_whitespace().nth(3) == Some("self");
+        self.is_starred |= is_self;
+        for name in names.split_whitespace() {
+            let letter = self.adjoints.len() as Letter;
+            let adjoint = if is_self { letter } else { letter + 1 };
+            self.adjoints.extend(if is_self { vec![letter] } else { vec![adjoint, letter] });
+            self.letters.insert(name.to_string(), letter);
+            self.letters.insert(format!("{name}'"), adjoint);
+        }
+        Ok(())
+    }
+
+    fn letter(&self, name: &str) -> Answer<Letter> {
+        self.letters.get(name).copied().ok_or_else(|| format!("{name} is no letter"))
+    }
+
+    fn adjoint_word(&self, word: &[Letter]) -> Word {
+        word.iter().rev().map(|letter| self.adjoints[*letter as usize]).collect()
+    }
+
+    fn adjoint(&self, polynomial: &Polynomial) -> Polynomial {
+        polynomial.iter().map(|(word, coefficient)| (self.adjoint_word(word), *coefficient)).collect()
+    }
+}
+
+fn read_statement(text: &str) -> Answer<Problem> {
+    let mut problem = Problem::default();
+    let lines: Vec<(&str, &str)> = text.lines().filter_map(first_word).collect();
+    for (_, rest) in lines.iter().filter(|(word, _)| *word == "map") {
+        problem.declare(rest)?;
+    }
+    for (word, rest) in lines {
+        match word {
+            "object" | "map" => {}
+            "assume" | "claim" => {
+                let polynomial = equation(&mut problem, rest)?;
+                let list = if word == "assume" { &mut problem.assumptions } else { &mut problem.claims };
+                list.push(polynomial);
+            }
+            _ => return Err(format!("the statement {word} is not read")),
+        }
+    }
+    Ok(problem)
+}
+
+/// The first word of a line and what stands behind it, where that is no comment.
+fn first_word(line: &str) -> Option<(&str, &str)> {
+    let text = line.split('#').next()?.trim();
+    let end = text.find(char::is_whitespace).unwrap_or(text.len());
+    (end > 0).then(|| text.split_at(end))
+}
+
+fn equation(problem: &mut Problem, text: &str) -> Answer<Polynomial> {
+    let mut reader = Reader { rest: text.as_bytes(), depth: 0, has_marks: false, problem };
+    let mut left = reader.sum()?;
+    reader.expect(b'=')?;
+    let right = reader.sum()?;
+    if !reader.rest.is_empty() {
+        return Err("an equation goes on behind its end".to_string());
+    }
+    problem.is_starred |= reader.has_marks;
+    add_multiple(&mut left, -1, &[], &right, &[])?;
+    check_size(&left)?;
+    Ok(left)
+}
+
+/// What is left of an equation.
+struct Reader<'a> {
+    rest: &'a [u8],
+    depth: usize,
+    has_marks: bool,
+    problem: &'a Problem,
+}
+
+impl<'a> Reader<'a> {
+    /// The next character that isn't blank, or 0 at the end.
+    fn peek(&mut self) -> u8 {
+        self.rest = self.rest.trim_ascii_start();
+        self.rest.first().copied().unwrap_or(0)
+    }
+
+    fn takes(&mut self, sign: u8) -> bool {
+        let is_there = self.peek() == sign;
+        self.rest = &self.rest[is_there as usize..];
+        is_there
+    }
+
+    fn expect(&mut self, sign: u8) -> Answer<()> {
+        self.takes(sign).then_some(()).ok_or_else(|| format!("no {} where it should be", sign as char))
+    }
+
+    /// The longest run of such bytes.
+    fn run(&mut self, fits: fn(u8) -> bool) -> Answer<&'a str> {
+        let end = self.rest.iter().position(|byte| !fits(*byte)).unwrap_or(self.rest.len());
+        let (run, rest) = self.rest.split_at(end);
+        self.rest = rest;
+        str::from_utf8(run).map_err(|fault| fault.to_string())
+    }
+
+    fn sign(&mut self) -> Option<i128> {
+        if self.takes(b'-') {
+            return Some(-1);
+        }
+        self.takes(b'+').then_some(1)
+    }
+
+    fn sum(&mut self) -> Answer<Polynomial> {
+        let mut total = Polynomial::new();
+        let mut sign = self.sign().unwrap_or(1);
+        loop {
+            self.add_product(&mut total, sign)?;
+            check_size(&total)?;
+            match self.sign() {
+                Some(next) => sign = next,
+                None => return Ok(total),
+            }
+        }
+    }
+
+    /// Adds a term. Letters beside each other are one word, by which the brackets are multiplied.
+    fn add_product(&mut self, total: &mut Polynomial, sign: i128) -> Answer<()> {
+        let literal = self.literal()?;
+        let factor = sign * literal.unwrap_or(1);
+        let (mut front, mut word) = (None, Vec::new());
+        loop {
+            if self.takes(b'(') {
+                let bracket = self.bracket()?;
+                front = Some(match front {
+                    None if word.is_empty() => bracket,
+                    left => product(&left.unwrap_or_else(unit), &word, &bracket)?,
+                });
+                word.clear();
+            } else if is_name(self.peek()) {
+                word.push(self.letter()?);
+            } else {
+                break;
+            }
+        }
+        match front {
+            _ if factor == 0 => Ok(()),
+            None if word.is_empty() => Err("a term has no factor".to_string()),
+            None => add_term(total, word.into_boxed_slice(), factor),
+            Some(front) if total.is_empty() && word.is_empty() && factor == 1 => {
+                *total = front;
+                Ok(())
+            }
+            Some(front) => add_multiple(total, factor, &[], &front, &word),
+        }
+    }
+
+    fn literal(&mut self) -> Answer<Option<i128>> {
+        if !self.peek().is_ascii_digit() {
+            return Ok(None);
+        }
+        number(self.run(|byte| byte.is_ascii_digit())?).map(Some)
+    }
+
+    fn letter(&mut self) -> Answer<Letter> {
+        let letter = self.problem.letter(self.run(is_name)?)?;
+        Ok(if self.is_adjoint() { self.problem.adjoints[letter as usize] } else { letter })
+    }
+
+    fn bracket(&mut self) -> Answer<Polynomial> {
+        self.depth += 1;
+        if self.depth > DEPTH_LIMIT {
+            return Err("too many brackets".to_string());
+        }
+        let sum = self.sum()?;
+        self.expect(b')')?;
+        self.depth -= 1;
+        Ok(if self.is_adjoint() { self.problem.adjoint(&sum) } else { sum })
+    }
+
+    /// Whether an odd number of marks stands here.
+    fn is_adjoint(&mut self) -> bool {
+        let mut is_odd = false;
+        while self.takes(b'\'') {
+            is_odd = !is_odd;
+            self.has_marks = true;
+        }
+        is_odd
+    }
+}
+
+fn is_name(byte: u8) -> bool {
+    byte.is_ascii_alphanumeric() || byte == b'_' || !byte.is_ascii()
+}
+
+/// The polynomial of the empty word.
+fn unit() -> Polynomial {
+    Polynomial::from([(Word::default(), 1)])
+}
+
+fn number<T: str::FromStr>(text: &str) -> Answer<T> {
+    text.trim().parse().map_err(|_| "a number is wrong".to_string())
+}
+
+// ---- Evidence
+
+/// What a row multiplies, by its place among the generators or the lemmas, counted from 1.
+enum Source {
+    Generator(usize),
+    Lemma(usize),
+}
+
+struct Row {
+    coefficient: i128,
+    left: Word,
+    source: Source,
+    right: Word,
+}
+
+/// Rows that add up to the scale times a lemma or the claim.
+struct Share {
+    scale: i128,
+    rows: Vec<Row>,
+}
+
+impl Share {
+    fn new(scale: i128) -> Share {
+        Share { scale, rows: Vec::new() }
+    }
+}
+
+/// The last share is that of the goal.
+struct Certificate {
+    claim: usize,
+    denominator: i128,
+    shares: Vec<Share>,
+}
+
+fn read_certificates(problem: &Problem, text: &str) -> Answer<Vec<Certificate>> {
+    let mut certificates = Vec::new();
+    let mut lines = text.lines().map(str::trim).filter(|line| !line.is_empty() && !line.starts_with('#'));
+    while let Some(head) = lines.next() {
+        let has_lemmas = match head {
+            "certificate 1" => false,
+            "certificate 2" => true,
+            _ => return Err("no certificate where one should begin".to_string()),
+        };
+        certificates.push(read_certificate(problem, has_lemmas, &mut lines)?);
+    }
+    Ok(certificates)
+}
+
+fn read_certificate<'a>(
+    problem: &Problem,
+    has_lemmas: bool,
+    lines: &mut impl Iterator<Item = &'a str>,
+) -> Answer<Certificate> {
+    let claim = number_behind("claim ", lines.next())?;
+    let denominator = number_behind("denominator ", lines.next())?;
+    let mut shares = Vec::new();
+    if !has_lemmas {
+        shares.push(Share::new(denominator));
+    }
+    for line in lines {
+        if let Some(rest) = line.strip_prefix("row ") {
+            let share = shares.last_mut().ok_or("a row before the first lemma")?;
+            share.rows.push(read_row(problem, rest)?);
+        } else if line == "end" {
+            return Ok(Certificate { claim, denominator, shares });
+        } else {
+            shares.push(Share::new(read_scale(line)?));
+        }
+    }
+    Err("a certificate has no end".to_string())
+}
+
+fn number_behind<T: str::FromStr>(word: &str, line: Option<&str>) -> Answer<T> {
+    let digits = line.and_then(|line| line.strip_prefix(word));
+    number(digits.ok_or_else(|| format!("no {word}where it should be"))?)
+}
+
+/// The scale of a line `lemma K scale S` or `goal scale S`.
+fn read_scale(line: &str) -> Answer<i128> {
+    let (_, scale) = line.split_once(" scale ").ok_or("a line is wrong")?;
+    number(scale)
+}
+
+/// A row `C (LETTERS) G (LETTERS)`, or with `lemma K` for `G`.
+fn read_row(problem: &Problem, text: &str) -> Answer<Row> {
+    let parts = || {
+        let (coefficient, rest) = text.split_once('(')?;
+        let (left, rest) = rest.split_once(')')?;
+        let (source, rest) = rest.split_once('(')?;
+        let (right, behind) = rest.split_once(')')?;
+        behind.is_empty().then_some((coefficient, left, source.trim(), right))
+    };
+    let (coefficient, left, source, right) = parts().ok_or("a row is wrong")?;
+    Ok(Row {
+        coefficient: number(coefficient)?,
+        left: read_word(problem, left)?,
+        source: match source.strip_prefix("lemma ") {
+            Some(lemma) => Source::Lemma(number(lemma)?),
+            None => Source::Generator(number(source)?),
+        },
+        right: read_word(problem, right)?,
+    })
+}
+
+fn read_word(problem: &Problem, text: &str) -> Answer<Word> {
+    let names = text.split_ascii_whitespace();
+    let word: Vec<Letter> = names.take(LETTER_LIMIT + 1).map(|name| problem.letter(name)).collect::<Answer<_>>()?;
+    if word.len() > LETTER_LIMIT {
+        return Err(format!("a word has more than {LETTER_LIMIT} letters"));
+    }
+    Ok(word.into_boxed_slice())
+}
+
+fn judge_all(problem: &Problem, text: &str) -> Answer<String> {
+    if problem.is_starred {
+        return Err("adjoints of assumptions are generators too, which are not made".to_string());
+    }
+    let certificates = read_certificates(problem, text)?;
+    let mut lines = String::new();
+    for (block, certificate) in (1..).zip(&certificates) {
+        judge(problem, certificate).map_err(|fault| format!("block {block}: {fault}"))?;
+        lines += &format!("block {block} accepted\n");
+    }
+    Ok(lines)
+}
+
+fn judge(problem: &Problem, certificate: &Certificate) -> Answer<()> {
+    let claim = at(&problem.claims, certificate.claim)?;
+    let Some((goal, shares)) = certificate.shares.split_last() else {
+        return Err("there is no goal".to_string());
+    };
+    let mut scales = certificate.shares.iter().map(|share| share.scale);
+    if scales.any(|scale| scale < 1 || certificate.denominator % scale != 0) {
+        return Err("a scale does not divide the denominator".to_string());
+    }
+    let mut lemmas = Vec::new();
+    for share in shares {
+        let lemma = divided(sum_of_rows(&problem.assumptions, &lemmas, share)?, share.scale)?;
+        lemmas.push(lemma);
+    }
+    let mut sum = sum_of_rows(&problem.assumptions, &lemmas, goal)?;
+    add_multiple(&mut sum, -goal.scale, &[], claim, &[])?;
+    sum.is_empty().then_some(()).ok_or_else(|| format!("{} words differ", sum.len()))
+}
+
+fn sum_of_rows(generators: &[Polynomial], lemmas: &[Polynomial], share: &Share) -> Answer<Polynomial> {
+    let mut sum = Polynomial::new();
+    for row in &share.rows {
+        let polynomial = match row.source {
+            Source::Generator(number) => at(generators, number)?,
+            Source::Lemma(number) => at(lemmas, number)?,
+        };
+        add_multiple(&mut sum, row.coefficient, &row.left, polynomial, &row.right)?;
+        if sum.len() > SUM_LIMIT {
+            return Err(format!("more than {SUM_LIMIT} terms"));
+        }
+    }
+    Ok(sum)
+}
+
+/// The polynomial with this number, counted from 1.
+fn at(polynomials: &[Polynomial], number: usize) -> Answer<&Polynomial> {
+    let place = number.checked_sub(1).and_then(|index| polynomials.get(index));
+    place.ok_or_else(|| format!("there is no number {number}"))
+}
+
+fn divided(mut polynomial: Polynomial, scale: i128) -> Answer<Polynomial> {
+    for coefficient in polynomial.values_mut() {
+        if *coefficient % scale != 0 {
+            return Err("a scale does not divide its lemma".to_string());
+        }
+        *coefficient /= scale;
+    }
+    check_size(&polynomial)?;
+    Ok(polynomial)
+}
