@@ -15,98 +15,32 @@ module _ {A : Type 0} where
   pub by_name : (P : TokenKind → Result A Misfit → Type 0) (f : Name → Result A Misfit) (at : Spot) → ((x : List ℕ) → P (kind.Name x) (f (named x at))) → ((k : TokenKind) → P k (Err Expected))
       → (k : TokenKind) → P k (name_in k at >>= f)
   by_name P f at here there (kind.Name x) = here x
-  by_name P f at here there (kind.Literal n) = there (kind.Literal n)
-  by_name P f at here there kind.Colon = there kind.Colon
-  by_name P f at here there kind.Arrow = there kind.Arrow
-  by_name P f at here there kind.Equals = there kind.Equals
-  by_name P f at here there kind.Plus = there kind.Plus
-  by_name P f at here there kind.Minus = there kind.Minus
-  by_name P f at here there kind.Open = there kind.Open
-  by_name P f at here there kind.Close = there kind.Close
-  by_name P f at here there kind.OpenSquare = there kind.OpenSquare
-  by_name P f at here there kind.CloseSquare = there kind.CloseSquare
-  by_name P f at here there kind.Quote = there kind.Quote
-  by_name P f at here there kind.End = there kind.End
+  by_name P f at here there k = there k
 
   pub by_number : (P : TokenKind → Result A Misfit → Type 0) (f : Number → Result A Misfit) (at : Spot) → ((n : _) → P (kind.Literal n) (f (record { value = n; at = at }))) → ((k : TokenKind) → P k (Err Expected))
       → (k : TokenKind) → P k (number_in k at >>= f)
-  by_number P f at here there (kind.Name x) = there (kind.Name x)
   by_number P f at here there (kind.Literal n) = here n
-  by_number P f at here there kind.Colon = there kind.Colon
-  by_number P f at here there kind.Arrow = there kind.Arrow
-  by_number P f at here there kind.Equals = there kind.Equals
-  by_number P f at here there kind.Plus = there kind.Plus
-  by_number P f at here there kind.Minus = there kind.Minus
-  by_number P f at here there kind.Open = there kind.Open
-  by_number P f at here there kind.Close = there kind.Close
-  by_number P f at here there kind.OpenSquare = there kind.OpenSquare
-  by_number P f at here there kind.CloseSquare = there kind.CloseSquare
-  by_number P f at here there kind.Quote = there kind.Quote
-  by_number P f at here there kind.End = there kind.End
+  by_number P f at here there k = there k
 
   pub by_colon : (P : TokenKind → A → Type 0) (found : A) (other : TokenKind → A) → P kind.Colon found → ((k : TokenKind) → P k (other k)) → (k : TokenKind) → P k (on_colon found (other k) k)
-  by_colon P found other here there (kind.Name x) = there (kind.Name x)
-  by_colon P found other here there (kind.Literal x) = there (kind.Literal x)
   by_colon P found other here there kind.Colon = here
-  by_colon P found other here there kind.Arrow = there kind.Arrow
-  by_colon P found other here there kind.Equals = there kind.Equals
-  by_colon P found other here there kind.Plus = there kind.Plus
-  by_colon P found other here there kind.Minus = there kind.Minus
-  by_colon P found other here there kind.Open = there kind.Open
-  by_colon P found other here there kind.Close = there kind.Close
-  by_colon P found other here there kind.OpenSquare = there kind.OpenSquare
-  by_colon P found other here there kind.CloseSquare = there kind.CloseSquare
-  by_colon P found other here there kind.Quote = there kind.Quote
-  by_colon P found other here there kind.End = there kind.End
+  by_colon P found other here there k = there k
 
   pub by_arrow : (P : TokenKind → A → Type 0) (found : A) (other : TokenKind → A) → P kind.Arrow found → ((k : TokenKind) → P k (other k)) → (k : TokenKind) → P k (on_arrow found (other k) k)
-  by_arrow P found other here there (kind.Name x) = there (kind.Name x)
-  by_arrow P found other here there (kind.Literal x) = there (kind.Literal x)
-  by_arrow P found other here there kind.Colon = there kind.Colon
   by_arrow P found other here there kind.Arrow = here
-  by_arrow P found other here there kind.Equals = there kind.Equals
-  by_arrow P found other here there kind.Plus = there kind.Plus
-  by_arrow P found other here there kind.Minus = there kind.Minus
-  by_arrow P found other here there kind.Open = there kind.Open
-  by_arrow P found other here there kind.Close = there kind.Close
-  by_arrow P found other here there kind.OpenSquare = there kind.OpenSquare
-  by_arrow P found other here there kind.CloseSquare = there kind.CloseSquare
-  by_arrow P found other here there kind.Quote = there kind.Quote
-  by_arrow P found other here there kind.End = there kind.End
+  by_arrow P found other here there k = there k
 
   pub by_equals : (P : TokenKind → A → Type 0) (found : A) (other : TokenKind → A) → P kind.Equals found → ((k : TokenKind) → (k ≡ kind.Equals → ⊥) → P k (other k)) → (k : TokenKind) → P k (on_equals found (other k) k)
-  by_equals P found other here there (kind.Name x) = there (kind.Name x) (λ e. absurd cc)
-  by_equals P found other here there (kind.Literal x) = there (kind.Literal x) (λ e. absurd cc)
-  by_equals P found other here there kind.Colon = there kind.Colon (λ e. absurd cc)
-  by_equals P found other here there kind.Arrow = there kind.Arrow (λ e. absurd cc)
   by_equals P found other here there kind.Equals = here
-  by_equals P found other here there kind.Plus = there kind.Plus (λ e. absurd cc)
-  by_equals P found other here there kind.Minus = there kind.Minus (λ e. absurd cc)
-  by_equals P found other here there kind.Open = there kind.Open (λ e. absurd cc)
-  by_equals P found other here there kind.Close = there kind.Close (λ e. absurd cc)
-  by_equals P found other here there kind.OpenSquare = there kind.OpenSquare (λ e. absurd cc)
-  by_equals P found other here there kind.CloseSquare = there kind.CloseSquare (λ e. absurd cc)
-  by_equals P found other here there kind.Quote = there kind.Quote (λ e. absurd cc)
-  by_equals P found other here there kind.End = there kind.End (λ e. absurd cc)
+  by_equals P found other here there k = there k (λ e. absurd cc)
 
   -- at another token than an equals sign
   pub not_equals : (found other : A) (k : TokenKind) → (k ≡ kind.Equals → ⊥) → on_equals found other k ≡ other
   not_equals found other k differs = by_equals (λ k r. (k ≡ kind.Equals → ⊥) → r ≡ other) found (λ k. other) (λ n. absurd (n refl)) (λ k m n. refl) k differs
 
   pub by_end : (P : TokenKind → A → Type 0) (found : A) (other : TokenKind → A) → P kind.End found → ((k : TokenKind) → (k ≡ kind.End → ⊥) → P k (other k)) → (k : TokenKind) → P k (on_end found (other k) k)
-  by_end P found other here there (kind.Name x) = there (kind.Name x) (λ e. absurd cc)
-  by_end P found other here there (kind.Literal x) = there (kind.Literal x) (λ e. absurd cc)
-  by_end P found other here there kind.Colon = there kind.Colon (λ e. absurd cc)
-  by_end P found other here there kind.Arrow = there kind.Arrow (λ e. absurd cc)
-  by_end P found other here there kind.Equals = there kind.Equals (λ e. absurd cc)
-  by_end P found other here there kind.Plus = there kind.Plus (λ e. absurd cc)
-  by_end P found other here there kind.Minus = there kind.Minus (λ e. absurd cc)
-  by_end P found other here there kind.Open = there kind.Open (λ e. absurd cc)
-  by_end P found other here there kind.Close = there kind.Close (λ e. absurd cc)
-  by_end P found other here there kind.OpenSquare = there kind.OpenSquare (λ e. absurd cc)
-  by_end P found other here there kind.CloseSquare = there kind.CloseSquare (λ e. absurd cc)
-  by_end P found other here there kind.Quote = there kind.Quote (λ e. absurd cc)
   by_end P found other here there kind.End = here
+  by_end P found other here there k = there k (λ e. absurd cc)
 
   pub not_end : (found other : A) (k : TokenKind) → (k ≡ kind.End → ⊥) → on_end found other k ≡ other
   not_end found other k differs = by_end (λ k r. (k ≡ kind.End → ⊥) → r ≡ other) found (λ k. other) (λ n. absurd (n refl)) (λ k m n. refl) k differs

@@ -97,18 +97,7 @@ begun_deep (Some o) at fails = absurd cc
 
 start_deep : (k : TokenKind) (t : Spot) → NotDeep (start_step k t)
 start_deep (kind.Name x) t fails = begun_deep (opening_in x) t fails
-start_deep (kind.Literal n) t fails = absurd cc
-start_deep kind.Colon t fails = absurd cc
-start_deep kind.Arrow t fails = absurd cc
-start_deep kind.Equals t fails = absurd cc
-start_deep kind.Plus t fails = absurd cc
-start_deep kind.Minus t fails = absurd cc
-start_deep kind.Open t fails = absurd cc
-start_deep kind.Close t fails = absurd cc
-start_deep kind.OpenSquare t fails = absurd cc
-start_deep kind.CloseSquare t fails = absurd cc
-start_deep kind.Quote t fails = absurd cc
-start_deep kind.End t fails = absurd cc
+start_deep k t fails = absurd cc
 
 name_deep : {A : Type 0} (f : Name → A) (t : Spot) (k : TokenKind) → NotDeep (name_in k t >>= λ n. Ok (f n))
 name_deep f t k = by_name (λ k r. NotDeep r) (λ n. Ok (f n)) t (λ x fails. absurd cc) (λ k fails. absurd cc) k

@@ -175,18 +175,7 @@ begun_reads word (Some o) at is = subst (λ x. LineReads (opened o at) (word_tok
 
 start_grows : (k : TokenKind) (at : Spot) → Grows [] at k (start_step k at)
 start_grows (kind.Name x) at = begun_reads x (opening_in x) at refl
-start_grows (kind.Literal n) at = tt
-start_grows kind.Colon at = tt
-start_grows kind.Arrow at = tt
-start_grows kind.Equals at = tt
-start_grows kind.Plus at = tt
-start_grows kind.Minus at = tt
-start_grows kind.Open at = tt
-start_grows kind.Close at = tt
-start_grows kind.OpenSquare at = tt
-start_grows kind.CloseSquare at = tt
-start_grows kind.Quote at = tt
-start_grows kind.End at = tt
+start_grows k at = tt
 
 -- ---- the other tokens
 
@@ -238,18 +227,7 @@ map_grows at names (rest.Target s e) ts t k read = on_word k
   where
     on_word : (k : TokenKind) → Grows ts t k (map_step at names (rest.Target s e) k t)
     on_word (kind.Name x) = self_grows at names s e ts t x (bytes_eq x (codes "self")) refl read
-    on_word (kind.Literal n) = tt
-    on_word kind.Colon = tt
-    on_word kind.Arrow = tt
-    on_word kind.Equals = tt
-    on_word kind.Plus = tt
-    on_word kind.Minus = tt
-    on_word kind.Open = tt
-    on_word kind.Close = tt
-    on_word kind.OpenSquare = tt
-    on_word kind.CloseSquare = tt
-    on_word kind.Quote = tt
-    on_word kind.End = tt
+    on_word k = tt
 
 -- ---- expressions
 
@@ -379,18 +357,7 @@ order_by at ts t x false false is_degree is_weight read = tt
 
 order_grows : (at : Spot) (ts : List Token) (t : Spot) (k : TokenKind) → LineReads (line.Order at) ts → Grows ts t k (order_step at k)
 order_grows at ts t (kind.Name x) read = order_by at ts t x (bytes_eq x (codes "degree")) (bytes_eq x (codes "weight")) refl refl read
-order_grows at ts t (kind.Literal n) read = tt
-order_grows at ts t kind.Colon read = tt
-order_grows at ts t kind.Arrow read = tt
-order_grows at ts t kind.Equals read = tt
-order_grows at ts t kind.Plus read = tt
-order_grows at ts t kind.Minus read = tt
-order_grows at ts t kind.Open read = tt
-order_grows at ts t kind.Close read = tt
-order_grows at ts t kind.OpenSquare read = tt
-order_grows at ts t kind.CloseSquare read = tt
-order_grows at ts t kind.Quote read = tt
-order_grows at ts t kind.End read = tt
+order_grows at ts t k read = tt
 
 -- ---- all lines
 

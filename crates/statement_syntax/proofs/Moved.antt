@@ -54,55 +54,26 @@ parts_of ts us vs alike = parts_by ts (kinds us) (kinds vs) (alike ∙ map-appen
 
 -- ---- expressions
 
-pub record MovedExpr (e : Expr) (ts : List Token) : Type 0 where
-  pub moved : Expr
-  pub are : ts ≡ expr_tokens moved
-  pub same : bare moved ≡ bare e
-  pub fits : (n : ℕ) → ExprFits e n → ExprFits moved n
+-- the same at other places, which fits wherever it fits
+record Moved {A : Type 0} (tokens : A → List Token) (bare_of : A → A) (Fits : A → ℕ → Type 0) (x : A) (ts : List Token) : Type 0 where
+  pub moved : A
+  pub are : ts ≡ tokens moved
+  pub same : bare_of moved ≡ bare_of x
+  pub fits : (n : ℕ) → Fits x n → Fits moved n
 
-record MovedProduct (t : Product) (ts : List Token) : Type 0 where
-  pub moved : Product
-  pub are : ts ≡ product_tokens moved
-  pub same : bare_product moved ≡ bare_product t
-  pub fits : (n : ℕ) → ProductFits t n → ProductFits moved n
-
-record MovedFactors (fs : Factors) (ts : List Token) : Type 0 where
-  pub moved : Factors
-  pub are : ts ≡ factors_tokens moved
-  pub same : bare_factors moved ≡ bare_factors fs
-  pub fits : (n : ℕ) → FactorsFit fs n → FactorsFit moved n
-
-record MovedMarked (f : Marked) (ts : List Token) : Type 0 where
-  pub moved : Marked
-  pub are : ts ≡ marked_tokens moved
-  pub same : bare_marked moved ≡ bare_marked f
-  pub fits : (n : ℕ) → MarkedFits f n → MarkedFits moved n
-
-record MovedPrime (p : Prime) (ts : List Token) : Type 0 where
-  pub moved : Prime
-  pub are : ts ≡ prime_tokens moved
-  pub same : bare_prime moved ≡ bare_prime p
-  pub fits : (n : ℕ) → PrimeFits p n → PrimeFits moved n
-
-record MovedSign (s : Sign) (ts : List Token) (ks : List TokenKind) : Type 0 where
-  pub moved : Sign
+-- the same at other places, in front of others
+record MovedFront {A : Type 0} (tokens : A → List Token) (bare_of : A → A) (x : A) (ts : List Token) (ks : List TokenKind) : Type 0 where
+  pub moved : A
   pub rest : List Token
-  pub are : ts ≡ signed_token moved ∷ rest
-  pub same : bare_sign moved ≡ bare_sign s
+  pub are : ts ≡ tokens moved ++ rest
+  pub same : bare_of moved ≡ bare_of x
   pub kinds_are : kinds rest ≡ ks
 
-sign_moved : (s : Sign) (ts us : List Token) → kinds ts ≡ kinds (signed_token (bare_sign s) ∷ us) → MovedSign s ts (kinds us)
+sign_moved : (s : Sign) (ts us : List Token) → kinds ts ≡ kinds (signed_token (bare_sign s) ∷ us) → MovedFront (λ s. signed_token s ∷ []) bare_sign s ts (kinds us)
 sign_moved (plus at) ts us alike = let l = led_by ts kind.Plus (kinds us) alike in record { moved = plus l.at; rest = l.rest; are = l.are; same = refl; kinds_are = l.kinds_are }
 sign_moved (minus at) ts us alike = let l = led_by ts kind.Minus (kinds us) alike in record { moved = minus l.at; rest = l.rest; are = l.are; same = refl; kinds_are = l.kinds_are }
 
-record MovedLiteral (l : Option Number) (ts : List Token) (ks : List TokenKind) : Type 0 where
-  pub moved : Option Number
-  pub rest : List Token
-  pub are : ts ≡ literal_tokens moved ++ rest
-  pub same : bare_literal moved ≡ bare_literal l
-  pub kinds_are : kinds rest ≡ ks
-
-literal_moved : (l : Option Number) (ts us : List Token) → kinds ts ≡ kinds (literal_tokens (bare_literal l) ++ us) → MovedLiteral l ts (kinds us)
+literal_moved : (l : Option Number) (ts us : List Token) → kinds ts ≡ kinds (literal_tokens (bare_literal l) ++ us) → MovedFront literal_tokens bare_literal l ts (kinds us)
 literal_moved None ts us alike = record { moved = None; rest = ts; are = refl; same = refl; kinds_are = alike }
 literal_moved (Some n) ts us alike =
     let l = led_by ts (kind.Literal n.value) (kinds us) alike in
@@ -113,7 +84,7 @@ bracket_fits left right left' right' e d go zero f = f
 bracket_fits left right left' right' e d go (suc n) f = go n f
 
 mutual
-  pub expr_moved : (e : Expr) (ts : List Token) → kinds ts ≡ kinds (expr_tokens (bare e)) → MovedExpr e ts
+  expr_moved : (e : Expr) (ts : List Token) → kinds ts ≡ kinds (expr_tokens (bare e)) → Moved expr_tokens bare ExprFits e ts
   expr_moved (first no_sign t) ts alike =
       let p = product_moved t ts alike in
       record { moved = first no_sign p.moved; are = p.are; same = ap (first no_sign) p.same; fits = p.fits }
@@ -136,7 +107,7 @@ mutual
         fits = λ n f. (d.fits n f.0, p.fits n f.1);
       }
 
-  product_moved : (t : Product) (ts : List Token) → kinds ts ≡ kinds (product_tokens (bare_product t)) → MovedProduct t ts
+  product_moved : (t : Product) (ts : List Token) → kinds ts ≡ kinds (product_tokens (bare_product t)) → Moved product_tokens bare_product ProductFits t ts
   product_moved (zero_alone at) ts alike =
       let l = led_by ts (kind.Literal (zero_at at).value) [] alike in
       record { moved = zero_alone l.at; are = l.are ∙ ap (λ x. number_token (zero_at l.at) ∷ x) (none_left l.rest l.kinds_are); same = refl; fits = λ n f. f }
@@ -145,7 +116,7 @@ mutual
       let f = factors_moved fs m.rest m.kinds_are in
       record { moved = factors m.moved f.moved; are = m.are ∙ ap (λ x. literal_tokens m.moved ++ x) f.are; same = ap₂ factors m.same f.same; fits = f.fits }
 
-  factors_moved : (fs : Factors) (ts : List Token) → kinds ts ≡ kinds (factors_tokens (bare_factors fs)) → MovedFactors fs ts
+  factors_moved : (fs : Factors) (ts : List Token) → kinds ts ≡ kinds (factors_tokens (bare_factors fs)) → Moved factors_tokens bare_factors FactorsFit fs ts
   factors_moved (one f) ts alike =
       let m = marked_moved f ts alike in
       record { moved = one m.moved; are = m.are; same = ap one m.same; fits = m.fits }
@@ -155,7 +126,7 @@ mutual
       let r = marked_moved f parts.right parts.right_are in
       record { moved = beside l.moved r.moved; are = parts.are ∙ ap₂ (λ x y. x ++ y) l.are r.are; same = ap₂ beside l.same r.same; fits = λ n f. (l.fits n f.0, r.fits n f.1) }
 
-  marked_moved : (f : Marked) (ts : List Token) → kinds ts ≡ kinds (marked_tokens (bare_marked f)) → MovedMarked f ts
+  marked_moved : (f : Marked) (ts : List Token) → kinds ts ≡ kinds (marked_tokens (bare_marked f)) → Moved marked_tokens bare_marked MarkedFits f ts
   marked_moved (plain p) ts alike =
       let m = prime_moved p ts alike in
       record { moved = plain m.moved; are = m.are; same = ap plain m.same; fits = m.fits }
@@ -170,7 +141,7 @@ mutual
         fits = m.fits;
       }
 
-  prime_moved : (p : Prime) (ts : List Token) → kinds ts ≡ kinds (prime_tokens (bare_prime p)) → MovedPrime p ts
+  prime_moved : (p : Prime) (ts : List Token) → kinds ts ≡ kinds (prime_tokens (bare_prime p)) → Moved prime_tokens bare_prime PrimeFits p ts
   prime_moved (name n) ts alike =
       let l = led_by ts (kind.Name n.text) [] alike in
       let m : Name = record { text = n.text; at = l.at } in
@@ -200,38 +171,25 @@ mutual
 
 -- ---- statements
 
-record MovedName (n : Name) (ts : List Token) (ks : List TokenKind) : Type 0 where
-  pub moved : Name
-  pub rest : List Token
-  pub are : ts ≡ name_token moved ∷ rest
-  pub same : bare_name moved ≡ bare_name n
-  pub kinds_are : kinds rest ≡ ks
+-- all of the tokens
+record MovedWhole {A : Type 0} (tokens : A → List Token) (bare_of : A → A) (x : A) (ts : List Token) : Type 0 where
+  pub moved : A
+  pub are : ts ≡ tokens moved
+  pub same : bare_of moved ≡ bare_of x
 
-name_moved : (n : Name) (ts us : List Token) → kinds ts ≡ kinds (name_token (bare_name n) ∷ us) → MovedName n ts (kinds us)
+name_moved : (n : Name) (ts us : List Token) → kinds ts ≡ kinds (name_token (bare_name n) ∷ us) → MovedFront (λ n. name_token n ∷ []) bare_name n ts (kinds us)
 name_moved n ts us alike =
     let l = led_by ts (kind.Name n.text) (kinds us) alike in
     record { moved = record { text = n.text; at = l.at }; rest = l.rest; are = l.are; same = refl; kinds_are = l.kinds_are }
 
-record MovedNames (ns : List Name) (ts : List Token) : Type 0 where
-  pub moved : List Name
-  pub are : ts ≡ names_tokens moved
-  pub same : bare_names moved ≡ bare_names ns
-
-names_moved : (ns : List Name) (ts : List Token) → kinds ts ≡ kinds (names_tokens (bare_names ns)) → MovedNames ns ts
+names_moved : (ns : List Name) (ts : List Token) → kinds ts ≡ kinds (names_tokens (bare_names ns)) → MovedWhole names_tokens bare_names ns ts
 names_moved [] ts alike = record { moved = []; are = none_left ts alike; same = refl }
 names_moved (n ∷ ns) ts alike =
     let m = name_moved n ts (names_tokens (bare_names ns)) alike in
     let ms = names_moved ns m.rest m.kinds_are in
     record { moved = m.moved ∷ ms.moved; are = m.are ∙ ap (λ x. name_token m.moved ∷ x) ms.are; same = ap₂ (λ x y. x ∷ y) m.same ms.same }
 
-record MovedPair (p : Name × Number) (ts : List Token) (ks : List TokenKind) : Type 0 where
-  pub moved : Name × Number
-  pub rest : List Token
-  pub are : ts ≡ name_token moved.0 ∷ number_token moved.1 ∷ rest
-  pub same : bare_pair moved ≡ bare_pair p
-  pub kinds_are : kinds rest ≡ ks
-
-pair_moved : (p : Name × Number) (ts us : List Token) → kinds ts ≡ kinds (name_token (bare_pair p).0 ∷ number_token (bare_pair p).1 ∷ us) → MovedPair p ts (kinds us)
+pair_moved : (p : Name × Number) (ts us : List Token) → kinds ts ≡ kinds (name_token (bare_pair p).0 ∷ number_token (bare_pair p).1 ∷ us) → MovedFront (λ p. name_token p.0 ∷ number_token p.1 ∷ []) bare_pair p ts (kinds us)
 pair_moved p ts us alike =
     let l = led_by ts (kind.Name p.0.text) (kind.Literal p.1.value ∷ kinds us) alike in
     let r = led_by l.rest (kind.Literal p.1.value) (kinds us) l.kinds_are in
@@ -243,36 +201,26 @@ pair_moved p ts us alike =
       kinds_are = r.kinds_are;
     }
 
-record MovedPairs (ps : List (Name × Number)) (ts : List Token) : Type 0 where
-  pub moved : List (Name × Number)
-  pub are : ts ≡ pairs_tokens moved
-  pub same : bare_pairs moved ≡ bare_pairs ps
-
-pairs_moved : (ps : List (Name × Number)) (ts : List Token) → kinds ts ≡ kinds (pairs_tokens (bare_pairs ps)) → MovedPairs ps ts
+pairs_moved : (ps : List (Name × Number)) (ts : List Token) → kinds ts ≡ kinds (pairs_tokens (bare_pairs ps)) → MovedWhole pairs_tokens bare_pairs ps ts
 pairs_moved [] ts alike = record { moved = []; are = none_left ts alike; same = refl }
 pairs_moved (p ∷ ps) ts alike =
     let m = pair_moved p ts (pairs_tokens (bare_pairs ps)) alike in
     let ms = pairs_moved ps m.rest m.kinds_are in
     record { moved = m.moved ∷ ms.moved; are = m.are ∙ ap (λ x. name_token m.moved.0 ∷ number_token m.moved.1 ∷ x) ms.are; same = ap₂ (λ x y. x ∷ y) m.same ms.same }
 
-record MovedEnding (end : Ending) (ts : List Token) : Type 0 where
-  pub moved : Ending
-  pub are : ts ≡ ending_tokens moved
-  pub same : bare_ending moved ≡ bare_ending end
-
-ending_moved : (end : Ending) (ts : List Token) → kinds ts ≡ kinds (ending_tokens (bare_ending end)) → MovedEnding end ts
+ending_moved : (end : Ending) (ts : List Token) → kinds ts ≡ kinds (ending_tokens (bare_ending end)) → MovedWhole ending_tokens bare_ending end ts
 ending_moved no_word ts alike = record { moved = no_word; are = none_left ts alike; same = refl }
 ending_moved (self_word at) ts alike =
     let l = led_by ts (kind.Name (codes "self")) [] alike in
     record { moved = self_word l.at; are = l.are ∙ ap (λ x. word_token (codes "self") l.at ∷ x) (none_left l.rest l.kinds_are); same = refl }
 
-pub record MovedStated (s : Stated) (ts : List Token) : Type 0 where
+record MovedStated (s : Stated) (ts : List Token) : Type 0 where
   pub moved : Stated
   pub are : ts ≡ stated_tokens moved
   pub same : bare_stated moved ≡ bare_stated s
   pub fits : StatedFits s → StatedFits moved
 
-pub stated_moved : (s : Stated) (ts : List Token) → kinds ts ≡ kinds (stated_tokens (bare_stated s)) → MovedStated s ts
+stated_moved : (s : Stated) (ts : List Token) → kinds ts ≡ kinds (stated_tokens (bare_stated s)) → MovedStated s ts
 stated_moved (listed w at n ns) ts alike =
     let l = led_by ts (kind.Name (list_text w)) (kinds (names_tokens (bare_names (n ∷ ns)))) alike in
     let m = name_moved n l.rest (names_tokens (bare_names ns)) l.kinds_are in

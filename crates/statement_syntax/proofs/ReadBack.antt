@@ -43,17 +43,9 @@ first_of kind.End t = absurd t
 abbrev pub more_of : (k : TokenKind) → IsToken k → List ℕ
 more_of (kind.Name x) t = t.more
 more_of (kind.Literal v) t = (digits_of v t).more
-more_of kind.Colon t = []
 more_of kind.Arrow t = 62 ∷ []
-more_of kind.Equals t = []
-more_of kind.Plus t = []
-more_of kind.Minus t = []
-more_of kind.Open t = []
-more_of kind.Close t = []
-more_of kind.OpenSquare t = []
-more_of kind.CloseSquare t = []
-more_of kind.Quote t = []
 more_of kind.End t = absurd t
+more_of k t = []
 
 scalar_ascii : (c : ℕ) → c < 128 → scalar c ≡ true
 scalar_ascii c low = rw (lt-ltb c 55296 (omega (arith, low))) refl
@@ -90,33 +82,14 @@ text_is kind.End t = absurd t
 scalar_is : (k : TokenKind) (t : IsToken k) → scalars (first_of k t ∷ more_of k t) ≡ true
 scalar_is (kind.Name x) t = t.scalar
 scalar_is (kind.Literal v) t = let d = digits_of v t in ap scalars (sym d.is) ∙ digits_scalars (decimal t.size) d.each
-scalar_is kind.Colon t = refl
-scalar_is kind.Arrow t = refl
-scalar_is kind.Equals t = refl
-scalar_is kind.Plus t = refl
-scalar_is kind.Minus t = refl
-scalar_is kind.Open t = refl
-scalar_is kind.Close t = refl
-scalar_is kind.OpenSquare t = refl
-scalar_is kind.CloseSquare t = refl
-scalar_is kind.Quote t = refl
 scalar_is kind.End t = absurd t
+scalar_is k t = refl
 
 -- what may stand behind a token
 abbrev Behind : TokenKind → List ℕ → Type 0
 Behind kind.Open rest = Unit {0}
 Behind kind.OpenSquare rest = Unit {0}
-Behind (kind.Name x) rest = EndsBefore rest
-Behind (kind.Literal v) rest = EndsBefore rest
-Behind kind.Colon rest = EndsBefore rest
-Behind kind.Arrow rest = EndsBefore rest
-Behind kind.Equals rest = EndsBefore rest
-Behind kind.Plus rest = EndsBefore rest
-Behind kind.Minus rest = EndsBefore rest
-Behind kind.Close rest = EndsBefore rest
-Behind kind.CloseSquare rest = EndsBefore rest
-Behind kind.Quote rest = EndsBefore rest
-Behind kind.End rest = EndsBefore rest
+Behind k rest = EndsBefore rest
 
 number_back : (v : ℤ) (t : SpellsNumber v) (rest : List ℕ) → EndsBefore rest → item_at (first_of (kind.Literal v) t) (more_of (kind.Literal v) t ++ rest) ≡ Ok (item.Token (kind.Literal v) (length (more_of (kind.Literal v) t)))
 number_back v t rest given =
@@ -188,19 +161,11 @@ characters-scalars (k ∷ ks) all glued rest given =
 -- ---- what stands behind a token
 
 closing_first : (k : TokenKind) (t : IsToken k) → closes k ≡ true → Ender (first_of k t)
-closing_first (kind.Name x) t given = absurd cc
-closing_first (kind.Literal v) t given = absurd cc
-closing_first kind.Colon t given = absurd cc
-closing_first kind.Arrow t given = absurd cc
-closing_first kind.Equals t given = absurd cc
-closing_first kind.Plus t given = absurd cc
-closing_first kind.Minus t given = absurd cc
-closing_first kind.Open t given = absurd cc
 closing_first kind.Close t given = inr (inr (inl refl))
-closing_first kind.OpenSquare t given = absurd cc
 closing_first kind.CloseSquare t given = inr (inr (inr (inl refl)))
 closing_first kind.Quote t given = inr (inr (inr (inr refl)))
 closing_first kind.End t given = absurd t
+closing_first k t given = absurd cc
 
 behind_gap : (k : TokenKind) (t : IsToken k) (more : List ℕ) (b : Bool) → closes k ≡ b → EndsBefore (glue b (first_of k t ∷ more))
 behind_gap k t more true is = closing_first k t is
@@ -211,19 +176,9 @@ unglued [] all rest given = given
 unglued (k ∷ ks) all rest given = behind_gap k all.0 (more_of k all.0 ++ characters ks all.1 (opens k) rest) (closes k) refl
 
 behind_is : (k : TokenKind) (ks : List TokenKind) (all : AllKinds IsToken ks) (rest : List ℕ) → EndsBefore rest → Behind k (characters ks all (opens k) rest)
-behind_is (kind.Name x) ks all rest given = unglued ks all rest given
-behind_is (kind.Literal v) ks all rest given = unglued ks all rest given
-behind_is kind.Colon ks all rest given = unglued ks all rest given
-behind_is kind.Arrow ks all rest given = unglued ks all rest given
-behind_is kind.Equals ks all rest given = unglued ks all rest given
-behind_is kind.Plus ks all rest given = unglued ks all rest given
-behind_is kind.Minus ks all rest given = unglued ks all rest given
 behind_is kind.Open ks all rest given = tt
-behind_is kind.Close ks all rest given = unglued ks all rest given
 behind_is kind.OpenSquare ks all rest given = tt
-behind_is kind.CloseSquare ks all rest given = unglued ks all rest given
-behind_is kind.Quote ks all rest given = unglued ks all rest given
-behind_is kind.End ks all rest given = unglued ks all rest given
+behind_is k ks all rest given = unglued ks all rest given
 
 -- ---- a line is read as its tokens
 

@@ -142,34 +142,12 @@ outside-seen levels head part kind.End at = refl
 square-seen : (levels : List Level) (head : Head) (part : Part) (left : Spot) (k : TokenKind) (at : Spot)
     → steps.square_step (levels_of levels) (head_of head) (part_of part) left k at ≡ seen (step_square levels head part left at k)
 square-seen levels head part left (kind.Name x) at = refl
-square-seen levels head part left (kind.Literal n) at = refl
-square-seen levels head part left kind.Colon at = refl
-square-seen levels head part left kind.Arrow at = refl
-square-seen levels head part left kind.Equals at = refl
-square-seen levels head part left kind.Plus at = refl
-square-seen levels head part left kind.Minus at = refl
-square-seen levels head part left kind.Open at = refl
-square-seen levels head part left kind.Close at = refl
-square-seen levels head part left kind.OpenSquare at = refl
-square-seen levels head part left kind.CloseSquare at = refl
-square-seen levels head part left kind.Quote at = refl
-square-seen levels head part left kind.End at = refl
+square-seen levels head part left k at = refl
 
 named-seen : (levels : List Level) (head : Head) (part : Part) (left : Spot) (n : Name) (k : TokenKind) (at : Spot)
     → steps.named_step (levels_of levels) (head_of head) (part_of part) left n k ≡ seen (step_named levels head part left n at k)
-named-seen levels head part left n (kind.Name x) at = refl
-named-seen levels head part left n (kind.Literal x) at = refl
-named-seen levels head part left n kind.Colon at = refl
-named-seen levels head part left n kind.Arrow at = refl
-named-seen levels head part left n kind.Equals at = refl
-named-seen levels head part left n kind.Plus at = refl
-named-seen levels head part left n kind.Minus at = refl
-named-seen levels head part left n kind.Open at = refl
-named-seen levels head part left n kind.Close at = refl
-named-seen levels head part left n kind.OpenSquare at = refl
 named-seen levels head part left n kind.CloseSquare at = ap (λ p. Ok (steps.outside (levels_of levels) (head_of head) p)) (add-seen part (identity left n at))
-named-seen levels head part left n kind.Quote at = refl
-named-seen levels head part left n kind.End at = refl
+named-seen levels head part left n k at = refl
 
 focus-seen : (levels : List Level) (head : Head) (part : Part) (f : Focus) (k : TokenKind) (at : Spot)
     → steps.focus_step (levels_of levels) (head_of head) (part_of part) (focus_of f) k at ≡ seen (step_by levels head part f k at)

@@ -44,32 +44,13 @@ abbrev pub IsToken : TokenKind → Type 0
 IsToken (kind.Name text) = SpellsName text
 IsToken (kind.Literal value) = SpellsNumber value
 IsToken kind.End = ⊥
-IsToken kind.Colon = Unit {0}
-IsToken kind.Arrow = Unit {0}
-IsToken kind.Equals = Unit {0}
-IsToken kind.Plus = Unit {0}
-IsToken kind.Minus = Unit {0}
-IsToken kind.Open = Unit {0}
-IsToken kind.Close = Unit {0}
-IsToken kind.OpenSquare = Unit {0}
-IsToken kind.CloseSquare = Unit {0}
-IsToken kind.Quote = Unit {0}
+IsToken k = Unit {0}
 
 -- it can be a token of a file
 abbrev pub IsFileToken : TokenKind → Type 0
 IsFileToken (kind.Name text) = SpellsName text
 IsFileToken (kind.Literal value) = SpellsNumber value
-IsFileToken kind.End = Unit {0}
-IsFileToken kind.Colon = Unit {0}
-IsFileToken kind.Arrow = Unit {0}
-IsFileToken kind.Equals = Unit {0}
-IsFileToken kind.Plus = Unit {0}
-IsFileToken kind.Minus = Unit {0}
-IsFileToken kind.Open = Unit {0}
-IsFileToken kind.Close = Unit {0}
-IsFileToken kind.OpenSquare = Unit {0}
-IsFileToken kind.CloseSquare = Unit {0}
-IsFileToken kind.Quote = Unit {0}
+IsFileToken k = Unit {0}
 
 abbrev pub AllKinds : (TokenKind → Type 0) → List TokenKind → Type 0
 AllKinds P [] = Unit {0}
@@ -176,17 +157,7 @@ item_makes c rest scalar =
 file_token : (k : TokenKind) → IsToken k → IsFileToken k
 file_token (kind.Name x) t = t
 file_token (kind.Literal n) t = t
-file_token kind.Colon t = tt
-file_token kind.Arrow t = tt
-file_token kind.Equals t = tt
-file_token kind.Plus t = tt
-file_token kind.Minus t = tt
-file_token kind.Open t = tt
-file_token kind.Close t = tt
-file_token kind.OpenSquare t = tt
-file_token kind.CloseSquare t = tt
-file_token kind.Quote t = tt
-file_token kind.End t = tt
+file_token k t = tt
 
 abbrev AreFileTokens : List Token → Type 0
 AreFileTokens ts = AllKinds IsFileToken (kinds ts)

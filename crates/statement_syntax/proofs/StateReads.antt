@@ -134,38 +134,16 @@ outside_reads levels head part kind.End at = tt
 square_reads : (levels : List Level) (head : Head) (part : Part) (left : Spot) (k : TokenKind) (at : Spot)
     → Reads levels head part (square left) (sign_token k at) (step_square levels head part left at k)
 square_reads levels head part left (kind.Name x) at = simp (append_assoc) refl
-square_reads levels head part left (kind.Literal n) at = tt
-square_reads levels head part left kind.Colon at = tt
-square_reads levels head part left kind.Arrow at = tt
-square_reads levels head part left kind.Equals at = tt
-square_reads levels head part left kind.Plus at = tt
-square_reads levels head part left kind.Minus at = tt
-square_reads levels head part left kind.Open at = tt
-square_reads levels head part left kind.Close at = tt
-square_reads levels head part left kind.OpenSquare at = tt
-square_reads levels head part left kind.CloseSquare at = tt
-square_reads levels head part left kind.Quote at = tt
-square_reads levels head part left kind.End at = tt
+square_reads levels head part left k at = tt
 
 named_group : (a p q r x : List Token) → x ≡ p ++ (q ++ r) → (a ++ x) ++ [] ≡ ((a ++ p) ++ q) ++ r
 named_group a p q r x given = simp (given, append-nil, append_assoc) refl
 
 named_reads : (levels : List Level) (head : Head) (part : Part) (left : Spot) (n : Name) (k : TokenKind) (at : Spot)
     → Reads levels head part (named left n) (sign_token k at) (step_named levels head part left n at k)
-named_reads levels head part left n (kind.Name x) at = tt
-named_reads levels head part left n (kind.Literal x) at = tt
-named_reads levels head part left n kind.Colon at = tt
-named_reads levels head part left n kind.Arrow at = tt
-named_reads levels head part left n kind.Equals at = tt
-named_reads levels head part left n kind.Plus at = tt
-named_reads levels head part left n kind.Minus at = tt
-named_reads levels head part left n kind.Open at = tt
-named_reads levels head part left n kind.Close at = tt
-named_reads levels head part left n kind.OpenSquare at = tt
 named_reads levels head part left n kind.CloseSquare at =
     named_group (level_tokens levels ++ head_tokens head) (part_tokens part) (sign_token kind.OpenSquare left ∷ name_token n ∷ []) (sign_token kind.CloseSquare at ∷ []) _ (add-tokens part (identity left n at))
-named_reads levels head part left n kind.Quote at = tt
-named_reads levels head part left n kind.End at = tt
+named_reads levels head part left n k at = tt
 
 focus_reads : (levels : List Level) (head : Head) (part : Part) (focus : Focus) (k : TokenKind) (at : Spot)
     → Reads levels head part focus (sign_token k at) (step_by levels head part focus k at)

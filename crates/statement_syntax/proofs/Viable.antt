@@ -151,33 +151,11 @@ outside-deep levels head part kind.End at fails = absurd cc
 
 square-deep : (levels : List Level) (head : Head) (part : Part) (left : Spot) (k : TokenKind) (at : Spot) → step_square levels head part left at k ≡ Err TooDeep → ⊥
 square-deep levels head part left (kind.Name x) at fails = absurd cc
-square-deep levels head part left (kind.Literal n) at fails = absurd cc
-square-deep levels head part left kind.Colon at fails = absurd cc
-square-deep levels head part left kind.Arrow at fails = absurd cc
-square-deep levels head part left kind.Equals at fails = absurd cc
-square-deep levels head part left kind.Plus at fails = absurd cc
-square-deep levels head part left kind.Minus at fails = absurd cc
-square-deep levels head part left kind.Open at fails = absurd cc
-square-deep levels head part left kind.Close at fails = absurd cc
-square-deep levels head part left kind.OpenSquare at fails = absurd cc
-square-deep levels head part left kind.CloseSquare at fails = absurd cc
-square-deep levels head part left kind.Quote at fails = absurd cc
-square-deep levels head part left kind.End at fails = absurd cc
+square-deep levels head part left k at fails = absurd cc
 
 named-deep : (levels : List Level) (head : Head) (part : Part) (left : Spot) (n : Name) (k : TokenKind) (at : Spot) → step_named levels head part left n at k ≡ Err TooDeep → ⊥
 named-deep levels head part left n (kind.Name x) at fails = absurd cc
-named-deep levels head part left n (kind.Literal m) at fails = absurd cc
-named-deep levels head part left n kind.Colon at fails = absurd cc
-named-deep levels head part left n kind.Arrow at fails = absurd cc
-named-deep levels head part left n kind.Equals at fails = absurd cc
-named-deep levels head part left n kind.Plus at fails = absurd cc
-named-deep levels head part left n kind.Minus at fails = absurd cc
-named-deep levels head part left n kind.Open at fails = absurd cc
-named-deep levels head part left n kind.Close at fails = absurd cc
-named-deep levels head part left n kind.OpenSquare at fails = absurd cc
-named-deep levels head part left n kind.CloseSquare at fails = absurd cc
-named-deep levels head part left n kind.Quote at fails = absurd cc
-named-deep levels head part left n kind.End at fails = absurd cc
+named-deep levels head part left n k at fails = absurd cc
 
 focus-deep : (levels : List Level) (head : Head) (part : Part) (f : Focus) (t : Token) → step_by levels head part f t.kind t.at ≡ Err TooDeep → Deeper levels head part f t
 focus-deep levels head part outside t fails = outside-deep levels head part t.kind t.at fails
