@@ -14,7 +14,7 @@ use Rattle.definitions.specs.Poly.{word_eq, coefficient_of, poly_multiple, poly_
 use Rattle.definitions.proofs.Linear.{word_eq-true}
 use Rattle.nc_polynomial.specs.Collected.{coefficient_in}
 use Rattle.nc_polynomial.specs.Terms.{IsDescending}
-use Rattle.cofactor_checker.specs.declared.sum.SumFault.{SumFault}
+use Rattle.nc_polynomial.specs.declared.fault.SumFault.{SumFault}
 use Rattle.cofactor_checker.specs.Operations.{adding_operations}
 use Rattle.cofactor_checker.specs.Running.{Adds, IsStoppedBy}
 use Rattle.cofactor_checker.proofs.First.{first-fits, first-fails, stopped_before}

@@ -8,8 +8,8 @@ use borrow.Author.Tests.{ltb-true}
 use Rattle.coef_int.specs.declared.Overflow.{Overflow}
 use Rattle.coef_int.specs.Range.{IsCoefficient, is_coefficient}
 use Rattle.coef_int.specs.Operations.{product_of, exact_value, first_overflow}
-use Rattle.cofactor_checker.specs.declared.sum.SumFault.{SumFault}
-use Rattle.cofactor_checker.specs.declared.sum.SumFault.TheVariants as fault
+use Rattle.nc_polynomial.specs.declared.fault.SumFault.{SumFault}
+use Rattle.nc_polynomial.specs.declared.fault.SumFault.TheVariants as fault
 use Rattle.nc_polynomial.specs.Terms.{products}
 use Rattle.cofactor_checker.specs.Running.{IsStoppedBy}
 

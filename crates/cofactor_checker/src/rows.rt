@@ -8,9 +8,9 @@ ghost use Rattle.cofactor_checker.specs.Running.{IsRunning, IsSumOf};
 ghost use Rattle.cofactor_checker.specs.RowRefusals.{RefusesRow};
 
 use crate::Refusal;
-use crate::sum::{SumFault, add_row};
+use crate::sum::add_row;
 use cofactor_trace::CertRow;
-use nc_polynomial::Poly;
+use nc_polynomial::{Poly, SumFault};
 use std::alloc::Global;
 use std::collections::BTreeMap;
 use word_core::Word;
@@ -47,7 +47,8 @@ pub fn add_rows(
         let Some(generator) = numbered(generators, row.generator) else {
             return Err(Refusal::NoSuchGenerator { row: number });
         };
-        match add_row(&mut sum, row, generator.terms.as_slice()) {
+        let terms = generator.terms.as_slice();
+        match add_row(&mut sum, row.coef, &row.left, terms, &row.right) {
             Ok(()) => {}
             Err(SumFault::Overflow(overflow)) => {
                 return Err(Refusal::Overflow {

@@ -1,4 +1,5 @@
-use Rattle.std.proofs.Common.{rules, ◌≡◌, ◌+◌, ◌-◌, ◌<◌, ◌≤◌, length, slice_get, Some, None, sym, ◌∙◌, subst, arith}
+use Rattle.std.proofs.Common.{rules, ◌≡◌, ◌+◌, ◌-◌, ◌<◌, ◌≤◌, length, slice_get, Some, None, sym, ◌∙◌, subst, arith, to_z, of_z}
+use mir.Syntax.{w128}
 use Rattle.std.specs.BTreeMap.{btree_map_len, IsOrdered}
 use Rattle.coef_int.specs.Operations.{first_overflow}
 use Rattle.word_core.specs.Canonical.{word_cmp}
@@ -37,9 +38,10 @@ returns-in-Err-Overflow-clause-refused c =
     let is_number : IsNumberUpTo (length ps) row.generator = search rules in
     let found : slice_get ps (row.generator - 1) ≡ Some g = search rules in
     let generator : IsNumberUpTo (length (polynomials ps)) row.generator = subst (λ k. IsNumberUpTo k row.generator) (sym (length-polynomials ps)) is_number in
-    let terms : c.as_slice.result.now ≡ generator_at (polynomials ps) row.generator = search rules ∙ sym (generator_at-numbered ps row.generator g is_number found) in
+    let terms : c.as_slice-terms.result.now ≡ generator_at (polynomials ps) row.generator = search rules ∙ sym (generator_at-numbered ps row.generator g is_number found) in
     let o = c.in-Err-Overflow.overflow in
-    let first : first_overflow (adding_operations (coefficient_in c.loop-row.sum) row.coef row.left c.as_slice.result.now row.right) ≡ Some o = search rules in
+    let is : to_z w128 (of_z w128 row.coef) ≡ row.coef = search rules in
+    let first = subst (λ z. first_overflow (adding_operations (coefficient_in c.loop-row.sum) z row.left c.as_slice-terms.result.now row.right) ≡ Some o) is (search rules) in
     let refused = overflows (polynomials ps) rows c.loop-row.sum i (row_of row) there c.loop-row.invariant.sums (c.loop-row.number + 1) numbered generator o (rw terms at first) in
     subst (Overflows (polynomials ps) rows (c.loop-row.number + 1)) (sym c.in-Err-Overflow.overflow-is) refused
 
@@ -55,11 +57,12 @@ returns-then-len-gt-TERM_LIMIT-clause-refused c =
     let is_number : IsNumberUpTo (length ps) row.generator = search rules in
     let found : slice_get ps (row.generator - 1) ≡ Some g = search rules in
     let generator : IsNumberUpTo (length (polynomials ps)) row.generator = subst (λ k. IsNumberUpTo k row.generator) (sym (length-polynomials ps)) is_number in
-    let terms : c.as_slice.result.now ≡ generator_at (polynomials ps) row.generator = search rules ∙ sym (generator_at-numbered ps row.generator g is_number found) in
+    let terms : c.as_slice-terms.result.now ≡ generator_at (polynomials ps) row.generator = search rules ∙ sym (generator_at-numbered ps row.generator g is_number found) in
     let n = c.add_row.new.sum in
-    let none : first_overflow (adding_operations (coefficient_in c.loop-row.sum) row.coef row.left c.as_slice.result.now row.right) ≡ None = search rules in
+    let is : to_z w128 (of_z w128 row.coef) ≡ row.coef = search rules in
+    let none = subst (λ z. first_overflow (adding_operations (coefficient_in c.loop-row.sum) z row.left c.as_slice-terms.result.now row.right) ≡ None) is (search rules) in
     let running : IsRunning n = search rules in
-    let adds : Adds c.loop-row.sum n (poly_multiple row.coef (poly_between row.left c.as_slice.result.now row.right)) = search rules in
+    let adds = subst (λ z. Adds c.loop-row.sum n (poly_multiple z (poly_between row.left c.as_slice-terms.result.now row.right))) is (search rules) in
     let ordered : IsOrdered word_cmp n = search rules in
     let large : 200000 < btree_map_len n = search rules in
     outgrows (polynomials ps) rows c.loop-row.sum i (row_of row) there c.loop-row.invariant.sums (c.loop-row.number + 1) numbered generator (rw terms at none) n running (rw terms at adds) ordered large
@@ -76,14 +79,16 @@ loop-row-preserved c =
     let is_number : IsNumberUpTo (length ps) row.generator = search rules in
     let found : slice_get ps (row.generator - 1) ≡ Some g = search rules in
     let generator : IsNumberUpTo (length (polynomials ps)) row.generator = subst (λ k. IsNumberUpTo k row.generator) (sym (length-polynomials ps)) is_number in
-    let terms : c.as_slice.result.now ≡ generator_at (polynomials ps) row.generator = search rules ∙ sym (generator_at-numbered ps row.generator g is_number found) in
+    let terms : c.as_slice-terms.result.now ≡ generator_at (polynomials ps) row.generator = search rules ∙ sym (generator_at-numbered ps row.generator g is_number found) in
     let n = c.add_row.new.sum in
-    let none : first_overflow (adding_operations (coefficient_in c.loop-row.sum) row.coef row.left c.as_slice.result.now row.right) ≡ None = search rules in
+    let is : to_z w128 (of_z w128 row.coef) ≡ row.coef = search rules in
+    let none = subst (λ z. first_overflow (adding_operations (coefficient_in c.loop-row.sum) z row.left c.as_slice-terms.result.now row.right) ≡ None) is (search rules) in
     let running : IsRunning n = search rules in
-    let adds : Adds c.loop-row.sum n (poly_multiple row.coef (poly_between row.left c.as_slice.result.now row.right)) = search rules in
+    let adds = subst (λ z. Adds c.loop-row.sum n (poly_multiple z (poly_between row.left c.as_slice-terms.result.now row.right))) is (search rules) in
     let ordered : IsOrdered word_cmp n = search rules in
     let small : btree_map_len n ≤ 200000 = search rules in
     record {
       numbered = numbered;
+      ordered = ordered;
       sums = passes (polynomials ps) rows c.loop-row.sum i (row_of row) there c.loop-row.invariant.sums (c.loop-row.number + 1) numbered generator (rw terms at none) n running (rw terms at adds) ordered small;
     }
