@@ -1,5 +1,5 @@
 -- the terms of a sum, and those that a scale does not divide
-use Rattle.std.proofs.Common.{◌≡◌, ◌≢◌, inl, inr, ℕ, zero, suc, ℤ, pos, negsuc, ◌+ℤ◌, ◌*ℤ◌, neg_ℤ, ◌≤ℤ◌, int_div, List, [], ◌∷◌, ◌++◌, map, length, Bool, true, false, cond, nat_lt, Result, Ok, Err, refl, sym, ap, ap₂, subst, ◌∙◌, arith}
+use Rattle.std.proofs.Common.{◌≡◌, inl, inr, ℕ, zero, suc, ℤ, pos, negsuc, ◌+ℤ◌, ◌*ℤ◌, neg_ℤ, ◌≤ℤ◌, int_div, List, [], ◌∷◌, ◌++◌, map, length, Bool, true, false, cond, nat_lt, Result, Ok, Err, refl, sym, ap, ap₂, subst, ◌∙◌, arith}
 use Rattle.std.proofs.lemmas.Int.{ints, unsigned_abs-mul}
 use Rattle.std.proofs.Math.Nat.{dvd-mul_right}
 use Rattle.std.specs.BTreeMap.{BTreeMap, IsOrdered}
@@ -17,30 +17,11 @@ use Rattle.nc_polynomial.specs.declared.fault.PolyFault.TheVariants as fault
 use Rattle.nc_polynomial.specs.Ascending.{reversed}
 use Rattle.nc_polynomial.specs.Collected.{collected}
 use Rattle.nc_polynomial.specs.Content.{DividesEach}
-use Rattle.nc_polynomial.specs.Terms.{keep}
 use Rattle.nc_polynomial.proofs.CollectedTerms.{coefficient_of-collected, descending-collected, nonzero-collected}
-use Rattle.nc_polynomial.proofs.Tables.{reversed-append, descending-table, nonzero-table, coefficient_of-table}
+use Rattle.nc_polynomial.proofs.Tables.{descending-table, nonzero-table, coefficient_of-table}
 use Rattle.nc_polynomial.proofs.Unique.{descending_unique}
 use Rattle.cofactor_checker.specs.Running.{IsSumOf}
 use Rattle.evidence_checker.specs.Lemmas.{IsLeastIndivisible}
-
-keep_nonzero : (z : ℤ) (w : List ℕ) (p : List (ℤ × List ℕ)) → z ≢ pos 0 → keep z w p ≡ (z, w) ∷ p
-keep_nonzero (pos zero) w p nonzero = absurd (nonzero refl)
-keep_nonzero (pos (suc n)) w p nonzero = refl
-keep_nonzero (negsuc n) w p nonzero = refl
-
-append_one : (p : List (ℤ × List ℕ)) (t : ℤ × List ℕ) (q : List (ℤ × List ℕ)) → (p ++ t ∷ []) ++ q ≡ p ++ t ∷ q
-append_one [] t q = refl
-append_one (u ∷ p) t q = ap (λ l. u ∷ l) (append_one p t q)
-
--- the last entry is moved to the end of the terms
-pub step_kept : (old new : List (List ℕ × ℤ)) (w : List ℕ) (z : ℤ) (out : List (ℤ × List ℕ)) → old ≡ new ++ (w, z) ∷ [] → z ≢ pos 0 → (out ++ (z, w) ∷ []) ++ reversed new [] ≡ out ++ reversed old []
-step_kept old new w z out removed nonzero =
-    append_one out (z, w) (reversed new [])
-    ∙ ap (λ l. out ++ l) (sym (ap (λ es. reversed es []) removed ∙ reversed-append new (w, z) [] ∙ keep_nonzero z w (reversed new []) nonzero))
-
-pub step_left_out : (old new : List (List ℕ × ℤ)) (w : List ℕ) (z : ℤ) (out : List (ℤ × List ℕ)) → old ≡ new ++ (w, z) ∷ [] → z ≡ pos 0 → out ++ reversed new [] ≡ out ++ reversed old []
-step_left_out old new w z out removed none = ap (λ l. out ++ l) (sym (ap (λ es. reversed es []) removed ∙ reversed-append new (w, z) [] ∙ ap (λ k. keep k w (reversed new [])) none))
 
 -- the terms of a map are those of each polynomial with its coefficients
 pub collected_is : (m : BTreeMap (List ℕ) ℤ) (p : List (ℤ × List ℕ)) → IsOrdered word_cmp m → IsSumOf m p → reversed m.entries [] ≡ collected p

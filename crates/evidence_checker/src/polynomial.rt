@@ -1,8 +1,6 @@
 //! The polynomial of a lemma.
-ghost use Rattle.std.specs.Prelude.{◌≡◌, ◌+◌, ◌≤◌, ◌≤ℤ◌, [], pos, length, OnOk, IfOk, IfErr, IfSome, IfNone};
+ghost use Rattle.std.specs.Prelude.{◌≡◌, ◌+◌, ◌≤◌, ◌≤ℤ◌, pos, length, OnOk, IfOk, IfErr, IfSome, IfNone};
 ghost use Rattle.adjoint_rules.specs.Problem.{polynomials};
-ghost use Rattle.nc_polynomial.specs.Ascending.{reversed};
-ghost use Rattle.cofactor_checker.specs.Running.{IsRunning};
 ghost use Rattle.evidence_checker.specs.Lemmas.{HasLeastIndivisible, IsDivisible, IsMade, lemma_polynomial, RefusesLemma};
 ghost use Rattle.evidence_checker.specs.Acceptance.{HasScale, IsRanged};
 
@@ -10,28 +8,10 @@ use crate::EvidenceRefusal;
 use crate::rows::add_rows;
 use crate::scales::divides;
 use cofactor_trace::Lemma;
-use lists::Listing;
+use nc_polynomial::table::descending;
 use nc_polynomial::{Poly, PolyFault};
-use std::alloc::{AllocError, Global};
-use std::collections::BTreeMap;
+use std::alloc::Global;
 use word_core::Word;
-
-// The words with their coefficients, descending.
-fn descending(
-    alloc: Global,
-    mut sum: BTreeMap<Word, i128>,
-) -> Result<Listing<(i128, Word)>, AllocError>
-    requires { IsRunning sum }
-    ensures { IfOk result (λ terms. terms ≡ reversed sum.entries []) }
-{
-    let mut terms = Listing::new(alloc);
-    while let Some((word, coefficient)) = sum.pop_last() {
-        if coefficient != 0 {
-            terms.push((coefficient, word))?;
-        }
-    }
-    Ok(terms)
-}
 
 // The last term whose coefficient the scale doesn't divide.
 fn indivisible<'a>(terms: &'a [(i128, Word)], scale: i128) -> Option<&'a (i128, Word)>

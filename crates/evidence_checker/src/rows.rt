@@ -1,25 +1,20 @@
 //! The rows of a lemma or of the goal, added up.
-ghost use Rattle.std.specs.Prelude.{◌≡◌, ◌≤◌, ◌+◌, ◌++◌, length, All, OnOk, IfOk, IfErr, IfSome, IfNone, MatchResult, None};
+ghost use Rattle.std.specs.Prelude.{◌≡◌, ◌≤◌, ◌+◌, ◌++◌, length, All, OnOk, IfOk, IfErr, IfSome, IfNone};
 ghost use Rattle.std.specs.BTreeMap.{IsOrdered};
-ghost use Rattle.coef_int.specs.Operations.{first_overflow};
 ghost use Rattle.coef_int.specs.Range.{IsCoefficient};
 ghost use Rattle.definitions.specs.Combination.{generator_at};
-ghost use Rattle.definitions.specs.Poly.{poly_multiple, poly_between};
 ghost use Rattle.adjoint_rules.specs.Problem.{polynomials};
-ghost use Rattle.nc_polynomial.specs.Shape.{IsShaped};
-ghost use Rattle.nc_polynomial.specs.Collected.{coefficient_in};
 ghost use Rattle.word_core.specs.Canonical.{word_cmp};
-ghost use Rattle.cofactor_checker.specs.Operations.{adding_operations};
 ghost use Rattle.cofactor_checker.specs.Rows.{IsNumberUpTo};
-ghost use Rattle.cofactor_checker.specs.Running.{IsRunning, IsSumOf, Adds, IsStoppedBy};
+ghost use Rattle.cofactor_checker.specs.Running.{IsRunning, IsSumOf};
 ghost use Rattle.evidence_checker.specs.Rows.{place_of, plain_sum};
 ghost use Rattle.evidence_checker.specs.Lemmas.{LemmaRowsPass, RefusesRows};
 
 use crate::EvidenceRefusal;
 use cofactor_checker::rows::numbered;
-use cofactor_checker::sum::{SumFault, add_row};
-use cofactor_trace::{CertFrom, CertRow, LemmaRow};
-use nc_polynomial::Poly;
+use cofactor_checker::sum::add_row;
+use cofactor_trace::{CertFrom, LemmaRow};
+use nc_polynomial::{Poly, SumFault};
 use std::alloc::Global;
 use std::collections::BTreeMap;
 use word_core::Word;
@@ -40,31 +35,6 @@ fn named<'a>(generators: &'a [Poly], lemmas: &'a [Poly], from: CertFrom) -> Opti
         CertFrom::Generator(number) => numbered(generators, number),
         CertFrom::Lemma(number) => numbered(lemmas, number),
     }
-}
-
-// Adds the row c l G r to the sum, where G has these terms.
-fn add_terms(
-    sum: &mut BTreeMap<Word, i128>,
-    row: &LemmaRow,
-    terms: &[(i128, Word)],
-) -> Result<(), SumFault>
-    requires coefficient { IsCoefficient row.now.coef }
-    requires shaped { IsShaped terms.now }
-    requires running { IsRunning sum.old }
-    ensures running { OnOk result (IsRunning sum.new) }
-    ensures added { let r = row.now in
-        OnOk result (Adds sum.old sum.new (poly_multiple r.coef (poly_between r.left terms.now r.right))) }
-    ensures exact { let r = row.now in
-        let first = first_overflow (adding_operations (coefficient_in sum.old) r.coef r.left terms.now r.right) in
-        MatchResult result (λ _. first ≡ None) (IsStoppedBy first) }
-{
-    let plain = CertRow {
-        coef: row.coef,
-        left: row.left.copy()?,
-        generator: 0,
-        right: row.right.copy()?,
-    };
-    add_row(sum, &plain, terms)
 }
 
 /// The sum of the rows of a lemma or of the goal, before which so many rows stand, or the first refusal among
@@ -94,7 +64,8 @@ pub(crate) fn add_rows(
                 CertFrom::Lemma(_) => Err(EvidenceRefusal::NoSuchLemma { row: number }),
             };
         };
-        match add_terms(&mut sum, row, named.terms.as_slice()) {
+        let terms = named.terms.as_slice();
+        match add_row(&mut sum, row.coef, &row.left, terms, &row.right) {
             Ok(()) => {}
             Err(SumFault::Overflow(overflow)) => {
                 return Err(EvidenceRefusal::Overflow {

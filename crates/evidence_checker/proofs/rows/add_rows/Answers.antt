@@ -1,4 +1,5 @@
-use Rattle.std.proofs.Common.{rules, ◌≡◌, ◌+◌, ◌++◌, ◌<◌, ◌≤◌, length, Some, None, sym, subst, ◌∙◌, arith}
+use Rattle.std.proofs.Common.{rules, ◌≡◌, ◌+◌, ◌++◌, ◌<◌, ◌≤◌, length, Some, None, sym, subst, ◌∙◌, arith, to_z, of_z}
+use mir.Syntax.{w128}
 use Rattle.std.proofs.lemmas.List.{length-map}
 use Rattle.std.specs.BTreeMap.{btree_map_len, IsOrdered}
 use Rattle.coef_int.specs.Operations.{first_overflow}
@@ -40,11 +41,12 @@ returns-in-Err-Overflow-clause-refused c =
     let i = c.loop-row.row-index in
     let m = c.loop-row.sum in
     let counted : c.loop-row.number + 1 ≡ c.args.before + (i + 1) = omega arith in
-    let terms = c.as_slice.result.now in
+    let terms = c.as_slice-terms.result.now in
     let found : generator_at (polynomials gs ++ polynomials ls) (place_of (length gs) (length ls) row.from) ≡ terms = search rules in
     let numbered : IsNumberUpTo (length gs + length ls) (place_of (length gs) (length ls) row.from) = search rules in
     let o = c.in-Err-Overflow.overflow in
-    let first : first_overflow (adding_operations (coefficient_in m) row.coef row.left terms row.right) ≡ Some o = search rules in
+    let is : to_z w128 (of_z w128 row.coef) ≡ row.coef = search rules in
+    let first = subst (λ z. first_overflow (adding_operations (coefficient_in m) z row.left terms row.right) ≡ Some o) is (search rules) in
     let refused = overflows_at gs ls c.args.before rows m i row c.loop-row-test.true c.row-item.is c.loop-row.invariant.sums (c.loop-row.number + 1) counted terms found numbered o first in
     subst (OverflowsAt (polynomials gs) (polynomials ls) c.args.before rows (c.loop-row.number + 1)) (sym c.in-Err-Overflow.overflow-is) refused
 
@@ -57,13 +59,14 @@ returns-then-len-gt-TERM_LIMIT-clause-refused c =
     let i = c.loop-row.row-index in
     let m = c.loop-row.sum in
     let counted : c.loop-row.number + 1 ≡ c.args.before + (i + 1) = omega arith in
-    let terms = c.as_slice.result.now in
+    let terms = c.as_slice-terms.result.now in
     let found : generator_at (polynomials gs ++ polynomials ls) (place_of (length gs) (length ls) row.from) ≡ terms = search rules in
     let numbered : IsNumberUpTo (length gs + length ls) (place_of (length gs) (length ls) row.from) = search rules in
-    let n = c.add_terms.new.sum in
-    let none : first_overflow (adding_operations (coefficient_in m) row.coef row.left terms row.right) ≡ None = search rules in
+    let n = c.add_row.new.sum in
+    let is : to_z w128 (of_z w128 row.coef) ≡ row.coef = search rules in
+    let none = subst (λ z. first_overflow (adding_operations (coefficient_in m) z row.left terms row.right) ≡ None) is (search rules) in
     let running : IsRunning n = search rules in
-    let adds : Adds m n (poly_multiple row.coef (poly_between row.left terms row.right)) = search rules in
+    let adds = subst (λ z. Adds m n (poly_multiple z (poly_between row.left terms row.right))) is (search rules) in
     let ordered : IsOrdered word_cmp n = search rules in
     let large : 200000 < btree_map_len n = search rules in
     outgrows_at gs ls c.args.before rows m i row c.loop-row-test.true c.row-item.is c.loop-row.invariant.sums (c.loop-row.number + 1) counted terms found numbered none n running adds ordered large
@@ -77,13 +80,14 @@ loop-row-preserved c =
     let i = c.loop-row.row-index in
     let m = c.loop-row.sum in
     let counted : c.loop-row.number + 1 ≡ c.args.before + (i + 1) = omega arith in
-    let terms = c.as_slice.result.now in
+    let terms = c.as_slice-terms.result.now in
     let found : generator_at (polynomials gs ++ polynomials ls) (place_of (length gs) (length ls) row.from) ≡ terms = search rules in
     let numbered : IsNumberUpTo (length gs + length ls) (place_of (length gs) (length ls) row.from) = search rules in
-    let n = c.add_terms.new.sum in
-    let none : first_overflow (adding_operations (coefficient_in m) row.coef row.left terms row.right) ≡ None = search rules in
+    let n = c.add_row.new.sum in
+    let is : to_z w128 (of_z w128 row.coef) ≡ row.coef = search rules in
+    let none = subst (λ z. first_overflow (adding_operations (coefficient_in m) z row.left terms row.right) ≡ None) is (search rules) in
     let running : IsRunning n = search rules in
-    let adds : Adds m n (poly_multiple row.coef (poly_between row.left terms row.right)) = search rules in
+    let adds = subst (λ z. Adds m n (poly_multiple z (poly_between row.left terms row.right))) is (search rules) in
     let ordered : IsOrdered word_cmp n = search rules in
     let small : btree_map_len n ≤ 200000 = search rules in
     record { numbered = omega arith; ordered = ordered; sums = passes_at gs ls c.args.before rows m i row c.loop-row-test.true c.row-item.is c.loop-row.invariant.sums (c.loop-row.number + 1) counted terms found numbered none n running adds ordered small }
