@@ -1,5 +1,5 @@
-pub mod Closing
 pub mod Cuts
+pub mod Closing
 pub mod Numbers
 pub mod Fronts
 pub mod Reading

@@ -10,6 +10,7 @@ use Rattle.certificate_text.specs.Fault.{◌>>=◌}
 use Rattle.certificate_text.specs.Letters.{is_letter, is_number, is_integer}
 use Rattle.certificate_text.specs.Lines.{RowTokens, is, is_close, closed, number_part, origin_part, row_parts, is_row, row_of, row_values, lemma_row_of, over_lemma}
 use Rattle.certificate_text.specs.Blocks.{origin_tokens, row_line, IsPlainRow}
+use Rattle.certificate_text.proofs.Closing.{closed_behind}
 
 -- ---- tokens that are no words
 
@@ -30,10 +31,6 @@ letters_are_unclosed (token ∷ tokens) all =
     (other_word is_letter (codes ")") token parts.0 no_letter, letters_are_unclosed tokens parts.1)
 
 -- ---- the parts of a row
-
-closed_behind : (tokens rest : List (List ℕ)) → AllByRecursion (λ t. is_close t ≡ false) tokens → closed (tokens ++ codes ")" ∷ rest) ≡ Some (tokens, rest)
-closed_behind [] rest each = refl
-closed_behind (token ∷ tokens) rest each = rw (each.0, closed_behind tokens rest each.1) refl
 
 number_read : (coefficient : List ℕ) (left : List (List ℕ)) (lemma : Bool) (number : List ℕ) (right : List (List ℕ)) → AllByRecursion (λ t. is_close t ≡ false) right
     → number_part coefficient left lemma (number ∷ codes "(" ∷ (right ++ codes ")" ∷ [])) ≡ Some (record { coefficient = coefficient; left = left; lemma = lemma; number = number; right = right })

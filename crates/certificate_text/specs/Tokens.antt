@@ -1,6 +1,7 @@
 -- The tokens of a line. Blanks and tabs separate, ( ) ; = are tokens of their own, and every other run of characters is one.
-use Rattle.std.specs.Prelude.{ℕ, ◌==◌, ◌||◌, Bool, true, false, not, List, [], ◌∷◌, if◌then◌else◌}
+use Rattle.std.specs.Prelude.{ℕ, ◌==◌, ◌||◌, Bool, true, false, not, List, [], ◌∷◌, Option, Some, None, if◌then◌else◌}
 use Rattle.std.specs.List.{onto_first, prefix_len}
+use Rattle.std.specs.Option.{option_map}
 
 -- a blank or a tab
 abbrev pub is_gap : ℕ → Bool
@@ -33,6 +34,21 @@ tokens_of (c ∷ cs) =
 abbrev pub token_len : List ℕ → ℕ
 token_len [] = 0
 token_len (c ∷ cs) = if is_sign c then 1 else prefix_len is_plain (c ∷ cs)
+
+-- the token of a line that has one
+abbrev pub one_token : List (List ℕ) → Option (List ℕ)
+one_token [] = None
+one_token (token ∷ []) = Some token
+one_token (token ∷ other ∷ tokens) = None
+
+-- the tokens of a line that has two
+abbrev pub two_tokens : List (List ℕ) → Option (List ℕ × List ℕ)
+two_tokens [] = None
+two_tokens (first ∷ tokens) = option_map (λ second. (first, second)) (one_token tokens)
+
+-- whether the character is a closing bracket
+abbrev pub is_closing : ℕ → Bool
+is_closing c = c == 41
 
 -- whether the first character is #
 abbrev pub begins_comment : List ℕ → Bool

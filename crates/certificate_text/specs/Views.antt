@@ -5,13 +5,11 @@ use Rattle.certificate_text.specs.declared.letter.Spelled as code_letter
 use Rattle.certificate_text.specs.declared.row.RowTokens as code_row
 use Rattle.certificate_text.specs.Letters.{Spelled}
 use Rattle.certificate_text.specs.Lines.{RowTokens}
-
--- the tokens that are pointed to
-abbrev pub texts : List (Bor (List ℕ)) → List (List ℕ)
-texts tokens = map (λ token. token.now) tokens
+use Rattle.certificate_text.specs.Tokens.{tokens_of}
 
 abbrev pub spelled : code_letter.Spelled → Spelled
 spelled s = record { name = s.name.now; identity = s.identity; adjoint = s.adjoint }
 
+-- the letters are the tokens of what stands in brackets
 abbrev pub parts_of : code_row.RowTokens → RowTokens
-parts_of r = record { coefficient = r.coefficient.now; left = texts r.left.now; lemma = r.lemma; number = r.number.now; right = texts r.right.now }
+parts_of r = record { coefficient = r.coefficient.now; left = tokens_of r.left.now; lemma = r.lemma; number = r.number.now; right = tokens_of r.right.now }

@@ -1,12 +1,9 @@
 //! Bytes to lines, and lines to tokens.
 
-ghost use Rattle.std.specs.Prelude.{◌≡◌, ◌∷◌, ◌<◌, ◌≤◌, false, length, slice_index, position, IfOk, IfSome};
+ghost use Rattle.std.specs.Prelude.{◌≡◌, [], ◌∷◌, ◌<◌, ◌≤◌, false, length, slice_index, position, IfSome, MatchOption};
 ghost use Rattle.std.specs.List.{prefix_len};
 ghost use Rattle.std.specs.Str.Lines.{lines, strip_carriage_return};
 ghost use Rattle.certificate_text.specs.Tokens.{is_line_end, is_gap, is_sign, is_plain, token_len, tokens_of, begins_comment, is_skipped};
-ghost use Rattle.certificate_text.specs.Views.{texts};
-
-use std::alloc::{AllocError, Global};
 
 fn line_end(text: &[u8]) -> Option<usize>
     ensures first { result ≡ position is_line_end text.now }
@@ -72,8 +69,8 @@ fn token_len(text: &[u8]) -> usize
     }
 }
 
-// The token at the front of a line, and what stands behind it.
-fn first_token(line: &[u8]) -> (&[u8], &[u8])
+// The token at the front of a line that begins with one, and what stands behind it.
+fn token_cut(line: &[u8]) -> (&[u8], &[u8])
     requires some { 0 < length line.now }
     requires token { is_gap (slice_index line.now 0) ≡ false }
     ensures tokens { tokens_of line.now ≡ result.0.now ∷ tokens_of result.1.now }
@@ -83,22 +80,19 @@ fn first_token(line: &[u8]) -> (&[u8], &[u8])
     (&line[..length], &line[length..])
 }
 
-/// The tokens of a line.
-pub fn tokens_of(alloc: Global, line: &[u8]) -> Result<Vec<&[u8]>, AllocError>
-    ensures { IfOk result (λ tokens. texts tokens.items ≡ tokens_of line.now) }
+/// The first token of a line, and what stands behind it.
+pub fn first_token(line: &[u8]) -> Option<(&[u8], &[u8])>
+    ensures tokens { MatchOption result (tokens_of line.now ≡ []) (λ parts. tokens_of line.now ≡ parts.0.now ∷ tokens_of parts.1.now) }
+    ensures shorter { IfSome result (λ parts. length parts.1.now < length line.now) }
 {
-    let mut tokens = Vec::new(alloc);
     let mut rest = line;
     while let [first, behind @ ..] = rest {
-        if is_gap(*first) {
-            rest = behind;
-        } else {
-            let (token, behind) = first_token(rest);
-            tokens.push(token)?;
-            rest = behind;
+        if !is_gap(*first) {
+            return Some(token_cut(rest));
         }
+        rest = behind;
     }
-    Ok(tokens)
+    None
 }
 
 fn begins_comment(token: &[u8]) -> bool
@@ -111,11 +105,11 @@ fn begins_comment(token: &[u8]) -> bool
 }
 
 /// Whether the line is blank or a comment.
-pub fn is_skipped(line: &[&[u8]]) -> bool
-    ensures { result ≡ is_skipped (texts line.now) }
+pub fn is_skipped(line: &[u8]) -> bool
+    ensures { result ≡ is_skipped (tokens_of line.now) }
 {
-    match line {
-        [first, ..] => begins_comment(first),
-        [] => true,
+    match first_token(line) {
+        Some((first, _)) => begins_comment(first),
+        None => true,
     }
 }

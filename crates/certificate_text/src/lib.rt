@@ -14,7 +14,7 @@ mod row;
 mod step;
 mod write;
 
-pub use cut::{first_line, is_skipped, tokens_of};
+pub use cut::{first_line, first_token, is_skipped};
 pub use evidence::{put_evidence, write_evidence};
 pub use fault::{CertFault, Flaw, LineFault, TextFlaw, at_line};
 pub use laws::{

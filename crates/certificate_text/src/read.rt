@@ -12,7 +12,7 @@ ghost use Rattle.std.specs.Str.{is_utf8};
 ghost use Rattle.std.specs.Str.Lines.{lines};
 
 use crate::CertFault;
-use crate::cut::{first_line, is_skipped, tokens_of};
+use crate::cut::{first_line, is_skipped};
 use crate::fault::{LineFault, TextFlaw, at_line};
 use crate::place::{Place, Progress};
 use crate::step::step;
@@ -30,11 +30,10 @@ fn read_line(
 ) -> Result<Progress, LineFault>
     ensures { Reads (λ p. p) result (read_tokens most quiver.now progress (tokens_of line.now)) }
 {
-    let tokens = tokens_of(alloc, line)?;
-    if is_skipped(&tokens) {
+    if is_skipped(line) {
         return Ok(progress);
     }
-    step(alloc, most, quiver, progress, &tokens)
+    step(alloc, most, quiver, progress, line)
 }
 
 fn read_lines(

@@ -7,8 +7,10 @@ ghost use Rattle.certificate_text.specs.declared.fault.Flaw.TheVariants as flaw;
 ghost use Rattle.certificate_text.specs.Fault.{Reads, asked};
 ghost use Rattle.certificate_text.specs.Letters.{is_letter};
 ghost use Rattle.certificate_text.specs.Lines.{is_close, closed, bracketed, number_part, origin_part, row_parts, is_row, row_tokens, word_of, row_values, row_of, over_lemma, lemma_row_of, grown};
-ghost use Rattle.certificate_text.specs.Views.{texts, parts_of};
+ghost use Rattle.certificate_text.specs.Tokens.{is_closing, tokens_of};
+ghost use Rattle.certificate_text.specs.Views.{parts_of};
 
+use crate::cut::first_token;
 use crate::fault::{Flaw, LineFault};
 use crate::letter::{is_letter, letter_of};
 use crate::line::{INTEGER_LIMIT, NUMBER_LIMIT, ROW_LIMIT, is};
@@ -23,27 +25,28 @@ const WORD_LIMIT: u32 = 500;
 
 const LETTER_LIMIT: u32 = 1000000;
 
-/// The tokens of C, of the letters in front, of the number of the generator or lemma, and of the letters behind it.
+/// The tokens of C and of the number of the generator or lemma, and the letters in the brackets in front of it and behind it.
 #[derive(Drop)]
-struct RowTokens<'a, 'b> {
+struct RowTokens<'a> {
     coefficient: &'a [u8],
-    left: &'b [&'a [u8]],
+    left: &'a [u8],
     /// Whether `lemma` stands in front of the number.
     lemma: bool,
     number: &'a [u8],
-    right: &'b [&'a [u8]],
+    right: &'a [u8],
 }
 
-fn close_place(line: &[&[u8]]) -> Option<usize>
-    ensures first { result ≡ position (λ token. is_close token.now) line.now }
+// The place of the first `)`.
+fn close_place(line: &[u8]) -> Option<usize>
+    ensures first { result ≡ position is_closing line.now }
     ensures within { IfSome result (λ place. place < length line.now) }
 {
-    line.iter().position(|token| is(")", token))
+    line.iter().position(|byte| *byte == b')')
 }
 
 // What stands before the first `)` and what stands behind it.
-fn closed<'a, 'b>(line: &'b [&'a [u8]]) -> Option<(&'b [&'a [u8]], &'b [&'a [u8]])>
-    ensures { option_map (λ parts. (texts parts.0.now, texts parts.1.now)) result ≡ closed (texts line.now) }
+fn closed(line: &[u8]) -> Option<(&[u8], &[u8])>
+    ensures { option_map (λ parts. (tokens_of parts.0.now, tokens_of parts.1.now)) result ≡ closed (tokens_of line.now) }
 {
     match close_place(line) {
         Some(place) => Some((&line[..place], &line[place + 1..])),
@@ -52,60 +55,53 @@ fn closed<'a, 'b>(line: &'b [&'a [u8]]) -> Option<(&'b [&'a [u8]], &'b [&'a [u8]
 }
 
 // What stands in a `( .. )` that begins the line and what stands behind it.
-fn bracketed<'a, 'b>(line: &'b [&'a [u8]]) -> Option<(&'b [&'a [u8]], &'b [&'a [u8]])>
-    ensures { option_map (λ parts. (texts parts.0.now, texts parts.1.now)) result ≡ bracketed (texts line.now) }
+fn bracketed(line: &[u8]) -> Option<(&[u8], &[u8])>
+    ensures { option_map (λ parts. (tokens_of parts.0.now, tokens_of parts.1.now)) result ≡ bracketed (tokens_of line.now) }
 {
-    match line {
-        [first, rest @ ..] if is("(", first) => closed(rest),
+    match first_token(line) {
+        Some((first, rest)) if is("(", first) => closed(rest),
         _ => None,
     }
 }
 
 // `N ( .. )` at the end of a row, behind `lemma` or not.
-fn number_part<'a, 'b>(
+fn number_part<'a>(
     coefficient: &'a [u8],
-    left: &'b [&'a [u8]],
+    left: &'a [u8],
     lemma: bool,
-    line: &'b [&'a [u8]],
-) -> Option<RowTokens<'a, 'b>>
-    ensures { option_map parts_of result ≡ number_part coefficient.now (texts left.now) lemma (texts line.now) }
+    line: &'a [u8],
+) -> Option<RowTokens<'a>>
+    ensures { option_map parts_of result ≡ number_part coefficient.now (tokens_of left.now) lemma (tokens_of line.now) }
 {
-    let [number, rest @ ..] = line else {
-        return None;
-    };
+    let (number, rest) = first_token(line)?;
     let (right, behind) = bracketed(rest)?;
-    if !behind.is_empty() {
-        return None;
+    match first_token(behind) {
+        Some(_) => None,
+        None => Some(RowTokens {
+            coefficient,
+            left,
+            lemma,
+            number,
+            right,
+        }),
     }
-    Some(RowTokens {
-        coefficient,
-        left,
-        lemma,
-        number,
-        right,
-    })
 }
 
 // `N ( .. )` or `lemma N ( .. )` at the end of a row.
-fn origin_part<'a, 'b>(
-    coefficient: &'a [u8],
-    left: &'b [&'a [u8]],
-    line: &'b [&'a [u8]],
-) -> Option<RowTokens<'a, 'b>>
-    ensures { option_map parts_of result ≡ origin_part coefficient.now (texts left.now) (texts line.now) }
+fn origin_part<'a>(coefficient: &'a [u8], left: &'a [u8], line: &'a [u8]) -> Option<RowTokens<'a>>
+    ensures { option_map parts_of result ≡ origin_part coefficient.now (tokens_of left.now) (tokens_of line.now) }
 {
-    match line {
-        [word, rest @ ..] if is("lemma", word) => number_part(coefficient, left, true, rest),
+    match first_token(line) {
+        Some((word, rest)) if is("lemma", word) => number_part(coefficient, left, true, rest),
         _ => number_part(coefficient, left, false, line),
     }
 }
 
-fn row_parts<'a, 'b>(line: &'b [&'a [u8]]) -> Option<RowTokens<'a, 'b>>
-    ensures { option_map parts_of result ≡ row_parts (texts line.now) }
+fn row_parts(line: &[u8]) -> Option<RowTokens<'_>>
+    ensures { option_map parts_of result ≡ row_parts (tokens_of line.now) }
 {
-    let [word, coefficient, rest @ ..] = line else {
-        return None;
-    };
+    let (word, behind) = first_token(line)?;
+    let (coefficient, rest) = first_token(behind)?;
     if !is("row", word) {
         return None;
     }
@@ -113,13 +109,20 @@ fn row_parts<'a, 'b>(line: &'b [&'a [u8]]) -> Option<RowTokens<'a, 'b>>
     origin_part(coefficient, left, behind)
 }
 
-fn are_letters(tokens: &[&[u8]]) -> bool
-    ensures { result ≡ list_all is_letter (texts tokens.now) }
+fn are_letters(letters: &[u8]) -> bool
+    ensures { result ≡ list_all is_letter (tokens_of letters.now) }
 {
-    tokens.iter().all(|token| is_letter(token))
+    let mut rest = letters;
+    while let Some((token, behind)) = first_token(rest) {
+        if !is_letter(token) {
+            return false;
+        }
+        rest = behind;
+    }
+    true
 }
 
-fn is_row(row: &RowTokens<'_, '_>) -> bool
+fn is_row(row: &RowTokens<'_>) -> bool
     ensures { result ≡ is_row (parts_of row.now) }
 {
     is_integer(row.coefficient)
@@ -129,8 +132,8 @@ fn is_row(row: &RowTokens<'_, '_>) -> bool
 }
 
 // The tokens of a row. Rows over lemmas are in certificates of format 2 alone.
-fn row_tokens<'a, 'b>(format: Format, line: &'b [&'a [u8]]) -> Option<RowTokens<'a, 'b>>
-    ensures exact { option_map parts_of result ≡ row_tokens format (texts line.now) }
+fn row_tokens(format: Format, line: &[u8]) -> Option<RowTokens<'_>>
+    ensures exact { option_map parts_of result ≡ row_tokens format (tokens_of line.now) }
     ensures row { IfSome result (λ row. IsTrue (is_row (parts_of row))) }
 {
     let row = row_parts(line)?;
@@ -141,25 +144,23 @@ fn row_tokens<'a, 'b>(format: Format, line: &'b [&'a [u8]]) -> Option<RowTokens<
     if fits { Some(row) } else { None }
 }
 
-fn word_of(alloc: Global, quiver: &Quiver, tokens: &[&[u8]]) -> Result<Word, LineFault>
-    ensures { Reads (λ w. w) result (asked flaw.UnknownName (word_of quiver.now (texts tokens.now))) }
+fn word_of(alloc: Global, quiver: &Quiver, letters: &[u8]) -> Result<Word, LineFault>
+    ensures { Reads (λ w. w) result (asked flaw.UnknownName (word_of quiver.now (tokens_of letters.now))) }
 {
     let mut word = Word::new(alloc);
-    for token in tokens {
+    let mut rest = letters;
+    while let Some((token, behind)) = first_token(rest) {
         let Some(letter) = letter_of(quiver, token) else {
             return Err(LineFault::Flaw(Flaw::UnknownName));
         };
         word.push(letter)?;
+        rest = behind;
     }
     Ok(word)
 }
 
 // The values of the tokens, by the number of the generator or lemma.
-fn row_values(
-    alloc: Global,
-    quiver: &Quiver,
-    tokens: &RowTokens<'_, '_>,
-) -> Result<CertRow, LineFault>
+fn row_values(alloc: Global, quiver: &Quiver, tokens: &RowTokens<'_>) -> Result<CertRow, LineFault>
     requires { IsTrue (is_row (parts_of tokens.now)) }
     ensures { Reads (λ row. row) result (row_values quiver.now (parts_of tokens.now)) }
 {
@@ -180,8 +181,8 @@ fn row_values(
 }
 
 /// The row that the line is, in a certificate of format 1.
-pub fn row_of(alloc: Global, quiver: &Quiver, line: &[&[u8]]) -> Result<CertRow, LineFault>
-    ensures { Reads (λ row. row) result (row_of quiver.now (texts line.now)) }
+pub fn row_of(alloc: Global, quiver: &Quiver, line: &[u8]) -> Result<CertRow, LineFault>
+    ensures { Reads (λ row. row) result (row_of quiver.now (tokens_of line.now)) }
 {
     let Some(tokens) = row_tokens(Format::Plain, line) else {
         return Err(LineFault::Flaw(Flaw::BadLine));
@@ -207,8 +208,8 @@ fn over_lemma(lemma: bool, row: CertRow) -> LemmaRow
 }
 
 /// The row that the line is, in a certificate of format 2.
-pub fn lemma_row_of(alloc: Global, quiver: &Quiver, line: &[&[u8]]) -> Result<LemmaRow, LineFault>
-    ensures { Reads (λ row. row) result (lemma_row_of quiver.now (texts line.now)) }
+pub fn lemma_row_of(alloc: Global, quiver: &Quiver, line: &[u8]) -> Result<LemmaRow, LineFault>
+    ensures { Reads (λ row. row) result (lemma_row_of quiver.now (tokens_of line.now)) }
 {
     let Some(tokens) = row_tokens(Format::Lemmas, line) else {
         return Err(LineFault::Flaw(Flaw::BadLine));

@@ -3,7 +3,7 @@
 ghost use Rattle.std.specs.Prelude.{◌≡◌, ◌++◌, ◌∷◌, [], Ok};
 ghost use Rattle.certificate_text.specs.Fault.{Reads};
 ghost use Rattle.certificate_text.specs.Reading.{progress, headed, lemmas_headed, outside, begun, scaled, lemma_row, in_rows, in_lemma, in_goal, step};
-ghost use Rattle.certificate_text.specs.Views.{texts};
+ghost use Rattle.certificate_text.specs.Tokens.{tokens_of};
 ghost use Rattle.certificate_text.specs.declared.place.Place.TheVariants as place;
 ghost use Rattle.cofactor_trace.specs.declared.evidence.Format.TheVariants as format;
 
@@ -47,8 +47,8 @@ fn lemmas_headed(most: Format, blocks: Listing<Evidence>) -> Result<Progress, Fl
     }
 }
 
-fn outside(most: Format, blocks: Listing<Evidence>, line: &[&[u8]]) -> Result<Progress, Flaw>
-    ensures { result ≡ outside most blocks (texts line.now) }
+fn outside(most: Format, blocks: Listing<Evidence>, line: &[u8]) -> Result<Progress, Flaw>
+    ensures { result ≡ outside most blocks (tokens_of line.now) }
 {
     if is_plain_head(line) {
         headed(blocks, Format::Plain)
@@ -62,8 +62,8 @@ fn outside(most: Format, blocks: Listing<Evidence>, line: &[&[u8]]) -> Result<Pr
     }
 }
 
-fn skipped(blocks: Listing<Evidence>, line: &[&[u8]]) -> Progress
-    ensures { step format.Plain [] blocks place.Skipped (texts line.now) ≡ Ok result }
+fn skipped(blocks: Listing<Evidence>, line: &[u8]) -> Progress
+    ensures { step format.Plain [] blocks place.Skipped (tokens_of line.now) ≡ Ok result }
 {
     let place = if is_end(line) {
         Place::Outside
@@ -74,8 +74,8 @@ fn skipped(blocks: Listing<Evidence>, line: &[&[u8]]) -> Progress
 }
 
 // The claim behind the head.
-fn claimed(blocks: Listing<Evidence>, form: Format, line: &[&[u8]]) -> Result<Progress, Flaw>
-    ensures { result ≡ step format.Plain [] blocks (place.Headed form) (texts line.now) }
+fn claimed(blocks: Listing<Evidence>, form: Format, line: &[u8]) -> Result<Progress, Flaw>
+    ensures { result ≡ step format.Plain [] blocks (place.Headed form) (tokens_of line.now) }
 {
     let claim = claim_of(line)?;
     let place = Place::Claimed { form, claim };
@@ -112,9 +112,9 @@ fn divided(
     blocks: Listing<Evidence>,
     form: Format,
     claim: u32,
-    line: &[&[u8]],
+    line: &[u8],
 ) -> Result<Progress, Flaw>
-    ensures { result ≡ step format.Plain [] blocks (place.Claimed form claim) (texts line.now) }
+    ensures { result ≡ step format.Plain [] blocks (place.Claimed form claim) (tokens_of line.now) }
 {
     let denominator = denominator_of(line)?;
     let place = begun(alloc, form, claim, denominator);
@@ -136,9 +136,9 @@ fn in_rows(
     blocks: Listing<Evidence>,
     mut certificate: Certificate,
     size: Size,
-    line: &[&[u8]],
+    line: &[u8],
 ) -> Result<Progress, LineFault>
-    ensures { Reads (λ p. p) result (in_rows quiver.now blocks certificate size (texts line.now)) }
+    ensures { Reads (λ p. p) result (in_rows quiver.now blocks certificate size (tokens_of line.now)) }
 {
     if is_end(line) {
         return ended_block(blocks, Evidence::Plain(certificate));
@@ -155,9 +155,9 @@ fn scaled(
     alloc: Global,
     blocks: Listing<Evidence>,
     opened: Opened,
-    line: &[&[u8]],
+    line: &[u8],
 ) -> Result<Progress, Flaw>
-    ensures { result ≡ scaled blocks opened (texts line.now) }
+    ensures { result ≡ scaled blocks opened (tokens_of line.now) }
 {
     let rows = Listing::new(alloc);
     let place = if begins("goal", line) {
@@ -178,9 +178,9 @@ fn lemma_row(
     quiver: &Quiver,
     mut opened: Opened,
     mut lemma: Lemma,
-    line: &[&[u8]],
+    line: &[u8],
 ) -> Result<(Opened, Lemma), LineFault>
-    ensures { Reads (λ next. next) result (lemma_row quiver.now opened lemma (texts line.now)) }
+    ensures { Reads (λ next. next) result (lemma_row quiver.now opened lemma (tokens_of line.now)) }
 {
     let row = lemma_row_of(alloc, quiver, line)?;
     opened.size = grown(opened.size, &row.left, &row.right)?;
@@ -195,9 +195,9 @@ fn in_lemma(
     blocks: Listing<Evidence>,
     mut opened: Opened,
     lemma: Lemma,
-    line: &[&[u8]],
+    line: &[u8],
 ) -> Result<Progress, LineFault>
-    ensures { Reads (λ p. p) result (in_lemma quiver.now blocks opened lemma (texts line.now)) }
+    ensures { Reads (λ p. p) result (in_lemma quiver.now blocks opened lemma (tokens_of line.now)) }
 {
     if begins("row", line) {
         let (opened, lemma) = lemma_row(alloc, quiver, opened, lemma, line)?;
@@ -215,9 +215,9 @@ fn in_goal(
     blocks: Listing<Evidence>,
     opened: Opened,
     goal: Lemma,
-    line: &[&[u8]],
+    line: &[u8],
 ) -> Result<Progress, LineFault>
-    ensures { Reads (λ p. p) result (in_goal quiver.now blocks opened goal (texts line.now)) }
+    ensures { Reads (λ p. p) result (in_goal quiver.now blocks opened goal (tokens_of line.now)) }
 {
     if is_end(line) {
         let certificate = LemmaCertificate {
@@ -239,9 +239,9 @@ pub fn step(
     most: Format,
     quiver: &Quiver,
     progress: Progress,
-    line: &[&[u8]],
+    line: &[u8],
 ) -> Result<Progress, LineFault>
-    ensures { Reads (λ p. p) result (step most quiver.now progress.blocks progress.place (texts line.now)) }
+    ensures { Reads (λ p. p) result (step most quiver.now progress.blocks progress.place (tokens_of line.now)) }
 {
     let Progress { blocks, place } = progress;
     match place {

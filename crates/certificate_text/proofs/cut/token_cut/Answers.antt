@@ -1,6 +1,6 @@
 use Rattle.std.proofs.Common.{arith}
 use Rattle.certificate_text.proofs.Cuts.{token_taken, token_is_some}
-use Rattle.certificate_text.proofs.cut.first_token.Goals as goal
+use Rattle.certificate_text.proofs.cut.token_cut.Goals as goal
 
 pub returns-clause-tokens : goal.returns-clause-tokens
 returns-clause-tokens c = token_taken c.args.line.now c.token_len-length.result c.token_len-length.ensures.exact c.requires.some c.requires.token
