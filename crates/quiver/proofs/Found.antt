@@ -12,26 +12,26 @@ use Rattle.quiver.proofs.Growth.{turn, names_from, objects_from, letters_from, o
 
 -- ---- a declaration between others
 module _ (before : List Declaration) (d : Declaration) (after : List Declaration) where
-  name_at-split : name_at (before ++ d ∷ after) (length before) ≡ name_of d
+  pub name_at-split : name_at (before ++ d ∷ after) (length before) ≡ name_of d
   name_at-split =
       ap (λ names. get_or names (length before) []) (map-append name_of before (d ∷ after))
       ∙ ap (λ n. get_or (map name_of before ++ name_of d ∷ map name_of after) n []) (sym (length-map before name_of))
       ∙ get_or-append_seam (map name_of before) (name_of d) (map name_of after) []
 
-  object_at-split : (k : ℕ) → object_at (before ++ d ∷ after) (object_count before + k) ≡ get_or (objects_from (length before) (object_count before) (letter_count before) (d ∷ after)) k no_object
+  pub object_at-split : (k : ℕ) → object_at (before ++ d ∷ after) (object_count before + k) ≡ get_or (objects_from (length before) (object_count before) (letter_count before) (d ∷ after)) k no_object
   object_at-split k =
       ap (λ table. get_or table (object_count before + k) no_object) (object_table-append before (d ∷ after))
       ∙ ap (λ n. get_or (object_table before ++ objects_from (length before) (object_count before) (letter_count before) (d ∷ after)) (n + k) no_object) (sym (length-object_table before))
       ∙ get_or-append-add (object_table before) (objects_from (length before) (object_count before) (letter_count before) (d ∷ after)) k no_object
 
-  letter_at-split : (k : ℕ) → letter_at (before ++ d ∷ after) (letter_count before + k) ≡ get_or (letters_from (length before) (object_count before) (letter_count before) (d ∷ after)) k no_letter
+  pub letter_at-split : (k : ℕ) → letter_at (before ++ d ∷ after) (letter_count before + k) ≡ get_or (letters_from (length before) (object_count before) (letter_count before) (d ∷ after)) k no_letter
   letter_at-split k =
       ap (λ table. get_or table (letter_count before + k) no_letter) (letter_table-append before (d ∷ after))
       ∙ ap (λ n. get_or (letter_table before ++ letters_from (length before) (object_count before) (letter_count before) (d ∷ after)) (n + k) no_letter) (sym (length-letter_table before))
       ∙ get_or-append-add (letter_table before) (letters_from (length before) (object_count before) (letter_count before) (d ∷ after)) k no_letter
 
 -- an object has the name of its declaration
-object_name-split : (before : List Declaration) (name : List ℕ) (after : List Declaration) → object_name (before ++ object name ∷ after) (object_count before + 0) ≡ name
+pub object_name-split : (before : List Declaration) (name : List ℕ) (after : List Declaration) → object_name (before ++ object name ∷ after) (object_count before + 0) ≡ name
 object_name-split before name after =
     ap (λ e. name_at (before ++ object name ∷ after) e.declaration) (object_at-split before (object name) after 0) ∙ name_at-split before (object name) after
 
@@ -45,11 +45,11 @@ letter_declaration before (arrow name x y false) after zero below = ap (λ e. e.
 letter_declaration before (arrow name x y false) after (suc zero) below = ap (λ e. e.declaration) (letter_at-split before (arrow name x y false) after 1)
 letter_declaration before (arrow name x y false) after (suc (suc k)) below = absurd (omega arith)
 
-letter_name-split : (before : List Declaration) (d : Declaration) (after : List Declaration) (k : ℕ) → k < letters_of d → letter_name (before ++ d ∷ after) (letter_count before + k) ≡ name_of d
+pub letter_name-split : (before : List Declaration) (d : Declaration) (after : List Declaration) (k : ℕ) → k < letters_of d → letter_name (before ++ d ∷ after) (letter_count before + k) ≡ name_of d
 letter_name-split before d after k below = ap (name_at (before ++ d ∷ after)) (letter_declaration before d after k below) ∙ name_at-split before d after
 
 -- ---- the declaration that a look-up finds
-plus_zero : (n : ℕ) → n ≡ n + 0
+pub plus_zero : (n : ℕ) → n ≡ n + 0
 plus_zero n = omega arith
 
 plus_turned : (n : ℕ) → 0 + n ≡ n + 0
