@@ -120,8 +120,10 @@ longer u v (t ∷ p) h = go (nat_lt word_limit (length (t.1 ++ u))) refl h
         let third : length (u ++ v) ≡ length u + length v = length-append u v in
         ap (λ b. b || has_long_word (poly_between [] p (u ++ v))) (long_after (length (t.1 ++ u)) (length (t.1 ++ (u ++ v))) over (omega (arith, first, second, third)))
     go false under k = ap (λ b. nat_lt word_limit (length (t.1 ++ (u ++ v))) || b) (longer u v p k) ∙ ends (nat_lt word_limit (length (t.1 ++ (u ++ v))))
+
     long_after : (m n : ℕ) → nat_lt word_limit m ≡ true → m ≤ n → nat_lt word_limit n ≡ true
     long_after m n h k = grind (arith, nat_tests)
+
     ends : (b : Bool) → (b || true) ≡ true
     ends true = refl
     ends false = refl

@@ -8,9 +8,7 @@ ghost use Rattle.nc_polynomial.specs.Collected.{collection_result};
 ghost use Rattle.nc_polynomial.specs.Faults.{Explains, IsMemory};
 ghost use Rattle.quiver.specs.Declarations.{letter_count, quiver_of, identity_in, IsDeclared};
 ghost use Rattle.expressions.specs.Names.{AreNames, are_names_of_term, are_names_of_primary, letter_of, object_of};
-ghost use Rattle.nc_polynomial.specs.Product.{product_result};
-ghost use Rattle.expressions.specs.Results.{◌>>=◌};
-ghost use Rattle.expressions.specs.Begun.{product_begun};
+ghost use Rattle.expressions.specs.Begun.{product_begun, product_followed};
 ghost use Rattle.expressions.specs.Polynomials.{letter_poly, adjoint_by, marked_poly, product_poly, scaled_by, signed, sum_step, total, sum_poly, term_poly, factor_poly, primary_poly, equation_poly};
 
 use crate::names::{letter_of, object_of};
@@ -153,7 +151,7 @@ struct Begun {
 
 // The product with one factor more.
 fn followed(alloc: Global, begun: Begun, next: Poly) -> Result<Begun, PolyFault>
-    ensures { MatchResult result (λ b. product_begun b ≡ (product_begun begun >>= λ p. product_result p next.terms)) (Explains (product_begun begun >>= λ p. product_result p next.terms)) }
+    ensures { MatchResult result (λ b. product_begun b ≡ product_followed begun next.terms) (Explains (product_followed begun next.terms)) }
 {
     if let Some(word) = word_in(&next) {
         if begun.word.len().saturating_add(word.len()) <= WORD_LIMIT {
