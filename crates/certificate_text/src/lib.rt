@@ -22,7 +22,7 @@ pub use laws::{
     first_fault_is_unique, parts_are_read_back,
 };
 pub use letter::name_in;
-pub use line::{NUMBER_LIMIT, begins, claim_of, is, is_end};
+pub use line::{NUMBER_LIMIT, begins, claim_of, is, is_end, two_tokens};
 pub use number::{is_number, number_within};
 pub use read::{is_utf8, read_certificates, read_evidence};
 pub use write::{

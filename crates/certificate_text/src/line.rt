@@ -47,8 +47,8 @@ fn one_token(line: &[u8]) -> Option<&[u8]>
     }
 }
 
-// The tokens of a line that has two.
-fn two_tokens(line: &[u8]) -> Option<(&[u8], &[u8])>
+/// The tokens of a line that has two.
+pub fn two_tokens(line: &[u8]) -> Option<(&[u8], &[u8])>
     ensures { option_map (λ pair. (pair.0.now, pair.1.now)) result ≡ two_tokens (tokens_of line.now) }
 {
     let (first, behind) = first_token(line)?;

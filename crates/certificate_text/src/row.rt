@@ -6,7 +6,7 @@ ghost use Rattle.std.specs.Option.{option_map};
 ghost use Rattle.certificate_text.specs.declared.fault.Flaw.TheVariants as flaw;
 ghost use Rattle.certificate_text.specs.Fault.{Reads, asked};
 ghost use Rattle.certificate_text.specs.Letters.{is_letter};
-ghost use Rattle.certificate_text.specs.Lines.{is_close, closed, bracketed, number_part, origin_part, row_parts, is_row, row_tokens, word_of, row_values, row_of, over_lemma, lemma_row_of, grown};
+ghost use Rattle.certificate_text.specs.Lines.{closed, bracketed, number_part, origin_part, row_parts, is_row, row_tokens, word_of, row_values, row_of, over_lemma, lemma_row_of, grown};
 ghost use Rattle.certificate_text.specs.Tokens.{is_closing, tokens_of};
 ghost use Rattle.certificate_text.specs.Views.{parts_of};
 
