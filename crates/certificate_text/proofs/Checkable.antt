@@ -255,14 +255,11 @@ made_checkable ds o goal good = record {
 
 -- what is read of a block
 abbrev IsGoodPlace : List Declaration → Place → Type 0
-IsGoodPlace ds at.Outside = Unit {0}
-IsGoodPlace ds at.Skipped = Unit {0}
-IsGoodPlace ds (at.Headed form) = Unit {0}
-IsGoodPlace ds (at.Claimed form n) = Unit {0}
 IsGoodPlace ds (at.Rows c size) = IsGoodPlain ds c size
 IsGoodPlace ds (at.Opened o) = IsGoodOpened ds o 0
 IsGoodPlace ds (at.Lemma o l) = IsGoodLemma ds o l
 IsGoodPlace ds (at.Goal o goal) = IsGoodAt ds o goal
+IsGoodPlace ds place = Unit {0}
 
 record IsGood (ds : List Declaration) (p : Progress) : Type 0 where
   done : All (IsCheckableEvidence ds) p.blocks

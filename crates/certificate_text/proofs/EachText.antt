@@ -23,9 +23,9 @@ use Rattle.certificate_text.specs.Evidence as first
 use Rattle.certificate_text.specs.Reading.{progress, read_lines, beginning, ended, blocks_of, one_or_more, evidence_of}
 use Rattle.certificate_text.proofs.BlockTrees.{other_keeps}
 use Rattle.certificate_text.proofs.Standing.{goes_on, stands_outside}
-use Rattle.certificate_text.proofs.Meets.{run}
-use Rattle.certificate_text.proofs.NumberedLines.{IsRefused, AreLinesRead, all, some, lines_are_read, all_are_read, refused_at}
+use Rattle.certificate_text.proofs.NumberedLines.{run, IsRefused, AreLinesRead, all, some, lines_are_read, all_are_read, refused_at}
 use Rattle.certificate_text.proofs.ReadLines.{stands, is_flawed, is_refused, goes_read, blocks_read, is_cut_off}
+use Rattle.certificate_text.proofs.LineSteps.{step_at, read_by}
 use Rattle.certificate_text.proofs.FirstBounds.{kept_at}
 
 -- ---- blocks of other kinds
@@ -42,7 +42,7 @@ others_keep_all ds text none = λ i bound within. record { each = others_keep ds
 module _ (most : Format) (ds : List Declaration) (bytes : List ℕ) where
   -- ---- what is read is what the bytes say
 
-  first_flaw : (told : Fault) → is_utf8 bytes ≡ true → IsRefused most ds beginning (lines bytes) 1 told → IsFirstFault most ds bytes told
+  first_flaw : (told : Fault) → is_utf8 bytes ≡ true → IsRefused (step_at most ds) beginning (lines bytes) 1 told → IsFirstFault most ds bytes told
   first_flaw told utf8 refused =
       first.line (length refused.front + 1) refused.flaw utf8 (record {
         front = refused.front;
@@ -56,13 +56,13 @@ module _ (most : Format) (ds : List Declaration) (bytes : List ℕ) where
       }) refused.told
 
   -- how the text ends
-  ended_judged : (es : List Evidence) (place : Place) → is_utf8 bytes ≡ true → run most ds beginning (content (lines bytes)) ≡ Ok (progress es place) → MatchResult (ended es place) (HasCertificates most ds bytes) (IsFirstFault most ds bytes)
+  ended_judged : (es : List Evidence) (place : Place) → is_utf8 bytes ≡ true → run (step_at most ds) beginning (content (lines bytes)) ≡ Ok (progress es place) → MatchResult (ended es place) (HasCertificates most ds bytes) (IsFirstFault most ds bytes)
   ended_judged es at.Outside utf8 read =
       let found = stands_outside most ds (content (lines bytes)) es (stands most ds (content (lines bytes)) (progress es at.Outside) read) in
       record { utf8 = utf8; blocks = found.0; are_blocks = found.1; within = found.2; certificates = found.3 }
   ended_judged es place utf8 read = first.end utf8 (is_cut_off most ds (content (lines bytes)) es place read refl) refl
 
-  lines_judged : (r : Result Progress Fault) → is_utf8 bytes ≡ true → AreLinesRead most ds beginning (lines bytes) 1 r → MatchResult (r >>= λ p. ended p.blocks p.place) (HasCertificates most ds bytes) (IsFirstFault most ds bytes)
+  lines_judged : (r : Result Progress Fault) → is_utf8 bytes ≡ true → AreLinesRead (step_at most ds) beginning (lines bytes) 1 r → MatchResult (r >>= λ p. ended p.blocks p.place) (HasCertificates most ds bytes) (IsFirstFault most ds bytes)
   lines_judged r utf8 (all q is read) = rw is (ended_judged q.blocks q.place utf8 read)
   lines_judged r utf8 (some told is refused) = rw is (first_flaw told utf8 refused)
 
@@ -70,7 +70,7 @@ module _ (most : Format) (ds : List Declaration) (bytes : List ℕ) where
   blocks_judged = by_encoding (is_utf8 bytes) refl
     where
       by_encoding : (utf8 : Bool) → is_utf8 bytes ≡ utf8 → MatchResult (blocks_of most ds bytes) (HasCertificates most ds bytes) (IsFirstFault most ds bytes)
-      by_encoding true is = rw is (lines_judged _ is (lines_are_read most ds beginning (lines bytes) 1))
+      by_encoding true is = rw (is, read_by most ds 1 beginning (lines bytes)) (lines_judged _ is (lines_are_read (step_at most ds) beginning (lines bytes) 1))
       by_encoding false is = rw is (first.encoding is refl)
 
   some_judged : (r : Result (List Evidence) Fault) → MatchResult r (HasCertificates most ds bytes) (IsFirstFault most ds bytes) → MatchResult (r >>= one_or_more) (IsEvidence most ds bytes) (IsFirstFault most ds bytes)
@@ -93,7 +93,7 @@ module _ (most : Format) (ds : List Declaration) (bytes : List ℕ) where
 
   has_read : (es : List Evidence) → HasCertificates most ds bytes es → blocks_of most ds bytes ≡ Ok es
   has_read es has =
-      rw (has.utf8, all_are_read most ds beginning (progress es at.Outside) (lines bytes) 1 (blocks_read most ds (content (lines bytes)) has.blocks es has.are_blocks (kept_at (Keeps ds has.blocks) has.within) has.certificates)) refl
+      rw (has.utf8, read_by most ds 1 beginning (lines bytes), all_are_read (step_at most ds) beginning (progress es at.Outside) (lines bytes) 1 (blocks_read most ds (content (lines bytes)) has.blocks es has.are_blocks (kept_at (Keeps ds has.blocks) has.within) has.certificates)) refl
 
   some_read : (es : List Evidence) → 0 < length es → one_or_more es ≡ Ok es
   some_read [] one = absurd (omega (arith, one))
@@ -105,7 +105,7 @@ module _ (most : Format) (ds : List Declaration) (bytes : List ℕ) where
   pub evidence_is_read : (es : List Evidence) → IsEvidence most ds bytes es → evidence_of most ds bytes ≡ Ok es
   evidence_is_read es is = rw (has_read es is.has, some_read es is.some) refl
 
-  ended_cut : (es : List Evidence) (place : Place) → run most ds beginning (content (lines bytes)) ≡ Ok (progress es place) → IsCutOff most ds (content (lines bytes)) → ended es place ≡ Err truncated
+  ended_cut : (es : List Evidence) (place : Place) → run (step_at most ds) beginning (content (lines bytes)) ≡ Ok (progress es place) → IsCutOff most ds (content (lines bytes)) → ended es place ≡ Err truncated
   ended_cut es at.Outside read cut = let found = stands_outside most ds (content (lines bytes)) es (stands most ds (content (lines bytes)) (progress es at.Outside) read) in absurd (cut.cut found.0 found.1)
   ended_cut es place read cut = refl
 
@@ -114,11 +114,11 @@ module _ (most : Format) (ds : List Declaration) (bytes : List ℕ) where
   fault_is_read told (first.line number flaw utf8 found is) =
       let front = goes_read most ds (content found.front) found.sound in
       let refused = is_refused most ds (content found.front) front.0 (tokens_of found.line) flaw front.1 found.flawed in
-      let read : read_lines most ds 1 beginning (lines bytes) ≡ Err (in_line (length found.front + 1) flaw) = rw found.splits (refused_at most ds beginning front.0 found.front found.line found.behind 1 flaw front.1 found.stands refused) in
+      let read : read_lines most ds 1 beginning (lines bytes) ≡ Err (in_line (length found.front + 1) flaw) = rw (read_by most ds 1 beginning (lines bytes), found.splits) (refused_at (step_at most ds) beginning front.0 found.front found.line found.behind 1 flaw front.1 found.stands refused) in
       rw (utf8, read, is, found.numbered) refl
   fault_is_read told (first.end utf8 cut is) =
       let front = goes_read most ds (content (lines bytes)) cut.sound in
-      rw (utf8, all_are_read most ds beginning front.0 (lines bytes) 1 front.1, ended_cut front.0.blocks front.0.place front.1 cut, is) refl
+      rw (utf8, read_by most ds 1 beginning (lines bytes), all_are_read (step_at most ds) beginning front.0 (lines bytes) 1 front.1, ended_cut front.0.blocks front.0.place front.1 cut, is) refl
   fault_is_read told (first.certificates utf8 found is) =
       rw (has_read [] (record { utf8 = utf8; blocks = found.blocks; are_blocks = found.are_blocks; within = others_keep_all ds found.blocks found.none; certificates = rw found.none tt }), is) refl
 

@@ -15,13 +15,7 @@ use Rattle.certificate_text.proofs.Results.{bind_ok, at_line_ok, by_test, ok_has
 
 ended_is : (done : List Evidence) (place : Place) (es : List Evidence) → ended done place ≡ Ok es → done ≡ es
 ended_is done at.Outside es read = cc
-ended_is done at.Skipped es read = absurd (cc)
-ended_is done (at.Headed form) es read = absurd (cc)
-ended_is done (at.Claimed form n) es read = absurd (cc)
-ended_is done (at.Rows c size) es read = absurd (cc)
-ended_is done (at.Opened o) es read = absurd (cc)
-ended_is done (at.Lemma o l) es read = absurd (cc)
-ended_is done (at.Goal o goal) es read = absurd (cc)
+ended_is done place es read = absurd (cc)
 
 some_are : (found es : List Evidence) → one_or_more found ≡ Ok es → found ≡ es
 some_are [] es read = absurd (cc)

@@ -13,12 +13,14 @@ mod OpenBlocks
 mod FlawedLines
 mod NextLines
 mod Standing
-mod Meets
+pub mod Meets
 pub mod RowLines
 mod RowValues
 mod BlockLines
 mod TextLines
-mod NumberedLines
+pub mod NumberedLines
+mod LineSteps
+pub mod BoundOrder
 mod FirstBounds
 mod OneCertificate
 mod ReadLines

@@ -12,6 +12,14 @@ pub bind_err : {A B F P : Type 0} (r : Result A F) (f : A → Result B F) (e : F
 bind_err (Ok x) f e read first second = second x refl read
 bind_err (Err d) f e read first second = first (cc)
 
+pub bind_assoc : {A B C F : Type 0} (r : Result A F) (f : A → Result B F) (g : B → Result C F) (h : A → Result C F) → ((x : A) → h x ≡ (f x >>= g)) → (r >>= h) ≡ ((r >>= f) >>= g)
+bind_assoc (Ok x) f g h same = same x
+bind_assoc (Err e) f g h same = refl
+
+pub bind_same : {A B F : Type 0} (r : Result A F) (f g : A → Result B F) → ((x : A) → f x ≡ g x) → (r >>= f) ≡ (r >>= g)
+bind_same (Ok x) f g same = same x
+bind_same (Err e) f g same = refl
+
 pub asked_ok : {A : Type 0} (f : Flaw) (o : Option A) (x : A) → asked f o ≡ Ok x → o ≡ Some x
 asked_ok f (Some y) x read = cc
 asked_ok f None x read = absurd (cc)

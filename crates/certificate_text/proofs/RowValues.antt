@@ -19,7 +19,9 @@ use Rattle.certificate_text.specs.Bounds as bound
 use Rattle.certificate_text.specs.Bounds.{Bound, flaw_of, HasNames, HasNumbers, HasShortWords, letters_in}
 use Rattle.certificate_text.specs.Reading.{progress, step}
 use Rattle.certificate_text.proofs.RowTrees.{word_of-length}
-use Rattle.certificate_text.proofs.Meets.{run, Meets, reads, then_meets, meets-weaker, asked_meets, unless_meets}
+use Rattle.certificate_text.proofs.NumberedLines.{run}
+use Rattle.certificate_text.proofs.LineSteps.{step_at}
+use Rattle.certificate_text.proofs.Meets.{Meets, reads, then_meets, meets-weaker, asked_meets, unless_meets}
 
 -- ---- the values of one row
 
@@ -28,7 +30,7 @@ record HasLengths (r : RowTokens) (row : CertRow) : Type 0 where
   left : length row.left ≡ length r.left
   right : length row.right ≡ length r.right
 
-values_meet : (K : Bound → Type 0) (ds : List Declaration) (r : RowTokens) → (K bound.names → HasNames ds r) → (K bound.numbers → HasNumbers r) → Meets K (HasLengths r) (row_values ds r)
+values_meet : (K : Bound → Type 0) (ds : List Declaration) (r : RowTokens) → (K bound.names → HasNames ds r) → (K bound.numbers → HasNumbers r) → Meets flaw_of K (HasLengths r) (row_values ds r)
 values_meet K ds r names numbers =
     then_meets _ (asked_meets K bound.names (word_of ds r.left) (λ kept. (names kept).left)) (λ left _ left_is.
     then_meets _ (asked_meets K bound.names (word_of ds r.right) (λ kept. (names kept).right)) (λ right _ right_is.
@@ -43,7 +45,7 @@ abbrev pub with_letters : Size → ℕ → Size
 with_letters size n = record { rows = size.rows + 1; letters = size.letters + n }
 
 grown_meets : (K : Bound → Type 0) (size : Size) (left right : List ℕ) (n : ℕ) → n ≡ length left + length right → (K bound.words → (length left ≤ word_limit) × (length right ≤ word_limit)) → (K bound.rows → size.rows < row_limit)
-    → (K bound.letters → size.letters + n ≤ letter_limit) → Meets K (λ next. next ≡ with_letters size n) (grown size left right)
+    → (K bound.letters → size.letters + n ≤ letter_limit) → Meets flaw_of K (λ next. next ≡ with_letters size n) (grown size left right)
 grown_meets K size left right n count words rows letters =
     unless_meets bound.words _ _ (λ kept. or_from _ _ (le-ltb word_limit (length left) (words kept).0) (le-ltb word_limit (length right) (words kept).1))
     (unless_meets bound.rows _ _ (λ kept. lt-leb row_limit size.rows (rows kept))
@@ -136,7 +138,7 @@ module _ (K : Bound → Type 0) (most : Format) (ds : List Declaration) (done : 
     pub is : q ≡ progress done (here (with_rows size rs) (front ++ rows))
 
   row_meets : (size : Size) (front : List C) (r : RowTokens) → TakesRow r → (K bound.names → HasNames ds r) → (K bound.numbers → HasNumbers r) → (K bound.words → HasShortWords r) → (K bound.rows → size.rows < row_limit)
-      → (K bound.letters → size.letters + letters_of r ≤ letter_limit) → Meets K (RowIsRead size front r) (step most ds done (here size front) (row_line r))
+      → (K bound.letters → size.letters + letters_of r ≤ letter_limit) → Meets flaw_of K (RowIsRead size front r) (step most ds done (here size front) (row_line r))
   row_meets size front r takes names numbers words rows letters =
       rw (takes size front) (then_meets _ (values_meet K ds r names numbers) (λ row row_is lengths.
       let count : letters_of r ≡ length row.left + length row.right = rw (lengths.left, lengths.right) refl in
@@ -144,7 +146,7 @@ module _ (K : Bound → Type 0) (most : Format) (ds : List Declaration) (done : 
       (grown_meets K size row.left row.right (letters_of r) count (λ kept. let short = words kept in (rw lengths.left short.left, rw lengths.right short.right)) rows letters)
       (λ next _ next_is. reads _ refl (record { row = made r row; is_made = (row, row_is, refl); is = rw next_is refl }))))
 
-  pub rows_meet : (size : Size) (front : List C) (rs : List RowTokens) → All TakesRow rs → RowsFit K ds size rs → Meets K (RowsAreRead size front rs) (run most ds (progress done (here size front)) (map row_line rs))
+  pub rows_meet : (size : Size) (front : List C) (rs : List RowTokens) → All TakesRow rs → RowsFit K ds size rs → Meets flaw_of K (RowsAreRead size front rs) (run (step_at most ds) (progress done (here size front)) (map row_line rs))
   rows_meet size front [] takes keep = reads _ refl (record { rows = []; are_made = tt; is = rw (append-nil front, add-zero size.rows, add-zero size.letters) refl })
   rows_meet size front (r ∷ rs) takes keep =
       then_meets _

@@ -34,12 +34,7 @@ use Rattle.certificate_text.proofs.NextLines.{next_headed, next_claimed, next_pl
 abbrev pub HasRoom : Place → ℕ → Type 0
 HasRoom at.Outside n = ⊤
 HasRoom at.Skipped n = ⊤
-HasRoom (at.Headed form) n = n < block_limit
-HasRoom (at.Claimed form m) n = n < block_limit
-HasRoom (at.Rows c size) n = n < block_limit
-HasRoom (at.Opened o) n = n < block_limit
-HasRoom (at.Lemma o l) n = n < block_limit
-HasRoom (at.Goal o goal) n = n < block_limit
+HasRoom place n = n < block_limit
 
 -- The lines so far are whole blocks within all bounds, whose certificates were read, and behind them the first lines of the block that the place stands in.
 pub record Stands (most : Format) (ds : List Declaration) (ls : List Line) (p : Progress) : Type 0 where
@@ -269,13 +264,7 @@ stands_outside most ds ls es stands = (
 
 ended_at : (done : List Evidence) (place : Place) (fault : Fault) → ended done place ≡ Err fault → fault ≡ truncated
 ended_at done at.Outside fault read = absurd (cc)
-ended_at done at.Skipped fault read = cc
-ended_at done (at.Headed form) fault read = cc
-ended_at done (at.Claimed form n) fault read = cc
-ended_at done (at.Rows c size) fault read = cc
-ended_at done (at.Opened o) fault read = cc
-ended_at done (at.Lemma o l) fault read = cc
-ended_at done (at.Goal o goal) fault read = cc
+ended_at done place fault read = cc
 
 pub stands_inside : (most : Format) (ds : List Declaration) (ls : List Line) (p : Progress) (fault : Fault) → Stands most ds ls p → ended p.blocks p.place ≡ Err fault → fault ≡ truncated
 stands_inside most ds ls p fault stands read = ended_at p.blocks p.place fault read

@@ -13,10 +13,12 @@ use Rattle.certificate_text.specs.Lines.{block_limit, is, is_other_head, is_end,
 use Rattle.certificate_text.specs.Blocks as tokens
 use Rattle.certificate_text.specs.Blocks.{Line, OtherTokens, BlockTokens, end_line, block_lines, IsOtherBlock, IsBlock, AreBlocks}
 use Rattle.certificate_text.specs.Bounds as bound
-use Rattle.certificate_text.specs.Bounds.{Bound, rows_in, KeepsOne, Keeps, is_certificate, certificates_in, IsCertificateOf, AreCertificatesOf}
+use Rattle.certificate_text.specs.Bounds.{Bound, flaw_of, rows_in, KeepsOne, Keeps, is_certificate, certificates_in, IsCertificateOf, AreCertificatesOf}
 use Rattle.certificate_text.specs.Reading.{progress, beginning}
 use Rattle.certificate_text.proofs.Zips.{AllZip-append}
-use Rattle.certificate_text.proofs.Meets.{run, run-append, Meets, reads, then_meets, meets-weaker}
+use Rattle.certificate_text.proofs.Meets.{Meets, reads, then_meets, meets-weaker}
+use Rattle.certificate_text.proofs.NumberedLines.{run, run-append}
+use Rattle.certificate_text.proofs.LineSteps.{step_at}
 use Rattle.certificate_text.proofs.RowLines.{other_word}
 use Rattle.certificate_text.proofs.RowValues.{RowsFit}
 use Rattle.certificate_text.proofs.BlockLines.{AreRead, plain_meets, lemmas_meets}
@@ -32,12 +34,12 @@ no_certificate (a ∷ b ∷ c ∷ line) word other = refl
 
 module _ (K : Bound → Type 0) (most : Format) (ds : List Declaration) where
   -- the lines up to the one that ends it
-  skipped : (done : List Evidence) (lines : List Line) → All (λ line. is_end line ≡ false) lines → run most ds (progress done at.Skipped) (lines ++ end_line ∷ []) ≡ Ok (progress done at.Outside)
+  skipped : (done : List Evidence) (lines : List Line) → All (λ line. is_end line ≡ false) lines → run (step_at most ds) (progress done at.Skipped) (lines ++ end_line ∷ []) ≡ Ok (progress done at.Outside)
   skipped done [] none = refl
   skipped done (line ∷ lines) none =
       rw (All-head (λ line. is_end line ≡ false) line lines none) (skipped done lines (All-tail (λ line. is_end line ≡ false) line lines none))
 
-  other_meets : (done : List Evidence) (b : OtherTokens) → IsOtherBlock b → Meets K (AreRead ds done (tokens.other b ∷ [])) (run most ds (progress done at.Outside) (block_lines (tokens.other b)))
+  other_meets : (done : List Evidence) (b : OtherTokens) → IsOtherBlock b → Meets flaw_of K (AreRead ds done (tokens.other b ∷ [])) (run (step_at most ds) (progress done at.Outside) (block_lines (tokens.other b)))
   other_meets done b block =
       rw (no_certificate b.head (codes "1") block.head, no_certificate b.head (codes "2") block.head, block.head, skipped done b.lines block.lines)
       (reads _ refl (record { certificates = []; are = tt; is = rw (append-nil done) refl }))
@@ -54,7 +56,7 @@ module _ (K : Bound → Type 0) (most : Format) (ds : List Declaration) where
   }
 
 block_meets : (K : Bound → Type 0) (most : Format) (ds : List Declaration) (done : List Evidence) (b : BlockTokens) → IsBlock most b → (K bound.blocks → length done + length (certificates_in (b ∷ [])) ≤ block_limit)
-    → ((bound : Bound) → K bound → KeepsOne ds bound b) → Meets K (AreRead ds done (b ∷ [])) (run most ds (progress done at.Outside) (block_lines b))
+    → ((bound : Bound) → K bound → KeepsOne ds bound b) → Meets flaw_of K (AreRead ds done (b ∷ [])) (run (step_at most ds) (progress done at.Outside) (block_lines b))
 block_meets K most ds done (tokens.plain b) block few keeps =
     plain_meets K most ds done b block (λ kept. omega (arith, few kept)) (λ kept. (keeps bound.numbers kept).0) (rows_fit K most ds (tokens.plain b) keeps)
 block_meets K Plain ds done (tokens.lemmas b) block few keeps = absurd block
@@ -66,12 +68,12 @@ block_meets K most ds done (tokens.other b) block few keeps = other_meets K most
 
 module _ (K : Bound → Type 0) (most : Format) (ds : List Declaration) where
   blocks_meet : (done : List Evidence) (text : List BlockTokens) → All (IsBlock most) text → (K bound.blocks → length done + length (certificates_in text) ≤ block_limit)
-      → ((bound : Bound) → K bound → All (KeepsOne ds bound) text) → Meets K (AreRead ds done text) (run most ds (progress done at.Outside) (flat_map block_lines text))
+      → ((bound : Bound) → K bound → All (KeepsOne ds bound) text) → Meets flaw_of K (AreRead ds done text) (run (step_at most ds) (progress done at.Outside) (flat_map block_lines text))
   blocks_meet done [] each few keeps = reads _ refl (record { certificates = []; are = tt; is = rw (append-nil done) refl })
   blocks_meet done (b ∷ text) each few keeps =
       let apart : certificates_in (b ∷ text) ≡ certificates_in (b ∷ []) ++ certificates_in text = filter-append is_certificate (b ∷ []) text in
       let count : length (certificates_in (b ∷ text)) ≡ length (certificates_in (b ∷ [])) + length (certificates_in text) = ap length apart ∙ length-append (certificates_in (b ∷ [])) (certificates_in text) in
-      rw (run-append most ds (progress done at.Outside) (block_lines b) (flat_map block_lines text))
+      rw (run-append (step_at most ds) (progress done at.Outside) (block_lines b) (flat_map block_lines text))
       (then_meets _
       (block_meets K most ds done b (All-head (IsBlock most) b text each) (λ kept. omega (arith, few kept, count)) (λ bound kept. All-head (KeepsOne ds bound) b text (keeps bound kept)))
       (λ p _ one.
@@ -87,6 +89,6 @@ module _ (K : Bound → Type 0) (most : Format) (ds : List Declaration) where
 
 -- the lines of blocks: they are read, or a bound is passed that the blocks do not keep
 pub text_meets : (most : Format) (ds : List Declaration) (ls : List Line) (blocks : List BlockTokens) → AreBlocks most ls blocks
-    → Meets (Keeps ds blocks) (AreRead ds [] blocks) (run most ds beginning ls)
+    → Meets flaw_of (Keeps ds blocks) (AreRead ds [] blocks) (run (step_at most ds) beginning ls)
 text_meets most ds ls text blocks =
     rw blocks.are (blocks_meet (Keeps ds text) most ds [] text blocks.each (λ kept. omega (arith, kept.few refl)) (λ bound kept. kept.each))
