@@ -1,7 +1,6 @@
 -- rows that stand before what a call returns
-use Rattle.std.proofs.Common.{◌≡◌, ℤ, ◌*ℤ◌, List, [], ◌∷◌, ◌++◌, map, Option, Some, None, Result, Ok, Err, refl, sym, ap, ◌∙◌, subst, append_assoc}
-use Rattle.std.specs.List.{All, AllByRecursion}
-use Rattle.std.proofs.lemmas.List.Elements.{All-from_recursion, recursion_from_All}
+use Rattle.std.proofs.Common.{◌≡◌, ℤ, ◌*ℤ◌, List, [], ◌∷◌, ◌++◌, map, Option, Some, None, Result, Ok, Err, refl, sym, ap, ◌∙◌, append_assoc}
+use Rattle.std.specs.List.{AllByRecursion}
 use Rattle.coef_int.specs.declared.Overflow.{Overflow}
 use Rattle.coef_int.specs.Range.{IsCoefficient}
 use Rattle.nc_polynomial.specs.declared.fault.PolyFault.{PolyFault}
@@ -27,13 +26,6 @@ row-fits row rest out by h =
     go : (o : Option Overflow) → join_rows out (unless_overflow o (Ok (multiplied_row by row ∷ map (multiplied_row by) rest))) ≡ join_rows (out ++ multiplied_row by row ∷ []) (unless_overflow o (Ok (map (multiplied_row by) rest)))
     go None = ap Ok (sym (append_assoc out (multiplied_row by row ∷ []) (map (multiplied_row by) rest)))
     go (Some o) = refl
-
-pub all_push : {X : Type 0} (P : X → Type 0) (xs ys : List X) (x : X) → All P xs → P x → ys ≡ xs ++ x ∷ [] → All P ys
-all_push {X = X} P xs ys x h k e = subst (All P) (sym e) (All-from_recursion P (xs ++ x ∷ []) (go xs (recursion_from_All P xs h)))
-  where
-    go : (zs : List X) → AllByRecursion P zs → AllByRecursion P (zs ++ x ∷ [])
-    go [] m = (k, tt)
-    go (z ∷ zs) m = (m.0, go zs m.1)
 
 -- what multiplying a row keeps is kept by the rows of a step
 pub all-multiplied : (P : Row → Type 0) → ((by : ℤ) (row : Row) → P row → P (multiplied_row by row)) → (by : ℤ) (rows : List Row) (last : Row) → AllByRecursion P rows → P last

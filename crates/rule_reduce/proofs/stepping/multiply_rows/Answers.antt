@@ -4,8 +4,9 @@ use Rattle.std.specs.Vec.Iter.{into_iter_items}
 use Rattle.std.proofs.lemmas.List.Elements.{All-tail}
 use Rattle.coef_int.specs.Range.{IsCoefficient}
 use Rattle.nc_polynomial.specs.Faults.{checked}
+use Rattle.cofactor_trace.proofs.Lists.{all_push}
 use Rattle.rule_reduce.specs.Steps.{row_operations, multiplied_row}
-use Rattle.rule_reduce.proofs.Rows.{join_rows, join_rows-none, row-fits, all_push}
+use Rattle.rule_reduce.proofs.Rows.{join_rows, join_rows-none, row-fits}
 use Rattle.rule_reduce.proofs.stepping.multiply_rows.Goals as goal
 
 pub loop-row-init : goal.loop-row-init

@@ -2,9 +2,9 @@ use Rattle.std.proofs.Common.{rules, ◌≡◌, ◌+◌, ◌++◌, [], ◌∷◌
 use Rattle.coef_int.specs.Range.{IsCoefficient}
 use Rattle.cofactor_trace.specs.declared.Origin.TheVariants as origin
 use Rattle.cofactor_trace.specs.declared.Row.{Row}
+use Rattle.cofactor_trace.proofs.Lists.{all_push}
 use Rattle.nc_polynomial.specs.Faults.{checked, Explains}
 use Rattle.rule_reduce.specs.Steps.{move_row, move_of, move_result, multiplied_state, state_operations, IsInRange}
-use Rattle.rule_reduce.proofs.Rows.{all_push}
 use Rattle.rule_reduce.proofs.Exits.{less, exit_multiplied, exit_subtracted, step_ends, memory-explains}
 use Rattle.rule_reduce.proofs.stepping.take_away.Goals as goal
 

@@ -1,8 +1,11 @@
-use Rattle.std.proofs.Common.{rules, ◌≡◌, ◌≤◌, ◌+◌, ◌-◌, suc, length, zero, List, Some, None, Ok, Result, IfSome, arith, sym, ap, ◌∙◌, subst}
+use Rattle.std.proofs.Common.{rules, ◌≡◌, ◌<◌, ◌≤◌, ◌+◌, ◌-◌, suc, length, zero, List, Some, None, Ok, Result, IfSome, arith, sym, ap, ◌∙◌, subst}
 use Rattle.std.specs.List.{All}
+use Rattle.definitions.specs.Poly.{Term}
 use Rattle.word_core.specs.Letters.{IsOver}
+use Rattle.word_orders.specs.Admissible.{Compare}
 use Rattle.nc_polynomial.specs.Faults.{Explains}
 use Rattle.rule_reduce.specs.declared.rule.Rule.{Rule}
+use Rattle.rule_reduce.specs.declared.state.Choice.{Choice}
 use Rattle.rule_reduce.specs.declared.state.State.{State}
 use Rattle.rule_reduce.specs.declared.fault.ReduceFault.{ReduceFault}
 use Rattle.rule_reduce.specs.RuleLists.{entries_of}
@@ -24,8 +27,7 @@ returns-in-Err-clause-exact g c =
     let choice = c.in-Some.choice in
     let e = c.in-Err.fault in
     let left = limit - c.loop.counter - 1 in
-    let picked : choice_of compare c.args.self.now.index s.rest ≡ Some choice = search rules in
-    let pick = subst (λ es. choice_of compare es s.rest ≡ Some choice) c.args.self.now.indexed picked in
+    let pick = subst (λ es. choice_of compare es s.rest ≡ Some choice) c.args.self.now.indexed (search rules) in
     let why : Explains (step_result all choice s) e = search rules in
     let more : suc left ≡ limit - c.loop.counter = omega arith in
     let same = ap (λ n. reduction limit compare all n s) more ∙ c.loop.invariant.same in
@@ -42,8 +44,7 @@ loop-preserved g c =
     let choice = c.in-Some.choice in
     let next = c.in-Ok.next in
     let left = limit - c.loop.counter - 1 in
-    let picked : choice_of compare c.args.self.now.index s.rest ≡ Some choice = search rules in
-    let pick = subst (λ es. choice_of compare es s.rest ≡ Some choice) c.args.self.now.indexed picked in
+    let pick = subst (λ es. choice_of compare es s.rest ≡ Some choice) c.args.self.now.indexed (search rules) in
     let same_rules : c.as_slice.result.now ≡ all = search rules in
     let stepped : step_result all choice s ≡ Ok next = search rules in
     let more : suc left ≡ limit - c.loop.counter = omega arith in
@@ -70,8 +71,7 @@ returns-in-Some-2-clause-exact g c =
     let limit = c.args.steps in
     let s = c.loop.state in
     let choice = c.in-Some-2.field-0 in
-    let picked : choice_of compare c.args.self.now.index s.rest ≡ Some choice = search rules in
-    let pick = subst (λ es. choice_of compare es s.rest ≡ Some choice) c.args.self.now.indexed picked in
+    let pick = subst (λ es. choice_of compare es s.rest ≡ Some choice) c.args.self.now.indexed (search rules) in
     let none_left : limit - c.loop.counter ≡ zero = omega arith in
     sym c.loop.invariant.same ∙ ap (λ n. reduction limit compare all n s) none_left ∙ runs_out limit compare all s choice pick
 
@@ -81,8 +81,7 @@ returns-in-None-2-clause-exact g c =
     let all = c.args.self.now.rules in
     let limit = c.args.steps in
     let s = c.loop.state in
-    let picked : choice_of compare c.args.self.now.index s.rest ≡ None = search rules in
-    let pick = subst (λ es. choice_of compare es s.rest ≡ None) c.args.self.now.indexed picked in
+    let pick = subst (λ es. choice_of compare es s.rest ≡ None) c.args.self.now.indexed (search rules) in
     sym c.loop.invariant.same ∙ stops limit compare all s (limit - c.loop.counter) pick
 
 pub returns-in-None-clause-exact : goal.returns-in-None-clause-exact
@@ -91,33 +90,31 @@ returns-in-None-clause-exact g c =
     let all = c.args.self.now.rules in
     let limit = c.args.steps in
     let s = c.loop.state in
-    let picked : choice_of compare c.args.self.now.index s.rest ≡ None = search rules in
-    let pick = subst (λ es. choice_of compare es s.rest ≡ None) c.args.self.now.indexed picked in
+    let pick = subst (λ es. choice_of compare es s.rest ≡ None) c.args.self.now.indexed (search rules) in
     sym c.loop.invariant.same ∙ stops limit compare all s (limit - c.loop.counter) pick
 
 -- the rule that is chosen is there
+is_there : (compare : Compare) (rules : List Rule) (terms : List Term) (choice : Choice) → choice_of compare (entries_of rules) terms ≡ Some choice → (0 < choice.number) × (choice.number ≤ length rules)
+is_there compare rules terms choice pick =
+    let match = (found compare rules terms choice pick).match in
+    number_within rules choice.number match.rule match.numbered
+
 pub take_step-requires-clause-first : goal.take_step-requires-clause-first
 take_step-requires-clause-first g c =
     let compare = g.O.WordOrder.compare c.args.self.now.order in
-    let all = c.args.self.now.rules in
     let terms = c.loop.state.rest in
     let choice = c.in-Some.choice in
-    let picked : choice_of compare c.args.self.now.index terms ≡ Some choice = search rules in
-    let pick = subst (λ es. choice_of compare es terms ≡ Some choice) c.args.self.now.indexed picked in
-    let match = (found compare all terms choice pick).match in
-    (number_within all choice.number match.rule match.numbered).0
+    let pick = subst (λ es. choice_of compare es terms ≡ Some choice) c.args.self.now.indexed (search rules) in
+    (is_there compare c.args.self.now.rules terms choice pick).0
 
 pub take_step-requires-clause-last : goal.take_step-requires-clause-last
 take_step-requires-clause-last g c =
     let compare = g.O.WordOrder.compare c.args.self.now.order in
-    let all = c.args.self.now.rules in
     let terms = c.loop.state.rest in
     let choice = c.in-Some.choice in
-    let picked : choice_of compare c.args.self.now.index terms ≡ Some choice = search rules in
-    let pick = subst (λ es. choice_of compare es terms ≡ Some choice) c.args.self.now.indexed picked in
-    let match = (found compare all terms choice pick).match in
-    let same : c.as_slice.result.now ≡ all = search rules in
-    subst (λ rs. choice.number ≤ length rs) (sym same) (number_within all choice.number match.rule match.numbered).1
+    let pick = subst (λ es. choice_of compare es terms ≡ Some choice) c.args.self.now.indexed (search rules) in
+    let same : c.as_slice.result.now ≡ c.args.self.now.rules = search rules in
+    subst (λ rs. choice.number ≤ length rs) (sym same) (is_there compare c.args.self.now.rules terms choice pick).1
 
 pub choose-requires-clause-settled : goal.choose-requires-clause-settled
 choose-requires-clause-settled g c =
