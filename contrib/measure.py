@@ -57,10 +57,6 @@ def claim(left: str) -> Callable[[], Text]:
     return lambda: iter([HEAD, f"claim {left} = 0\n"])
 
 
-def letters(count: int, text: str = " a") -> str:
-    return text * count
-
-
 def long_sum() -> Text:
     """A sum of 19,990 words, and then a letter added and taken off to the end of the file."""
     front = f"{HEAD}claim {'+'.join(' '.join(word) for word in WORDS[:19_990])}"
@@ -80,29 +76,30 @@ def nested(level: str, count: int) -> str:
     return "(" * count + POWER + level * count
 
 
-def assumptions(count: int, length: int) -> Callable[[], Text]:
-    """Assumptions of 16,384 terms, each word of which has so many letters."""
-    line = f"assume {POWER}{letters(length - 14)} = 0\n"
-    return lambda: itertools.chain([HEAD], itertools.repeat(line, count), [ZERO_CLAIM])
+def assumptions(length: int, last: str = ZERO_CLAIM) -> Callable[[], Text]:
+    """500 assumptions of 16,384 terms, each word of which has so many letters."""
+    line = f"assume {POWER}{' a' * (length - 14)} = 0\n"
+    return lambda: itertools.chain([HEAD], itertools.repeat(line, 500), [last])
 
 
 STATEMENTS = [
     *(Case(f"growth: {count} brackets `(a+b)`", claim("(a+b)" * count)) for count in range(10, 15)),
-    Case("word: 14 brackets and 20 letters behind", claim(POWER + letters(20))),
-    Case("word: 19,683 terms and 480 letters behind", claim(CUBE + letters(480))),
-    Case("word: 19,683 terms and 300 times `(a)` behind", claim(CUBE + letters(300, "(a)"))),
+    Case("word: 14 brackets and 20 letters behind", claim(POWER + " a" * 20)),
+    Case("word: 19,683 terms and 480 letters behind", claim(CUBE + " a" * 480)),
+    Case("word: 19,683 terms and 300 times `(a)` behind", claim(CUBE + "(a)" * 300)),
     Case("sum: 19,990 terms and then `+a-a` up to 1 MiB", long_sum),
     Case("cancel: 16,384 terms less themselves, 20 times", claim("+".join([f"({POWER}-{POWER})"] * 20))),
     Case("cancel: seven sums of powers of one letter", claim(powers_of_one())),
     Case("nested: 16,384 terms in 64 brackets", claim(nested(")", 63))),
     Case("nested: the same, `+c-c` in each", claim(nested("+c-c)", 63))),
     Case("nested: the same, `c` behind each", claim(nested(")c", 63))),
-    Case("marks: 16,384 terms and 64 times `'`", claim(f"({POWER}){chr(39) * 64}")),
+    Case("marks: 16,384 terms and 1,000 times `'`", claim(f"({POWER})" + "'" * 1000)),
     Case("three: `(a+..)(a+..)(a+..)` of 27 letters each", claim(CUBE)),
     *(
-        Case(f"assumptions: 500 of 16,384 words of {length} letters", assumptions(500, length))
+        Case(f"assumptions: 500 of 16,384 words of {length} letters", assumptions(length))
         for length in (20, 100, 200, 500)
     ),
+    Case("assumptions: 500 of 16,384 words of 20 letters, starred", assumptions(20, "claim a' = a'\n")),
 ]
 
 
