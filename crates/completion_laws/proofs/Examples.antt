@@ -1,10 +1,9 @@
 -- The generator x x - x, with the letter x = 0 in the canonical order: closed after one ambiguity, and x is outside.
-use Rattle.std.proofs.Common.{◌≡◌, ◌≢◌, ◌<◌, ◌≤◌, ◌+◌, ℕ, zero, suc, pos, negsuc, List, [], ◌∷◌, length, Some, Ok, Option, false, refl, sym, ap, ◌∙◌, arith}
+use Rattle.std.proofs.Common.{◌≡◌, ◌<◌, ◌≤◌, ◌+◌, ℕ, zero, suc, pos, negsuc, List, [], ◌∷◌, length, Some, Ok, Option, false, refl, sym, ap, ◌∙◌, arith}
 use Rattle.std.proofs.lemmas.Int.{ints}
 use Rattle.std.specs.List.{All}
 use Rattle.std.proofs.lemmas.List.{length-append}
 use Rattle.std.proofs.lemmas.List.Elements.{All-from_recursion}
-use Rattle.coef_int.specs.Range.{IsCoefficient}
 use Rattle.definitions.specs.Poly.{Term, coefficient_of}
 use Rattle.definitions.specs.Combination.{generator_at, InRationalIdeal}
 use Rattle.word_core.specs.Canonical.{word_cmp}
@@ -13,7 +12,6 @@ use Rattle.word_orders.specs.Admissible.{IsAdmissible}
 use Rattle.word_orders.specs.Rank.{rank_of}
 use Rattle.word_orders.specs.CanonicalLaws.{word_cmp-admissible}
 use Rattle.nc_polynomial.specs.Shape.{IsShaped, IsCanonical}
-use Rattle.nc_polynomial.proofs.Shapes.{IsDescending-from_recursion}
 use Rattle.cofactor_trace.specs.declared.Made.{Made}
 use Rattle.rule_reduce.specs.declared.rule.Rule.{Rule}
 use Rattle.rule_reduce.specs.RuleLists.{IsRule, rule_at}
@@ -27,6 +25,7 @@ use Rattle.ambiguities.specs.SPolynomials.{s_polynomial_of}
 use Rattle.ambiguities.proofs.Balance.{s_polynomials_balance}
 use Rattle.confluence.specs.Reductions.{IsReduced}
 use Rattle.confluence.proofs.RestLaws.{normal_forms_are_reduced}
+use Rattle.confluence.proofs.WrittenTerms.{shaped_as_written, canonical_as_written}
 use Rattle.completion_laws.specs.Rests.{generator_rows, IsAppended, rule_made}
 use Rattle.completion_laws.specs.Kept.{HaveLettersBelow, Kept}
 use Rattle.completion_laws.specs.Conclusions.{AreAllDone, NothingPending}
@@ -39,15 +38,10 @@ abbrev terms : List Term
 terms = (pos 1, 0 ∷ 0 ∷ []) ∷ (negsuc 0, 0 ∷ []) ∷ []
 
 canonical : IsCanonical terms
-canonical = record {
-  shaped = record {
-    descending = IsDescending-from_recursion terms ((refl, tt), (tt, tt));
-    nonzero = All-from_recursion (λ (t : Term). t.0 ≢ pos 0) terms ((λ e. cc), ((λ e. cc), tt));
-    in_range = All-from_recursion (λ (t : Term). IsCoefficient t.0) terms (omega arith, (omega arith, tt));
-  };
-  short = All-from_recursion (λ (t : Term). length t.1 ≤ 500) terms (omega arith, (omega arith, tt));
-  few = omega arith;
-}
+canonical =
+    canonical_as_written terms
+    (shaped_as_written terms ((refl, tt), (tt, tt)) ((λ e. cc), ((λ e. cc), tt)) (omega arith, (omega arith, tt)))
+    (omega arith, (omega arith, tt)) (omega arith)
 
 laws : IsAdmissible 1 word_cmp (rank_of 1)
 laws = word_cmp-admissible 1
@@ -118,11 +112,7 @@ difference : s_polynomial_of (rule ∷ []) itself ≡ Ok []
 difference = refl
 
 zero_shaped : IsShaped []
-zero_shaped = record {
-  descending = IsDescending-from_recursion [] tt;
-  nonzero = All-from_recursion (λ (t : Term). t.0 ≢ pos 0) [] tt;
-  in_range = All-from_recursion (λ (t : Term). IsCoefficient t.0) [] tt;
-}
+zero_shaped = shaped_as_written [] tt tt tt
 
 rules_are : All (IsRule 1 word_cmp) (rule ∷ [])
 rules_are = All-from_recursion (IsRule 1 word_cmp) (rule ∷ []) (is_rule, tt)
@@ -176,11 +166,7 @@ abbrev x : List Term
 x = (pos 1, 0 ∷ []) ∷ []
 
 x_shaped : IsShaped x
-x_shaped = record {
-  descending = IsDescending-from_recursion x (tt, tt);
-  nonzero = All-from_recursion (λ (t : Term). t.0 ≢ pos 0) x ((λ e. cc), tt);
-  in_range = All-from_recursion (λ (t : Term). IsCoefficient t.0) x (omega arith, tt);
-}
+x_shaped = shaped_as_written x (tt, tt) ((λ e. cc), tt) (omega arith, tt)
 
 x_reduced : IsReduced 1 word_cmp (rule ∷ []) x (start_of x)
 x_reduced = normal_forms_are_reduced 1 word_cmp (rank_of 1) (rule ∷ []) x 0 (start_of x) laws rules_are x_shaped (All-from_recursion (λ (t : Term). IsOver 1 t.1) x (one_letter, tt)) refl

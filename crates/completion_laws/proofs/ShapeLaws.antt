@@ -4,7 +4,6 @@ use Rattle.std.specs.List.{All}
 use Rattle.std.proofs.lemmas.List.Elements.{All-from_recursion, recursion_from_All}
 use Rattle.std.proofs.Math.IntN.{*ℤ_comm}
 use Rattle.coef_int.specs.declared.Overflow.{Overflow}
-use Rattle.coef_int.specs.Range.{IsCoefficient}
 use Rattle.coef_int.specs.Operations.{product_of, first_overflow}
 use Rattle.definitions.specs.Poly.{Word, Term, poly_between}
 use Rattle.definitions.specs.Combination.{generator_at}
@@ -36,6 +35,7 @@ use Rattle.rule_reduce.specs.KeptWords.{IsAtMostOf}
 use Rattle.rule_reduce.proofs.Runs.{move_result-value}
 use Rattle.ambiguities.specs.SPolynomials.{first_row, second_row, row_multiple}
 use Rattle.ambiguities.proofs.Multiples.{passed}
+use Rattle.confluence.proofs.WrittenTerms.{shaped_as_written}
 use Rattle.completion_laws.specs.Shapes.{NormalFormsAreShaped, SPolynomialsAreShaped, RestsHaveLettersBelow}
 
 -- ---- no overflow
@@ -79,11 +79,7 @@ combined_shaped a p b q r p_shaped q_shaped ends =
     (fits (sums (scaled a p) (scaled b q)) (added (scaled a p) (scaled b q)) two.rest))
 
 zero_is_shaped : IsShaped []
-zero_is_shaped = record {
-  descending = IsDescending-from_recursion [] tt;
-  nonzero = All-from_recursion (λ (t : Term). t.0 ≢ pos 0) [] tt;
-  in_range = All-from_recursion (λ (t : Term). IsCoefficient t.0) [] tt;
-}
+zero_is_shaped = shaped_as_written [] tt tt tt
 
 -- the polynomial of a rule, and zero where there is none
 rule_shaped : (rules : List Rule) (n : ℕ) → IsShaped (generator_at (polynomials_of rules) n)

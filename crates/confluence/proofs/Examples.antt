@@ -1,11 +1,8 @@
 -- The rule b a b - a b a, with the letters a = 0 and b = 1 in the canonical order, has one ambiguity.
-use Rattle.std.proofs.Common.{◌≡◌, ◌≢◌, ◌<◌, ◌≤◌, ℕ, zero, suc, pos, negsuc, List, [], ◌∷◌, ◌++◌, length, Some, Ok, Option, refl, sym, ap, ◌∙◌, arith}
+use Rattle.std.proofs.Common.{◌≡◌, ◌<◌, ℕ, zero, suc, pos, negsuc, List, [], ◌∷◌, ◌++◌, length, Some, Ok, Option, refl, sym, ap, ◌∙◌, arith}
 use Rattle.std.proofs.lemmas.List.{length-append}
-use Rattle.std.proofs.lemmas.List.Elements.{All-from_recursion}
-use Rattle.coef_int.specs.Range.{IsCoefficient}
 use Rattle.definitions.specs.Poly.{Term}
 use Rattle.nc_polynomial.specs.Shape.{IsCanonical}
-use Rattle.nc_polynomial.proofs.Shapes.{IsDescending-from_recursion}
 use Rattle.rule_reduce.specs.declared.rule.Rule.{Rule}
 use Rattle.rule_reduce.specs.RuleLists.{rule_at}
 use Rattle.ambiguities.specs.declared.ambiguity.Kind.{Kind}
@@ -13,20 +10,16 @@ use Rattle.ambiguities.specs.declared.ambiguity.Kind.TheVariants.{Overlap, Inclu
 use Rattle.ambiguities.specs.declared.ambiguity.Ambiguity.{Ambiguity}
 use Rattle.ambiguities.specs.Ambiguities.{MeetsAs, IsAmbiguity, overlap_word_of}
 use Rattle.ambiguities.specs.SPolynomials.{s_polynomial_of}
+use Rattle.confluence.proofs.WrittenTerms.{shaped_as_written, canonical_as_written}
 
 abbrev terms : List Term
 terms = (pos 1, 1 ∷ 0 ∷ 1 ∷ []) ∷ (negsuc 0, 0 ∷ 1 ∷ 0 ∷ []) ∷ []
 
 canonical : IsCanonical terms
-canonical = record {
-  shaped = record {
-    descending = IsDescending-from_recursion terms ((refl, tt), (tt, tt));
-    nonzero = All-from_recursion (λ (t : Term). t.0 ≢ pos 0) terms ((λ e. cc), ((λ e. cc), tt));
-    in_range = All-from_recursion (λ (t : Term). IsCoefficient t.0) terms (omega arith, (omega arith, tt));
-  };
-  short = All-from_recursion (λ (t : Term). length t.1 ≤ 500) terms (omega arith, (omega arith, tt));
-  few = omega arith;
-}
+canonical =
+    canonical_as_written terms
+    (shaped_as_written terms ((refl, tt), (tt, tt)) ((λ e. cc), ((λ e. cc), tt)) (omega arith, (omega arith, tt)))
+    (omega arith, (omega arith, tt)) (omega arith)
 
 abbrev rule : Rule
 rule = record { leading = pos 1; lead = 1 ∷ 0 ∷ 1 ∷ []; poly = record { terms = terms; canonical = canonical } }

@@ -25,4 +25,5 @@ pub mod ReducibleLaws
 pub mod TracedRows
 pub mod RestLaws
 pub mod PlaceLaws
+pub mod WrittenTerms
 mod Examples

@@ -1,8 +1,8 @@
 -- Of each shape, seed and number there is one candidate.
-use Rattle.std.proofs.Common.{◌≡◌, ℕ, zero, suc, ◌+◌, ◌<◌, ◌≤◌, Bool, true, false, not, List, [], ◌∷◌, ◌++◌, length, get_or, take, filter, cond, Option, Some, None, ◌⊎◌, inl, inr, refl, sym, ap, subst, ◌∙◌, arith}
+use Rattle.std.proofs.Common.{◌≡◌, ℕ, zero, suc, ◌+◌, ◌<◌, Bool, true, false, not, List, [], ◌∷◌, ◌++◌, length, get_or, take, filter, cond, Option, Some, None, ◌⊎◌, inl, inr, refl, sym, ap, subst, ◌∙◌, arith}
 use Rattle.std.specs.List.{AllByRecursion}
 use Rattle.std.proofs.lemmas.Bool.{cases_eq, false≢true}
-use Rattle.std.proofs.lemmas.List.{take_all, take_more_same}
+use Rattle.std.proofs.lemmas.List.{take_all}
 use Rattle.std.proofs.lemmas.List.Elements.{All-from_recursion, recursion_from_All}
 use Rattle.definitions.specs.Quiver.{Quiver}
 use Rattle.definitions.specs.Representation.{value_at}
@@ -10,6 +10,7 @@ use Rattle.definitions.specs.Soundness.{HasSignature}
 use Rattle.quiver.specs.Declarations.{quiver_of}
 use Rattle.nc_polynomial.specs.declared.poly.Poly.{Poly}
 use Rattle.matrix_models.specs.Matrices.{matrices}
+use Rattle.matrix_models.proofs.GreedySolutions.{same_fronts}
 use Rattle.matrix_models.specs.declared.model.Model.{Model}
 use Rattle.adjoint_rules.specs.declared.parts.Shape.{Shape}
 use Rattle.adjoint_rules.specs.declared.problem.Problem.{Problem}
@@ -26,17 +27,6 @@ use Rattle.model_search.proofs.FiniteSearch.{Begins, IsGreedyList, greedy_or_non
 use Rattle.model_search.proofs.SystemSolutions.{can_take_own}
 
 -- ---- at most one
--- lists that agree at each place where they agree before it
-same_fronts : (values others : List ℕ) (n : ℕ) → n ≤ length values → n ≤ length others
-    → ((place : ℕ) → place < n → take place values ≡ take place others → get_or values place 0 ≡ get_or others place 0)
-    → take n values ≡ take n others
-same_fronts values others zero in_values in_others step = refl
-same_fronts values others (suc n) in_values in_others step =
-    let before = same_fronts values others n (omega arith) (omega arith) (λ place within. step place (omega arith)) in
-    let next : suc n ≡ n + 1 = omega arith in
-    ap (λ x. take x values) next ∙ take_more_same values others n 0 (omega arith) (omega arith) before (step n (omega arith) before)
-    ∙ ap (λ x. take x others) (sym next)
-
 pub greedy_is_unique : (problem : Problem) (s : Shape) (drawn values others : List ℕ) → IsGreedy problem s drawn values
     → IsGreedy problem s drawn others → values ≡ others
 greedy_is_unique problem s drawn values others first second =

@@ -1,7 +1,7 @@
 -- Values below the modulus, one for each entry of a shape, make a model.
-use Rattle.std.proofs.Common.{◌≡◌, ℕ, ◌<◌, ◌≤◌, ◌&&◌, true, cond, nat_eq, List, [], ◌∷◌, length, Option, Some, None, ◌⊎◌, inl, inr, refl, sym, ap, ap₂, subst, ◌∙◌, eqb-true, eq-eqb, arith}
-use Rattle.std.specs.List.{All, AllByRecursion, list_any, position}
-use Rattle.std.proofs.lemmas.Bool.{false≢true, cases_order, le-leb, or_cases}
+use Rattle.std.proofs.Common.{◌≡◌, ℕ, ◌<◌, ◌≤◌, ◌&&◌, true, cond, List, [], ◌∷◌, length, Option, Some, None, ◌⊎◌, inl, inr, refl, sym, ap, ap₂, subst, ◌∙◌, eq-eqb, arith}
+use Rattle.std.specs.List.{All, AllByRecursion, position}
+use Rattle.std.proofs.lemmas.Bool.{cases_order, le-leb}
 use Rattle.std.proofs.lemmas.List.Elements.{All-get_or, All-weaker}
 use Rattle.std.proofs.lemmas.List.FromFn.{get_or-map-range_with_len, length-map-range_with_len}
 use Rattle.std.proofs.lemmas.List.Quantifiers.{position-Some}
@@ -13,19 +13,12 @@ use Rattle.matrix_models.specs.Matrix.{IsModulus, IsSide, IsMatrix, entry_at}
 use Rattle.matrix_models.specs.Matrices.{transpose, IsObject}
 use Rattle.matrix_models.specs.Entries.{entry_at-matrix_of, matrix_of_is_matrix, same_matrix}
 use Rattle.matrix_models.specs.Laws.{transpose_laws}
+use Rattle.matrix_models.proofs.Primes.{any_of}
 use Rattle.model_search.specs.Models.{map_at, IsModel, IsMap, HaveMatrices}
 use Rattle.model_search.specs.Candidates.{Entry, entry, is_same_entry, is_self, side_in, is_declared_map, entries_of, value_at, value_of_entry, entry_shown, matrix_by, place_by, model_by}
 use Rattle.model_search.proofs.EntryPlaces.{shown_mirrored, shown_behind}
 
 -- ---- the modulus
-one_of : (P : ℕ → Type 0) (m : ℕ) (ks : List ℕ) → AllByRecursion P ks → list_any (nat_eq m) ks ≡ true → P m
-one_of P m [] each is = absurd (false≢true is)
-one_of P m (k ∷ ks) each is = go (or_cases (nat_eq m k) (list_any (nat_eq m) ks) is) (one_of P m ks each.1)
-  where
-    go : (nat_eq m k ≡ true) ⊎ (list_any (nat_eq m) ks ≡ true) → (list_any (nat_eq m) ks ≡ true → P m) → P m
-    go (inl here) later = subst P (sym (eqb-true m k here)) each.0
-    go (inr there) later = later there
-
 within : (m : ℕ) → 2 ≤ m → m ≤ 65537 → IsModulus m
 within m least most = record { at_least = least; below = omega arith }
 
@@ -57,7 +50,7 @@ map_at-model_by q s claim values a is =
 
 module _ (q : Quiver) (s : Shape) (quiver : IsQuiver q) (shape : IsShape q.objects s) where
   pub modulus_of_shape : IsModulus s.modulus
-  modulus_of_shape = one_of IsModulus s.modulus moduli each_is_modulus shape.modulus
+  modulus_of_shape = any_of IsModulus s.modulus moduli each_is_modulus shape.modulus
 
   each_side : All IsSide s.sides
   each_side =

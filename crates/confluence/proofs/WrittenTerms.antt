@@ -1,0 +1,18 @@
+-- A polynomial that is written out term by term is canonical, and the limits of its terms are shown one after another.
+use Rattle.std.proofs.Common.{◌≤◌, ◌≢◌, List, length, pos}
+use Rattle.std.specs.List.{AllByRecursion}
+use Rattle.std.proofs.lemmas.List.Elements.{All-from_recursion}
+use Rattle.coef_int.specs.Range.{IsCoefficient}
+use Rattle.definitions.specs.Poly.{Term}
+use Rattle.nc_polynomial.specs.Shape.{IsShaped, IsCanonical}
+use Rattle.nc_polynomial.proofs.Shapes.{Descends, IsDescending-from_recursion}
+
+pub shaped_as_written : (p : List Term) → Descends p → AllByRecursion (λ t. t.0 ≢ pos 0) p → AllByRecursion (λ t. IsCoefficient t.0) p → IsShaped p
+shaped_as_written p descending nonzero in_range = record {
+  descending = IsDescending-from_recursion p descending;
+  nonzero = All-from_recursion (λ (t : Term). t.0 ≢ pos 0) p nonzero;
+  in_range = All-from_recursion (λ (t : Term). IsCoefficient t.0) p in_range;
+}
+
+pub canonical_as_written : (p : List Term) → IsShaped p → AllByRecursion (λ t. length t.1 ≤ 500) p → length p ≤ 20000 → IsCanonical p
+canonical_as_written p shaped short few = record { shaped = shaped; short = All-from_recursion (λ (t : Term). length t.1 ≤ 500) p short; few = few }
