@@ -123,28 +123,3 @@ Names words (Check p) = NamesPair (codes "check") words p
 Names words (Refute r) = NamesRefute words r
 Names words (Model p) = NamesPair (codes "model") words p
 Names words (Bench b) = NamesBench words b
-
--- ---- the files
-
--- a file of a call: its name, and how many bytes it may have
-pub record FileWord : Type 0 where
-  pub name : Text
-  pub limit : ℕ
-
-abbrev pub statement_limit : ℕ
-statement_limit = 1048576
-
-abbrev pub evidence_limit : ℕ
-evidence_limit = 67108864
-
--- a statement file, then a file of evidence
-abbrev pub pair_files : PairCall → List FileWord
-pair_files p = record { name = p.statement; limit = statement_limit } ∷ record { name = p.evidence; limit = evidence_limit } ∷ []
-
--- the files of a call, in the order in which they are loaded
-abbrev pub files_of : Call → List FileWord
-files_of (Prove p) = record { name = p.file; limit = statement_limit } ∷ []
-files_of (Check p) = pair_files p
-files_of (Refute r) = record { name = r.file; limit = statement_limit } ∷ []
-files_of (Model p) = pair_files p
-files_of (Bench b) = []
