@@ -44,6 +44,10 @@ mod quivers;
 #[cfg(test)]
 mod rules;
 #[cfg(test)]
+mod shapes;
+#[cfg(test)]
+mod solving;
+#[cfg(test)]
 mod statement_rows;
 #[cfg(test)]
 mod statement_texts;

@@ -90,6 +90,25 @@ fn the_leftmost_place_counts(rt: HostRuntime) -> Result<(), Fail> {
     Ok(())
 }
 
+// Words, a place in `cbcbd`, and whether they occur there.
+const OCCURRENCES: [(&str, usize, bool); 4] = [
+    ("cb", 2, true),
+    ("cb", 1, false),
+    ("bd", 4, false),
+    ("", 5, true),
+];
+
+#[test]
+fn a_word_occurs_at_a_place_or_not(rt: HostRuntime) -> Result<(), Fail> {
+    let whole = word(rt.alloc(), "cbcbd")?;
+    for (text, place, want) in &OCCURRENCES {
+        assert!(rt; *place <= whole.len());
+        let part = word(rt.alloc(), text)?;
+        assert_eq!(rt; whole.occurs_at(&part, *place), *want, "{text} at {place}");
+    }
+    Ok(())
+}
+
 // Two words, and the lengths of what is an end of the first and a beginning of the second.
 const OVERLAPS: [(&str, &str, &[usize]); 6] = [
     ("cbc", "cbc", &[2]),

@@ -1,0 +1,178 @@
+//! Linear equations modulo a prime, and which of their solutions is given.
+ghost use Rattle.std.specs.Prelude.{◌<◌, All, IsTrue};
+ghost use Rattle.matrix_models.specs.Systems.{IsFieldModulus, IsEquation, IsSystem, AreValues};
+
+use crate::texts::same;
+use lists::Listing;
+use matrix_models::{LinearRow, System, solve};
+use std::alloc::{AllocError, Global};
+use std::test::Fail;
+
+// The factors of an equation, and its right side.
+type Equation = (&'static [u32], u32);
+
+// A modulus, the number of unknowns, equations, preferred values, and the greedy solution.
+type Row = (u32, u32, &'static [Equation], &'static [u32], &'static str);
+
+const ROWS: &[Row] = &[
+    (7, 2, &[(&[1, 1], 3)], &[1, 5], "1 2"),
+    (5, 1, &[(&[2], 4)], &[0], "2"),
+    (2, 2, &[], &[1, 0], "1 0"),
+    (7, 1, &[(&[0], 1)], &[0], "none"),
+    // the same equation twice, and one that contradicts it
+    (5, 2, &[(&[1, 2], 3), (&[2, 4], 1)], &[4, 0], "4 2"),
+    (5, 2, &[(&[1, 2], 3), (&[2, 4], 2)], &[4, 0], "none"),
+    // no unknowns
+    (3, 0, &[], &[], ""),
+    (3, 0, &[(&[], 0)], &[], ""),
+    (3, 0, &[(&[], 2)], &[], "none"),
+];
+
+// Whether models have this modulus.
+fn is_field_modulus(modulus: u32) -> bool
+    ensures { IsTrue result → IsFieldModulus modulus }
+{
+    matches!(modulus, 2 | 3 | 5 | 7 | 101 | 32003 | 65537)
+}
+
+// Whether all values are below the modulus.
+fn are_below(modulus: u32, values: &[u32]) -> bool
+    ensures { IsTrue result → All (λ value. value < modulus) values.now }
+{
+    values.iter().all(|value| *value < modulus)
+}
+
+// Whether there is a factor for each unknown, and all numbers are below the modulus.
+fn is_equation(modulus: u32, unknowns: u32, row: &LinearRow) -> bool
+    ensures { IsTrue result → IsEquation modulus unknowns row.now }
+{
+    row.factors.len() == unknowns as usize
+        && are_below(modulus, row.factors.as_slice())
+        && row.right < modulus
+}
+
+// Whether all rows are equations.
+fn are_equations(modulus: u32, unknowns: u32, rows: &[LinearRow]) -> bool
+    ensures { IsTrue result → All (IsEquation modulus unknowns) rows.now }
+{
+    rows.iter().all(|row| is_equation(modulus, unknowns, row))
+}
+
+// Whether it is a system that can be solved for.
+fn is_system(system: &System) -> bool
+    ensures { IsTrue result → IsSystem system.now }
+{
+    is_field_modulus(system.modulus)
+        && are_equations(system.modulus, system.unknowns, system.rows.as_slice())
+}
+
+// Whether there is a value for each unknown.
+fn are_values(system: &System, values: &[u32]) -> bool
+    ensures { IsTrue result → AreValues system.now values.now }
+{
+    values.len() == system.unknowns as usize && are_below(system.modulus, values)
+}
+
+// The greedy solution, if there is one.
+fn solution(alloc: Global, system: &System, prefer: &[u32]) -> Result<Option<Vec<u32>>, Fail> {
+    if !is_system(system) || !are_values(system, prefer) {
+        return Err(Fail::new("a system and preferred values are wanted"));
+    }
+    match solve(alloc, system, prefer)? {
+        Some(values) => Ok(Some(values.into_vec())),
+        None => Ok(None),
+    }
+}
+
+// The system of a row.
+fn system_of(alloc: Global, row: &Row) -> Result<System, AllocError> {
+    let (modulus, unknowns, equations, _, _) = row;
+    let mut rows = Listing::new(alloc);
+    for (factors, right) in *equations {
+        let factors = Listing::from_vec(factors.to_vec(alloc)?);
+        rows.push(LinearRow {
+            factors,
+            right: *right,
+        })?;
+    }
+    Ok(System {
+        modulus: *modulus,
+        unknowns: *unknowns,
+        rows,
+    })
+}
+
+// The numbers, with a blank between them.
+fn written(alloc: Global, values: &[u32]) -> Result<String, AllocError> {
+    let mut text = String::new(alloc);
+    for value in values {
+        text.push_str(if text.is_empty() { "" } else { " " })?;
+        write!(text, "{value}")?;
+    }
+    Ok(text)
+}
+
+// What is told of the solution of a row.
+fn told(alloc: Global, row: &Row) -> Result<String, Fail> {
+    let system = system_of(alloc, row)?;
+    match solution(alloc, &system, row.3)? {
+        Some(values) => Ok(written(alloc, &values)?),
+        None => Ok(String::from_str(alloc, "none")?),
+    }
+}
+
+#[test]
+fn preferred_values_are_taken_in_order(rt: HostRuntime) -> Result<(), Fail> {
+    for row in ROWS {
+        let got = told(rt.alloc(), row)?;
+        same(&rt, got.as_str(), row.4, row.4);
+    }
+    Ok(())
+}
+
+// The squares of the numbers below 40.
+const SQUARES: [u32; 40] = [
+    0, 1, 4, 9, 16, 25, 36, 49, 64, 81, 100, 121, 144, 169, 196, 225, 256, 289, 324, 361, 400, 441,
+    484, 529, 576, 625, 676, 729, 784, 841, 900, 961, 1024, 1089, 1156, 1225, 1296, 1369, 1444,
+    1521,
+];
+
+// The equation that the second unknown less the first is the difference of the two squares.
+fn difference(alloc: Global, first: usize, second: usize) -> Result<LinearRow, AllocError>
+    requires first { first < 40 }
+    requires second { second < 40 }
+{
+    let mut factors = [0; 40];
+    factors[first] = 65536;
+    factors[second] = 1;
+    Ok(LinearRow {
+        factors: Listing::from_vec(factors.to_vec(alloc)?),
+        right: SQUARES[second].saturating_sub(SQUARES[first]),
+    })
+}
+
+// Equations between 40 unknowns, each two apart and then each beside the next: all of these but one follow from others.
+fn differences(alloc: Global) -> Result<System, AllocError> {
+    let mut rows = Listing::new(alloc);
+    for first in 0..38 {
+        rows.push(difference(alloc, first, first + 2)?)?;
+    }
+    for first in 0..39 {
+        rows.push(difference(alloc, first, first + 1)?)?;
+    }
+    Ok(System {
+        modulus: 65537,
+        unknowns: 40,
+        rows,
+    })
+}
+
+#[test]
+fn differences_give_the_squares(rt: HostRuntime) -> Result<(), Fail> {
+    let system = differences(rt.alloc())?;
+    match solution(rt.alloc(), &system, &[0; 40])? {
+        Some(values) => assert_eq!(rt; values.as_slice(), SQUARES.as_slice()),
+        None => return Err(Fail::new("there is a solution")),
+    }
+    Ok(())
+}
