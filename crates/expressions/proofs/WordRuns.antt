@@ -1,13 +1,13 @@
 -- Products with words: letters in a row are one word first.
-use Rattle.std.proofs.Common.{◌≡◌, ◌≢◌, ℕ, ◌+◌, ◌<◌, ◌≤◌, pos, ℤ, ◌*ℤ◌, Bool, true, false, cond, ◌||◌, nat_lt, List, [], ◌∷◌, ◌++◌, length, map, Result, Ok, Err, sym, refl, ap, ap₂, subst, ◌∙◌, arith, append-nil, append_assoc}
+use Rattle.std.proofs.Common.{◌≡◌, ◌≢◌, ℕ, ◌+◌, ◌<◌, ◌≤◌, pos, ℤ, ◌*ℤ◌, Bool, true, false, cond, ◌||◌, nat_lt, List, [], ◌∷◌, ◌++◌, length, Result, Ok, Err, sym, refl, ap, ap₂, subst, ◌∙◌, arith, append-nil, append_assoc}
 use Rattle.std.proofs.lemmas.Bool.Decides.{nat_tests}
 use Rattle.std.proofs.lemmas.Int.{ints}
 use Rattle.std.proofs.lemmas.List.{length-append, length-map}
 use Rattle.std.proofs.lemmas.List.Elements.{recursion_from_All}
 use Rattle.std.specs.List.{AllByRecursion}
 use Rattle.coef_int.specs.Range.{IsCoefficient}
-use Rattle.definitions.specs.Poly.{Poly, Term, poly_between}
-use Rattle.nc_polynomial.specs.declared.fault.PolyFault.{PolyFault}
+use Rattle.definitions.specs.Poly.{Term, poly_between}
+use Rattle.nc_polynomial.specs.Arithmetic.{combined}
 use Rattle.nc_polynomial.specs.Faults.{sized, has_long_word, size_fault}
 use Rattle.nc_polynomial.specs.Product.{and_then, product_from, product_result}
 use Rattle.nc_polynomial.specs.Shape.{IsCanonical}
@@ -38,7 +38,7 @@ sized-canonical p canonical =
     ∙ ap (λ b. cond b (Err (size_fault true)) (Ok p)) (not_long p (recursion_from_All (λ (t : Term). length t.1 ≤ word_limit) p canonical.short))
 
 -- ---- a word behind
-one : List ℕ → Term
+abbrev one : List ℕ → Term
 one w = (pos 1, w)
 
 times_one : (k : ℤ) → k *ℤ pos 1 ≡ k
@@ -53,13 +53,13 @@ at P [] t more h = h.0
 at P (u ∷ front) t more h = at P front t more h.1
 
 module _ (w : List ℕ) where
-  y : Term
+  abbrev y : Term
   y = one w
 
   nonzero : pos 1 ≢ pos 0
   nonzero e = absurd (cc)
 
-  Made : List Term → List Term → Type 0
+  abbrev Made : List Term → List Term → Type 0
   Made front more = product_from (times_term y front) more (y ∷ []) ≡ cond (has_long_word (times_term y more)) (Err (size_fault true)) (Ok (times_term y front ++ times_term y more))
 
   step : (front : List Term) (t : Term) (more : List Term) → IsCanonical (front ++ t ∷ more) → IsCanonical (times_term y front)
@@ -69,7 +69,7 @@ module _ (w : List ℕ) where
       let count : length (t.1 ++ w) ≡ length t.1 + length w = length-append t.1 w in
       let larger : word_limit < length (t.1 ++ w) = above (length (t.1 ++ w)) over in
       let refused : sized (poly_between t.1 (y ∷ []) []) ≡ Err (size_fault true) = long_word y nonzero t (omega (arith, count, larger)) in
-      ap (λ r. and_then (and_then r _) (λ next. product_from next more (y ∷ []))) refused
+      ap (λ r. and_then (and_then r (λ moved. combined (pos 1) (times_term y front) t.0 moved)) (λ next. product_from next more (y ∷ []))) refused
       ∙ ap (λ b. cond (b || has_long_word (times_term y more)) (Err (size_fault true)) (Ok (times_term y front ++ times_term y (t ∷ more)))) (sym over)
     where
       above : (n : ℕ) → nat_lt word_limit n ≡ true → word_limit < n
@@ -111,16 +111,8 @@ between-twice u v (t ∷ p) = ap₂ (λ x ts. (t.0, x) ∷ ts) (append_assoc t.1
 -- a word that is too long is so with more behind it
 longer : (u v : List ℕ) (p : List Term) → has_long_word (poly_between [] p u) ≡ true → has_long_word (poly_between [] p (u ++ v)) ≡ true
 longer u v [] h = absurd (cc)
-longer u v (t ∷ p) h = go (nat_lt word_limit (length (t.1 ++ u))) refl h
+longer u v (t ∷ p) h = go (nat_lt word_limit (length (t.1 ++ u))) refl h (longer u v p)
   where
-    go : (b : Bool) → nat_lt word_limit (length (t.1 ++ u)) ≡ b → (b || has_long_word (poly_between [] p u)) ≡ true → has_long_word (poly_between [] (t ∷ p) (u ++ v)) ≡ true
-    go true over k =
-        let first : length (t.1 ++ u) ≡ length t.1 + length u = length-append t.1 u in
-        let second : length (t.1 ++ (u ++ v)) ≡ length t.1 + length (u ++ v) = length-append t.1 (u ++ v) in
-        let third : length (u ++ v) ≡ length u + length v = length-append u v in
-        ap (λ b. b || has_long_word (poly_between [] p (u ++ v))) (long_after (length (t.1 ++ u)) (length (t.1 ++ (u ++ v))) over (omega (arith, first, second, third)))
-    go false under k = ap (λ b. nat_lt word_limit (length (t.1 ++ (u ++ v))) || b) (longer u v p k) ∙ ends (nat_lt word_limit (length (t.1 ++ (u ++ v))))
-
     long_after : (m n : ℕ) → nat_lt word_limit m ≡ true → m ≤ n → nat_lt word_limit n ≡ true
     long_after m n h k = grind (arith, nat_tests)
 
@@ -128,8 +120,17 @@ longer u v (t ∷ p) h = go (nat_lt word_limit (length (t.1 ++ u))) refl h
     ends true = refl
     ends false = refl
 
+    go : (b : Bool) → nat_lt word_limit (length (t.1 ++ u)) ≡ b → (b || has_long_word (poly_between [] p u)) ≡ true
+        → (has_long_word (poly_between [] p u) ≡ true → has_long_word (poly_between [] p (u ++ v)) ≡ true) → has_long_word (poly_between [] (t ∷ p) (u ++ v)) ≡ true
+    go true over k rest =
+        let first : length (t.1 ++ u) ≡ length t.1 + length u = length-append t.1 u in
+        let second : length (t.1 ++ (u ++ v)) ≡ length t.1 + length (u ++ v) = length-append t.1 (u ++ v) in
+        let third : length (u ++ v) ≡ length u + length v = length-append u v in
+        ap (λ b. b || has_long_word (poly_between [] p (u ++ v))) (long_after (length (t.1 ++ u)) (length (t.1 ++ (u ++ v))) over (omega (arith, first, second, third)))
+    go false under k rest = ap (λ b. nat_lt word_limit (length (t.1 ++ (u ++ v))) || b) (rest k) ∙ ends (nat_lt word_limit (length (t.1 ++ (u ++ v))))
+
 module _ (u v : List ℕ) (p : List Term) (canonical : IsCanonical p) where
-  moved : List Term
+  abbrev pub moved : List Term
   moved = poly_between [] p u
 
   moved_few : length moved ≤ term_limit
