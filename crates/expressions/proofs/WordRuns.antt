@@ -19,9 +19,6 @@ use Rattle.nc_polynomial.proofs.RunningSums.{not_long}
 use Rattle.expressions.specs.Results.{◌>>=◌}
 
 -- ---- sizes
-long : (n : ℕ) → word_limit < n → nat_lt word_limit n ≡ true
-long n h = grind (arith, nat_tests)
-
 short : (n : ℕ) → nat_lt word_limit n ≡ false → n ≤ word_limit
 short n h = grind (arith, nat_tests)
 
