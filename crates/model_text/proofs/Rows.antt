@@ -5,7 +5,7 @@ use Rattle.std.proofs.lemmas.List.{take_rest}
 use Rattle.std.proofs.lemmas.Option.{cond_some}
 use Rattle.std.specs.List.{position, position_or_len}
 use Rattle.certificate_text.specs.Lines.{is}
-use Rattle.certificate_text.specs.Views.{texts}
+use Rattle.model_text.specs.Views.{texts}
 use Rattle.model_text.specs.Reading.{rows_in}
 
 abbrev cuts : Bor (List ℕ) → Bool

@@ -10,7 +10,7 @@ use Rattle.std.proofs.lemmas.List.Folds.{list_all-append, list_all-map, list_all
 use Rattle.std.proofs.lemmas.Option.{option_and_then_some, cond_some}
 use Rattle.certificate_text.specs.Blocks.{Line}
 use Rattle.certificate_text.specs.Letters.{is_number, number_within}
-use Rattle.certificate_text.specs.Views.{texts}
+use Rattle.model_text.specs.Views.{texts}
 use Rattle.certificate_text.proofs.Results.{option_map_some}
 use Rattle.model_text.specs.ModelBlocks.{is_row, is_row_of}
 use Rattle.model_text.specs.ModelBounds.{value_of}

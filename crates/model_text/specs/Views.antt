@@ -2,11 +2,14 @@
 use Rattle.std.specs.Prelude.{ℕ, List, map, Option}
 use Rattle.std.specs.Option.{option_map}
 use Rattle.std.specs.Borrow.{Bor}
-use Rattle.certificate_text.specs.Views.{texts}
 use Rattle.model_text.specs.declared.entry.EntryTokens.{EntryTokens as code_entry}
 use Rattle.model_text.specs.declared.entry.EntryTokens.TheVariants as code
 use Rattle.certificate_text.specs.Blocks.{Line}
 use Rattle.model_text.specs.ModelBlocks.{EntryTokens, side, matrix}
+
+-- the tokens that are pointed to
+abbrev pub texts : List (Bor (List ℕ)) → List (List ℕ)
+texts tokens = map (λ token. token.now) tokens
 
 -- the rows that are pointed to
 abbrev pub rows : List (Bor (List (Bor (List ℕ)))) → List (List (List ℕ))

@@ -5,13 +5,14 @@ ghost use Rattle.std.specs.List.{list_all};
 ghost use Rattle.std.specs.Option.{option_map, option_and_then};
 ghost use Rattle.certificate_text.specs.Letters.{is_name, is_number};
 ghost use Rattle.certificate_text.specs.Lines.{is};
-ghost use Rattle.certificate_text.specs.Views.{texts};
+ghost use Rattle.certificate_text.specs.Tokens.{tokens_of};
+ghost use Rattle.model_text.specs.Views.{texts};
 ghost use Rattle.model_text.specs.ModelBlocks.{name_of, is_row, is_row_of, is_entry, is_modulus};
 ghost use Rattle.model_text.specs.ModelBounds.{value_of};
 ghost use Rattle.model_text.specs.Reading.{rows_in, rows_behind, side_tokens, map_tokens, if_entry, entry_tokens};
 ghost use Rattle.model_text.specs.Views.{rows, line_in, tokens_in};
 
-use certificate_text::{begins, is, is_number, name_in, number_within};
+use certificate_text::{first_token, is, is_number, name_in, number_within};
 use std::alloc::{AllocError, Global};
 
 /// The name of a line with its side, or with its rows of numbers.
@@ -38,6 +39,19 @@ impl<'a> EntryTokens<'a, '_> {
             EntryTokens::Matrix { name, .. } => name,
         }
     }
+}
+
+/// The tokens of a line.
+pub fn tokens_of(alloc: Global, line: &[u8]) -> Result<Vec<&[u8]>, AllocError>
+    ensures { IfOk result (λ tokens. texts tokens.items ≡ tokens_of line.now) }
+{
+    let mut tokens = Vec::new(alloc);
+    let mut rest = line;
+    while let Some((token, behind)) = first_token(rest) {
+        tokens.push(token)?;
+        rest = behind;
+    }
+    Ok(tokens)
 }
 
 // Whether the value of a number is above this.
@@ -171,10 +185,9 @@ pub fn entry_tokens<'a, 'b>(
     ensures exact { IfOk result (λ found. option_map tokens_in found ≡ entry_tokens (texts line.now)) }
     ensures entry { IfOk result (λ found. IfSome found (λ e. IsTrue (is_entry (tokens_in e)))) }
 {
-    let found = if begins("side", line) {
-        side_tokens(line)
-    } else {
-        map_tokens(alloc, line)?
+    let found = match line {
+        [word, ..] if is("side", word) => side_tokens(line),
+        _ => map_tokens(alloc, line)?,
     };
     match found {
         Some(entry) if is_entry(&entry) => Ok(Some(entry)),

@@ -10,9 +10,7 @@ ghost use Rattle.model_text.specs.Reading.{read_tokens, read_lines, beginning, e
 
 use crate::place::{Place, Progress};
 use crate::step::step;
-use certificate_text::{
-    CertFault, LineFault, TextFlaw, at_line, first_line, is_skipped, is_utf8, tokens_of,
-};
+use certificate_text::{CertFault, LineFault, TextFlaw, at_line, first_line, is_skipped, is_utf8};
 use lists::Listing;
 use matrix_models::Model;
 use quiver::Quiver;
@@ -28,11 +26,10 @@ fn read_line(
     ensures exact { Reads (λ p. p) result (read_tokens quiver.now progress (tokens_of line.now)) }
     ensures modulus { IfOk result (λ p. HasModulus p.place) }
 {
-    let tokens = tokens_of(alloc, line)?;
-    if is_skipped(&tokens) {
+    if is_skipped(line) {
         return Ok(progress);
     }
-    step(alloc, quiver, progress, &tokens)
+    step(alloc, quiver, progress, line)
 }
 
 fn read_lines(alloc: Global, quiver: &Quiver, text: &[u8]) -> Result<Progress, CertFault>

@@ -4,18 +4,18 @@ ghost use Rattle.std.specs.Prelude.{◌≡◌, [], Ok, IfOk, IsTrue};
 ghost use Rattle.std.specs.List.{list_any};
 ghost use Rattle.std.specs.Str.{bytes_eq};
 ghost use Rattle.certificate_text.specs.Fault.{Reads};
-ghost use Rattle.certificate_text.specs.Views.{texts};
+ghost use Rattle.certificate_text.specs.Tokens.{tokens_of};
 ghost use Rattle.matrix_models.specs.Matrix.{IsModulus};
 ghost use Rattle.model_text.specs.ModelBlocks.{name_of, is_entry, is_other_head};
 ghost use Rattle.model_text.specs.Reading.{is_head, outside, modulus_of, grown, inside, step, HasModulus};
 ghost use Rattle.model_text.specs.Views.{tokens_in};
 ghost use Rattle.model_text.specs.declared.place.Place.TheVariants as place;
 
-use crate::entry::{EntryTokens, entry_tokens, is_modulus};
+use crate::entry::{EntryTokens, entry_tokens, is_modulus, tokens_of};
 use crate::finish::model_of;
 use crate::place::{Begun, Place, Progress};
 use crate::value::{entry_value, name_text};
-use certificate_text::{Flaw, LineFault, begins, claim_of, is, is_end, number_within};
+use certificate_text::{Flaw, LineFault, begins, claim_of, is, is_end, number_within, two_tokens};
 use lists::{Listing, Text};
 use matrix_models::Model;
 use quiver::Quiver;
@@ -25,24 +25,24 @@ const BLOCK_LIMIT: u32 = 100;
 
 const MODULUS_LIMIT: u128 = 2147483647;
 
-fn is_head(line: &[&[u8]]) -> bool
-    ensures { result ≡ is_head (texts line.now) }
+fn is_head(line: &[u8]) -> bool
+    ensures { result ≡ is_head (tokens_of line.now) }
 {
-    match line {
-        [word, number] => is("model", word) && is("1", number),
-        _ => false,
+    match two_tokens(line) {
+        Some((word, number)) => is("model", word) && is("1", number),
+        None => false,
     }
 }
 
 // Whether a block of another kind begins.
-fn is_other_head(line: &[&[u8]]) -> bool
-    ensures { result ≡ is_other_head (texts line.now) }
+fn is_other_head(line: &[u8]) -> bool
+    ensures { result ≡ is_other_head (tokens_of line.now) }
 {
     begins("certificate", line) || begins("basis", line)
 }
 
-fn outside(models: Listing<Model>, line: &[&[u8]]) -> Result<Progress, Flaw>
-    ensures { result ≡ outside models (texts line.now) }
+fn outside(models: Listing<Model>, line: &[u8]) -> Result<Progress, Flaw>
+    ensures { result ≡ outside models (tokens_of line.now) }
 {
     if is_head(line) {
         if models.len() >= BLOCK_LIMIT as usize {
@@ -58,8 +58,8 @@ fn outside(models: Listing<Model>, line: &[&[u8]]) -> Result<Progress, Flaw>
     }
 }
 
-fn skipped(models: Listing<Model>, line: &[&[u8]]) -> Progress
-    ensures { step [] models place.Skipped (texts line.now) ≡ Ok result }
+fn skipped(models: Listing<Model>, line: &[u8]) -> Progress
+    ensures { step [] models place.Skipped (tokens_of line.now) ≡ Ok result }
 {
     let place = if is_end(line) {
         Place::Outside
@@ -70,19 +70,19 @@ fn skipped(models: Listing<Model>, line: &[&[u8]]) -> Progress
 }
 
 // The claim behind the head.
-fn claimed(models: Listing<Model>, line: &[&[u8]]) -> Result<Progress, Flaw>
-    ensures { result ≡ step [] models place.Headed (texts line.now) }
+fn claimed(models: Listing<Model>, line: &[u8]) -> Result<Progress, Flaw>
+    ensures { result ≡ step [] models place.Headed (tokens_of line.now) }
 {
     let claim = claim_of(line)?;
     let place = Place::Claimed { claim };
     Ok(Progress { models, place })
 }
 
-fn modulus_of(line: &[&[u8]]) -> Result<u32, Flaw>
-    ensures exact { result ≡ modulus_of (texts line.now) }
+fn modulus_of(line: &[u8]) -> Result<u32, Flaw>
+    ensures exact { result ≡ modulus_of (tokens_of line.now) }
     ensures in_range { IfOk result IsModulus }
 {
-    let [word, digits] = line else {
+    let Some((word, digits)) = two_tokens(line) else {
         return Err(Flaw::BadLine);
     };
     if !is("modulus", word) || !is_modulus(digits) {
@@ -95,13 +95,8 @@ fn modulus_of(line: &[&[u8]]) -> Result<u32, Flaw>
 }
 
 // The modulus behind the claim.
-fn begun(
-    alloc: Global,
-    models: Listing<Model>,
-    claim: u32,
-    line: &[&[u8]],
-) -> Result<Progress, Flaw>
-    ensures exact { result ≡ step [] models (place.Claimed claim) (texts line.now) }
+fn begun(alloc: Global, models: Listing<Model>, claim: u32, line: &[u8]) -> Result<Progress, Flaw>
+    ensures exact { result ≡ step [] models (place.Claimed claim) (tokens_of line.now) }
     ensures modulus { IfOk result (λ p. HasModulus p.place) }
 {
     let begun = Begun {
@@ -148,10 +143,10 @@ fn inside(
     quiver: &Quiver,
     mut models: Listing<Model>,
     begun: Begun,
-    line: &[&[u8]],
+    line: &[u8],
 ) -> Result<Progress, LineFault>
     requires { IsModulus begun.modulus }
-    ensures exact { Reads (λ p. p) result (inside quiver.now models begun (texts line.now)) }
+    ensures exact { Reads (λ p. p) result (inside quiver.now models begun (tokens_of line.now)) }
     ensures modulus { IfOk result (λ p. HasModulus p.place) }
 {
     if is_end(line) {
@@ -159,7 +154,8 @@ fn inside(
         let place = Place::Outside;
         return Ok(Progress { models, place });
     }
-    let Some(entry) = entry_tokens(alloc, line)? else {
+    let tokens = tokens_of(alloc, line)?;
+    let Some(entry) = entry_tokens(alloc, &tokens)? else {
         return Err(LineFault::Flaw(Flaw::BadLine));
     };
     let begun = grown(alloc, quiver, begun, &entry)?;
@@ -172,10 +168,10 @@ pub fn step(
     alloc: Global,
     quiver: &Quiver,
     progress: Progress,
-    line: &[&[u8]],
+    line: &[u8],
 ) -> Result<Progress, LineFault>
     requires { HasModulus progress.place }
-    ensures exact { Reads (λ p. p) result (step quiver.now progress.models progress.place (texts line.now)) }
+    ensures exact { Reads (λ p. p) result (step quiver.now progress.models progress.place (tokens_of line.now)) }
     ensures modulus { IfOk result (λ p. HasModulus p.place) }
 {
     let Progress { models, place } = progress;

@@ -6,7 +6,7 @@ ghost use Rattle.quiver.specs.Declarations.{named_in};
 ghost use Rattle.matrix_models.specs.Matrix.{IsModulus};
 ghost use Rattle.certificate_text.specs.Fault.{Reads, asked};
 ghost use Rattle.certificate_text.specs.Letters.{is_name, is_number};
-ghost use Rattle.certificate_text.specs.Views.{texts};
+ghost use Rattle.model_text.specs.Views.{texts};
 ghost use Rattle.certificate_text.specs.declared.fault.Flaw.TheVariants as flaw;
 ghost use Rattle.model_text.specs.ModelBlocks.{name_of, is_entry};
 ghost use Rattle.model_text.specs.ModelBounds.{value_of};

@@ -3,7 +3,7 @@ use borrow.Author.Tests.{tests}
 use Rattle.std.proofs.lemmas.Iterator.{YieldsList-from_slice}
 use Rattle.std.proofs.lemmas.Iterator.Search.{all_from_yields_List}
 use Rattle.std.proofs.lemmas.List.Folds.{list_all-map}
-use Rattle.certificate_text.specs.Views.{texts}
+use Rattle.model_text.specs.Views.{texts}
 use Rattle.model_text.specs.ModelBlocks.{is_row_of}
 use Rattle.model_text.proofs.entry.are_rows.Goals as goal
 

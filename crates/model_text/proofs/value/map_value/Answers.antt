@@ -2,7 +2,7 @@ use Rattle.std.proofs.Common.{◌≡◌, ◌<◌, ◌≤◌, ◌+◌, ◌*◌, �
 use Rattle.std.specs.List.{All, flat_map, list_all}
 use Rattle.std.proofs.lemmas.List.{length-map}
 use Rattle.certificate_text.specs.Letters.{is_number}
-use Rattle.certificate_text.specs.Views.{texts}
+use Rattle.model_text.specs.Views.{texts}
 use Rattle.certificate_text.specs.declared.fault.Flaw.TheVariants.{NumberTooLarge}
 use Rattle.certificate_text.proofs.Results.{asked_ok}
 use Rattle.model_text.specs.Views.{rows}

@@ -1,6 +1,6 @@
 use Rattle.std.proofs.Common.{◌≡◌, ◌++◌, ◌∷◌, drop}
 use Rattle.std.specs.List.{flat_map}
-use Rattle.certificate_text.specs.Views.{texts}
+use Rattle.model_text.specs.Views.{texts}
 use Rattle.model_text.specs.Views.{rows}
 use Rattle.model_text.proofs.value.numbers_in.Given as goal
 

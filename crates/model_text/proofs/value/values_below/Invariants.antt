@@ -1,5 +1,5 @@
 use Rattle.std.proofs.Common.{◌≡◌, drop}
-use Rattle.certificate_text.specs.Views.{texts}
+use Rattle.model_text.specs.Views.{texts}
 use Rattle.certificate_text.proofs.Fronts.{behind}
 use Rattle.model_text.specs.Reading.{values_below}
 use Rattle.model_text.proofs.value.values_below.Given as goal
