@@ -9,14 +9,12 @@ use Rattle.matrix_models.specs.declared.model.Model.{Model}
 use Rattle.certificate_text.specs.Lines.{block_limit}
 use Rattle.certificate_text.specs.Blocks.{Line, OtherTokens, end_line}
 use Rattle.model_text.specs.ModelBlocks.{ModelTokens, BlockTokens, model, other, block_lines, IsModelBlock, IsOtherBlock, IsBlock}
-use Rattle.model_text.specs.ModelBounds.{Bound, names, numbers, sizes, blocks, is_model, models_in, model_value, values_in, bounds, KeepsOne, Keeps}
+use Rattle.model_text.specs.ModelBounds.{Bound, names, blocks, is_model, models_in, model_value, values_in, bounds, KeepsOne, Keeps}
 use Rattle.model_text.specs.Models.{GoesOn}
 
 pub other_keeps : (ds : List Declaration) (b : OtherTokens) (bound : Bound) → KeepsOne ds bound (other b)
 other_keeps ds b names = tt
-other_keeps ds b numbers = tt
-other_keeps ds b sizes = tt
-other_keeps ds b blocks = tt
+other_keeps ds b bound = tt
 
 pub everywhere : {X : Type 0} (P : X → Type 0) → ((x : X) → P x) → (xs : List X) → All P xs
 everywhere P each xs = λ k d below. each _

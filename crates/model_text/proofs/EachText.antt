@@ -22,9 +22,9 @@ use Rattle.model_text.specs.Models as first
 use Rattle.model_text.specs.Reading.{progress, read_lines, beginning, ended, models_of, one_or_more, all_models}
 use Rattle.model_text.proofs.BlockTrees.{other_keeps, models_in-length}
 use Rattle.model_text.proofs.Standing.{goes_on, stands_outside}
-use Rattle.model_text.proofs.Meets.{run}
-use Rattle.model_text.proofs.NumberedLines.{IsRefused, AreLinesRead, all, some, lines_are_read, all_are_read, refused_at}
+use Rattle.certificate_text.proofs.NumberedLines.{run, IsRefused, AreLinesRead, all, some, lines_are_read, all_are_read, refused_at}
 use Rattle.model_text.proofs.ReadLines.{stands, is_flawed, is_refused, goes_read, blocks_read, is_cut_off}
+use Rattle.model_text.proofs.LineSteps.{step_at, read_by}
 use Rattle.model_text.proofs.FirstBounds.{kept_at}
 
 -- ---- blocks of other kinds
@@ -40,7 +40,7 @@ others_keep_all ds text none = λ i bound within. record { each = others_keep ds
 module _ (ds : List Declaration) (bytes : List ℕ) where
   -- ---- what is read is what the bytes say
 
-  first_flaw : (told : Fault) → is_utf8 bytes ≡ true → IsRefused ds beginning (lines bytes) 1 told → IsFirstFault ds bytes told
+  first_flaw : (told : Fault) → is_utf8 bytes ≡ true → IsRefused (step_at ds) beginning (lines bytes) 1 told → IsFirstFault ds bytes told
   first_flaw told utf8 refused =
       first.line (length refused.front + 1) refused.flaw utf8 (record {
         front = refused.front;
@@ -54,13 +54,13 @@ module _ (ds : List Declaration) (bytes : List ℕ) where
       }) refused.told
 
   -- how the text ends
-  ended_judged : (ms : List Model) (place : Place) → is_utf8 bytes ≡ true → run ds beginning (content (lines bytes)) ≡ Ok (progress ms place) → MatchResult (ended ms place) (HasModels ds bytes) (IsFirstFault ds bytes)
+  ended_judged : (ms : List Model) (place : Place) → is_utf8 bytes ≡ true → run (step_at ds) beginning (content (lines bytes)) ≡ Ok (progress ms place) → MatchResult (ended ms place) (HasModels ds bytes) (IsFirstFault ds bytes)
   ended_judged ms at.Outside utf8 read =
       let found = stands_outside ds (content (lines bytes)) ms (stands ds (content (lines bytes)) (progress ms at.Outside) read) in
       record { utf8 = utf8; blocks = found.0; are_blocks = found.1; within = found.2; models = found.3 }
   ended_judged ms place utf8 read = first.end utf8 (is_cut_off ds (content (lines bytes)) ms place read refl) refl
 
-  lines_judged : (r : Result Progress Fault) → is_utf8 bytes ≡ true → AreLinesRead ds beginning (lines bytes) 1 r → MatchResult (r >>= λ p. ended p.models p.place) (HasModels ds bytes) (IsFirstFault ds bytes)
+  lines_judged : (r : Result Progress Fault) → is_utf8 bytes ≡ true → AreLinesRead (step_at ds) beginning (lines bytes) 1 r → MatchResult (r >>= λ p. ended p.models p.place) (HasModels ds bytes) (IsFirstFault ds bytes)
   lines_judged r utf8 (all q is read) = rw is (ended_judged q.models q.place utf8 read)
   lines_judged r utf8 (some told is refused) = rw is (first_flaw told utf8 refused)
 
@@ -68,7 +68,7 @@ module _ (ds : List Declaration) (bytes : List ℕ) where
   blocks_judged = by_encoding (is_utf8 bytes) refl
     where
       by_encoding : (utf8 : Bool) → is_utf8 bytes ≡ utf8 → MatchResult (models_of ds bytes) (HasModels ds bytes) (IsFirstFault ds bytes)
-      by_encoding true is = rw is (lines_judged _ is (lines_are_read ds beginning (lines bytes) 1))
+      by_encoding true is = rw (is, read_by ds 1 beginning (lines bytes)) (lines_judged _ is (lines_are_read (step_at ds) beginning (lines bytes) 1))
       by_encoding false is = rw is (first.encoding is refl)
 
   some_judged : (r : Result (List Model) Fault) → MatchResult r (HasModels ds bytes) (IsFirstFault ds bytes) → MatchResult (r >>= one_or_more) (IsModels ds bytes) (IsFirstFault ds bytes)
@@ -91,7 +91,7 @@ module _ (ds : List Declaration) (bytes : List ℕ) where
 
   has_read : (ms : List Model) → HasModels ds bytes ms → models_of ds bytes ≡ Ok ms
   has_read ms has =
-      rw (has.utf8, all_are_read ds beginning (progress ms at.Outside) (lines bytes) 1 (blocks_read ds (content (lines bytes)) has.blocks ms has.are_blocks (kept_at (Keeps ds has.blocks) has.within) has.models)) refl
+      rw (has.utf8, read_by ds 1 beginning (lines bytes), all_are_read (step_at ds) beginning (progress ms at.Outside) (lines bytes) 1 (blocks_read ds (content (lines bytes)) has.blocks ms has.are_blocks (kept_at (Keeps ds has.blocks) has.within) has.models)) refl
 
   some_read : (ms : List Model) → 0 < length ms → one_or_more ms ≡ Ok ms
   some_read [] one = absurd (omega (arith, one))
@@ -103,7 +103,7 @@ module _ (ds : List Declaration) (bytes : List ℕ) where
   pub models_are_read : (ms : List Model) → IsModels ds bytes ms → all_models ds bytes ≡ Ok ms
   models_are_read ms is = rw (has_read ms is.has, some_read ms is.some) refl
 
-  ended_cut : (ms : List Model) (place : Place) → run ds beginning (content (lines bytes)) ≡ Ok (progress ms place) → IsCutOff ds (content (lines bytes)) → ended ms place ≡ Err truncated
+  ended_cut : (ms : List Model) (place : Place) → run (step_at ds) beginning (content (lines bytes)) ≡ Ok (progress ms place) → IsCutOff ds (content (lines bytes)) → ended ms place ≡ Err truncated
   ended_cut ms at.Outside read cut = let found = stands_outside ds (content (lines bytes)) ms (stands ds (content (lines bytes)) (progress ms at.Outside) read) in absurd (cut.cut found.0 found.1)
   ended_cut ms place read cut = refl
 
@@ -112,11 +112,11 @@ module _ (ds : List Declaration) (bytes : List ℕ) where
   fault_is_read told (first.line number flaw utf8 found is) =
       let front = goes_read ds (content found.front) found.sound in
       let refused = is_refused ds (content found.front) front.0 (tokens_of found.line) flaw front.1 found.flawed in
-      let read : read_lines ds 1 beginning (lines bytes) ≡ Err (in_line (length found.front + 1) flaw) = rw found.splits (refused_at ds beginning front.0 found.front found.line found.behind 1 flaw front.1 found.stands refused) in
+      let read : read_lines ds 1 beginning (lines bytes) ≡ Err (in_line (length found.front + 1) flaw) = rw (read_by ds 1 beginning (lines bytes), found.splits) (refused_at (step_at ds) beginning front.0 found.front found.line found.behind 1 flaw front.1 found.stands refused) in
       rw (utf8, read, is, found.numbered) refl
   fault_is_read told (first.end utf8 cut is) =
       let front = goes_read ds (content (lines bytes)) cut.sound in
-      rw (utf8, all_are_read ds beginning front.0 (lines bytes) 1 front.1, ended_cut front.0.models front.0.place front.1 cut, is) refl
+      rw (utf8, read_by ds 1 beginning (lines bytes), all_are_read (step_at ds) beginning front.0 (lines bytes) 1 front.1, ended_cut front.0.models front.0.place front.1 cut, is) refl
   fault_is_read told (first.models utf8 found is) =
       rw (has_read [] (record { utf8 = utf8; blocks = found.blocks; are_blocks = found.are_blocks; within = others_keep_all ds found.blocks found.none; models = sym (nil_from_length (values_in ds found.blocks) (sym (models_in-length ds found.blocks) ∙ ap length found.none)) }), is) refl
 

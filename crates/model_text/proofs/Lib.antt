@@ -4,12 +4,11 @@ mod Values
 mod EntryLines
 mod Names
 mod EntryValues
-mod Meets
 mod BlockTrees
 mod OpenBlocks
 mod Standing
 mod TextLines
-mod NumberedLines
+mod LineSteps
 mod FirstBounds
 mod ReadLines
 pub mod EachText

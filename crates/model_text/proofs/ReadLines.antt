@@ -15,20 +15,22 @@ use Rattle.model_text.specs.Models.{GoesOn, IsFlawed, misfit, passes, IsCutOff}
 use Rattle.model_text.specs.Reading.{progress, step, beginning, ended}
 use Rattle.certificate_text.proofs.Results.{bind_ok}
 use Rattle.model_text.proofs.Standing.{Stands, stands_first, stands_next, goes_on, goes_on_before}
-use Rattle.model_text.proofs.Meets as meets
-use Rattle.model_text.proofs.Meets.{run, run-append, Meets}
+use Rattle.certificate_text.proofs.Meets as meets
+use Rattle.certificate_text.proofs.Meets.{Meets}
 use Rattle.model_text.proofs.TextLines.{AreRead, text_meets}
-use Rattle.model_text.proofs.NumberedLines.{run_past}
-use Rattle.model_text.proofs.FirstBounds.{same_bound, no_misfit, kept_at, last_kept, goes_on_within_none, goes_on_up_to, one_flaw}
+use Rattle.certificate_text.proofs.NumberedLines.{run, run-append, run_past}
+use Rattle.certificate_text.proofs.BoundOrder.{last_kept}
+use Rattle.model_text.proofs.LineSteps.{step_at}
+use Rattle.model_text.proofs.FirstBounds.{same_bound, no_misfit, kept_at, goes_on_within_none, goes_on_up_to, one_flaw}
 
-stands_behind : (ds : List Declaration) (p q : Progress) (front ls : List Line) → Stands ds front p → run ds p ls ≡ Ok q → Stands ds (front ++ ls) q
+stands_behind : (ds : List Declaration) (p q : Progress) (front ls : List Line) → Stands ds front p → run (step_at ds) p ls ≡ Ok q → Stands ds (front ++ ls) q
 stands_behind ds p q front [] here read = let same : p ≡ q = cc in rw (← same, append-nil front) here
 stands_behind ds p q front (line ∷ ls) here read =
-    bind_ok (step ds p.models p.place line) (λ next. run ds next ls) q read (λ next next_is rest.
+    bind_ok (step ds p.models p.place line) (λ next. run (step_at ds) next ls) q read (λ next next_is rest.
     rw append_assoc at (stands_behind ds next q (front ++ line ∷ []) ls (stands_next ds front p next line here next_is) rest))
 
 module _ (ds : List Declaration) where
-  pub stands : (ls : List Line) (p : Progress) → run ds beginning ls ≡ Ok p → Stands ds ls p
+  pub stands : (ls : List Line) (p : Progress) → run (step_at ds) beginning ls ≡ Ok p → Stands ds ls p
   stands ls p read = stands_behind ds beginning p [] ls (stands_first ds) read
 
   -- ---- a line
@@ -39,17 +41,17 @@ module _ (ds : List Declaration) where
     is : flaw ≡ flaw_of bound
     passed : Keeps ds blocks bound → ⊥
 
-  is_passed : (front : List Line) (p : Progress) (line : Line) (flaw : Flaw) (T : List Bound) → run ds beginning front ≡ Ok p → step ds p.models p.place line ≡ Err flaw
+  is_passed : (front : List Line) (p : Progress) (line : Line) (flaw : Flaw) (T : List Bound) → run (step_at ds) beginning front ≡ Ok p → step ds p.models p.place line ≡ Err flaw
       → (goes : GoesOn ds T (front ++ line ∷ [])) → IsPassed goes.blocks flaw
   is_passed front p line flaw T read refused goes =
-      let stops : run ds beginning ((front ++ line ∷ []) ++ goes.more) ≡ Err flaw = rw append_assoc (run_past ds beginning p front line goes.more flaw read refused) in
+      let stops : run (step_at ds) beginning ((front ++ line ∷ []) ++ goes.more) ≡ Err flaw = rw append_assoc (run_past (step_at ds) beginning p front line goes.more flaw read refused) in
       by_cases (rw stops at (text_meets ds ((front ++ line ∷ []) ++ goes.more) goes.blocks goes.are_blocks))
     where
-      by_cases : {P : Progress → Type 0} → Meets (Keeps ds goes.blocks) P (Err flaw) → IsPassed goes.blocks flaw
+      by_cases : {P : Progress → Type 0} → Meets flaw_of (Keeps ds goes.blocks) P (Err flaw) → IsPassed goes.blocks flaw
       by_cases (meets.reads q is known) = absurd (cc)
       by_cases (meets.passes bound is passed) = record { bound = bound; is = cc; passed = passed }
 
-  pub is_flawed : (front : List Line) (p : Progress) (line : Line) (flaw : Flaw) → run ds beginning front ≡ Ok p → step ds p.models p.place line ≡ Err flaw → IsFlawed ds front line flaw
+  pub is_flawed : (front : List Line) (p : Progress) (line : Line) (flaw : Flaw) → run (step_at ds) beginning front ≡ Ok p → step ds p.models p.place line ≡ Err flaw → IsFlawed ds front line flaw
   is_flawed front p line flaw read refused = by_cases (goes_on_before ds front p line flaw (stands front p read) refused)
     where
       by_cases : (flaw ≡ BadLine) ⊎ ((bound : Bound) × (flaw ≡ flaw_of bound) × GoesOn ds (before bound) (front ++ line ∷ [])) → IsFlawed ds front line flaw
@@ -57,10 +59,10 @@ module _ (ds : List Declaration) where
       by_cases (inr found) = passes found.0 found.1 found.2 (λ goes.
           let passed = is_passed front p line flaw (before found.0 ++ found.0 ∷ []) read refused goes in
           let same : found.0 ≡ passed.bound = same_bound found.0 passed.bound (sym found.1 ∙ passed.is) in
-          passed.passed (subst (Keeps ds goes.blocks) same (last_kept (Keeps ds goes.blocks) found.0 goes.keeps)))
+          passed.passed (subst (Keeps ds goes.blocks) same (last_kept (Keeps ds goes.blocks) (before found.0) found.0 goes.keeps)))
 
   -- a line that is flawed is refused
-  pub is_refused : (front : List Line) (p : Progress) (line : Line) (flaw : Flaw) → run ds beginning front ≡ Ok p → IsFlawed ds front line flaw → step ds p.models p.place line ≡ Err flaw
+  pub is_refused : (front : List Line) (p : Progress) (line : Line) (flaw : Flaw) → run (step_at ds) beginning front ≡ Ok p → IsFlawed ds front line flaw → step ds p.models p.place line ≡ Err flaw
   is_refused front p line flaw read flawed = by_cases (step ds p.models p.place line) refl
     where
       stops : IsFlawed ds front line flaw → GoesOn ds bounds (front ++ line ∷ []) → ⊥
@@ -74,26 +76,26 @@ module _ (ds : List Declaration) where
   -- ---- lines
 
   -- lines within all bounds are read
-  pub goes_read : (ls : List Line) → GoesOn ds bounds ls → (p : Progress) × (run ds beginning ls ≡ Ok p)
+  pub goes_read : (ls : List Line) → GoesOn ds bounds ls → (p : Progress) × (run (step_at ds) beginning ls ≡ Ok p)
   goes_read ls goes = by_cases (text_meets ds (ls ++ goes.more) goes.blocks goes.are_blocks)
     where
-      by_cases : {P : Progress → Type 0} → Meets (Keeps ds goes.blocks) P (run ds beginning (ls ++ goes.more)) → (p : Progress) × (run ds beginning ls ≡ Ok p)
-      by_cases (meets.reads q is known) = bind_ok (run ds beginning ls) (λ p. run ds p goes.more) q (rw run-append at is) (λ p p_is rest. (p, p_is))
+      by_cases : {P : Progress → Type 0} → Meets flaw_of (Keeps ds goes.blocks) P (run (step_at ds) beginning (ls ++ goes.more)) → (p : Progress) × (run (step_at ds) beginning ls ≡ Ok p)
+      by_cases (meets.reads q is known) = bind_ok (run (step_at ds) beginning ls) (λ p. run (step_at ds) p goes.more) q (rw run-append at is) (λ p p_is rest. (p, p_is))
       by_cases (meets.passes bound is passed) = absurd (passed (kept_at (Keeps ds goes.blocks) goes.keeps bound))
 
   -- blocks within all bounds are read as their models
-  pub blocks_read : (ls : List Line) (text : List BlockTokens) (ms : List Model) → AreBlocks ls text → ((bound : Bound) → Keeps ds text bound) → ms ≡ values_in ds text → run ds beginning ls ≡ Ok (progress ms at.Outside)
+  pub blocks_read : (ls : List Line) (text : List BlockTokens) (ms : List Model) → AreBlocks ls text → ((bound : Bound) → Keeps ds text bound) → ms ≡ values_in ds text → run (step_at ds) beginning ls ≡ Ok (progress ms at.Outside)
   blocks_read ls text ms are_blocks within models = by_cases (text_meets ds ls text are_blocks)
     where
-      by_cases : Meets (Keeps ds text) (AreRead ds [] text) (run ds beginning ls) → run ds beginning ls ≡ Ok (progress ms at.Outside)
+      by_cases : Meets flaw_of (Keeps ds text) (AreRead ds [] text) (run (step_at ds) beginning ls) → run (step_at ds) beginning ls ≡ Ok (progress ms at.Outside)
       by_cases (meets.reads q is known) = is ∙ ap Ok (known ∙ ap (λ ms. progress ms at.Outside) (sym models))
       by_cases (meets.passes bound is passed) = absurd (passed (within bound))
 
   -- lines that are read and end inside a block are no blocks
-  pub is_cut_off : (ls : List Line) (ms : List Model) (place : Place) → run ds beginning ls ≡ Ok (progress ms place) → ended ms place ≡ Err truncated → IsCutOff ds ls
+  pub is_cut_off : (ls : List Line) (ms : List Model) (place : Place) → run (step_at ds) beginning ls ≡ Ok (progress ms place) → ended ms place ≡ Err truncated → IsCutOff ds ls
   is_cut_off ls ms place read inside = record { sound = goes_on ds ls (progress ms place) (stands ls (progress ms place) read); cut = λ text are_blocks. none (text_meets ds ls text are_blocks) }
     where
-      none : {text : List BlockTokens} → Meets (Keeps ds text) (AreRead ds [] text) (run ds beginning ls) → ⊥
+      none : {text : List BlockTokens} → Meets flaw_of (Keeps ds text) (AreRead ds [] text) (run (step_at ds) beginning ls) → ⊥
       none {text = text} (meets.reads q is known) =
           let same : progress ms place ≡ progress (values_in ds text) at.Outside = cc in
           let outside : place ≡ at.Outside = ap (λ (p : Progress). p.place) same in
