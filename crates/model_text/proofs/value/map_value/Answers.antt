@@ -1,9 +1,9 @@
-use Rattle.std.proofs.Common.{◌≡◌, ◌<◌, ◌≤◌, ◌+◌, ◌*◌, ◌∙◌, arith, sym, ap, ap₂, subst, length}
+use Rattle.std.proofs.Common.{◌<◌, ◌≤◌, ◌+◌, ◌*◌, ◌∙◌, arith, sym, ap, ap₂, subst, length}
 use Rattle.std.specs.List.{All}
 use Rattle.certificate_text.specs.Tokens.{tokens_of}
 use Rattle.model_text.specs.Reading.{rows_behind}
 use Rattle.model_text.specs.Views.{line_in}
-use Rattle.model_text.proofs.Values.{AreRowValues, row_values, rows_fit}
+use Rattle.model_text.proofs.Values.{row_values, rows_fit}
 use Rattle.model_text.proofs.value.map_value.Goals as goal
 
 pub overflow_add-rows : goal.overflow_add-rows
