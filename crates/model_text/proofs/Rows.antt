@@ -1,54 +1,49 @@
 -- The first ; of a line, and the rows on both sides of it.
-use Rattle.std.proofs.Common.{◌≡◌, ◌<◌, ◌≤◌, ◌+◌, ◌-◌, ℕ, suc, Bool, true, false, List, [], ◌∷◌, Some, None, arith, refl, length, take, drop, nat_lt, Bor, codes}
+use Rattle.std.proofs.Common.{◌≡◌, ◌<◌, ◌+◌, ◌-◌, ◌∙◌, ℕ, suc, true, false, List, [], ◌∷◌, ◌++◌, Some, None, arith, refl, ap, length, take, drop, nat_lt, codes}
 use Rattle.std.proofs.lemmas.Bool.Decides.{nat_tests}
 use Rattle.std.proofs.lemmas.List.{take_rest}
 use Rattle.std.proofs.lemmas.Option.{cond_some}
-use Rattle.std.specs.List.{position, position_or_len}
+use Rattle.std.specs.List.{AllByRecursion, position, position_or_len}
+use Rattle.certificate_text.specs.Blocks.{Line}
 use Rattle.certificate_text.specs.Lines.{is}
-use Rattle.model_text.specs.Views.{texts}
+use Rattle.certificate_text.specs.Tokens.{tokens_of}
+use Rattle.certificate_text.proofs.Closing.{IsSign, tokens_around, others, front_without, split_at_sign, all_without}
 use Rattle.model_text.specs.Reading.{rows_in}
+use Rattle.model_text.specs.Views.{ends_row}
 
-abbrev cuts : Bor (List ℕ) → Bool
-cuts token = is (codes ";") token.now
+semicolon : IsSign 59
+semicolon = record { sign = refl; gap = refl }
 
-abbrev cut : List (Bor (List ℕ)) → ℕ
-cut tokens = position_or_len cuts tokens
+abbrev IsInRow : List ℕ → Type 0
+IsInRow token = is (codes ";") token ≡ false
 
--- the rows where a ; stands behind so many tokens
-abbrev HasCut : List (Bor (List ℕ)) → ℕ → Type 0
-HasCut tokens n = rows_in (texts tokens) ≡ (texts (take n tokens), (rows_in (texts (drop (suc n) tokens))).0 ∷ (rows_in (texts (drop (suc n) tokens))).1)
+row_taken : (row rest : Line) → AllByRecursion IsInRow row → rows_in (row ++ codes ";" ∷ rest) ≡ (row, (rows_in rest).0 ∷ (rows_in rest).1)
+row_taken [] rest each = refl
+row_taken (token ∷ row) rest each = rw (each.0, row_taken row rest each.1) refl
 
-cut_by : (token : Bor (List ℕ)) (tokens : List (Bor (List ℕ))) (b : Bool) → cuts token ≡ b → (cut tokens < length tokens → HasCut tokens (cut tokens))
-    → cut (token ∷ tokens) < length (token ∷ tokens) → HasCut (token ∷ tokens) (cut (token ∷ tokens))
-cut_by token tokens true is rest within = rw is refl
-cut_by token tokens false is rest within =
-    let more : cut (token ∷ tokens) ≡ suc (cut tokens) = rw is (omega arith) in
-    let inside : cut tokens < length tokens = omega (arith, more, within) in
-    rw (more, is, rest inside) refl
+one_row : (row : Line) → AllByRecursion IsInRow row → rows_in row ≡ (row, [])
+one_row [] each = refl
+one_row (token ∷ row) each = rw (each.0, one_row row each.1) refl
 
-cut_there : (tokens : List (Bor (List ℕ))) → cut tokens < length tokens → HasCut tokens (cut tokens)
-cut_there [] within = absurd (omega (arith, within))
-cut_there (token ∷ tokens) within = cut_by token tokens (cuts token) refl (cut_there tokens) within
+-- the rows where a ; stands behind so many characters
+abbrev HasCut : List ℕ → List ℕ → List ℕ → Type 0
+HasCut text front rest = rows_in (tokens_of text) ≡ (tokens_of front, (rows_in (tokens_of rest)).0 ∷ (rows_in (tokens_of rest)).1)
 
-pub cut_at : (tokens : List (Bor (List ℕ))) (place : ℕ) → position (λ token. is (codes ";") token.now) tokens ≡ Some place → place < length tokens
-    → rows_in (texts tokens)
-    ≡ (texts (take place tokens), (rows_in (texts (take (length tokens - (place + 1)) (drop (place + 1) tokens)))).0 ∷ (rows_in (texts (take (length tokens - (place + 1)) (drop (place + 1) tokens)))).1)
-cut_at tokens place found within =
-    let parts : (nat_lt (cut tokens) (length tokens) ≡ true) × (cut tokens ≡ place) = cond_some _ _ _ found in
+abbrev cut : List ℕ → ℕ
+cut text = position_or_len ends_row text
+
+cut_there : (text : List ℕ) → cut text < length text → HasCut text (take (cut text) text) (drop (suc (cut text)) text)
+cut_there text within =
+    let front : List ℕ = take (cut text) text in
+    let rest : List ℕ = drop (suc (cut text)) text in
+    ap (λ cs. rows_in (tokens_of cs)) (split_at_sign 59 text within) ∙ ap rows_in (tokens_around 59 front rest semicolon) ∙ row_taken (tokens_of front) (tokens_of rest) (others 59 front (front_without 59 text))
+
+pub cut_at : (text : List ℕ) (place : ℕ) → position ends_row text ≡ Some place → place < length text → HasCut text (take place text) (take (length text - (place + 1)) (drop (place + 1) text))
+cut_at text place found within =
+    let parts : (nat_lt (cut text) (length text) ≡ true) × (cut text ≡ place) = cond_some _ _ _ found in
     let next : suc place ≡ place + 1 = omega arith in
-    let there : HasCut tokens place = rw parts.1 at (cut_there tokens (omega (arith, parts.1, within))) in
+    let there : HasCut text (take place text) (drop (suc place) text) = rw parts.1 at (cut_there text (omega (arith, parts.1, within))) in
     rw (take_rest, ← next) there
 
-whole_by : (token : Bor (List ℕ)) (tokens : List (Bor (List ℕ))) (b : Bool) → cuts token ≡ b
-    → (length tokens ≤ cut tokens → rows_in (texts tokens) ≡ (texts tokens, [])) → length (token ∷ tokens) ≤ cut (token ∷ tokens) → rows_in (texts (token ∷ tokens)) ≡ (texts (token ∷ tokens), [])
-whole_by token tokens true is rest past = let none : cut (token ∷ tokens) ≡ 0 = rw is refl in absurd (omega (arith, none, past))
-whole_by token tokens false is rest past =
-    let more : cut (token ∷ tokens) ≡ suc (cut tokens) = rw is (omega arith) in
-    rw (is, rest (omega (arith, more, past))) refl
-
-whole_there : (tokens : List (Bor (List ℕ))) → length tokens ≤ cut tokens → rows_in (texts tokens) ≡ (texts tokens, [])
-whole_there [] past = refl
-whole_there (token ∷ tokens) past = whole_by token tokens (cuts token) refl (whole_there tokens) past
-
-pub never_cut : (tokens : List (Bor (List ℕ))) → position (λ token. is (codes ";") token.now) tokens ≡ None → rows_in (texts tokens) ≡ (texts tokens, [])
-never_cut tokens none = whole_there tokens (grind (arith, nat_tests, none))
+pub never_cut : (text : List ℕ) → position ends_row text ≡ None → rows_in (tokens_of text) ≡ (tokens_of text, [])
+never_cut text none = one_row (tokens_of text) (others 59 text (all_without 59 text (grind (arith, nat_tests, none))))

@@ -1,20 +1,22 @@
 -- Numbers in rows, and their values below a modulus.
-use Rattle.std.proofs.Common.{◌≡◌, ◌<◌, ◌≤◌, ◌+◌, ◌-◌, ◌*◌, ℕ, Bool, true, false, List, [], ◌∷◌, Some, arith, refl, sym, ap₂, ◌∙◌, subst, length, map, get_or, nat_le, nat_eq, Bor}
+use Rattle.std.proofs.Common.{◌≡◌, ◌<◌, ◌≤◌, ◌+◌, ◌-◌, ◌*◌, ℕ, true, List, [], ◌∷◌, ◌++◌, Option, Some, None, Ok, arith, refl, sym, ap, ap₂, ◌∙◌, subst, length, map, nat_le, nat_lt, nat_eq}
 use Rattle.std.specs.List.{All, flat_map, list_all}
-use Rattle.std.specs.Option.{option_map}
+use Rattle.std.specs.Option.{option_map, option_and_then}
 use Rattle.std.proofs.lemmas.Bool.{and_parts}
 use Rattle.std.proofs.lemmas.Bool.Decides.{nat_tests}
-use Rattle.std.proofs.lemmas.List.{length-append}
+use Rattle.std.proofs.lemmas.List.{length-append, length-map, append_assoc, append-nil}
 use Rattle.std.proofs.lemmas.List.Elements.{All-nil, All-cons}
-use Rattle.std.proofs.lemmas.List.Folds.{list_all-append, list_all-map, list_all_at}
+use Rattle.std.proofs.lemmas.List.Folds.{list_all-append}
 use Rattle.std.proofs.lemmas.Option.{option_and_then_some, cond_some}
+use Rattle.std.proofs.Math.Nat.{mul-le-mul_left}
 use Rattle.certificate_text.specs.Blocks.{Line}
+use Rattle.certificate_text.specs.Fault.{asked}
+use Rattle.certificate_text.specs.declared.fault.Flaw.TheVariants.{NumberTooLarge}
 use Rattle.certificate_text.specs.Letters.{is_number, number_within}
-use Rattle.model_text.specs.Views.{texts}
-use Rattle.certificate_text.proofs.Results.{option_map_some}
+use Rattle.certificate_text.proofs.Results.{option_map_some, asked_ok}
 use Rattle.model_text.specs.ModelBlocks.{is_row, is_row_of}
 use Rattle.model_text.specs.ModelBounds.{value_of}
-use Rattle.model_text.specs.Reading.{AreRows, values_below}
+use Rattle.model_text.specs.Reading.{AreRows, after, values_below, values_in}
 
 -- ---- values
 
@@ -40,6 +42,27 @@ are_values m (number ∷ numbers) values some read =
       values_below = All-cons (λ value. value < m) n ns (subst (λ v. v < m) first.1 within) others.values_below;
     })))
 
+no_values : (rest : Option (List ℕ)) → rest ≡ after [] rest
+no_values None = refl
+no_values (Some vs) = refl
+
+one_more : (n : ℕ) (front : Option (List ℕ)) (rest : Option (List ℕ))
+    → option_map (λ ns. n ∷ ns) (option_and_then (λ vs. after vs rest) front) ≡ option_and_then (λ vs. after vs rest) (option_map (λ ns. n ∷ ns) front)
+one_more n None rest = refl
+one_more n (Some vs) None = refl
+one_more n (Some vs) (Some ws) = refl
+
+with_first : (first : Option ℕ) (front rest : Option (List ℕ))
+    → option_and_then (λ n. option_map (λ ns. n ∷ ns) (option_and_then (λ vs. after vs rest) front)) first
+    ≡ option_and_then (λ vs. after vs rest) (option_and_then (λ n. option_map (λ ns. n ∷ ns) front) first)
+with_first None front rest = refl
+with_first (Some n) front rest = one_more n front rest
+
+-- those of the first numbers stand in front of those of the others
+pub values_joined : (m : ℕ) (front rest : Line) → values_below m (front ++ rest) ≡ option_and_then (λ vs. after vs (values_below m rest)) (values_below m front)
+values_joined m [] rest = no_values (values_below m rest)
+values_joined m (number ∷ front) rest = rw (values_joined m front rest) (with_first (number_within (m - 1) number) (values_below m front) (values_below m rest))
+
 -- ---- rows
 
 more_numbers : (columns : ℕ) (rest : List Line) → list_all (is_row_of columns) rest ≡ true
@@ -64,13 +87,68 @@ pub rows_have_length : (first : Line) (rest : List Line) → AreRows first rest 
 rows_have_length first rest rows =
     rw (length-append first (flat_map (λ r. r) rest), (more_numbers (length first) rest rows.more).1) (omega arith)
 
--- ---- a number at a place
+-- ---- one by one
 
-number_by : (p : Bool) (all : Bool) → all ≡ true → (p ≡ false → all ≡ false) → p ≡ true
-number_by true all is none = refl
-number_by false all is none = let no : all ≡ false = none refl in absurd (cc)
+pub first_number : (tokens : Line) (number : List ℕ) (more : Line) → tokens ≡ number ∷ more → list_all is_number tokens ≡ true → (is_number number ≡ true) × (list_all is_number more ≡ true)
+first_number tokens number more is all = and_parts (is_number number) (list_all is_number more) (subst (λ (ts : Line). list_all is_number ts ≡ true) is all)
 
-pub number_at : (tokens : List (Bor (List ℕ))) (i : ℕ) (d : Bor (List ℕ)) → list_all is_number (texts tokens) ≡ true → i < length tokens → is_number (get_or tokens i d).now ≡ true
-number_at tokens i d all within =
-    let same : list_all (λ (token : Bor (List ℕ)). is_number token.now) tokens ≡ true = sym (list_all-map is_number (λ (token : Bor (List ℕ)). token.now) tokens) ∙ all in
-    number_by (is_number (get_or tokens i d).now) (list_all (λ (token : Bor (List ℕ)). is_number token.now) tokens) same (λ none. list_all_at (λ (token : Bor (List ℕ)). is_number token.now) tokens i d within none)
+-- the rows have numbers alone
+abbrev pub HaveNumbers : List Line → Type 0
+HaveNumbers rows = list_all (list_all is_number) rows ≡ true
+
+pub rows_are_numbers : (columns : ℕ) (rest : List Line) → list_all (is_row_of columns) rest ≡ true → HaveNumbers rest
+rows_are_numbers columns [] rows = refl
+rows_are_numbers columns (row ∷ rest) rows =
+    let parts = and_parts (is_row_of columns row) (list_all (is_row_of columns) rest) rows in
+    let shape = and_parts (is_row row) (nat_eq (length row) columns) parts.0 in
+    let numbers = and_parts _ (list_all is_number row) shape.0 in
+    rw (numbers.1, rows_are_numbers columns rest parts.1) refl
+
+-- those in rows are those of all their numbers
+after_both : (front more : List ℕ) (rest : Option (List ℕ)) → after (front ++ more) rest ≡ after front (after more rest)
+after_both front more None = refl
+after_both front more (Some vs) = ap Some (append_assoc front more vs)
+
+row_first : (front : List ℕ) (row rest : Option (List ℕ)) (values : List ℕ → Option (List ℕ)) → ((more : List ℕ) → values more ≡ after more rest)
+    → option_and_then values (after front row) ≡ after front (option_and_then (λ vs. after vs rest) row)
+row_first front None rest values each = refl
+row_first front (Some vs) rest values each = each (front ++ vs) ∙ after_both front vs rest
+
+values_behind : (m : ℕ) (front : List ℕ) (rows : List Line) → values_in m front rows ≡ after front (values_below m (flat_map (λ row. row) rows))
+values_behind m front [] = ap Some (sym (append-nil front))
+values_behind m front (row ∷ rows) =
+    row_first front (values_below m row) (values_below m (flat_map (λ r. r) rows)) (λ more. values_in m more rows) (λ more. values_behind m more rows)
+    ∙ ap (after front) (sym (values_joined m row (flat_map (λ r. r) rows)))
+
+pub values_are : (m : ℕ) (rows : List Line) → values_in m [] rows ≡ values_below m (flat_map (λ row. row) rows)
+values_are m rows = values_behind m [] rows ∙ sym (no_values (values_below m (flat_map (λ row. row) rows)))
+
+pub rows_of_numbers : (first : Line) (rest : List Line) → AreRows first rest → HaveNumbers (first ∷ rest)
+rows_of_numbers first rest rows =
+    let numbers = and_parts _ (list_all is_number first) rows.first_row in
+    rw (numbers.1, rows_are_numbers (length first) rest rows.more) refl
+
+-- ---- shapes
+
+row_has_some : (first : Line) → is_row first ≡ true → 1 ≤ length first
+row_has_some first row =
+    let parts = and_parts (nat_lt 0 (length first)) (list_all is_number first) row in
+    grind (arith, nat_tests, parts.0)
+
+-- there are at most as many rows as values
+pub rows_fit : (first : Line) (rest : List Line) (count : ℕ) → AreRows first rest → count ≡ (length rest + 1) * length first → length rest + 1 ≤ count
+rows_fit first rest count rows is =
+    let some : 1 ≤ length first = row_has_some first rows.first_row in
+    omega (arith, is, mul-le-mul_left (length rest + 1) some)
+
+-- the values, one for each number
+pub record AreRowValues (m : ℕ) (first : Line) (rest : List Line) (values : List ℕ) : Type 0 where
+  pub count : length values ≡ (length rest + 1) * length first
+  pub below : All (λ value. value < m) values
+
+pub row_values : (m : ℕ) (first : Line) (rest : List Line) (values : List ℕ) → 1 ≤ m → AreRows first rest
+    → asked NumberTooLarge (values_below m (flat_map (λ row. row) (first ∷ rest))) ≡ Ok values → AreRowValues m first rest values
+row_values m first rest values some rows read =
+    let numbers : Line = flat_map (λ row. row) (first ∷ rest) in
+    let found = are_values m numbers values some (asked_ok NumberTooLarge (values_below m numbers) values read) in
+    record { count = ap length (sym found.are) ∙ length-map numbers value_of ∙ rows_have_length first rest rows; below = found.values_below }

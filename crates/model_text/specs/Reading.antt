@@ -71,6 +71,15 @@ abbrev pub values_below : ℕ → Line → Option (List ℕ)
 values_below modulus [] = Some []
 values_below modulus (number ∷ numbers) = option_and_then (λ n. option_map (λ ns. n ∷ ns) (values_below modulus numbers)) (number_within (modulus - 1) number)
 
+-- values, and those that stand behind them, if these are all there
+abbrev pub after : List ℕ → Option (List ℕ) → Option (List ℕ)
+after front rest = option_map (λ ns. front ++ ns) rest
+
+-- values, and behind them those of the numbers in rows
+abbrev pub values_in : ℕ → List ℕ → List Line → Option (List ℕ)
+values_in modulus values [] = Some values
+values_in modulus values (row ∷ rows) = option_and_then (λ more. values_in modulus more rows) (after values (values_below modulus row))
+
 -- the matrix with these entries, if it is small enough
 abbrev pub matrix_made : ℕ → ℕ → ℕ → List ℕ → Result Matrix Flaw
 matrix_made modulus rows columns entries =

@@ -6,30 +6,29 @@ ghost use Rattle.std.specs.Option.{option_map, option_and_then};
 ghost use Rattle.certificate_text.specs.Letters.{is_name, is_number};
 ghost use Rattle.certificate_text.specs.Lines.{is};
 ghost use Rattle.certificate_text.specs.Tokens.{tokens_of};
-ghost use Rattle.model_text.specs.Views.{texts};
 ghost use Rattle.model_text.specs.ModelBlocks.{name_of, is_row, is_row_of, is_entry, is_modulus};
 ghost use Rattle.model_text.specs.ModelBounds.{value_of};
 ghost use Rattle.model_text.specs.Reading.{rows_in, rows_behind, side_tokens, map_tokens, if_entry, entry_tokens};
-ghost use Rattle.model_text.specs.Views.{rows, line_in, tokens_in};
+ghost use Rattle.model_text.specs.Views.{ends_row, line_in, tokens_in};
 
-use certificate_text::{first_token, is, is_number, name_in, number_within};
-use std::alloc::{AllocError, Global};
+use certificate_text::{begins, first_token, is, is_number, name_in, number_within, two_tokens};
 
 /// The name of a line with its side, or with its rows of numbers.
 #[derive(Drop)]
-pub enum EntryTokens<'a, 'b> {
+pub enum EntryTokens<'a> {
     Side {
         name: &'a [u8],
         number: &'a [u8],
     },
+    /// The numbers of the first row, and what stands behind the first `;`.
     Matrix {
         name: &'a [u8],
-        first: &'b [&'a [u8]],
-        rest: Vec<&'b [&'a [u8]]>,
+        first: &'a [u8],
+        rest: Option<&'a [u8]>,
     },
 }
 
-impl<'a> EntryTokens<'a, '_> {
+impl<'a> EntryTokens<'a> {
     /// The name in the line.
     pub fn name(&self) -> &'a [u8]
         ensures { result.now ≡ name_of (tokens_in self.now) }
@@ -39,19 +38,6 @@ impl<'a> EntryTokens<'a, '_> {
             EntryTokens::Matrix { name, .. } => name,
         }
     }
-}
-
-/// The tokens of a line.
-pub fn tokens_of(alloc: Global, line: &[u8]) -> Result<Vec<&[u8]>, AllocError>
-    ensures { IfOk result (λ tokens. texts tokens.items ≡ tokens_of line.now) }
-{
-    let mut tokens = Vec::new(alloc);
-    let mut rest = line;
-    while let Some((token, behind)) = first_token(rest) {
-        tokens.push(token)?;
-        rest = behind;
-    }
-    Ok(tokens)
 }
 
 // Whether the value of a number is above this.
@@ -71,17 +57,17 @@ pub fn is_modulus(token: &[u8]) -> bool
 }
 
 // The place of the first `;`.
-fn sign_place(line: &[&[u8]]) -> Option<usize>
-    ensures first { result ≡ position (λ token. is (codes ";") token.now) line.now }
+fn sign_place(line: &[u8]) -> Option<usize>
+    ensures first { result ≡ position ends_row line.now }
     ensures within { IfSome result (λ place. place < length line.now) }
 {
-    line.iter().position(|token| is(";", token))
+    line.iter().position(|byte| *byte == b';')
 }
 
-// What stands before the first `;`, and what stands behind it where there is one.
-fn first_row<'a, 'b>(line: &'b [&'a [u8]]) -> (&'b [&'a [u8]], Option<&'b [&'a [u8]]>)
-    ensures row { texts result.0.now ≡ (rows_in (texts line.now)).0 }
-    ensures rest { rows_behind (line_in result.1) ≡ (rows_in (texts line.now)).1 }
+/// What stands before the first `;`, and what stands behind it where there is one.
+pub fn first_row(line: &[u8]) -> (&[u8], Option<&[u8]>)
+    ensures row { tokens_of result.0.now ≡ (rows_in (tokens_of line.now)).0 }
+    ensures rest { rows_behind (line_in result.1) ≡ (rows_in (tokens_of line.now)).1 }
     ensures shorter { IfSome result.1 (λ rest. length rest.now < length line.now) }
 {
     match sign_place(line) {
@@ -90,72 +76,84 @@ fn first_row<'a, 'b>(line: &'b [&'a [u8]]) -> (&'b [&'a [u8]], Option<&'b [&'a [
     }
 }
 
-fn are_numbers(row: &[&[u8]]) -> bool
-    ensures { result ≡ list_all is_number (texts row.now) }
+/// How many tokens the row has.
+pub fn row_length(row: &[u8]) -> usize
+    ensures { result ≡ length (tokens_of row.now) }
 {
-    row.iter().all(|token| is_number(token))
+    let mut count = 0;
+    let mut rest = row;
+    while let Some((_, behind)) = first_token(rest) {
+        count += 1;
+        rest = behind;
+    }
+    count
+}
+
+fn are_numbers(row: &[u8]) -> bool
+    ensures { result ≡ list_all is_number (tokens_of row.now) }
+{
+    let mut rest = row;
+    while let Some((token, behind)) = first_token(rest) {
+        if !is_number(token) {
+            return false;
+        }
+        rest = behind;
+    }
+    true
 }
 
 // Whether the row has numbers alone, and one at least.
-fn is_row(row: &[&[u8]]) -> bool
-    ensures { result ≡ is_row (texts row.now) }
+fn is_row(row: &[u8]) -> bool
+    ensures { result ≡ is_row (tokens_of row.now) }
 {
-    !row.is_empty() && are_numbers(row)
+    row_length(row) > 0 && are_numbers(row)
 }
 
-// The rows behind the first one.
-fn more_rows<'a, 'b>(
-    alloc: Global,
-    behind: Option<&'b [&'a [u8]]>,
-) -> Result<Vec<&'b [&'a [u8]]>, AllocError>
-    ensures { IfOk result (λ found. rows found.items ≡ rows_behind (line_in behind.entry)) }
+fn side_tokens(line: &[u8]) -> Option<EntryTokens<'_>>
+    ensures { option_map tokens_in result ≡ side_tokens (tokens_of line.now) }
 {
-    let mut found = Vec::new(alloc);
-    let mut left = behind;
-    while let Some(line) = left {
-        let (row, rest) = first_row(line);
-        found.push(row)?;
-        left = rest;
-    }
-    Ok(found)
-}
-
-fn side_tokens<'a, 'b>(line: &'b [&'a [u8]]) -> Option<EntryTokens<'a, 'b>>
-    ensures { option_map tokens_in result ≡ side_tokens (texts line.now) }
-{
-    match line {
-        [word, name, number] if is("side", word) => Some(EntryTokens::Side { name, number }),
-        _ => None,
+    let (word, behind) = first_token(line)?;
+    let (name, number) = two_tokens(behind)?;
+    if is("side", word) {
+        Some(EntryTokens::Side { name, number })
+    } else {
+        None
     }
 }
 
-fn map_tokens<'a, 'b>(
-    alloc: Global,
-    line: &'b [&'a [u8]],
-) -> Result<Option<EntryTokens<'a, 'b>>, AllocError>
-    ensures { IfOk result (λ found. option_map tokens_in found ≡ map_tokens (texts line.now)) }
+fn map_tokens(line: &[u8]) -> Option<EntryTokens<'_>>
+    ensures { option_map tokens_in result ≡ map_tokens (tokens_of line.now) }
 {
-    match line {
-        [word, name, sign, numbers @ ..] if is("map", word) && is("=", sign) => {
-            let (first, behind) = first_row(numbers);
-            let rest = more_rows(alloc, behind)?;
-            Ok(Some(EntryTokens::Matrix { name, first, rest }))
-        }
-        _ => Ok(None),
+    let (word, behind) = first_token(line)?;
+    let (name, behind) = first_token(behind)?;
+    let (sign, numbers) = first_token(behind)?;
+    if !is("map", word) || !is("=", sign) {
+        return None;
     }
+    let (first, rest) = first_row(numbers);
+    Some(EntryTokens::Matrix { name, first, rest })
 }
 
 // Whether the row has so many numbers, and one at least.
-fn is_row_of(columns: usize, row: &[&[u8]]) -> bool
-    ensures { result ≡ is_row_of columns (texts row.now) }
+fn is_row_of(columns: usize, row: &[u8]) -> bool
+    ensures { result ≡ is_row_of columns (tokens_of row.now) }
 {
-    is_row(row) && row.len() == columns
+    is_row(row) && row_length(row) == columns
 }
 
-fn are_rows(columns: usize, rest: &[&[&[u8]]]) -> bool
-    ensures { result ≡ list_all (is_row_of columns) (rows rest.now) }
+// Whether the rows behind the first one have so many numbers.
+fn are_rows(columns: usize, rest: Option<&[u8]>) -> bool
+    ensures { result ≡ list_all (is_row_of columns) (rows_behind (line_in rest.entry)) }
 {
-    rest.iter().all(|row| is_row_of(columns, row))
+    let mut left = rest;
+    while let Some(line) = left {
+        let (row, behind) = first_row(line);
+        if !is_row_of(columns, row) {
+            return false;
+        }
+        left = behind;
+    }
+    true
 }
 
 fn is_name(token: &[u8]) -> bool
@@ -164,7 +162,7 @@ fn is_name(token: &[u8]) -> bool
     name_in(token).is_some()
 }
 
-fn is_entry(entry: &EntryTokens<'_, '_>) -> bool
+fn is_entry(entry: &EntryTokens<'_>) -> bool
     ensures { result ≡ is_entry (tokens_in entry.now) }
 {
     match entry {
@@ -172,25 +170,23 @@ fn is_entry(entry: &EntryTokens<'_, '_>) -> bool
             is_name(name) && is_number(number) && is_above(0, number)
         }
         EntryTokens::Matrix { name, first, rest } => {
-            is_name(name) && is_row(first) && are_rows(first.len(), rest)
+            is_name(name) && is_row(first) && are_rows(row_length(first), *rest)
         }
     }
 }
 
 /// The tokens of a line `side` or `map`, where names and numbers stand at their places.
-pub fn entry_tokens<'a, 'b>(
-    alloc: Global,
-    line: &'b [&'a [u8]],
-) -> Result<Option<EntryTokens<'a, 'b>>, AllocError>
-    ensures exact { IfOk result (λ found. option_map tokens_in found ≡ entry_tokens (texts line.now)) }
-    ensures entry { IfOk result (λ found. IfSome found (λ e. IsTrue (is_entry (tokens_in e)))) }
+pub fn entry_tokens(line: &[u8]) -> Option<EntryTokens<'_>>
+    ensures exact { option_map tokens_in result ≡ entry_tokens (tokens_of line.now) }
+    ensures entry { IfSome result (λ e. IsTrue (is_entry (tokens_in e))) }
 {
-    let found = match line {
-        [word, ..] if is("side", word) => side_tokens(line),
-        _ => map_tokens(alloc, line)?,
+    let found = if begins("side", line) {
+        side_tokens(line)
+    } else {
+        map_tokens(line)
     };
     match found {
-        Some(entry) if is_entry(&entry) => Ok(Some(entry)),
-        _ => Ok(None),
+        Some(entry) if is_entry(&entry) => Some(entry),
+        _ => None,
     }
 }

@@ -11,7 +11,7 @@ ghost use Rattle.model_text.specs.Reading.{is_head, outside, modulus_of, grown, 
 ghost use Rattle.model_text.specs.Views.{tokens_in};
 ghost use Rattle.model_text.specs.declared.place.Place.TheVariants as place;
 
-use crate::entry::{EntryTokens, entry_tokens, is_modulus, tokens_of};
+use crate::entry::{EntryTokens, entry_tokens, is_modulus};
 use crate::finish::model_of;
 use crate::place::{Begun, Place, Progress};
 use crate::value::{entry_value, name_text};
@@ -120,7 +120,7 @@ fn grown(
     alloc: Global,
     quiver: &Quiver,
     mut begun: Begun,
-    entry: &EntryTokens<'_, '_>,
+    entry: &EntryTokens<'_>,
 ) -> Result<Begun, LineFault>
     requires modulus { IsModulus begun.modulus }
     requires entry { IsTrue (is_entry (tokens_in entry.now)) }
@@ -154,8 +154,7 @@ fn inside(
         let place = Place::Outside;
         return Ok(Progress { models, place });
     }
-    let tokens = tokens_of(alloc, line)?;
-    let Some(entry) = entry_tokens(alloc, &tokens)? else {
+    let Some(entry) = entry_tokens(line) else {
         return Err(LineFault::Flaw(Flaw::BadLine));
     };
     let begun = grown(alloc, quiver, begun, &entry)?;

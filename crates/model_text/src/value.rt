@@ -6,19 +6,19 @@ ghost use Rattle.quiver.specs.Declarations.{named_in};
 ghost use Rattle.matrix_models.specs.Matrix.{IsModulus};
 ghost use Rattle.certificate_text.specs.Fault.{Reads, asked};
 ghost use Rattle.certificate_text.specs.Letters.{is_name, is_number};
-ghost use Rattle.model_text.specs.Views.{texts};
+ghost use Rattle.certificate_text.specs.Tokens.{tokens_of};
 ghost use Rattle.certificate_text.specs.declared.fault.Flaw.TheVariants as flaw;
 ghost use Rattle.model_text.specs.ModelBlocks.{name_of, is_entry};
 ghost use Rattle.model_text.specs.ModelBounds.{value_of};
-ghost use Rattle.model_text.specs.Reading.{AreRows, values_below, matrix_made, side_value, map_value, entry_value};
-ghost use Rattle.model_text.specs.Views.{rows, tokens_in};
+ghost use Rattle.model_text.specs.Reading.{AreRows, after, rows_behind, values_below, values_in, matrix_made, side_value, map_value, entry_value};
+ghost use Rattle.model_text.specs.Views.{line_in, tokens_in};
 
-use crate::entry::EntryTokens;
+use crate::entry::{EntryTokens, first_row, row_length};
 use crate::place::Entry;
-use certificate_text::{Flaw, LineFault, name_in, number_within};
+use certificate_text::{Flaw, LineFault, first_token, name_in, number_within};
 use matrix_models::{Matrix, MatrixFault};
 use quiver::{Named, Quiver};
-use std::alloc::{AllocError, Global};
+use std::alloc::Global;
 
 const SIDE_LIMIT: u32 = 64;
 
@@ -33,36 +33,70 @@ pub fn name_text(token: &[u8]) -> &str
     }
 }
 
-// What stands in the rows, row by row.
-fn numbers_in<'a>(
-    alloc: Global,
-    first: &[&'a [u8]],
-    rest: &[&[&'a [u8]]],
-) -> Result<Vec<&'a [u8]>, AllocError>
-    ensures { IfOk result (λ numbers. texts numbers.items ≡ flat_map (λ row. row) (texts first.now ∷ rows rest.now)) }
-{
-    let mut numbers = Vec::new(alloc);
-    numbers.extend_from_slice(first)?;
-    for row in rest {
-        numbers.extend_from_slice(row)?;
-    }
-    Ok(numbers)
-}
-
-// The values of numbers, all of them below the modulus.
-fn values_below(alloc: Global, modulus: u32, numbers: &[&[u8]]) -> Result<Vec<u32>, LineFault>
+// The values with those of the numbers of a row behind them, all of those below the modulus.
+fn with_row(mut values: Vec<u32>, modulus: u32, row: &[u8]) -> Result<Vec<u32>, LineFault>
     requires modulus { 1 ≤ modulus }
-    requires numbers { IsTrue (list_all is_number (texts numbers.now)) }
-    ensures { Reads (λ values. values.items) result (asked flaw.NumberTooLarge (values_below modulus (texts numbers.now))) }
+    requires numbers { IsTrue (list_all is_number (tokens_of row.now)) }
+    ensures { Reads (λ more. more.items) result (asked flaw.NumberTooLarge (after values.items (values_below modulus (tokens_of row.now)))) }
 {
-    let mut values = Vec::new(alloc);
-    for number in numbers {
+    let mut rest = row;
+    while let Some((number, behind)) = first_token(rest) {
         match number_within(u128::from(modulus - 1), number) {
             Some(value) => values.push(value as u32)?,
             None => return Err(LineFault::Flaw(Flaw::NumberTooLarge)),
         }
+        rest = behind;
     }
     Ok(values)
+}
+
+// The values with those of the numbers in rows behind them, all of those below the modulus.
+fn with_rows(
+    values: Vec<u32>,
+    modulus: u32,
+    first: &[u8],
+    rest: Option<&[u8]>,
+) -> Result<Vec<u32>, LineFault>
+    requires modulus { 1 ≤ modulus }
+    requires numbers { IsTrue (list_all (list_all is_number) (tokens_of first.now ∷ rows_behind (line_in rest))) }
+    ensures { Reads (λ more. more.items) result (asked flaw.NumberTooLarge (values_in modulus values.items (tokens_of first.now ∷ rows_behind (line_in rest.entry)))) }
+{
+    let mut more = with_row(values, modulus, first)?;
+    let mut left = rest;
+    while let Some(line) = left {
+        let (row, behind) = first_row(line);
+        more = with_row(more, modulus, row)?;
+        left = behind;
+    }
+    Ok(more)
+}
+
+// The values of the numbers in rows, row by row.
+fn values_of(
+    alloc: Global,
+    modulus: u32,
+    first: &[u8],
+    rest: Option<&[u8]>,
+) -> Result<Vec<u32>, LineFault>
+    requires modulus { 1 ≤ modulus }
+    requires rows { AreRows (tokens_of first.now) (rows_behind (line_in rest)) }
+    ensures { Reads (λ values. values.items) result (asked flaw.NumberTooLarge (values_below modulus (flat_map (λ row. row) (tokens_of first.now ∷ rows_behind (line_in rest.entry))))) }
+{
+    with_rows(Vec::new(alloc), modulus, first, rest)
+}
+
+// How many rows there are behind the first one.
+fn rows_left(rest: Option<&[u8]>) -> usize
+    ensures { result ≡ length (rows_behind (line_in rest.entry)) }
+{
+    let mut count = 0;
+    let mut left = rest;
+    while let Some(line) = left {
+        let (_, behind) = first_row(line);
+        count += 1;
+        left = behind;
+    }
+    count
 }
 
 // The matrix with these entries, row by row.
@@ -111,19 +145,19 @@ fn map_value(
     alloc: Global,
     named: Option<Named>,
     modulus: u32,
-    first: &[&[u8]],
-    rest: &[&[&[u8]]],
+    first: &[u8],
+    rest: Option<&[u8]>,
 ) -> Result<Entry, LineFault>
     requires modulus { IsModulus modulus }
-    requires rows { AreRows (texts first.now) (rows rest.now) }
-    ensures { Reads (λ entry. entry) result (map_value named modulus (texts first.now) (rows rest.now)) }
+    requires rows { AreRows (tokens_of first.now) (rows_behind (line_in rest)) }
+    ensures { Reads (λ entry. entry) result (map_value named modulus (tokens_of first.now) (rows_behind (line_in rest.entry))) }
 {
     let Some(Named::Map(letter)) = named else {
         return Err(LineFault::Flaw(Flaw::UnknownName));
     };
-    let numbers = numbers_in(alloc, first, rest)?;
-    let values = values_below(alloc, modulus, &numbers)?;
-    let matrix = matrix_made(alloc, modulus, rest.len() + 1, first.len(), &values)?;
+    let values = values_of(alloc, modulus, first, rest)?;
+    let rows = rows_left(rest) + 1;
+    let matrix = matrix_made(alloc, modulus, rows, row_length(first), &values)?;
     Ok(Entry::Map { letter, matrix })
 }
 
@@ -132,7 +166,7 @@ pub fn entry_value(
     alloc: Global,
     quiver: &Quiver,
     modulus: u32,
-    entry: &EntryTokens<'_, '_>,
+    entry: &EntryTokens<'_>,
 ) -> Result<Entry, LineFault>
     requires modulus { IsModulus modulus }
     requires entry { IsTrue (is_entry (tokens_in entry.now)) }
@@ -141,7 +175,7 @@ pub fn entry_value(
     match entry {
         EntryTokens::Side { name, number } => Ok(side_value(quiver.find(name_text(name)), number)?),
         EntryTokens::Matrix { name, first, rest } => {
-            map_value(alloc, quiver.find(name_text(name)), modulus, first, rest)
+            map_value(alloc, quiver.find(name_text(name)), modulus, first, *rest)
         }
     }
 }
