@@ -15,3 +15,4 @@ pub mod Written
 pub mod TypedParts
 pub mod Typed
 pub mod WordRuns
+pub mod TwoMarks

@@ -1,19 +1,17 @@
 -- The loops over the terms of a sum, the factors of a term and the marks of a factor, which come to their polynomial.
 use Rattle.std.proofs.Common.{◌≡◌, ◌<◌, ◌≤◌, ◌+◌, ℕ, List, [], ◌∷◌, ◌++◌, length, map, drop, get_or, Bool, Result, Ok, Err, MatchResult, sym, ap, subst, ◌∙◌}
-use Rattle.std.proofs.lemmas.List.{map-append, drop_more}
+use Rattle.std.proofs.lemmas.List.{map-append}
 use Rattle.definitions.specs.Poly.{Poly}
-use Rattle.definitions.specs.Quiver.{Quiver}
 use Rattle.nc_polynomial.specs.declared.fault.PolyFault.{PolyFault}
 use Rattle.nc_polynomial.specs.declared.fault.PolyFault.TheVariants as fault
 use Rattle.nc_polynomial.specs.declared.poly.Poly as code
 use Rattle.nc_polynomial.specs.Faults.{Explains}
-use Rattle.quiver.specs.Declarations.{Declaration, quiver_of}
-use Rattle.statement_syntax.specs.declared.tree.Mark.{Mark}
+use Rattle.quiver.specs.Declarations.{Declaration}
 use Rattle.statement_syntax.specs.declared.tree.Factor.{Factor}
 use Rattle.statement_syntax.specs.declared.tree.Term.{Term, out-Term}
 use Rattle.statement_syntax.specs.declared.tree.Sum.{Sum, out-Sum}
 use Rattle.expressions.specs.Results.{◌>>=◌}
-use Rattle.expressions.specs.Polynomials.{adjoint_by, marked_poly, product_poly, scaled_by, Summand, total, is_negative, sum_poly, term_poly, factor_poly, primary_poly}
+use Rattle.expressions.specs.Polynomials.{product_poly, scaled_by, Summand, total, is_negative, sum_poly, term_poly, factor_poly}
 use Rattle.expressions.proofs.Trees.{each, summand, poly-sum, poly-term, sign-term}
 use Rattle.expressions.proofs.Sequences.{made-next, made-fault, made-end}
 
@@ -84,11 +82,3 @@ module _ (ds : List Declaration) (t : Term) (factors : List Factor) (whole : fac
         let next : polys_of more ≡ polys_of made ++ p.terms ∷ [] = ap polys_of pushed ∙ map-append _ made (p ∷ []) in
         ap (λ m. each (factor_poly ds) (drop (i + 1) factors) >>= λ rest. Ok (m ++ rest)) next
         ∙ made-next (factor_poly ds) factors i (polys_of made) before f inside item p.terms h
-
--- ---- a factor
-pub factor-first : (ds : List Declaration) (f : Factor) (marks : List Mark) → marks ≡ f.marks → (p : Poly) → primary_poly ds f.primary ≡ Ok p → marked_poly (quiver_of ds) marks p ≡ factor_poly ds f
-factor-first ds f marks whole p h = ap (λ ms. marked_poly (quiver_of ds) ms p) whole ∙ ap (λ r. r >>= marked_poly (quiver_of ds) f.marks) (sym h)
-
-pub factor-next : (q : Quiver) (marks : List Mark) (i : ℕ) (d : Mark) → i < length marks → (p r : Poly) → adjoint_by q (get_or marks i d) p ≡ Ok r → marked_poly q (drop (i + 1) marks) r ≡ marked_poly q (drop i marks) p
-factor-next q marks i d inside p r h =
-    ap (λ x. x >>= marked_poly q (drop (i + 1) marks)) (sym h) ∙ ap (λ ms. marked_poly q ms p) (sym (drop_more marks i d inside))

@@ -24,6 +24,9 @@ use word_core::{Letter, Word};
 // The letters that a run of letters may have before it is multiplied in.
 const WORD_LIMIT: usize = 500;
 
+// The greatest number of summands that are merged one after another.
+const MERGED_LIMIT: usize = 8;
+
 /// The left side of an equation minus the right side, or the first fault of the arithmetic: an inner expression comes
 /// before the outer one and the left before the right; of a product or a sum all parts come first, and then its own
 /// operations from the left.
@@ -58,17 +61,31 @@ fn sum_poly(alloc: Global, quiver: &Quiver, sum: &Sum) -> Result<Poly, PolyFault
     total(alloc, summands)
 }
 
-// The first summand, and then the others added or subtracted from the left. One alone takes no sum.
-fn total(alloc: Global, mut summands: Vec<(bool, Poly)>) -> Result<Poly, PolyFault>
+// The first summand, and then the others added or subtracted from the left. Few are merged, so that the first is taken
+// whole; of many, each term is looked up.
+fn total(alloc: Global, summands: Vec<(bool, Poly)>) -> Result<Poly, PolyFault>
     ensures { MatchResult result (λ p. total (map (λ s. (s.0, s.1.terms)) summands.items) ≡ Ok p.terms) (Explains (total (map (λ s. (s.0, s.1.terms)) summands.items))) }
 {
-    if summands.len() > 1 {
-        return running_total(alloc, summands);
+    if summands.len() > MERGED_LIMIT {
+        running_total(alloc, summands)
+    } else {
+        merged_total(alloc, summands)
     }
-    match summands.pop() {
-        None => Ok(Poly::zero(alloc)),
-        Some((negative, poly)) => Ok(signed(alloc, negative, poly)?),
+}
+
+// The summands merged from the left.
+fn merged_total(alloc: Global, summands: Vec<(bool, Poly)>) -> Result<Poly, PolyFault>
+    ensures { MatchResult result (λ p. total (map (λ s. (s.0, s.1.terms)) summands.items) ≡ Ok p.terms) (Explains (total (map (λ s. (s.0, s.1.terms)) summands.items))) }
+{
+    let mut rest = summands.into_iter();
+    let Some((negative, first)) = rest.next() else {
+        return Ok(Poly::zero(alloc));
+    };
+    let mut sum = signed(alloc, negative, first)?;
+    for (negative, poly) in rest {
+        sum = add_summand(alloc, sum, negative, poly)?;
     }
+    Ok(sum)
 }
 
 // The summands added up from the left. Each is moved into the sum and gone then.
@@ -223,11 +240,24 @@ fn factor_poly(alloc: Global, quiver: &Quiver, factor: &Factor) -> Result<Poly, 
     requires names { IsTrue (are_names_of_primary quiver.now factor.now.primary) }
     ensures { MatchResult result (λ p. factor_poly quiver.now factor.now ≡ Ok p.terms) (Explains (factor_poly quiver.now factor.now)) }
 {
-    let mut poly = primary_poly(alloc, quiver, &factor.primary)?;
-    for mark in factor.marks.as_slice() {
-        poly = adjoint_by(alloc, quiver, mark, &poly)?;
+    let poly = primary_poly(alloc, quiver, &factor.primary)?;
+    marked(alloc, quiver, factor.marks.as_slice(), poly)
+}
+
+// The polynomial with these marks behind it. Two marks change nothing, so that one is left at most.
+fn marked(alloc: Global, quiver: &Quiver, marks: &[Mark], poly: Poly) -> Result<Poly, PolyFault>
+    requires declared { IsDeclared quiver.now }
+    requires letters { All (λ t. IsOver (letter_count quiver.now) t.1) poly.terms }
+    ensures { MatchResult result (λ p. marked_poly (quiver_of quiver.now) marks.now poly.terms ≡ Ok p.terms) (Explains (marked_poly (quiver_of quiver.now) marks.now poly.terms)) }
+{
+    let mut rest = marks;
+    while let [_, _, more @ ..] = rest {
+        rest = more;
     }
-    Ok(poly)
+    match rest {
+        [] => Ok(poly),
+        [mark, ..] => adjoint_by(alloc, quiver, mark, &poly),
+    }
 }
 
 #[cycle(polys)]

@@ -1,27 +1,26 @@
 -- What is asked of the parts of a statement has generators.
-use Rattle.std.proofs.Common.{◌≡◌, ◌≢◌, ℕ, zero, suc, ◌+◌, ◌≤◌, ℤ, pos, negsuc, ◌+ℤ◌, Bool, true, false, cond, ◌||◌, eqb, leb, List, [], ◌∷◌, ◌++◌, length, map, refl, sym, ap, subst, arith}
+use Rattle.std.proofs.Common.{◌≡◌, ◌≢◌, ℕ, ◌+◌, ◌≤◌, pos, negsuc, Bool, true, false, cond, ◌||◌, eqb, leb, List, [], ◌∷◌, ◌++◌, length, refl, sym, ap, subst, arith}
 use Rattle.std.specs.List.{AllByRecursion, AllZip, flat_map, range_with_len}
-use Rattle.std.specs.declared.cmp.Ordering.{Ordering}
-use Rattle.std.specs.declared.cmp.Ordering.TheVariants.{Less, Equal, Greater}
-use Rattle.std.proofs.lemmas.List.{length-append, length-map}
+use Rattle.std.specs.declared.cmp.Ordering.TheVariants.{Greater}
+use Rattle.std.proofs.lemmas.List.{length-map}
 use Rattle.std.proofs.lemmas.List.Elements.{All-from_recursion, recursion_from_All}
 use Rattle.coef_int.specs.Range.{IsCoefficient}
 use Rattle.word_core.specs.Canonical.{word_cmp}
 use Rattle.definitions.specs.Poly.{Poly, Term, SamePolynomial, poly_eq, poly_multiple}
 use Rattle.definitions.specs.Quiver.{Quiver, IsQuiver, source, target, star}
-use Rattle.definitions.specs.Generators.{adjoint_word, adjoint_poly, new_adjoint, left_unit, right_unit, letter_units, units, generators_of}
+use Rattle.definitions.specs.Generators.{adjoint_poly, new_adjoint, left_unit, right_unit, letter_units, units, generators_of}
 use Rattle.definitions.proofs.UnitSound.{all-append, all-flat_map}
 use Rattle.nc_polynomial.specs.declared.poly.Poly as made
-use Rattle.nc_polynomial.specs.Terms.{Pair, only_right, keep, by_order, aligned, aligned_at, totals}
 use Rattle.nc_polynomial.specs.Collected.{collected}
 use Rattle.nc_polynomial.specs.Shape.{IsCanonical}
 use Rattle.nc_polynomial.proofs.CollectedTerms.{coefficient_of-collected}
-use Rattle.nc_polynomial.proofs.Shapes.{IsDescending-from_recursion, all-totals, all-aligned}
+use Rattle.nc_polynomial.proofs.Shapes.{IsDescending-from_recursion}
 use Rattle.adjoint_rules.specs.declared.parts.Parts.{Parts}
 use Rattle.adjoint_rules.specs.Problem.{polynomials, numbers, IsPosed, IsClosed, generators_in}
 use Rattle.adjoint_rules.proofs.Generators.{posed_quiver}
 use Rattle.adjoint_rules.proofs.NewAdjoints.{AllZip-append, each_same}
 use Rattle.quiver.specs.Declarations.{quiver_of}
+use Rattle.expressions.proofs.TwoMarks.{length-collected, words-collected, short-adjoint}
 use Rattle.signature_typing.proofs.Results.{shaped-adjoint}
 
 -- ---- polynomials of lists that are within the limits
@@ -39,45 +38,6 @@ canonical_polynomials [] = tt
 canonical_polynomials (p ∷ ps) = (p.canonical, canonical_polynomials ps)
 
 -- ---- the size of an adjoint
-
-length-keep : (z : ℤ) (w : List ℕ) (p : Poly) → length (keep z w p) ≤ length p + 1
-length-keep (pos zero) w p = omega arith
-length-keep (pos (suc n)) w p = omega arith
-length-keep (negsuc n) w p = omega arith
-
-length-totals : (pairs : List Pair) → length (totals pairs) ≤ length pairs
-length-totals [] = omega arith
-length-totals (a ∷ rest) = omega (arith, length-keep (a.0 +ℤ a.1) a.2 (totals rest), length-totals rest)
-
-length-aligned_at : (x : Term) (n : ℕ) (rest : Poly → List Pair) → ((q : Poly) → length (rest q) ≤ n + length q) → (q : Poly) → length (aligned_at x q rest) ≤ n + length q + 1
-length-aligned_at x n rest h [] = omega (arith, h [])
-length-aligned_at x n rest h (y ∷ q) = go (word_cmp x.1 y.1) (length-aligned_at x n rest h q) (h q) (h (y ∷ q))
-  where
-    go : (o : Ordering) → length (aligned_at x q rest) ≤ n + length q + 1 → length (rest q) ≤ n + length q → length (rest (y ∷ q)) ≤ n + length (y ∷ q)
-        → length (by_order o ((pos 0, y.0, y.1) ∷ aligned_at x q rest) ((x.0, y.0, x.1) ∷ rest q) ((x.0, pos 0, x.1) ∷ rest (y ∷ q))) ≤ n + length (y ∷ q) + 1
-    go Less a b c = omega arith
-    go Equal a b c = omega arith
-    go Greater a b c = omega arith
-
-length-aligned : (p q : Poly) → length (aligned p q) ≤ length p + length q
-length-aligned [] q = let same : length (map only_right q) ≡ length q = length-map q only_right in omega (arith, same)
-length-aligned (x ∷ p) q = omega (arith, length-aligned_at x (length p) (aligned p) (length-aligned p) q)
-
-length-collected : (p : Poly) → length (collected p) ≤ length p
-length-collected [] = omega arith
-length-collected (t ∷ p) = omega (arith, length-totals (aligned (t ∷ []) (collected p)), length-aligned (t ∷ []) (collected p), length-collected p)
-
-words-collected : (P : List ℕ → Type 0) (p : Poly) → AllByRecursion (λ t. P t.1) p → AllByRecursion (λ t. P t.1) (collected p)
-words-collected P [] h = tt
-words-collected P (t ∷ p) h = all-totals P (aligned (t ∷ []) (collected p)) (all-aligned P (t ∷ []) (collected p) (h.0, tt) (words-collected P p h.1))
-
-length-adjoint_word : (q : Quiver) (w : List ℕ) → length (adjoint_word q w) ≡ length w
-length-adjoint_word q [] = refl
-length-adjoint_word q (a ∷ w) = let more : length (adjoint_word q w ++ (star q a ∷ [])) ≡ length (adjoint_word q w) + 1 = length-append (adjoint_word q w) (star q a ∷ []) in omega (arith, more, length-adjoint_word q w)
-
-short-adjoint : (q : Quiver) (p : Poly) → AllByRecursion (λ t. length t.1 ≤ 500) p → AllByRecursion (λ t. length t.1 ≤ 500) (adjoint_poly q p)
-short-adjoint q [] h = tt
-short-adjoint q (t ∷ p) h = (omega (arith, h.0, length-adjoint_word q t.1), short-adjoint q p h.1)
 
 canonical-adjoint : (q : Quiver) → IsQuiver q → (p : Poly) → IsCanonical p → IsCanonical (collected (adjoint_poly q p))
 canonical-adjoint q quiver p h = record {

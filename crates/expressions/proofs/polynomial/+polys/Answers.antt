@@ -1,28 +1,19 @@
-use Rattle.std.proofs.Common.{◌≡◌, Ok, Err, rules, ◌∙◌}
+use Rattle.std.proofs.Common.{◌≡◌, Ok, Err, rules}
 use Rattle.statement_syntax.specs.declared.tree.Sum.{the_lemmas}
 use Rattle.nc_polynomial.specs.Faults.{Explains}
-use Rattle.quiver.specs.Declarations.{quiver_of}
 use Rattle.expressions.specs.Polynomials.{term_poly, factor_poly, primary_poly, product_poly}
 use Rattle.expressions.proofs.Trees.{names_of_the_term, names_of_the_factor}
-use Rattle.expressions.proofs.Range.{in_range-primary, in_range-adjoint_by}
-use Rattle.expressions.proofs.PolynomialLoops.{polys_of, sum-end, sum-fault, sum-next, product-end, product-end_fault, product-fault, product-next, factor-first, factor-next}
+use Rattle.expressions.proofs.Range.{in_range-primary}
+use Rattle.expressions.proofs.PolynomialLoops.{polys_of, sum-end, sum-fault, sum-next, product-end, product-end_fault, product-fault, product-next}
 use Rattle.expressions.proofs.polynomial.+polys.Goals as goal
 
 -- ---- a factor
-pub factor_poly-loop-mark-init : goal.factor_poly-loop-mark-init
-factor_poly-loop-mark-init t c =
+pub factor_poly-marked-requires : goal.factor_poly-marked-requires
+factor_poly-marked-requires t c =
     let ok : primary_poly c.args.quiver.now c.args.factor.now.primary ≡ Ok c.in_ok-poly.poly.terms = search rules in
     record {
-      rest = factor-first c.args.quiver.now c.args.factor.now c.as_slice-mark-items.result.now c.as_slice-mark-items.ensures c.in_ok-poly.poly.terms ok;
-      over = in_range-primary c.args.quiver.now c.requires.declared c.args.factor.now.primary c.in_ok-poly.poly.terms c.requires.names ok;
-    }
-
-pub factor_poly-loop-mark-preserved : goal.factor_poly-loop-mark-preserved
-factor_poly-loop-mark-preserved t c =
-    let q = quiver_of c.args.quiver.now in
-    record {
-      rest = factor-next q c.as_slice-mark-items.result.now c.loop-mark.mark-index _ c.loop-mark-test.true c.loop-mark.poly.terms c.in_ok-poly-2.poly.terms c.in_ok-poly-2.ensures ∙ c.loop-mark.invariant.rest;
-      over = in_range-adjoint_by c.args.quiver.now c.requires.declared _ c.loop-mark.poly.terms c.in_ok-poly-2.poly.terms c.loop-mark.invariant.over c.in_ok-poly-2.ensures;
+      declared = c.requires.declared;
+      letters = in_range-primary c.args.quiver.now c.requires.declared c.args.factor.now.primary c.in_ok-poly.poly.terms c.requires.names ok;
     }
 
 -- ---- a sum

@@ -1,9 +1,6 @@
 use Rattle.std.proofs.Common.{◌≡◌, ◌++◌, map, drop, Ok}
-use Rattle.std.specs.List.{All}
-use Rattle.word_core.specs.Letters.{IsOver}
-use Rattle.quiver.specs.Declarations.{letter_count, quiver_of}
 use Rattle.expressions.specs.Results.{◌>>=◌}
-use Rattle.expressions.specs.Polynomials.{factor_poly, marked_poly}
+use Rattle.expressions.specs.Polynomials.{factor_poly}
 use Rattle.expressions.proofs.Trees.{each, summand}
 use Rattle.expressions.proofs.polynomial.+polys.Given as goal
 
@@ -14,9 +11,3 @@ invariant-sum_poly-loop-term l =
 abbrev pub invariant-term_poly-loop-factor : goal.invariant-term_poly-loop-factor
 invariant-term_poly-loop-factor l =
     (each (factor_poly l.quiver) (drop l.factor-index l.factor-items) >>= λ rest. Ok (map (λ p. p.terms) l.polys.items ++ rest)) ≡ each (factor_poly l.quiver) l.factor-items
-
-abbrev pub invariant-factor_poly-loop-mark : goal.invariant-factor_poly-loop-mark
-invariant-factor_poly-loop-mark l = record {
-  rest : marked_poly (quiver_of l.quiver) (drop l.mark-index l.mark-items) l.poly.terms ≡ factor_poly l.quiver l.factor;
-  over : All (λ t. IsOver (letter_count l.quiver) t.1) l.poly.terms;
-}
