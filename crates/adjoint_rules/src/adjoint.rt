@@ -22,7 +22,7 @@ pub fn adjoint_word(alloc: Global, quiver: &Quiver, word: &Word) -> Result<Word,
     requires { IsOver (letter_count quiver.now) word.now }
     ensures { IfOk result (λ w. w ≡ adjoint_word (quiver_of quiver.now) word.now) }
 {
-    let mut adjoint = Word::new(alloc);
+    let mut adjoint = Word::with_room(alloc, word.len())?;
     let mut place = word.len();
     while place > 0 {
         place -= 1;

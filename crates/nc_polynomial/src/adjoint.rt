@@ -33,7 +33,7 @@ fn adjoint_word(alloc: Global, word: &Word, stars: &[Letter]) -> Result<Word, Al
     requires { IsOver (length stars.now) word.now }
     ensures { IfOk result (λ w. w ≡ reversed_star (numbers_of stars.now) word.now) }
 {
-    let mut adjoint = Word::new(alloc);
+    let mut adjoint = Word::with_room(alloc, word.len())?;
     let mut place = word.len();
     while place > 0 {
         place -= 1;

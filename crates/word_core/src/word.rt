@@ -41,6 +41,15 @@ impl Word {
         }
     }
 
+    /// The empty word, with room for so many letters.
+    pub fn with_room(alloc: Global, letters: usize) -> Result<Word, AllocError>
+        ensures { IfOk result (λ w. w ≡ []) }
+    {
+        Ok(Word {
+            letters: Vec::with_capacity(alloc, letters)?,
+        })
+    }
+
     /// The word with one letter more at its end; where memory is short, the word as it was.
     pub fn push(&mut self, letter: Letter) -> Result<(), AllocError>
         ensures ok { OnOk result (self.new ≡ self.old ++ letter.0 ∷ []) }
