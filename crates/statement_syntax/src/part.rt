@@ -1,6 +1,6 @@
 //! The term that is read, and the sum that it ends.
 
-ghost use Rattle.std.specs.Prelude.{◌≡◌, [], IfOk, OnOk};
+ghost use Rattle.std.specs.Prelude.{◌≡◌, [], ◌∷◌, ◌++◌, IfOk, OnOk};
 ghost use Rattle.statement_syntax.specs.Steps.{part_with, Gives, Turns, ended_part, sum_with, quote_step, sign_step};
 ghost use Rattle.statement_syntax.specs.declared.expression.Part.TheVariants.{Product};
 
@@ -67,18 +67,25 @@ pub fn ended_part(alloc: Global, part: Part, negative: bool) -> Result<Term, Rea
         Part::Product {
             at,
             literal,
-            mut factors,
+            factors,
             last,
-        } => {
-            factors.push(last)?;
-            Ok(Term {
-                at,
-                negative,
-                literal,
-                factors,
-            })
-        }
+        } => Ok(Term {
+            at,
+            negative,
+            literal,
+            factors: factors_with(factors, last)?,
+        }),
     }
+}
+
+// The factors with the last one, for which alone room is made: most terms have one factor, and a tree keeps all of them.
+fn factors_with(factors: Listing<Factor>, last: Factor) -> Result<Listing<Factor>, AllocError>
+    ensures { IfOk result (λ all. all ≡ factors ++ last ∷ []) }
+{
+    let mut all = factors.into_vec();
+    all.reserve_exact(1)?;
+    all.push(last)?;
+    Ok(Listing::from_vec(all))
 }
 
 /// The sum whose last term this is.
