@@ -424,9 +424,10 @@ fn read_row(problem: &Problem, text: &str) -> Answer<Row> {
     })
 }
 
+/// A word, of which every name is judged before its length is.
 fn read_word(problem: &Problem, text: &str) -> Answer<Word> {
     let names = text.split_ascii_whitespace();
-    let word: Vec<Letter> = names.take(LETTER_LIMIT + 1).map(|name| problem.letter(name)).collect::<Answer<_>>()?;
+    let word: Vec<Letter> = names.map(|name| problem.letter(name)).collect::<Answer<_>>()?;
     if word.len() > LETTER_LIMIT {
         return Err(format!("a word has more than {LETTER_LIMIT} letters"));
     }
