@@ -25,6 +25,7 @@ pub use laws::{
 };
 pub use lemmas::gather;
 use lists::{Duplicate, Listing};
+pub use size::{LETTER_LIMIT, ROW_LIMIT};
 use std::alloc::AllocError;
 use word_core::Word;
 

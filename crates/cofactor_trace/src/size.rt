@@ -5,15 +5,13 @@ ghost use Rattle.cofactor_trace.specs.Faults.{IsFirst};
 ghost use Rattle.cofactor_trace.specs.Sizes.{measured, measured_all, limit_of};
 
 use crate::{CertRow, ExpandFault, Row};
-
-// The greatest number of letters of a word.
-const WORD_LIMIT: usize = 500;
+use nc_polynomial::WORD_LIMIT;
 
 /// The greatest number of rows.
-pub(crate) const ROW_LIMIT: usize = 200_000;
+pub const ROW_LIMIT: usize = 200_000;
 
 /// The greatest number of letters of all rows.
-pub(crate) const LETTER_LIMIT: usize = 1_000_000;
+pub const LETTER_LIMIT: usize = 1_000_000;
 
 /// Whether a word is too long, how many rows there are, and how many letters they have. A count stops at the greatest number.
 #[derive(Clone, Copy)]

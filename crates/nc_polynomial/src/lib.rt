@@ -20,5 +20,5 @@ pub use fault::{PolyFault, SizeFault, SumFault};
 pub use laws::canonical_is_unique;
 pub use poly::Poly;
 pub use running::RunningSum;
-pub use size::check_size;
+pub use size::{TERM_LIMIT, WORD_LIMIT, check_size};
 pub use terms::{merge_terms, multiply_terms, negate_terms, scale_terms, shift_terms};

@@ -9,7 +9,7 @@ ghost use Rattle.nc_polynomial.specs.Limits.{word_limit};
 ghost use Rattle.nc_polynomial.specs.Product.{moved_result, product_step, product_result};
 ghost use Rattle.nc_polynomial.specs.Shape.{IsShaped};
 
-use crate::size::{LETTER_LIMIT, check_moved};
+use crate::size::{WORD_LIMIT, check_moved};
 use crate::{Poly, PolyFault, RunningSum, SizeFault, shift_terms};
 use lists::Listing;
 use std::alloc::{AllocError, Global};
@@ -84,7 +84,7 @@ fn behind(left: &(i128, Word), right: &(i128, Word)) -> Result<(i128, Word), Pol
     ensures short { OnOk result (length left.now.1 + length right.now.1 ≤ word_limit) }
     ensures fault { IfErr result (λ e. (sum : List Term) → IsShaped sum → Explains (product_step sum left.now (right.now ∷ [])) e) }
 {
-    if left.1.len().saturating_add(right.1.len()) > LETTER_LIMIT {
+    if left.1.len().saturating_add(right.1.len()) > WORD_LIMIT {
         return Err(PolyFault::Size(SizeFault { letters: true }));
     }
     let coefficient = coef_int::times(left.0, right.0)?;

@@ -8,9 +8,11 @@ ghost use Rattle.nc_polynomial.specs.declared.fault.PolyFault.TheVariants as fau
 use crate::SizeFault;
 use word_core::Word;
 
-pub(crate) const LETTER_LIMIT: usize = 500;
+/// The greatest number of letters of a word of a polynomial.
+pub const WORD_LIMIT: usize = 500;
 
-pub(crate) const TERM_LIMIT: usize = 20_000;
+/// The greatest number of terms of a polynomial.
+pub const TERM_LIMIT: usize = 20_000;
 
 /// Refuses a polynomial in which a word has more than 500 letters, or else one of more than 20,000 terms.
 pub fn check_size(terms: &[(i128, Word)]) -> Result<(), SizeFault>
@@ -29,7 +31,7 @@ fn has_long_word(terms: &[(i128, Word)]) -> bool
     ensures { result ≡ has_long_word terms.now }
 {
     for term in terms {
-        if term.1.len() > LETTER_LIMIT {
+        if term.1.len() > WORD_LIMIT {
             return true;
         }
     }
@@ -47,7 +49,7 @@ pub(crate) fn check_moved(
 {
     let around = left.len().saturating_add(right.len());
     for term in terms {
-        if term.1.len().saturating_add(around) > LETTER_LIMIT {
+        if term.1.len().saturating_add(around) > WORD_LIMIT {
             return Err(SizeFault { letters: true });
         }
     }
