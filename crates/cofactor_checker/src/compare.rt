@@ -1,3 +1,4 @@
+//! The sum of rows compared with the multiple of a claim.
 ghost use Rattle.std.specs.Prelude.{◌≡◌, ◌*ℤ◌, ◌<ℤ◌, pos, None, IfOk, Some};
 ghost use Rattle.std.specs.List.{All};
 ghost use Rattle.coef_int.specs.Operations.{first_overflow};

@@ -1,3 +1,4 @@
+//! The rows of a certificate, added up.
 ghost use Rattle.std.specs.Prelude.{◌≡◌, ◌≤◌, ◌-◌, length, All, OnOk, IfOk, IfErr, IfSome, IfNone, slice_get, Some};
 ghost use Rattle.coef_int.specs.Range.{IsCoefficient};
 ghost use Rattle.cofactor_trace.specs.Rows.{rows_of};

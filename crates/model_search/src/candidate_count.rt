@@ -1,4 +1,4 @@
-// How many candidates a shape has.
+//! How many candidates a shape has.
 ghost use Rattle.std.specs.Prelude.{◌≡◌, ◌≤◌, ◌^◌, length, nat_le};
 ghost use Rattle.definitions.specs.Quiver.{IsQuiver};
 ghost use Rattle.quiver.specs.Declarations.{object_count, quiver_of};

@@ -1,4 +1,4 @@
-// Whether a model refutes its claim.
+//! Whether a model refutes its claim.
 ghost use Rattle.std.specs.Prelude.{IfOk, IfErr, OnOk, IfSome, IfNone, IsTrue, ◌↔◌};
 ghost use Rattle.std.specs.List.{AllByRecursion};
 ghost use Rattle.definitions.specs.Quiver.{letters};

@@ -1,4 +1,4 @@
-// The values of the entries in a candidate.
+//! The values of the entries in a candidate.
 ghost use Rattle.std.specs.Prelude.{◌≡◌, IfOk};
 ghost use Rattle.definitions.specs.Quiver.{IsQuiver};
 ghost use Rattle.quiver.specs.Declarations.{object_count, quiver_of};

@@ -1,4 +1,4 @@
-// The entries of a shape.
+//! The entries of a shape.
 ghost use Rattle.std.specs.Prelude.{◌≡◌, ◌<◌, ◌≤◌, length};
 ghost use Rattle.std.specs.List.{All};
 ghost use Rattle.definitions.specs.Quiver.{IsQuiver};

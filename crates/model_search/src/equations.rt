@@ -1,4 +1,4 @@
-// The linear equations that the drawn entries leave for those that are solved for.
+//! The linear equations that the drawn entries leave for those that are solved for.
 ghost use Rattle.std.specs.Prelude.{◌≡◌, ◌<◌, ◌++◌, length, IfOk, OnOk};
 ghost use Rattle.std.specs.List.{All};
 ghost use Rattle.quiver.specs.Declarations.{object_count};

@@ -1,4 +1,4 @@
-// The model that values of the entries make.
+//! The model that values of the entries make.
 ghost use Rattle.std.specs.Prelude.{◌≡◌, ◌<◌, ◌≤◌, ℕ, true, length, IfOk};
 ghost use Rattle.std.specs.List.{All};
 ghost use Rattle.definitions.specs.Quiver.{IsQuiver, source, target};

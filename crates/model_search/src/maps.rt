@@ -1,4 +1,4 @@
-// Whether the matrices of a model fit the declared maps.
+//! Whether the matrices of a model fit the declared maps.
 ghost use Rattle.std.specs.Prelude.{◌≡◌, ◌<◌, IfOk, IfErr, IsTrue, ◌↔◌};
 ghost use Rattle.definitions.specs.Quiver.{letters, IsQuiver};
 ghost use Rattle.quiver.specs.Declarations.{letter_count, quiver_of};

@@ -1,4 +1,4 @@
-// The candidates of a shape.
+//! The candidates of a shape.
 ghost use Rattle.std.specs.Prelude.{◌≤◌, ℕ, List, length, IfOk, IfSome, IfNone};
 ghost use Rattle.quiver.specs.Declarations.{object_count};
 ghost use Rattle.adjoint_rules.specs.Problem.{IsShape};

@@ -1,4 +1,4 @@
-// What all candidates of a shape share.
+//! What all candidates of a shape share.
 ghost use Rattle.std.specs.Prelude.{◌≡◌, ◌<◌, ◌≤◌, ◌++◌, length, replicate, IfOk, OnOk};
 ghost use Rattle.std.specs.List.{All};
 ghost use Rattle.definitions.specs.Quiver.{IsQuiver};

@@ -1,4 +1,4 @@
-// The representation that a model describes.
+//! The representation that a model describes.
 ghost use Rattle.std.specs.Prelude.{◌≡◌, ◌<◌, length, Some, IfOk};
 ghost use Rattle.definitions.specs.Quiver.{letters, IsQuiver};
 ghost use Rattle.quiver.specs.Declarations.{letter_count, quiver_of};

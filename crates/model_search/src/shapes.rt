@@ -1,4 +1,4 @@
-// Whether models are looked for in a shape.
+//! Whether models are looked for in a shape.
 ghost use Rattle.std.specs.Prelude.{◌≡◌, ◌≤◌, ◌↔◌, length, nat_eq, IfErr, IsTrue, OnOk};
 ghost use Rattle.std.specs.List.{list_any};
 ghost use Rattle.adjoint_rules.specs.Problem.{moduli, IsSide, IsShape};

@@ -1,4 +1,4 @@
-// The entries that are solved for, and values of them.
+//! The entries that are solved for, and values of them.
 ghost use Rattle.std.specs.Prelude.{◌≡◌, ◌≤◌, length, IfOk};
 ghost use Rattle.model_search.specs.Unknowns.{set_count, filled, picked, unit_values};
 

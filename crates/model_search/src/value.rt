@@ -1,4 +1,4 @@
-// Whether the value of a polynomial in a model is zero.
+//! Whether the value of a polynomial in a model is zero.
 ghost use Rattle.std.specs.Prelude.{◌<◌, ◌↔◌, IfOk, IsTrue};
 ghost use Rattle.definitions.specs.Quiver.{letters, IsQuiver, IsTyped};
 ghost use Rattle.definitions.specs.Soundness.{HasValueZero};

@@ -1,4 +1,4 @@
-// What a call answers.
+//! What a call answers.
 ghost use Rattle.std.specs.Prelude.{◌≡◌, ◌≤◌, length};
 ghost use Rattle.std.specs.List.{AllZip};
 ghost use Rattle.command_words.specs.Calls.{IsInRange};

@@ -1,4 +1,4 @@
-// The files of a call.
+//! The files of a call.
 ghost use Rattle.std.specs.Prelude.{◌≡◌, IfOk};
 ghost use Rattle.opprove.specs.Call.{file_word, pair_files, files_of};
 

@@ -1,4 +1,4 @@
-// What no clause says of the calls of the devices: their order, and that none comes after one that failed.
+//! What no clause says of the calls of the devices: their order, and that none comes after one that failed.
 use crate::run::run;
 use category_laws::Parity;
 use flow_io::{MemoryShelf, MemorySink};

@@ -1,4 +1,4 @@
-// What `check` answers over a statement and an evidence text.
+//! What `check` answers over a statement and an evidence text.
 ghost use Rattle.std.specs.Prelude.{◌≡◌, ◌≤◌, IfOk, IfErr, length};
 ghost use Rattle.std.specs.List.{All};
 ghost use Rattle.cofactor_trace.specs.declared.evidence.Format.TheVariants.{Lemmas};

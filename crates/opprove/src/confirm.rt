@@ -1,4 +1,4 @@
-// What `model` answers over a statement and a text of models.
+//! What `model` answers over a statement and a text of models.
 ghost use Rattle.std.specs.Prelude.{◌≡◌, ◌<◌, ◌≤◌, Some, IfOk, IfErr, length};
 ghost use Rattle.std.specs.List.{All};
 ghost use Rattle.quiver.specs.Declarations.{letter_count};

@@ -1,4 +1,4 @@
-// What `prove` and `bench` answer.
+//! What `prove` and `bench` answer.
 ghost use Rattle.std.specs.Prelude.{◌≡◌, ◌<◌, ◌≤◌, true, IfOk, IfSome, IfNone, length};
 ghost use Rattle.std.specs.List.{All};
 ghost use Rattle.command_words.specs.Calls.{IsInRange};

@@ -1,4 +1,4 @@
-// Statuses and reports.
+//! Statuses and reports.
 ghost use Rattle.std.specs.Prelude.{◌≡◌, IfOk};
 ghost use Rattle.opprove.specs.Ending.{usage, load_failed, too_long, refused_statement, refused_evidence};
 

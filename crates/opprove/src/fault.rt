@@ -1,4 +1,4 @@
-// The lines that say why a statement or an evidence text is refused.
+//! The lines that say why a statement or an evidence text is refused.
 ghost use Rattle.std.specs.Prelude.{◌≡◌, ◌++◌, codes, decimal, IfOk, OnOk, string_bytes};
 ghost use Rattle.opprove.specs.Texts.{limit_text, place_text, ends_text, statement_fault, line_text, evidence_fault};
 

@@ -1,4 +1,4 @@
-// The files of a call.
+//! The files of a call.
 ghost use Rattle.std.specs.Prelude.{◌≡◌, ◌≤◌, ℕ, List, IfOk, IfErr, MatchResult};
 ghost use Rattle.opprove.specs.declared.call.FileWord.{FileWord};
 ghost use Rattle.opprove.specs.Files.{RoseAt, AreLoaded, EndsAtFile, AfterFiles, WereLoaded};

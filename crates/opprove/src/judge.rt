@@ -1,4 +1,4 @@
-// The blocks of an evidence text, judged one after another.
+//! The blocks of an evidence text, judged one after another.
 ghost use Rattle.std.specs.Prelude.{ℕ, List, ◌≡◌, ◌++◌, IfOk, OnOk, codes, decimal};
 ghost use Rattle.std.specs.List.{All};
 ghost use Rattle.adjoint_rules.specs.declared.problem.Problem.{Problem as Posed};

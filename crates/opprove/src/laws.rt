@@ -1,4 +1,4 @@
-// What users ask of the answers.
+//! What users ask of the answers.
 ghost use Rattle.opprove.specs.Laws.{AcceptedAreAnswered, ZeroIsAccepted, ZeroMeans, ConfirmedAreAnswered, ZeroIsConfirmed, FaultsAreAnswered, ThreeIsFaulty, AnswersOnce, EachCallHasAnEnding};
 
 use category_laws::Preadditive;

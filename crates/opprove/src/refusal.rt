@@ -1,4 +1,4 @@
-// Why a block is refused.
+//! Why a block is refused.
 ghost use Rattle.std.specs.Prelude.{◌≡◌, ◌++◌, Some, IfOk, codes, decimal, string_bytes};
 ghost use Rattle.std.specs.Fmt.{signed_decimal};
 ghost use Rattle.quiver.specs.Declarations.{letter_count};

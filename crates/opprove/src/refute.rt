@@ -1,4 +1,4 @@
-// What `refute` answers over a statement.
+//! What `refute` answers over a statement.
 ghost use Rattle.std.specs.Prelude.{◌<◌, ◌≤◌, IfOk, length};
 ghost use Rattle.std.specs.List.{All, AllZip};
 ghost use Rattle.claim_decider.specs.Decided.{claim_numbers};

@@ -1,4 +1,4 @@
-// Rounds of completions, told call by call, and the rules that they make: worked out by hand.
+//! Rounds of completions, told call by call, and the rules that they make: worked out by hand.
 ghost use Rattle.std.specs.Prelude.{◌<◌, ◌≤◌, IfOk};
 ghost use Rattle.traced_completion.specs.Completions.{IsBudget, IsCompletionOf};
 

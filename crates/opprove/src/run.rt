@@ -1,4 +1,4 @@
-// The top call.
+//! The top call.
 ghost use Rattle.std.specs.Prelude.{◌≡◌, IfOk, IsTrue};
 ghost use Rattle.std.specs.Io.KnownBytes.{Appends};
 ghost use Rattle.flow_io.specs.Causes.{Rose};

@@ -1,4 +1,4 @@
-// The problem of a statement, or how a run ends that has none.
+//! The problem of a statement, or how a run ends that has none.
 ghost use Rattle.std.specs.Prelude.{◌≤◌, ℕ, List, IfOk, IfErr, length};
 ghost use Rattle.statement_syntax.specs.Fault.{IsTreeOf};
 ghost use Rattle.signature_typing.specs.Typing.{IsProblemOf};

@@ -1,4 +1,4 @@
-// Why a run stops before its end.
+//! Why a run stops before its end.
 use crate::ending::Ending;
 use std::alloc::{AllocError, AllocFailed};
 
