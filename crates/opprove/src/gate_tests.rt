@@ -1,5 +1,5 @@
 //! What no clause says of the runs that decide and refute claims: that rounds and candidates are on threads, and that all claims
-// share one run.
+//! share one run.
 use crate::decided_rows::{POWER, POWER_TWICE, TWO_CANDIDATES};
 use crate::run::run;
 use category_laws::Parity;
