@@ -280,9 +280,9 @@ fn letter_poly(alloc: Global, letter: Letter) -> Result<Poly, PolyFault>
     ensures ok { IfOk result (λ p. p.terms ≡ letter_poly letter.0) }
     ensures err { IfErr result IsMemory }
 {
-    let mut word = Word::new(alloc);
+    let mut word = Word::with_room(alloc, 1)?;
     word.push(letter)?;
-    let mut terms = Listing::new(alloc);
+    let mut terms = Listing::with_room(alloc, 1)?;
     terms.push((1, word))?;
     Ok(Poly { terms })
 }
