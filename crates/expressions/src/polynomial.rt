@@ -148,8 +148,13 @@ fn term_poly(alloc: Global, quiver: &Quiver, term: &Term) -> Result<Poly, PolyFa
     requires names { IsTrue (are_names_of_term quiver.now term.now) }
     ensures { MatchResult result (λ p. term_poly quiver.now term.now ≡ Ok p.terms) (Explains (term_poly quiver.now term.now)) }
 {
-    let mut polys = Vec::new(alloc);
-    for factor in term.factors.as_slice() {
+    let factors = term.factors.as_slice();
+    if let [factor] = factors {
+        let poly = factor_poly(alloc, quiver, factor)?;
+        return scaled_by(poly, &term.literal);
+    }
+    let mut polys = Vec::with_capacity(alloc, factors.len())?;
+    for factor in factors {
         polys.push(factor_poly(alloc, quiver, factor)?)?;
     }
     let product = product(alloc, polys)?;

@@ -14,4 +14,4 @@ invariant-running_total-loop-term l = SoFar l.quiver l.term-items l.term-index l
 
 abbrev pub invariant-term_poly-loop-factor : goal.invariant-term_poly-loop-factor
 invariant-term_poly-loop-factor l =
-    (each (factor_poly l.quiver) (drop l.factor-index l.factor-items) >>= λ rest. Ok (map (λ p. p.terms) l.polys.items ++ rest)) ≡ each (factor_poly l.quiver) l.factor-items
+    (each (factor_poly l.quiver) (drop l.factor-index l.factors) >>= λ rest. Ok (map (λ p. p.terms) l.polys.items ++ rest)) ≡ each (factor_poly l.quiver) l.factors
