@@ -1,5 +1,5 @@
 -- The loops over the terms of a sum, the factors of a term and the marks of a factor, which come to their polynomial.
-use Rattle.std.proofs.Common.{◌≡◌, ◌<◌, ◌≤◌, ◌+◌, ℕ, List, [], ◌∷◌, ◌++◌, length, map, drop, get_or, Bool, Result, Ok, Err, MatchResult, sym, ap, subst, ◌∙◌}
+use Rattle.std.proofs.Common.{◌≡◌, ◌<◌, ◌≤◌, ◌+◌, ℕ, List, [], ◌∷◌, ◌++◌, length, map, drop, get_or, Bool, Result, Ok, Err, MatchResult, refl, sym, ap, subst, ◌∙◌, arith}
 use Rattle.std.proofs.lemmas.List.{map-append}
 use Rattle.definitions.specs.Poly.{Poly}
 use Rattle.nc_polynomial.specs.declared.fault.PolyFault.{PolyFault}
@@ -13,7 +13,7 @@ use Rattle.statement_syntax.specs.declared.tree.Sum.{Sum, out-Sum}
 use Rattle.expressions.specs.Results.{◌>>=◌}
 use Rattle.expressions.specs.Polynomials.{product_poly, scaled_by, Summand, total, is_negative, sum_poly, term_poly, factor_poly}
 use Rattle.expressions.proofs.Trees.{each, summand, poly-sum, poly-term, sign-term}
-use Rattle.expressions.proofs.Sequences.{made-next, made-fault, made-end}
+use Rattle.expressions.proofs.Sequences.{made-none, made-next, made-fault, made-end}
 
 -- a fault that is passed on is explained by what it comes from
 pub explains-on : {A B : Type 0} (r : Result A PolyFault) (s : Result B PolyFault) (e : PolyFault) → ((f : PolyFault) → r ≡ Err f → s ≡ Err f) → Explains r e → Explains s e
@@ -82,3 +82,15 @@ module _ (ds : List Declaration) (t : Term) (factors : List Factor) (whole : fac
         let next : polys_of more ≡ polys_of made ++ p.terms ∷ [] = ap polys_of pushed ∙ map-append _ made (p ∷ []) in
         ap (λ m. each (factor_poly ds) (drop (i + 1) factors) >>= λ rest. Ok (m ++ rest)) next
         ∙ made-next (factor_poly ds) factors i (polys_of made) before f inside item p.terms h
+
+-- ---- a factor alone
+module _ (ds : List Declaration) (t : Term) (factors : List Factor) (whole : factors ≡ (out-Term t).factors) (one : length factors ≡ 1) (f : Factor) (item : f ≡ get_or factors 0 f) where
+  none : (each (factor_poly ds) (drop 0 factors) >>= λ rest. Ok (polys_of [] ++ rest)) ≡ each (factor_poly ds) factors
+  none = made-none (factor_poly ds) factors
+
+  pub alone-fault : (e : PolyFault) → Explains (factor_poly ds f) e → Explains (term_poly ds t) e
+  alone-fault e why = product-fault ds t factors whole 0 [] none f (omega arith) item e why
+
+  pub alone-end : (p : code.Poly) → factor_poly ds f ≡ Ok p.terms → (result : Result code.Poly PolyFault) → Gives (scaled_by (out-Term t).literal p.terms) result → Gives (term_poly ds t) result
+  alone-end p h result given =
+      product-end ds t factors whole 1 (p ∷ []) (product-next ds t factors whole 0 [] none f (omega arith) item p h (p ∷ []) refl) (omega arith) p.terms refl result given

@@ -44,6 +44,14 @@ pub same_value : {A E : Type 0} (x y : A) → ◌≡◌ {A = Result A E} (Ok x) 
 same_value x y h = cc
 
 -- ---- the results so far
+-- none at first
+pub made-none : {A B E : Type 0} (f : A → Result B E) (xs : List A) → (each f xs >>= λ rest. Ok ([] ++ rest)) ≡ each f xs
+made-none f xs = go (each f xs)
+  where
+    go : {B E : Type 0} (r : Result (List B) E) → (r >>= λ rest. Ok ([] ++ rest)) ≡ r
+    go (Ok rest) = refl
+    go (Err e) = refl
+
 module _ {A B E : Type 0} (f : A → Result B E) (xs : List A) (i : ℕ) (made : List B) (before : (each f (drop i xs) >>= λ rest. Ok (made ++ rest)) ≡ each f xs) where
   module _ (x : A) (inside : i < length xs) (item : x ≡ get_or xs i x) where
     pub made-next : (y : B) → f x ≡ Ok y → (each f (drop (i + 1) xs) >>= λ rest. Ok ((made ++ y ∷ []) ++ rest)) ≡ each f xs

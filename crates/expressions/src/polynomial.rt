@@ -1,11 +1,12 @@
 //! The polynomial of an expression, or the first fault of its arithmetic.
-ghost use Rattle.std.specs.Prelude.{◌≡◌, ◌<◌, [], ◌∷◌, pos, map, MatchResult, Ok, IfOk, IfErr, IfSome, IsTrue};
+ghost use Rattle.std.specs.Prelude.{◌≡◌, ◌<◌, [], ◌∷◌, pos, map, MatchResult, Ok, Err, IfOk, IfErr, IfSome, IsTrue};
 ghost use Rattle.std.specs.List.{All};
 ghost use Rattle.definitions.specs.Generators.{adjoint_poly};
 ghost use Rattle.word_core.specs.Letters.{IsOver};
 ghost use Rattle.nc_polynomial.specs.Arithmetic.{sum_result, multiple_result};
 ghost use Rattle.nc_polynomial.specs.Collected.{collection_result};
 ghost use Rattle.nc_polynomial.specs.Faults.{Explains, IsMemory};
+ghost use Rattle.nc_polynomial.specs.Shape.{IsCanonical};
 ghost use Rattle.quiver.specs.Declarations.{letter_count, quiver_of, identity_in, IsDeclared};
 ghost use Rattle.expressions.specs.Names.{AreNames, are_names_of_term, are_names_of_primary, letter_of, object_of};
 ghost use Rattle.expressions.specs.Begun.{product_begun, product_followed};
@@ -53,27 +54,19 @@ fn sum_poly(alloc: Global, quiver: &Quiver, sum: &Sum) -> Result<Poly, PolyFault
     requires names { AreNames quiver.now sum.now }
     ensures { MatchResult result (λ p. sum_poly quiver.now sum.now ≡ Ok p.terms) (Explains (sum_poly quiver.now sum.now)) }
 {
-    let mut summands = Vec::new(alloc);
+    if sum.terms.len() > MERGED_LIMIT {
+        return running_total(alloc, quiver, sum);
+    }
+    let mut summands = Vec::with_capacity(alloc, sum.terms.len())?;
     for term in sum.terms.as_slice() {
         let poly = term_poly(alloc, quiver, term)?;
         summands.push((term.negative, poly))?;
     }
-    total(alloc, summands)
+    merged_total(alloc, summands)
 }
 
-// The first summand, and then the others added or subtracted from the left. Few are merged, so that the first is taken
-// whole; of many, each term is looked up.
-fn total(alloc: Global, summands: Vec<(bool, Poly)>) -> Result<Poly, PolyFault>
-    ensures { MatchResult result (λ p. total (map (λ s. (s.0, s.1.terms)) summands.items) ≡ Ok p.terms) (Explains (total (map (λ s. (s.0, s.1.terms)) summands.items))) }
-{
-    if summands.len() > MERGED_LIMIT {
-        running_total(alloc, summands)
-    } else {
-        merged_total(alloc, summands)
-    }
-}
-
-// The summands merged from the left.
+// The first summand, and then the others added or subtracted from the left. They are merged, so that the first is taken
+// whole.
 fn merged_total(alloc: Global, summands: Vec<(bool, Poly)>) -> Result<Poly, PolyFault>
     ensures { MatchResult result (λ p. total (map (λ s. (s.0, s.1.terms)) summands.items) ≡ Ok p.terms) (Explains (total (map (λ s. (s.0, s.1.terms)) summands.items))) }
 {
@@ -88,16 +81,39 @@ fn merged_total(alloc: Global, summands: Vec<(bool, Poly)>) -> Result<Poly, Poly
     Ok(sum)
 }
 
-// The summands added up from the left. Each is moved into the sum and gone then.
-fn running_total(alloc: Global, summands: Vec<(bool, Poly)>) -> Result<Poly, PolyFault>
-    ensures { MatchResult result (λ p. total (map (λ s. (s.0, s.1.terms)) summands.items) ≡ Ok p.terms) (Explains (total (map (λ s. (s.0, s.1.terms)) summands.items))) }
+// The terms of a sum added up from the left. Each is moved into the sum so far, by a look-up, and gone then. A fault of
+// a later term comes before a fault of the sum so far.
+#[cycle(polys)]
+fn running_total(alloc: Global, quiver: &Quiver, sum: &Sum) -> Result<Poly, PolyFault>
+    requires declared { IsDeclared quiver.now }
+    requires names { AreNames quiver.now sum.now }
+    ensures { MatchResult result (λ p. sum_poly quiver.now sum.now ≡ Ok p.terms) (Explains (sum_poly quiver.now sum.now)) }
 {
-    let mut sum = RunningSum::new(alloc);
-    for (negative, poly) in summands {
-        let summand = signed(alloc, negative, poly)?;
-        sum.add(summand)?;
+    let mut so_far = Ok(RunningSum::new(alloc));
+    for term in sum.terms.as_slice() {
+        let poly = term_poly(alloc, quiver, term)?;
+        so_far = with_summand(alloc, so_far, term.negative, poly);
     }
-    Ok(sum.into_poly(alloc)?)
+    Ok(so_far?.into_poly(alloc)?)
+}
+
+// The sum so far and a summand, which is added or subtracted, or the fault so far, which stays. Both are given away.
+fn with_summand(
+    alloc: Global,
+    so_far: Result<RunningSum, PolyFault>,
+    negative: bool,
+    poly: Poly,
+) -> Result<RunningSum, PolyFault>
+    requires { IfOk so_far IsCanonical }
+    ensures added { IfOk so_far (λ sum. let next = sum_step sum (negative, poly.terms) in
+        MatchResult result (λ p. next ≡ Ok p) (Explains next)) }
+    ensures stays { IfErr so_far (λ fault. result ≡ Err fault) }
+    ensures canonical { IfOk result IsCanonical }
+{
+    let mut sum = so_far?;
+    let summand = signed(alloc, negative, poly)?;
+    sum.add(summand)?;
+    Ok(sum)
 }
 
 // The summand, negated where it is subtracted.
@@ -132,8 +148,13 @@ fn term_poly(alloc: Global, quiver: &Quiver, term: &Term) -> Result<Poly, PolyFa
     requires names { IsTrue (are_names_of_term quiver.now term.now) }
     ensures { MatchResult result (λ p. term_poly quiver.now term.now ≡ Ok p.terms) (Explains (term_poly quiver.now term.now)) }
 {
-    let mut polys = Vec::new(alloc);
-    for factor in term.factors.as_slice() {
+    let factors = term.factors.as_slice();
+    if let [factor] = factors {
+        let poly = factor_poly(alloc, quiver, factor)?;
+        return scaled_by(poly, &term.literal);
+    }
+    let mut polys = Vec::with_capacity(alloc, factors.len())?;
+    for factor in factors {
         polys.push(factor_poly(alloc, quiver, factor)?)?;
     }
     let product = product(alloc, polys)?;
@@ -280,9 +301,9 @@ fn letter_poly(alloc: Global, letter: Letter) -> Result<Poly, PolyFault>
     ensures ok { IfOk result (λ p. p.terms ≡ letter_poly letter.0) }
     ensures err { IfErr result IsMemory }
 {
-    let mut word = Word::new(alloc);
+    let mut word = Word::with_room(alloc, 1)?;
     word.push(letter)?;
-    let mut terms = Listing::new(alloc);
+    let mut terms = Listing::with_room(alloc, 1)?;
     terms.push((1, word))?;
     Ok(Poly { terms })
 }
