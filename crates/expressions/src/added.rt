@@ -40,7 +40,7 @@ fn add_terms(
     add_term(left.into_vec(), term)
 }
 
-// The terms and one term more. Its word is looked up, and no other word is touched.
+// The terms and one term more: its word is looked up, and the terms behind it are moved as a whole.
 fn add_term(
     mut terms: Vec<(i128, Word)>,
     term: (i128, Word),
