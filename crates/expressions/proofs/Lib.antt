@@ -10,6 +10,7 @@ pub mod Letters
 pub mod Range
 pub mod PolynomialLoops
 pub mod Totals
+mod SumsWithTerm
 pub mod Maps
 pub mod Written
 pub mod TypedParts

@@ -1,6 +1,7 @@
 //! Expressions over a quiver: their signatures, their polynomials, and what occurs in them.
 #![tactic(auto)]
 
+mod added;
 mod fault;
 mod laws;
 mod names;

@@ -3,7 +3,7 @@ ghost use Rattle.std.specs.Prelude.{◌≡◌, ◌<◌, [], ◌∷◌, pos, map,
 ghost use Rattle.std.specs.List.{All};
 ghost use Rattle.definitions.specs.Generators.{adjoint_poly};
 ghost use Rattle.word_core.specs.Letters.{IsOver};
-ghost use Rattle.nc_polynomial.specs.Arithmetic.{sum_result, multiple_result};
+ghost use Rattle.nc_polynomial.specs.Arithmetic.{multiple_result};
 ghost use Rattle.nc_polynomial.specs.Collected.{collection_result};
 ghost use Rattle.nc_polynomial.specs.Faults.{Explains, IsMemory};
 ghost use Rattle.nc_polynomial.specs.Shape.{IsCanonical};
@@ -12,11 +12,12 @@ ghost use Rattle.expressions.specs.Names.{AreNames, are_names_of_term, are_names
 ghost use Rattle.expressions.specs.Begun.{product_begun, product_followed};
 ghost use Rattle.expressions.specs.Polynomials.{letter_poly, adjoint_by, marked_poly, product_poly, scaled_by, signed, sum_step, total, sum_poly, term_poly, factor_poly, primary_poly, equation_poly};
 
+use crate::added::add;
 use crate::names::{letter_of, object_of};
 use adjoint_rules::adjoint_word;
 use coef_int::Overflow;
 use lists::Listing;
-use nc_polynomial::{Poly, PolyFault, RunningSum, merge_terms, negate_terms};
+use nc_polynomial::{Poly, PolyFault, RunningSum, negate_terms};
 use quiver::Quiver;
 use statement_syntax::{Factor, Mark, Number, Primary, Sum, Term};
 use std::alloc::{AllocError, Global};
@@ -133,13 +134,6 @@ fn add_summand(alloc: Global, sum: Poly, negative: bool, poly: Poly) -> Result<P
 {
     let summand = signed(alloc, negative, poly)?;
     add(alloc, sum, summand)
-}
-
-fn add(alloc: Global, left: Poly, right: Poly) -> Result<Poly, PolyFault>
-    ensures { MatchResult result (λ p. sum_result left.terms right.terms ≡ Ok p.terms) (Explains (sum_result left.terms right.terms)) }
-{
-    let terms = merge_terms(alloc, left.terms, right.terms)?;
-    Poly::from_descending(terms)
 }
 
 #[cycle(polys)]

@@ -2,11 +2,11 @@ use Rattle.std.proofs.Common.{◌≡◌, Ok, rules}
 use Rattle.nc_polynomial.specs.Terms.{added, sums}
 use Rattle.nc_polynomial.specs.Faults.{checked}
 use Rattle.nc_polynomial.proofs.Chains.{shaped_add}
-use Rattle.expressions.proofs.polynomial.add.Goals as goal
+use Rattle.expressions.proofs.added.add.Goals as goal
 
 pub from_descending-requires : goal.from_descending-requires
 from_descending-requires c =
     let left = c.args.left.terms in
     let right = c.args.right.terms in
-    let merged : checked (sums left right) (added left right) ≡ Ok c.in_ok-terms.terms = search rules in
-    shaped_add left right c.in_ok-terms.terms c.args.left.canonical.shaped c.args.right.canonical.shaped merged
+    let sum : checked (sums left right) (added left right) ≡ Ok c.in_ok-terms.terms = search rules in
+    shaped_add left right c.in_ok-terms.terms c.args.left.canonical.shaped c.args.right.canonical.shaped sum
