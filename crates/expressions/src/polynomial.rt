@@ -17,14 +17,11 @@ use crate::names::{letter_of, object_of};
 use adjoint_rules::adjoint_word;
 use coef_int::Overflow;
 use lists::Listing;
-use nc_polynomial::{Poly, PolyFault, RunningSum, negate_terms};
+use nc_polynomial::{Poly, PolyFault, RunningSum, WORD_LIMIT, negate_terms};
 use quiver::Quiver;
 use statement_syntax::{Factor, Mark, Number, Primary, Sum, Term};
 use std::alloc::{AllocError, Global};
 use word_core::{Letter, Word};
-
-// The letters that a run of letters may have before it is multiplied in.
-const WORD_LIMIT: usize = 500;
 
 // The greatest number of summands that are merged one after another.
 const MERGED_LIMIT: usize = 8;
