@@ -19,22 +19,25 @@ explains-and_then r next (fault.Overflow o) why = ap (λ s. and_then s next) why
 explains-and_then r next (fault.Size s) why = ap (λ s. and_then s next) why
 explains-and_then r next (fault.Memory m) why = tt
 
-module _ (rules : List Rule) (a : Ambiguity) (g : Rule) (g_is : rule_at rules a.i ≡ Some g) (one : Row) (one_is : one ≡ first_row rules a) where
+-- the rules as the call reads them, and the multiple of the first one
+module _ (all rules : List Rule) (same : all ≡ rules) (a : Ambiguity) {g : Rule} (g_is : rule_at all a.i ≡ Some g) {one : Row} (one_is : one ≡ first_row all a) where
   abbrev left : Result (List Term) PolyFault
   left = moved_result one.left g.poly.terms one.right
 
   abbrev rest : List Term → Result (List Term) PolyFault
-  rest m = and_then (row_multiple rules (second_row rules a)) (λ n. combined one.coef m (second_row rules a).coef n)
+  rest m = and_then (row_multiple all (second_row all a)) (λ n. combined one.coef m (second_row all a).coef n)
 
   whole : s_polynomial_of rules a ≡ and_then left rest
-  whole = λ i.
-      and_then (moved_result (sym one_is i).left (rule_at-polynomial rules a.i g g_is i) (sym one_is i).right) (λ m.
-      and_then (row_multiple rules (second_row rules a)) (λ n. combined (sym one_is i).coef m (second_row rules a).coef n))
+  whole =
+      ap (λ rs. s_polynomial_of rs a) (sym same)
+      ∙ (λ i.
+      and_then (moved_result (sym one_is i).left (rule_at-polynomial all a.i g g_is i) (sym one_is i).right) (λ m.
+      and_then (row_multiple all (second_row all a)) (λ n. combined (sym one_is i).coef m (second_row all a).coef n)))
 
   pub exit_left : (e : PolyFault) → Explains left e → Explains (s_polynomial_of rules a) e
   exit_left e why = subst (λ r. Explains r e) (sym whole) (explains-and_then left rest e why)
 
-  module _ (m : List Term) (left_is : left ≡ Ok m) (h : Rule) (h_is : rule_at rules a.j ≡ Some h) (two : Row) (two_is : two ≡ second_row rules a) where
+  module _ (m : List Term) (left_is : left ≡ Ok m) {h : Rule} (h_is : rule_at all a.j ≡ Some h) {two : Row} (two_is : two ≡ second_row all a) where
     abbrev right : Result (List Term) PolyFault
     right = moved_result two.left h.poly.terms two.right
 
@@ -44,14 +47,17 @@ module _ (rules : List Rule) (a : Ambiguity) (g : Rule) (g_is : rule_at rules a.
     after_left : s_polynomial_of rules a ≡ and_then right last
     after_left =
         whole ∙ ap (λ r. and_then r rest) left_is
-        ∙ (λ i. and_then (moved_result (sym two_is i).left (rule_at-polynomial rules a.j h h_is i) (sym two_is i).right) (λ n. combined one.coef m (sym two_is i).coef n))
+        ∙ (λ i. and_then (moved_result (sym two_is i).left (rule_at-polynomial all a.j h h_is i) (sym two_is i).right) (λ n. combined one.coef m (sym two_is i).coef n))
 
     pub exit_right : (e : PolyFault) → Explains right e → Explains (s_polynomial_of rules a) e
     exit_right e why = subst (λ r. Explains r e) (sym after_left) (explains-and_then right last e why)
 
     module _ (n : List Term) (right_is : right ≡ Ok n) where
-      pub after_both : s_polynomial_of rules a ≡ last n
+      after_both : s_polynomial_of rules a ≡ last n
       after_both = after_left ∙ ap (λ r. and_then r last) right_is
 
       pub exit_last : (e : PolyFault) → Explains (last n) e → Explains (s_polynomial_of rules a) e
       exit_last e why = subst (λ r. Explains r e) (sym after_both) why
+
+      pub sum_made : (p : List Term) → last n ≡ Ok p → s_polynomial_of rules a ≡ Ok p
+      sum_made p is = after_both ∙ is

@@ -58,7 +58,8 @@ module _ (rules : List Rule) (a : Ambiguity) (is : IsAmbiguity rules a) where
       ∙ ap (λ q. take a.place (overlap_word_of rules a) ++ (is.second.lead ++ drop (a.place + length q) (overlap_word_of rules a))) (sym (lead_at-is rules a.j is.second is.second_numbered))
 
   -- the second leading word ends inside the overlap word
-  pub second_fits : (h : Rule) → rule_at rules a.j ≡ Some h → a.place + length h.lead ≤ length (overlap_word_of rules a)
-  second_fits h numbered =
+  pub second_fits : (h : Rule) → rule_at rules a.j ≡ Some h → (word : List ℕ) → word ≡ overlap_word_of rules a → a.place + length h.lead ≤ length word
+  second_fits h numbered word word_is =
       let same : is.second ≡ h = same_Some is.second h (sym is.second_numbered ∙ numbered) in
-      subst (λ (f : Rule). a.place + length f.lead ≤ length (overlap_word_of rules a)) same (OccursAt-length (overlap_word_of rules a) is.second.lead a.place both.second)
+      let fits = OccursAt-length (overlap_word_of rules a) is.second.lead a.place both.second in
+      rw word_is (subst (λ (f : Rule). a.place + length f.lead ≤ length (overlap_word_of rules a)) same fits)

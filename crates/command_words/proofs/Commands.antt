@@ -1,14 +1,13 @@
 -- an accepted list is taken, and clap's matches of it give what it names
-use Rattle.std.proofs.Common.{◌≡◌, ◌∙◌, ap, sym, subst, refl, Bool, true, false, List, [], ◌∷◌, ◌^◌, ◌<◌, arith, Option, Some, None, codes, map, decimal, fold, flat_map, not}
-use Rattle.std.specs.Prelude.{option_and_then, slice_get}
+use Rattle.std.proofs.Common.{◌≡◌, ◌∙◌, ap, sym, subst, refl, false, List, [], ◌∷◌, ◌^◌, ◌<◌, arith, Some, None, codes, decimal, fold}
 use Rattle.clap.specs.Walk.{Row, Text, with_default, walked}
 use Rattle.clap.specs.Simple.{App, subcommand_of}
 use Rattle.clap.specs.Faults.{check_fault, turn_fault, walk_fault}
 use Rattle.clap.proofs.OnLiterals.{clap_on_literals}
 use Rattle.clap.specs.declared.builder.value_parser.ValueParser.TheVariants as parser
 use Rattle.command_words.specs.CommandSet.{command_set, IsTaken, prove_command, refute_command, bench_command, pair_command}
-use Rattle.command_words.specs.Accepted.{given_words, IsFileWord, option_of, is_flag}
-use Rattle.command_words.specs.Calls.{GivesProve, GivesRefute, GivesBench, GivesPair, MatchesGive, Names, NamesProve, NamesRefute, NamesBench, NamesPair, prove_spans, refute_spans, bench_spans}
+use Rattle.command_words.specs.Accepted.{IsFileWord}
+use Rattle.command_words.specs.Calls.{GivesPair, MatchesGive, Names, NamesProve, NamesRefute, NamesBench, NamesPair, prove_spans, refute_spans, bench_spans}
 use Rattle.command_words.specs.declared.call.Call.{Call}
 use Rattle.command_words.specs.declared.call.Call.TheVariants.{Prove, Check, Refute, Model, Bench}
 use Rattle.command_words.specs.declared.call.ProveCall.{ProveCall}
@@ -16,190 +15,114 @@ use Rattle.command_words.specs.declared.call.RefuteCall.{RefuteCall}
 use Rattle.command_words.specs.declared.call.BenchCall.{BenchCall}
 use Rattle.command_words.specs.declared.call.PairCall.{PairCall}
 use Rattle.command_words.proofs.Steps.{given_row, plain_word, between}
-use Rattle.command_words.proofs.Options.{Goes, row_given, or_nothing}
+use Rattle.command_words.proofs.Options.{Goes, or_nothing}
 use Rattle.command_words.proofs.Ends.{IsPlaceOf, Level, AreClean, level, row_at, row_kept, first_placed, first_placed_well, next_placed, next_placed_well, place_settles, place_settles_well}
 use Rattle.command_words.proofs.Top.{leaf, IsNamed, names_command, takes_command}
 use Rattle.command_words.proofs.Numbers.{decimal_word, decimal_value, decimal_passes}
-use Rattle.command_words.proofs.Gives.{KnowsSpans, KnowsFlags, goes_after_first, reads_number, reads_flag, number_in}
-
--- the value of a row
-value_in : Option Row → Option Text
-value_in = option_and_then (λ (r : Row). slice_get r.values 0)
+use Rattle.command_words.proofs.Gives.{IsOptionCommand, option_known, span_known, text_in, number_in, first_kept, option_level, reads_number, reads_flag}
 
 -- a command that takes its words, by name
-accepted_as : (name : Text) (a : App) (words rest : List Text) (rows : List Row) (call : Call) → IsNamed name a → words ≡ name ∷ rest → Level (leaf a) rest rows
+accepted_as : (name : Text) (a : App) {words rest : List Text} {rows : List Row} (call : Call) → IsNamed name a → words ≡ name ∷ rest → Level (leaf a) rest rows
     → MatchesGive (Some (name, rows)) call → IsTaken words × MatchesGive (subcommand_of command_set words) call
-accepted_as name a words rest rows call named is l gives =
-    let matches : subcommand_of command_set (name ∷ rest) ≡ Some (name, rows) = names_command name a named rest ∙ ap (λ r. Some (name, r)) l.is in
+accepted_as name a {rest = rest} call named is l gives =
+    let matches = names_command name a named rest ∙ ap (λ r. Some (name, r)) l.is in
     (subst IsTaken (sym is) (takes_command name a named rest l.well), subst (λ m. MatchesGive m call) (sym (ap (subcommand_of command_set) is ∙ matches)) gives)
 
-flipped : (a b : Bool) → a ≡ not b → b ≡ not a
-flipped a true e = rw e refl
-flipped a false e = rw e refl
-
--- ---- prove
-
-prove_named : IsNamed (codes "prove") prove_command
+named : IsNamed (codes "prove") prove_command × IsNamed (codes "check") (pair_command (codes "check")) × IsNamed (codes "refute") refute_command
+    × IsNamed (codes "model") (pair_command (codes "model")) × IsNamed (codes "bench") bench_command
 unfolding command_set clap_on_literals
-prove_named = record { entry = refl; well = refl; found = refl; name_is = refl }
+named = (
+  record { entry = refl; well = refl; found = refl; name_is = refl },
+  record { entry = refl; well = refl; found = refl; name_is = refl },
+  record { entry = refl; well = refl; found = refl; name_is = refl },
+  record { entry = refl; well = refl; found = refl; name_is = refl },
+  record { entry = refl; well = refl; found = refl; name_is = refl },
+)
 
-prove_place : IsPlaceOf (leaf prove_command).rules (codes "file") 1 (parser.String)
-prove_place = record { by_index = refl; by_id = refl; reading = refl }
+-- ---- the commands of a first word and options
 
-prove_spans_known : (v : Text) → KnowsSpans (leaf prove_command) (given_row (codes "file") v ∷ []) prove_spans
-prove_spans_known v = (
-  (codes "5000", record { dashes = refl; long = refl; by_long = refl; by_id = refl; same = refl }),
-  omega arith,
-  refl,
-  (
-    (codes "20000", record { dashes = refl; long = refl; by_long = refl; by_id = refl; same = refl }),
-    omega arith,
-    refl,
+prove_options : IsOptionCommand (leaf prove_command) (codes "file") parser.String prove_spans (codes "no-models" ∷ [])
+unfolding clap_on_literals
+prove_options = record {
+  never = refl;
+  place = record { by_index = refl; by_id = refl; reading = refl };
+  each_span = (
+    span_known (codes "5000") refl (omega arith) refl,
     (
-      (codes "4", record { dashes = refl; long = refl; by_long = refl; by_id = refl; same = refl }),
-      omega arith,
-      refl,
+      span_known (codes "20000") refl (omega arith) refl,
       (
-        (codes "1", record { dashes = refl; long = refl; by_long = refl; by_id = refl; same = refl }),
-        omega arith,
-        refl,
-        (
-          (codes "2", record { dashes = refl; long = refl; by_long = refl; by_id = refl; same = refl }),
-          omega arith,
-          refl,
-          tt,
-        ),
+        span_known (codes "4") refl (omega arith) refl,
+        (span_known (codes "1") refl (omega arith) refl, (span_known (codes "2") refl (omega arith) refl, tt)),
       ),
     ),
-  ),
-)
+  );
+  each_flag = (record { option = option_known refl; other = refl }, tt);
+  clean = (refl, (refl, (refl, (refl, (refl, (refl, (refl, tt)))))));
+  check = λ rows v e. rw e refl;
+}
 
-prove_flags_known : (v : Text) → KnowsFlags (leaf prove_command) (given_row (codes "file") v ∷ []) (codes "no-models" ∷ [])
-prove_flags_known v = (record { dashes = refl; long = refl; by_long = refl; by_id = refl; same = refl }, refl, tt)
-
-prove_clean : AreClean (leaf prove_command).rules
-unfolding clap_on_literals
-prove_clean = (refl, (refl, (refl, (refl, (refl, (refl, (refl, tt)))))))
-
-prove_check : (rows : List Row) (v : Text) → row_at (codes "file") rows ≡ Some (given_row (codes "file") v) → check_fault (leaf prove_command) rows false ≡ []
-prove_check rows v e = rw e refl
-
-pub prove_accepted : (words : List Text) (x : ProveCall) → NamesProve words x → IsTaken words × MatchesGive (subcommand_of command_set words) (Prove x)
-unfolding value_in
+prove_accepted : (words : List Text) (x : ProveCall) → NamesProve words x → IsTaken words × MatchesGive (subcommand_of command_set words) (Prove x)
 prove_accepted words x n =
-    let s = leaf prove_command in
-    let v : Text = x.file in
-    let given = n.given in
-    let all : List Row = given_row (codes "file") v ∷ map row_given given in
-    let g = goes_after_first s refl (codes "file") (parser.String) prove_place v n.file refl prove_spans (codes "no-models" ∷ []) given
-    (prove_spans_known v) (prove_flags_known v) n.options in
-    let kept : row_at (codes "file") (fold with_default all s.rules) ≡ Some (given_row (codes "file") v) = row_kept s.rules (codes "file") (given_row (codes "file") v) all refl in
-    let l = level s (v ∷ flat_map given_words given) all 2 g prove_clean (prove_check (fold with_default all s.rules) v kept) in
-    let gives : GivesProve (fold with_default all s.rules) x = record {
-      file = ap value_in kept;
-      pairs = reads_number s.rules (codes "file") v prove_spans (codes "no-models" ∷ []) given n.options (codes "pairs") refl 5000 refl (omega arith, (omega arith, (omega arith, (omega arith, (omega arith, tt))))) (refl, tt) ∙ ap Some (sym n.pairs);
-      steps = reads_number s.rules (codes "file") v prove_spans (codes "no-models" ∷ []) given n.options (codes "steps") refl 20000 refl (omega arith, (omega arith, (omega arith, (omega arith, (omega arith, tt))))) (refl, tt) ∙ ap Some (sym n.steps);
-      workers = reads_number s.rules (codes "file") v prove_spans (codes "no-models" ∷ []) given n.options (codes "workers") refl 4 refl (omega arith, (omega arith, (omega arith, (omega arith, (omega arith, tt))))) (refl, tt) ∙ ap Some (sym n.workers);
-      seed = reads_number s.rules (codes "file") v prove_spans (codes "no-models" ∷ []) given n.options (codes "seed") refl 1 refl (omega arith, (omega arith, (omega arith, (omega arith, (omega arith, tt))))) (refl, tt) ∙ ap Some (sym n.seed);
-      format = reads_number s.rules (codes "file") v prove_spans (codes "no-models" ∷ []) given n.options (codes "format") refl 2 refl (omega arith, (omega arith, (omega arith, (omega arith, (omega arith, tt))))) (refl, tt) ∙ ap Some (sym n.format);
-      models = reads_flag s.rules (codes "file") v prove_spans (codes "no-models" ∷ []) given n.options (codes "no-models") refl refl (refl, (refl, (refl, (refl, (refl, tt))))) ∙ ap Some (flipped x.models (is_flag (option_of (codes "no-models") given)) n.models);
-    } in
-    accepted_as (codes "prove") prove_command words (v ∷ flat_map given_words given) (fold with_default all s.rules) (Prove x) prove_named n.words_are l (refl, gives)
+    let read = reads_number prove_options x.file n.given n.options in
+    accepted_as (codes "prove") prove_command (Prove x) named.0 n.words_are (option_level prove_options x.file n.given n.options n.file refl) (
+      refl,
+      record {
+        file = ap text_in (first_kept prove_options x.file n.given n.options);
+        pairs = read (codes "pairs") refl 5000 refl (refl, tt) x.pairs n.pairs;
+        steps = read (codes "steps") refl 20000 refl (refl, tt) x.steps n.steps;
+        workers = read (codes "workers") refl 4 refl (refl, tt) x.workers n.workers;
+        seed = read (codes "seed") refl 1 refl (refl, tt) x.seed n.seed;
+        format = read (codes "format") refl 2 refl (refl, tt) x.format n.format;
+        models = reads_flag prove_options x.file n.given n.options (codes "no-models") refl refl (refl, (refl, (refl, (refl, (refl, tt))))) x.models n.models;
+      },
+    )
 
--- ---- refute
-
-refute_named : IsNamed (codes "refute") refute_command
-unfolding command_set clap_on_literals
-refute_named = record { entry = refl; well = refl; found = refl; name_is = refl }
-
-refute_place : IsPlaceOf (leaf refute_command).rules (codes "file") 1 (parser.String)
-refute_place = record { by_index = refl; by_id = refl; reading = refl }
-
-refute_spans_known : (v : Text) → KnowsSpans (leaf refute_command) (given_row (codes "file") v ∷ []) refute_spans
-refute_spans_known v = (
-  (codes "4", record { dashes = refl; long = refl; by_long = refl; by_id = refl; same = refl }),
-  omega arith,
-  refl,
-  (
-    (codes "1", record { dashes = refl; long = refl; by_long = refl; by_id = refl; same = refl }),
-    omega arith,
-    refl,
-    tt,
-  ),
-)
-
-refute_flags_known : (v : Text) → KnowsFlags (leaf refute_command) (given_row (codes "file") v ∷ []) []
-refute_flags_known v = tt
-
-refute_clean : AreClean (leaf refute_command).rules
+refute_options : IsOptionCommand (leaf refute_command) (codes "file") parser.String refute_spans []
 unfolding clap_on_literals
-refute_clean = (refl, (refl, (refl, tt)))
+refute_options = record {
+  never = refl;
+  place = record { by_index = refl; by_id = refl; reading = refl };
+  each_span = (span_known (codes "4") refl (omega arith) refl, (span_known (codes "1") refl (omega arith) refl, tt));
+  each_flag = tt;
+  clean = (refl, (refl, (refl, tt)));
+  check = λ rows v e. rw e refl;
+}
 
-refute_check : (rows : List Row) (v : Text) → row_at (codes "file") rows ≡ Some (given_row (codes "file") v) → check_fault (leaf refute_command) rows false ≡ []
-refute_check rows v e = rw e refl
-
-pub refute_accepted : (words : List Text) (x : RefuteCall) → NamesRefute words x → IsTaken words × MatchesGive (subcommand_of command_set words) (Refute x)
-unfolding value_in
+refute_accepted : (words : List Text) (x : RefuteCall) → NamesRefute words x → IsTaken words × MatchesGive (subcommand_of command_set words) (Refute x)
 refute_accepted words x n =
-    let s = leaf refute_command in
-    let v : Text = x.file in
-    let given = n.given in
-    let all : List Row = given_row (codes "file") v ∷ map row_given given in
-    let g = goes_after_first s refl (codes "file") (parser.String) refute_place v n.file refl refute_spans [] given
-    (refute_spans_known v) (refute_flags_known v) n.options in
-    let kept : row_at (codes "file") (fold with_default all s.rules) ≡ Some (given_row (codes "file") v) = row_kept s.rules (codes "file") (given_row (codes "file") v) all refl in
-    let l = level s (v ∷ flat_map given_words given) all 2 g refute_clean (refute_check (fold with_default all s.rules) v kept) in
-    let gives : GivesRefute (fold with_default all s.rules) x = record {
-      file = ap value_in kept;
-      workers = reads_number s.rules (codes "file") v refute_spans [] given n.options (codes "workers") refl 4 refl (omega arith, (omega arith, tt)) tt ∙ ap Some (sym n.workers);
-      seed = reads_number s.rules (codes "file") v refute_spans [] given n.options (codes "seed") refl 1 refl (omega arith, (omega arith, tt)) tt ∙ ap Some (sym n.seed);
-    } in
-    accepted_as (codes "refute") refute_command words (v ∷ flat_map given_words given) (fold with_default all s.rules) (Refute x) refute_named n.words_are l (refl, gives)
+    let read = reads_number refute_options x.file n.given n.options in
+    accepted_as (codes "refute") refute_command (Refute x) named.2 n.words_are (option_level refute_options x.file n.given n.options n.file refl) (
+      refl,
+      record {
+        file = ap text_in (first_kept refute_options x.file n.given n.options);
+        workers = read (codes "workers") refl 4 refl tt x.workers n.workers;
+        seed = read (codes "seed") refl 1 refl tt x.seed n.seed;
+      },
+    )
 
--- ---- bench
-
-bench_named : IsNamed (codes "bench") bench_command
-unfolding command_set clap_on_literals
-bench_named = record { entry = refl; well = refl; found = refl; name_is = refl }
-
-bench_place : IsPlaceOf (leaf bench_command).rules (codes "size") 1 (parser.Unsigned 1 60)
-bench_place = record { by_index = refl; by_id = refl; reading = refl }
-
-bench_spans_known : (v : Text) → KnowsSpans (leaf bench_command) (given_row (codes "size") v ∷ []) bench_spans
-bench_spans_known v = (
-  (codes "4", record { dashes = refl; long = refl; by_long = refl; by_id = refl; same = refl }),
-  omega arith,
-  refl,
-  tt,
-)
-
-bench_flags_known : (v : Text) → KnowsFlags (leaf bench_command) (given_row (codes "size") v ∷ []) []
-bench_flags_known v = tt
-
-bench_clean : AreClean (leaf bench_command).rules
+bench_options : IsOptionCommand (leaf bench_command) (codes "size") (parser.Unsigned 1 60) bench_spans []
 unfolding clap_on_literals
-bench_clean = (refl, (refl, tt))
+bench_options = record {
+  never = refl;
+  place = record { by_index = refl; by_id = refl; reading = refl };
+  each_span = (span_known (codes "4") refl (omega arith) refl, tt);
+  each_flag = tt;
+  clean = (refl, (refl, tt));
+  check = λ rows v e. rw e refl;
+}
 
-bench_check : (rows : List Row) (v : Text) → row_at (codes "size") rows ≡ Some (given_row (codes "size") v) → check_fault (leaf bench_command) rows false ≡ []
-bench_check rows v e = rw e refl
-
-pub bench_accepted : (words : List Text) (x : BenchCall) → NamesBench words x → IsTaken words × MatchesGive (subcommand_of command_set words) (Bench x)
-unfolding value_in
+bench_accepted : (words : List Text) (x : BenchCall) → NamesBench words x → IsTaken words × MatchesGive (subcommand_of command_set words) (Bench x)
 bench_accepted words x n =
-    let s = leaf bench_command in
     let v : Text = decimal x.size in
-    let given = n.given in
-    let all : List Row = given_row (codes "size") v ∷ map row_given given in
     let fits : x.size < 2 ^ 64 = omega (arith, n.most) in
-    let g = goes_after_first s refl (codes "size") (parser.Unsigned 1 60) bench_place v (decimal_word x.size fits) (decimal_passes 1 60 x.size fits n.least n.most) bench_spans [] given
-    (bench_spans_known v) (bench_flags_known v) n.options in
-    let kept : row_at (codes "size") (fold with_default all s.rules) ≡ Some (given_row (codes "size") v) = row_kept s.rules (codes "size") (given_row (codes "size") v) all refl in
-    let l = level s (v ∷ flat_map given_words given) all 2 g bench_clean (bench_check (fold with_default all s.rules) v kept) in
-    let gives : GivesBench (fold with_default all s.rules) x = record {
-      size = ap number_in kept ∙ ap Some (decimal_value x.size fits);
-      workers = reads_number s.rules (codes "size") v bench_spans [] given n.options (codes "workers") refl 4 refl (omega arith, tt) tt ∙ ap Some (sym n.workers);
-    } in
-    accepted_as (codes "bench") bench_command words (v ∷ flat_map given_words given) (fold with_default all s.rules) (Bench x) bench_named n.words_are l (refl, gives)
+    let l = option_level bench_options v n.given n.options (decimal_word x.size fits) (decimal_passes 1 60 x.size fits n.least n.most) in
+    accepted_as (codes "bench") bench_command (Bench x) named.4 n.words_are l (
+      refl,
+      record {
+        size = ap number_in (first_kept bench_options v n.given n.options) ∙ ap Some (decimal_value x.size fits);
+        workers = reads_number bench_options v n.given n.options (codes "workers") refl 4 refl tt x.workers n.workers;
+      },
+    )
 
 -- ---- the commands of a statement and a second file
 
@@ -243,7 +166,6 @@ pair_goes name v w file_v file_w =
 
 pair_level : (name : Text) (x : PairCall) → IsFileWord x.statement → IsFileWord x.evidence
     → (rows : List Row) × Level (leaf (pair_command name)) (x.statement ∷ x.evidence ∷ []) rows × GivesPair rows x
-unfolding value_in
 pair_level name x one two =
     let s = leaf (pair_command name) in
     let v : Text = x.statement in
@@ -253,28 +175,20 @@ pair_level name x one two =
     let second : row_at (codes "evidence") (fold with_default all s.rules) ≡ Some (given_row (codes "evidence") w) = row_kept s.rules (codes "evidence") (given_row (codes "evidence") w) all refl in (
       fold with_default all s.rules,
       level s (v ∷ w ∷ []) all 3 (pair_goes name v w one two) (pair_clean name) (pair_check name (fold with_default all s.rules) v w first second),
-      record { statement = ap value_in first; evidence = ap value_in second },
+      record { statement = ap text_in first; evidence = ap text_in second },
     )
-
-check_named : IsNamed (codes "check") (pair_command (codes "check"))
-unfolding command_set clap_on_literals
-check_named = record { entry = refl; well = refl; found = refl; name_is = refl }
-
-model_named : IsNamed (codes "model") (pair_command (codes "model"))
-unfolding command_set clap_on_literals
-model_named = record { entry = refl; well = refl; found = refl; name_is = refl }
 
 pair_accepted : (name : Text) (words : List Text) (x : PairCall) (call : Call) → IsNamed name (pair_command name) → NamesPair name words x
     → ((rows : List Row) → GivesPair rows x → MatchesGive (Some (name, rows)) call) → IsTaken words × MatchesGive (subcommand_of command_set words) call
-pair_accepted name words x call named n gives =
+pair_accepted name words x call is_named n gives =
     let l = pair_level name x n.statement n.evidence in
-    accepted_as name (pair_command name) words (x.statement ∷ x.evidence ∷ []) l.0 call named n.words_are l.1 (gives l.0 l.2)
+    accepted_as name (pair_command name) call is_named n.words_are l.1 (gives l.0 l.2)
 
 -- ---- each accepted list
 
 pub accepted : (words : List Text) (call : Call) → Names words call → IsTaken words × MatchesGive (subcommand_of command_set words) call
 accepted words (Prove x) n = prove_accepted words x n
-accepted words (Check x) n = pair_accepted (codes "check") words x (Check x) check_named n (λ rows g. (refl, g))
+accepted words (Check x) n = pair_accepted (codes "check") words x (Check x) named.1 n (λ rows g. (refl, g))
 accepted words (Refute x) n = refute_accepted words x n
-accepted words (Model x) n = pair_accepted (codes "model") words x (Model x) model_named n (λ rows g. (refl, g))
+accepted words (Model x) n = pair_accepted (codes "model") words x (Model x) named.3 n (λ rows g. (refl, g))
 accepted words (Bench x) n = bench_accepted words x n

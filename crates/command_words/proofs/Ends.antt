@@ -2,6 +2,7 @@
 use Rattle.std.proofs.Common.{◌≡◌, ◌∙◌, ap, sym, refl, ℕ, Bool, true, false, List, [], ◌∷◌, ◌++◌, Option, Some, None, cond, map, ◌||◌, fold}
 use Rattle.std.specs.Prelude.{⊤, find, option_map}
 use Rattle.std.specs.Str.{bytes_eq}
+use Rattle.std.proofs.lemmas.List.{append-nil}
 use Rattle.std.proofs.lemmas.Slice.Eq.{bytes_eq-Decides}
 use Rattle.clap.specs.Values.{reading_of}
 use Rattle.clap.specs.Walk.{Row, Rule, Text, Walk, Held, walked, settled_rows, settled, has_row, arg_by_id, arg_by_index, with_default, default_rows, rows_after, nothing_held, reading_by, more_values, is_empty}
@@ -14,7 +15,7 @@ use Rattle.clap.specs.declared.builder.value_parser.Reading.TheVariants.{AsWritt
 use Rattle.clap.specs.declared.parser.matches.ValueSource.TheVariants.{DefaultValue}
 use Rattle.command_words.specs.CommandSet.{required_word}
 use Rattle.command_words.specs.Accepted.{Given, given_id, option_of}
-use Rattle.command_words.proofs.Steps.{held, between, IsPlainWord, given_row, append_nothing, no_such_row, row_added}
+use Rattle.command_words.proofs.Steps.{held, between, IsPlainWord, given_row, no_such_row, row_added}
 use Rattle.command_words.proofs.Options.{Goes, row_given, or_nothing, has_row_end}
 
 -- ---- a word that has to be given, by its place
@@ -92,7 +93,7 @@ default_added : (rows : List Row) (a : Rule) → has_row a.id rows ≡ false →
 default_added rows a none = rw none (go a.defaults)
   where
     go : (ds : List Text) → default_rows a.id (reading_by a) ds rows ≡ rows ++ default_row a ds
-    go [] = sym (append_nothing rows)
+    go [] = sym (append-nil rows)
     go (v ∷ vs) = no_such_row a.id (more_values DefaultValue (v ∷ vs)) (default_row a (v ∷ vs)) rows none
 
 default_given : (rows : List Row) (a : Rule) → has_row a.id rows ≡ true → with_default rows a ≡ rows
@@ -110,7 +111,7 @@ row_kept (a ∷ c) id r rows e = row_kept c id r (with_default rows a) (by_case 
 
 -- an argument that wasn't given has its default
 pub row_defaulted : (c : List Rule) (id : Text) (rows : List Row) → has_row id rows ≡ false → row_at id (fold with_default rows c) ≡ row_at id (default_list c)
-row_defaulted [] id rows none = ap (row_at id) (sym (append_nothing rows)) ∙ row_at_past id rows [] none
+row_defaulted [] id rows none = ap (row_at id) (sym (append-nil rows)) ∙ row_at_past id rows [] none
 row_defaulted (a ∷ c) id rows none = by_case (bytes_eq a.id id) (row_at id (fold with_default (with_default rows a) c) ≡ row_at id (default_row a a.defaults ++ default_list c))
     (λ same.
     let here : has_row a.id rows ≡ false = ap (λ t. has_row t rows) ((bytes_eq-Decides a.id id).0 same) ∙ none in
@@ -122,7 +123,7 @@ row_defaulted (a ∷ c) id rows none = by_case (bytes_eq a.id id) (row_at id (fo
   where
     hit : (ds : List Text) → bytes_eq a.id id ≡ true → row_at id (fold with_default rows c) ≡ row_at id (default_list c)
         → row_at id (fold with_default (rows ++ default_row a ds) c) ≡ row_at id (default_row a ds ++ default_list c)
-    hit [] same below = ap (λ l. row_at id (fold with_default l c)) (append_nothing rows) ∙ below
+    hit [] same below = ap (λ l. row_at id (fold with_default l c)) (append-nil rows) ∙ below
     hit (v ∷ vs) same below =
         let d : Row = record { id = a.id; values = v ∷ vs; count = None; source = Some DefaultValue; reading = reading_by a } in
         let found : row_at id (d ∷ []) ≡ Some d = rw same refl in
@@ -134,7 +135,7 @@ row_defaulted (a ∷ c) id rows none = by_case (bytes_eq a.id id) (row_at id (fo
     miss (v ∷ vs) other = rw other refl
 
     still : (ds : List Text) → bytes_eq a.id id ≡ false → has_row id (rows ++ default_row a ds) ≡ false
-    still [] other = ap (has_row id) (append_nothing rows) ∙ none
+    still [] other = ap (has_row id) (append-nil rows) ∙ none
     still (v ∷ vs) other = has_row_end id rows (record { id = a.id; values = v ∷ vs; count = None; source = Some DefaultValue; reading = reading_by a }) none other
 
 -- each default passes its parser

@@ -2,6 +2,7 @@
 use Rattle.std.proofs.Common.{◌≡◌, ◌≢◌, ◌∙◌, ap, sym, refl, ℕ, Bool, true, false, List, [], ◌∷◌, ◌++◌, Option, Some, None, codes, map, decimal, ◌||◌, fold, flat_map}
 use Rattle.std.specs.Prelude.{⊤}
 use Rattle.std.specs.Str.{bytes_eq}
+use Rattle.std.proofs.lemmas.List.{append-nil, append_assoc}
 use Rattle.std.proofs.lemmas.Slice.Eq.{bytes_eq-Decides}
 use Rattle.clap.specs.Walk.{Row, Text, Walk, walked, settled_rows, has_row}
 use Rattle.clap.specs.Simple.{Shape, filled}
@@ -10,7 +11,7 @@ use Rattle.clap.specs.Kinds.{Kinds, value_kinds, or_else}
 use Rattle.clap.specs.declared.builder.value_parser.ValueParser.TheVariants as parser
 use Rattle.command_words.specs.CommandSet.{number_option, flag_option}
 use Rattle.command_words.specs.Accepted.{Given, number, flag, given_id, given_words, IsNotGiven}
-use Rattle.command_words.proofs.Steps.{held, between, opened, IsPlainWord, IsOptionOf, opens, takes_value, opens_well, takes_well, given_row, append_nothing, row_added, settles, settles_well, flags, flags_well}
+use Rattle.command_words.proofs.Steps.{held, between, opened, IsPlainWord, IsOptionOf, opens, takes_value, opens_well, takes_well, given_row, row_added, settles, settles_well, flags, flags_well}
 
 abbrev pub given_text : Given → Text
 given_text (number id n) = decimal n
@@ -64,15 +65,11 @@ still_known s rows g r [] is other h = tt
 still_known s rows g r (x ∷ given) is other h =
     (h.0, has_row_end (given_id x) rows r h.1 (ap (λ t. bytes_eq t (given_id x)) is ∙ differ (given_id g) (given_id x) other.0), h.2, still_known s rows g r given is other.1 h.3)
 
-append_assoc : {X : Type 0} (xs : List X) (y : X) (ys : List X) → (xs ++ y ∷ []) ++ ys ≡ xs ++ y ∷ ys
-append_assoc [] y ys = refl
-append_assoc (x ∷ xs) y ys = ap (λ l. x ∷ l) (append_assoc xs y ys)
-
 pub goes : (s : Shape) → s.args_override_self ≡ false → (given : List Given) (all rows : List Row) (p : Option (Text × List Text)) (k : ℕ) → AreKnown s all given
     → settled_rows s.rules p rows ≡ all → settle_fault s.rules s.args_override_self (held rows p) ≡ []
     → Goes s (between rows p k) (flat_map given_words given) (all ++ map row_given given) k
 unfolding walk_fault
-goes s never [] all rows p k known is well = record { rows = rows; pending = p; walk = refl; well = refl; settled = is ∙ sym (append_nothing all); last = well }
+goes s never [] all rows p k known is well = record { rows = rows; pending = p; walk = refl; well = refl; settled = is ∙ sym (append-nil all); last = well }
 goes s never (number id n ∷ given) all rows p k known is well =
     let c = s.rules in
     let v = decimal n in
@@ -98,7 +95,7 @@ goes s never (number id n ∷ given) all rows p k known is well =
       well = or_nothing _ _ (opens_well s id low high default o rows p k well)
           (or_nothing _ _ (ap (λ w. turn_fault s [] w v) first ∙ takes_well s id low high default o now k v plain)
           (ap (λ w. walk_fault s [] w (flat_map given_words given)) second ∙ below.well));
-      settled = below.settled ∙ append_assoc all (given_row id v) (map row_given given);
+      settled = below.settled ∙ append_assoc all (given_row id v ∷ []) (map row_given given);
       last = below.last;
     }
 goes s never (flag id ∷ given) all rows p k known is well =
@@ -116,6 +113,6 @@ goes s never (flag id ∷ given) all rows p k known is well =
       pending = below.pending;
       walk = ap (λ w. fold (walked c []) w (flat_map given_words given)) first ∙ below.walk;
       well = or_nothing _ _ (flags_well s id o never rows p k well none) (ap (λ w. walk_fault s [] w (flat_map given_words given)) first ∙ below.well);
-      settled = below.settled ∙ append_assoc all (given_row id (codes "true")) (map row_given given);
+      settled = below.settled ∙ append_assoc all (given_row id (codes "true") ∷ []) (map row_given given);
       last = below.last;
     }

@@ -1,19 +1,21 @@
 -- what a walk without a fault leaves: each row has a value, which passes the parser of its argument
 use Rattle.std.proofs.Common.{◌≡◌, ◌∙◌, ◌⊎◌, ⊎_elim, ap, sym, subst, refl, ℕ, suc, Bool, true, false, List, [], ◌∷◌, ◌++◌, ◌==◌, arith, Option, Some, None, codes, cond, ◌||◌, ◌&&◌, fold, not, length, if◌then◌else◌}
 use Rattle.std.specs.Prelude.{⊤, find, slice_get, is_some}
+use Rattle.std.specs.List.{AllByRecursion}
 use Rattle.std.specs.Option.{option_map_or}
 use Rattle.std.specs.Str.{bytes_eq, chars}
 use Rattle.std.proofs.lemmas.Bool.{ne_eqb}
 use Rattle.clap.specs.Facts.{unwrap_or_range, parser_of_value}
 use Rattle.clap.specs.Lexer.{long_of, short_of}
-use Rattle.clap.specs.Walk.{Row, Rule, Text, Walk, Held, Step, Waiting, Outcome, idle, option, positional, next, trailing, subcommand, value, done, waits, plain, refused, walked, settled_rows, settled, used_by_id, has_row, arg_by_id, arg_by_index, arg_by_long, has_short, used, reacted, action_of, reading_by, word_met, after_step, to_positional, after_flag, plain_word, long_met, bundle_met, bundle, bundle_step, has_long, most_values, values_or_missing, subcommand_met, is_pending, takes_several, long_or_other, short_or_plain, positional_held, is_multiple, next_position, pushed, takes_values, more_values, with_values, without, option_word}
+use Rattle.clap.specs.Walk.{Row, Rule, Text, Walk, Held, Step, Waiting, Outcome, idle, option, positional, next, trailing, subcommand, value, done, waits, plain, refused, walked, settled_rows, settled, used_by_id, has_row, arg_by_id, arg_by_index, arg_by_long, has_short, used, reacted, action_of, reading_by, word_met, after_step, to_positional, after_flag, plain_word, long_met, bundle_met, bundle, bundle_step, has_long, most_values, values_or_missing, subcommand_met, is_pending, takes_several, long_or_other, short_or_plain, positional_held, is_multiple, next_position, pushed, takes_values, with_values, without, option_word}
 use Rattle.clap.specs.Simple.{Shape}
 use Rattle.clap.specs.Faults.{turn_fault, word_fault, step_fault, settle_fault, use_fault, react_fault, walk_fault, long_fault, flags_fault, bundle_fault, bundle_step_fault, values_fault, set_fault, repeat_fault, positional_fault, action_fault, flag_word_fault, stray_fault}
 use Rattle.clap.specs.Kinds.{Kinds, value_kinds, or_else, range_kinds}
 use Rattle.clap.specs.declared.builder.ArgAction.TheVariants.{Set, SetTrue}
 use Rattle.clap.specs.declared.builder.value_parser.Reading.TheVariants.{AsWritten}
 use Rattle.clap.specs.declared.parser.matches.ValueSource.TheVariants.{CommandLine}
-use Rattle.command_words.proofs.Steps.{no_such_row, append_nothing}
+use Rattle.command_words.proofs.Found.{found}
+use Rattle.command_words.proofs.Steps.{one_more}
 
 -- the row is one of the command's
 pub record IsGoodRow (c : List Rule) (r : Row) : Type 0 where
@@ -26,8 +28,7 @@ pub record IsGoodRow (c : List Rule) (r : Row) : Type 0 where
   pub reading : r.reading ≡ AsWritten
 
 abbrev pub AreGoodRows : List Rule → List Row → Type 0
-AreGoodRows c [] = ⊤
-AreGoodRows c (r ∷ rows) = IsGoodRow c r × AreGoodRows c rows
+AreGoodRows c = AllByRecursion (IsGoodRow c)
 
 -- the argument takes one value, or is a flag, and has no short name
 pub record IsPlainRule (c : List Rule) (a : Rule) : Type 0 where
@@ -38,33 +39,15 @@ pub record IsPlainRule (c : List Rule) (a : Rule) : Type 0 where
       ⊎ ((action_of a ≡ SetTrue) × (unwrap_or_range a.range ≡ record { start_inclusive = 0; end_inclusive = 0 }) × (a.missing ≡ codes "true" ∷ []))
 
 abbrev pub ArePlainRules : List Rule → List Rule → Type 0
-ArePlainRules c [] = ⊤
-ArePlainRules c (a ∷ rules) = IsPlainRule c a × ArePlainRules c rules
+ArePlainRules c = AllByRecursion (IsPlainRule c)
 
 pub both_none : (a b : Kinds) → or_else a b ≡ [] → (a ≡ []) × (b ≡ [])
 both_none [] b e = (refl, e)
 both_none (k ∷ ks) b e = absurd cc
 
--- what a search finds is plain
-found_plain : (c rules : List Rule) (p : Rule → Bool) (a : Rule) → ArePlainRules c rules → find p rules ≡ Some a → IsPlainRule c a
-found_plain c [] p a h e = absurd cc
-found_plain c (x ∷ rules) p a h e = go (p x) (found_plain c rules p a h.1) e
-  where
-    go : (b : Bool) → (find p rules ≡ Some a → IsPlainRule c a) → cond b (Some x) (find p rules) ≡ Some a → IsPlainRule c a
-    go true below same =
-        let is : x ≡ a = cc in
-        subst (IsPlainRule c) is h.0
-    go false below same = below same
-
 good_end : (c : List Rule) (rows : List Row) (r : Row) → AreGoodRows c rows → IsGoodRow c r → AreGoodRows c (rows ++ r ∷ [])
 good_end c [] r h g = (g, tt)
 good_end c (x ∷ rows) r h g = (h.0, good_end c rows r h.1 g)
-
-one_more : (id : Text) (how : Rattle.clap.specs.declared.builder.value_parser.Reading.Reading) (vs : List Text) (rows : List Row) → has_row id rows ≡ false
-    → with_values id how CommandLine vs (without id rows) ≡ rows ++ record { id = id; values = vs; count = None; source = Some CommandLine; reading = how } ∷ []
-one_more id how vs rows e =
-    ap (with_values id how CommandLine vs) (no_such_row id (λ _. []) [] rows e ∙ append_nothing rows)
-    ∙ no_such_row id (more_values CommandLine vs) (record { id = id; values = vs; count = None; source = Some CommandLine; reading = how } ∷ []) rows e
 
 not_repeated : (id : Text) (rows : List Row) → repeat_fault false id rows ≡ [] → has_row id rows ≡ false
 not_repeated id rows e = go (has_row id rows) refl
@@ -116,10 +99,10 @@ use_good c a values rows p good e = ⊎_elim (λ set. as_set set.0 set.1 values 
 
 -- ---- the parts of a step
 
-by_id_good : (c : List Rule) (plain_rules : ArePlainRules c c) (found : Option Rule) (id : Text) → arg_by_id c id ≡ found → (values : List Text) (rows : List Row) → AreGoodRows c rows
-    → option_map_or (λ a. use_fault false a values rows) found [] ≡ [] → AreGoodRows c (used_by_id found values rows)
+by_id_good : (c : List Rule) (plain_rules : ArePlainRules c c) (met : Option Rule) (id : Text) → arg_by_id c id ≡ met → (values : List Text) (rows : List Row) → AreGoodRows c rows
+    → option_map_or (λ a. use_fault false a values rows) met [] ≡ [] → AreGoodRows c (used_by_id met values rows)
 by_id_good c plain_rules None id is values rows good e = good
-by_id_good c plain_rules (Some a) id is values rows good e = use_good c a values rows (found_plain c c (λ x. bytes_eq x.id id) a plain_rules is) good e
+by_id_good c plain_rules (Some a) id is values rows good e = use_good c a values rows (found (IsPlainRule c) (λ x. bytes_eq x.id id) c a plain_rules is).0 good e
 
 -- what is pending is used
 pub settled_good : (c : List Rule) → ArePlainRules c c → (p : Option (Text × List Text)) (h : Held) → h.pending ≡ p → AreGoodRows c h.rows → settle_fault c false h ≡ [] → AreGoodRows c (settled_rows c h.pending h.rows)
@@ -170,7 +153,7 @@ long_good c p name None is v h good e = absurd cc
 long_good c p name (Some a) is v h good e = go (takes_values a) refl v e
   where
     rule : IsPlainRule c a
-    rule = found_plain c c (λ x. not (is_some x.index) && has_long x name) a p is
+    rule = (found (IsPlainRule c) (λ x. not (is_some x.index) && has_long x name) c a p is).0
 
     go : (b : Bool) → takes_values a ≡ b → (v : Option Text) → long_fault c false (Some a) v h ≡ [] → IsGoodHeld c (long_met c (Some a) v h).0
     go true takes (Some x) f =

@@ -1,6 +1,7 @@
 -- the walk over one option, from a place between two options
 use Rattle.std.proofs.Common.{◌≡◌, ◌∙◌, ap, refl, ℕ, Bool, true, false, List, [], ◌∷◌, ◌++◌, Option, Some, None, ◌==◌, codes, cond, ◌||◌}
 use Rattle.std.proofs.lemmas.Bool.{ne_eqb}
+use Rattle.std.proofs.lemmas.List.{append-nil}
 use Rattle.std.specs.Str.{bytes_eq}
 use Rattle.clap.specs.Lexer.{long_of, short_of}
 use Rattle.clap.specs.Walk.{Row, Rule, Text, Walk, Held, idle, option, walked, settled_rows, arg_by_id, arg_by_long, has_row, without, with_values, at_row, more_values}
@@ -8,6 +9,7 @@ use Rattle.clap.specs.Simple.{Shape, filled}
 use Rattle.clap.specs.Faults.{turn_fault, settle_fault}
 use Rattle.clap.specs.Kinds.{value_kinds}
 use Rattle.clap.specs.declared.builder.value_parser.ValueParser.TheVariants as parser
+use Rattle.clap.specs.declared.builder.value_parser.Reading.{Reading}
 use Rattle.clap.specs.declared.builder.value_parser.Reading.TheVariants.{AsWritten}
 use Rattle.clap.specs.declared.parser.matches.ValueSource.TheVariants.{CommandLine}
 use Rattle.command_words.specs.CommandSet.{number_option, flag_option}
@@ -72,15 +74,16 @@ no_such_row id change missing (r ∷ rs) e = go (bytes_eq r.id id) (no_such_row 
     go true below f = cc
     go false below f = ap (λ xs. r ∷ xs) (below f)
 
-pub append_nothing : {X : Type 0} (xs : List X) → xs ++ [] ≡ xs
-append_nothing [] = refl
-append_nothing (x ∷ xs) = ap (λ ys. x ∷ ys) (append_nothing xs)
+-- the row of an argument that had none
+pub one_more : (id : Text) (how : Reading) (vs : List Text) (rows : List Row) → has_row id rows ≡ false
+    → with_values id how CommandLine vs (without id rows) ≡ rows ++ record { id = id; values = vs; count = None; source = Some CommandLine; reading = how } ∷ []
+one_more id how vs rows e =
+    ap (with_values id how CommandLine vs) (no_such_row id (λ _. []) [] rows e ∙ append-nil rows)
+    ∙ no_such_row id (more_values CommandLine vs) (record { id = id; values = vs; count = None; source = Some CommandLine; reading = how } ∷ []) rows e
 
 pub row_added : (id v : Text) (rows : List Row) → has_row id rows ≡ false
     → with_values id AsWritten CommandLine (v ∷ []) (without id rows) ≡ rows ++ given_row id v ∷ []
-row_added id v rows e =
-    ap (with_values id AsWritten CommandLine (v ∷ [])) (no_such_row id (λ _. []) [] rows e ∙ append_nothing rows)
-    ∙ no_such_row id (more_values CommandLine (v ∷ [])) (given_row id v ∷ []) rows e
+row_added id v rows e = one_more id AsWritten (v ∷ []) rows e
 
 pub settles : (c : List Rule) (id : Text) (low high : ℕ) (default : Text) → IsOptionOf c id (filled (number_option id low high default))
     → (rows : List Row) (v : Text) → has_row id rows ≡ false → settled_rows c (Some (id, v ∷ [])) rows ≡ rows ++ given_row id v ∷ []

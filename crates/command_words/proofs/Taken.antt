@@ -1,29 +1,60 @@
 -- a command that is taken has its words, and its numbers are in range
-use Rattle.std.proofs.Common.{◌≡◌, ◌∙◌, ◌⊎◌, ⊎_elim, inl, inr, ap, sym, subst, refl, ℕ, Bool, true, false, List, [], ◌∷◌, Option, Some, None, codes, cond, ◌||◌, fold}
+use Rattle.std.proofs.Common.{◌≡◌, ◌∙◌, ◌⊎◌, ⊎_elim, inl, inr, ap, sym, subst, refl, ℕ, Bool, true, false, List, [], ◌∷◌, Option, Some, None, codes, not, ◌||◌, ◌&&◌, fold}
 use Rattle.std.specs.Prelude.{find, slice_get, option_and_then, option_map, is_some}
+use Rattle.std.specs.List.{AllByRecursion, list_any}
 use Rattle.std.specs.Option.{option_map_or}
 use Rattle.std.specs.Str.{bytes_eq}
 use Rattle.std.proofs.lemmas.Slice.Eq.{bytes_eq-Decides}
-use Rattle.clap.specs.Facts.{parser_of_value}
+use Rattle.clap.specs.Facts.{parser_of_value, unwrap_or_range}
 use Rattle.clap.specs.Values.{Accepts}
 use Rattle.clap.specs.ValueTests.{accepts}
 use Rattle.clap.proofs.ValueTestLemmas.{accepts-Accepts}
 use Rattle.clap.specs.Takes.{is_given}
-use Rattle.clap.specs.Walk.{Row, Rule, Text, Walk, Held, with_default, rows_after, nothing_held, walk_from, settled, arg_by_id, one_of, idle, answers_to, row_text, finished, stop_after}
+use Rattle.clap.specs.Walk.{Row, Rule, Text, Walk, Held, with_default, rows_after, nothing_held, walk_from, settled, arg_by_id, one_of, idle, answers_to, row_text, finished, stop_after, reading_by, action_of, has_short}
 use Rattle.clap.specs.Walk.{walk as whole_walk}
-use Rattle.clap.specs.Simple.{Shape, subcommand_of, built, names_of, entered, label_of, rows_at, argument_words}
+use Rattle.clap.specs.Simple.{Shape, subcommand_of, built, names_of, entered, label_of, rows_at, argument_words, filled}
 use Rattle.clap.specs.Faults.{check_fault, level_fault, entered_fault, settle_fault, walk_fault, defaults_fault}
-use Rattle.clap.specs.Kinds.{value_kinds}
+use Rattle.clap.specs.Kinds.{value_kinds, check_kinds}
 use Rattle.clap.proofs.OnLiterals.{clap_on_literals}
+use Rattle.clap.specs.declared.builder.ArgAction.{ArgAction}
+use Rattle.clap.specs.declared.builder.ArgAction.TheVariants.{Set, SetTrue}
+use Rattle.clap.specs.declared.builder.range.ValueRange.{ValueRange}
 use Rattle.clap.specs.declared.builder.value_parser.ValueParser.{ValueParser}
 use Rattle.clap.specs.declared.builder.value_parser.ValueParser.TheVariants as parser
+use Rattle.clap.specs.declared.builder.value_parser.Reading.{Reading}
 use Rattle.clap.specs.declared.builder.value_parser.Reading.TheVariants.{AsWritten}
-use Rattle.command_words.specs.CommandSet.{command_set, IsTaken, prove_command, refute_command, bench_command, pair_command}
+use Rattle.command_words.specs.CommandSet.{command_set, IsTaken, prove_command, refute_command, bench_command, pair_command, number_option, flag_option}
 use Rattle.command_words.specs.Present.{HasText, HasNumber, HasFlag, HasProve, HasRefute, HasBench, HasPair, HasCommand, MatchesHave}
-use Rattle.command_words.proofs.Ends.{row_at, row_kept, row_defaulted, default_list}
+use Rattle.command_words.proofs.Found.{found}
+use Rattle.command_words.proofs.Ends.{place, row_at, row_kept, row_defaulted, default_list}
 use Rattle.command_words.proofs.Gives.{not_there}
 use Rattle.command_words.proofs.Top.{leaf}
-use Rattle.command_words.proofs.Rows.{IsGoodRow, AreGoodRows, ArePlainRules, GoesOn, both_none, walk_good, settled_good}
+use Rattle.command_words.proofs.Rows.{IsGoodRow, AreGoodRows, IsPlainRule, ArePlainRules, GoesOn, both_none, walk_good, settled_good}
+
+-- ---- plain rules
+
+abbrev manner : List Rule → Rule → Option Rule × Reading × Option ℕ × List ℕ × ArgAction × ValueRange
+manner c a = (arg_by_id c a.id, reading_by a, a.short, a.short_aliases, action_of a, unwrap_or_range a.range)
+
+shortless : (a : Rule) → a.short ≡ None → a.short_aliases ≡ [] → (x : ℕ) → has_short a x ≡ false
+shortless a e f x = rw (e, f) refl
+
+takes_one : {c : List Rule} {a : Rule} → manner c a ≡ (Some a, AsWritten, None, [], Set, record { start_inclusive = 1; end_inclusive = 1 }) → IsPlainRule c a
+takes_one {c} {a} e = record {
+  by_id = ap (λ t. t.0) e;
+  reading = ap (λ t. t.1) e;
+  no_short = shortless a (ap (λ t. t.2) e) (ap (λ t. t.3) e);
+  form = inl (ap (λ t. t.4) e, ap (λ t. t.5) e);
+}
+
+takes_none : {c : List Rule} {a : Rule} → manner c a ≡ (Some a, AsWritten, None, [], SetTrue, record { start_inclusive = 0; end_inclusive = 0 })
+    → a.missing ≡ codes "true" ∷ [] → IsPlainRule c a
+takes_none {c} {a} e missing = record {
+  by_id = ap (λ t. t.0) e;
+  reading = ap (λ t. t.1) e;
+  no_short = shortless a (ap (λ t. t.2) e) (ap (λ t. t.3) e);
+  form = inr (ap (λ t. t.4) e, ap (λ t. t.5) e, missing);
+}
 
 -- ---- the rows of a level without a fault
 
@@ -31,7 +62,7 @@ pub record GoodLevel (s : Shape) (words : List Text) : Type 0 where
   pub base : List Row
   pub good : AreGoodRows s.rules base
   pub is : rows_after s.rules [] words ≡ fold with_default base s.rules
-  pub check : check_fault s (fold with_default base s.rules) false ≡ []
+  pub check : check_fault s (rows_after s.rules [] words) false ≡ []
 
 good_level : (s : Shape) → ArePlainRules s.rules s.rules → s.args_override_self ≡ false → (words : List Text) → level_fault s [] nothing_held words false [] ≡ [] → GoodLevel s words
 good_level s p never words e =
@@ -50,16 +81,34 @@ good_level s p never words e =
       check = c.1;
     }
 
-found_good : (c : List Rule) (rows : List Row) (id : Text) (r : Row) → AreGoodRows c rows → row_at id rows ≡ Some r → IsGoodRow c r × (bytes_eq r.id id ≡ true)
-found_good c [] id r h e = absurd cc
-found_good c (x ∷ rows) id r h e = go (bytes_eq x.id id) refl (found_good c rows id r h.1) e
-  where
-    go : (b : Bool) → bytes_eq x.id id ≡ b → (row_at id rows ≡ Some r → IsGoodRow c r × (bytes_eq r.id id ≡ true)) → cond b (Some x) (row_at id rows) ≡ Some r
-        → IsGoodRow c r × (bytes_eq r.id id ≡ true)
-    go true hit below same =
-        let is : x ≡ r = cc in
-        (subst (IsGoodRow c) is h.0, subst (λ (y : Row). bytes_eq y.id id ≡ true) is hit)
-    go false hit below same = below same
+-- ---- what is required
+
+nothing_missing : (help command negates missing : Bool) → check_kinds help command (not (negates && false) && missing) ≡ [] → missing ≡ false
+nothing_missing true command negates missing e = absurd cc
+nothing_missing false true negates missing e = absurd cc
+nothing_missing false false negates false e = refl
+nothing_missing false false true true e = absurd cc
+nothing_missing false false false true e = absurd cc
+
+none_wanting : (needed given more : Bool) → (needed && not given || more) ≡ false → (needed ≡ true → given ≡ true) × (more ≡ false)
+none_wanting true true more e = ((λ _. refl), e)
+none_wanting true false more e = absurd cc
+none_wanting false given more e = ((λ no. absurd cc), e)
+
+-- the argument is given where it has to be
+abbrev IsMet : List Row → Rule → Type 0
+IsMet rows a = a.required ≡ true → is_given a.id rows ≡ true
+
+none_needed : (rules : List Rule) (rows : List Row) → list_any (λ a. a.required && not (is_given a.id rows)) rules ≡ false → AllByRecursion (IsMet rows) rules
+none_needed [] rows e = tt
+none_needed (a ∷ rules) rows e =
+    let here = none_wanting a.required (is_given a.id rows) _ e in
+    (here.0, none_needed rules rows here.1)
+
+all_given : (s : Shape) (rows : List Row) → check_fault s rows false ≡ [] → AllByRecursion (IsMet rows) s.rules
+all_given s rows e = none_needed s.rules rows (nothing_missing _ _ _ _ e)
+
+-- ---- what is read
 
 accepted_value : (q : ValueParser) (v : Text) → value_kinds false q v ≡ [] → Accepts false q v
 accepted_value q v e = go (accepts false q v) refl
@@ -73,249 +122,131 @@ accepted_value q v e = go (accepts false q v) refl
 one_read : (r : Row) (v : Text) (vs : List Text) → r.values ≡ v ∷ vs → r.reading ≡ AsWritten → row_text r ≡ Some v
 one_read r v vs e f = rw (e, f) refl
 
--- what a row of the command line reads, of an argument with this parser
-module _ (c : List Rule) (rows : List Row) (good : AreGoodRows c rows) (id : Text) (a : Rule) (by_id : arg_by_id c id ≡ Some a) (exact : a.ignore_case ≡ false) (r : Row) (found : row_at id rows ≡ Some r) where
-  kept : row_at id (fold with_default rows c) ≡ Some r
-  kept = row_kept c id r rows found
+-- what the matches of a level without a fault read by a name
+module _ {s : Shape} {words : List Text} (g : GoodLevel s words) (id : Text) where
+  from_line : (r : Row) → row_at id g.base ≡ Some r → row_at id (rows_after s.rules [] words) ≡ Some r
+  from_line r e = ap (row_at id) g.is ∙ row_kept s.rules id r g.base e
 
-  fine : IsGoodRow c r × (bytes_eq r.id id ≡ true)
-  fine = found_good c rows id r good found
+  by_default : row_at id g.base ≡ None → row_at id (rows_after s.rules [] words) ≡ row_at id (default_list s.rules)
+  by_default e = ap (row_at id) g.is ∙ row_defaulted s.rules id g.base (not_there id g.base e)
 
-  given_text : HasText id (fold with_default rows c)
-  given_text = (fine.0.first, ap (option_and_then (λ (x : Row). slice_get x.values 0)) kept ∙ ap (λ l. slice_get l 0) fine.0.values)
+  -- a word of the command line passes the parser of its argument
+  passing : (a : Rule) → arg_by_id s.rules id ≡ Some a → a.ignore_case ≡ false → (r : Row) → row_at id g.base ≡ Some r
+      → (v : Text) × (one_of id (rows_after s.rules [] words) ≡ Some v) × Accepts false (parser_of_value a.parser) v
+  passing a by_id exact r e =
+      let row = found (IsGoodRow s.rules) (λ x. bytes_eq x.id id) g.base r g.good e in
+      let same : r.id ≡ id = (bytes_eq-Decides r.id id).0 row.1 in
+      let rule : Some row.0.rule ≡ Some a = sym row.0.by_id ∙ ap (arg_by_id s.rules) same ∙ by_id in
+      let is : row.0.rule ≡ a = cc in
+      let passes = subst (λ (x : Rule). value_kinds x.ignore_case (parser_of_value x.parser) row.0.first ≡ []) is row.0.passes in (
+        row.0.first,
+        ap (option_and_then row_text) (from_line r e) ∙ one_read r row.0.first row.0.rest row.0.values row.0.reading,
+        accepted_value (parser_of_value a.parser) row.0.first (ap (λ b. value_kinds b (parser_of_value a.parser) row.0.first) (sym exact) ∙ passes),
+      )
 
-  given_value : (v : Text) × (one_of id (fold with_default rows c) ≡ Some v) × Accepts false (parser_of_value a.parser) v
-  given_value =
-      let same : r.id ≡ id = (bytes_eq-Decides r.id id).0 fine.1 in
-      let rule : Some fine.0.rule ≡ Some a = sym fine.0.by_id ∙ ap (arg_by_id c) same ∙ by_id in
-      let is : fine.0.rule ≡ a = cc in
-      let passes : value_kinds false (parser_of_value a.parser) fine.0.first ≡ [] =
-      ap (λ b. value_kinds b (parser_of_value a.parser) fine.0.first) (sym exact) ∙ subst (λ (x : Rule). value_kinds x.ignore_case (parser_of_value x.parser) fine.0.first ≡ []) is fine.0.passes in
-      (fine.0.first, ap (option_and_then row_text) kept ∙ one_read r fine.0.first fine.0.rest fine.0.values fine.0.reading, accepted_value (parser_of_value a.parser) fine.0.first passes)
+  -- a word that has to be given has a row
+  required_row : (k : ℕ) (q : ValueParser) → arg_by_id s.rules id ≡ Some (place id k q) → row_at id (default_list s.rules) ≡ None
+      → (r : Row) × (row_at id g.base ≡ Some r)
+  required_row k q by_id none = go (row_at id g.base) refl
+    where
+      go : (o : Option Row) → row_at id g.base ≡ o → (r : Row) × (row_at id g.base ≡ Some r)
+      go (Some r) e = (r, e)
+      go None e =
+          let rows = rows_after s.rules [] words in
+          let met = found (IsMet rows) (λ a. bytes_eq a.id id) s.rules (place id k q) (all_given s rows g.check) by_id in
+          let given : is_given id (rows_after s.rules [] words) ≡ true = met.0 refl in
+          let bad = rw (by_default e, none) at given in
+          absurd cc
 
--- an option with a default
-option_number : (c : List Rule) (rows : List Row) → AreGoodRows c rows → (id : Text) (a : Rule) → arg_by_id c id ≡ Some a → a.ignore_case ≡ false → (low high : ℕ)
-    → a.parser ≡ Some (parser.Unsigned low high) → HasNumber id low high (default_list c) → HasNumber id low high (fold with_default rows c)
-option_number c rows good id a by_id exact low high is default = go (row_at id rows) refl
-  where
-    go : (o : Option Row) → row_at id rows ≡ o → HasNumber id low high (fold with_default rows c)
-    go None e = (default.0, rw (row_defaulted c id rows (not_there id rows e)) default.1, default.2)
-    go (Some r) e =
-        let v = given_value c rows good id a by_id exact r e in
-        (v.0, v.1, subst (λ p. Accepts false (parser_of_value p) v.0) is v.2)
+  text_read : (k : ℕ) (q : ValueParser) → arg_by_id s.rules id ≡ Some (place id k q) → row_at id (default_list s.rules) ≡ None → HasText id (rows_after s.rules [] words)
+  text_read k q by_id none =
+      let row = required_row k q by_id none in
+      let good = (found (IsGoodRow s.rules) (λ x. bytes_eq x.id id) g.base row.0 g.good row.1).0 in
+      (good.first, ap (option_and_then (λ (x : Row). slice_get x.values 0)) (from_line row.0 row.1) ∙ ap (λ l. slice_get l 0) good.values)
 
-option_flag : (c : List Rule) (rows : List Row) → AreGoodRows c rows → (id : Text) (a : Rule) → arg_by_id c id ≡ Some a → a.ignore_case ≡ false
-    → a.parser ≡ Some parser.Bool → HasFlag id (default_list c) → HasFlag id (fold with_default rows c)
-option_flag c rows good id a by_id exact is default = go (row_at id rows) refl
-  where
-    either : (t : Text) (x y : Bool) → bytes_eq t (codes "true") ≡ x → bytes_eq t (codes "false") ≡ y → (x || y) ≡ true → (t ≡ codes "true") ⊎ (t ≡ codes "false")
-    either t true y e f h = inl ((bytes_eq-Decides t (codes "true")).0 e)
-    either t false true e f h = inr ((bytes_eq-Decides t (codes "false")).0 f)
-    either t false false e f h = absurd cc
+  value_read : (k low high : ℕ) → arg_by_id s.rules id ≡ Some (place id k (parser.Unsigned low high)) → row_at id (default_list s.rules) ≡ None
+      → HasNumber id low high (rows_after s.rules [] words)
+  value_read k low high by_id none =
+      let row = required_row k (parser.Unsigned low high) by_id none in
+      passing (place id k (parser.Unsigned low high)) by_id refl row.0 row.1
 
-    go : (o : Option Row) → row_at id rows ≡ o → HasFlag id (fold with_default rows c)
-    go None e = rw (row_defaulted c id rows (not_there id rows e)) default
-    go (Some r) e =
-        let v = given_value c rows good id a by_id exact r e in
-        let passes = subst (λ p. Accepts false (parser_of_value p) v.0) is v.2 in
-        ⊎_elim (λ yes. inl (v.1 ∙ ap Some yes)) (λ no. inr (v.1 ∙ ap Some no)) (either v.0 (bytes_eq v.0 (codes "true")) (bytes_eq v.0 (codes "false")) refl refl passes)
+  number_read : (low high : ℕ) (default : Text) → arg_by_id s.rules id ≡ Some (filled (number_option id low high default))
+      → one_of id (default_list s.rules) ≡ Some default → accepts false (parser.Unsigned low high) default ≡ true → HasNumber id low high (rows_after s.rules [] words)
+  number_read low high default by_id is fits = go (row_at id g.base) refl
+    where
+      go : (o : Option Row) → row_at id g.base ≡ o → HasNumber id low high (rows_after s.rules [] words)
+      go None e = (default, ap (option_and_then row_text) (by_default e) ∙ is, accepts-Accepts false (parser.Unsigned low high) default fits)
+      go (Some r) e = passing (filled (number_option id low high default)) by_id refl r e
 
--- a word that is required
-required_row : (c : List Rule) (rows : List Row) (id : Text) → is_given id (fold with_default rows c) ≡ true → row_at id (default_list c) ≡ None
-    → (r : Row) × (row_at id rows ≡ Some r)
-required_row c rows id given none = go (row_at id rows) refl
-  where
-    go : (o : Option Row) → row_at id rows ≡ o → (r : Row) × (row_at id rows ≡ Some r)
-    go (Some r) e = (r, e)
-    go None e =
-        let bad = rw (row_defaulted c id rows (not_there id rows e), none) at given in
-        absurd cc
+  flag_read : arg_by_id s.rules id ≡ Some (filled (flag_option id)) → one_of id (default_list s.rules) ≡ Some (codes "false") → HasFlag id (rows_after s.rules [] words)
+  flag_read by_id is = go (row_at id g.base) refl
+    where
+      either : (t : Text) (x y : Bool) → bytes_eq t (codes "true") ≡ x → bytes_eq t (codes "false") ≡ y → (x || y) ≡ true → (t ≡ codes "true") ⊎ (t ≡ codes "false")
+      either t true y e f h = inl ((bytes_eq-Decides t (codes "true")).0 e)
+      either t false true e f h = inr ((bytes_eq-Decides t (codes "false")).0 f)
+      either t false false e f h = absurd cc
 
--- ---- prove
+      go : (o : Option Row) → row_at id g.base ≡ o → HasFlag id (rows_after s.rules [] words)
+      go None e = inr (ap (option_and_then row_text) (by_default e) ∙ is)
+      go (Some r) e =
+          let v = passing (filled (flag_option id)) by_id refl r e in
+          ⊎_elim (λ yes. inl (v.1 ∙ ap Some yes)) (λ no. inr (v.1 ∙ ap Some no))
+          (either v.0 (bytes_eq v.0 (codes "true")) (bytes_eq v.0 (codes "false")) refl refl v.2)
 
-prove_plain : ArePlainRules (leaf prove_command).rules (leaf prove_command).rules
-prove_plain = (
-  record { by_id = refl; reading = refl; no_short = λ x. refl; form = inl (refl, refl) },
-  (
-    record { by_id = refl; reading = refl; no_short = λ x. refl; form = inl (refl, refl) },
-    (
-      record { by_id = refl; reading = refl; no_short = λ x. refl; form = inl (refl, refl) },
-      (
-        record { by_id = refl; reading = refl; no_short = λ x. refl; form = inl (refl, refl) },
-        (
-          record { by_id = refl; reading = refl; no_short = λ x. refl; form = inl (refl, refl) },
-          (
-            record { by_id = refl; reading = refl; no_short = λ x. refl; form = inl (refl, refl) },
-            (
-              record { by_id = refl; reading = refl; no_short = λ x. refl; form = inr (refl, refl, refl) },
-              tt,
-            ),
-          ),
-        ),
-      ),
-    ),
-  ),
-)
+-- ---- the commands
 
-prove_given : (rows : List Row) → check_fault (leaf prove_command) rows false ≡ [] → is_given (codes "file") rows ≡ true
-prove_given rows e = go (is_given (codes "file") rows) refl
-  where
-    go : (b : Bool) → is_given (codes "file") rows ≡ b → b ≡ true
-    go true is = refl
-    go false is =
-        let bad = rw is at e in
-        absurd cc
+-- the words of a command without a fault have what its name says
+abbrev IsRead : Shape → Type 0
+IsRead s = (words : List Text) → level_fault s [] nothing_held words false [] ≡ [] → HasCommand s.name (rows_after s.rules [] words)
 
 prove_has : (words : List Text) → level_fault (leaf prove_command) [] nothing_held words false [] ≡ [] → HasProve (rows_after (leaf prove_command).rules [] words)
 prove_has words e =
-    let c = (leaf prove_command).rules in
-    let g = good_level (leaf prove_command) prove_plain refl words e in
-    let first = required_row c g.base (codes "file") (prove_given (fold with_default g.base c) g.check) refl in
-    subst HasProve (sym g.is) (record {
-      file = given_text c g.base g.good (codes "file") _ refl refl first.0 first.1;
-      pairs = option_number c g.base g.good (codes "pairs") _ refl refl 1 1000000 refl (codes "5000", refl, accepts-Accepts false (parser.Unsigned 1 1000000) (codes "5000") refl);
-      steps = option_number c g.base g.good (codes "steps") _ refl refl 1 1000000 refl (codes "20000", refl, accepts-Accepts false (parser.Unsigned 1 1000000) (codes "20000") refl);
-      workers = option_number c g.base g.good (codes "workers") _ refl refl 1 64 refl (codes "4", refl, accepts-Accepts false (parser.Unsigned 1 64) (codes "4") refl);
-      seed = option_number c g.base g.good (codes "seed") _ refl refl 0 18446744073709551615 refl (codes "1", refl, accepts-Accepts false (parser.Unsigned 0 18446744073709551615) (codes "1") refl);
-      format = option_number c g.base g.good (codes "format") _ refl refl 1 2 refl (codes "2", refl, accepts-Accepts false (parser.Unsigned 1 2) (codes "2") refl);
-      models = option_flag c g.base g.good (codes "no-models") _ refl refl refl (inr refl);
-    })
+    let plain : ArePlainRules (leaf prove_command).rules (leaf prove_command).rules =
+    (takes_one refl, (takes_one refl, (takes_one refl, (takes_one refl, (takes_one refl, (takes_one refl, (takes_none refl refl, tt))))))) in
+    let g = good_level (leaf prove_command) plain refl words e in
+    record {
+      file = text_read g (codes "file") 1 parser.String refl refl;
+      pairs = number_read g (codes "pairs") 1 1000000 (codes "5000") refl refl refl;
+      steps = number_read g (codes "steps") 1 1000000 (codes "20000") refl refl refl;
+      workers = number_read g (codes "workers") 1 64 (codes "4") refl refl refl;
+      seed = number_read g (codes "seed") 0 18446744073709551615 (codes "1") refl refl refl;
+      format = number_read g (codes "format") 1 2 (codes "2") refl refl refl;
+      models = flag_read g (codes "no-models") refl refl;
+    }
 
--- ---- refute
+refute_has : (words : List Text) → level_fault (leaf refute_command) [] nothing_held words false [] ≡ [] → HasRefute (rows_after (leaf refute_command).rules [] words)
+refute_has words e =
+    let g = good_level (leaf refute_command) (takes_one refl, (takes_one refl, (takes_one refl, tt))) refl words e in
+    record {
+      file = text_read g (codes "file") 1 parser.String refl refl;
+      workers = number_read g (codes "workers") 1 64 (codes "4") refl refl refl;
+      seed = number_read g (codes "seed") 0 18446744073709551615 (codes "1") refl refl refl;
+    }
 
-refute_plain : ArePlainRules (leaf refute_command).rules (leaf refute_command).rules
-refute_plain = (
-  record { by_id = refl; reading = refl; no_short = λ x. refl; form = inl (refl, refl) },
+bench_has : (words : List Text) → level_fault (leaf bench_command) [] nothing_held words false [] ≡ [] → HasBench (rows_after (leaf bench_command).rules [] words)
+bench_has words e =
+    let g = good_level (leaf bench_command) (takes_one refl, (takes_one refl, tt)) refl words e in
+    record { size = value_read g (codes "size") 1 1 60 refl refl; workers = number_read g (codes "workers") 1 64 (codes "4") refl refl refl }
+
+pair_has : (name : Text) (words : List Text) → level_fault (leaf (pair_command name)) [] nothing_held words false [] ≡ [] → HasPair (rows_after (leaf (pair_command name)).rules [] words)
+pair_has name words e =
+    let g = good_level (leaf (pair_command name)) (takes_one refl, (takes_one refl, tt)) refl words e in
+    record { statement = text_read g (codes "statement") 1 parser.String refl refl; evidence = text_read g (codes "evidence") 2 parser.String refl refl }
+
+all_read : AllByRecursion IsRead (built command_set).subs
+unfolding command_set clap_on_literals
+all_read = (
+  λ words e. inl (refl, prove_has words e),
   (
-    record { by_id = refl; reading = refl; no_short = λ x. refl; form = inl (refl, refl) },
+    λ words e. inr (inl (refl, pair_has (codes "check") words e)),
     (
-      record { by_id = refl; reading = refl; no_short = λ x. refl; form = inl (refl, refl) },
-      tt,
+      λ words e. inr (inr (inl (refl, refute_has words e))),
+      (λ words e. inr (inr (inr (inl (refl, pair_has (codes "model") words e)))), (λ words e. inr (inr (inr (inr (refl, bench_has words e)))), tt)),
     ),
   ),
 )
 
-refute_given : (rows : List Row) → check_fault (leaf refute_command) rows false ≡ [] → is_given (codes "file") rows ≡ true
-refute_given rows e = go (is_given (codes "file") rows) refl
-  where
-    go : (b : Bool) → is_given (codes "file") rows ≡ b → b ≡ true
-    go true is = refl
-    go false is =
-        let bad = rw is at e in
-        absurd cc
-
-refute_has : (words : List Text) → level_fault (leaf refute_command) [] nothing_held words false [] ≡ [] → HasRefute (rows_after (leaf refute_command).rules [] words)
-refute_has words e =
-    let c = (leaf refute_command).rules in
-    let g = good_level (leaf refute_command) refute_plain refl words e in
-    let first = required_row c g.base (codes "file") (refute_given (fold with_default g.base c) g.check) refl in
-    subst HasRefute (sym g.is) (record {
-      file = given_text c g.base g.good (codes "file") _ refl refl first.0 first.1;
-      workers = option_number c g.base g.good (codes "workers") _ refl refl 1 64 refl (codes "4", refl, accepts-Accepts false (parser.Unsigned 1 64) (codes "4") refl);
-      seed = option_number c g.base g.good (codes "seed") _ refl refl 0 18446744073709551615 refl (codes "1", refl, accepts-Accepts false (parser.Unsigned 0 18446744073709551615) (codes "1") refl);
-    })
-
--- ---- bench
-
-bench_plain : ArePlainRules (leaf bench_command).rules (leaf bench_command).rules
-bench_plain = (
-  record { by_id = refl; reading = refl; no_short = λ x. refl; form = inl (refl, refl) },
-  (
-    record { by_id = refl; reading = refl; no_short = λ x. refl; form = inl (refl, refl) },
-    tt,
-  ),
-)
-
-bench_given : (rows : List Row) → check_fault (leaf bench_command) rows false ≡ [] → is_given (codes "size") rows ≡ true
-bench_given rows e = go (is_given (codes "size") rows) refl
-  where
-    go : (b : Bool) → is_given (codes "size") rows ≡ b → b ≡ true
-    go true is = refl
-    go false is =
-        let bad = rw is at e in
-        absurd cc
-
-bench_has : (words : List Text) → level_fault (leaf bench_command) [] nothing_held words false [] ≡ [] → HasBench (rows_after (leaf bench_command).rules [] words)
-bench_has words e =
-    let c = (leaf bench_command).rules in
-    let g = good_level (leaf bench_command) bench_plain refl words e in
-    let first = required_row c g.base (codes "size") (bench_given (fold with_default g.base c) g.check) refl in
-    subst HasBench (sym g.is) (record {
-      size = given_value c g.base g.good (codes "size") _ refl refl first.0 first.1;
-      workers = option_number c g.base g.good (codes "workers") _ refl refl 1 64 refl (codes "4", refl, accepts-Accepts false (parser.Unsigned 1 64) (codes "4") refl);
-    })
-
--- ---- the commands of a statement and a second file
-
-pair_plain : (name : Text) → ArePlainRules (leaf (pair_command name)).rules (leaf (pair_command name)).rules
-pair_plain name = (
-  record { by_id = refl; reading = refl; no_short = λ x. refl; form = inl (refl, refl) },
-  (
-    record { by_id = refl; reading = refl; no_short = λ x. refl; form = inl (refl, refl) },
-    tt,
-  ),
-)
-
-pair_given : (name : Text) (rows : List Row) → check_fault (leaf (pair_command name)) rows false ≡ []
-    → (is_given (codes "statement") rows ≡ true) × (is_given (codes "evidence") rows ≡ true)
-pair_given name rows e = go (is_given (codes "statement") rows) (is_given (codes "evidence") rows) refl refl
-  where
-    go : (a b : Bool) → is_given (codes "statement") rows ≡ a → is_given (codes "evidence") rows ≡ b → (a ≡ true) × (b ≡ true)
-    go true true is_a is_b = (refl, refl)
-    go true false is_a is_b =
-        let bad = rw (is_a, is_b) at e in
-        absurd cc
-    go false b is_a is_b =
-        let bad = rw is_a at e in
-        absurd cc
-
-pair_has : (name : Text) (words : List Text) → level_fault (leaf (pair_command name)) [] nothing_held words false [] ≡ [] → HasPair (rows_after (leaf (pair_command name)).rules [] words)
-pair_has name words e =
-    let c = (leaf (pair_command name)).rules in
-    let g = good_level (leaf (pair_command name)) (pair_plain name) refl words e in
-    let given = pair_given name (fold with_default g.base c) g.check in
-    let first = required_row c g.base (codes "statement") given.0 refl in
-    let second = required_row c g.base (codes "evidence") given.1 refl in
-    subst HasPair (sym g.is) (record {
-      statement = given_text c g.base g.good (codes "statement") _ refl refl first.0 first.1;
-      evidence = given_text c g.base g.good (codes "evidence") _ refl refl second.0 second.1;
-    })
-
 -- ---- the command that was entered
-
-IsIn : Shape → List Shape → Type 0
-IsIn s [] = ⊥
-IsIn s (x ∷ shapes) = (s ≡ x) ⊎ IsIn s shapes
-
-found_in : (shapes : List Shape) (p : Shape → Bool) (s : Shape) → find p shapes ≡ Some s → IsIn s shapes
-unfolding IsIn
-found_in [] p s e = cc
-found_in (x ∷ shapes) p s e = go (p x) (found_in shapes p s) e
-  where
-    go : (b : Bool) → (find p shapes ≡ Some s → IsIn s shapes) → cond b (Some x) (find p shapes) ≡ Some s → (s ≡ x) ⊎ IsIn s shapes
-    go true below same = inl cc
-    go false below same = inr (below same)
-
-leaves : List Shape
-leaves = leaf prove_command ∷ leaf (pair_command (codes "check")) ∷ leaf refute_command ∷ leaf (pair_command (codes "model")) ∷ leaf bench_command ∷ []
-
-subs_are : (built command_set).subs ≡ leaves
-unfolding command_set leaves clap_on_literals
-subs_are = refl
-
-leaf_has : (s : Shape) → IsIn s leaves → (words : List Text) → level_fault s [] nothing_held words false [] ≡ [] → HasCommand s.name (rows_after s.rules [] words)
-unfolding IsIn leaves
-leaf_has s (inl is) words e = subst (λ (x : Shape). HasCommand x.name (rows_after x.rules [] words)) (sym is)
-    (inl (refl, prove_has words (subst (λ (x : Shape). level_fault x [] nothing_held words false [] ≡ []) is e)))
-leaf_has s (inr (inl is)) words e = subst (λ (x : Shape). HasCommand x.name (rows_after x.rules [] words)) (sym is)
-    (inr (inl (refl, pair_has (codes "check") words (subst (λ (x : Shape). level_fault x [] nothing_held words false [] ≡ []) is e))))
-leaf_has s (inr (inr (inl is))) words e = subst (λ (x : Shape). HasCommand x.name (rows_after x.rules [] words)) (sym is)
-    (inr (inr (inl (refl, refute_has words (subst (λ (x : Shape). level_fault x [] nothing_held words false [] ≡ []) is e)))))
-leaf_has s (inr (inr (inr (inl is)))) words e = subst (λ (x : Shape). HasCommand x.name (rows_after x.rules [] words)) (sym is)
-    (inr (inr (inr (inl (refl, pair_has (codes "model") words (subst (λ (x : Shape). level_fault x [] nothing_held words false [] ≡ []) is e))))))
-leaf_has s (inr (inr (inr (inr (inl is))))) words e = subst (λ (x : Shape). HasCommand x.name (rows_after x.rules [] words)) (sym is)
-    (inr (inr (inr (inr (refl, bench_has words (subst (λ (x : Shape). level_fault x [] nothing_held words false [] ≡ []) is e))))))
-leaf_has s (inr (inr (inr (inr (inr none))))) words e = absurd none
 
 -- a command was entered, since one is required
 wants_command : (rows : List Row) → check_fault (built command_set).top rows false ≡ [] → ⊥
@@ -331,7 +262,7 @@ entered_has rows (Some p) below check = go (find (λ s. answers_to p.0 (label_of
         → option_map_or (λ s. level_fault s [] nothing_held p.1 false []) o [] ≡ []
         → check_fault (built command_set).top rows (is_some (option_map (λ s. rows_at s p.1) o)) ≡ [] → MatchesHave (option_map (λ s. rows_at s p.1) o)
     go None is b c = wants_command rows c
-    go (Some s) is b c = leaf_has s (subst (IsIn s) subs_are (found_in (built command_set).subs (λ x. answers_to p.0 (label_of x)) s is)) p.1 b
+    go (Some s) is b c = (found IsRead (λ x. answers_to p.0 (label_of x)) (built command_set).subs s all_read is).0 p.1 b
 
 pub taken_has : (words : List Text) → IsTaken words → MatchesHave (subcommand_of command_set words)
 unfolding IsTaken

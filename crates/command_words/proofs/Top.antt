@@ -1,11 +1,11 @@
 -- the first word names the command, which reads those after it
-use Rattle.std.proofs.Common.{◌≡◌, ◌∙◌, ap, sym, refl, false, List, [], ◌∷◌, ◌++◌, Some, None, codes, fold}
+use Rattle.std.proofs.Common.{◌≡◌, ◌∙◌, ap, sym, refl, false, List, [], ◌∷◌, ◌++◌, Some, None, fold}
 use Rattle.std.specs.Prelude.{find}
+use Rattle.std.proofs.lemmas.List.{append-nil, append_assoc}
 use Rattle.clap.specs.Walk.{Rule, Text, Walk, Names, walked, rows_after, nothing_held, answers_to, walk}
 use Rattle.clap.specs.Simple.{App, Shape, label_of, names_of, built, built_leaf, inherited, marked_built, with_leaf_noted, entered, subcommand_of}
 use Rattle.clap.specs.Faults.{turn_fault, walk_fault, level_fault, defaults_fault}
-use Rattle.clap.proofs.OnLiterals.{clap_on_literals}
-use Rattle.command_words.specs.CommandSet.{command_set, IsTaken, bare_command, prove_command}
+use Rattle.command_words.specs.CommandSet.{command_set, IsTaken, bare_command}
 use Rattle.command_words.proofs.Steps.{between}
 use Rattle.command_words.proofs.Options.{or_nothing}
 
@@ -16,19 +16,11 @@ leaf a = built_leaf (inherited (with_leaf_noted (marked_built (record bare_comma
 abbrev pub after_name : Text → List Text → Walk
 after_name name rest = record (between [] None 1) { stopped = Some (name, rest) }
 
-append_more : {X : Type 0} (xs : List X) (y : X) (ys : List X) → (xs ++ y ∷ []) ++ ys ≡ xs ++ y ∷ ys
-append_more [] y ys = refl
-append_more (x ∷ xs) y ys = ap (λ l. x ∷ l) (append_more xs y ys)
-
-append_none : {X : Type 0} (xs : List X) → xs ++ [] ≡ xs
-append_none [] = refl
-append_none (x ∷ xs) = ap (λ ys. x ∷ ys) (append_none xs)
-
 -- the words after the command are left to it
 left_over : (c : List Rule) (names : Names) (name : Text) (before rest : List Text) → fold (walked c names) (after_name name before) rest ≡ after_name name (before ++ rest)
 unfolding walked
-left_over c names name before [] = ap (after_name name) (sym (append_none before))
-left_over c names name before (word ∷ rest) = left_over c names name (before ++ word ∷ []) rest ∙ ap (after_name name) (append_more before word rest)
+left_over c names name before [] = ap (after_name name) (sym (append-nil before))
+left_over c names name before (word ∷ rest) = left_over c names name (before ++ word ∷ []) rest ∙ ap (after_name name) (append_assoc before (word ∷ []) rest)
 
 left_well : (s : Shape) (names : Names) (name : Text) (before rest : List Text) → walk_fault s names (after_name name before) rest ≡ []
 unfolding walk_fault walked
@@ -61,7 +53,3 @@ module _ (name : Text) (a : App) (n : IsNamed name a) (rest : List Text) where
   takes_command below =
       or_nothing _ _ (or_nothing _ _ n.well (ap (λ w. walk_fault (built command_set).top (names_of (built command_set)) w rest) n.entry ∙ left_well (built command_set).top (names_of (built command_set)) name [] rest))
       (rw (top_walk, n.found, below) refl)
-
-pub prove_named : IsNamed (codes "prove") prove_command
-unfolding command_set clap_on_literals
-prove_named = record { entry = refl; well = refl; found = refl; name_is = refl }

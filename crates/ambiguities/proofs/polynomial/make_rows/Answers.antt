@@ -11,19 +11,13 @@ use Rattle.ambiguities.proofs.polynomial.make_rows.Goals as goal
 
 pub overflow_add-place : goal.overflow_add-place
 overflow_add-place c =
-    let all = c.args.rules.now in
-    let a = c.args.which.now in
-    let second : rule_at all a.j ≡ Some c.rule_with-second.result.now = search rules in
-    let word : c.in_ok-word.word ≡ overlap_word_of all a = search rules in
-    omega (arith, second_fits all a c.requires.ambiguity c.rule_with-second.result.now second, ap length word)
+    let second = c.rule_with-second.result.now in
+    omega (arith, second_fits c.args.rules.now c.args.which.now c.requires.ambiguity second (search rules) c.in_ok-word.word (search rules))
 
 pub slice-requires-3-clause-order : goal.slice-requires-3-clause-order
 slice-requires-3-clause-order c =
-    let all = c.args.rules.now in
-    let a = c.args.which.now in
-    let second : rule_at all a.j ≡ Some c.rule_with-second.result.now = search rules in
-    let word : c.in_ok-word.word ≡ overlap_word_of all a = search rules in
-    omega (arith, second_fits all a c.requires.ambiguity c.rule_with-second.result.now second, ap length word)
+    let second = c.rule_with-second.result.now in
+    omega (arith, second_fits c.args.rules.now c.args.which.now c.requires.ambiguity second (search rules) c.in_ok-word.word (search rules))
 
 pub returns-clause-first : goal.returns-clause-first
 returns-clause-first c =
