@@ -1,5 +1,5 @@
 -- the sum compared with a multiple of the claim, from the least word on
-use Rattle.std.proofs.Common.{◌≡◌, ◌≢◌, ℕ, zero, suc, ℤ, pos, negsuc, ◌+ℤ◌, ◌*ℤ◌, ◌<ℤ◌, List, [], ◌∷◌, ◌++◌, map, Bool, true, false, cond, Option, Some, unwrap_or, Result, Ok, Err, IfOk, sym, refl, ap, ap₂, ◌∙◌, subst, arith, All, append_assoc}
+use Rattle.std.proofs.Common.{◌≡◌, ◌≢◌, ℕ, zero, suc, ℤ, pos, negsuc, ◌+ℤ◌, ◌*ℤ◌, ◌<ℤ◌, List, [], ◌∷◌, ◌++◌, map, Bool, true, false, cond, Option, Some, None, unwrap_or, Result, Ok, Err, IfOk, sym, refl, ap, ap₂, ◌∙◌, subst, arith, All, append_assoc}
 use Rattle.std.specs.BTreeMap.{BTreeMap, get, is_at, IsOrdered}
 use Rattle.std.specs.List.{AllByRecursion}
 use Rattle.std.specs.List.Sorted.{IsStrictlySortedBy}
@@ -12,6 +12,8 @@ use Rattle.std.proofs.lemmas.List.{append-nil}
 use Rattle.std.proofs.lemmas.List.Elements.{recursion_from_All}
 use Rattle.std.proofs.lemmas.Map.Keys.{sorted_head, sorted_tail}
 use Rattle.std.proofs.Math.IntN.{+ℤ_idl, +ℤ_idr, +ℤ_comm, *ℤ-zero}
+use Rattle.coef_int.specs.Operations.{first_overflow}
+use Rattle.coef_int.specs.Range.{IsCoefficient}
 use Rattle.word_core.specs.Canonical.{word_cmp, word_cmp_total}
 use Rattle.word_core.proofs.Order.{word_cmp-same, word_cmp-turned, word_cmp-turned_back, word_cmp-trans}
 use Rattle.definitions.specs.Poly.{word_eq, coefficient_of}
@@ -19,12 +21,14 @@ use Rattle.definitions.proofs.Linear.{word_eq-same, word_eq-true, coefficient_at
 use Rattle.definitions.proofs.Coefficients.{coefficient_of-append}
 use Rattle.definitions.proofs.Integers.{*ℤ-+ℤ, *ℤ_zero}
 use Rattle.nc_polynomial.specs.Collected.{coefficient_in}
-use Rattle.nc_polynomial.specs.Terms.{IsDescending}
+use Rattle.nc_polynomial.specs.Shape.{IsShaped}
+use Rattle.nc_polynomial.specs.Terms.{IsDescending, products}
 use Rattle.cofactor_checker.specs.Difference.{IsLeastDifference, IsComparison}
 use Rattle.cofactor_checker.specs.declared.compare.Difference.{Difference}
 use Rattle.cofactor_checker.specs.Running.{IsRunning}
 use Rattle.nc_polynomial.proofs.Words.{word_eq-cmp, word_eq-turned}
 use Rattle.nc_polynomial.proofs.Distinct.{none_listed}
+use Rattle.cofactor_checker.proofs.First.{products_fit}
 use Rattle.cofactor_checker.proofs.Descending.{apart_greater, weaker, above, coefficient_there, holds_between}
 
 -- the entries of a map as terms
@@ -47,102 +51,111 @@ pub record Compares (m : BTreeMap (List ℕ) ℤ) (d : ℤ) (claim rest : List (
   pub passed : List (ℤ × List ℕ)
   pub splits : claim ≡ rest ++ passed
 
-module _ (m : BTreeMap (List ℕ) ℤ) (d : ℤ) (claim : List (ℤ × List ℕ)) where
-  abbrev wanted : List ℕ → ℤ
-  wanted w = d *ℤ coefficient_of claim w
+-- the multiple of the claim
+abbrev wanted : ℤ → List (ℤ × List ℕ) → List ℕ → ℤ
+wanted d claim w = d *ℤ coefficient_of claim w
 
-  -- where both are at their end
-  pub nothing_differs : Compares m d claim [] [] → (w : List ℕ) → coefficient_in m w ≡ wanted w
-  nothing_differs compares w = let same = compares.same w in let none = *ℤ-zero d in omega (arith, ints)
+-- The turn of a term: what is left of the claim ends in it.
+pub record EndsIn (m : BTreeMap (List ℕ) ℤ) (d : ℤ) (claim greater : List (ℤ × List ℕ)) (t : ℤ × List ℕ) (entries : List (List ℕ × ℤ)) : Type 0 where
+  pub compares : Compares m d claim (greater ++ t ∷ []) entries
+  pub running : IsRunning m
+  pub shaped : IsShaped claim
+  pub positive : pos 0 <ℤ d
+  pub fits : first_overflow (products d claim) ≡ None
 
+module _ {m : BTreeMap (List ℕ) ℤ} {d : ℤ} {claim : List (ℤ × List ℕ)} where
   -- neither has anything at w
-  agree_below : (rest : List (ℤ × List ℕ)) (entries : List (List ℕ × ℤ)) → Compares m d claim rest entries → (w : List ℕ)
-      → coefficient_of (terms_of entries) w ≡ pos 0 → coefficient_of rest w ≡ pos 0 → wanted w ≡ coefficient_in m w
-  agree_below rest entries compares w no_entry no_term =
+  agree_below : {rest : List (ℤ × List ℕ)} {entries : List (List ℕ × ℤ)} → Compares m d claim rest entries → (w : List ℕ)
+      → coefficient_of (terms_of entries) w ≡ pos 0 → coefficient_of rest w ≡ pos 0 → wanted d claim w ≡ coefficient_in m w
+  agree_below {rest = rest} compares w no_entry no_term =
       let same = compares.same w in
       let none : d *ℤ coefficient_of rest w ≡ pos 0 = ap (λ k. d *ℤ k) no_term ∙ *ℤ-zero d in
       omega (arith, ints)
 
-  module _ (running : IsRunning m) (e : List ℕ × ℤ) (es : List (List ℕ × ℤ)) where
-    -- the first entry is what the map has at its word
-    entry_is : (rest : List (ℤ × List ℕ)) → Compares m d claim rest (e ∷ es) → coefficient_in m e.0 ≡ e.1
-    entry_is rest compares = ap (λ o. unwrap_or o (pos 0)) compares.found.0
+  -- an entry is left
+  module _ {rest : List (ℤ × List ℕ)} {e : List ℕ × ℤ} {es : List (List ℕ × ℤ)} (compares : Compares m d claim rest (e ∷ es)) where
+    -- it is what the map has at its word
+    entry_is : coefficient_in m e.0 ≡ e.1
+    entry_is = ap (λ o. unwrap_or o (pos 0)) compares.found.0
 
-    later_keys : (rest : List (ℤ × List ℕ)) → Compares m d claim rest (e ∷ es) → AllByRecursion (λ k. word_cmp e.0 k ≡ Less) (keys_of es)
-    later_keys rest compares = sorted_head word_cmp e.0 (keys_of es) compares.sorted
+    later_keys : AllByRecursion (λ k. word_cmp e.0 k ≡ Less) (keys_of es)
+    later_keys = sorted_head word_cmp e.0 (keys_of es) compares.sorted
 
-    below_entries : (rest : List (ℤ × List ℕ)) → Compares m d claim rest (e ∷ es) → (w : List ℕ) → word_cmp w e.0 ≡ Less → coefficient_of (terms_of (e ∷ es)) w ≡ pos 0
-    below_entries rest compares w less = entries_absent w (e ∷ es) (less, weaker (λ k after. word_cmp_total.trans w e.0 k less after) (keys_of es) (later_keys rest compares))
+    below_entries : (w : List ℕ) → word_cmp w e.0 ≡ Less → coefficient_of (terms_of (e ∷ es)) w ≡ pos 0
+    below_entries w less = entries_absent w (e ∷ es) (less, weaker (λ k after. word_cmp_total.trans w e.0 k less after) (keys_of es) later_keys)
 
     -- and no other entry is
-    later_absent : (rest : List (ℤ × List ℕ)) → Compares m d claim rest (e ∷ es) → coefficient_of (terms_of (e ∷ es)) e.0 ≡ e.1
-    later_absent rest compares =
-        coefficient_at e.0 (e.1, e.0) (terms_of es) (word_eq-same e.0) ∙ ap (λ k. e.1 +ℤ k) (entries_absent e.0 es (later_keys rest compares)) ∙ +ℤ_idr e.1
+    later_absent : coefficient_of (terms_of (e ∷ es)) e.0 ≡ e.1
+    later_absent = coefficient_at e.0 (e.1, e.0) (terms_of es) (word_eq-same e.0) ∙ ap (λ k. e.1 +ℤ k) (entries_absent e.0 es later_keys) ∙ +ℤ_idr e.1
 
     -- the first entry, where the claim has nothing up to its word
-    entry_differs : (rest : List (ℤ × List ℕ)) → Compares m d claim rest (e ∷ es) → coefficient_of rest e.0 ≡ pos 0 → ((w : List ℕ) → word_cmp w e.0 ≡ Less → coefficient_of rest w ≡ pos 0)
-        → IsLeastDifference wanted (coefficient_in m) e.0 (pos 0) e.1
-    entry_differs rest compares none_there none_below = record {
+    entry_differs : IsRunning m → coefficient_of rest e.0 ≡ pos 0 → ((w : List ℕ) → word_cmp w e.0 ≡ Less → coefficient_of rest w ≡ pos 0)
+        → IsLeastDifference (wanted d claim) (coefficient_in m) e.0 (pos 0) e.1
+    entry_differs running none_there none_below = record {
       wanted_there =
           let same = compares.same e.0 in
           let none : d *ℤ coefficient_of rest e.0 ≡ pos 0 = ap (λ k. d *ℤ k) none_there ∙ *ℤ-zero d in
-          let entry : coefficient_of (terms_of (e ∷ es)) e.0 ≡ e.1 = later_absent rest compares in
-          let is = entry_is rest compares in
+          let entry = later_absent in
+          let is = entry_is in
           omega (arith, ints);
-      found_there = entry_is rest compares;
+      found_there = entry_is;
       differ = λ none. running.nonzero e.0 (compares.found.0 ∙ ap Some (sym none));
-      least = λ w less. agree_below rest (e ∷ es) compares w (below_entries rest compares w less) (none_below w less);
+      least = λ w less. agree_below compares w (below_entries w less) (none_below w less);
     }
 
-    -- nothing of the claim is left
-    pub entry_left : Compares m d claim [] (e ∷ es) → IsLeastDifference wanted (coefficient_in m) e.0 (pos 0) e.1
-    entry_left compares = entry_differs [] compares refl (λ w less. refl)
+  -- nothing of the claim is left
+  pub entry_left : {e : List ℕ × ℤ} {es : List (List ℕ × ℤ)} → IsRunning m → Compares m d claim [] (e ∷ es)
+      → IsLeastDifference (wanted d claim) (coefficient_in m) e.0 (pos 0) e.1
+  entry_left running compares = entry_differs compares running refl (λ w less. refl)
 
-  module _ (greater : List (ℤ × List ℕ)) (t : ℤ × List ℕ) (descending : IsDescending claim) where
+  module _ {greater : List (ℤ × List ℕ)} {t : ℤ × List ℕ} {entries : List (List ℕ × ℤ)} (turn : EndsIn m d claim greater t entries) where
     -- the whole claim, at the term
-    split : (entries : List (List ℕ × ℤ)) (compares : Compares m d claim (greater ++ t ∷ []) entries) → claim ≡ greater ++ t ∷ compares.passed
-    split entries compares = compares.splits ∙ append_assoc greater (t ∷ []) compares.passed
+    split : claim ≡ greater ++ t ∷ turn.compares.passed
+    split = turn.compares.splits ∙ append_assoc greater (t ∷ []) turn.compares.passed
+
+    descending : IsDescending (greater ++ t ∷ turn.compares.passed)
+    descending = subst IsDescending split turn.shaped.descending
 
     -- what holds of all terms of the claim
-    pub term_holds : (P : ℤ × List ℕ → Type 0) → All P claim → (entries : List (List ℕ × ℤ)) → Compares m d claim (greater ++ t ∷ []) entries → P t
-    term_holds P all entries compares = holds_between P greater t compares.passed (subst (All P) (split entries compares) all)
+    term_holds : (P : ℤ × List ℕ → Type 0) → All P claim → P t
+    term_holds P all = holds_between P greater t turn.compares.passed (subst (All P) split all)
 
-    terms_above : (entries : List (List ℕ × ℤ)) → Compares m d claim (greater ++ t ∷ []) entries → AllByRecursion (λ u. word_cmp u.1 t.1 ≡ Greater) greater
-    terms_above entries compares = above greater t compares.passed (subst IsDescending (split entries compares) descending)
+    pub product_fits : IsCoefficient (d *ℤ t.0)
+    product_fits = term_holds (λ u. IsCoefficient (d *ℤ u.0)) (products_fit d claim turn.fits)
 
-    wanted_is : (entries : List (List ℕ × ℤ)) → Compares m d claim (greater ++ t ∷ []) entries → wanted t.1 ≡ d *ℤ t.0
-    wanted_is entries compares =
-        ap (λ p. d *ℤ coefficient_of p t.1) (split entries compares)
-        ∙ ap (λ k. d *ℤ k) (coefficient_there greater t compares.passed (subst IsDescending (split entries compares) descending))
+    terms_above : AllByRecursion (λ u. word_cmp u.1 t.1 ≡ Greater) greater
+    terms_above = above greater t turn.compares.passed descending
+
+    wanted_is : wanted d claim t.1 ≡ d *ℤ t.0
+    wanted_is = ap (λ p. d *ℤ coefficient_of p t.1) split ∙ ap (λ k. d *ℤ k) (coefficient_there greater t turn.compares.passed descending)
 
     -- a word below the last term is in none of those left
-    below_terms : (entries : List (List ℕ × ℤ)) → Compares m d claim (greater ++ t ∷ []) entries → (w : List ℕ) → word_cmp w t.1 ≡ Less → coefficient_of (greater ++ t ∷ []) w ≡ pos 0
-    below_terms entries compares w less =
+    below_terms : (w : List ℕ) → word_cmp w t.1 ≡ Less → coefficient_of (greater ++ t ∷ []) w ≡ pos 0
+    below_terms w less =
         let least = word_cmp-turned w t.1 less in
         coefficient_of-append greater (t ∷ []) w
-        ∙ ap₂ ◌+ℤ◌ (none_listed w greater (weaker (λ u higher. apart_greater u.1 w (word_cmp-trans u.1 t.1 w higher least)) greater (terms_above entries compares)))
+        ∙ ap₂ ◌+ℤ◌ (none_listed w greater (weaker (λ u higher. apart_greater u.1 w (word_cmp-trans u.1 t.1 w higher least)) greater terms_above))
         (none_listed w (t ∷ []) (apart_greater t.1 w least, tt))
 
-    last_there : (entries : List (List ℕ × ℤ)) → Compares m d claim (greater ++ t ∷ []) entries → coefficient_of (greater ++ t ∷ []) t.1 ≡ t.0
-    last_there entries compares =
+    last_there : coefficient_of (greater ++ t ∷ []) t.1 ≡ t.0
+    last_there =
         coefficient_of-append greater (t ∷ []) t.1
-        ∙ ap₂ ◌+ℤ◌ (none_listed t.1 greater (weaker (λ u higher. apart_greater u.1 t.1 higher) greater (terms_above entries compares)))
+        ∙ ap₂ ◌+ℤ◌ (none_listed t.1 greater (weaker (λ u higher. apart_greater u.1 t.1 higher) greater terms_above))
         (coefficient_at t.1 t [] (word_eq-same t.1) ∙ +ℤ_idr t.0)
         ∙ +ℤ_idl t.0
 
     -- the last term, where the map has nothing up to its word
-    term_differs : (entries : List (List ℕ × ℤ)) → Compares m d claim (greater ++ t ∷ []) entries → pos 0 <ℤ d → t.0 ≢ pos 0
-        → coefficient_of (terms_of entries) t.1 ≡ pos 0 → ((w : List ℕ) → word_cmp w t.1 ≡ Less → coefficient_of (terms_of entries) w ≡ pos 0)
-        → IsLeastDifference wanted (coefficient_in m) t.1 (d *ℤ t.0) (pos 0)
-    term_differs entries compares positive nonzero none_there none_below = record {
-      wanted_there = wanted_is entries compares;
+    term_differs : coefficient_of (terms_of entries) t.1 ≡ pos 0 → ((w : List ℕ) → word_cmp w t.1 ≡ Less → coefficient_of (terms_of entries) w ≡ pos 0)
+        → IsLeastDifference (wanted d claim) (coefficient_in m) t.1 (d *ℤ t.0) (pos 0)
+    term_differs none_there none_below = record {
+      wanted_there = wanted_is;
       found_there =
-          let same = compares.same t.1 in
-          let rest : d *ℤ coefficient_of (greater ++ t ∷ []) t.1 ≡ d *ℤ t.0 = ap (λ k. d *ℤ k) (last_there entries compares) in
-          let want = wanted_is entries compares in
+          let same = turn.compares.same t.1 in
+          let rest : d *ℤ coefficient_of (greater ++ t ∷ []) t.1 ≡ d *ℤ t.0 = ap (λ k. d *ℤ k) last_there in
+          let want = wanted_is in
           omega (arith, ints);
-      differ = λ none. nonzero (no_zero d t.0 positive none);
-      least = λ w less. agree_below (greater ++ t ∷ []) entries compares w (none_below w less) (below_terms entries compares w less);
+      differ = λ none. term_holds (λ u. u.0 ≢ pos 0) turn.shaped.nonzero (no_zero d t.0 turn.positive none);
+      least = λ w less. agree_below turn.compares w (none_below w less) (below_terms w less);
     }
       where
         no_zero : (k x : ℤ) → pos 0 <ℤ k → k *ℤ x ≡ pos 0 → x ≡ pos 0
@@ -150,59 +163,55 @@ module _ (m : BTreeMap (List ℕ) ℤ) (d : ℤ) (claim : List (ℤ × List ℕ)
         no_zero (pos zero) x positive none = absurd (omega (arith, ints))
         no_zero (negsuc n) x positive none = absurd (omega (arith, ints))
 
-    -- no entry is left
-    pub term_left : Compares m d claim (greater ++ t ∷ []) [] → pos 0 <ℤ d → t.0 ≢ pos 0 → IsLeastDifference wanted (coefficient_in m) t.1 (d *ℤ t.0) (pos 0)
-    term_left compares positive nonzero = term_differs [] compares positive nonzero refl (λ w less. refl)
+  -- no entry is left
+  pub term_left : {greater : List (ℤ × List ℕ)} {t : ℤ × List ℕ} → EndsIn m d claim greater t []
+      → IsLeastDifference (wanted d claim) (coefficient_in m) t.1 (d *ℤ t.0) (pos 0)
+  term_left turn = term_differs turn refl (λ w less. refl)
 
+  module _ {greater : List (ℤ × List ℕ)} {t : ℤ × List ℕ} {e : List ℕ × ℤ} {es : List (List ℕ × ℤ)} (turn : EndsIn m d claim greater t (e ∷ es)) where
     -- the next entry is below the next term
-    pub entry_first : IsRunning m → (e : List ℕ × ℤ) (es : List (List ℕ × ℤ)) → Compares m d claim (greater ++ t ∷ []) (e ∷ es) → word_cmp e.0 t.1 ≡ Less → IsLeastDifference wanted (coefficient_in m) e.0 (pos 0) e.1
-    entry_first running e es compares less =
-        entry_differs running e es (greater ++ t ∷ []) compares (below_terms (e ∷ es) compares e.0 less) (λ w lesser. below_terms (e ∷ es) compares w (word_cmp_total.trans w e.0 t.1 lesser less))
+    pub entry_first : word_cmp e.0 t.1 ≡ Less → IsLeastDifference (wanted d claim) (coefficient_in m) e.0 (pos 0) e.1
+    entry_first less = entry_differs turn.compares turn.running (below_terms turn e.0 less) (λ w lesser. below_terms turn w (word_cmp_total.trans w e.0 t.1 lesser less))
 
     -- the next term is below the next entry
-    pub term_first : IsRunning m → (e : List ℕ × ℤ) (es : List (List ℕ × ℤ)) → Compares m d claim (greater ++ t ∷ []) (e ∷ es) → word_cmp e.0 t.1 ≡ Greater → pos 0 <ℤ d → t.0 ≢ pos 0
-        → IsLeastDifference wanted (coefficient_in m) t.1 (d *ℤ t.0) (pos 0)
-    term_first running e es compares higher positive nonzero =
+    pub term_first : word_cmp e.0 t.1 ≡ Greater → IsLeastDifference (wanted d claim) (coefficient_in m) t.1 (d *ℤ t.0) (pos 0)
+    term_first higher =
         let less = word_cmp-turned_back e.0 t.1 higher in
-        term_differs (e ∷ es) compares positive nonzero (below_entries running e es (greater ++ t ∷ []) compares t.1 less)
-        (λ w lesser. below_entries running e es (greater ++ t ∷ []) compares w (word_cmp_total.trans w t.1 e.0 lesser less))
+        term_differs turn (below_entries turn.compares t.1 less) (λ w lesser. below_entries turn.compares w (word_cmp_total.trans w t.1 e.0 lesser less))
 
-    module _ (running : IsRunning m) (e : List ℕ × ℤ) (es : List (List ℕ × ℤ)) (compares : Compares m d claim (greater ++ t ∷ []) (e ∷ es)) (equal : word_cmp e.0 t.1 ≡ Equal) where
-      one_word : e.0 ≡ t.1
-      one_word = word_cmp-same e.0 t.1 equal
+    -- both have the word, with different coefficients
+    pub both_differ : word_cmp e.0 t.1 ≡ Equal → d *ℤ t.0 ≢ e.1 → IsLeastDifference (wanted d claim) (coefficient_in m) e.0 (d *ℤ t.0) e.1
+    both_differ equal differ =
+        let one_word : e.0 ≡ t.1 = word_cmp-same e.0 t.1 equal in
+        record {
+          wanted_there = ap (wanted d claim) one_word ∙ wanted_is turn;
+          found_there = entry_is turn.compares;
+          differ = differ;
+          least = λ w less. agree_below turn.compares w (below_entries turn.compares w less) (below_terms turn w (ap (word_cmp w) (sym one_word) ∙ less));
+        }
 
-      -- both have the word, with different coefficients
-      pub both_differ : d *ℤ t.0 ≢ e.1 → IsLeastDifference wanted (coefficient_in m) e.0 (d *ℤ t.0) e.1
-      both_differ differ = record {
-        wanted_there = ap wanted one_word ∙ wanted_is (e ∷ es) compares;
-        found_there = entry_is running e es (greater ++ t ∷ []) compares;
-        differ = differ;
-        least = λ w less. agree_below (greater ++ t ∷ []) (e ∷ es) compares w (below_entries running e es (greater ++ t ∷ []) compares w less)
-            (below_terms (e ∷ es) compares w (ap (word_cmp w) (sym one_word) ∙ less));
-      }
-
-      -- both have it with the same coefficient
-      pub both_agree : d *ℤ t.0 ≡ e.1 → Compares m d claim greater es
-      both_agree agree = record {
-        same = λ w. same w;
-        sorted = sorted_tail word_cmp e.0 (keys_of es) compares.sorted;
-        found = compares.found.1;
-        passed = t ∷ compares.passed;
-        splits = split (e ∷ es) compares;
-      }
-        where
-          same : (w : List ℕ) → d *ℤ coefficient_of claim w +ℤ coefficient_of (terms_of es) w ≡ coefficient_in m w +ℤ d *ℤ coefficient_of greater w
-          same w =
-              let both = compares.same w in
-              let last : d *ℤ coefficient_of (greater ++ t ∷ []) w ≡ d *ℤ coefficient_of greater w +ℤ d *ℤ (cond (word_eq t.1 w) t.0 (pos 0) +ℤ pos 0) =
-              ap (λ k. d *ℤ k) (coefficient_of-append greater (t ∷ []) w) ∙ *ℤ-+ℤ d (coefficient_of greater w) (cond (word_eq t.1 w) t.0 (pos 0) +ℤ pos 0) in
-              let first : coefficient_of (terms_of (e ∷ es)) w ≡ d *ℤ (cond (word_eq t.1 w) t.0 (pos 0) +ℤ pos 0) +ℤ coefficient_of (terms_of es) w =
-              ap (λ x. cond (word_eq x w) e.1 (pos 0) +ℤ coefficient_of (terms_of es) w) one_word ∙ ap (λ k. k +ℤ coefficient_of (terms_of es) w) (one (word_eq t.1 w)) in
-              omega (arith, ints)
-            where
-              one : (b : Bool) → cond b e.1 (pos 0) ≡ d *ℤ (cond b t.0 (pos 0) +ℤ pos 0)
-              one true = sym agree ∙ ap (λ k. d *ℤ k) (sym (+ℤ_idr t.0))
-              one false = sym (*ℤ-zero d)
+    -- both have it with the same coefficient
+    pub both_agree : word_cmp e.0 t.1 ≡ Equal → d *ℤ t.0 ≡ e.1 → Compares m d claim greater es
+    both_agree equal agree = record {
+      same = λ w. same w;
+      sorted = sorted_tail word_cmp e.0 (keys_of es) turn.compares.sorted;
+      found = turn.compares.found.1;
+      passed = t ∷ turn.compares.passed;
+      splits = split turn;
+    }
+      where
+        same : (w : List ℕ) → d *ℤ coefficient_of claim w +ℤ coefficient_of (terms_of es) w ≡ coefficient_in m w +ℤ d *ℤ coefficient_of greater w
+        same w =
+            let both = turn.compares.same w in
+            let last : d *ℤ coefficient_of (greater ++ t ∷ []) w ≡ d *ℤ coefficient_of greater w +ℤ d *ℤ (cond (word_eq t.1 w) t.0 (pos 0) +ℤ pos 0) =
+            ap (λ k. d *ℤ k) (coefficient_of-append greater (t ∷ []) w) ∙ *ℤ-+ℤ d (coefficient_of greater w) (cond (word_eq t.1 w) t.0 (pos 0) +ℤ pos 0) in
+            let first : coefficient_of (terms_of (e ∷ es)) w ≡ d *ℤ (cond (word_eq t.1 w) t.0 (pos 0) +ℤ pos 0) +ℤ coefficient_of (terms_of es) w =
+            ap (λ x. cond (word_eq x w) e.1 (pos 0) +ℤ coefficient_of (terms_of es) w) (word_cmp-same e.0 t.1 equal) ∙ ap (λ k. k +ℤ coefficient_of (terms_of es) w) (one (word_eq t.1 w)) in
+            omega (arith, ints)
+          where
+            one : (b : Bool) → cond b e.1 (pos 0) ≡ d *ℤ (cond b t.0 (pos 0) +ℤ pos 0)
+            one true = sym agree ∙ ap (λ k. d *ℤ k) (sym (+ℤ_idr t.0))
+            one false = sym (*ℤ-zero d)
 
 -- the entries of an ordered map, as terms, have its coefficients
 entries_are : (w : List ℕ) (es : List (List ℕ × ℤ)) → IsStrictlySortedBy word_cmp (keys_of es) → coefficient_of (terms_of es) w ≡ unwrap_or (lookup (is_at (word_cmp w)) es) (pos 0)
@@ -234,7 +243,7 @@ begins m d claim ordered found = record {
 }
 
 -- what a call that makes a difference returns
-pub told : (wanted found : List ℕ → ℤ) (r : Result (Option Difference) AllocError) (w : List ℕ) (want got : ℤ)
-    → IfOk r (λ d. d ≡ Some (record { word = w; want = want; got = got })) → IsLeastDifference wanted found w want got → IfOk r (IsComparison wanted found)
-told wanted found (Ok d) w want got is differs = subst (IsComparison wanted found) (sym is) differs
-told wanted found (Err e) w want got is differs = tt
+pub told : {multiple found : List ℕ → ℤ} {w : List ℕ} {want got : ℤ} (r : Result (Option Difference) AllocError) → IsLeastDifference multiple found w want got
+    → IfOk r (λ d. d ≡ Some (record { word = w; want = want; got = got })) → IfOk r (IsComparison multiple found)
+told {multiple = multiple} {found = found} (Ok d) differs is = subst (IsComparison multiple found) (sym is) differs
+told (Err e) differs is = tt

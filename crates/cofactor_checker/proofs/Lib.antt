@@ -6,6 +6,7 @@ pub mod Comparing
 pub mod Counts
 pub mod RowSums
 pub mod Outcomes
+pub mod Tests
 pub mod Unique
 pub mod Judged
 mod Examples

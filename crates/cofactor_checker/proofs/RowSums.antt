@@ -20,7 +20,7 @@ use Rattle.cofactor_trace.specs.Rows.{row_of, rows_of}
 use Rattle.nc_polynomial.specs.Collected.{coefficient_in}
 use Rattle.adjoint_rules.specs.Problem.{polynomials}
 use Rattle.cofactor_checker.specs.Operations.{adding_operations, row_operations}
-use Rattle.cofactor_checker.specs.Rows.{IsNumberUpTo, RowPasses, RowsPass, Reaches, LacksGenerator, Overflows, Outgrows}
+use Rattle.cofactor_checker.specs.Rows.{term_count, IsNumberUpTo, RowPasses, RowsPass, Reaches, LacksGenerator, Overflows, Outgrows}
 use Rattle.cofactor_checker.specs.Running.{IsRunning, IsSumOf, Adds}
 use Rattle.cofactor_checker.proofs.Counts.{len-term_count}
 
@@ -40,57 +40,65 @@ pub record SumsUpTo (generators : List (List (ℤ × List ℕ))) (rows : List Ro
   pub sum : IsSumOf m (row_sum generators (take i rows))
   pub passed : RowsPass generators rows i
 
-module _ (generators : List (List (ℤ × List ℕ))) (rows : List Row) (m : BTreeMap (List ℕ) ℤ) (i : ℕ) (r : Row) (there : slice_get rows i ≡ Some r) (so_far : SumsUpTo generators rows m i) (number : ℕ) (numbered : number ≡ i + 1) where
+-- The turn of the row with this number: it stands behind the first i rows, whose sum is the map.
+pub record IsNext (generators : List (List (ℤ × List ℕ))) (rows : List Row) (m : BTreeMap (List ℕ) ℤ) (number i : ℕ) (r : Row) : Type 0 where
+  pub numbered : number ≡ i + 1
+  pub there : slice_get rows i ≡ Some r
+  pub so_far : SumsUpTo generators rows m i
+
+-- The row is over a generator, and is added to one map, which gives the other.
+pub record IsAdded (generators : List (List (ℤ × List ℕ))) (m n : BTreeMap (List ℕ) ℤ) (r : Row) : Type 0 where
+  pub generator : IsNumberUpTo (length generators) r.generator
+  pub operations : first_overflow (adding_operations (coefficient_in m) r.coefficient r.left (generator_at generators r.generator) r.right) ≡ None
+  pub running : IsRunning n
+  pub adds : Adds m n (row_poly generators r)
+  pub ordered : IsOrdered word_cmp n
+
+module _ {generators : List (List (ℤ × List ℕ))} {rows : List Row} {m : BTreeMap (List ℕ) ℤ} {number i : ℕ} {r : Row} (next : IsNext generators rows m number i r) where
   reached : Reaches generators rows number i r
-  reached = record { numbered = numbered; row = there; earlier = so_far.passed }
+  reached = record { numbered = next.numbered; row = next.there; earlier = next.so_far.passed }
 
   -- the operations by what the map has
   operations_are : adding_operations (coefficient_in m) r.coefficient r.left (generator_at generators r.generator) r.right ≡ row_operations generators rows i r
-  operations_are = ap (λ (f : List ℕ → ℤ). adding_operations f r.coefficient r.left (generator_at generators r.generator) r.right) (λ k w. so_far.sum.at w k)
+  operations_are = ap (λ (f : List ℕ → ℤ). adding_operations f r.coefficient r.left (generator_at generators r.generator) r.right) (λ k w. next.so_far.sum.at w k)
 
   pub lacks_generator : (IsNumberUpTo (length generators) r.generator → ⊥) → LacksGenerator generators rows number
   lacks_generator none = record { before = i; row = r; reached = reached; generator = none }
 
-  module _ (generator : IsNumberUpTo (length generators) r.generator) where
-    pub overflows : (o : Overflow) → first_overflow (adding_operations (coefficient_in m) r.coefficient r.left (generator_at generators r.generator) r.right) ≡ Some o → Overflows generators rows number o
-    overflows o first = record { before = i; row = r; reached = reached; generator = generator; operations = sym (ap first_overflow operations_are) ∙ first }
+  pub overflows : {o : Overflow} → IsNumberUpTo (length generators) r.generator
+      → first_overflow (adding_operations (coefficient_in m) r.coefficient r.left (generator_at generators r.generator) r.right) ≡ Some o → Overflows generators rows number o
+  overflows generator first = record { before = i; row = r; reached = reached; generator = generator; operations = sym (ap first_overflow operations_are) ∙ first }
 
-    module _ (none : first_overflow (adding_operations (coefficient_in m) r.coefficient r.left (generator_at generators r.generator) r.right) ≡ None)
-        (n : BTreeMap (List ℕ) ℤ) (running : IsRunning n) (adds : Adds m n (row_poly generators r)) (ordered : IsOrdered word_cmp n) where
-      -- the map with the row
-      sum_more : IsSumOf n (row_sum generators (take (i + 1) rows))
-      sum_more = record {
-        at = λ w.
-            adds.at w ∙ ap (λ k. k +ℤ coefficient_of (row_poly generators r) w) (so_far.sum.at w) ∙ sym (row_sum-push generators (take i rows) r w)
-            ∙ ap (λ rs. coefficient_of (row_sum generators rs) w) (sym (take_more rows i r (slice_get_within rows i r there) ∙ ap (λ x. take i rows ++ x ∷ []) (get_or_from_slice_get rows i r r there)));
-      }
+  module _ {n : BTreeMap (List ℕ) ℤ} (added : IsAdded generators m n r) where
+    operations_pass : first_overflow (row_operations generators rows i r) ≡ None
+    operations_pass = sym (ap first_overflow operations_are) ∙ added.operations
 
-      pub outgrows : 200000 < btree_map_len n → Outgrows generators rows number
-      outgrows large = record {
-        before = i;
-        row = r;
-        reached = reached;
-        generator = generator;
-        operations = sym (ap first_overflow operations_are) ∙ none;
-        size = subst (λ k. 200000 < k) (len-term_count n (row_sum generators (take (i + 1) rows)) ordered running sum_more) large;
-      }
+    -- the map with the row
+    sum_more : IsSumOf n (row_sum generators (take (i + 1) rows))
+    sum_more = record {
+      at = λ w.
+          added.adds.at w ∙ ap (λ k. k +ℤ coefficient_of (row_poly generators r) w) (next.so_far.sum.at w) ∙ sym (row_sum-push generators (take i rows) r w)
+          ∙ ap (λ rs. coefficient_of (row_sum generators rs) w) (sym (take_more rows i r (slice_get_within rows i r next.there) ∙ ap (λ x. take i rows ++ x ∷ []) (get_or_from_slice_get rows i r r next.there)));
+    }
 
-      pub passes : btree_map_len n ≤ 200000 → SumsUpTo generators rows n (i + 1)
-      passes small = record { running = running; sum = sum_more; passed = record { at = each } }
-        where
-          here : RowPasses generators rows i r
-          here = record {
-            generator = generator;
-            operations = sym (ap first_overflow operations_are) ∙ none;
-            size = subst (λ k. k ≤ 200000) (len-term_count n (row_sum generators (take (i + 1) rows)) ordered running sum_more) small;
-          }
+    size_is : btree_map_len n ≡ term_count (row_sum generators (take (i + 1) rows))
+    size_is = len-term_count n (row_sum generators (take (i + 1) rows)) added.ordered added.running sum_more
 
-          each : (j : ℕ) (s : Row) → j < i + 1 → slice_get rows j ≡ Some s → RowPasses generators rows j s
-          each j s below at = by (cases_eq j i)
-            where
-              by : (j ≡ i) ⊎ (j ≡ i → ⊥) → RowPasses generators rows j s
-              by (inl last) = let same : s ≡ r = cc in subst (λ k. RowPasses generators rows k s) (sym last) (subst (RowPasses generators rows i) (sym same) here)
-              by (inr earlier) = so_far.passed.at j s (omega arith) at
+    pub outgrows : 200000 < btree_map_len n → Outgrows generators rows number
+    outgrows large = record { before = i; row = r; reached = reached; generator = added.generator; operations = operations_pass; size = subst (λ k. 200000 < k) size_is large }
+
+    pub passes : btree_map_len n ≤ 200000 → SumsUpTo generators rows n (i + 1)
+    passes small = record { running = added.running; sum = sum_more; passed = record { at = each } }
+      where
+        here : RowPasses generators rows i r
+        here = record { generator = added.generator; operations = operations_pass; size = subst (λ k. k ≤ 200000) size_is small }
+
+        each : (j : ℕ) (s : Row) → j < i + 1 → slice_get rows j ≡ Some s → RowPasses generators rows j s
+        each j s below at = by (cases_eq j i)
+          where
+            by : (j ≡ i) ⊎ (j ≡ i → ⊥) → RowPasses generators rows j s
+            by (inl last) = let there = next.there in let same : s ≡ r = cc in subst (λ k. RowPasses generators rows k s) (sym last) (subst (RowPasses generators rows i) (sym same) here)
+            by (inr earlier) = next.so_far.passed.at j s (omega arith) at
 
 -- before the first row
 pub begins : (generators : List (List (ℤ × List ℕ))) (rows : List Row) (m : BTreeMap (List ℕ) ℤ) → IsEmpty m → SumsUpTo generators rows m 0
@@ -119,3 +127,14 @@ generator_at-numbered ps (suc k) p numbered there =
 
 pub length-polynomials : (ps : List Poly) → length (polynomials ps) ≡ length ps
 length-polynomials ps = length-map ps (λ (q : Poly). q.terms)
+
+-- The number names the polynomial.
+pub record Names (ps : List Poly) (n : ℕ) (p : Poly) : Type 0 where
+  pub number : IsNumberUpTo (length (polynomials ps)) n
+  pub terms : p.terms ≡ generator_at (polynomials ps) n
+
+pub named : (ps : List Poly) (n : ℕ) (p : Poly) → IsNumberUpTo (length ps) n → slice_get ps (n - 1) ≡ Some p → Names ps n p
+named ps n p number there = record {
+  number = subst (λ k. IsNumberUpTo k n) (sym (length-polynomials ps)) number;
+  terms = sym (generator_at-numbered ps n p number there);
+}

@@ -1,6 +1,6 @@
 -- one refusal at most: the tests are passed in their order, and a refusal tells the first that fails
-use Rattle.std.proofs.Common.{◌≡◌, ℕ, zero, suc, ◌+◌, ◌<◌, ◌≤◌, ℤ, pos, ◌≤ℤ◌, List, length, take, slice_get, Some, None, ◌⊎◌, inl, inr, refl, sym, ap, ◌∙◌, subst, arith}
-use Rattle.std.proofs.lemmas.Bool.{cases_eq, cases_order}
+use Rattle.std.proofs.Common.{◌≡◌, ℕ, zero, suc, ◌+◌, ◌<◌, ◌≤◌, ℤ, pos, ◌≤ℤ◌, List, length, take, slice_get, Some, None, ◌⊎◌, inl, inr, refl, sym, ap, ◌∙◌, subst₂, arith}
+use Rattle.std.proofs.lemmas.Bool.{cases_order}
 use Rattle.std.proofs.lemmas.Int.{ints}
 use Rattle.std.proofs.lemmas.Option.{slice_get_within}
 use Rattle.std.specs.declared.cmp.Ordering.TheVariants.{Less}
@@ -19,29 +19,7 @@ use Rattle.cofactor_checker.specs.RowRefusals.{RefusesRow}
 use Rattle.cofactor_checker.specs.Rows.{term_count, IsNumberUpTo, RowPasses, RowsPass}
 use Rattle.cofactor_checker.specs.declared.Refusal.{Refusal}
 use Rattle.cofactor_checker.specs.declared.Refusal.TheVariants as refusal
-
--- ---- tests in a row, by their number
-abbrev Before : (ℕ → Type 0) → ℕ → Type 0
-Before test k = (j : ℕ) → j < k → test j
-
-none_before : (test : ℕ → Type 0) → Before test 0
-none_before test j below = absurd (omega arith)
-
-one_more : (test : ℕ → Type 0) (k : ℕ) → Before test k → test k → Before test (suc k)
-one_more test k before here j below = go (cases_eq j k)
-  where
-    go : (j ≡ k) ⊎ (j ≡ k → ⊥) → test j
-    go (inl last) = subst test (sym last) here
-    go (inr earlier) = before j (omega arith)
-
--- the first that fails is one
-first_is_one : (test : ℕ → Type 0) (k m : ℕ) → Before test k → (test k → ⊥) → Before test m → (test m → ⊥) → k ≡ m
-first_is_one test k m before fails before' fails' = go (cases_order k m)
-  where
-    go : (k ≡ m) ⊎ ((k < m) ⊎ (m < k)) → k ≡ m
-    go (inl same) = same
-    go (inr (inl less)) = absurd (fails (before' k less))
-    go (inr (inr greater)) = absurd (fails' (before m greater))
+use Rattle.cofactor_checker.proofs.Tests.{Before, Fails, told_is_one}
 
 -- ---- the tests of a row
 abbrev RowTest : List (List (ℤ × List ℕ)) → List Row → ℕ → Row → ℕ → Type 0
@@ -55,41 +33,30 @@ RowTells generators rows i r zero e = e ≡ refusal.NoSuchGenerator (i + 1)
 RowTells generators rows i r (suc zero) e = (o : Overflow) × (e ≡ refusal.Overflow (i + 1) o) × (first_overflow (row_operations generators rows i r) ≡ Some o)
 RowTells generators rows i r (suc (suc s)) e = e ≡ refusal.Size (i + 1)
 
-record RowFails (generators : List (List (ℤ × List ℕ))) (rows : List Row) (e : Refusal) (i : ℕ) (r : Row) (s : ℕ) : Type 0 where
-  there : slice_get rows i ≡ Some r
-  earlier : RowsPass generators rows i
-  before : Before (RowTest generators rows i r) s
-  fails : RowTest generators rows i r s → ⊥
-  told : RowTells generators rows i r s e
-
 record FailsInRow (generators : List (List (ℤ × List ℕ))) (rows : List Row) (e : Refusal) : Type 0 where
   index : ℕ
   row : Row
-  test : ℕ
-  failed : RowFails generators rows e index row test
+  there : slice_get rows index ≡ Some row
+  earlier : RowsPass generators rows index
+  failed : Fails (RowTest generators rows index row) (RowTells generators rows index row) e
 
 module _ (generators : List (List (ℤ × List ℕ))) (rows : List Row) where
   fails_in_row : (e : Refusal) → RefusesRow generators rows e → (IsMemory e → ⊥) → FailsInRow generators rows e
   fails_in_row (refusal.NoSuchGenerator row) h no_memory = record {
     index = h.before;
     row = h.row;
-    test = 0;
-    failed = record {
-      there = h.reached.row;
-      earlier = h.reached.earlier;
-      before = none_before _;
-      fails = h.generator;
-      told = ap refusal.NoSuchGenerator h.reached.numbered;
-    };
+    there = h.reached.row;
+    earlier = h.reached.earlier;
+    failed = record { number = 0; before = tt; fails = h.generator; told = ap refusal.NoSuchGenerator h.reached.numbered };
   }
   fails_in_row (refusal.Overflow row o) h no_memory = record {
     index = h.before;
     row = h.row;
-    test = 1;
+    there = h.reached.row;
+    earlier = h.reached.earlier;
     failed = record {
-      there = h.reached.row;
-      earlier = h.reached.earlier;
-      before = one_more (RowTest generators rows h.before h.row) 0 (none_before _) h.generator;
+      number = 1;
+      before = (tt, h.generator);
       fails = λ none. let some = h.operations in (cc);
       told = (o, ap (λ n. refusal.Overflow n o) h.reached.numbered, h.operations);
     };
@@ -97,14 +64,9 @@ module _ (generators : List (List (ℤ × List ℕ))) (rows : List Row) where
   fails_in_row (refusal.Size row) h no_memory = record {
     index = h.before;
     row = h.row;
-    test = 2;
-    failed = record {
-      there = h.reached.row;
-      earlier = h.reached.earlier;
-      before = one_more (RowTest generators rows h.before h.row) 1 (one_more (RowTest generators rows h.before h.row) 0 (none_before _) h.generator) h.operations;
-      fails = λ small. let large = h.size in omega arith;
-      told = ap refusal.Size h.reached.numbered;
-    };
+    there = h.reached.row;
+    earlier = h.reached.earlier;
+    failed = record { number = 2; before = ((tt, h.generator), h.operations); fails = λ small. let large = h.size in omega arith; told = ap refusal.Size h.reached.numbered };
   }
   fails_in_row (refusal.Memory failed) h no_memory = absurd (no_memory tt)
   fails_in_row refusal.NoSuchClaim h no_memory = absurd h
@@ -117,30 +79,24 @@ module _ (generators : List (List (ℤ × List ℕ))) (rows : List Row) where
   passes_all i r pass (suc zero) = pass.operations
   passes_all i r pass (suc (suc s)) = pass.size
 
-  told_once : (i : ℕ) (r : Row) (s : ℕ) (e f : Refusal) → RowTells generators rows i r s e → RowTells generators rows i r s f → e ≡ f
-  told_once i r zero e f h k = h ∙ sym k
-  told_once i r (suc zero) e f (o, is, first) (o', is', first') = let same : o ≡ o' = cc in is ∙ ap (refusal.Overflow (i + 1)) same ∙ sym is'
-  told_once i r (suc (suc s)) e f h k = h ∙ sym k
+  told_once : (i : ℕ) (r : Row) (e f : Refusal) (s : ℕ) → RowTells generators rows i r s e → RowTells generators rows i r s f → e ≡ f
+  told_once i r e f zero h k = h ∙ sym k
+  told_once i r e f (suc zero) (o, is, first) (o', is', first') = let same : o ≡ o' = cc in is ∙ ap (refusal.Overflow (i + 1)) same ∙ sym is'
+  told_once i r e f (suc (suc s)) h k = h ∙ sym k
 
   row_refusal_is_one : (e f : Refusal) → FailsInRow generators rows e → FailsInRow generators rows f → e ≡ f
   row_refusal_is_one e f h k = go (cases_order h.index k.index)
     where
       go : (h.index ≡ k.index) ⊎ ((h.index < k.index) ⊎ (k.index < h.index)) → e ≡ f
-      go (inr (inl less)) = absurd (h.failed.fails (passes_all h.index h.row (k.failed.earlier.at h.index h.row less h.failed.there) h.test))
-      go (inr (inr greater)) = absurd (k.failed.fails (passes_all k.index k.row (h.failed.earlier.at k.index k.row greater k.failed.there) k.test))
-      go (inl same) = told_once h.index h.row h.test e f h.failed.told (subst (λ s. RowTells generators rows h.index h.row s f) (sym one_test) here.told)
+      go (inr (inl less)) = absurd (h.failed.fails (passes_all h.index h.row (k.earlier.at h.index h.row less h.there) h.failed.number))
+      go (inr (inr greater)) = absurd (k.failed.fails (passes_all k.index k.row (h.earlier.at k.index k.row greater k.there) k.failed.number))
+      go (inl same) = told_is_one h.failed here (told_once h.index h.row e f)
         where
-          moved : RowFails generators rows f h.index k.row k.test
-          moved = subst (λ i. RowFails generators rows f i k.row k.test) (sym same) k.failed
+          one_row : k.row ≡ h.row
+          one_row = let a = h.there in let b = k.there in cc
 
-          one_row : h.row ≡ k.row
-          one_row = let a = h.failed.there in let b = moved.there in cc
-
-          here : RowFails generators rows f h.index h.row k.test
-          here = subst (λ r. RowFails generators rows f h.index r k.test) (sym one_row) moved
-
-          one_test : h.test ≡ k.test
-          one_test = first_is_one (RowTest generators rows h.index h.row) h.test k.test h.failed.before h.failed.fails here.before here.fails
+          here : Fails (RowTest generators rows h.index h.row) (RowTells generators rows h.index h.row) f
+          here = subst₂ (λ i r. Fails (RowTest generators rows i r) (RowTells generators rows i r) f) (sym same) one_row k.failed
 
 -- ---- the tests of a certificate
 module _ (claims generators : List (List (ℤ × List ℕ))) (c : Certificate) where
@@ -165,29 +121,23 @@ module _ (claims generators : List (List (ℤ × List ℕ))) (c : Certificate) w
   Tells (suc (suc (suc zero))) e = FailsInRow generators (rows_of c.rows) e
   Tells (suc (suc (suc (suc k)))) e = Difference e
 
-  record Fails (e : Refusal) : Type 0 where
-    test : ℕ
-    before : Before Test test
-    fails : Test test → ⊥
-    told : Tells test e
-
   begun : Begins claims c → Before Test 3
-  begun h = one_more Test 2 (one_more Test 1 (one_more Test 0 (none_before Test) h.posed.claim) h.posed.denominator) h.products
+  begun h = (((tt, h.posed.claim), h.posed.denominator), h.products)
 
-  in_rows : Begins claims c → (e : Refusal) → FailsInRow generators (rows_of c.rows) e → Fails e
+  in_rows : Begins claims c → (e : Refusal) → FailsInRow generators (rows_of c.rows) e → Fails Test Tells e
   in_rows h e k = record {
-    test = 3;
+    number = 3;
     before = begun h;
     told = k;
-    fails = λ pass. k.failed.fails (passes_all generators (rows_of c.rows) k.index k.row (pass.at k.index k.row (slice_get_within (rows_of c.rows) k.index k.row k.failed.there) k.failed.there) k.test);
+    fails = λ pass. k.failed.fails (passes_all generators (rows_of c.rows) k.index k.row (pass.at k.index k.row (slice_get_within (rows_of c.rows) k.index k.row k.there) k.there) k.failed.number);
   }
 
-  fails_first : (e : Refusal) → Refuses claims generators c e → (IsMemory e → ⊥) → Fails e
-  fails_first refusal.NoSuchClaim h no_memory = record { test = 0; before = none_before Test; fails = h; told = refl }
-  fails_first refusal.ZeroDenominator h no_memory = record { test = 1; before = one_more Test 0 (none_before Test) h.claim; fails = λ least. omega (arith, ints, least, h.denominator); told = refl }
+  fails_first : (e : Refusal) → Refuses claims generators c e → (IsMemory e → ⊥) → Fails Test Tells e
+  fails_first refusal.NoSuchClaim h no_memory = record { number = 0; before = tt; fails = h; told = refl }
+  fails_first refusal.ZeroDenominator h no_memory = record { number = 1; before = (tt, h.claim); fails = λ least. omega (arith, ints, least, h.denominator); told = refl }
   fails_first (refusal.Overflow row o) (inl h) no_memory = record {
-    test = 2;
-    before = one_more Test 1 (one_more Test 0 (none_before Test) h.posed.claim) h.posed.denominator;
+    number = 2;
+    before = ((tt, h.posed.claim), h.posed.denominator);
     fails = λ none. let some = h.products in (cc);
     told = (o, ap (λ n. refusal.Overflow n o) h.before_rows, h.products);
   }
@@ -195,8 +145,8 @@ module _ (claims generators : List (List (ℤ × List ℕ))) (c : Certificate) w
   fails_first (refusal.NoSuchGenerator row) h no_memory = in_rows h.0 (refusal.NoSuchGenerator row) (fails_in_row generators (rows_of c.rows) (refusal.NoSuchGenerator row) h.1 no_memory)
   fails_first (refusal.Size row) h no_memory = in_rows h.0 (refusal.Size row) (fails_in_row generators (rows_of c.rows) (refusal.Size row) h.1 no_memory)
   fails_first (refusal.Differs word want got) h no_memory = record {
-    test = 4;
-    before = one_more Test 3 (begun h.adds_up.begins) h.adds_up.rows;
+    number = 4;
+    before = (begun h.adds_up.begins, h.adds_up.rows);
     fails = λ same. h.difference.differ (sym h.difference.wanted_there ∙ sym (same.at word) ∙ h.difference.found_there);
     told = record { word = word; want = want; got = got; is = refl; differs = h };
   }
@@ -216,21 +166,13 @@ module _ (claims generators : List (List (ℤ × List ℕ))) (c : Certificate) w
       go (inr (inl less)) = let a = h.differs.difference in absurd (a.differ (sym a.wanted_there ∙ k.differs.difference.least h.word less ∙ a.found_there))
       go (inr (inr greater)) = let b = k.differs.difference in absurd (b.differ (sym b.wanted_there ∙ h.differs.difference.least k.word greater ∙ b.found_there))
 
-  told_first : (k : ℕ) (e f : Refusal) → Tells k e → Tells k f → e ≡ f
-  told_first zero e f h k = h ∙ sym k
-  told_first (suc zero) e f h k = h ∙ sym k
-  told_first (suc (suc zero)) e f (o, is, first) (o', is', first') = let same : o ≡ o' = cc in is ∙ ap (refusal.Overflow 0) same ∙ sym is'
-  told_first (suc (suc (suc zero))) e f h k = row_refusal_is_one generators (rows_of c.rows) e f h k
-  told_first (suc (suc (suc (suc n)))) e f h k = difference_is_one e f h k
+  told_first : (e f : Refusal) (k : ℕ) → Tells k e → Tells k f → e ≡ f
+  told_first e f zero h k = h ∙ sym k
+  told_first e f (suc zero) h k = h ∙ sym k
+  told_first e f (suc (suc zero)) (o, is, first) (o', is', first') = let same : o ≡ o' = cc in is ∙ ap (refusal.Overflow 0) same ∙ sym is'
+  told_first e f (suc (suc (suc zero))) h k = row_refusal_is_one generators (rows_of c.rows) e f h k
+  told_first e f (suc (suc (suc (suc n)))) h k = difference_is_one e f h k
 
 pub refusal_is_unique : RefusalIsUnique
-refusal_is_unique claims generators c e f h k no_memory no_memory' = told_first claims generators c a.test e f a.told (subst (λ n. Tells claims generators c n f) (sym same) b.told)
-  where
-    a : Fails claims generators c e
-    a = fails_first claims generators c e h no_memory
-
-    b : Fails claims generators c f
-    b = fails_first claims generators c f k no_memory'
-
-    same : a.test ≡ b.test
-    same = first_is_one (Test claims generators c) a.test b.test a.before a.fails b.before b.fails
+refusal_is_unique claims generators c e f h k no_memory no_memory' =
+    told_is_one (fails_first claims generators c e h no_memory) (fails_first claims generators c f k no_memory') (told_first claims generators c e f)

@@ -92,7 +92,7 @@ module _ (all : List (List (ℤ × List ℕ))) (claim : List (ℤ × List ℕ)) 
 
     -- what adds up stops nowhere
     pub stops_never : RowsPass all rows (length rows) → SamePolynomial (row_sum all rows) (poly_multiple scale claim) → (r : Refusal) → Stops all claim scale rows r → ⊥
-    stops_never passed same r h = no_memory r h (accepted_is_not_refused (claim ∷ []) all (single scale rows) accepts r (refuses_here r h))
+    stops_never passed same r h = no_memory r h (accepted_is_not_refused accepts r (refuses_here r h))
       where
         accepts : Accepts (claim ∷ []) all (single scale rows)
         accepts = record {

@@ -1,18 +1,16 @@
 -- what the steps of a check mean for its outcome
-use Rattle.std.proofs.Common.{◌≡◌, inl, inr, ℕ, ℤ, ◌*ℤ◌, ◌+◌, List, [], ◌∷◌, ◌++◌, length, Result, Ok, Err, OnOk, sym, ◌∙◌}
-use Rattle.std.specs.BTreeMap.{BTreeMap}
-use Rattle.definitions.specs.Poly.{coefficient_of, poly_multiple}
-use Rattle.definitions.proofs.Coefficients.{coefficient_of-multiple}
-use Rattle.nc_polynomial.specs.Collected.{coefficient_in}
+use Rattle.std.proofs.Common.{◌≡◌, inl, inr, ℕ, ℤ, ◌+◌, List, [], ◌∷◌, ◌++◌, length, None, Result, Ok, Err, OnOk}
+use Rattle.coef_int.specs.Operations.{first_overflow}
+use Rattle.nc_polynomial.specs.Terms.{products}
+use Rattle.nc_polynomial.specs.declared.poly.Poly.{Poly}
+use Rattle.adjoint_rules.specs.Problem.{polynomials}
 use Rattle.cofactor_trace.specs.declared.evidence.Lemma.{Lemma}
 use Rattle.cofactor_trace.specs.declared.evidence.LemmaCertificate.{LemmaCertificate}
 use Rattle.cofactor_checker.specs.declared.Accepted.{Accepted}
-use Rattle.cofactor_checker.specs.Difference.{IsLeastDifference}
-use Rattle.cofactor_checker.specs.Running.{IsSumOf}
+use Rattle.cofactor_checker.proofs.RowSums.{Names}
 use Rattle.cofactor_trace.specs.LemmaRows.{IsEvidenceOf}
-use Rattle.evidence_checker.specs.Rows.{plain_sum}
 use Rattle.evidence_checker.specs.Lemmas.{lemma_polynomial, RefusesLemma, RefusesRows, RefusesLemmas, row_count}
-use Rattle.evidence_checker.specs.Acceptance.{goal_claim, all_polynomials, Begins, HasLemmas, AddsUp, AcceptsLemmas, SumDiffers, RefusesLemmaCertificate}
+use Rattle.evidence_checker.specs.Acceptance.{goal_claim, all_polynomials, HasShares, Begins, HasLemmas, AcceptsLemmas, RefusesLemmaCertificate}
 use Rattle.evidence_checker.specs.declared.refusal.EvidenceRefusal.{EvidenceRefusal}
 use Rattle.evidence_checker.specs.declared.refusal.EvidenceRefusal.TheVariants as refusal
 use Rattle.evidence_checker.proofs.Evidence.{shows}
@@ -23,6 +21,10 @@ never : (gs : List (List (ℤ × List ℕ))) (e : EvidenceRefusal) → ((ps : Li
 never gs e none ps rows [] refused = refused
 never gs e none ps rows (l ∷ lemmas) (inl here) = none ps rows l here
 never gs e none ps rows (l ∷ lemmas) (inr later) = never gs e none (ps ++ lemma_polynomial gs ps l ∷ []) (rows + length l.rows) lemmas later.1
+
+-- its scales divide, and it names the claim
+pub begins : {claims : List Poly} {c : LemmaCertificate} {p : Poly} → HasShares (polynomials claims) c → Names claims c.claim p → first_overflow (products c.goal.scale p.terms) ≡ None → Begins (polynomials claims) c
+begins shares names none = record { shares = shares; products = rw names.terms at none }
 
 module _ (claims gs : List (List (ℤ × List ℕ))) (c : LemmaCertificate) where
   -- a refusal of a lemma, where the lemmas are reached
@@ -56,24 +58,6 @@ module _ (claims gs : List (List (ℤ × List ℕ))) (c : LemmaCertificate) wher
   refuses_from_goal has (refusal.LooseScale lemma) refused = absurd refused
   refuses_from_goal has (refusal.Differs word want got) refused = absurd refused
   refuses_from_goal has (refusal.Certificate e) refused = absurd refused
-
-  module _ (adds_up : AddsUp claims gs c) (m : BTreeMap (List ℕ) ℤ) (sum : IsSumOf m (plain_sum gs (all_polynomials gs c) c.goal.rows)) where
-    multiple_is : (w : List ℕ) → c.goal.scale *ℤ coefficient_of (goal_claim claims c) w ≡ coefficient_of (poly_multiple c.goal.scale (goal_claim claims c)) w
-    multiple_is w = sym (coefficient_of-multiple c.goal.scale (goal_claim claims c) w)
-
-    pub accepts : ((w : List ℕ) → coefficient_in m w ≡ c.goal.scale *ℤ coefficient_of (goal_claim claims c) w) → AcceptsLemmas claims gs c
-    accepts same = record { adds_up = adds_up; sum = record { at = λ w. sym (sum.at w) ∙ same w ∙ multiple_is w } }
-
-    pub differs : (word : List ℕ) (want got : ℤ) → IsLeastDifference (λ w. c.goal.scale *ℤ coefficient_of (goal_claim claims c) w) (coefficient_in m) word want got → SumDiffers claims gs c word want got
-    differs word want got difference = record {
-      adds_up = adds_up;
-      difference = record {
-        wanted_there = sym (multiple_is word) ∙ difference.wanted_there;
-        found_there = sym (sum.at word) ∙ difference.found_there;
-        differ = difference.differ;
-        least = λ w less. sym (multiple_is w) ∙ difference.least w less ∙ sum.at w;
-      };
-    }
 
   pub shows_result : (r : Result Accepted EvidenceRefusal) → OnOk r (AcceptsLemmas claims gs c) → OnOk r (IsEvidenceOf gs (all_polynomials gs c) c (goal_claim claims c))
   shows_result (Ok a) accepted = shows claims gs c accepted

@@ -5,5 +5,5 @@ use Rattle.evidence_checker.specs.Laws.{AcceptedEvidenceAddsUp}
 use Rattle.evidence_checker.proofs.Evidence.{shows}
 
 pub accepted_evidence_adds_up : AcceptedEvidenceAddsUp
-accepted_evidence_adds_up claims generators (Plain c) accepted = combination_from_accepts claims generators c accepted
+accepted_evidence_adds_up claims generators (Plain c) accepted = combination_from_accepts accepted
 accepted_evidence_adds_up claims generators (Lemmas c) accepted = shows claims generators c accepted

@@ -1,7 +1,7 @@
 -- of one evidence there is one refusal at most: a refusal tells the first test that fails
 use Rattle.std.proofs.Common.{◌≡◌, ◌⊎◌, inl, inr, ℕ, zero, suc, ◌+◌, ◌<◌, ◌≤◌, ℤ, pos, ◌≤ℤ◌, List, [], ◌∷◌, ◌++◌, length, take, Some, None, Ok, All, slice_get, refl, sym, subst, ap, ◌∙◌, arith}
 use Rattle.std.specs.List.{AllByRecursion}
-use Rattle.std.proofs.lemmas.Bool.{cases_eq, cases_order}
+use Rattle.std.proofs.lemmas.Bool.{cases_order}
 use Rattle.std.proofs.lemmas.List.Elements.{recursion_from_All}
 use Rattle.std.proofs.lemmas.Option.{slice_get_within, get_or_from_slice_get}
 use Rattle.coef_int.specs.declared.Overflow.{Overflow}
@@ -22,6 +22,7 @@ use Rattle.cofactor_checker.specs.Acceptance.{Refuses}
 use Rattle.cofactor_checker.specs.declared.Refusal.{Refusal}
 use Rattle.cofactor_checker.specs.declared.Refusal.TheVariants as stop
 use Rattle.cofactor_checker.proofs.Outcomes.{accepted_is_not_refused}
+use Rattle.cofactor_checker.proofs.Tests.{Before, Fails, told_is_one}
 use Rattle.cofactor_checker.proofs.Unique.{refusal_is_unique}
 use Rattle.evidence_checker.specs.Rows.{plain_rows, plain_sum, IsGenerator, IsLemma}
 use Rattle.evidence_checker.specs.Lemmas.{LemmaRowsPass, lemma_polynomial, term_total, IsDivisible, LemmasPass, RefusesRows, IsLeastIndivisible, RefusesLemma, RefusesLemmas, row_count}
@@ -31,42 +32,6 @@ use Rattle.evidence_checker.specs.declared.refusal.EvidenceRefusal.{EvidenceRefu
 use Rattle.evidence_checker.specs.declared.refusal.EvidenceRefusal.TheVariants as refusal
 use Rattle.evidence_checker.proofs.Blocks.{Stops, none_some, stops_once, stops_never}
 use Rattle.evidence_checker.proofs.Short.{no_rest, short_row, short_lemma, short_lemmas, short}
-
--- ---- tests in a row, by their number
-abbrev Before : (ℕ → Type 0) → ℕ → Type 0
-Before test k = (j : ℕ) → j < k → test j
-
-none_before : (test : ℕ → Type 0) → Before test 0
-none_before test j below = absurd (omega arith)
-
-one_more : (test : ℕ → Type 0) (k : ℕ) → Before test k → test k → Before test (suc k)
-one_more test k before here j below = go (cases_eq j k)
-  where
-    go : (j ≡ k) ⊎ (j ≡ k → ⊥) → test j
-    go (inl last) = subst test (sym last) here
-    go (inr earlier) = before j (omega arith)
-
--- the first that fails is one
-first_is_one : (test : ℕ → Type 0) (k m : ℕ) → Before test k → (test k → ⊥) → Before test m → (test m → ⊥) → k ≡ m
-first_is_one test k m before fails before' fails' = go (cases_order k m)
-  where
-    go : (k ≡ m) ⊎ ((k < m) ⊎ (m < k)) → k ≡ m
-    go (inl same) = same
-    go (inr (inl less)) = absurd (fails (before' k less))
-    go (inr (inr greater)) = absurd (fails' (before m greater))
-
--- the tests of something, and what is told where one fails first
-record Fails (test : ℕ → Type 0) (tells : ℕ → EvidenceRefusal → Type 0) (e : EvidenceRefusal) : Type 0 where
-  number : ℕ
-  before : Before test number
-  fails : test number → ⊥
-  told : tells number e
-
-told_is_one : (test : ℕ → Type 0) (tells : ℕ → EvidenceRefusal → Type 0) → ((k : ℕ) (e f : EvidenceRefusal) → tells k e → tells k f → e ≡ f) → (e f : EvidenceRefusal) → Fails test tells e → Fails test tells f → e ≡ f
-told_is_one test tells once e f h k = once h.number e f h.told (subst (λ n. tells n f) (sym same) k.told)
-  where
-    same : h.number ≡ k.number
-    same = first_is_one test h.number k.number h.before h.fails k.before k.fails
 
 -- ---- the rows of a lemma or of the goal
 abbrev tell_lacking : CertFrom → ℕ → EvidenceRefusal
@@ -180,7 +145,7 @@ module _ (gs : List (List (ℤ × List ℕ))) where
     LemmaTells (suc (suc (suc k))) e = e ≡ refusal.Kept (before + length l.rows)
 
     in_rows : (e : EvidenceRefusal) → RefusesRows gs ps before l.rows e → (IsMemory e → ⊥) → Fails LemmaTest LemmaTells e
-    in_rows e h not = record { number = 0; before = none_before LemmaTest; fails = λ pass. not (short_row gs ps before l.rows pass e h); told = stopped gs ps before l.rows [] (pos 1) e h not }
+    in_rows e h not = record { number = 0; before = tt; fails = λ pass. not (short_row gs ps before l.rows pass e h); told = stopped gs ps before l.rows [] (pos 1) e h not }
 
     lemma_fails : (e : EvidenceRefusal) → RefusesLemma gs ps before l e → (IsMemory e → ⊥) → Fails LemmaTest LemmaTells e
     lemma_fails (refusal.NoSuchGenerator row) h not = in_rows (refusal.NoSuchGenerator row) h not
@@ -189,19 +154,19 @@ module _ (gs : List (List (ℤ × List ℕ))) where
     lemma_fails (refusal.Size row) h not = in_rows (refusal.Size row) h not
     lemma_fails (refusal.NotDivisible lemma word got) h not = record {
       number = 1;
-      before = one_more LemmaTest 0 (none_before LemmaTest) h.rows;
+      before = (tt, h.rows);
       fails = λ divides. no_rest gs l.scale (collected (plain_sum gs ps l.rows)) word got divides.each h.least.least;
       told = record { word = word; got = got; is = ap (λ n. refusal.NotDivisible n word got) h.numbered; least = h.least.least };
     }
     lemma_fails (refusal.LemmaSize lemma) h not = record {
       number = 2;
-      before = one_more LemmaTest 1 (one_more LemmaTest 0 (none_before LemmaTest) h.rows) h.divisible;
+      before = ((tt, h.rows), h.divisible);
       fails = λ fits. let large = h.size in (cc);
       told = ap refusal.LemmaSize h.numbered;
     }
     lemma_fails (refusal.Kept row) h not = record {
       number = 3;
-      before = one_more LemmaTest 2 (one_more LemmaTest 1 (one_more LemmaTest 0 (none_before LemmaTest) h.made.rows) h.made.divisible) h.made.size;
+      before = (((tt, h.made.rows), h.made.divisible), h.made.size);
       fails = λ small. let large = h.kept in omega arith;
       told = ap refusal.Kept h.last_row;
     }
@@ -216,14 +181,14 @@ module _ (gs : List (List (ℤ × List ℕ))) where
     rest_once e f h k =
         h.is ∙ ap (λ (t : ℤ × List ℕ). refusal.NotDivisible (length ps + 1) t.1 t.0) (least_once l.scale (collected (plain_sum gs ps l.rows)) h.word k.word h.got k.got h.least k.least) ∙ sym k.is
 
-    lemma_told : (k : ℕ) (e f : EvidenceRefusal) → LemmaTells k e → LemmaTells k f → e ≡ f
-    lemma_told zero e f h k = stopped_once gs ps before l.rows [] (pos 1) (omega arith) refl e f h k
-    lemma_told (suc zero) e f h k = rest_once e f h k
-    lemma_told (suc (suc zero)) e f h k = h ∙ sym k
-    lemma_told (suc (suc (suc n))) e f h k = h ∙ sym k
+    lemma_told : (e f : EvidenceRefusal) (k : ℕ) → LemmaTells k e → LemmaTells k f → e ≡ f
+    lemma_told e f zero h k = stopped_once gs ps before l.rows [] (pos 1) (omega arith) refl e f h k
+    lemma_told e f (suc zero) h k = rest_once e f h k
+    lemma_told e f (suc (suc zero)) h k = h ∙ sym k
+    lemma_told e f (suc (suc (suc n))) h k = h ∙ sym k
 
     lemma_once : (e f : EvidenceRefusal) → RefusesLemma gs ps before l e → RefusesLemma gs ps before l f → (IsMemory e → ⊥) → (IsMemory f → ⊥) → e ≡ f
-    lemma_once e f h k not not' = told_is_one LemmaTest LemmaTells lemma_told e f (lemma_fails e h not) (lemma_fails f k not')
+    lemma_once e f h k not not' = told_is_one (lemma_fails e h not) (lemma_fails f k not') (lemma_told e f)
 
   -- ---- one lemma after another
   lemmas_once : (ps : List (List (ℤ × List ℕ))) (before : ℕ) (lemmas : List Lemma) (e f : EvidenceRefusal) → RefusesLemmas gs ps before lemmas e → RefusesLemmas gs ps before lemmas f → (IsMemory e → ⊥) → (IsMemory f → ⊥) → e ≡ f
@@ -309,18 +274,18 @@ module _ (claims gs : List (List (ℤ × List ℕ))) (c : LemmaCertificate) wher
   Tells (suc (suc (suc (suc (suc k))))) e = GoalTold e
 
   posed : IsPosed claims c → Before Test 2
-  posed h = one_more Test 1 (one_more Test 0 (none_before Test) h.claim) h.positive
+  posed h = ((tt, h.claim), h.positive)
 
   shared : HasShares claims c → Before Test 3
-  shared h = one_more Test 2 (posed h.posed) h.tight
+  shared h = (posed h.posed, h.tight)
 
   begun : Begins claims c → Before Test 4
-  begun h = one_more Test 3 (shared h.shares) h.products
+  begun h = (shared h.shares, h.products)
 
   in_goal : HasLemmas claims gs c → (e : EvidenceRefusal) → Stopped gs (all_polynomials gs c) (row_count c.lemmas) c.goal.rows (goal_claim claims c) c.goal.scale e → Fails Test Tells e
   in_goal has e h = record {
     number = 5;
-    before = one_more Test 4 (begun has.begins) has.lemmas;
+    before = (begun has.begins, has.lemmas);
     fails = λ passes. stops_never (gs ++ all_polynomials gs c) (goal_claim claims c) c.goal.scale (plain_rows gs (all_polynomials gs c) c.goal.rows) has.begins.shares.posed.positive.goal has.begins.products passes.rows passes.same h.stop_at h.stops;
     told = record { least = has.begins.shares.posed.positive.goal; fits = has.begins.products; stopped_there = h };
   }
@@ -330,8 +295,8 @@ module _ (claims gs : List (List (ℤ × List ℕ))) (c : LemmaCertificate) wher
   in_block e (inr h) not = in_goal h.0 e (stopped gs (all_polynomials gs c) (row_count c.lemmas) c.goal.rows (goal_claim claims c) c.goal.scale e h.1 not)
 
   fails_first : (e : EvidenceRefusal) → RefusesLemmaCertificate claims gs c e → (IsMemory e → ⊥) → Fails Test Tells e
-  fails_first refusal.NoSuchClaim h not = record { number = 0; before = none_before Test; fails = h; told = refl }
-  fails_first refusal.ZeroDenominator h not = record { number = 1; before = one_more Test 0 (none_before Test) h.claim; fails = h.positive; told = refl }
+  fails_first refusal.NoSuchClaim h not = record { number = 0; before = tt; fails = h; told = refl }
+  fails_first refusal.ZeroDenominator h not = record { number = 1; before = (tt, h.claim); fails = h.positive; told = refl }
   fails_first (refusal.LooseScale lemma) h not = record { number = 2; before = posed h.0; fails = loose_scales c lemma h.1; told = record { lemma = lemma; is = refl; loose = h.1 } }
   fails_first (refusal.Overflow row o) (inl h) not = record {
     number = 3;
@@ -359,16 +324,16 @@ module _ (claims gs : List (List (ℤ × List ℕ))) (c : LemmaCertificate) wher
       let one : h.overflow ≡ k.overflow = cc in
       h.is ∙ ap (refusal.Overflow 0) one ∙ sym k.is
 
-  told_first : (k : ℕ) (e f : EvidenceRefusal) → Tells k e → Tells k f → e ≡ f
-  told_first zero e f h k = h ∙ sym k
-  told_first (suc zero) e f h k = h ∙ sym k
-  told_first (suc (suc zero)) e f h k = loose_told e f h k
-  told_first (suc (suc (suc zero))) e f h k = multiple_told e f h k
-  told_first (suc (suc (suc (suc zero)))) e f h k = lemmas_once gs [] 0 c.lemmas e f h.refuses k.refuses h.apart k.apart
-  told_first (suc (suc (suc (suc (suc n))))) e f h k = stopped_once gs (all_polynomials gs c) (row_count c.lemmas) c.goal.rows (goal_claim claims c) c.goal.scale h.least h.fits e f h.stopped_there k.stopped_there
+  told_first : (e f : EvidenceRefusal) (k : ℕ) → Tells k e → Tells k f → e ≡ f
+  told_first e f zero h k = h ∙ sym k
+  told_first e f (suc zero) h k = h ∙ sym k
+  told_first e f (suc (suc zero)) h k = loose_told e f h k
+  told_first e f (suc (suc (suc zero))) h k = multiple_told e f h k
+  told_first e f (suc (suc (suc (suc zero)))) h k = lemmas_once gs [] 0 c.lemmas e f h.refuses k.refuses h.apart k.apart
+  told_first e f (suc (suc (suc (suc (suc n))))) h k = stopped_once gs (all_polynomials gs c) (row_count c.lemmas) c.goal.rows (goal_claim claims c) c.goal.scale h.least h.fits e f h.stopped_there k.stopped_there
 
   certificate_once : (e f : EvidenceRefusal) → RefusesLemmaCertificate claims gs c e → RefusesLemmaCertificate claims gs c f → (IsMemory e → ⊥) → (IsMemory f → ⊥) → e ≡ f
-  certificate_once e f h k not not' = told_is_one Test Tells told_first e f (fails_first e h not) (fails_first f k not')
+  certificate_once e f h k not not' = told_is_one (fails_first e h not) (fails_first f k not') (told_first e f)
 
 -- ---- evidence of either format
 -- a refusal of a certificate without lemmas is one that is passed on
@@ -404,7 +369,7 @@ evidence_refusal_is_unique claims gs (Plain c) e f h k not not' =
 evidence_refusal_is_unique claims gs (Lemmas c) e f h k not not' = certificate_once claims gs c e f h k not not'
 
 pub accepted_evidence_is_not_refused : AcceptedEvidenceIsNotRefused
-accepted_evidence_is_not_refused claims gs (Plain c) e accepted h = subst IsMemory (sym a.is) (accepted_is_not_refused claims gs c accepted a.refused a.refuses)
+accepted_evidence_is_not_refused claims gs (Plain c) e accepted h = subst IsMemory (sym a.is) (accepted_is_not_refused accepted a.refused a.refuses)
   where
     a : PassedOn claims gs c e
     a = passed_on claims gs c e h

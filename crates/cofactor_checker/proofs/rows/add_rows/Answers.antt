@@ -1,94 +1,65 @@
-use Rattle.std.proofs.Common.{rules, ◌≡◌, ◌+◌, ◌-◌, ◌<◌, ◌≤◌, length, slice_get, Some, None, sym, ◌∙◌, subst, arith, to_z, of_z}
+use Rattle.std.proofs.Common.{rules, ◌≡◌, ◌+◌, ◌<◌, ◌≤◌, length, Some, sym, ◌∙◌, subst, arith, to_z, of_z}
 use mir.Syntax.{w128}
-use Rattle.std.specs.BTreeMap.{btree_map_len, IsOrdered}
+use Rattle.std.specs.BTreeMap.{btree_map_len}
 use Rattle.coef_int.specs.Operations.{first_overflow}
-use Rattle.word_core.specs.Canonical.{word_cmp}
-use Rattle.definitions.specs.Poly.{poly_multiple, poly_between}
 use Rattle.definitions.specs.Combination.{generator_at}
 use Rattle.cofactor_trace.specs.Rows.{row_of, rows_of}
 use Rattle.nc_polynomial.specs.Collected.{coefficient_in}
 use Rattle.adjoint_rules.specs.Problem.{polynomials}
 use Rattle.cofactor_checker.specs.Operations.{adding_operations}
 use Rattle.cofactor_checker.specs.Rows.{IsNumberUpTo, Overflows}
-use Rattle.cofactor_checker.specs.Running.{IsRunning, Adds}
-use Rattle.cofactor_checker.proofs.RowSums.{row_there, length-polynomials, generator_at-numbered, lacks_generator, overflows, outgrows, passes}
+use Rattle.cofactor_checker.proofs.RowSums.{IsNext, IsAdded, Names, row_there, length-polynomials, named, lacks_generator, overflows, outgrows, passes}
 use Rattle.cofactor_checker.proofs.rows.add_rows.Goals as goal
+use Rattle.cofactor_checker.proofs.rows.add_rows.Goals.{After-numbered, After-as_slice-terms, After-len}
+
+-- the row is next
+next : (c : After-numbered) → IsNext (polynomials c.args.generators.now) (rows_of c.args.rows.now) c.loop-row.sum (c.loop-row.number + 1) c.loop-row.row-index (row_of c.row-item.result)
+next c = record {
+  numbered = omega arith;
+  there = row_there c.args.rows.now c.loop-row.row-index c.row-item.result c.loop-row-test.true c.row-item.is;
+  so_far = c.loop-row.invariant.sums;
+}
+
+-- the generator of the row
+generator : (c : After-as_slice-terms) → Names c.args.generators.now c.row-item.result.generator c.in-Some.generator.now
+generator c = named c.args.generators.now c.row-item.result.generator c.in-Some.generator.now (search rules) (search rules)
+
+-- the row is added
+added : (c : After-len) → Names c.args.generators.now c.row-item.result.generator c.in-Some.generator.now
+    → IsAdded (polynomials c.args.generators.now) c.loop-row.sum c.add_row.new.sum (row_of c.row-item.result)
+added c names =
+    let row = c.row-item.result in
+    let is : to_z w128 (of_z w128 row.coef) ≡ row.coef = search rules in
+    let terms : c.as_slice-terms.result.now ≡ generator_at (polynomials c.args.generators.now) row.generator = search rules ∙ names.terms in
+    record { generator = names.number; operations = rw (← is, ← terms) (search rules); running = search rules; adds = rw (← is, ← terms) (search rules); ordered = search rules }
 
 pub returns-in_default-clause-refused : goal.returns-in_default-clause-refused
 returns-in_default-clause-refused c =
-    let ps = c.args.generators.now in
     let row = c.row-item.result in
-    let rows = rows_of c.args.rows.now in
-    let i = c.loop-row.row-index in
-    let there = row_there c.args.rows.now i row c.loop-row-test.true c.row-item.is in
-    let numbered : c.loop-row.number + 1 ≡ i + 1 = omega arith in
-    let none : IsNumberUpTo (length ps) row.generator → ⊥ = search rules in
-    lacks_generator (polynomials ps) rows c.loop-row.sum i (row_of row) there c.loop-row.invariant.sums (c.loop-row.number + 1) numbered
-    (λ is_number. none (subst (λ k. IsNumberUpTo k row.generator) (length-polynomials ps) is_number))
+    let none : IsNumberUpTo (length c.args.generators.now) row.generator → ⊥ = search rules in
+    lacks_generator (next (goal.at.returns-in_default-clause-refused c).After-numbered)
+    (λ is_number. none (subst (λ k. IsNumberUpTo k row.generator) (length-polynomials c.args.generators.now) is_number))
 
 pub returns-in-Err-Overflow-clause-refused : goal.returns-in-Err-Overflow-clause-refused
 returns-in-Err-Overflow-clause-refused c =
-    let ps = c.args.generators.now in
+    let passed = goal.at.returns-in-Err-Overflow-clause-refused c in
+    let names = generator passed.After-as_slice-terms in
     let row = c.row-item.result in
-    let rows = rows_of c.args.rows.now in
-    let i = c.loop-row.row-index in
-    let there = row_there c.args.rows.now i row c.loop-row-test.true c.row-item.is in
-    let numbered : c.loop-row.number + 1 ≡ i + 1 = omega arith in
-    let g = c.in-Some.generator.now in
-    let is_number : IsNumberUpTo (length ps) row.generator = search rules in
-    let found : slice_get ps (row.generator - 1) ≡ Some g = search rules in
-    let generator : IsNumberUpTo (length (polynomials ps)) row.generator = subst (λ k. IsNumberUpTo k row.generator) (sym (length-polynomials ps)) is_number in
-    let terms : c.as_slice-terms.result.now ≡ generator_at (polynomials ps) row.generator = search rules ∙ sym (generator_at-numbered ps row.generator g is_number found) in
-    let o = c.in-Err-Overflow.overflow in
     let is : to_z w128 (of_z w128 row.coef) ≡ row.coef = search rules in
-    let first = subst (λ z. first_overflow (adding_operations (coefficient_in c.loop-row.sum) z row.left c.as_slice-terms.result.now row.right) ≡ Some o) is (search rules) in
-    let refused = overflows (polynomials ps) rows c.loop-row.sum i (row_of row) there c.loop-row.invariant.sums (c.loop-row.number + 1) numbered generator o (rw terms at first) in
-    subst (Overflows (polynomials ps) rows (c.loop-row.number + 1)) (sym c.in-Err-Overflow.overflow-is) refused
+    let terms : c.as_slice-terms.result.now ≡ generator_at (polynomials c.args.generators.now) row.generator = search rules ∙ names.terms in
+    let first : first_overflow (adding_operations (coefficient_in c.loop-row.sum) row.coef row.left (generator_at (polynomials c.args.generators.now) row.generator) row.right) ≡ Some c.in-Err-Overflow.overflow =
+    rw (← is, ← terms) (search rules) in
+    subst (Overflows (polynomials c.args.generators.now) (rows_of c.args.rows.now) (c.loop-row.number + 1)) (sym c.in-Err-Overflow.overflow-is) (overflows (next passed.After-numbered) names.number first)
 
 pub returns-then-len-gt-TERM_LIMIT-clause-refused : goal.returns-then-len-gt-TERM_LIMIT-clause-refused
 returns-then-len-gt-TERM_LIMIT-clause-refused c =
-    let ps = c.args.generators.now in
-    let row = c.row-item.result in
-    let rows = rows_of c.args.rows.now in
-    let i = c.loop-row.row-index in
-    let there = row_there c.args.rows.now i row c.loop-row-test.true c.row-item.is in
-    let numbered : c.loop-row.number + 1 ≡ i + 1 = omega arith in
-    let g = c.in-Some.generator.now in
-    let is_number : IsNumberUpTo (length ps) row.generator = search rules in
-    let found : slice_get ps (row.generator - 1) ≡ Some g = search rules in
-    let generator : IsNumberUpTo (length (polynomials ps)) row.generator = subst (λ k. IsNumberUpTo k row.generator) (sym (length-polynomials ps)) is_number in
-    let terms : c.as_slice-terms.result.now ≡ generator_at (polynomials ps) row.generator = search rules ∙ sym (generator_at-numbered ps row.generator g is_number found) in
-    let n = c.add_row.new.sum in
-    let is : to_z w128 (of_z w128 row.coef) ≡ row.coef = search rules in
-    let none = subst (λ z. first_overflow (adding_operations (coefficient_in c.loop-row.sum) z row.left c.as_slice-terms.result.now row.right) ≡ None) is (search rules) in
-    let running : IsRunning n = search rules in
-    let adds = subst (λ z. Adds c.loop-row.sum n (poly_multiple z (poly_between row.left c.as_slice-terms.result.now row.right))) is (search rules) in
-    let ordered : IsOrdered word_cmp n = search rules in
-    let large : 200000 < btree_map_len n = search rules in
-    outgrows (polynomials ps) rows c.loop-row.sum i (row_of row) there c.loop-row.invariant.sums (c.loop-row.number + 1) numbered generator (rw terms at none) n running (rw terms at adds) ordered large
+    let passed = goal.at.returns-then-len-gt-TERM_LIMIT-clause-refused c in
+    let large : 200000 < btree_map_len c.add_row.new.sum = search rules in
+    outgrows (next passed.After-numbered) (added passed.After-len (generator passed.After-as_slice-terms)) large
 
 pub loop-row-preserved : goal.loop-row-preserved
 loop-row-preserved c =
-    let ps = c.args.generators.now in
-    let row = c.row-item.result in
-    let rows = rows_of c.args.rows.now in
-    let i = c.loop-row.row-index in
-    let there = row_there c.args.rows.now i row c.loop-row-test.true c.row-item.is in
-    let numbered : c.loop-row.number + 1 ≡ i + 1 = omega arith in
-    let g = c.in-Some.generator.now in
-    let is_number : IsNumberUpTo (length ps) row.generator = search rules in
-    let found : slice_get ps (row.generator - 1) ≡ Some g = search rules in
-    let generator : IsNumberUpTo (length (polynomials ps)) row.generator = subst (λ k. IsNumberUpTo k row.generator) (sym (length-polynomials ps)) is_number in
-    let terms : c.as_slice-terms.result.now ≡ generator_at (polynomials ps) row.generator = search rules ∙ sym (generator_at-numbered ps row.generator g is_number found) in
-    let n = c.add_row.new.sum in
-    let is : to_z w128 (of_z w128 row.coef) ≡ row.coef = search rules in
-    let none = subst (λ z. first_overflow (adding_operations (coefficient_in c.loop-row.sum) z row.left c.as_slice-terms.result.now row.right) ≡ None) is (search rules) in
-    let running : IsRunning n = search rules in
-    let adds = subst (λ z. Adds c.loop-row.sum n (poly_multiple z (poly_between row.left c.as_slice-terms.result.now row.right))) is (search rules) in
-    let ordered : IsOrdered word_cmp n = search rules in
-    let small : btree_map_len n ≤ 200000 = search rules in
-    record {
-      numbered = numbered;
-      ordered = ordered;
-      sums = passes (polynomials ps) rows c.loop-row.sum i (row_of row) there c.loop-row.invariant.sums (c.loop-row.number + 1) numbered generator (rw terms at none) n running (rw terms at adds) ordered small;
-    }
+    let passed = goal.at.loop-row-preserved c in
+    let more = added passed.After-len (generator passed.After-as_slice-terms) in
+    let small : btree_map_len c.add_row.new.sum ≤ 200000 = search rules in
+    record { numbered = omega arith; ordered = more.ordered; sums = passes (next passed.After-numbered) more small }
