@@ -16,7 +16,8 @@ use std::alloc::Global;
 use std::collections::BTreeMap;
 use word_core::Word;
 
-const TERM_LIMIT: usize = 200_000;
+/// The greatest number of terms of a sum of rows.
+pub const SUM_LIMIT: usize = 200_000;
 
 /// The item with this number, counted from 1.
 pub fn numbered<T>(items: &[T], number: u32) -> Option<&T>
@@ -59,7 +60,7 @@ pub fn add_rows(
             }
             Err(SumFault::Memory(failed)) => return Err(Refusal::Memory(failed)),
         }
-        if sum.len() > TERM_LIMIT {
+        if sum.len() > SUM_LIMIT {
             return Err(Refusal::Size { row: number });
         }
     }

@@ -11,15 +11,13 @@ ghost use Rattle.evidence_checker.specs.Rows.{place_of, plain_sum};
 ghost use Rattle.evidence_checker.specs.Lemmas.{LemmaRowsPass, RefusesRows};
 
 use crate::EvidenceRefusal;
-use cofactor_checker::rows::numbered;
+use cofactor_checker::rows::{SUM_LIMIT, numbered};
 use cofactor_checker::sum::add_row;
 use cofactor_trace::{CertFrom, LemmaRow};
 use nc_polynomial::{Poly, SumFault};
 use std::alloc::Global;
 use std::collections::BTreeMap;
 use word_core::Word;
-
-const TERM_LIMIT: usize = 200_000;
 
 // The generator or the lemma that a row is over.
 #[tactic(auto, using(crate::proofs::Places::found_generator, crate::proofs::Places::found_lemma))]
@@ -75,7 +73,7 @@ pub(crate) fn add_rows(
             }
             Err(SumFault::Memory(failed)) => return Err(EvidenceRefusal::Memory(failed)),
         }
-        if sum.len() > TERM_LIMIT {
+        if sum.len() > SUM_LIMIT {
             return Err(EvidenceRefusal::Size { row: number });
         }
     }

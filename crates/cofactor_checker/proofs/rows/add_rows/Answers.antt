@@ -51,9 +51,9 @@ returns-in-Err-Overflow-clause-refused c =
     rw (← is, ← terms) (search rules) in
     subst (Overflows (polynomials c.args.generators.now) (rows_of c.args.rows.now) (c.loop-row.number + 1)) (sym c.in-Err-Overflow.overflow-is) (overflows (next passed.After-numbered) names.number first)
 
-pub returns-then-len-gt-TERM_LIMIT-clause-refused : goal.returns-then-len-gt-TERM_LIMIT-clause-refused
-returns-then-len-gt-TERM_LIMIT-clause-refused c =
-    let passed = goal.at.returns-then-len-gt-TERM_LIMIT-clause-refused c in
+pub returns-then-len-gt-SUM_LIMIT-clause-refused : goal.returns-then-len-gt-SUM_LIMIT-clause-refused
+returns-then-len-gt-SUM_LIMIT-clause-refused c =
+    let passed = goal.at.returns-then-len-gt-SUM_LIMIT-clause-refused c in
     let large : 200000 < btree_map_len c.add_row.new.sum = search rules in
     outgrows (next passed.After-numbered) (added passed.After-len (generator passed.After-as_slice-terms)) large
 

@@ -59,9 +59,9 @@ returns-in-Err-Overflow-clause-refused c =
     rw (← is, ← named.terms_are) (search rules) in
     subst (OverflowsAt (polynomials gs) (polynomials ls) c.args.before c.args.rows.now (c.loop-row.number + 1)) (sym c.in-Err-Overflow.overflow-is) (overflows_at (next passed.After-named) named.number first)
 
-pub returns-then-len-gt-TERM_LIMIT-clause-refused : goal.returns-then-len-gt-TERM_LIMIT-clause-refused
-returns-then-len-gt-TERM_LIMIT-clause-refused c =
-    let passed = goal.at.returns-then-len-gt-TERM_LIMIT-clause-refused c in
+pub returns-then-len-gt-SUM_LIMIT-clause-refused : goal.returns-then-len-gt-SUM_LIMIT-clause-refused
+returns-then-len-gt-SUM_LIMIT-clause-refused c =
+    let passed = goal.at.returns-then-len-gt-SUM_LIMIT-clause-refused c in
     let large : 200000 < btree_map_len c.add_row.new.sum = search rules in
     outgrows_at (next passed.After-named) (added passed.After-len (names passed.After-as_slice-terms)) large
 
