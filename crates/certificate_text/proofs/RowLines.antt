@@ -1,12 +1,15 @@
 -- The line of a row is read as the row.
-use Rattle.std.proofs.Common.{◌≡◌, ℕ, Bool, true, false, ◌&&◌, List, [], ◌∷◌, ◌++◌, Some, Ok, IsTrue, arith, refl, subst, codes, if◌then◌else◌}
+use Rattle.std.proofs.Common.{◌≡◌, ℕ, Bool, true, false, not, ◌&&◌, List, [], ◌∷◌, ◌++◌, Some, None, Result, Ok, Err, IsTrue, arith, refl, subst, codes, if◌then◌else◌}
 use Rattle.std.specs.List.{AllByRecursion, list_all}
 use Rattle.std.specs.Str.{is_utf8, chars}
 use Rattle.std.proofs.lemmas.Bool.{and_parts, false_from_ne_true}
 use Rattle.std.proofs.lemmas.Slice.Eq.{bytes_eq-Decides}
 use Rattle.unicode_ident.proofs.IdentLemmas.{is_xid_start-ascii}
 use Rattle.quiver.specs.Declarations.{Declaration}
-use Rattle.certificate_text.specs.Fault.{◌>>=◌}
+use Rattle.certificate_text.specs.declared.fault.Flaw.{Flaw}
+use Rattle.certificate_text.specs.declared.fault.Flaw.TheVariants.{BadLine}
+use Rattle.cofactor_trace.specs.declared.CertRow.{CertRow}
+use Rattle.certificate_text.specs.Fault.{◌>>=◌, asked}
 use Rattle.certificate_text.specs.Letters.{is_letter, is_number, is_integer}
 use Rattle.certificate_text.specs.Lines.{RowTokens, is, is_close, closed, number_part, origin_part, row_parts, is_row, row_of, row_values, lemma_row_of, over_lemma}
 use Rattle.certificate_text.specs.Blocks.{origin_tokens, row_line, IsPlainRow}
@@ -70,3 +73,24 @@ row_line_read ds r plain = rw (parts_read r plain.row, plain.generator, plain.ro
 
 pub lemma_row_line_read : (ds : List Declaration) (r : RowTokens) → IsTrue (is_row r) → lemma_row_of ds (row_line r) ≡ (row_values ds r >>= λ row. Ok (over_lemma r.lemma row))
 lemma_row_line_read ds r row = rw (parts_read r row, row) refl
+
+-- ---- the row of a line by its parts
+
+-- the row of the parts, where they are those of a row
+abbrev row_at : List Declaration → RowTokens → Result CertRow Flaw
+row_at ds r = if is_row r then row_values ds r else Err BadLine
+
+pub row_of_parts : (ds : List Declaration) (line : List (List ℕ)) (r : RowTokens) → row_parts line ≡ Some r → r.lemma ≡ false → row_of ds line ≡ row_at ds r
+row_of_parts ds line r parts plain = rw parts (by_row r.lemma (is_row r) plain)
+  where
+    by_row : (lemma row : Bool) → lemma ≡ false → (asked BadLine (if not lemma && row then Some r else None) >>= row_values ds) ≡ (if row then row_values ds r else Err BadLine)
+    by_row true row plain = absurd (cc)
+    by_row false true plain = refl
+    by_row false false plain = refl
+
+pub lemma_row_of_parts : (ds : List Declaration) (line : List (List ℕ)) (r : RowTokens) → row_parts line ≡ Some r → lemma_row_of ds line ≡ (row_at ds r >>= λ row. Ok (over_lemma r.lemma row))
+lemma_row_of_parts ds line r parts = rw parts (by_row (is_row r))
+  where
+    by_row : (row : Bool) → (asked BadLine (if row then Some r else None) >>= λ s. (row_values ds s >>= λ row. Ok (over_lemma s.lemma row))) ≡ ((if row then row_values ds r else Err BadLine) >>= λ row. Ok (over_lemma r.lemma row))
+    by_row true = refl
+    by_row false = refl

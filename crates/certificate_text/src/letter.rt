@@ -1,6 +1,6 @@
 //! The tokens that spell letters.
 
-ghost use Rattle.std.specs.Prelude.{◌≡◌, ◌<◌, true, false, drop, IfSome, MatchOption};
+ghost use Rattle.std.specs.Prelude.{◌≡◌, ◌<◌, true, false, drop, IsTrue, IfSome, MatchOption};
 ghost use Rattle.std.specs.List.{list_all};
 ghost use Rattle.std.specs.Option.{option_copied, option_map, option_and_then};
 ghost use Rattle.std.specs.Str.{chars, is_utf8};
@@ -117,7 +117,8 @@ fn letter_named(quiver: &Quiver, name: &str, identity: bool) -> Option<Letter>
 
 /// The letter of the quiver that the token spells.
 pub fn letter_of(quiver: &Quiver, token: &[u8]) -> Option<Letter>
-    ensures { option_map (λ a. a.0) result ≡ letter_of quiver.now token.now }
+    ensures exact { option_map (λ a. a.0) result ≡ letter_of quiver.now token.now }
+    ensures letter { IfSome result (λ a. IsTrue (is_letter token.now)) }
 {
     let spelled = spelled_by(token)?;
     let letter = letter_named(quiver, spelled.name, spelled.identity)?;

@@ -1,12 +1,12 @@
 //! The rows of certificates of both formats.
 
-ghost use Rattle.std.specs.Prelude.{◌≡◌, ◌<◌, length, position, IsTrue, IfSome};
+ghost use Rattle.std.specs.Prelude.{◌≡◌, ◌<◌, ◌&&◌, length, position, IsTrue, IfOk, IfSome, if◌then◌else◌};
 ghost use Rattle.std.specs.List.{list_all};
 ghost use Rattle.std.specs.Option.{option_map};
 ghost use Rattle.certificate_text.specs.declared.fault.Flaw.TheVariants as flaw;
 ghost use Rattle.certificate_text.specs.Fault.{Reads, asked};
 ghost use Rattle.certificate_text.specs.Letters.{is_letter};
-ghost use Rattle.certificate_text.specs.Lines.{closed, bracketed, number_part, origin_part, row_parts, is_row, row_tokens, word_of, row_values, row_of, over_lemma, lemma_row_of, grown};
+ghost use Rattle.certificate_text.specs.Lines.{closed, bracketed, number_part, origin_part, row_parts, is_row, word_of, row_values, row_of, over_lemma, lemma_row_of, grown};
 ghost use Rattle.certificate_text.specs.Tokens.{is_closing, tokens_of};
 ghost use Rattle.certificate_text.specs.Views.{parts_of};
 
@@ -16,7 +16,7 @@ use crate::letter::{is_letter, letter_of};
 use crate::line::{INTEGER_LIMIT, NUMBER_LIMIT, ROW_LIMIT, is};
 use crate::number::{integer_within, is_integer, is_number, number_within};
 use crate::place::Size;
-use cofactor_trace::{CertFrom, CertRow, Format, LemmaRow};
+use cofactor_trace::{CertFrom, CertRow, LemmaRow};
 use quiver::Quiver;
 use std::alloc::Global;
 use word_core::Word;
@@ -122,36 +122,23 @@ fn are_letters(letters: &[u8]) -> bool
     true
 }
 
-fn is_row(row: &RowTokens<'_>) -> bool
-    ensures { result ≡ is_row (parts_of row.now) }
-{
-    is_integer(row.coefficient)
-        && are_letters(row.left)
-        && is_number(row.number)
-        && are_letters(row.right)
-}
-
-// The tokens of a row. Rows over lemmas are in certificates of format 2 alone.
-fn row_tokens(format: Format, line: &[u8]) -> Option<RowTokens<'_>>
-    ensures exact { option_map parts_of result ≡ row_tokens format (tokens_of line.now) }
-    ensures row { IfSome result (λ row. IsTrue (is_row (parts_of row))) }
-{
-    let row = row_parts(line)?;
-    let fits = match format {
-        Format::Plain => !row.lemma && is_row(&row),
-        Format::Lemmas => is_row(&row),
-    };
-    if fits { Some(row) } else { None }
-}
-
-fn word_of(alloc: Global, quiver: &Quiver, letters: &[u8]) -> Result<Word, LineFault>
-    ensures { Reads (λ w. w) result (asked flaw.UnknownName (word_of quiver.now (tokens_of letters.now))) }
+// The word in brackets, before more letters of the row. Only from an unknown name on, letters are looked at again.
+fn word_of(alloc: Global, quiver: &Quiver, letters: &[u8], later: &[u8]) -> Result<Word, LineFault>
+    ensures exact { let tokens = tokens_of letters.now in
+        let spelled = list_all is_letter tokens && list_all is_letter (tokens_of later.now) in
+        Reads (λ w. w) result (asked (if spelled then flaw.UnknownName else flaw.BadLine) (word_of quiver.now tokens)) }
+    ensures letters { IfOk result (λ w. IsTrue (list_all is_letter (tokens_of letters.now))) }
 {
     let mut word = Word::new(alloc);
     let mut rest = letters;
     while let Some((token, behind)) = first_token(rest) {
         let Some(letter) = letter_of(quiver, token) else {
-            return Err(LineFault::Flaw(Flaw::UnknownName));
+            let spelled = are_letters(rest) && are_letters(later);
+            return Err(LineFault::Flaw(if spelled {
+                Flaw::UnknownName
+            } else {
+                Flaw::BadLine
+            }));
         };
         word.push(letter)?;
         rest = behind;
@@ -159,13 +146,16 @@ fn word_of(alloc: Global, quiver: &Quiver, letters: &[u8]) -> Result<Word, LineF
     Ok(word)
 }
 
-// The values of the tokens, by the number of the generator or lemma.
-fn row_values(alloc: Global, quiver: &Quiver, tokens: &RowTokens<'_>) -> Result<CertRow, LineFault>
-    requires { IsTrue (is_row (parts_of tokens.now)) }
-    ensures { Reads (λ row. row) result (row_values quiver.now (parts_of tokens.now)) }
+// The row of these tokens, by the number of the generator or lemma. The grammar comes first.
+fn row_at(alloc: Global, quiver: &Quiver, tokens: &RowTokens<'_>) -> Result<CertRow, LineFault>
+    ensures { let parts = parts_of tokens.now in
+        Reads (λ row. row) result (if is_row parts then row_values quiver.now parts else Err flaw.BadLine) }
 {
-    let left = word_of(alloc, quiver, tokens.left)?;
-    let right = word_of(alloc, quiver, tokens.right)?;
+    if !is_integer(tokens.coefficient) || !is_number(tokens.number) {
+        return Err(LineFault::Flaw(Flaw::BadLine));
+    }
+    let left = word_of(alloc, quiver, tokens.left, tokens.right)?;
+    let right = word_of(alloc, quiver, tokens.right, &[])?;
     let Some(coef) = integer_within(INTEGER_LIMIT, tokens.coefficient) else {
         return Err(LineFault::Flaw(Flaw::NumberTooLarge));
     };
@@ -184,10 +174,10 @@ fn row_values(alloc: Global, quiver: &Quiver, tokens: &RowTokens<'_>) -> Result<
 pub fn row_of(alloc: Global, quiver: &Quiver, line: &[u8]) -> Result<CertRow, LineFault>
     ensures { Reads (λ row. row) result (row_of quiver.now (tokens_of line.now)) }
 {
-    let Some(tokens) = row_tokens(Format::Plain, line) else {
-        return Err(LineFault::Flaw(Flaw::BadLine));
-    };
-    row_values(alloc, quiver, &tokens)
+    match row_parts(line) {
+        Some(tokens) if !tokens.lemma => row_at(alloc, quiver, &tokens),
+        _ => Err(LineFault::Flaw(Flaw::BadLine)),
+    }
 }
 
 // The row with a lemma or a generator of its number.
@@ -211,10 +201,10 @@ fn over_lemma(lemma: bool, row: CertRow) -> LemmaRow
 pub fn lemma_row_of(alloc: Global, quiver: &Quiver, line: &[u8]) -> Result<LemmaRow, LineFault>
     ensures { Reads (λ row. row) result (lemma_row_of quiver.now (tokens_of line.now)) }
 {
-    let Some(tokens) = row_tokens(Format::Lemmas, line) else {
+    let Some(tokens) = row_parts(line) else {
         return Err(LineFault::Flaw(Flaw::BadLine));
     };
-    let row = row_values(alloc, quiver, &tokens)?;
+    let row = row_at(alloc, quiver, &tokens)?;
     Ok(over_lemma(tokens.lemma, row))
 }
 

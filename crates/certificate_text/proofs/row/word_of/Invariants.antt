@@ -1,4 +1,6 @@
 use Rattle.std.proofs.Common.{◌≡◌, length}
+use Rattle.std.specs.List.{list_all}
+use Rattle.certificate_text.specs.Letters.{is_letter}
 use Rattle.certificate_text.specs.Lines.{word_of}
 use Rattle.certificate_text.specs.Tokens.{tokens_of}
 use Rattle.certificate_text.proofs.Fronts.{behind}
@@ -6,7 +8,10 @@ use Rattle.certificate_text.proofs.row.word_of.Given as goal
 
 -- the letters so far, in front of those that are left
 abbrev pub invariant-loop-token : goal.invariant-loop-token
-invariant-loop-token l = behind l.word (word_of l.quiver (tokens_of l.rest)) ≡ word_of l.quiver (tokens_of l.letters)
+invariant-loop-token l = record {
+  word : behind l.word (word_of l.quiver (tokens_of l.rest)) ≡ word_of l.quiver (tokens_of l.letters);
+  letters : list_all is_letter (tokens_of l.rest) ≡ list_all is_letter (tokens_of l.letters);
+}
 
 abbrev pub decreases-loop-token : goal.decreases-loop-token
 decreases-loop-token l = length l.rest
