@@ -9,15 +9,13 @@ ghost use Rattle.certificate_text.specs.Tokens.{tokens_of, one_token, two_tokens
 use crate::cut::first_token;
 use crate::fault::Flaw;
 use crate::number::{is_number, number_within};
+use cofactor_trace::ROW_LIMIT;
 
 /// The limit of a number.
 pub const NUMBER_LIMIT: u128 = 4294967295;
 
 /// The limit of an integer and of its negative.
 pub const INTEGER_LIMIT: u128 = 170141183460469231731687303715884105727;
-
-/// The limit of the rows and of the lemmas of a block.
-pub const ROW_LIMIT: u32 = 200000;
 
 /// Whether the token is this word.
 pub fn is(word: &str, token: &[u8]) -> bool
@@ -187,8 +185,8 @@ pub fn lemma_scale_of(before: usize, line: &[u8]) -> Result<i128, Flaw>
         return Err(Flaw::BadLine);
     };
     let scale = integer_of(digits)?;
-    if before >= ROW_LIMIT as usize {
-        return Err(Flaw::TooMany(ROW_LIMIT));
+    if before >= ROW_LIMIT {
+        return Err(Flaw::TooMany(ROW_LIMIT as u32));
     }
     Ok(scale)
 }

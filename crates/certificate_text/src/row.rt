@@ -13,17 +13,14 @@ ghost use Rattle.certificate_text.specs.Views.{parts_of};
 use crate::cut::first_token;
 use crate::fault::{Flaw, LineFault};
 use crate::letter::{is_letter, letter_of};
-use crate::line::{INTEGER_LIMIT, NUMBER_LIMIT, ROW_LIMIT, is};
+use crate::line::{INTEGER_LIMIT, NUMBER_LIMIT, is};
 use crate::number::{integer_within, is_integer, is_number, number_within};
 use crate::place::Size;
-use cofactor_trace::{CertFrom, CertRow, LemmaRow};
+use cofactor_trace::{CertFrom, CertRow, LETTER_LIMIT, LemmaRow, ROW_LIMIT};
+use nc_polynomial::WORD_LIMIT;
 use quiver::Quiver;
 use std::alloc::Global;
 use word_core::Word;
-
-const WORD_LIMIT: u32 = 500;
-
-const LETTER_LIMIT: u32 = 1000000;
 
 /// The tokens of C and of the number of the generator or lemma, and the letters in the brackets in front of it and behind it.
 #[derive(Drop)]
@@ -213,15 +210,15 @@ pub fn grown(size: Size, left: &Word, right: &Word) -> Result<Size, Flaw>
     ensures { result ≡ grown size left.now right.now }
 {
     let (left, right) = (left.len(), right.len());
-    if left > WORD_LIMIT as usize || right > WORD_LIMIT as usize {
-        return Err(Flaw::TooMany(WORD_LIMIT));
+    if left > WORD_LIMIT || right > WORD_LIMIT {
+        return Err(Flaw::TooMany(WORD_LIMIT as u32));
     }
-    if size.rows >= ROW_LIMIT {
-        return Err(Flaw::TooMany(ROW_LIMIT));
+    if size.rows as usize >= ROW_LIMIT {
+        return Err(Flaw::TooMany(ROW_LIMIT as u32));
     }
     let letters = size.letters as usize + left + right;
-    if letters > LETTER_LIMIT as usize {
-        return Err(Flaw::TooMany(LETTER_LIMIT));
+    if letters > LETTER_LIMIT {
+        return Err(Flaw::TooMany(LETTER_LIMIT as u32));
     }
     Ok(Size {
         rows: size.rows + 1,
