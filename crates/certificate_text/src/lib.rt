@@ -25,6 +25,7 @@ pub use letter::name_in;
 pub use line::{NUMBER_LIMIT, begins, claim_of, is, is_end, two_tokens};
 pub use number::{is_number, number_within};
 pub use read::{is_utf8, read_certificates, read_evidence};
+pub use step::BLOCK_LIMIT;
 pub use write::{
     put, put_certificate, put_integer, put_number, put_poly, put_word, write_certificate,
     write_poly, write_word,

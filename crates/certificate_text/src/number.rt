@@ -5,7 +5,7 @@ ghost use Rattle.std.specs.Char.{is_ascii_digit};
 ghost use Rattle.std.specs.List.{list_all};
 ghost use Rattle.certificate_text.specs.Letters.{is_number, number_within, is_negative, digits_of, is_integer, integer_within};
 
-const LARGEST: u128 = 170141183460469231731687303715884105727;
+use crate::line::INTEGER_LIMIT;
 
 fn are_digits(bytes: &[u8]) -> bool
     ensures { result ≡ list_all is_ascii_digit bytes.now }
@@ -28,7 +28,7 @@ pub fn number_within(most: u128, digits: &[u8]) -> Option<u128>
 {
     let mut value: u128 = 0;
     for byte in digits {
-        if value > LARGEST / 10 {
+        if value > INTEGER_LIMIT / 10 {
             return None;
         }
         value = value * 10 + u128::from(*byte - b'0');

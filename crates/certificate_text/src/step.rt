@@ -19,7 +19,8 @@ use lists::Listing;
 use quiver::Quiver;
 use std::alloc::Global;
 
-const BLOCK_LIMIT: u32 = 100;
+/// The greatest number of blocks of a kind.
+pub const BLOCK_LIMIT: u32 = 100;
 
 const NO_ROWS: Size = Size {
     rows: 0,

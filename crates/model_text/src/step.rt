@@ -15,13 +15,13 @@ use crate::entry::{EntryTokens, entry_tokens, is_modulus};
 use crate::finish::model_of;
 use crate::place::{Begun, Place, Progress};
 use crate::value::{entry_value, name_text};
-use certificate_text::{Flaw, LineFault, begins, claim_of, is, is_end, number_within, two_tokens};
+use certificate_text::{
+    BLOCK_LIMIT, Flaw, LineFault, begins, claim_of, is, is_end, number_within, two_tokens,
+};
 use lists::{Listing, Text};
 use matrix_models::Model;
 use quiver::Quiver;
 use std::alloc::Global;
-
-const BLOCK_LIMIT: u32 = 100;
 
 const MODULUS_LIMIT: u128 = 2147483647;
 
