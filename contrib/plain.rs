@@ -148,22 +148,23 @@ impl Problem {
     }
 }
 
+/// Reads the whole file before anything is multiplied out, since what is wrong with the text comes first.
 fn read_statement(text: &str) -> Answer<Problem> {
     let mut problem = Problem::default();
-    let lines: Vec<(&str, &str)> = text.lines().filter_map(first_word).collect();
-    for (_, rest) in lines.iter().filter(|(word, _)| *word == "map") {
-        problem.declare(rest)?;
-    }
-    for (word, rest) in lines {
+    let mut equations = Vec::new();
+    for (word, rest) in text.lines().filter_map(first_word) {
         match word {
-            "object" | "map" => {}
-            "assume" | "claim" => {
-                let polynomial = equation(&mut problem, rest)?;
-                let list = if word == "assume" { &mut problem.assumptions } else { &mut problem.claims };
-                list.push(polynomial);
-            }
+            "object" => {}
+            "map" => problem.declare(rest)?,
+            "assume" | "claim" => equations.push((word, Equation::read(rest)?)),
             _ => return Err(format!("the statement {word} is not read")),
         }
+    }
+    for (word, equation) in equations {
+        let polynomial = problem.difference(&equation)?;
+        problem.is_starred |= equation.has_marks;
+        let list = if word == "assume" { &mut problem.assumptions } else { &mut problem.claims };
+        list.push(polynomial);
     }
     Ok(problem)
 }
@@ -175,18 +176,43 @@ fn first_word(line: &str) -> Option<(&str, &str)> {
     (end > 0).then(|| text.split_at(end))
 }
 
-fn equation(problem: &mut Problem, text: &str) -> Answer<Polynomial> {
-    let mut reader = Reader { rest: text.as_bytes(), depth: 0, has_marks: false, problem };
-    let mut left = reader.sum()?;
-    reader.expect(b'=')?;
-    let right = reader.sum()?;
-    if !reader.rest.is_empty() {
-        return Err("an equation goes on behind its end".to_string());
+// ---- Expressions
+
+struct Equation<'a> {
+    left: Sum<'a>,
+    right: Sum<'a>,
+    has_marks: bool,
+}
+
+type Sum<'a> = Vec<Term<'a>>;
+
+struct Term<'a> {
+    /// The literal with the sign in front of the term.
+    coefficient: i128,
+    factors: Vec<Factor<'a>>,
+}
+
+struct Factor<'a> {
+    primary: Primary<'a>,
+    is_adjoint: bool,
+}
+
+enum Primary<'a> {
+    Letter(&'a str),
+    Bracket(Sum<'a>),
+}
+
+impl<'a> Equation<'a> {
+    fn read(text: &'a str) -> Answer<Equation<'a>> {
+        let mut reader = Reader { rest: text.as_bytes(), depth: 0, has_marks: false };
+        let left = reader.sum()?;
+        reader.expect(b'=')?;
+        let right = reader.sum()?;
+        if !reader.rest.is_empty() {
+            return Err("an equation goes on behind its end".to_string());
+        }
+        Ok(Equation { left, right, has_marks: reader.has_marks })
     }
-    problem.is_starred |= reader.has_marks;
-    add_multiple(&mut left, -1, &[], &right, &[])?;
-    check_size(&left)?;
-    Ok(left)
 }
 
 /// What is left of an equation.
@@ -194,7 +220,6 @@ struct Reader<'a> {
     rest: &'a [u8],
     depth: usize,
     has_marks: bool,
-    problem: &'a Problem,
 }
 
 impl<'a> Reader<'a> {
@@ -229,48 +254,28 @@ impl<'a> Reader<'a> {
         self.takes(b'+').then_some(1)
     }
 
-    fn sum(&mut self) -> Answer<Polynomial> {
-        let mut total = Polynomial::new();
+    fn sum(&mut self) -> Answer<Sum<'a>> {
+        let mut terms = Vec::new();
         let mut sign = self.sign().unwrap_or(1);
         loop {
-            self.add_product(&mut total, sign)?;
-            check_size(&total)?;
+            terms.push(self.term(sign)?);
             match self.sign() {
                 Some(next) => sign = next,
-                None => return Ok(total),
+                None => return Ok(terms),
             }
         }
     }
 
-    /// Adds a term. Letters beside each other are one word, by which the brackets are multiplied.
-    fn add_product(&mut self, total: &mut Polynomial, sign: i128) -> Answer<()> {
+    fn term(&mut self, sign: i128) -> Answer<Term<'a>> {
         let literal = self.literal()?;
-        let factor = sign * literal.unwrap_or(1);
-        let (mut front, mut word) = (None, Vec::new());
-        loop {
-            if self.takes(b'(') {
-                let bracket = self.bracket()?;
-                front = Some(match front {
-                    None if word.is_empty() => bracket,
-                    left => product(&left.unwrap_or_else(unit), &word, &bracket)?,
-                });
-                word.clear();
-            } else if is_name(self.peek()) {
-                word.push(self.letter()?);
-            } else {
-                break;
-            }
+        let mut factors = Vec::new();
+        while let Some(primary) = self.primary()? {
+            factors.push(Factor { primary, is_adjoint: self.is_adjoint() });
         }
-        match front {
-            _ if factor == 0 => Ok(()),
-            None if word.is_empty() => Err("a term has no factor".to_string()),
-            None => add_term(total, word.into_boxed_slice(), factor),
-            Some(front) if total.is_empty() && word.is_empty() && factor == 1 => {
-                *total = front;
-                Ok(())
-            }
-            Some(front) => add_multiple(total, factor, &[], &front, &word),
+        if factors.is_empty() && literal != Some(0) {
+            return Err("a term has no factor".to_string());
         }
+        Ok(Term { coefficient: sign * literal.unwrap_or(1), factors })
     }
 
     fn literal(&mut self) -> Answer<Option<i128>> {
@@ -280,12 +285,17 @@ impl<'a> Reader<'a> {
         number(self.run(|byte| byte.is_ascii_digit())?).map(Some)
     }
 
-    fn letter(&mut self) -> Answer<Letter> {
-        let letter = self.problem.letter(self.run(is_name)?)?;
-        Ok(if self.is_adjoint() { self.problem.adjoints[letter as usize] } else { letter })
+    fn primary(&mut self) -> Answer<Option<Primary<'a>>> {
+        if self.takes(b'(') {
+            return self.bracket().map(|sum| Some(Primary::Bracket(sum)));
+        }
+        if !is_name(self.peek()) {
+            return Ok(None);
+        }
+        self.run(is_name).map(|name| Some(Primary::Letter(name)))
     }
 
-    fn bracket(&mut self) -> Answer<Polynomial> {
+    fn bracket(&mut self) -> Answer<Sum<'a>> {
         self.depth += 1;
         if self.depth > DEPTH_LIMIT {
             return Err("too many brackets".to_string());
@@ -293,7 +303,7 @@ impl<'a> Reader<'a> {
         let sum = self.sum()?;
         self.expect(b')')?;
         self.depth -= 1;
-        Ok(if self.is_adjoint() { self.problem.adjoint(&sum) } else { sum })
+        Ok(sum)
     }
 
     /// Whether an odd number of marks stands here.
@@ -304,6 +314,62 @@ impl<'a> Reader<'a> {
             self.has_marks = true;
         }
         is_odd
+    }
+}
+
+impl Problem {
+    fn difference(&self, equation: &Equation) -> Answer<Polynomial> {
+        let mut left = self.sum(&equation.left)?;
+        let right = self.sum(&equation.right)?;
+        add_multiple(&mut left, -1, &[], &right, &[])?;
+        check_size(&left)?;
+        Ok(left)
+    }
+
+    fn sum(&self, terms: &[Term]) -> Answer<Polynomial> {
+        let mut total = Polynomial::new();
+        for term in terms {
+            self.add_product(&mut total, term)?;
+            check_size(&total)?;
+        }
+        Ok(total)
+    }
+
+    /// Adds a term. Letters beside each other are one word, by which the brackets are multiplied.
+    fn add_product(&self, total: &mut Polynomial, term: &Term) -> Answer<()> {
+        let (mut front, mut word) = (None, Vec::new());
+        for factor in &term.factors {
+            match &factor.primary {
+                Primary::Letter(name) => word.push(self.marked_letter(name, factor.is_adjoint)?),
+                Primary::Bracket(sum) => {
+                    let bracket = self.bracket(sum, factor.is_adjoint)?;
+                    front = Some(match front {
+                        None if word.is_empty() => bracket,
+                        left => product(&left.unwrap_or_else(unit), &word, &bracket)?,
+                    });
+                    word.clear();
+                }
+            }
+        }
+        match front {
+            _ if term.coefficient == 0 => Ok(()),
+            None => add_term(total, word.into_boxed_slice(), term.coefficient),
+            Some(front) if total.is_empty() && word.is_empty() && term.coefficient == 1 => {
+                *total = front;
+                Ok(())
+            }
+            Some(front) => add_multiple(total, term.coefficient, &[], &front, &word),
+        }
+    }
+
+    fn marked_letter(&self, name: &str, is_adjoint: bool) -> Answer<Letter> {
+        let letter = self.letter(name)?;
+        Ok(if is_adjoint { self.adjoints[letter as usize] } else { letter })
+    }
+
+    fn bracket(&self, sum: &[Term], is_adjoint: bool) -> Answer<Polynomial> {
+        let inner = self.sum(sum)?;
+        Ok(if is_adjoint { self.adjoint(&inner) } else { inner })
     }
 }
 
