@@ -45,8 +45,13 @@ ends start now c l g r i added all = (record { at = λ w. at w }, sym added.firs
         ∙ sym (ap (λ x. coefficient_in now w +ℤ x) (at_drop_all (λ x. coefficient_of (poly_multiple c (poly_between l x r)) w) g i all))
         ∙ added.total w
 
-module _ (start now : BTreeMap (List ℕ) ℤ) (c : ℤ) (l : List ℕ) (g : List (ℤ × List ℕ)) (r : List ℕ) (i : ℕ) (t : ℤ × List ℕ)
-    (added : AddsUpTo start now c l g r i) (below : i < length g) (is : t ≡ get_or g i t) where
+-- The turn of a term: it stands at the place i, and those before it are added.
+pub record IsNextTerm (start now : BTreeMap (List ℕ) ℤ) (c : ℤ) (l : List ℕ) (g : List (ℤ × List ℕ)) (r : List ℕ) (i : ℕ) (t : ℤ × List ℕ) : Type 0 where
+  pub added : AddsUpTo start now c l g r i
+  pub below : i < length g
+  pub is : t ≡ get_or g i t
+
+module _ {start now : BTreeMap (List ℕ) ℤ} {c : ℤ} {l : List ℕ} {g : List (ℤ × List ℕ)} {r : List ℕ} {i : ℕ} {t : ℤ × List ℕ} (next : IsNextTerm start now c l g r i t) where
   -- the operations of the later terms
   abbrev later : List Overflow
   later = adding_operations (coefficient_in start) c l (drop (i + 1) g) r
@@ -58,49 +63,53 @@ module _ (start now : BTreeMap (List ℕ) ℤ) (c : ℤ) (l : List ℕ) (g : Lis
   -- the word has what it had at the start
   so_far : coefficient_in now (l ++ (t.1 ++ r)) ≡ coefficient_in start (l ++ (t.1 ++ r))
   so_far =
-      ap (λ x. coefficient_in now (l ++ (x.1 ++ r))) is ∙ added.ahead i t (omega arith) below
-      ∙ sym (ap (λ x. coefficient_in start (l ++ (x.1 ++ r))) is)
+      ap (λ x. coefficient_in now (l ++ (x.1 ++ r))) next.is ∙ next.added.ahead i t (omega arith) next.below
+      ∙ sym (ap (λ x. coefficient_in start (l ++ (x.1 ++ r))) next.is)
 
   -- the operations from this term on
   from_here : first_overflow (adding_operations (coefficient_in start) c l g r)
       ≡ first_overflow (product_of c t.0 ∷ adding ∷ later)
   from_here =
-      sym added.first ∙ at_drop_more (λ x. first_overflow (adding_operations (coefficient_in start) c l x r)) g i t below
-      ∙ sym (ap (λ x. first_overflow (adding_operations (coefficient_in start) c l (x ∷ drop (i + 1) g) r)) is)
+      sym next.added.first ∙ at_drop_more (λ x. first_overflow (adding_operations (coefficient_in start) c l x r)) g i t next.below
+      ∙ sym (ap (λ x. first_overflow (adding_operations (coefficient_in start) c l (x ∷ drop (i + 1) g) r)) next.is)
       ∙ sym (ap (λ k. first_overflow (product_of c t.0 ∷ sum_of k (c *ℤ t.0) ∷ later)) so_far)
 
   pub product_fails : ¬ IsCoefficient (c *ℤ t.0) → first_overflow (adding_operations (coefficient_in start) c l g r) ≡ Some (product_of c t.0)
   product_fails fails = from_here ∙ first-fails (product_of c t.0) (adding ∷ later) fails
 
-  pub sum_stopped : IsCoefficient (c *ℤ t.0) → (e : SumFault) → IsStoppedBy (first_overflow (adding ∷ [])) e
-      → IsStoppedBy (first_overflow (adding_operations (coefficient_in start) c l g r)) e
-  sum_stopped fits e stopped =
-      subst (λ o. IsStoppedBy o e) (sym (from_here ∙ first-fits (product_of c t.0) (adding ∷ later) fits))
-      (stopped_before adding later e stopped)
+  -- this is its product, which fits, and this its word
+  module _ (x : ℤ) (v : List ℕ) (x_is : x ≡ c *ℤ t.0) (v_is : v ≡ l ++ (t.1 ++ r)) (x_fits : IsCoefficient x) where
+    fits : IsCoefficient (c *ℤ t.0)
+    fits = rw x_is at x_fits
 
-  -- one term more
-  pub goes_on : (new : BTreeMap (List ℕ) ℤ) → IsDescending g → IsCoefficient (c *ℤ t.0)
-      → Adds now new ((c *ℤ t.0, l ++ (t.1 ++ r)) ∷ []) → IsCoefficient (coefficient_in now (l ++ (t.1 ++ r)) +ℤ c *ℤ t.0) → AddsUpTo start new c l g r (i + 1)
-  goes_on new descending fits adds sum_fits = record { ahead = ahead; first = first; total = total }
-    where
-      ahead : (j : ℕ) (d : ℤ × List ℕ) → i + 1 ≤ j → j < length g → coefficient_in new (l ++ ((get_or g j d).1 ++ r)) ≡ coefficient_in start (l ++ ((get_or g j d).1 ++ r))
-      ahead j d from inside =
-          let u = get_or g j d in
-          let greater : word_cmp t.1 u.1 ≡ Greater =
-          ap (λ x. word_cmp x.1 u.1) is ∙ ap (λ y. word_cmp (get_or g i t).1 y.1) (get_or_default g j d t inside) ∙ descending i j t (omega arith) inside in
-          let apart = apart_between l t.1 u.1 r greater in
-          adds.at (l ++ (u.1 ++ r)) ∙ ap (λ b. coefficient_in now (l ++ (u.1 ++ r)) +ℤ (cond b (c *ℤ t.0) (pos 0) +ℤ pos 0)) apart ∙ +ℤ_idr (coefficient_in now (l ++ (u.1 ++ r))) ∙ added.ahead j d (omega arith) inside
+    pub sum_stopped : (e : SumFault) → IsStoppedBy (first_overflow (sum_of (coefficient_in now v) x ∷ [])) e → IsStoppedBy (first_overflow (adding_operations (coefficient_in start) c l g r)) e
+    sum_stopped e stopped = subst (λ o. IsStoppedBy o e) (sym (from_here ∙ first-fits (product_of c t.0) (adding ∷ later) fits)) (stopped_before adding later e (rw (x_is, v_is) at stopped))
 
-      first : first_overflow (adding_operations (coefficient_in start) c l (drop (i + 1) g) r) ≡ first_overflow (adding_operations (coefficient_in start) c l g r)
-      first = sym (from_here ∙ first-fits (product_of c t.0) (adding ∷ later) fits ∙ first-fits adding later sum_fits)
+    -- one term more
+    pub goes_on : {new : BTreeMap (List ℕ) ℤ} → IsDescending g → Adds now new ((x, v) ∷ []) → IsCoefficient (coefficient_in now v +ℤ x) → AddsUpTo start new c l g r (i + 1)
+    goes_on {new = new} descending added sum_fits = record { ahead = ahead; first = first; total = total }
+      where
+        adds : Adds now new ((c *ℤ t.0, l ++ (t.1 ++ r)) ∷ [])
+        adds = rw (x_is, v_is) at added
 
-      total : (w : List ℕ) → coefficient_in new w +ℤ coefficient_of (poly_multiple c (poly_between l (drop (i + 1) g) r)) w ≡ coefficient_in start w +ℤ coefficient_of (poly_multiple c (poly_between l g r)) w
-      total w =
-          let rest = coefficient_of (poly_multiple c (poly_between l (drop (i + 1) g) r)) w in
-          let here = cond (word_eq (l ++ (t.1 ++ r)) w) (c *ℤ t.0) (pos 0) in
-          let more : coefficient_of (poly_multiple c (poly_between l (drop i g) r)) w ≡ here +ℤ rest =
-          at_drop_more (λ x. coefficient_of (poly_multiple c (poly_between l x r)) w) g i t below ∙ sym (ap (λ x. coefficient_of (poly_multiple c (poly_between l (x ∷ drop (i + 1) g) r)) w) is) in
-          ap (λ k. k +ℤ rest) (adds.at w ∙ ap (λ k. coefficient_in now w +ℤ k) (+ℤ_idr here))
-          ∙ +ℤ_assoc (coefficient_in now w) here rest
-          ∙ sym (ap (λ k. coefficient_in now w +ℤ k) more)
-          ∙ added.total w
+        ahead : (j : ℕ) (d : ℤ × List ℕ) → i + 1 ≤ j → j < length g → coefficient_in new (l ++ ((get_or g j d).1 ++ r)) ≡ coefficient_in start (l ++ ((get_or g j d).1 ++ r))
+        ahead j d from inside =
+            let u = get_or g j d in
+            let greater : word_cmp t.1 u.1 ≡ Greater =
+            ap (λ x. word_cmp x.1 u.1) next.is ∙ ap (λ y. word_cmp (get_or g i t).1 y.1) (get_or_default g j d t inside) ∙ descending i j t (omega arith) inside in
+            let apart = apart_between l t.1 u.1 r greater in
+            adds.at (l ++ (u.1 ++ r)) ∙ ap (λ b. coefficient_in now (l ++ (u.1 ++ r)) +ℤ (cond b (c *ℤ t.0) (pos 0) +ℤ pos 0)) apart ∙ +ℤ_idr (coefficient_in now (l ++ (u.1 ++ r))) ∙ next.added.ahead j d (omega arith) inside
+
+        first : first_overflow (adding_operations (coefficient_in start) c l (drop (i + 1) g) r) ≡ first_overflow (adding_operations (coefficient_in start) c l g r)
+        first = sym (from_here ∙ first-fits (product_of c t.0) (adding ∷ later) fits ∙ first-fits adding later (rw (x_is, v_is) at sum_fits))
+
+        total : (w : List ℕ) → coefficient_in new w +ℤ coefficient_of (poly_multiple c (poly_between l (drop (i + 1) g) r)) w ≡ coefficient_in start w +ℤ coefficient_of (poly_multiple c (poly_between l g r)) w
+        total w =
+            let rest = coefficient_of (poly_multiple c (poly_between l (drop (i + 1) g) r)) w in
+            let here = cond (word_eq (l ++ (t.1 ++ r)) w) (c *ℤ t.0) (pos 0) in
+            let more : coefficient_of (poly_multiple c (poly_between l (drop i g) r)) w ≡ here +ℤ rest =
+            at_drop_more (λ x. coefficient_of (poly_multiple c (poly_between l x r)) w) g i t next.below ∙ sym (ap (λ x. coefficient_of (poly_multiple c (poly_between l (x ∷ drop (i + 1) g) r)) w) next.is) in
+            ap (λ k. k +ℤ rest) (adds.at w ∙ ap (λ k. coefficient_in now w +ℤ k) (+ℤ_idr here))
+            ∙ +ℤ_assoc (coefficient_in now w) here rest
+            ∙ sym (ap (λ k. coefficient_in now w +ℤ k) more)
+            ∙ next.added.total w
