@@ -44,9 +44,11 @@ shape_is_one problem number s t first second =
     one_shape problem number s t (ap (slice_get problem.parts.shapes) before ∙ first.there) second
 
 -- which is one for the objects of the problem
+pub posed_shape : (problem : Problem) (k : ℕ) (s : Shape) → slice_get problem.parts.shapes k ≡ Some s → IsShape (object_count problem.parts.quiver) s
+posed_shape problem k s there = all_at (IsShape (object_count problem.parts.quiver)) problem.parts.shapes k s problem.posed.shapes there
+
 pub shape_is : (problem : Problem) (number : ℕ) (s : Shape) → IsShapeOf problem number s → IsShape (object_count problem.parts.quiver) s
-shape_is problem number s numbered =
-    all_at (IsShape (object_count problem.parts.quiver)) problem.parts.shapes numbered.before s problem.posed.shapes numbered.there
+shape_is problem number s numbered = posed_shape problem numbered.before s numbered.there
 
 -- a number in range has one
 pub record HasShapeOf (problem : Problem) (number : ℕ) : Type 0 where

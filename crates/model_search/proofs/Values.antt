@@ -14,11 +14,11 @@ use Rattle.nc_polynomial.specs.Shape.{IsCanonical}
 use Rattle.representations.specs.Listed.{listed, IsRepresentation, IsValue}
 use Rattle.representations.proofs.TypedTerms.{words_are_paths}
 use Rattle.matrix_models.specs.Matrix.{Matrix}
-use Rattle.matrix_models.specs.Matrices.{matrices, zero_matrix}
+use Rattle.matrix_models.specs.Matrices.{IsObject, matrices, zero_matrix}
 use Rattle.matrix_models.specs.declared.model.Model.{Model}
 use Rattle.model_search.specs.Models.{side_of, arrow_of, representation_of, IsModel, HaveMatrices}
 use Rattle.model_search.specs.Listed.{AreOfModel}
-use Rattle.model_search.proofs.Arrows.{represents, arrow_of-past}
+use Rattle.model_search.proofs.Arrows.{represents, side_object, arrow_of-past}
 
 -- ---- one signature tells
 some_is : (x y : ℕ × ℕ) → ◌≡◌ {A = Option (ℕ × ℕ)} (Some x) (Some y) → x ≡ y
@@ -57,6 +57,9 @@ module _ (q : Quiver) (quiver : IsQuiver q) (m : Model) (model : IsModel q m) (o
 
   pub object_is : (v o : ℕ) → v < q.objects → get_or objects v o ≡ side_of m v
   object_is v o h = any_default objects v o 1 (subst (λ n. v < n) (sym objects_length) h) ∙ ap (λ xs. get_or xs v 1) lists.objects_are
+
+  pub object_at : (v : ℕ) → v < q.objects → {side : ℕ} → side ≡ get_or objects v 1 → IsObject m.modulus side
+  object_at v h is = subst (IsObject m.modulus) (sym (is ∙ object_is v 1 h)) (side_object q quiver m model v h)
 
   arrow_is : (n : ℕ) (a : Matrix) → n < letters q → get_or arrows n a ≡ arrow_of q m n
   arrow_is n a h = ap (λ xs. get_or xs n a) lists.arrows_are ∙ get_or-map-range_with_len (arrow_of q m) 0 (letters q) n n a h (omega arith)

@@ -1,5 +1,6 @@
 use Rattle.std.proofs.Common.{rules, ◌≡◌, ◌<◌, ℕ, List, ◌++◌, ◌∷◌, [], length, map, sym, ap, ap₂, subst, ◌∙◌, arith}
 use Rattle.std.specs.List.{All, range_with_len}
+use Rattle.std.proofs.lemmas.Grind.{common_steps}
 use Rattle.std.proofs.lemmas.List.FromFn.{length-map-range_with_len, map-range_with_len_more}
 use Rattle.matrix_models.specs.declared.system.LinearRow.{LinearRow}
 use Rattle.model_search.specs.Unknowns.{set_count}
@@ -16,51 +17,27 @@ loop-unknown-preserved c =
     pushed ∙ ap₂ (λ xs x. xs ++ x ∷ []) c.loop-unknown.invariant c.in_ok-entries_at.ensures
     ∙ sym (map-range_with_len_more f 0 k k (omega arith))
 
-pub row_by-requires-clause-zero_below : goal.row_by-requires-clause-zero_below
-row_by-requires-clause-zero_below c =
-    let problem = c.args.problem.now in
-    let s = c.args.shape.now in
-    let plan = c.args.plan.now in
-    let drawn = c.args.drawn.now in
-    let zero_is = c.as_slice.ensures ∙ c.in_ok-at_zero.ensures ∙ ap (entries_at problem s plan.solved plan.generators drawn)
-    c.requires.plan.unknowns in
-    subst (All (λ x. x < s.modulus)) (sym zero_is) (plan_zero_below problem s c.requires.shape plan c.requires.plan drawn c.requires.drawn)
-
-pub row_by-requires-clause-units_below : goal.row_by-requires-clause-units_below
-row_by-requires-clause-units_below c =
+pub row_by-requires : goal.row_by-requires
+row_by-requires c =
     let problem = c.args.problem.now in
     let s = c.args.shape.now in
     let plan = c.args.plan.now in
     let drawn = c.args.drawn.now in
     let f : ℕ → List ℕ = entries_at problem s plan.solved plan.generators drawn in
-    let all : c.loop-unknown.unknown ≡ set_count plan.solved = omega (
-      arith,
-      c.loop-unknown.auto.unknown-end,
-      c.loop-unknown-test.false,
-      c.requires.plan.unknowns,
-    ) in
-    let units_are = c.as_slice-in-loop-place.ensures ∙ c.loop-unknown.invariant ∙ ap (λ n. map f (range_with_len 0 n)) all in
-    subst (All (λ u. All (λ x. x < s.modulus) u)) (sym units_are) (plan_units_below problem s c.requires.shape plan c.requires.plan
-    drawn c.requires.drawn)
-
-pub row_by-requires-clause-alike : goal.row_by-requires-clause-alike
-row_by-requires-clause-alike c =
-    let problem = c.args.problem.now in
-    let s = c.args.shape.now in
-    let plan = c.args.plan.now in
-    let drawn = c.args.drawn.now in
-    let f : ℕ → List ℕ = entries_at problem s plan.solved plan.generators drawn in
-    let all : c.loop-unknown.unknown ≡ set_count plan.solved = omega (
-      arith,
-      c.loop-unknown.auto.unknown-end,
-      c.loop-unknown-test.false,
-      c.requires.plan.unknowns,
-    ) in
+    let all : c.loop-unknown.unknown ≡ set_count plan.solved =
+    omega (arith, c.loop-unknown.auto.unknown-end, c.loop-unknown-test.false, c.requires.plan.unknowns) in
     let zero_is = c.as_slice.ensures ∙ c.in_ok-at_zero.ensures ∙ ap f c.requires.plan.unknowns in
     let units_are = c.as_slice-in-loop-place.ensures ∙ c.loop-unknown.invariant ∙ ap (λ n. map f (range_with_len 0 n)) all in
-    subst (λ xs. All (λ u. length u ≡ length c.as_slice.result.now) xs) (sym units_are)
-    (subst (λ zs. All (λ u. length u ≡ length zs) (map f (range_with_len 0 (set_count plan.solved)))) (sym zero_is)
-    (plan_units_alike problem s c.requires.shape plan c.requires.plan drawn c.requires.drawn))
+    record {
+      modulus = search rules;
+      place = grind (arith, common_steps);
+      zero_below = subst (All (λ x. x < s.modulus)) (sym zero_is) (plan_zero_below problem s c.requires.shape plan c.requires.plan drawn c.requires.drawn);
+      units_below = subst (All (λ u. All (λ x. x < s.modulus) u)) (sym units_are)
+          (plan_units_below problem s c.requires.shape plan c.requires.plan drawn c.requires.drawn);
+      alike = subst (λ xs. All (λ u. length u ≡ length c.as_slice.result.now) xs) (sym units_are)
+          (subst (λ zs. All (λ u. length u ≡ length zs) (map f (range_with_len 0 (set_count plan.solved)))) (sym zero_is)
+          (plan_units_alike problem s c.requires.shape plan c.requires.plan drawn c.requires.drawn));
+    }
 
 pub loop-place-preserved : goal.loop-place-preserved
 loop-place-preserved c =

@@ -1,21 +1,17 @@
 use Rattle.std.proofs.Common.{rules, not, Some, sym, ap, subst, ◌∙◌, arith}
-use Rattle.quiver.specs.Declarations.{object_count, quiver_of}
-use Rattle.adjoint_rules.specs.Problem.{IsShape}
+use Rattle.quiver.specs.Declarations.{quiver_of}
 use Rattle.adjoint_rules.proofs.Generators.{posed_quiver}
 use Rattle.model_search.specs.Candidates.{model_by, IsCandidate, IsGreedy}
 use Rattle.model_search.specs.Plans.{AreEntryValues}
 use Rattle.model_search.proofs.CandidateModels.{modulus_of_shape}
-use Rattle.model_search.proofs.NumberedShapes.{shape_numbered, one_shape, draws_are_values}
-use Rattle.model_search.proofs.Places.{all_at}
+use Rattle.model_search.proofs.NumberedShapes.{posed_shape, shape_numbered, one_shape, draws_are_values}
 use Rattle.model_search.proofs.one_candidate.candidate_by.Goals as goal
 
 pub numbered_candidate-requires-clause-quiver : goal.numbered_candidate-requires-clause-quiver
 numbered_candidate-requires-clause-quiver c = posed_quiver c.args.problem.now.parts c.args.problem.now.posed
 
 pub numbered_candidate-requires-clause-shape : goal.numbered_candidate-requires-clause-shape
-numbered_candidate-requires-clause-shape c =
-    let parts = c.args.problem.now.parts in
-    all_at (IsShape (object_count parts.quiver)) parts.shapes _ c.at-shape.result.now c.args.problem.now.posed.shapes c.at-shape.ensures
+numbered_candidate-requires-clause-shape c = posed_shape c.args.problem.now _ c.at-shape.result.now c.at-shape.ensures
 
 pub returns-then-plan : goal.returns-then-plan
 returns-then-plan c =
@@ -34,14 +30,10 @@ pub draws_of-requires-clause-quiver : goal.draws_of-requires-clause-quiver
 draws_of-requires-clause-quiver c = posed_quiver c.args.problem.now.parts c.args.problem.now.posed
 
 pub draws_of-requires-clause-shape : goal.draws_of-requires-clause-shape
-draws_of-requires-clause-shape c =
-    let parts = c.args.problem.now.parts in
-    all_at (IsShape (object_count parts.quiver)) parts.shapes _ c.at-shape.result.now c.args.problem.now.posed.shapes c.at-shape.ensures
+draws_of-requires-clause-shape c = posed_shape c.args.problem.now _ c.at-shape.result.now c.at-shape.ensures
 
 pub greedy_values-requires-clause-shape : goal.greedy_values-requires-clause-shape
-greedy_values-requires-clause-shape c =
-    let parts = c.args.problem.now.parts in
-    all_at (IsShape (object_count parts.quiver)) parts.shapes _ c.at-shape.result.now c.args.problem.now.posed.shapes c.at-shape.ensures
+greedy_values-requires-clause-shape c = posed_shape c.args.problem.now _ c.at-shape.result.now c.at-shape.ensures
 
 pub greedy_values-requires-clause-plan : goal.greedy_values-requires-clause-plan
 greedy_values-requires-clause-plan c =
@@ -53,7 +45,7 @@ greedy_values-requires-clause-drawn c =
     let problem = c.args.problem.now in
     let parts = problem.parts in
     let s = c.at-shape.result.now in
-    let shape = all_at (IsShape (object_count parts.quiver)) parts.shapes _ s problem.posed.shapes c.at-shape.ensures in
+    let shape = posed_shape problem _ s c.at-shape.ensures in
     let least = (modulus_of_shape (quiver_of parts.quiver) s (posed_quiver parts problem.posed) shape).at_least in
     subst (AreEntryValues problem s) (sym (c.as_slice.ensures ∙ c.in_ok-drawn.ensures))
     (draws_are_values problem s c.args.plan.now.number c.args.seed c.args.k (omega (arith, least)))
@@ -62,9 +54,7 @@ pub model_with-requires-clause-quiver : goal.model_with-requires-clause-quiver
 model_with-requires-clause-quiver c = posed_quiver c.args.problem.now.parts c.args.problem.now.posed
 
 pub model_with-requires-clause-shape : goal.model_with-requires-clause-shape
-model_with-requires-clause-shape c =
-    let parts = c.args.problem.now.parts in
-    all_at (IsShape (object_count parts.quiver)) parts.shapes _ c.at-shape.result.now c.args.problem.now.posed.shapes c.at-shape.ensures
+model_with-requires-clause-shape c = posed_shape c.args.problem.now _ c.at-shape.result.now c.at-shape.ensures
 
 pub returns-in-Some : goal.returns-in-Some
 returns-in-Some c =

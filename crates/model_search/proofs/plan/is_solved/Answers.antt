@@ -1,34 +1,28 @@
-use Rattle.std.proofs.Common.{◌≡◌, ◌<◌, true, false, ◌||◌, sym, ap, subst, ◌∙◌, arith}
-use Rattle.std.specs.List.{AllByRecursion}
+use Rattle.std.proofs.Common.{◌≡◌, ◌<◌, ℕ, Bool, List, true, false, ◌||◌, sym, ap, subst, ◌∙◌, arith}
+use Rattle.std.specs.List.{All, AllByRecursion}
 use Rattle.std.proofs.lemmas.List.Elements.{recursion_from_All}
-use Rattle.definitions.specs.Quiver.{letters, star}
-use Rattle.quiver.specs.Declarations.{letter_count, quiver_of}
+use Rattle.definitions.specs.Quiver.{IsQuiver, letters, star}
+use Rattle.word_core.specs.declared.letter.Letter.{Letter}
+use Rattle.quiver.specs.Declarations.{Declaration, letter_count, quiver_of}
 use Rattle.quiver.proofs.Counts.{letters-quiver_of}
-use Rattle.model_search.specs.Candidates.{is_solved_map}
+use Rattle.model_search.specs.Candidates.{is_solved, is_solved_map}
 use Rattle.model_search.proofs.SolvedLetters.{solved_by_maps}
 use Rattle.model_search.proofs.plan.is_solved.Goals as goal
 
+-- one of the maps, or the adjoint of one
+either_solved : (d : List Declaration) (solved : List Letter) (a : ℕ) → IsQuiver (quiver_of d) → All (λ l. l.0 < letter_count d) solved → a < letter_count d → (own : Bool)
+    → own ≡ is_solved_map solved a → (own || is_solved_map solved (star (quiver_of d) a)) ≡ is_solved (quiver_of d) solved a
+either_solved d solved a quiver each letter own is =
+    let count : letters (quiver_of d) ≡ letter_count d = letters-quiver_of d in
+    let all = subst (λ n. AllByRecursion (λ l. l.0 < n) solved) (sym count) (recursion_from_All (λ l. l.0 < letter_count d) solved each) in
+    ap (λ b. b || is_solved_map solved (star (quiver_of d) a)) is ∙ solved_by_maps (quiver_of d) solved a quiver (omega (arith, letter, count)) all
+
 pub returns-then-is_among : goal.returns-then-is_among
 returns-then-is_among c =
-    let q = quiver_of c.args.quiver.now in
-    let a = c.args.letter.0 in
-    let letter : a < letters q = omega (arith, c.requires.letter, letters-quiver_of c.args.quiver.now) in
-    let all : AllByRecursion (λ l. l.0 < letters q) c.args.solved.now =
-    subst (λ n. AllByRecursion (λ l. l.0 < n) c.args.solved.now) (sym (letters-quiver_of c.args.quiver.now))
-    (recursion_from_All (λ l. l.0 < letter_count c.args.quiver.now) c.args.solved.now c.requires.solved) in
-    let own : is_solved_map c.args.solved.now a ≡ true = sym c.is_among.ensures ∙ c.if-is_among.true in
-    c.if-is_among.true ∙ sym (ap (λ b. b || is_solved_map c.args.solved.now (star q a)) own)
-    ∙ solved_by_maps q c.args.solved.now a c.requires.quiver letter all
+    c.if-is_among.true
+    ∙ either_solved c.args.quiver.now c.args.solved.now c.args.letter.0 c.requires.quiver c.requires.solved c.requires.letter true (sym c.if-is_among.true ∙ c.is_among.ensures)
 
 pub returns-else-is_among : goal.returns-else-is_among
 returns-else-is_among c =
-    let q = quiver_of c.args.quiver.now in
-    let a = c.args.letter.0 in
-    let letter : a < letters q = omega (arith, c.requires.letter, letters-quiver_of c.args.quiver.now) in
-    let all : AllByRecursion (λ l. l.0 < letters q) c.args.solved.now =
-    subst (λ n. AllByRecursion (λ l. l.0 < n) c.args.solved.now) (sym (letters-quiver_of c.args.quiver.now))
-    (recursion_from_All (λ l. l.0 < letter_count c.args.quiver.now) c.args.solved.now c.requires.solved) in
-    let own : is_solved_map c.args.solved.now a ≡ false = sym c.is_among.ensures ∙ c.if-is_among.false in
     c.is_among-else-is_among.ensures ∙ ap (is_solved_map c.args.solved.now) c.star_of.ensures.star
-    ∙ sym (ap (λ b. b || is_solved_map c.args.solved.now (star q a)) own)
-    ∙ solved_by_maps q c.args.solved.now a c.requires.quiver letter all
+    ∙ either_solved c.args.quiver.now c.args.solved.now c.args.letter.0 c.requires.quiver c.requires.solved c.requires.letter false (sym c.if-is_among.false ∙ c.is_among.ensures)

@@ -1,12 +1,13 @@
-use Rattle.std.proofs.Common.{rules, ◌≡◌, ◌<◌, ◌++◌, ◌∷◌, [], ℕ, Bool, true, false, sym, subst, ◌∙◌, true≢false}
+use Rattle.std.proofs.Common.{rules, ◌≡◌, ◌<◌, Some, slice_get, ◌++◌, ◌∷◌, [], ℕ, Bool, true, false, sym, subst, ◌∙◌, true≢false}
 use Rattle.std.specs.List.{All}
 use Rattle.definitions.specs.Quiver.{IsTyped}
 use Rattle.nc_polynomial.specs.declared.poly.Poly.{Poly}
 use Rattle.cofactor_trace.proofs.Lists.{all_push, all_front, last_in}
-use Rattle.quiver.specs.Declarations.{quiver_of}
+use Rattle.quiver.specs.Declarations.{letter_count, quiver_of}
 use Rattle.quiver.specs.Signatures.{HasPaths}
 use Rattle.quiver.proofs.Counts.{letters-quiver_of}
 use Rattle.matrix_models.specs.declared.model.Model.{Model}
+use Rattle.adjoint_rules.specs.declared.problem.Problem.{Problem}
 use Rattle.adjoint_rules.proofs.Generators.{posed_quiver}
 use Rattle.model_search.specs.declared.plan.LinearGenerator.{LinearGenerator}
 use Rattle.model_search.specs.Models.{IsZeroIn}
@@ -20,23 +21,23 @@ use Rattle.model_search.proofs.plan.linear_generators.Goals.{then-is_linear+in-S
 pub is_linear-requires-clause-quiver : goal.is_linear-requires-clause-quiver
 is_linear-requires-clause-quiver c = posed_quiver c.args.problem.now.parts c.args.problem.now.posed
 
+letters_of : (problem : Problem) (k : ℕ) (p : Poly) → slice_get problem.generators k ≡ Some p
+    → All (λ t. All (λ letter. letter < letter_count problem.parts.quiver) t.1) p.terms
+letters_of problem k p here =
+    subst (λ n. All (λ t. All (λ letter. letter < n) t.1) p.terms) (letters-quiver_of problem.parts.quiver)
+    (letters_within (quiver_of problem.parts.quiver) p (signed_at problem k p here))
+
 pub is_linear-requires-clause-letters : goal.is_linear-requires-clause-letters
 is_linear-requires-clause-letters c =
-    let problem = c.args.problem.now in
-    let p = c.generator-item.result in
-    let here = item_at c.as_slice-generator-items.result.now problem.generators c.loop-place.place p c.as_slice-generator-items.ensures
-    c.loop-place-test.true c.generator-item.is in
-    subst (λ n. All (λ t. All (λ letter. letter < n) t.1) p.terms) (letters-quiver_of problem.parts.quiver)
-    (letters_within (quiver_of problem.parts.quiver) p (signed_at problem c.loop-place.place p here))
+    letters_of c.args.problem.now c.loop-place.place c.generator-item.result
+    (item_at c.as_slice-generator-items.result.now c.args.problem.now.generators c.loop-place.place c.generator-item.result c.as_slice-generator-items.ensures
+    c.loop-place-test.true c.generator-item.is)
 
 pub poly_signature-requires : goal.poly_signature-requires
 poly_signature-requires c =
-    let problem = c.args.problem.now in
-    let p = c.generator-item.result in
-    let here = item_at c.as_slice-generator-items.result.now problem.generators c.loop-place.place p c.as_slice-generator-items.ensures
-    c.loop-place-test.true c.generator-item.is in
-    subst (λ n. All (λ t. All (λ letter. letter < n) t.1) p.terms) (letters-quiver_of problem.parts.quiver)
-    (letters_within (quiver_of problem.parts.quiver) p (signed_at problem c.loop-place.place p here))
+    letters_of c.args.problem.now c.loop-place.place c.generator-item.result
+    (item_at c.as_slice-generator-items.result.now c.args.problem.now.generators c.loop-place.place c.generator-item.result c.as_slice-generator-items.ensures
+    c.loop-place-test.true c.generator-item.is)
 
 pub loop-place-preserved : goal.loop-place-preserved
 loop-place-preserved c =

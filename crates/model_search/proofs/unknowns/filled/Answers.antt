@@ -1,30 +1,26 @@
-use Rattle.std.proofs.Common.{rules, ◌≡◌, ◌+◌, ◌<◌, ◌++◌, ◌∷◌, [], true, false, length, get_or, take, sym, ap, ◌∙◌, arith}
+use Rattle.std.proofs.Common.{rules, ◌≡◌, ℕ, Bool, List, ◌+◌, ◌<◌, ◌++◌, ◌∷◌, [], true, false, length, get_or, take, sym, ap, ◌∙◌, arith}
 use Rattle.std.proofs.lemmas.List.{take_all, take_more}
-use Rattle.model_search.specs.Unknowns.{filled}
+use Rattle.model_search.specs.Unknowns.{filled, set_count}
 use Rattle.model_search.proofs.FilledValues.{length-filled}
-use Rattle.model_search.proofs.SolvedEntries.{before_more, before_within, filled_set, filled_as_drawn}
+use Rattle.model_search.proofs.SolvedEntries.{before, before_more, before_within, filled_set, filled_as_drawn}
 use Rattle.model_search.proofs.unknowns.filled.Goals as goal
 use Rattle.model_search.proofs.unknowns.filled.Goals.{then-solved-place+in_ok-push, else-solved-place+in_ok-push-2}
 
+-- the next value is there
+next_within : (flags : List Bool) (place next count : ℕ) → count ≡ set_count flags → next ≡ before flags place → place < length flags → get_or flags place false ≡ true → next < count
+next_within flags place next count one_each is inside set = omega (arith, before_within flags place inside set, one_each, is)
+
 pub offset_bounds-values-next : goal.offset_bounds-values-next
 offset_bounds-values-next c =
-    let set : get_or c.args.solved.now c.loop-place.place false ≡ true = search rules in
-    let within = before_within c.args.solved.now c.loop-place.place c.loop-place-test.true set in
-    let inside : c.loop-place.next < length c.args.values.now = omega (arith, within, c.loop-place.invariant.1, c.requires.one_for_each) in
-    search (rules, inside)
+    search (rules, next_within c.args.solved.now c.loop-place.place c.loop-place.next (length c.args.values.now) c.requires.one_for_each c.loop-place.invariant.1 c.loop-place-test.true (search rules))
 
 pub bounds-values-next : goal.bounds-values-next
 bounds-values-next c =
-    let set : get_or c.args.solved.now c.loop-place.place false ≡ true = search rules in
-    let within = before_within c.args.solved.now c.loop-place.place c.loop-place-test.true set in
-    omega (arith, within, c.loop-place.invariant.1, c.requires.one_for_each)
+    next_within c.args.solved.now c.loop-place.place c.loop-place.next (length c.args.values.now) c.requires.one_for_each c.loop-place.invariant.1 c.loop-place-test.true (search rules)
 
 pub overflow_add-next : goal.overflow_add-next
 overflow_add-next c =
-    let set : get_or c.args.solved.now c.loop-place.place false ≡ true = search rules in
-    let within = before_within c.args.solved.now c.loop-place.place c.loop-place-test.true set in
-    let inside : c.loop-place.next < length c.args.values.now = omega (arith, within, c.loop-place.invariant.1, c.requires.one_for_each) in
-    search (rules, inside)
+    search (rules, next_within c.args.solved.now c.loop-place.place c.loop-place.next (length c.args.values.now) c.requires.one_for_each c.loop-place.invariant.1 c.loop-place-test.true (search rules))
 
 pub loop-place-preserved : goal.loop-place-preserved
 loop-place-preserved c =

@@ -3,7 +3,7 @@ use Rattle.quiver.specs.Declarations.{quiver_of}
 use Rattle.matrix_models.specs.Matrices.{matrices, zero_matrix, IsObject}
 use Rattle.model_search.specs.Models.{side_of, representation_of}
 use Rattle.model_search.proofs.Arrows.{side_object}
-use Rattle.model_search.proofs.Values.{is_representation, value_is, zero_from_value, object_is}
+use Rattle.model_search.proofs.Values.{is_representation, value_is, zero_from_value, object_is, object_at}
 use Rattle.model_search.proofs.value.is_zero.Goals as goal
 
 pub value_of-requires-clause-represented : goal.value_of-requires-clause-represented
@@ -13,21 +13,15 @@ value_of-requires-clause-represented c =
 
 pub zero-requires-clause-source_is_object : goal.zero-requires-clause-source_is_object
 zero-requires-clause-source_is_object c =
-    let q = quiver_of c.args.quiver.now in
-    let m = c.args.model.now in
-    let u = c.args.sig.source.0 in
     let asked = c.requires in
-    let side_is = c.object-source.ensures 1 ∙ object_is q asked.quiver m asked.model c.args.representation.now.objects c.args.representation.now.arrows asked.lists u 1 asked.source_in_range in
-    subst (IsObject m.modulus) (sym side_is) (side_object q asked.quiver m asked.model u asked.source_in_range)
+    object_at (quiver_of c.args.quiver.now) asked.quiver c.args.model.now asked.model c.args.representation.now.objects c.args.representation.now.arrows asked.lists c.args.sig.source.0 asked.source_in_range
+    (c.object-source.ensures 1)
 
 pub zero-requires-clause-target_is_object : goal.zero-requires-clause-target_is_object
 zero-requires-clause-target_is_object c =
-    let q = quiver_of c.args.quiver.now in
-    let m = c.args.model.now in
-    let v = c.args.sig.target.0 in
     let asked = c.requires in
-    let side_is = c.object-target.ensures 1 ∙ object_is q asked.quiver m asked.model c.args.representation.now.objects c.args.representation.now.arrows asked.lists v 1 asked.target_in_range in
-    subst (IsObject m.modulus) (sym side_is) (side_object q asked.quiver m asked.model v asked.target_in_range)
+    object_at (quiver_of c.args.quiver.now) asked.quiver c.args.model.now asked.model c.args.representation.now.objects c.args.representation.now.arrows asked.lists c.args.sig.target.0 asked.target_in_range
+    (c.object-target.ensures 1)
 
 -- the matrices that are compared are the value and the zero matrix
 pub returns : goal.returns
