@@ -66,7 +66,7 @@ fn value_at_loops<C: Category>(
     let identity = category.identity(alloc, &object)?;
     let mut objects = Listing::new(alloc);
     objects.push(object)?;
-    let mut arrows = Listing::with_room(alloc, 3)?;
+    let mut arrows = Listing::new(alloc);
     arrows.push(identity)?;
     arrows.push(a)?;
     arrows.push(b)?;

@@ -10,7 +10,7 @@ const LETTERS: [u16; 3] = [7, 0, 65535];
 
 #[test]
 fn letters_are_read_back(rt: HostRuntime) -> Result<(), Fail> {
-    let mut word = Word::with_room(rt.alloc(), LETTERS.len())?;
+    let mut word = Word::new(rt.alloc());
     assert_eq!(rt; word.len(), 0);
     for (place, letter) in LETTERS.iter().enumerate() {
         word.push(Letter(*letter))?;
