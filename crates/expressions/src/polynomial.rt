@@ -1,5 +1,5 @@
 //! The polynomial of an expression, or the first fault of its arithmetic.
-ghost use Rattle.std.specs.Prelude.{◌≡◌, ◌<◌, [], ◌∷◌, pos, map, MatchResult, Ok, Err, IfOk, IfErr, IfSome, IsTrue};
+ghost use Rattle.std.specs.Prelude.{◌≡◌, ◌<◌, [], ◌∷◌, pos, map, MatchResult, Ok, Err, IfOk, IfErr, IfSome, IsTrue, OnOk};
 ghost use Rattle.std.specs.List.{All};
 ghost use Rattle.definitions.specs.Generators.{adjoint_poly};
 ghost use Rattle.word_core.specs.Letters.{IsOver};
@@ -165,9 +165,10 @@ fn product(alloc: Global, polys: Vec<Poly>) -> Result<Poly, PolyFault>
         word: Word::new(alloc),
     };
     for next in factors {
-        begun = followed(alloc, begun, next)?;
+        follow(alloc, &mut begun, &next)?;
     }
-    multiplied(begun)
+    multiply(alloc, &mut begun)?;
+    Ok(begun.product)
 }
 
 // A product of which the last factors are letters: the word that they are isn't multiplied in yet, so that a run of
@@ -179,22 +180,18 @@ struct Begun {
 }
 
 // The product with one factor more.
-fn followed(alloc: Global, begun: Begun, next: Poly) -> Result<Begun, PolyFault>
-    ensures { MatchResult result (λ b. product_begun b ≡ product_followed begun next.terms) (Explains (product_followed begun next.terms)) }
+fn follow(alloc: Global, begun: &mut Begun, next: &Poly) -> Result<(), PolyFault>
+    ensures { MatchResult result (λ _. product_begun begun.new ≡ product_followed begun.old next.now.terms) (Explains (product_followed begun.old next.now.terms)) }
 {
-    if let Some(word) = word_in(&next) {
+    if let Some(word) = word_in(next) {
         if begun.word.len().saturating_add(word.len()) <= WORD_LIMIT {
-            let word = begun.word.concat(word)?;
-            return Ok(Begun {
-                product: begun.product,
-                word,
-            });
+            begun.word = begun.word.concat(word)?;
+            return Ok(());
         }
     }
-    Ok(Begun {
-        product: multiplied(begun)?.product(&next)?,
-        word: Word::new(alloc),
-    })
+    multiply(alloc, begun)?;
+    begun.product = begun.product.product(next)?;
+    Ok(())
 }
 
 // The word that the polynomial is, where it is one.
@@ -207,16 +204,17 @@ fn word_in(poly: &Poly) -> Option<&Word>
     }
 }
 
-// The product with its word multiplied in.
-fn multiplied(begun: Begun) -> Result<Poly, PolyFault>
-    ensures { MatchResult result (λ p. product_begun begun ≡ Ok p.terms) (Explains (product_begun begun)) }
+// Multiplies the word into the product, behind which is none then.
+fn multiply(alloc: Global, begun: &mut Begun) -> Result<(), PolyFault>
+    ensures product { MatchResult result (λ _. product_begun begun.old ≡ Ok begun.new.product.terms) (Explains (product_begun begun.old)) }
+    ensures word { OnOk result (begun.new.word ≡ []) }
 {
-    let Begun { product, word } = begun;
-    if word.len() == 0 {
-        return Ok(product);
+    if begun.word.len() > 0 {
+        let nothing = Word::new(alloc);
+        begun.product = begun.product.left_right(&nothing, &begun.word)?;
+        begun.word = nothing;
     }
-    let nothing = Word::new(product.terms.allocator());
-    product.left_right(&nothing, &word)
+    Ok(())
 }
 
 // The multiple by a literal, where there is one.

@@ -1,6 +1,6 @@
 -- Numbers that pass a test, ascending.
-use Rattle.std.proofs.Common.{◌≡◌, ℕ, zero, suc, ◌+◌, ◌<◌, ◌≤◌, Bool, true, false, cond, ◌||◌, nat_eq, List, [], ◌∷◌, ◌++◌, length, map, filter, All, AllPairs, refl, ap, sym, subst, ◌∙◌, arith}
-use Rattle.std.specs.List.{list_any, range_with_len}
+use Rattle.std.proofs.Common.{◌≡◌, ℕ, zero, suc, ◌+◌, ◌<◌, ◌≤◌, Bool, true, false, cond, ◌∷◌, map, filter, All, AllPairs, refl, arith}
+use Rattle.std.specs.List.{range_with_len}
 use Rattle.std.proofs.lemmas.List.Kept.{AllPairs-cons}
 use Rattle.statement_names.specs.Solved.{numbers_that}
 use Rattle.statement_names.proofs.Each.{Each, Each-at, Each-map, Each-weaker}

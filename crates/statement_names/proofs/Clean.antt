@@ -11,7 +11,7 @@ use Rattle.statement_names.specs.declared.fault.NameFault.TheVariants.{Double, T
 use Rattle.statement_names.specs.declared.kinds.Kind.{Kind}
 use Rattle.statement_names.specs.declared.kinds.Kind.TheVariants.{Object, Map}
 use Rattle.statement_names.specs.Occurrences.{Occurrence, declares_object, declares_map, uses, lists, counts, modulus, begins_order, begins_assumptions, begins_claim, begins_shape}
-use Rattle.statement_names.specs.Faults.{declared_by, objects_by, maps_by, orders_by, assumptions_by, claims_by, shapes_by, declared_in, kind_in, is_kind, are_two_objects, is_among, is_between, is_modulus, value_of, fault_behind, first_fault}
+use Rattle.statement_names.specs.Faults.{declared_by, objects_by, maps_by, assumptions_by, claims_by, shapes_by, declared_in, kind_in, is_kind, are_two_objects, is_among, is_between, is_modulus, value_of, fault_behind, first_fault}
 use Rattle.statement_names.proofs.Apart.{Apart, Apart-push}
 use Rattle.statement_names.proofs.Each.{Each}
 

@@ -1,21 +1,20 @@
 -- The declarations of a file in whose names nothing is wrong are those of a quiver.
-use Rattle.std.proofs.Common.{◌≡◌, ◌≢◌, ℕ, zero, suc, ◌+◌, ◌<◌, ◌≤◌, Bool, true, false, ◌&&◌, ◌||◌, not, nat_eq, nat_lt, is_some, cond, IsTrue, List, [], ◌∷◌, ◌++◌, length, map, take, drop, get_or, AllPairs, Option, Some, None, refl, ap, ap₂, sym, subst, ◌∙◌, arith, append_assoc}
-use Rattle.std.specs.List.{flat_map, list_all, sum_by}
+use Rattle.std.proofs.Common.{◌≡◌, ℕ, ◌+◌, ◌<◌, Bool, true, false, ◌&&◌, ◌||◌, not, nat_eq, is_some, cond, IsTrue, List, [], ◌∷◌, ◌++◌, length, map, take, drop, get_or, Option, Some, None, refl, ap, ap₂, sym, subst, ◌∙◌, arith, append_assoc}
+use Rattle.std.specs.List.{list_all}
 use Rattle.std.specs.Map.{lookup}
-use Rattle.std.specs.Option.{option_map, option_or}
+use Rattle.std.specs.Option.{option_or}
 use Rattle.std.specs.Str.{bytes_eq}
-use Rattle.std.proofs.lemmas.Bool.{lt-ltb, ltb-true}
-use Rattle.std.proofs.lemmas.Bool.Decides.{nat_tests, Decides-eqb}
+use Rattle.std.proofs.lemmas.Bool.{lt-ltb}
+use Rattle.std.proofs.lemmas.Bool.Decides.{Decides-eqb}
 use Rattle.std.proofs.lemmas.Grind.{flat_map-append}
 use Rattle.std.proofs.lemmas.List.{map-append, append-nil, take-append-drop}
-use Rattle.std.proofs.lemmas.List.Sums.{sum_by-cons, sum_by-append}
 use Rattle.quiver.specs.declared.named.Named.{Named}
 use Rattle.quiver.specs.declared.named.Named.TheVariants as named
-use Rattle.quiver.specs.Declarations.{Declaration, object, arrow, name_of, object_count, map_count, named_in, naming_table, has_ends, IsDeclared, IsNamed, objects_first, ObjectsFirst, is_arrow}
+use Rattle.quiver.specs.Declarations.{Declaration, object, arrow, object_count, map_count, named_in, naming_table, has_ends, IsDeclared, objects_first, ObjectsFirst, is_arrow}
 use Rattle.quiver.proofs.Counts.{object_count-append, map_count-append}
-use Rattle.quiver.proofs.Growth.{names_from, naming_table-append}
+use Rattle.quiver.proofs.Growth.{naming_table-append}
 use Rattle.quiver.proofs.Found.{is_named}
-use Rattle.expressions.specs.Names.{is_map, is_object, object_number, object_of}
+use Rattle.expressions.specs.Names.{is_object, object_number, object_of}
 use Rattle.statement_syntax.specs.declared.place.Spot.{Spot}
 use Rattle.statement_syntax.specs.declared.tree.Name.{Name}
 use Rattle.statement_syntax.specs.declared.tree.Statement.{Statement}
@@ -23,19 +22,18 @@ use Rattle.statement_syntax.specs.declared.tree.StatementKind.{StatementKind}
 use Rattle.statement_syntax.specs.declared.tree.StatementKind.TheVariants as statement
 use Rattle.statement_names.specs.declared.kinds.Kind.{Kind}
 use Rattle.statement_names.specs.declared.kinds.Kind.TheVariants.{Object, Map}
-use Rattle.statement_names.specs.Faults.{kind_in, is_kind, are_two_objects, declared_in, objects_by, maps_by, name_fault_of}
-use Rattle.statement_names.specs.Occurrences.{Occurrence, declares_object, declares_map, uses, kind_occurrences, statement_occurrences, occurrences_of, sides_occurrences, pairs_behind, names_behind, used_names}
+use Rattle.statement_names.specs.Faults.{kind_in, is_kind, are_two_objects, declared_in, name_fault_of}
+use Rattle.statement_names.specs.Occurrences.{declares_map, uses, kind_occurrences, statement_occurrences, occurrences_of}
 use Rattle.statement_names.specs.Uses.{object_use}
 use Rattle.statement_names.specs.Numbered.{objects_in, maps_in, declared_objects, declared_maps, declarations_of, HasEnds}
-use Rattle.statement_names.proofs.Apart.{Apart, Apart-left, objects_among, maps_among, sorted, kind_in-sorted}
+use Rattle.statement_names.proofs.Apart.{Apart, Apart-left, objects_among, maps_among}
 use Rattle.statement_names.proofs.Clean.{IsGood, each_good, few_objects, few_maps}
 use Rattle.statement_names.proofs.Each.{Each, Each-of_flat_map, Each-left, Each-right, Each-item, Each-take}
 use Rattle.statement_names.proofs.Items.{flat_next}
 use Rattle.statement_names.proofs.Tally.{object_count-statements, map_count-statements}
 use Rattle.statement_names.proofs.Fresh.{different_of_apart, apart_of}
 use Rattle.statement_names.proofs.KindsFound.{kind_in-append, lookup-append, same_bytes}
-use Rattle.statement_names.proofs.NamedKinds.{kind_of, kinds, named_kind, kind-named_in, apart_declarations, kind_declared, kinds-declared_objects, kinds-declarations_of, statement_kinds, object_from}
-use Rattle.statement_names.proofs.Quiet.{sum_by-quiet, sides-quiet, names_behind-quiet, pairs_behind-quiet}
+use Rattle.statement_names.proofs.NamedKinds.{kind_of, kinds, kind-named_in, apart_declarations, kind_declared, kinds-declared_objects, kinds-declarations_of, statement_kinds, object_from}
 
 -- ---- look-ups behind more declarations
 stays : {A : Type 0} (found other : Option A) → is_some found ≡ true → option_or found other ≡ found

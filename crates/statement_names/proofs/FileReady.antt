@@ -1,5 +1,5 @@
 -- A file in whose names nothing is wrong is ready for the stages behind.
-use Rattle.std.proofs.Common.{◌≡◌, ℕ, ◌<◌, ◌≤◌, List, None, refl, sym, subst}
+use Rattle.std.proofs.Common.{◌≡◌, ◌<◌, ◌≤◌, List, None, refl, sym, subst}
 use Rattle.quiver.specs.Declarations.{object_count, letter_count}
 use Rattle.statement_syntax.specs.declared.tree.Statement.{Statement}
 use Rattle.statement_names.specs.Faults.{kind_in, declared_in, name_fault_of}

@@ -1,12 +1,12 @@
 -- The names of a sum and of a term, by lists in place of rows.
-use Rattle.std.proofs.Common.{◌≡◌, List, [], ◌∷◌, ◌++◌, map, refl, sym, ap, ap₂, ◌∙◌}
+use Rattle.std.proofs.Common.{◌≡◌, List, ◌++◌, refl, sym, ap, ◌∙◌}
 use Rattle.std.specs.List.{flat_map}
 use Rattle.std.proofs.lemmas.List.{map-append}
 use Rattle.statement_syntax.specs.declared.tree.Factor.{Factor}
 use Rattle.statement_syntax.specs.declared.tree.Term.{Term, Term', out-Term, outs-Term', Row_of-Factor, end_of-Factor, more_of-Factor, items-the_row-Factor, items_shown-the_row-Factor-1}
 use Rattle.statement_syntax.specs.declared.tree.Sum.{Sum, Sum', out-Sum, outs-Sum', Row_of-Term, end_of-Term, more_of-Term, items-the_row-Term, items_shown-the_row-Term-0}
 use Rattle.statement_names.specs.Occurrences.{Occurrence, used_names}
-use Rattle.statement_names.specs.Uses.{Use, primary_uses, factor_uses, factors_uses, term_uses, terms_uses, sum_uses}
+use Rattle.statement_names.specs.Uses.{Use, primary_uses, factors_uses, term_uses, terms_uses, sum_uses}
 
 -- the occurrences of the names of a term and of a factor
 abbrev pub term_names : Term → List Occurrence

@@ -5,7 +5,6 @@ use Rattle.std.proofs.lemmas.Bool.Decides.{Decides-eqb}
 use Rattle.std.proofs.lemmas.List.{length-replicate, map-append, append-nil}
 use Rattle.std.proofs.lemmas.List.Elements.{filter-append}
 use Rattle.std.proofs.lemmas.List.Folds.{list_any-append}
-use Rattle.std.proofs.lemmas.List.FromFn.{length-range_with_len}
 use Rattle.word_orders.proofs.BlockReading.{get_or-replicate_default}
 use Rattle.statement_names.specs.Marks.{Marks}
 use Rattle.statement_names.specs.Solved.{numbers_that}

@@ -1,5 +1,5 @@
 -- The sides that pairs of names and literals give to objects.
-use Rattle.std.proofs.Common.{◌≡◌, ◌≢◌, ℕ, zero, suc, ◌+◌, ◌<◌, ◌≤◌, Bool, true, false, cond, IsTrue, List, [], ◌∷◌, ◌++◌, length, map, take, get_or, set, AllPairs, Option, Some, None, unwrap_or, refl, ap, ap₂, sym, subst, ◌∙◌, arith, get_or-set_same, get_or-set_other}
+use Rattle.std.proofs.Common.{◌≡◌, ◌≢◌, ℕ, zero, suc, ◌+◌, ◌<◌, ◌≤◌, Bool, true, false, cond, IsTrue, List, [], ◌∷◌, length, map, take, get_or, set, AllPairs, Option, Some, None, unwrap_or, refl, ap, ap₂, sym, subst, ◌∙◌, arith, get_or-set_same, get_or-set_other}
 use Rattle.std.specs.List.{range_with_len}
 use Rattle.std.specs.Map.{lookup}
 use Rattle.std.specs.Option.{option_or}
@@ -14,13 +14,12 @@ use Rattle.statement_syntax.specs.declared.tree.Name.{Name}
 use Rattle.statement_syntax.specs.declared.tree.Number.{Number}
 use Rattle.statement_names.specs.Faults.{value_of}
 use Rattle.statement_names.specs.Shapes.{side_in, sides_of}
-use Rattle.statement_names.proofs.Apart.{Apart, other_bytes, own_bytes}
+use Rattle.statement_names.proofs.Apart.{other_bytes, own_bytes}
 use Rattle.statement_names.proofs.Found.{named_object}
 use Rattle.statement_names.proofs.Fresh.{apart_of, pairs_head, pairs_tail}
 use Rattle.statement_names.proofs.Each.{Each}
 use Rattle.statement_names.proofs.Items.{take_next}
 use Rattle.statement_names.proofs.KindsFound.{same_bytes, lookup-append, option_or-nothing}
-use Rattle.statement_names.proofs.NamedKinds.{kinds}
 
 -- a list by what stands at its places
 from_places : {A : Type 0} (d : A) (f : ℕ → A) (a n : ℕ) (xs : List A) → length xs ≡ n → ((v : ℕ) → v < n → get_or xs v d ≡ f (a + v)) → xs ≡ map f (range_with_len a n)

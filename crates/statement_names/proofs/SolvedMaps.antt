@@ -1,11 +1,10 @@
 -- The letters that a file solves for are declared maps.
-use Rattle.std.proofs.Common.{◌≡◌, ℕ, ◌+◌, ◌<◌, ◌≤◌, Bool, true, false, ◌&&◌, ◌||◌, nat_eq, if◌then◌else◌, List, [], ◌∷◌, ◌++◌, Option, Some, None, refl, ap, sym, subst, ◌∙◌, arith}
+use Rattle.std.proofs.Common.{◌≡◌, ℕ, ◌+◌, ◌≤◌, Bool, true, false, ◌||◌, if◌then◌else◌, List, [], ◌∷◌, ◌++◌, Option, Some, None, refl, ap, sym, subst, arith}
 use Rattle.std.specs.List.{list_any, list_all}
 use Rattle.std.proofs.lemmas.Bool.Decides.{Decides-eqb}
-use Rattle.definitions.specs.Quiver.{star}
 use Rattle.quiver.specs.declared.named.Named.{Named}
 use Rattle.quiver.specs.declared.named.Named.TheVariants as named
-use Rattle.quiver.specs.Declarations.{Declaration, object, arrow, objects_of, letters_of, object_count, letter_count, named_in, quiver_of, objects_first, ObjectsFirst, is_arrow}
+use Rattle.quiver.specs.Declarations.{Declaration, object, arrow, object_count, letter_count, named_in, objects_first, ObjectsFirst, is_arrow}
 use Rattle.quiver.proofs.Counts.{object_count-append}
 use Rattle.quiver.proofs.Found.{is_named}
 use Rattle.adjoint_rules.specs.Problem.{IsDeclaredMap}

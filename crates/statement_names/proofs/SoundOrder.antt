@@ -1,15 +1,13 @@
 -- Nothing is wrong with the order of a file in whose names nothing is wrong.
-use Rattle.std.proofs.Common.{◌≡◌, ◌≢◌, ℕ, ◌+◌, ◌<◌, ◌≤◌, Bool, true, false, ◌&&◌, ◌||◌, nat_eq, nat_lt, nat_le, if◌then◌else◌, IsTrue, List, [], ◌∷◌, ◌++◌, length, map, get_or, Option, Some, None, refl, ap, ap₂, sym, subst, ◌∙◌, arith}
-use Rattle.std.specs.List.{flat_map, list_any}
+use Rattle.std.proofs.Common.{◌≡◌, ◌≢◌, ℕ, ◌<◌, ◌≤◌, Bool, true, false, ◌&&◌, ◌||◌, nat_eq, nat_lt, if◌then◌else◌, IsTrue, List, [], ◌∷◌, ◌++◌, map, Option, Some, None, refl, ap, ap₂, sym, subst, ◌∙◌, arith}
+use Rattle.std.specs.List.{flat_map}
 use Rattle.std.specs.Option.{option_or}
 use Rattle.std.proofs.lemmas.Bool.{lt-ltb, le-leb}
-use Rattle.std.proofs.lemmas.Bool.Decides.{nat_tests, Decides-eqb}
+use Rattle.std.proofs.lemmas.Bool.Decides.{Decides-eqb}
 use Rattle.word_core.specs.declared.letter.Letter.{Letter}
-use Rattle.word_orders.specs.declared.fault.OrderFault.{OrderFault}
 use Rattle.word_orders.specs.declared.fault.OrderFault.TheVariants.{BadWeight, RepeatedLetter, NoSuchLetter}
 use Rattle.word_orders.specs.declared.any.OrderSpec.{OrderSpec}
-use Rattle.word_orders.specs.declared.any.OrderSpec.TheVariants as order
-use Rattle.word_orders.specs.Faults.{is_weight, letter_fault, entry_fault, HasNoFault}
+use Rattle.word_orders.specs.Faults.{is_weight, entry_fault, HasNoFault}
 use Rattle.word_orders.specs.Lists.{is_listed}
 use Rattle.word_orders.specs.Specified.{IsSound}
 use Rattle.quiver.specs.declared.named.Named.{Named}
@@ -27,8 +25,8 @@ use Rattle.statement_names.specs.declared.kinds.Kind.TheVariants.{Map}
 use Rattle.statement_names.specs.Faults.{kind_in, declared_in, value_of, name_fault_of}
 use Rattle.statement_names.specs.Occurrences.{kind_occurrences, statement_occurrences, occurrences_of}
 use Rattle.statement_names.specs.Numbered.{declarations_of}
-use Rattle.statement_names.specs.Ordered.{letter, with_star, weights_of, order_or, order_of}
-use Rattle.statement_names.proofs.Each.{Each, Each-append, Each-map, Each-weaker, Each-flat_map}
+use Rattle.statement_names.specs.Ordered.{weights_of, order_or, order_of}
+use Rattle.statement_names.proofs.Each.{Each, Each-append, Each-map, Each-weaker}
 use Rattle.statement_names.proofs.Found.{letters_from_number, IsLetterOf, HasLetters, map_letters}
 use Rattle.statement_names.proofs.Stated.{Once, IsPair, pairs_are, pairs_apart}
 use Rattle.statement_names.proofs.Clean.{IsGood}

@@ -1,12 +1,12 @@
 -- The shapes of a file in whose names nothing is wrong.
-use Rattle.std.proofs.Common.{◌≡◌, ℕ, zero, suc, ◌+◌, ◌<◌, ◌≤◌, Bool, true, false, cond, nat_eq, IsTrue, List, [], ◌∷◌, ◌++◌, length, map, replicate, get_or, All, Option, Some, None, unwrap_or, refl, ap, sym, subst, ◌∙◌, arith}
-use Rattle.std.specs.List.{flat_map, list_any, range_with_len}
+use Rattle.std.proofs.Common.{◌≡◌, ℕ, zero, suc, ◌+◌, ◌≤◌, Bool, true, false, cond, List, [], ◌∷◌, length, map, replicate, All, Option, Some, None, unwrap_or, refl, sym, subst, arith}
+use Rattle.std.specs.List.{flat_map, range_with_len}
 use Rattle.std.specs.Map.{lookup}
 use Rattle.std.specs.Str.{bytes_eq}
 use Rattle.std.proofs.lemmas.List.{length-replicate}
 use Rattle.std.proofs.lemmas.List.FromFn.{length-map-range_with_len}
 use Rattle.quiver.specs.Declarations.{Declaration, object_count, object_name}
-use Rattle.adjoint_rules.specs.Problem.{IsShape, IsSide, moduli}
+use Rattle.adjoint_rules.specs.Problem.{IsShape, IsSide}
 use Rattle.adjoint_rules.specs.declared.parts.Shape.{Shape}
 use Rattle.statement_syntax.specs.declared.place.Spot.{Spot}
 use Rattle.statement_syntax.specs.declared.tree.Name.{Name}
@@ -16,7 +16,7 @@ use Rattle.statement_syntax.specs.declared.tree.StatementKind.{StatementKind}
 use Rattle.statement_syntax.specs.declared.tree.StatementKind.TheVariants as statement
 use Rattle.statement_names.specs.declared.kinds.Kind.{Kind}
 use Rattle.statement_names.specs.declared.kinds.Kind.TheVariants.{Object}
-use Rattle.statement_names.specs.Faults.{kind_in, declared_in, value_of, name_fault_of, shapes_by}
+use Rattle.statement_names.specs.Faults.{kind_in, declared_in, value_of, name_fault_of}
 use Rattle.statement_names.specs.Numbered.{declarations_of}
 use Rattle.statement_names.specs.Occurrences.{kind_occurrences, statement_occurrences, occurrences_of}
 use Rattle.statement_names.specs.Shapes.{shape, side_in, sides_of, shapes_in, default_shapes, or_shapes, shapes_of}

@@ -1,10 +1,9 @@
 -- The names in equations stand for maps and objects.
-use Rattle.std.proofs.Common.{◌≡◌, ℕ, ◌<◌, Bool, true, false, ◌&&◌, IsTrue, List, [], ◌∷◌, ◌++◌, map, Option, Some, None, refl, ap, ap₂, sym, subst, ◌∙◌}
+use Rattle.std.proofs.Common.{◌≡◌, ℕ, ◌<◌, true, false, ◌&&◌, IsTrue, List, [], ◌∷◌, map, Option, Some, None, refl, ap, ap₂, sym, subst, ◌∙◌}
 use Rattle.std.specs.List.{list_all}
 use Rattle.quiver.specs.Declarations.{Declaration, object_count, letter_count, named_in, quiver_of, IsDeclared}
 use Rattle.expressions.specs.Names.{is_map, is_object, are_names, are_names_of_terms, are_names_of_term, are_names_of_factors, are_names_of_primary, AreNames}
 use Rattle.statement_syntax.specs.declared.place.Spot.{Spot}
-use Rattle.statement_syntax.specs.declared.tree.Name.{Name}
 use Rattle.statement_syntax.specs.declared.tree.Primary.{Primary, Letter, Identity, Bracket}
 use Rattle.statement_syntax.specs.declared.tree.Factor.{Factor}
 use Rattle.statement_syntax.specs.declared.tree.Mark.TheVariants.{Adjoint}
@@ -24,7 +23,7 @@ use Rattle.statement_names.specs.declared.kinds.Kind.{Kind}
 use Rattle.statement_names.specs.declared.kinds.Kind.TheVariants.{Object, Map}
 use Rattle.statement_names.specs.Faults.{kind_in, is_kind, declared_in, name_fault_of}
 use Rattle.statement_names.specs.Numbered.{declarations_of}
-use Rattle.statement_names.specs.Occurrences.{Occurrence, used_names, sides_occurrences, kind_occurrences, statement_occurrences, occurrences_of}
+use Rattle.statement_names.specs.Occurrences.{used_names, sides_occurrences, kind_occurrences, statement_occurrences, occurrences_of}
 use Rattle.statement_names.specs.Ready.{HasNames}
 use Rattle.statement_names.specs.Uses.{primary_uses, factors_uses, term_uses, terms_uses, sum_uses}
 use Rattle.statement_names.specs.Written.{letter_at, word_at, adjoint_at, product_at, identity_at, marked_letter, equation, inner_equation, adjoint_equation, identity_equation, projection_equations, end_name, source_name, target_name, equations_in, equations_of, assumptions_of, claims_in, claims_of}

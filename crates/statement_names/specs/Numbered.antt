@@ -1,5 +1,5 @@
 -- What a file declares.
-use Rattle.std.specs.Prelude.{ℕ, IsTrue, List, [], ◌++◌, map}
+use Rattle.std.specs.Prelude.{IsTrue, List, [], ◌++◌, map}
 use Rattle.std.specs.List.{flat_map}
 use Rattle.statement_syntax.specs.declared.tree.Statement.{Statement}
 use Rattle.statement_syntax.specs.declared.tree.StatementKind.{StatementKind}

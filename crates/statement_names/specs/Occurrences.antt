@@ -65,6 +65,15 @@ kind_occurrences at (statement.Weight weights) = begins_order at ∷ pairs_behin
 kind_occurrences at (statement.Solve names) = names_behind Map [] names
 kind_occurrences at (statement.Shape m sides) = begins_shape at ∷ modulus m ∷ pairs_behind Object 6 [] sides
 
+-- it has no list of names
+abbrev pub IsListless : StatementKind → Type 0
+IsListless (statement.Objects names) = ⊥
+IsListless (statement.Maps names source target selfmade) = ⊥
+IsListless (statement.Weight weights) = ⊥
+IsListless (statement.Solve names) = ⊥
+IsListless (statement.Shape m sides) = ⊥
+IsListless kind = Unit {0}
+
 abbrev pub statement_occurrences : Statement → List Occurrence
 statement_occurrences s = kind_occurrences s.at s.kind
 

@@ -1,5 +1,5 @@
 -- What holds of a file in whose names nothing is wrong.
-use Rattle.std.specs.Prelude.{◌≡◌, ℕ, ◌<◌, ◌≤◌, List, length, AllPairs}
+use Rattle.std.specs.Prelude.{◌<◌, ◌≤◌, List, length, AllPairs}
 use Rattle.std.specs.List.{All}
 use Rattle.word_orders.specs.Specified.{IsSound}
 use Rattle.quiver.specs.Declarations.{Declaration, object_count, letter_count, IsDeclared, ObjectsFirst}

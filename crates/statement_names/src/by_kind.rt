@@ -2,7 +2,7 @@
 
 ghost use Rattle.std.specs.Prelude.{◌≡◌, ◌∷◌, [], ◌++◌, map, Some, Ok, OnOk, IfErr};
 ghost use Rattle.statement_names.specs.Faults.{Explains};
-ghost use Rattle.statement_names.specs.Occurrences.{declares_map, begins_assumptions, use_of, used_names, kind_occurrences, statement_occurrences};
+ghost use Rattle.statement_names.specs.Occurrences.{IsListless, declares_map, begins_assumptions, use_of, used_names, kind_occurrences, statement_occurrences};
 ghost use Rattle.statement_names.specs.Survey.{run, fault_in};
 
 use crate::fault::{NameFault, NameStop};
@@ -31,13 +31,6 @@ impl Survey {
                 target,
                 selfmade,
             } => self.maps_between(names.as_slice(), source, target, *selfmade),
-            StatementKind::Assume(left, right) => Ok(self.assumption(at, left, right)?),
-            StatementKind::Claim(left, right) => Ok(self.claimed(at, left, right)?),
-            StatementKind::Pinv(a, x) => Ok(self.abbreviation(4, at, a, x)?),
-            StatementKind::Inverse(a, x) => Ok(self.abbreviation(2, at, a, x)?),
-            StatementKind::Inner(a, x) => Ok(self.abbreviation(1, at, a, x)?),
-            StatementKind::Projection(p) => Ok(self.projection(at, p)?),
-            StatementKind::Degree => Ok(self.order(at)?),
             StatementKind::Weight(weights) => self.weights(alloc, at, weights.as_slice()),
             StatementKind::Solve(names) => self.names(alloc, names.as_slice()),
             StatementKind::Shape { modulus, sides } => self.shape_with(
@@ -46,6 +39,24 @@ impl Survey {
                 modulus,
                 sides.as_slice(),
             ),
+            kind => Ok(self.listless(at, kind)?),
+        }
+    }
+
+    // A statement with no list.
+    fn listless(&mut self, at: Spot, kind: &StatementKind) -> Result<(), NameFault>
+        requires { IsListless kind.now }
+        ensures ok { OnOk result (run self.old (kind_occurrences at kind.now) ≡ Ok self.new) }
+        ensures err { IfErr result (λ e. fault_in (run self.old (kind_occurrences at kind.now)) ≡ Some e) }
+    {
+        match kind {
+            StatementKind::Assume(left, right) => self.assumption(at, left, right),
+            StatementKind::Claim(left, right) => self.claimed(at, left, right),
+            StatementKind::Pinv(a, x) => self.abbreviation(4, at, a, x),
+            StatementKind::Inverse(a, x) => self.abbreviation(2, at, a, x),
+            StatementKind::Inner(a, x) => self.abbreviation(1, at, a, x),
+            StatementKind::Projection(p) => self.projection(at, p),
+            _ => self.order(at),
         }
     }
 

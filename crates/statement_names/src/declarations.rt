@@ -18,10 +18,16 @@ pub fn declare_all(alloc: Global, statements: &[Statement]) -> Result<Quiver, Al
 {
     let mut quiver = Quiver::new(alloc)?;
     for statement in statements {
-        add_objects(&mut quiver, &statement.kind)?;
+        if let Err(failed) = add_objects(&mut quiver, &statement.kind) {
+            drop(quiver);
+            return Err(failed);
+        }
     }
     for statement in statements {
-        add_maps(&mut quiver, &statement.kind)?;
+        if let Err(failed) = add_maps(&mut quiver, &statement.kind) {
+            drop(quiver);
+            return Err(failed);
+        }
     }
     Ok(quiver)
 }

@@ -4,7 +4,7 @@ ghost use Rattle.std.specs.Prelude.{◌≡◌, ◌≤◌, ◌^◌, ◌||◌, fal
 ghost use Rattle.std.specs.List.{list_any, slice_index_or};
 ghost use Rattle.quiver.specs.Declarations.{named_in, object_count};
 ghost use Rattle.expressions.specs.Occurrences.{has_identity, has_identity_in_term, has_identity_in_primary, is_the_object};
-ghost use Rattle.statement_names.specs.Marked.{an_object, writes_identity, stated_by, marked_of};
+ghost use Rattle.statement_names.specs.Marked.{an_object, is_marked, writes_identity, stated_by, marked_of};
 ghost use Rattle.statement_names.specs.Marks.{Marks};
 ghost use Rattle.statement_names.specs.Solved.{numbers_that};
 ghost use Rattle.statement_names.specs.Written.{abbreviation_of};
@@ -25,10 +25,24 @@ pub fn read_marked(
     ensures { IfOk result (λ objects. objects ≡ marked_of quiver.now statements.now) }
 {
     let mut marks = vec![in alloc; false; quiver.objects() as usize]?;
-    for statement in statements {
-        mark_statement(alloc, quiver, statement, &mut marks)?;
-    }
+    mark_statements(alloc, quiver, statements, &mut marks)?;
     marked_objects(alloc, &marks)
+}
+
+// Marks the objects whose identities statements write.
+fn mark_statements(
+    alloc: Global,
+    quiver: &Quiver,
+    statements: &[Statement],
+    marks: &mut [bool],
+) -> Result<(), AllocError>
+    requires { length marks.old ≡ object_count quiver.now }
+    ensures { OnOk result (Marks marks.old marks.new (is_marked quiver.now statements.now)) }
+{
+    for statement in statements {
+        mark_statement(alloc, quiver, statement, marks)?;
+    }
+    Ok(())
 }
 
 // Marks the objects whose identities a statement writes.

@@ -20,8 +20,8 @@ use crate::survey::check_names;
 use adjoint_rules::Shape;
 use lists::Listing;
 use quiver::Quiver;
-use statement_syntax::Tree;
-use std::alloc::Global;
+use statement_syntax::{Statement, Tree};
+use std::alloc::{AllocError, Global};
 use word_core::{Letter, Object};
 use word_orders::OrderSpec;
 
@@ -58,17 +58,38 @@ pub fn read_names(alloc: Global, tree: &Tree) -> Result<Names, NameStop>
     let statements = tree.statements.as_slice();
     check_names(alloc, statements)?;
     let quiver = declare_all(alloc, statements)?;
-    let order = read_order(alloc, &quiver, statements)?;
-    let starred = is_starred(statements);
-    let marked = read_marked(alloc, &quiver, statements)?;
-    let shapes = read_shapes(alloc, &quiver, statements)?;
-    let solved = read_solved(alloc, &quiver, statements)?;
-    Ok(Names {
-        quiver,
-        order,
-        starred,
-        marked,
-        shapes,
-        solved,
-    })
+    match read_lists(alloc, &quiver, statements) {
+        Ok((order, marked, shapes, solved)) => Ok(Names {
+            quiver,
+            order,
+            starred: is_starred(statements),
+            marked,
+            shapes,
+            solved,
+        }),
+        Err(failed) => {
+            drop(quiver);
+            Err(NameStop::Memory(failed))
+        }
+    }
+}
+
+// The order of words, the marked objects, the shapes and the maps that are solved for.
+fn read_lists(
+    alloc: Global,
+    quiver: &Quiver,
+    statements: &[Statement],
+) -> Result<(OrderSpec, Listing<Object>, Listing<Shape>, Listing<Letter>), AllocError>
+    requires sound { name_fault_of statements.now ≡ None }
+    requires declared { quiver.now ≡ declarations_of statements.now }
+    ensures order { IfOk result (λ lists. lists.0 ≡ order_of quiver.now statements.now) }
+    ensures marked { IfOk result (λ lists. lists.1 ≡ marked_of quiver.now statements.now) }
+    ensures shapes { IfOk result (λ lists. lists.2 ≡ shapes_of quiver.now statements.now) }
+    ensures solved { IfOk result (λ lists. lists.3 ≡ solved_of quiver.now statements.now) }
+{
+    let order = read_order(alloc, quiver, statements)?;
+    let marked = read_marked(alloc, quiver, statements)?;
+    let shapes = read_shapes(alloc, quiver, statements)?;
+    let solved = read_solved(alloc, quiver, statements)?;
+    Ok((order, marked, shapes, solved))
 }

@@ -49,8 +49,12 @@ pub fn check_names(alloc: Global, statements: &[Statement]) -> Result<(), NameSt
         shapes: SHAPE_LIMIT,
     };
     for statement in statements {
-        survey.statement(alloc, statement)?;
+        if let Err(stop) = survey.statement(alloc, statement) {
+            drop(survey);
+            return Err(stop);
+        }
     }
+    drop(survey);
     Ok(())
 }
 

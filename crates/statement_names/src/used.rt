@@ -72,9 +72,16 @@ impl Survey {
     {
         let mut listed = Kinds::new(alloc);
         for pair in pairs {
-            self.listed(&mut listed, &pair.0, kind)?;
-            check_count(most, &pair.1)?;
+            if let Err(stop) = self.listed(&mut listed, &pair.0, kind) {
+                drop(listed);
+                return Err(stop);
+            }
+            if let Err(fault) = check_count(most, &pair.1) {
+                drop(listed);
+                return Err(NameStop::Fault(fault));
+            }
         }
+        drop(listed);
         Ok(())
     }
 

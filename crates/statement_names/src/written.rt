@@ -1,6 +1,6 @@
 //! The equations that abbreviations stand for, as expressions all of whose tokens are at one place.
 
-ghost use Rattle.std.specs.Prelude.{◌≡◌, ◌∷◌, [], List, ℕ, map, IfOk};
+ghost use Rattle.std.specs.Prelude.{◌≡◌, ◌∷◌, ◌++◌, [], List, ℕ, map, IfOk, OnOk};
 ghost use Rattle.statement_names.specs.Written.{letter_at, identity_at, product_at, word_at, adjoint_at, inner_equation, adjoint_equation, identity_equation, source_name, target_name, abbreviation_of, equation, pinv_equations, inverse_equations, projection_equations, marked_letter};
 ghost use Rattle.statement_syntax.specs.declared.tree.Mark.TheVariants.{Adjoint};
 ghost use Rattle.statement_syntax.specs.declared.tree.Primary.{Bracket};
@@ -27,103 +27,159 @@ pub fn abbreviation(
 ) -> Result<Listing<Equation>, AllocError>
     ensures { IfOk result (λ equations. equations ≡ abbreviation_of quiver.now statement.now.at statement.now.kind) }
 {
-    let at = statement.at;
-    match &statement.kind {
-        StatementKind::Pinv(a, x) => pinv(alloc, at, a.text.as_str(), x.text.as_str()),
-        StatementKind::Inverse(a, x) => {
-            let source = source_name(quiver, a);
-            let target = target_name(quiver, a);
-            inverse(alloc, at, a.text.as_str(), x.text.as_str(), source, target)
+    let mut equations = Listing::new(alloc);
+    match put_abbreviation(alloc, quiver, statement, &mut equations) {
+        Ok(()) => Ok(equations),
+        Err(failed) => {
+            drop(equations);
+            Err(failed)
         }
-        StatementKind::Inner(a, x) => inner(alloc, at, a.text.as_str(), x.text.as_str()),
-        StatementKind::Projection(p) => projection(alloc, at, p.text.as_str()),
-        _ => Ok(Listing::new(alloc)),
     }
 }
 
-fn pinv(alloc: Global, at: Spot, a: &str, x: &str) -> Result<Listing<Equation>, AllocError>
-    ensures { IfOk result (λ equations. equations ≡ pinv_equations at a.now x.now) }
+fn put_abbreviation(
+    alloc: Global,
+    quiver: &Quiver,
+    statement: &Statement,
+    out: &mut Listing<Equation>,
+) -> Result<(), AllocError>
+    ensures { OnOk result (out.new ≡ out.old ++ abbreviation_of quiver.now statement.now.at statement.now.kind) }
 {
-    let mut equations = Listing::new(alloc);
-    equations.push(inner_equation(alloc, at, a, x)?)?;
-    equations.push(inner_equation(alloc, at, x, a)?)?;
-    equations.push(adjoint_equation(alloc, at, &[a, x])?)?;
-    equations.push(adjoint_equation(alloc, at, &[x, a])?)?;
-    Ok(equations)
+    let at = statement.at;
+    match &statement.kind {
+        StatementKind::Pinv(a, x) => put_pinv(alloc, at, a.text.as_str(), x.text.as_str(), out),
+        StatementKind::Inverse(a, x) => {
+            let source = source_name(quiver, a);
+            let target = target_name(quiver, a);
+            put_inverse(
+                alloc,
+                at,
+                a.text.as_str(),
+                x.text.as_str(),
+                source,
+                target,
+                out,
+            )
+        }
+        StatementKind::Inner(a, x) => put_inner(alloc, at, a.text.as_str(), x.text.as_str(), out),
+        StatementKind::Projection(p) => put_projection(alloc, at, p.text.as_str(), out),
+        _ => Ok(()),
+    }
 }
 
-fn inverse(
+fn put_pinv(
+    alloc: Global,
+    at: Spot,
+    a: &str,
+    x: &str,
+    out: &mut Listing<Equation>,
+) -> Result<(), AllocError>
+    ensures { OnOk result (out.new ≡ out.old ++ pinv_equations at a.now x.now) }
+{
+    put_inner(alloc, at, a, x, out)?;
+    put_inner(alloc, at, x, a, out)?;
+    put_adjoint(alloc, at, &[a, x], out)?;
+    put_adjoint(alloc, at, &[x, a], out)
+}
+
+fn put_inverse(
     alloc: Global,
     at: Spot,
     a: &str,
     x: &str,
     source: &str,
     target: &str,
-) -> Result<Listing<Equation>, AllocError>
-    ensures { IfOk result (λ equations. equations ≡ inverse_equations at a.now x.now source.now target.now) }
+    out: &mut Listing<Equation>,
+) -> Result<(), AllocError>
+    ensures { OnOk result (out.new ≡ out.old ++ inverse_equations at a.now x.now source.now target.now) }
 {
-    let mut equations = Listing::new(alloc);
-    equations.push(identity_equation(alloc, at, &[a, x], target)?)?;
-    equations.push(identity_equation(alloc, at, &[x, a], source)?)?;
-    Ok(equations)
+    put_identity(alloc, at, &[a, x], target, out)?;
+    put_identity(alloc, at, &[x, a], source, out)
 }
 
-fn inner(alloc: Global, at: Spot, a: &str, x: &str) -> Result<Listing<Equation>, AllocError>
-    ensures { IfOk result (λ equations. equations ≡ inner_equation at a.now x.now ∷ []) }
+// p p = p, p' = p
+fn put_projection(
+    alloc: Global,
+    at: Spot,
+    p: &str,
+    out: &mut Listing<Equation>,
+) -> Result<(), AllocError>
+    ensures { OnOk result (out.new ≡ out.old ++ projection_equations at p.now) }
 {
-    let mut equations = Listing::new(alloc);
-    equations.push(inner_equation(alloc, at, a, x)?)?;
-    Ok(equations)
+    let square = word_at(alloc, at, &[p, p])?;
+    put_equation(alloc, at, square, &[p], out)?;
+    put_marked(alloc, at, p, out)
 }
 
-fn projection(alloc: Global, at: Spot, p: &str) -> Result<Listing<Equation>, AllocError>
-    ensures { IfOk result (λ equations. equations ≡ projection_equations at p.now) }
+// p' = p
+fn put_marked(
+    alloc: Global,
+    at: Spot,
+    p: &str,
+    out: &mut Listing<Equation>,
+) -> Result<(), AllocError>
+    ensures { OnOk result (out.new ≡ out.old ++ equation (product_at at (marked_letter at p.now ∷ [])) (word_at at (p.now ∷ [])) ∷ []) }
 {
-    let mut equations = Listing::new(alloc);
-    equations.push(Equation {
-        left: word_at(alloc, at, &[p, p])?,
-        right: word_at(alloc, at, &[p])?,
-    })?;
-    equations.push(Equation {
-        left: lone_at(alloc, at, marked_letter(alloc, at, p)?)?,
-        right: word_at(alloc, at, &[p])?,
-    })?;
-    Ok(equations)
+    let adjoint = lone_at(alloc, at, marked_letter(alloc, at, p)?)?;
+    put_equation(alloc, at, adjoint, &[p], out)
 }
 
 // a x a = a
-fn inner_equation(alloc: Global, at: Spot, a: &str, x: &str) -> Result<Equation, AllocError>
-    ensures { IfOk result (λ e. e ≡ inner_equation at a.now x.now) }
+fn put_inner(
+    alloc: Global,
+    at: Spot,
+    a: &str,
+    x: &str,
+    out: &mut Listing<Equation>,
+) -> Result<(), AllocError>
+    ensures { OnOk result (out.new ≡ out.old ++ inner_equation at a.now x.now ∷ []) }
 {
-    Ok(Equation {
-        left: word_at(alloc, at, &[a, x, a])?,
-        right: word_at(alloc, at, &[a])?,
-    })
+    let word = word_at(alloc, at, &[a, x, a])?;
+    put_equation(alloc, at, word, &[a], out)
 }
 
 // (a x)' = a x
-fn adjoint_equation(alloc: Global, at: Spot, names: &[&str]) -> Result<Equation, AllocError>
-    ensures { IfOk result (λ e. e ≡ adjoint_equation at (map (λ name. name.now) names.now)) }
+fn put_adjoint(
+    alloc: Global,
+    at: Spot,
+    names: &[&str],
+    out: &mut Listing<Equation>,
+) -> Result<(), AllocError>
+    ensures { OnOk result (out.new ≡ out.old ++ adjoint_equation at (map (λ name. name.now) names.now) ∷ []) }
 {
-    Ok(Equation {
-        left: lone_at(alloc, at, bracket_at(alloc, at, names)?)?,
-        right: word_at(alloc, at, names)?,
-    })
+    let adjoint = lone_at(alloc, at, bracket_at(alloc, at, names)?)?;
+    put_equation(alloc, at, adjoint, names, out)
 }
 
 // a x = [T]
-fn identity_equation(
+fn put_identity(
     alloc: Global,
     at: Spot,
     names: &[&str],
     object: &str,
-) -> Result<Equation, AllocError>
-    ensures { IfOk result (λ e. e ≡ identity_equation at (map (λ name. name.now) names.now) object.now) }
+    out: &mut Listing<Equation>,
+) -> Result<(), AllocError>
+    ensures { OnOk result (out.new ≡ out.old ++ identity_equation at (map (λ name. name.now) names.now) object.now ∷ []) }
 {
-    Ok(Equation {
-        left: word_at(alloc, at, names)?,
-        right: lone_at(alloc, at, identity_at(alloc, at, object)?)?,
-    })
+    let left = word_at(alloc, at, names)?;
+    let right = lone_at(alloc, at, identity_at(alloc, at, object)?)?;
+    out.push(Equation { left, right })?;
+    Ok(())
+}
+
+// An equation whose right side is the product of some letters.
+fn put_equation(
+    alloc: Global,
+    at: Spot,
+    left: Sum,
+    names: &[&str],
+    out: &mut Listing<Equation>,
+) -> Result<(), AllocError>
+    ensures { OnOk result (out.new ≡ out.old ++ equation left (word_at at (map (λ name. name.now) names.now)) ∷ []) }
+{
+    let right = word_at(alloc, at, names)?;
+    out.push(Equation { left, right })?;
+    Ok(())
 }
 
 // The name of the source of a map.

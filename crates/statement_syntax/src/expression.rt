@@ -65,7 +65,7 @@ pub struct Reading {
 }
 
 /// Why a token does not fit.
-#[derive(Clone, Copy, Debug, PartialEq, Eq, Error)]
+#[derive(Clone, Copy, Debug, Error)]
 pub enum Misfit {
     #[error("another token is expected")]
     Expected,
@@ -124,10 +124,13 @@ fn close_step(alloc: Global, reading: &mut Reading) -> Result<(), ReadError>
     let part = mem::replace(&mut reading.part, Part::Nothing);
     let term = ended_part(alloc, part, reading.head.negative)?;
     match reading.levels.pop() {
-        None => Err(ReadError::Misfit(Misfit::Expected)),
+        None => {
+            drop(term);
+            Err(ReadError::Misfit(Misfit::Expected))
+        }
         Some(Level { head, part, at }) => {
+            drop(mem::replace(&mut reading.part, part));
             let sum = sum_with(mem::replace(&mut reading.head, head), term)?;
-            reading.part = part;
             part_with(alloc, &mut reading.part, Primary::Bracket(sum), at)?;
             Ok(())
         }
@@ -234,15 +237,19 @@ pub fn whole_sum(alloc: Global, reading: Reading) -> Result<Sum, ReadError>
         part,
         focus,
     } = reading;
-    if levels.len() > 0 {
-        return Err(ReadError::Misfit(Misfit::Expected));
-    }
+    let open = levels.len() > 0;
+    drop(levels);
     match focus {
-        Focus::Outside => {
-            let negative = head.negative;
-            let term = ended_part(alloc, part, negative)?;
-            Ok(sum_with(head, term)?)
+        Focus::Outside if !open => match ended_part(alloc, part, head.negative) {
+            Ok(term) => Ok(sum_with(head, term)?),
+            Err(error) => {
+                drop(head);
+                Err(error)
+            }
+        },
+        focus => {
+            drop((head, part, focus));
+            Err(ReadError::Misfit(Misfit::Expected))
         }
-        _ => Err(ReadError::Misfit(Misfit::Expected)),
     }
 }

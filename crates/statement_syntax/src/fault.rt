@@ -11,7 +11,7 @@ use thiserror::Error;
 
 /// What can be wrong with a text. All that is not UTF-8 comes before all bad tokens and literals, and those before
 /// all tokens that do not fit the grammar.
-#[derive(Clone, Copy, Debug, PartialEq, Eq)]
+#[derive(Clone, Copy)]
 pub enum Fault {
     /// The bytes are not UTF-8.
     NotUtf8,

@@ -2,7 +2,7 @@
 
 ghost use Rattle.std.specs.Prelude.{◌≡◌};
 ghost use Rattle.statement_syntax.specs.Steps.{Gives, Turns};
-ghost use Rattle.statement_syntax.specs.Lines.{IsPlain, line_step, line_end};
+ghost use Rattle.statement_syntax.specs.Lines.{IsPlain, IsBare, line_step, line_end};
 
 use crate::expected::number_in;
 use crate::expression::{Misfit, ReadError, Reading};
@@ -18,21 +18,21 @@ use std::alloc::Global;
 use std::mem;
 
 /// The words before a list of names.
-#[derive(Clone, Copy, Debug, PartialEq, Eq)]
+#[derive(Clone, Copy)]
 pub enum ListWord {
     Object,
     Solve,
 }
 
 /// The words before two sides.
-#[derive(Clone, Copy, Debug, PartialEq, Eq)]
+#[derive(Clone, Copy)]
 pub enum SidesWord {
     Assume,
     Claim,
 }
 
 /// The words before two names.
-#[derive(Clone, Copy, Debug, PartialEq, Eq)]
+#[derive(Clone, Copy)]
 pub enum PairWord {
     Pinv,
     Inverse,
@@ -40,7 +40,7 @@ pub enum PairWord {
 }
 
 /// The words that begin a statement.
-#[derive(Clone, Copy, Debug, PartialEq, Eq)]
+#[derive(Clone, Copy)]
 pub enum Opening {
     List(ListWord),
     Map,
@@ -116,7 +116,8 @@ fn plain_step(alloc: Global, line: &mut Line, token: Token) -> Result<(), ReadEr
     requires { IsPlain line.old }
     ensures { Turns result line.new (line_step line.old token.kind token.at) }
 {
-    *line = plain_line(alloc, mem::replace(line, Line::Start), token)?;
+    let next = plain_line(alloc, mem::replace(line, Line::Start), token)?;
+    drop(mem::replace(line, next));
     Ok(())
 }
 
@@ -125,18 +126,32 @@ fn plain_line(alloc: Global, line: Line, token: Token) -> Result<Line, ReadError
     ensures { Gives result (line_step line token.kind token.at) }
 {
     match line {
-        Line::Start => Ok(start_step(alloc, &token)?),
         Line::List { word, at, names } => list_step(word, at, names, token),
         Line::Map { at, names, rest } => map_step(at, names, rest, token),
         Line::Pair { word, at, first } => Ok(pair_step(word, at, first, token)?),
-        Line::Projection(at) => Ok(projection_step(at, token)?),
-        Line::Order(at) => Ok(order_step(alloc, at, &token)?),
         Line::Weights(at, pairs) => Ok(Line::Weights(at, pairs_step(pairs, token)?)),
-        Line::Model(at) => Ok(Line::Shape(at, number_in(&token)?, no_pairs(alloc))),
         Line::Shape(at, modulus, pairs) => {
             Ok(Line::Shape(at, modulus, pairs_step(pairs, token)?))
         }
-        Line::Sides { .. } | Line::Whole(_) => Err(ReadError::Misfit(Misfit::Expected)),
+        line => {
+            let next = bare_line(alloc, &line, token);
+            drop(line);
+            next
+        }
+    }
+}
+
+// The same for a line that takes over nothing of what has been read.
+fn bare_line(alloc: Global, line: &Line, token: Token) -> Result<Line, ReadError>
+    requires { IsBare line.now }
+    ensures { Gives result (line_step line.now token.kind token.at) }
+{
+    match line {
+        Line::Start => Ok(start_step(alloc, &token)?),
+        Line::Projection(at) => Ok(projection_step(*at, token)?),
+        Line::Order(at) => Ok(order_step(alloc, *at, &token)?),
+        Line::Model(at) => Ok(Line::Shape(*at, number_in(&token)?, no_pairs(alloc))),
+        _ => Err(ReadError::Misfit(Misfit::Expected)),
     }
 }
 

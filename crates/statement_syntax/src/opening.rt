@@ -15,30 +15,19 @@ use std::alloc::Global;
 fn opening_in(word: &str) -> Option<Opening>
     ensures { result ≡ opening_in word.now }
 {
-    if word == "object" {
-        Some(Opening::List(ListWord::Object))
-    } else if word == "solve" {
-        Some(Opening::List(ListWord::Solve))
-    } else if word == "map" {
-        Some(Opening::Map)
-    } else if word == "assume" {
-        Some(Opening::Sides(SidesWord::Assume))
-    } else if word == "claim" {
-        Some(Opening::Sides(SidesWord::Claim))
-    } else if word == "pinv" {
-        Some(Opening::Pair(PairWord::Pinv))
-    } else if word == "inverse" {
-        Some(Opening::Pair(PairWord::Inverse))
-    } else if word == "inner" {
-        Some(Opening::Pair(PairWord::Inner))
-    } else if word == "projection" {
-        Some(Opening::Projection)
-    } else if word == "order" {
-        Some(Opening::Order)
-    } else if word == "model" {
-        Some(Opening::Model)
-    } else {
-        None
+    match word {
+        "object" => Some(Opening::List(ListWord::Object)),
+        "solve" => Some(Opening::List(ListWord::Solve)),
+        "map" => Some(Opening::Map),
+        "assume" => Some(Opening::Sides(SidesWord::Assume)),
+        "claim" => Some(Opening::Sides(SidesWord::Claim)),
+        "pinv" => Some(Opening::Pair(PairWord::Pinv)),
+        "inverse" => Some(Opening::Pair(PairWord::Inverse)),
+        "inner" => Some(Opening::Pair(PairWord::Inner)),
+        "projection" => Some(Opening::Projection),
+        "order" => Some(Opening::Order),
+        "model" => Some(Opening::Model),
+        _ => None,
     }
 }
 

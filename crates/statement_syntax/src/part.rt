@@ -26,10 +26,11 @@ pub fn part_with(
         marks: Listing::new(alloc),
     };
     match part {
-        Part::Nothing => *part = first_factor(alloc, at, None, factor),
+        Part::Nothing => drop(mem::replace(part, first_factor(alloc, at, None, factor))),
         Part::Scaled(number) => {
             let number = *number;
-            *part = first_factor(alloc, number.at, Some(number), factor);
+            let scaled = first_factor(alloc, number.at, Some(number), factor);
+            drop(mem::replace(part, scaled));
         }
         Part::Product { factors, last, .. } => factors.push(mem::replace(last, factor))?,
     }

@@ -62,10 +62,13 @@ fn statements(alloc: Global, tokens: Vec<Token>) -> Result<Listing<Statement>, S
     for token in tokens {
         let at = token.at;
         if let Err(error) = file_step(alloc, &mut progress, token) {
+            drop(progress);
             return Err(refusal(error, at));
         }
     }
-    Ok(progress.statements)
+    let Progress { statements, line } = progress;
+    drop(line);
+    Ok(statements)
 }
 
 fn token_list(alloc: Global, bytes: &[u8]) -> Result<Vec<Token>, SyntaxFault>

@@ -24,7 +24,7 @@ pub enum Item {
 }
 
 /// Why characters are no token.
-#[derive(Clone, Copy, Debug, PartialEq, Eq, Error)]
+#[derive(Clone, Copy, Debug, Error)]
 pub enum ScanFault {
     /// A character begins no token, or a name is too long.
     #[error("the token is bad")]
@@ -34,7 +34,7 @@ pub enum ScanFault {
 }
 
 /// A fault with the place of its first character.
-#[derive(Clone, Copy, Debug, PartialEq, Eq, Error)]
+#[derive(Clone, Copy, Debug, Error)]
 #[error("{fault}")]
 pub struct Placed {
     pub fault: ScanFault,
@@ -84,7 +84,7 @@ impl<T: Drop> From<AllocFailed<T>> for ScanError {
 }
 
 /// The characters that go on with a token or a comment.
-#[derive(Clone, Copy, Debug, PartialEq, Eq)]
+#[derive(Clone, Copy)]
 pub enum Class {
     Name,
     Digit,

@@ -62,7 +62,10 @@ pub fn sides_end(
     ensures { Gives result (sides_end word left reading) }
 {
     match left {
-        None => Err(ReadError::Misfit(Misfit::Expected)),
+        None => {
+            drop(reading);
+            Err(ReadError::Misfit(Misfit::Expected))
+        }
         Some(left) => {
             let right = whole_sum(alloc, reading)?;
             match word {

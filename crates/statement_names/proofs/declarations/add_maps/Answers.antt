@@ -1,8 +1,7 @@
-use Rattle.std.proofs.Common.{◌≡◌, List, ◌++◌, ◌∷◌, [], ℕ, ◌+◌, ◌<◌, Bool, map, take, drop, None, arith, ap, ap₂, sym, subst, ◌∙◌}
+use Rattle.std.proofs.Common.{◌≡◌, List, ◌++◌, ◌∷◌, ℕ, ◌+◌, ◌<◌, Bool, map, drop, None, arith, ap, ap₂, sym, subst, ◌∙◌}
 use Rattle.quiver.specs.Declarations.{Declaration, arrow, object_count, IsDeclared}
-use Rattle.quiver.specs.Refusals.{map_fault, Explains, IsMemory}
+use Rattle.quiver.specs.Refusals.{map_fault, Explains}
 use Rattle.quiver.proofs.Counts.{object_count-append}
-use Rattle.expressions.specs.Names.{object_of}
 use Rattle.statement_syntax.specs.declared.tree.Name.{Name}
 use Rattle.statement_names.specs.Numbered.{maps_in}
 use Rattle.statement_names.proofs.Items.{map_split}

@@ -1,8 +1,7 @@
-use Rattle.std.proofs.Common.{◌≡◌, ◌++◌, ◌∷◌, [], map, take, drop, None, rules, arith, ap, sym, subst, ◌∙◌, ◌+◌}
-use Rattle.std.proofs.lemmas.Grind.{common_steps}
+use Rattle.std.proofs.Common.{◌≡◌, ◌++◌, ◌∷◌, map, drop, None, ap, sym, subst, ◌∙◌, ◌+◌}
 use Rattle.std.proofs.lemmas.List.{take_all}
 use Rattle.quiver.specs.Declarations.{Declaration, object, IsDeclared}
-use Rattle.quiver.specs.Refusals.{object_fault, Explains, IsMemory}
+use Rattle.quiver.specs.Refusals.{object_fault, Explains}
 use Rattle.statement_syntax.specs.declared.tree.Name.{Name}
 use Rattle.statement_names.specs.Numbered.{objects_in}
 use Rattle.statement_names.proofs.Items.{map_split}

@@ -1,5 +1,5 @@
-use Rattle.std.proofs.Common.{◌≡◌, ◌++◌, take, rules, ap, ap₂, sym, subst, ◌∙◌}
-use Rattle.quiver.specs.Declarations.{Declaration, IsDeclared}
+use Rattle.std.proofs.Common.{◌≡◌, ◌++◌, rules, ap, sym, subst, ◌∙◌}
+use Rattle.quiver.specs.Declarations.{IsDeclared}
 use Rattle.statement_names.specs.Numbered.{objects_in, maps_in, HasEnds}
 use Rattle.statement_names.proofs.FileDeclared.{objects_fit, ends_fit, maps_fit, maps_next}
 use Rattle.statement_names.proofs.declarations.declare_all.Goals as goal

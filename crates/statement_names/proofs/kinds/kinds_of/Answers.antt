@@ -1,4 +1,4 @@
-use Rattle.std.proofs.Common.{◌≡◌, ◌≤◌, ◌∙◌, length, take, rules, arith, ap, sym}
+use Rattle.std.proofs.Common.{◌≡◌, ◌∙◌, take, rules, ap, sym}
 use Rattle.std.specs.List.{flat_map}
 use Rattle.std.proofs.lemmas.List.{take_all}
 use Rattle.statement_names.specs.Faults.{kind_in}

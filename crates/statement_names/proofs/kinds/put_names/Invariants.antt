@@ -1,4 +1,4 @@
-use Rattle.std.proofs.Common.{◌≡◌, ℕ, List, ◌++◌, map, take}
+use Rattle.std.proofs.Common.{◌++◌, take}
 use Rattle.statement_names.specs.Survey.{kinded, SameKinds}
 use Rattle.statement_names.proofs.kinds.put_names.Given as goal
 

@@ -1,8 +1,7 @@
-use Rattle.std.proofs.Common.{◌≡◌, ◌∙◌, ℕ, false, IfOk, length, map, replicate, take, get_or, ap, subst, sym}
-use Rattle.std.specs.List.{list_any}
-use Rattle.std.proofs.lemmas.List.{take_all}
+use Rattle.std.proofs.Common.{◌≡◌, ◌∙◌, false, IfOk, ◌++◌, length, map, take, drop, replicate, get_or, ap, subst, sym, rules}
+use Rattle.std.proofs.Math.Seq.{take-append_seam}
 use Rattle.quiver.specs.Declarations.{object_count}
-use Rattle.statement_names.specs.Marked.{an_object, writes_identity, all_equations, is_marked}
+use Rattle.statement_names.specs.Marked.{an_object, is_marked}
 use Rattle.statement_names.specs.Marks.{Marks}
 use Rattle.statement_names.specs.Solved.{numbers_that}
 use Rattle.statement_names.proofs.MarkLemmas.{marked_numbers}
@@ -11,10 +10,16 @@ use Rattle.statement_names.proofs.marked.read_marked.Goals as goal
 pub returns : goal.returns
 returns c =
     let n = object_count c.args.quiver.now in
-    let whole : Marks (replicate n false) c.deref.result.now (is_marked c.args.quiver.now c.args.statements.now) =
-    subst (λ marks. Marks (replicate n false) marks (is_marked c.args.quiver.now c.args.statements.now)) (sym c.deref.ensures.value)
-    (subst (λ ss. Marks (replicate n false) c.loop-statement.marks.items (λ v. list_any (writes_identity c.args.quiver.now v) (all_equations c.args.quiver.now ss)))
-    (take_all c.loop-statement.statement-index c.args.statements.now c.loop-statement-test.false) c.loop-statement.invariant.marked) in
-    let numbers : numbers_that (length c.deref.result.now) (λ v. get_or c.deref.result.now v false) ≡ numbers_that n (is_marked c.args.quiver.now c.args.statements.now) =
-    marked_numbers n c.deref.result.now (is_marked c.args.quiver.now c.args.statements.now) (ap length c.deref.ensures.value ∙ c.loop-statement.invariant.size) whole in
+    let test = is_marked c.args.quiver.now c.args.statements.now in
+    let before : c.deref_mut.result.now ≡ replicate n false = search rules in
+    let same : c.in_ok-marks.marks.len ≡ length c.mark_statements.new.marks = search rules in
+    let more = drop (length c.mark_statements.new.marks) c.in_ok-marks.marks.items in
+    let after : c.deref.result.now ≡ c.mark_statements.new.marks =
+    c.deref.ensures.value ∙ ap (λ k. take k (c.mark_statements.new.marks ++ more)) same ∙ take-append_seam c.mark_statements.new.marks more in
+    let size : length c.deref.result.now ≡ n = search rules in
+    let whole : Marks (replicate n false) c.deref.result.now test =
+    subst (λ new. Marks (replicate n false) new test) (sym after)
+    (subst (λ old. Marks old c.mark_statements.new.marks test) before c.in_ok-mark_statements.ensures) in
+    let numbers : numbers_that (length c.deref.result.now) (λ v. get_or c.deref.result.now v false) ≡ numbers_that n test =
+    marked_numbers n c.deref.result.now test size whole in
     subst (λ ns. IfOk c.marked_objects.result (λ objects. objects ≡ map an_object ns)) numbers c.marked_objects.ensures

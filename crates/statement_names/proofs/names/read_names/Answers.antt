@@ -5,8 +5,8 @@ use Rattle.statement_names.specs.Ready.{IsReady}
 use Rattle.statement_names.proofs.FileReady.{file_ready}
 use Rattle.statement_names.proofs.names.read_names.Goals as goal
 
-pub returns-clause-ready : goal.returns-clause-ready
-returns-clause-ready c =
+pub returns-in-Ok-clause-ready : goal.returns-in-Ok-clause-ready
+returns-in-Ok-clause-ready c =
     let statements = c.args.tree.now.statements in
     let sound : name_fault_of statements ≡ None = search rules in
     let declared : c.in_ok-quiver.quiver ≡ declarations_of statements = search rules in

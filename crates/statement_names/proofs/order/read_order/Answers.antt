@@ -1,8 +1,6 @@
-use Rattle.std.proofs.Common.{◌≡◌, ◌∙◌, ◌≤◌, List, IsTrue, All, sym, subst}
+use Rattle.std.proofs.Common.{◌≤◌, IsTrue, All, sym, subst}
 use Rattle.quiver.specs.Declarations.{named_in}
 use Rattle.expressions.specs.Names.{is_map}
-use Rattle.statement_syntax.specs.declared.tree.Name.{Name}
-use Rattle.statement_syntax.specs.declared.tree.Number.{Number}
 use Rattle.statement_names.specs.Faults.{value_of}
 use Rattle.statement_names.proofs.Stated.{weights_named, weights_small}
 use Rattle.statement_names.proofs.order.read_order.Goals as goal

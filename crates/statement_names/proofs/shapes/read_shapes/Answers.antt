@@ -1,8 +1,6 @@
-use Rattle.std.proofs.Common.{◌≡◌, ◌≢◌, ◌∙◌, ◌≤◌, List, IsTrue, All, AllPairs, arith, sym, subst, rules}
+use Rattle.std.proofs.Common.{◌≢◌, ◌≤◌, IsTrue, All, AllPairs, arith, sym, subst}
 use Rattle.quiver.specs.Declarations.{named_in}
 use Rattle.expressions.specs.Names.{is_object}
-use Rattle.statement_syntax.specs.declared.tree.Name.{Name}
-use Rattle.statement_syntax.specs.declared.tree.Number.{Number}
 use Rattle.statement_names.specs.Faults.{value_of}
 use Rattle.statement_names.proofs.Stated.{modulus_is, modulus_small, sides_named, sides_small, sides_once}
 use Rattle.statement_names.proofs.shapes.read_shapes.Goals as goal

@@ -1,9 +1,8 @@
-use Rattle.std.proofs.Common.{◌≡◌, ◌∙◌, ℕ, ◌<◌, IsTrue, length, get_or, set, take, ap, ap₂, sym, subst, rules}
+use Rattle.std.proofs.Common.{◌≡◌, ◌∙◌, IsTrue, get_or, set, ap₂, sym, subst, rules}
 use Rattle.std.proofs.Math.ListN.{length-set}
-use Rattle.quiver.specs.Declarations.{object_count, object_name, named_in}
+use Rattle.quiver.specs.Declarations.{named_in}
 use Rattle.expressions.specs.Names.{is_object, object_of}
 use Rattle.statement_names.specs.Faults.{value_of}
-use Rattle.statement_names.specs.Shapes.{side_in}
 use Rattle.statement_names.proofs.Sides.{side_put, sides_from}
 use Rattle.statement_names.proofs.shapes.sides_of.Goals as goal
 

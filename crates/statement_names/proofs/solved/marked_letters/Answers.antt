@@ -1,6 +1,5 @@
-use Rattle.std.proofs.Common.{◌≡◌, ℕ, ◌++◌, ◌∷◌, [], ◌+◌, true, false, map, get_or, rules, ◌∙◌}
+use Rattle.std.proofs.Common.{◌≡◌, ℕ, ◌++◌, ◌∷◌, [], true, false, get_or, rules, ◌∙◌}
 use Rattle.statement_names.specs.Ordered.{letter}
-use Rattle.statement_names.specs.Solved.{numbers_that}
 use Rattle.statement_names.proofs.MarkLemmas.{number_kept, number_left}
 use Rattle.statement_names.proofs.solved.marked_letters.Goals as goal
 use Rattle.statement_names.proofs.solved.marked_letters.Goals.{then-marked+in_ok-push, else-marked}

@@ -1,4 +1,4 @@
-use Rattle.std.proofs.Common.{◌≡◌, Bool, false, length, replicate, take}
+use Rattle.std.proofs.Common.{◌≡◌, false, length, replicate, take}
 use Rattle.std.specs.List.{list_any}
 use Rattle.quiver.specs.Declarations.{letter_count}
 use Rattle.statement_names.specs.Marks.{Marks}

@@ -1,4 +1,4 @@
-use Rattle.std.proofs.Common.{◌≡◌, ◌∙◌, List, [], length, drop, None, Ok, rules, arith, ap, sym, subst, refl}
+use Rattle.std.proofs.Common.{◌≡◌, ◌∙◌, [], Ok, rules, arith, ap, sym, subst, refl}
 use Rattle.std.proofs.lemmas.Grind.{common_steps}
 use Rattle.statement_names.specs.declared.survey.Survey.{Survey}
 use Rattle.statement_names.specs.Occurrences.{statement_occurrences, occurrences_of}
@@ -14,16 +14,16 @@ loop-statement-preserved c =
     (record { kinds = c.in_ok-kinds_of.field-0; declared = c.new.result; objects = 64; maps = 200; orders = 1; assumptions = 500; claims = 100; shapes = 16 })
     c.loop-statement.survey c.statement.new.self c.loop-statement.invariant (search rules)
 
-pub returns-in_err-statement-clause-err : goal.returns-in_err-statement-clause-err
-returns-in_err-statement-clause-err c =
+pub returns-in-Err-clause-err : goal.returns-in-Err-clause-err
+returns-in-Err-clause-err c =
     let first : Survey = record { kinds = c.in_ok-kinds_of.field-0; declared = c.new.result; objects = 64; maps = 200; orders = 1; assumptions = 500; claims = 100; shapes = 16 } in
     let kind = kind_in (declared_in (occurrences_of c.args.statements.now)) in
     let agrees : Agrees kind [] first = record { kinds = c.in_ok-kinds_of.ensures; declared = c.new.ensures; objects = refl; maps = refl; orders = refl; assumptions = refl; claims = refl; shapes = refl } in
-    let told : Explains (fault_in (run c.loop-statement.survey (statement_occurrences c.statement-item.result))) c.in_err-statement.field-0.0 = search rules in
-    let whole : Explains (name_fault_of c.args.statements.now) c.in_err-statement.field-0.0 =
-    subst (λ found. Explains found c.in_err-statement.field-0.0) (sym (first_same kind [] first agrees (occurrences_of c.args.statements.now)))
+    let told : Explains (fault_in (run c.loop-statement.survey (statement_occurrences c.statement-item.result))) c.in-Err.stop = search rules in
+    let whole : Explains (name_fault_of c.args.statements.now) c.in-Err.stop =
+    subst (λ found. Explains found c.in-Err.stop) (sym (first_same kind [] first agrees (occurrences_of c.args.statements.now)))
     (items_end statement_occurrences c.args.statements.now c.loop-statement.statement-index c.statement-item.result c.loop-statement-test.true c.statement-item.is
-    first c.loop-statement.survey c.in_err-statement.field-0.0 c.loop-statement.invariant told) in
+    first c.loop-statement.survey c.in-Err.stop c.loop-statement.invariant told) in
     search rules
 
 pub returns-clause-ok : goal.returns-clause-ok

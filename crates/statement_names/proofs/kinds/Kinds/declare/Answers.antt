@@ -1,9 +1,8 @@
-use Rattle.std.proofs.Common.{◌≡◌, ◌++◌, ◌∷◌, [], Bool, false, true, is_some, Option, Some, None, rules, ap, ap₂, sym, ◌∙◌, string_bytes, map}
+use Rattle.std.proofs.Common.{◌≡◌, false, is_some, rules, string_bytes}
 use Rattle.std.specs.String.{string_eq}
 use Rattle.indexmap.specs.IndexMap.{insert_entry}
-use Rattle.statement_names.specs.declared.kinds.Kind.{Kind}
 use Rattle.statement_names.specs.Faults.{kind_in}
-use Rattle.statement_names.proofs.Keys.{bytes_of, bytes-inserted}
+use Rattle.statement_names.proofs.Keys.{bytes-inserted}
 use Rattle.statement_names.proofs.kinds.Kinds.declare.Goals as goal
 
 pub returns : goal.returns

@@ -1,8 +1,6 @@
-use Rattle.std.proofs.Common.{◌≡◌, List, Some, rules, arith, ap, sym, ◌∙◌, length, drop, ◌≤◌}
+use Rattle.std.proofs.Common.{◌≡◌, Some, rules, arith, ap, sym, ◌∙◌}
 use Rattle.std.specs.List.{flat_map}
 use Rattle.std.proofs.lemmas.Grind.{common_steps}
-use Rattle.statement_syntax.specs.declared.tree.Sum.{Sum, out-Sum}
-use Rattle.statement_syntax.specs.declared.tree.Term.{Term, out-Term}
 use Rattle.statement_names.specs.Occurrences.{used_names}
 use Rattle.statement_names.specs.Survey.{run, fault_in}
 use Rattle.statement_names.specs.Uses.{sum_uses, term_uses}

@@ -1,4 +1,4 @@
-use Rattle.std.proofs.Common.{rules, ◌≡◌, true, false, Some, None, ap, ap₂, ◌∙◌}
+use Rattle.std.proofs.Common.{rules, ◌≡◌, true, false, None, ap₂, ◌∙◌}
 use Rattle.statement_names.specs.Faults.{is_among}
 use Rattle.statement_names.specs.Occurrences.{use_of}
 use Rattle.statement_names.specs.Survey.{used_fault, or_else, names_in}

@@ -1,4 +1,4 @@
-use Rattle.std.proofs.Common.{◌≡◌, Some, Ok, rules}
+use Rattle.std.proofs.Common.{◌≡◌, Some, rules}
 use Rattle.statement_names.specs.Occurrences.{used_names, sides_occurrences}
 use Rattle.statement_names.specs.Survey.{run, fault_in}
 use Rattle.statement_names.specs.Uses.{sum_uses}

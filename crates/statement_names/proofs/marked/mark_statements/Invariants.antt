@@ -1,0 +1,8 @@
+use Rattle.std.proofs.Common.{take}
+use Rattle.std.specs.List.{list_any}
+use Rattle.statement_names.specs.Marked.{writes_identity, all_equations}
+use Rattle.statement_names.specs.Marks.{Marks}
+use Rattle.statement_names.proofs.marked.mark_statements.Given as goal
+
+abbrev pub invariant-loop-statement : goal.invariant-loop-statement
+invariant-loop-statement l = Marks l.initial.marks l.marks (λ v. list_any (writes_identity l.quiver v) (all_equations l.quiver (take l.statement-index l.statements)))
