@@ -21,7 +21,7 @@ use Rattle.adjoint_rules.specs.Problem.{polynomials, numbers, IsInPlay, HasLette
 use Rattle.signature_typing.specs.declared.fault.TypeFault.{TypeFault}
 use Rattle.signature_typing.specs.First.{first_among}
 use Rattle.signature_typing.specs.Fault.{told_name, told_signature, told_polynomial, no_claim}
-use Rattle.signature_typing.specs.Typing.{signature_in, polynomial_in, signatures_of, polynomials_of, equations_in, wrong_signature, wrong_polynomial, wrong_claims, fault_of, ArePartsOf}
+use Rattle.signature_typing.specs.Typing.{signature_in, polynomial_in, signatures_of, polynomials_of, equations_in, wrong_signature, wrong_polynomial, wrong_claims, equation_fault, fault_of, ArePartsOf}
 use Rattle.signature_typing.specs.Named.{AreNamed}
 use Rattle.signature_typing.proofs.Each.{each_part, each_before_map, each_with_both}
 use Rattle.signature_typing.proofs.Ends.{signature_has_objects}
@@ -114,16 +114,21 @@ posed typed written statements p parts ready no_signature no_polynomial =
     }
 
 -- ---- its first fault
-last_fault : (names : Option NameFault) (signatures polys claims : Option TypeFault) → names ≡ None → signatures ≡ None → polys ≡ None
-    → option_or (option_map told_name names) (option_or signatures (option_or polys claims)) ≡ claims
-last_fault names signatures polys claims no_name no_signature no_polynomial = rw (no_name, no_signature, no_polynomial) refl
+last_fault : (signatures polys claims : Option TypeFault) → signatures ≡ None → polys ≡ None → option_or signatures (option_or polys claims) ≡ claims
+last_fault signatures polys claims no_signature no_polynomial = rw (no_signature, no_polynomial) refl
+
+behind_names : (names : Option NameFault) (later : Option TypeFault) → names ≡ None → option_or (option_map told_name names) later ≡ later
+behind_names names later no_name = rw no_name refl
 
 -- where all stages but the last have none
-pub fault_of_claims : (statements : List Statement) (ds : List Declaration) → ds ≡ declarations_of statements → name_fault_of statements ≡ None
-    → first_among (wrong_signature ds) statements ≡ None → first_among (wrong_polynomial ds) statements ≡ None → fault_of statements ≡ wrong_claims (claims_of statements)
-fault_of_claims statements ds is no_name no_signature no_polynomial =
-    last_fault (name_fault_of statements) (first_among (wrong_signature (declarations_of statements)) statements) (first_among (wrong_polynomial (declarations_of statements)) statements) (wrong_claims (claims_of statements))
-    no_name (subst (λ es. first_among (wrong_signature es) statements ≡ None) is no_signature) (subst (λ es. first_among (wrong_polynomial es) statements ≡ None) is no_polynomial)
+pub equation_fault_of_claims : (statements : List Statement) (ds : List Declaration)
+    → first_among (wrong_signature ds) statements ≡ None → first_among (wrong_polynomial ds) statements ≡ None → equation_fault ds statements ≡ wrong_claims (claims_of statements)
+equation_fault_of_claims statements ds = last_fault (first_among (wrong_signature ds) statements) (first_among (wrong_polynomial ds) statements) (wrong_claims (claims_of statements))
+
+-- where names have none
+pub fault_of_equations : (statements : List Statement) (ds : List Declaration) → ds ≡ declarations_of statements → name_fault_of statements ≡ None → fault_of statements ≡ equation_fault ds statements
+fault_of_equations statements ds is no_name =
+    behind_names (name_fault_of statements) (equation_fault (declarations_of statements) statements) no_name ∙ ap (λ es. equation_fault es statements) (sym is)
 
 pub some_claims : (es : List Equation) → length es ≢ 0 → wrong_claims es ≡ None
 some_claims [] some = absurd (some refl)

@@ -75,14 +75,16 @@ abbrev pub wrong_claims : List Equation → Option TypeFault
 wrong_claims [] = Some no_claim
 wrong_claims (e ∷ es) = None
 
--- Names come first, then signatures, then arithmetic, and then the number of claims.
-abbrev pub fault_of : List Statement → Option TypeFault
-fault_of statements =
-    let ds = declarations_of statements in
-    option_or (option_map told_name (name_fault_of statements))
-    (option_or (first_among (wrong_signature ds) statements)
+-- Signatures come first, then arithmetic, and then the number of claims.
+abbrev pub equation_fault : List Declaration → List Statement → Option TypeFault
+equation_fault ds statements =
+    option_or (first_among (wrong_signature ds) statements)
     (option_or (first_among (wrong_polynomial ds) statements)
-    (wrong_claims (claims_of statements))))
+    (wrong_claims (claims_of statements)))
+
+-- Names come before equations.
+abbrev pub fault_of : List Statement → Option TypeFault
+fault_of statements = option_or (option_map told_name (name_fault_of statements)) (equation_fault (declarations_of statements) statements)
 
 -- ---- the problem
 

@@ -1,6 +1,6 @@
 //! The polynomials of the assumptions and the claims of a file, each its left side less its right one.
 
-ghost use Rattle.std.specs.Prelude.{◌≡◌, ◌++◌, None, Ok, IfOk, IfErr};
+ghost use Rattle.std.specs.Prelude.{◌≡◌, ◌++◌, None, Ok, IfOk, IfErr, OnOk};
 ghost use Rattle.std.specs.List.{All};
 ghost use Rattle.statement_names.specs.Written.{equations_of, assumptions_of, claims_in, claims_of};
 ghost use Rattle.statement_names.specs.Ready.{HasNames};
@@ -48,38 +48,38 @@ fn polynomial_of(
     }
 }
 
-// The polynomials with those of the equations behind them, whose statement begins at this place.
-fn with_equations(
+// Adds the polynomials of the equations, whose statement begins at this place.
+fn push_equations(
     alloc: Global,
     quiver: &Quiver,
     at: Spot,
-    mut before: Listing<Poly>,
+    polys: &mut Listing<Poly>,
     equations: &[Equation],
-) -> Result<Listing<Poly>, TypeFault>
+) -> Result<(), TypeFault>
     requires { All (HasNames quiver.now) equations.now }
-    ensures ok { IfOk result (λ more. polynomials more ≡ polynomials before ++ polynomials_of quiver.now equations.now) }
-    ensures fits { IfOk result (λ more. first_among (polynomial_fault quiver.now at) equations.now ≡ None) }
+    ensures ok { OnOk result (polynomials polys.new ≡ polynomials polys.old ++ polynomials_of quiver.now equations.now) }
+    ensures fits { OnOk result (first_among (polynomial_fault quiver.now at) equations.now ≡ None) }
     ensures err { IfErr result (Explains (first_among (polynomial_fault quiver.now at) equations.now)) }
 {
     for equation in equations {
         let poly = polynomial_of(alloc, quiver, at, &equation.left, &equation.right)?;
-        before.push(poly)?;
+        polys.push(poly)?;
     }
-    Ok(before)
+    Ok(())
 }
 
 impl Polynomials {
-    // The polynomials with those of the statement behind them.
-    fn with_statement(
-        mut self,
+    // Adds those of the statement.
+    fn push_statement(
+        &mut self,
         alloc: Global,
         quiver: &Quiver,
         statement: &Statement,
-    ) -> Result<Polynomials, TypeFault>
+    ) -> Result<(), TypeFault>
         requires { All (HasNames quiver.now) (equations_in quiver.now statement.now) }
-        ensures assumptions { IfOk result (λ more. polynomials more.assumptions ≡ polynomials self.assumptions ++ polynomials_of quiver.now (equations_of quiver.now statement.now)) }
-        ensures claims { IfOk result (λ more. polynomials more.claims ≡ polynomials self.claims ++ polynomials_of quiver.now (claims_in statement.now.kind)) }
-        ensures fits { IfOk result (λ more. wrong_polynomial quiver.now statement.now ≡ None) }
+        ensures assumptions { OnOk result (polynomials self.new.assumptions ≡ polynomials self.old.assumptions ++ polynomials_of quiver.now (equations_of quiver.now statement.now)) }
+        ensures claims { OnOk result (polynomials self.new.claims ≡ polynomials self.old.claims ++ polynomials_of quiver.now (claims_in statement.now.kind)) }
+        ensures fits { OnOk result (wrong_polynomial quiver.now statement.now ≡ None) }
         ensures err { IfErr result (Explains (wrong_polynomial quiver.now statement.now)) }
     {
         match &statement.kind {
@@ -93,16 +93,16 @@ impl Polynomials {
             }
             _ => {
                 let equations = abbreviation(alloc, quiver, statement)?;
-                self.assumptions = with_equations(
+                push_equations(
                     alloc,
                     quiver,
                     statement.at,
-                    self.assumptions,
+                    &mut self.assumptions,
                     equations.as_slice(),
                 )?;
             }
         }
-        Ok(self)
+        Ok(())
     }
 }
 
@@ -123,7 +123,7 @@ pub(crate) fn polynomials_of(
         claims: Listing::new(alloc),
     };
     for statement in statements {
-        polynomials = polynomials.with_statement(alloc, quiver, statement)?;
+        polynomials.push_statement(alloc, quiver, statement)?;
     }
     Ok(polynomials)
 }

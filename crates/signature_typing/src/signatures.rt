@@ -1,6 +1,6 @@
 //! The signatures of the assumptions and the claims of a file.
 
-ghost use Rattle.std.specs.Prelude.{◌≡◌, ◌++◌, None, Ok, IfOk, IfErr};
+ghost use Rattle.std.specs.Prelude.{◌≡◌, ◌++◌, None, Ok, IfOk, IfErr, OnOk};
 ghost use Rattle.std.specs.List.{All};
 ghost use Rattle.statement_names.specs.Written.{equations_of, assumptions_of, claims_in, claims_of};
 ghost use Rattle.statement_names.specs.Ready.{HasNames};
@@ -93,37 +93,37 @@ fn signature_of(alloc: Global, quiver: &Quiver, left: &Sum, right: &Sum) -> Resu
     }
 }
 
-// The signatures with those of the equations behind them.
-fn with_equations(
+// Adds the signatures of the equations.
+fn push_equations(
     alloc: Global,
     quiver: &Quiver,
-    mut before: Listing<Sig>,
+    signatures: &mut Listing<Sig>,
     equations: &[Equation],
-) -> Result<Listing<Sig>, TypeFault>
+) -> Result<(), TypeFault>
     requires { All (HasNames quiver.now) equations.now }
-    ensures ok { IfOk result (λ more. more ≡ before ++ signatures_of quiver.now equations.now) }
-    ensures fits { IfOk result (λ more. first_among (signature_fault quiver.now) equations.now ≡ None) }
+    ensures ok { OnOk result (signatures.new ≡ signatures.old ++ signatures_of quiver.now equations.now) }
+    ensures fits { OnOk result (first_among (signature_fault quiver.now) equations.now ≡ None) }
     ensures err { IfErr result (Explains (first_among (signature_fault quiver.now) equations.now)) }
 {
     for equation in equations {
         let signature = signature_of(alloc, quiver, &equation.left, &equation.right)?;
-        before.push(signature)?;
+        signatures.push(signature)?;
     }
-    Ok(before)
+    Ok(())
 }
 
 impl Signatures {
-    // The signatures with those of the statement behind them.
-    fn with_statement(
-        mut self,
+    // Adds those of the statement.
+    fn push_statement(
+        &mut self,
         alloc: Global,
         quiver: &Quiver,
         statement: &Statement,
-    ) -> Result<Signatures, TypeFault>
+    ) -> Result<(), TypeFault>
         requires { All (HasNames quiver.now) (equations_in quiver.now statement.now) }
-        ensures assumptions { IfOk result (λ more. more.assumptions ≡ self.assumptions ++ signatures_of quiver.now (equations_of quiver.now statement.now)) }
-        ensures claims { IfOk result (λ more. more.claims ≡ self.claims ++ signatures_of quiver.now (claims_in statement.now.kind)) }
-        ensures fits { IfOk result (λ more. wrong_signature quiver.now statement.now ≡ None) }
+        ensures assumptions { OnOk result (self.new.assumptions ≡ self.old.assumptions ++ signatures_of quiver.now (equations_of quiver.now statement.now)) }
+        ensures claims { OnOk result (self.new.claims ≡ self.old.claims ++ signatures_of quiver.now (claims_in statement.now.kind)) }
+        ensures fits { OnOk result (wrong_signature quiver.now statement.now ≡ None) }
         ensures err { IfErr result (Explains (wrong_signature quiver.now statement.now)) }
     {
         match &statement.kind {
@@ -137,15 +137,10 @@ impl Signatures {
             }
             _ => {
                 let equations = abbreviation(alloc, quiver, statement)?;
-                self.assumptions = with_equations(
-                    alloc,
-                    quiver,
-                    self.assumptions,
-                    equations.as_slice(),
-                )?;
+                push_equations(alloc, quiver, &mut self.assumptions, equations.as_slice())?;
             }
         }
-        Ok(self)
+        Ok(())
     }
 }
 
@@ -166,7 +161,7 @@ pub(crate) fn signatures_of(
         claims: Listing::new(alloc),
     };
     for statement in statements {
-        signatures = signatures.with_statement(alloc, quiver, statement)?;
+        signatures.push_statement(alloc, quiver, statement)?;
     }
     Ok(signatures)
 }

@@ -1,17 +1,21 @@
 //! The stages from a tree to its problem: names, signatures, polynomials, and at least one claim.
 
 ghost use Rattle.std.specs.Prelude.{◌≡◌, None, OnOk, IfOk, IfErr};
-ghost use Rattle.adjoint_rules.specs.Problem.{IsPosed};
+ghost use Rattle.statement_names.specs.Written.{assumptions_of, claims_of};
+ghost use Rattle.adjoint_rules.specs.Problem.{IsPosed, polynomials};
+ghost use Rattle.signature_typing.specs.First.{first_among};
 ghost use Rattle.signature_typing.specs.Fault.{Explains};
-ghost use Rattle.signature_typing.specs.Typing.{ArePartsOf, IsProblemOf, fault_of};
+ghost use Rattle.signature_typing.specs.Named.{AreNamed};
+ghost use Rattle.signature_typing.specs.Typing.{ArePartsOf, IsProblemOf, equation_fault, fault_of, polynomials_of, signatures_of, wrong_claims, wrong_polynomial, wrong_signature};
 
 use crate::TypeFault;
 use crate::fault::no_claim;
-use crate::polynomials::polynomials_of;
-use crate::signatures::signatures_of;
+use crate::polynomials::{Polynomials, polynomials_of};
+use crate::signatures::{Signatures, signatures_of};
 use adjoint_rules::{Parts, Problem, close_problem};
+use quiver::Quiver;
 use statement_names::read_names;
-use statement_syntax::Tree;
+use statement_syntax::{Statement, Tree};
 use std::alloc::Global;
 
 /// The problem that the tree stands for, or its first fault: names, literals and counts come first, then signatures, then
@@ -32,12 +36,7 @@ fn parts_of(alloc: Global, tree: &Tree) -> Result<Parts, TypeFault>
     ensures refused { IfErr result (Explains (fault_of tree.now.statements)) }
 {
     let names = read_names(alloc, tree)?;
-    let statements = tree.statements.as_slice();
-    let signatures = signatures_of(alloc, &names.quiver, statements)?;
-    let polynomials = polynomials_of(alloc, &names.quiver, statements)?;
-    if polynomials.claims.len() == 0 {
-        return Err(no_claim());
-    }
+    let (signatures, polynomials) = typed(alloc, &names.quiver, tree.statements.as_slice())?;
     Ok(Parts {
         quiver: names.quiver,
         order: names.order,
@@ -50,4 +49,28 @@ fn parts_of(alloc: Global, tree: &Tree) -> Result<Parts, TypeFault>
         shapes: names.shapes,
         solved: names.solved,
     })
+}
+
+// The signatures and the polynomials of all equations, of which one at least is a claim.
+fn typed(
+    alloc: Global,
+    quiver: &Quiver,
+    statements: &[Statement],
+) -> Result<(Signatures, Polynomials), TypeFault>
+    requires { AreNamed quiver.now statements.now }
+    ensures signatures { IfOk result (λ both. both.0.assumptions ≡ signatures_of quiver.now (assumptions_of quiver.now statements.now)) }
+    ensures claim_signatures { IfOk result (λ both. both.0.claims ≡ signatures_of quiver.now (claims_of statements.now)) }
+    ensures assumptions { IfOk result (λ both. polynomials both.1.assumptions ≡ polynomials_of quiver.now (assumptions_of quiver.now statements.now)) }
+    ensures claims { IfOk result (λ both. polynomials both.1.claims ≡ polynomials_of quiver.now (claims_of statements.now)) }
+    ensures typed { OnOk result (first_among (wrong_signature quiver.now) statements.now ≡ None) }
+    ensures fits { OnOk result (first_among (wrong_polynomial quiver.now) statements.now ≡ None) }
+    ensures some { OnOk result (wrong_claims (claims_of statements.now) ≡ None) }
+    ensures refused { IfErr result (Explains (equation_fault quiver.now statements.now)) }
+{
+    let signatures = signatures_of(alloc, quiver, statements)?;
+    let polynomials = polynomials_of(alloc, quiver, statements)?;
+    if polynomials.claims.len() == 0 {
+        return Err(no_claim());
+    }
+    Ok((signatures, polynomials))
 }

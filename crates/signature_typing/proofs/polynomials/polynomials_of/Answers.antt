@@ -6,16 +6,16 @@ use Rattle.signature_typing.proofs.FirstFound.{explained_at}
 use Rattle.signature_typing.proofs.Progress.{one_more_statement, all_listed}
 use Rattle.signature_typing.proofs.polynomials.polynomials_of.Goals as goal
 
-pub returns-in_err-polynomials-clause-err : goal.returns-in_err-polynomials-clause-err
-returns-in_err-polynomials-clause-err c =
+pub returns-in_err-push_statement-clause-err : goal.returns-in_err-push_statement-clause-err
+returns-in_err-push_statement-clause-err c =
     let exit = err_from_is_err_and c.from_residual.result c.from_residual.ensures.1 in
-    rw (exit.1, exit.2) (explained_at (wrong_polynomial c.args.quiver.now) c.args.statements.now c.loop-statement.statement-index c.statement-item.result _ (omega arith) c.statement-item.is c.loop-statement.invariant.assumed_so_far.fits c.in_err-polynomials.ensures.err)
+    rw (exit.1, exit.2) (explained_at (wrong_polynomial c.args.quiver.now) c.args.statements.now c.loop-statement.statement-index c.statement-item.result _ (omega arith) c.statement-item.is c.loop-statement.invariant.assumed_so_far.fits c.in_err-push_statement.ensures.err)
 
 pub loop-statement-preserved : goal.loop-statement-preserved
 loop-statement-preserved c =
     let ds = c.args.quiver.now in
     one_more_statement (λ s. polynomials_of ds (equations_of ds s)) (λ s. polynomials_of ds (claims_in s.kind)) (wrong_polynomial ds) c.args.statements.now c.loop-statement.statement-index
-    _ _ _ _ c.statement-item.result (omega arith) c.statement-item.is c.in_ok-polynomials.ensures.assumptions c.in_ok-polynomials.ensures.claims c.in_ok-polynomials.ensures.fits c.loop-statement.invariant
+    _ _ _ _ c.statement-item.result (omega arith) c.statement-item.is c.in_ok-push_statement.ensures.assumptions c.in_ok-push_statement.ensures.claims c.in_ok-push_statement.ensures.fits c.loop-statement.invariant
 
 pub returns-clause-assumptions : goal.returns-clause-assumptions
 returns-clause-assumptions c =

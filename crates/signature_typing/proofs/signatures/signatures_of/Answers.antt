@@ -6,16 +6,16 @@ use Rattle.signature_typing.proofs.FirstFound.{explained_at}
 use Rattle.signature_typing.proofs.Progress.{one_more_statement, all_listed}
 use Rattle.signature_typing.proofs.signatures.signatures_of.Goals as goal
 
-pub returns-in_err-signatures-clause-err : goal.returns-in_err-signatures-clause-err
-returns-in_err-signatures-clause-err c =
+pub returns-in_err-push_statement-clause-err : goal.returns-in_err-push_statement-clause-err
+returns-in_err-push_statement-clause-err c =
     let exit = err_from_is_err_and c.from_residual.result c.from_residual.ensures.1 in
-    rw (exit.1, exit.2) (explained_at (wrong_signature c.args.quiver.now) c.args.statements.now c.loop-statement.statement-index c.statement-item.result _ (omega arith) c.statement-item.is c.loop-statement.invariant.assumed_so_far.fits c.in_err-signatures.ensures.err)
+    rw (exit.1, exit.2) (explained_at (wrong_signature c.args.quiver.now) c.args.statements.now c.loop-statement.statement-index c.statement-item.result _ (omega arith) c.statement-item.is c.loop-statement.invariant.assumed_so_far.fits c.in_err-push_statement.ensures.err)
 
 pub loop-statement-preserved : goal.loop-statement-preserved
 loop-statement-preserved c =
     let ds = c.args.quiver.now in
     one_more_statement (λ s. signatures_of ds (equations_of ds s)) (λ s. signatures_of ds (claims_in s.kind)) (wrong_signature ds) c.args.statements.now c.loop-statement.statement-index
-    _ _ _ _ c.statement-item.result (omega arith) c.statement-item.is c.in_ok-signatures.ensures.assumptions c.in_ok-signatures.ensures.claims c.in_ok-signatures.ensures.fits c.loop-statement.invariant
+    _ _ _ _ c.statement-item.result (omega arith) c.statement-item.is c.in_ok-push_statement.ensures.assumptions c.in_ok-push_statement.ensures.claims c.in_ok-push_statement.ensures.fits c.loop-statement.invariant
 
 pub returns-clause-assumptions : goal.returns-clause-assumptions
 returns-clause-assumptions c =

@@ -3,7 +3,7 @@ use Rattle.std.proofs.lemmas.Result.{err_from_is_err_and}
 use Rattle.signature_typing.specs.Typing.{signature_in, value_in, signature_fault}
 use Rattle.signature_typing.proofs.FirstFound.{explained_at}
 use Rattle.signature_typing.proofs.Progress.{one_more}
-use Rattle.signature_typing.proofs.signatures.with_equations.Goals as goal
+use Rattle.signature_typing.proofs.signatures.push_equations.Goals as goal
 
 pub returns-in_err-signature-clause-err : goal.returns-in_err-signature-clause-err
 returns-in_err-signature-clause-err c =
@@ -16,5 +16,5 @@ loop-equation-preserved c =
     let e = c.equation-item.result in
     let given : c.in_ok-signature.signature ∷ [] ≡ value_in (signature_in ds e) = rw c.in_ok-signature.ensures.ok refl in
     let fits : signature_fault ds e ≡ None = rw c.in_ok-signature.ensures.ok refl in
-    one_more (λ x. value_in (signature_in ds x)) (signature_fault ds) c.args.equations.now c.loop-equation.equation-index c.args.before c.loop-equation.before c.push.new.self e (omega arith) c.equation-item.is
-    (c.in_ok-push.ensures.ok ∙ ap (λ ys. c.loop-equation.before ++ ys) given) fits c.loop-equation.invariant
+    one_more (λ x. value_in (signature_in ds x)) (signature_fault ds) c.args.equations.now c.loop-equation.equation-index c.args.signatures.now c.loop-equation.signatures c.push.new.self e (omega arith) c.equation-item.is
+    (c.in_ok-push.ensures.ok ∙ ap (λ ys. c.loop-equation.signatures ++ ys) given) fits c.loop-equation.invariant

@@ -1,5 +1,5 @@
 use Rattle.signature_typing.proofs.Statements.{named_assumption, named_claim}
-use Rattle.signature_typing.proofs.polynomials.Polynomials.with_statement.Goals as goal
+use Rattle.signature_typing.proofs.polynomials.Polynomials.push_statement.Goals as goal
 
 pub polynomial_of-requires-clause-left_names : goal.polynomial_of-requires-clause-left_names
 polynomial_of-requires-clause-left_names c = (named_assumption c.args.quiver.now c.args.statement.now _ _ c.in-Assume.is c.requires).left

@@ -1,5 +1,5 @@
 use Rattle.signature_typing.proofs.Statements.{named_assumption, named_claim}
-use Rattle.signature_typing.proofs.signatures.Signatures.with_statement.Goals as goal
+use Rattle.signature_typing.proofs.signatures.Signatures.push_statement.Goals as goal
 
 pub signature_of-requires-clause-left_names : goal.signature_of-requires-clause-left_names
 signature_of-requires-clause-left_names c = (named_assumption c.args.quiver.now c.args.statement.now _ _ c.in-Assume.is c.requires).left

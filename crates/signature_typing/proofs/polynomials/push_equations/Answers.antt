@@ -4,7 +4,7 @@ use Rattle.adjoint_rules.specs.Problem.{polynomials}
 use Rattle.signature_typing.specs.Typing.{polynomial_in, value_in, polynomial_fault}
 use Rattle.signature_typing.proofs.FirstFound.{explained_at}
 use Rattle.signature_typing.proofs.Progress.{one_more, polynomials_push}
-use Rattle.signature_typing.proofs.polynomials.with_equations.Goals as goal
+use Rattle.signature_typing.proofs.polynomials.push_equations.Goals as goal
 
 pub returns-in_err-poly-clause-err : goal.returns-in_err-poly-clause-err
 returns-in_err-poly-clause-err c =
@@ -17,5 +17,5 @@ loop-equation-preserved c =
     let e = c.equation-item.result in
     let given : c.in_ok-poly.poly.terms ∷ [] ≡ value_in (polynomial_in ds e) = rw c.in_ok-poly.ensures.ok refl in
     let fits : polynomial_fault ds c.args.at e ≡ None = rw c.in_ok-poly.ensures.ok refl in
-    one_more (λ x. value_in (polynomial_in ds x)) (polynomial_fault ds c.args.at) c.args.equations.now c.loop-equation.equation-index (polynomials c.args.before) (polynomials c.loop-equation.before) (polynomials c.push.new.self) e (omega arith) c.equation-item.is
-    (ap polynomials c.in_ok-push.ensures.ok ∙ polynomials_push c.loop-equation.before c.in_ok-poly.poly ∙ ap (λ ys. polynomials c.loop-equation.before ++ ys) given) fits c.loop-equation.invariant
+    one_more (λ x. value_in (polynomial_in ds x)) (polynomial_fault ds c.args.at) c.args.equations.now c.loop-equation.equation-index (polynomials c.args.polys.now) (polynomials c.loop-equation.polys) (polynomials c.push.new.self) e (omega arith) c.equation-item.is
+    (ap polynomials c.in_ok-push.ensures.ok ∙ polynomials_push c.loop-equation.polys c.in_ok-poly.poly ∙ ap (λ ys. polynomials c.loop-equation.polys ++ ys) given) fits c.loop-equation.invariant
