@@ -31,8 +31,17 @@ pub fn close_problem(alloc: Global, parts: Parts) -> Result<Problem, AllocError>
     ensures closed { IfOk result (λ problem. IsClosed problem.parts problem.generators) }
     ensures few { IfOk result (λ problem. length problem.generators ≤ 1864) }
 {
-    let mut generators = parts.assumptions.duplicate()?;
-    push_adjoints(alloc, &mut generators, &parts)?;
-    push_all_units(alloc, &mut generators, &parts)?;
+    let generators = closed_generators(alloc, &parts)?;
     Ok(Problem { parts, generators })
+}
+
+// The generators of the problem of the parts.
+fn closed_generators(alloc: Global, parts: &Parts) -> Result<Listing<Poly>, AllocError>
+    requires { IsPosed parts.now }
+    ensures { IfOk result (IsClosed parts.now) }
+{
+    let mut generators = parts.assumptions.duplicate()?;
+    push_adjoints(alloc, &mut generators, parts)?;
+    push_all_units(alloc, &mut generators, parts)?;
+    Ok(generators)
 }

@@ -53,11 +53,5 @@ module _ (all rules : List Rule) (same : all ≡ rules) (a : Ambiguity) {g : Rul
     exit_right e why = subst (λ r. Explains r e) (sym after_left) (explains-and_then right last e why)
 
     module _ (n : List Term) (right_is : right ≡ Ok n) where
-      after_both : s_polynomial_of rules a ≡ last n
+      pub after_both : s_polynomial_of rules a ≡ last n
       after_both = after_left ∙ ap (λ r. and_then r last) right_is
-
-      pub exit_last : (e : PolyFault) → Explains (last n) e → Explains (s_polynomial_of rules a) e
-      exit_last e why = subst (λ r. Explains r e) (sym after_both) why
-
-      pub sum_made : (p : List Term) → last n ≡ Ok p → s_polynomial_of rules a ≡ Ok p
-      sum_made p is = after_both ∙ is

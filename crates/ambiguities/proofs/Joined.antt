@@ -57,6 +57,13 @@ module _ (rules : List Rule) (a : Ambiguity) (is : IsAmbiguity rules a) where
       split_at (overlap_word_of rules a) is.second.lead a.place both.second
       ∙ ap (λ q. take a.place (overlap_word_of rules a) ++ (is.second.lead ++ drop (a.place + length q) (overlap_word_of rules a))) (sym (lead_at-is rules a.j is.second is.second_numbered))
 
+  -- the first leading word ends inside the overlap word
+  pub first_fits : (g : Rule) → rule_at rules a.i ≡ Some g → (word : List ℕ) → word ≡ overlap_word_of rules a → length g.lead ≤ length word
+  first_fits g numbered word word_is =
+      let same : is.first ≡ g = same_Some is.first g (sym is.first_numbered ∙ numbered) in
+      let fits = OccursAt-length (overlap_word_of rules a) is.first.lead 0 both.first in
+      rw word_is (subst (λ (f : Rule). length f.lead ≤ length (overlap_word_of rules a)) same (omega (arith, fits)))
+
   -- the second leading word ends inside the overlap word
   pub second_fits : (h : Rule) → rule_at rules a.j ≡ Some h → (word : List ℕ) → word ≡ overlap_word_of rules a → a.place + length h.lead ≤ length word
   second_fits h numbered word word_is =

@@ -1,8 +1,9 @@
 //! The S-polynomial of an ambiguity, with the rows that it is made of.
 
-ghost use Rattle.std.specs.Prelude.{◌≡◌, ◌<ℤ◌, pos, IfOk, MatchResult, Ok};
+ghost use Rattle.std.specs.Prelude.{◌≡◌, ◌<ℤ◌, ◌≤◌, [], ◌∷◌, length, take, drop, pos, IfOk, MatchResult, Ok};
 ghost use Rattle.std.specs.List.{All};
 ghost use Rattle.coef_int.specs.Range.{IsCoefficient};
+ghost use Rattle.cofactor_trace.specs.declared.Origin.TheVariants as origin;
 ghost use Rattle.word_core.specs.Letters.{IsOver};
 ghost use Rattle.nc_polynomial.specs.Faults.{Explains};
 ghost use Rattle.ambiguities.specs.Ambiguities.{IsAmbiguity};
@@ -41,17 +42,42 @@ pub fn s_poly<O: WordOrder>(rules: &Rules<O>, which: &Ambiguity) -> Result<SPoly
     let alloc = rules.rules.allocator();
     let all = rules.rules.as_slice();
     let (first, second) = make_rows(alloc, all, which)?;
-    let left = rule_with(all, which.i)
+    let poly = combination(all, which, &first, &second)?;
+    let rows = two_rows(alloc, first, second)?;
+    Ok(SPoly { poly, rows })
+}
+
+// The combination of the multiples of the two rules.
+fn combination(
+    rules: &[Rule],
+    which: &Ambiguity,
+    first: &Row,
+    second: &Row,
+) -> Result<Poly, PolyFault>
+    requires ambiguity { IsAmbiguity rules.now which.now }
+    requires first_in { IsCoefficient first.now.coef }
+    requires second_in { IsCoefficient second.now.coef }
+    requires first { first.now ≡ first_row rules.now which.now }
+    requires second { second.now ≡ second_row rules.now which.now }
+    ensures { MatchResult result (λ p. s_polynomial_of rules.now which.now ≡ Ok p.terms) (Explains (s_polynomial_of rules.now which.now)) }
+{
+    let left = rule_with(rules, which.i)
         .poly
         .left_right(&first.left, &first.right)?;
-    let right = rule_with(all, which.j)
+    let right = rule_with(rules, which.j)
         .poly
         .left_right(&second.left, &second.right)?;
-    let poly = Poly::combine(first.coef, &left, second.coef, &right)?;
+    Poly::combine(first.coef, &left, second.coef, &right)
+}
+
+// The list of the two rows.
+fn two_rows(alloc: Global, first: Row, second: Row) -> Result<Listing<Row>, AllocError>
+    ensures { IfOk result (λ rows. rows ≡ first ∷ second ∷ []) }
+{
     let mut rows = Listing::new(alloc);
     rows.push(first)?;
     rows.push(second)?;
-    Ok(SPoly { poly, rows })
+    Ok(rows)
 }
 
 // The multiples of the two rules.
@@ -75,11 +101,27 @@ fn make_rows(alloc: Global, rules: &[Rule], which: &Ambiguity) -> Result<(Row, R
         from: Origin::Rule(which.i),
         right: word.slice(first.lead.len(), word.len())?,
     };
-    let right = Row {
-        coef: coef_int::negate(of_second),
-        left: word.slice(0, place)?,
-        from: Origin::Rule(which.j),
-        right: word.slice(place + second.lead.len(), word.len())?,
-    };
+    let end = place + second.lead.len();
+    let right = row_around(coef_int::negate(of_second), which.j, &word, place, end)?;
     Ok((left, right))
+}
+
+// The multiple of a rule by what stands in the word before one place and from another one on.
+fn row_around(
+    coef: i128,
+    number: u32,
+    word: &Word,
+    before: usize,
+    behind: usize,
+) -> Result<Row, AllocError>
+    requires before { before ≤ length word.now }
+    requires behind { behind ≤ length word.now }
+    ensures { IfOk result (λ row. row ≡ record { coef = coef; left = take before word.now; from = origin.Rule number; right = drop behind word.now }) }
+{
+    Ok(Row {
+        coef,
+        left: word.slice(0, before)?,
+        from: Origin::Rule(number),
+        right: word.slice(behind, word.len())?,
+    })
 }

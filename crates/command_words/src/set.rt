@@ -1,5 +1,6 @@
 //! The commands as clap gets them: what `specs/CommandSet.antt` says.
 ghost use Rattle.std.specs.Prelude.{◌≡◌, IfOk, false};
+ghost use Rattle.std.specs.Result.{IsOkAnd};
 ghost use Rattle.clap.specs.Words.{app_of, rule_of, with_rule, with_subcommand};
 ghost use Rattle.clap.specs.declared.builder.command.Command.TheViews.{out-Command as fields_of};
 ghost use Rattle.command_words.specs.CommandSet.{command_set, bare_command, prove_command, refute_command, bench_command, pair_command, required_word, required_number, number_option, workers_option, seed_option, flag_option};
@@ -116,22 +117,26 @@ fn bare_command<'a>(alloc: Global) -> Command<'a>
         .subcommand_required(true)
 }
 
-fn with_command<'a>(command: Command<'a>, below: Command<'a>) -> Result<Command<'a>, AllocError>
+// The command with the other one below it, where there was memory for that one.
+fn with_command<'a>(
+    command: Command<'a>,
+    below: Result<Command<'a>, AllocError>,
+) -> Result<Command<'a>, AllocError>
     requires local { (fields_of command).has_globals ≡ false }
-    requires below_local { (fields_of below).has_globals ≡ false }
-    ensures app { IfOk result (λ c. app_of c ≡ with_subcommand (app_of command.entry) (app_of below.entry).top) }
+    requires below_local { IfOk below (λ b. (fields_of b).has_globals ≡ false) }
+    ensures app { IfOk result (λ c. IsOkAnd below.entry (λ b. app_of c ≡ with_subcommand (app_of command.entry) (app_of b).top)) }
     ensures local { IfOk result (λ c. (fields_of c).has_globals ≡ false) }
 {
-    command.subcommand(below)
+    command.subcommand(below?)
 }
 
 /// The commands with all that `specs/CommandSet.antt` says of them.
 pub fn command_set<'a>(alloc: Global) -> Result<Command<'a>, AllocError>
     ensures { IfOk result (λ c. app_of c ≡ command_set) }
 {
-    let set = with_command(bare_command(alloc), prove_command(alloc)?)?;
-    let set = with_command(set, pair_command(alloc, "check")?)?;
-    let set = with_command(set, refute_command(alloc)?)?;
-    let set = with_command(set, pair_command(alloc, "model")?)?;
-    with_command(set, bench_command(alloc)?)
+    let set = with_command(bare_command(alloc), prove_command(alloc))?;
+    let set = with_command(set, pair_command(alloc, "check"))?;
+    let set = with_command(set, refute_command(alloc))?;
+    let set = with_command(set, pair_command(alloc, "model"))?;
+    with_command(set, bench_command(alloc))
 }

@@ -4,6 +4,7 @@ use Rattle.std.proofs.lemmas.Bool.Decides.{nat_tests}
 use Rattle.coef_int.specs.declared.Overflow.{Overflow}
 use Rattle.coef_int.specs.Range.{IsCoefficient}
 use Rattle.nc_polynomial.specs.declared.fault.PolyFault.{PolyFault}
+use Rattle.nc_polynomial.specs.declared.fault.PolyFault.TheVariants as fault
 use Rattle.coef_int.specs.Operations.{exact_value, first_overflow}
 use Rattle.definitions.specs.Poly.{Term}
 use Rattle.nc_polynomial.specs.Terms.{Pair, keep, scaled, products, multiplied, multiplications, shifted, totals, total_operations}
@@ -36,6 +37,10 @@ pub one-fits : (o : Overflow) (os : List Overflow) (w : List ℕ) (out xs : List
 one-fits o os w out xs h =
     ap (join out) (checked-fits o os (keep (exact_value o) w xs) h ∙ ap (checked os) (keep-append (exact_value o) w xs))
     ∙ join-append out (keep (exact_value o) w []) xs (first_overflow os)
+
+-- one operation that does not fit is the fault
+pub one-fails : (o : Overflow) (os : List Overflow) (out xs : List Term) → ¬ IsCoefficient (exact_value o) → join out (checked (o ∷ os) xs) ≡ Err (fault.Overflow o)
+one-fails o os out xs h = grind (arith, nat_tests)
 
 abbrev pub scale_from : ℤ → List Term → Result (List Term) PolyFault
 scale_from k p = checked (products k p) (scaled k p)

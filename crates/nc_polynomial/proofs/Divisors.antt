@@ -1,5 +1,5 @@
 -- Common divisors of coefficients, and quotients that leave nothing.
-use Rattle.std.proofs.Common.{◌≡◌, ◌≢◌, ℕ, zero, suc, ◌<◌, ◌≤◌, ℤ, pos, negsuc, neg_ℤ, ◌+ℤ◌, ◌*ℤ◌, List, [], ◌∷◌, ◌++◌, length, ◌↔◌, sym, refl, ap, subst, ◌∙◌, arith}
+use Rattle.std.proofs.Common.{◌≡◌, ◌≢◌, ℕ, zero, suc, ◌<◌, ◌≤◌, ℤ, pos, negsuc, neg_ℤ, ◌+ℤ◌, ◌*◌, ◌*ℤ◌, List, [], ◌∷◌, ◌++◌, length, ◌↔◌, sym, refl, ap, subst, ◌∙◌, arith}
 use Rattle.std.proofs.lemmas.Int.{quot-rem, unsigned_abs-mul}
 use Rattle.std.proofs.lemmas.Nat.Gcd.{mod-eq-zero_of_dvd, dvd_trans}
 use Rattle.std.proofs.lemmas.List.{length-map}
@@ -59,6 +59,13 @@ pub abs_positive : (k : ℤ) → k ≢ pos 0 → 0 < unsigned_abs k
 abs_positive (pos zero) h = absurd (h refl)
 abs_positive (pos (suc n)) h = omega arith
 abs_positive (negsuc n) h = omega arith
+
+pub quotient_in : (a d : ℤ) → IsCoefficient a → d ≢ pos 0 → unsigned_abs d ∣ unsigned_abs a → IsCoefficient (int_div a d)
+quotient_in a d h nonzero divides =
+    let below = le-mul_of_pos_right (unsigned_abs (int_div a d)) (abs_positive d nonzero) in
+    let size : unsigned_abs d * unsigned_abs (int_div a d) ≡ unsigned_abs a = sym (unsigned_abs-mul d (int_div a d)) ∙ ap unsigned_abs (quotient_times a d divides) in
+    let turned = mul_comm (unsigned_abs d) (unsigned_abs (int_div a d)) in
+    omega arith
 
 module _ (k : ℤ) (nonzero : k ≢ pos 0) where
   words_back : (P : List ℕ → Type 0) (v : List Term) → AllByRecursion (λ t. P t.1) (poly_multiple k v) → AllByRecursion (λ t. P t.1) v

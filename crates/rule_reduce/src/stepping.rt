@@ -6,7 +6,7 @@ ghost use Rattle.coef_int.specs.Range.{IsCoefficient};
 ghost use Rattle.word_core.specs.Letters.{IsOver};
 ghost use Rattle.nc_polynomial.specs.Shape.{IsShaped};
 ghost use Rattle.nc_polynomial.specs.Faults.{checked, finished, Explains};
-ghost use Rattle.rule_reduce.specs.Steps.{multiplied_row, row_operations, multiplied_state, state_operations, less_multiple, less_operations, move_of, move_result, step_result, IsInRange};
+ghost use Rattle.rule_reduce.specs.Steps.{multiplied_row, row_operations, multiplied_state, state_operations, less_multiple, less_operations, move_of, move_row, move_result, step_result, IsInRange};
 
 use crate::Rule;
 use crate::parts::{back, front};
@@ -16,7 +16,7 @@ use coef_int::{divisor, quotient};
 use cofactor_trace::{Origin, Row};
 use lists::Listing;
 use nc_polynomial::{Poly, PolyFault, merge_terms, multiply_terms, negate_terms, shift_terms};
-use std::alloc::Global;
+use std::alloc::{AllocError, Global};
 use word_core::Word;
 
 // The rows with their coefficients times a number, which is the right operand of each product.
@@ -98,30 +98,40 @@ fn subtract_multiple(
     Poly::from_descending(merge_terms(alloc, rest, taken)?)
 }
 
-// The step with this choice by its rule.
-fn take_away(alloc: Global, rule: &Rule, choice: Choice, state: State) -> Result<State, PolyFault>
-    requires leading_in { IsCoefficient rule.now.leading }
-    requires positive { pos 0 <ℤ rule.now.leading }
-    requires choice_in { IsCoefficient choice.coefficient }
-    requires in_range { IsInRange state }
-    requires steps { state.used + 1 < 2 ^ 32 }
-    ensures in_range { IfOk result IsInRange }
-    ensures steps { IfOk result (λ t. t.used ≤ state.used + 1) }
-    ensures exact { MatchResult result (λ t. move_result (move_of choice rule.now) state ≡ Ok t) (Explains (move_result (move_of choice rule.now) state)) }
+// The row of so many times the rule, with what stands on either side of its leading word.
+fn row_of(rule: &Rule, choice: &Choice, times: i128) -> Result<Row, AllocError>
+    ensures { IfOk result (λ row. row ≡ record (move_row (move_of choice.now rule.now)) { coef = times }) }
 {
-    let shared = divisor(choice.coefficient, rule.leading);
-    let by = quotient(rule.leading, shared);
-    let times = quotient(choice.coefficient, shared);
     let left = front(&choice.word, choice.place)?;
     let right = back(&choice.word, choice.place, rule.lead.len())?;
-    let mut next = multiply_state(alloc, state, by)?;
-    next.rest = subtract_multiple(alloc, next.rest, times, &left, &rule.poly, &right)?.terms;
-    next.rows.push(Row {
+    Ok(Row {
         coef: times,
         left,
         from: Origin::Rule(choice.number),
         right,
-    })?;
+    })
+}
+
+// The step with this choice by its rule.
+fn take_away(alloc: Global, rule: &Rule, choice: &Choice, state: State) -> Result<State, PolyFault>
+    requires leading_in { IsCoefficient rule.now.leading }
+    requires positive { pos 0 <ℤ rule.now.leading }
+    requires choice_in { IsCoefficient choice.now.coefficient }
+    requires in_range { IsInRange state }
+    requires steps { state.used + 1 < 2 ^ 32 }
+    ensures in_range { IfOk result IsInRange }
+    ensures steps { IfOk result (λ t. t.used ≤ state.used + 1) }
+    ensures exact { MatchResult result (λ t. move_result (move_of choice.now rule.now) state ≡ Ok t) (Explains (move_result (move_of choice.now rule.now) state)) }
+{
+    let shared = divisor(choice.coefficient, rule.leading);
+    let by = quotient(rule.leading, shared);
+    let times = quotient(choice.coefficient, shared);
+    let row = row_of(rule, choice, times)?;
+    let mut next = multiply_state(alloc, state, by)?;
+    next.rest = subtract_multiple(
+        alloc, next.rest, times, &row.left, &rule.poly, &row.right,
+    )?.terms;
+    next.rows.push(row)?;
     next.used += 1;
     Ok(next)
 }
@@ -145,5 +155,5 @@ pub(crate) fn take_step(
     ensures letters { IfOk result (λ t. (n : ℕ) → All (λ g. All (λ u. IsOver n u.1) g.poly.terms) rules.now → IsOver n choice.word → All (λ u. IsOver n u.1) state.rest → All (λ u. IsOver n u.1) t.rest) }
     ensures exact { MatchResult result (λ t. step_result rules.now choice state ≡ Ok t) (Explains (step_result rules.now choice state)) }
 {
-    take_away(alloc, rule_with(rules, choice.number), choice, state)
+    take_away(alloc, rule_with(rules, choice.number), &choice, state)
 }

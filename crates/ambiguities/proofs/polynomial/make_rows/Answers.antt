@@ -1,4 +1,4 @@
-use Rattle.std.proofs.Common.{rules, ◌≡◌, ◌+◌, ◌-◌, neg_ℤ, int_div, length, take, drop, Some, sym, ap, ap₂, ◌∙◌, arith}
+use Rattle.std.proofs.Common.{rules, ◌≡◌, ◌+◌, ◌-◌, neg_ℤ, int_div, length, take, drop, Some, sym, ap₂, ◌∙◌, arith}
 use Rattle.std.proofs.lemmas.List.{take_rest}
 use Rattle.cofactor_trace.specs.declared.Origin.TheVariants as origin
 use Rattle.cofactor_trace.specs.declared.Row.{Row}
@@ -6,16 +6,26 @@ use Rattle.coef_int.specs.Divisor.{gcd_of}
 use Rattle.rule_reduce.specs.RuleLists.{rule_at}
 use Rattle.ambiguities.specs.Ambiguities.{overlap_word_of}
 use Rattle.ambiguities.specs.SPolynomials.{first_row, second_row}
-use Rattle.ambiguities.proofs.Joined.{lead_at-is, leading_at-is, second_fits}
+use Rattle.ambiguities.proofs.Joined.{lead_at-is, leading_at-is, first_fits, second_fits}
 use Rattle.ambiguities.proofs.polynomial.make_rows.Goals as goal
 
-pub overflow_add-place : goal.overflow_add-place
-overflow_add-place c =
+pub slice-requires-clause-order : goal.slice-requires-clause-order
+slice-requires-clause-order c =
+    let first = c.rule_with-first.result.now in
+    omega (arith, first_fits c.args.rules.now c.args.which.now c.requires.ambiguity first (search rules) c.in_ok-word.word (search rules))
+
+pub row_around-requires-clause-before : goal.row_around-requires-clause-before
+row_around-requires-clause-before c =
     let second = c.rule_with-second.result.now in
     omega (arith, second_fits c.args.rules.now c.args.which.now c.requires.ambiguity second (search rules) c.in_ok-word.word (search rules))
 
-pub slice-requires-3-clause-order : goal.slice-requires-3-clause-order
-slice-requires-3-clause-order c =
+pub overflow_add-end : goal.overflow_add-end
+overflow_add-end c =
+    let second = c.rule_with-second.result.now in
+    omega (arith, second_fits c.args.rules.now c.args.which.now c.requires.ambiguity second (search rules) c.in_ok-word.word (search rules))
+
+pub row_around-requires-clause-behind : goal.row_around-requires-clause-behind
+row_around-requires-clause-behind c =
     let second = c.rule_with-second.result.now in
     omega (arith, second_fits c.args.rules.now c.args.which.now c.requires.ambiguity second (search rules) c.in_ok-word.word (search rules))
 
@@ -42,15 +52,14 @@ returns-clause-second c =
     let a = c.args.which.now in
     let g = c.rule_with-first.result.now in
     let h = c.rule_with-second.result.now in
+    let w = c.in_ok-word.word in
     let first : rule_at all a.i ≡ Some g = search rules in
     let second : rule_at all a.j ≡ Some h = search rules in
-    let word : c.in_ok-word.word ≡ overlap_word_of all a = search rules in
+    let word : w ≡ overlap_word_of all a = search rules in
     let factor : c.negate.result ≡ neg_ℤ (int_div g.leading (gcd_of g.leading h.leading)) = search rules in
-    let before : c.in_ok-slice-2.field-0 ≡ take a.place c.in_ok-word.word = search rules in
-    let behind : c.in_ok-slice-3.field-0 ≡ take (length c.in_ok-word.word - (a.place + length h.lead)) (drop (a.place + length h.lead) c.in_ok-word.word) = search rules in
     let coef = factor ∙ ap₂ (λ k l. neg_ℤ (int_div k (gcd_of k l))) (sym (leading_at-is all a.i g first)) (sym (leading_at-is all a.j h second)) in
-    let left = before ∙ ap (take a.place) word in
-    let right = behind ∙ take_rest c.in_ok-word.word (a.place + length h.lead) ∙ ap₂ (λ n w. drop (a.place + length n) w) (sym (lead_at-is all a.j h second)) word in
-    let whole : ◌≡◌ {A = Row} (record { coef = c.negate.result; left = c.in_ok-slice-2.field-0; from = origin.Rule a.j; right = c.in_ok-slice-3.field-0 }) (second_row all a) =
-    λ i. record { coef = coef i; left = left i; from = origin.Rule a.j; right = right i } in
-    search (rules, whole)
+    let lead = sym (lead_at-is all a.j h second) in
+    let made : ◌≡◌ {A = Row} c.in_ok-right.right (record { coef = c.negate.result; left = take a.place w; from = origin.Rule a.j; right = drop (a.place + length h.lead) w }) = search rules in
+    let whole : ◌≡◌ {A = Row} (record { coef = c.negate.result; left = take a.place w; from = origin.Rule a.j; right = drop (a.place + length h.lead) w }) (second_row all a) =
+    λ i. record { coef = coef i; left = take a.place (word i); from = origin.Rule a.j; right = drop (a.place + length (lead i)) (word i) } in
+    search (rules, made ∙ whole)

@@ -1,11 +1,27 @@
-use Rattle.std.proofs.Common.{rules, ◌≡◌, None, Ok, drop, sym, ap, ◌∙◌, arith}
+use Rattle.std.proofs.Common.{rules, ◌≡◌, ◌+◌, ◌∷◌, ◌*ℤ◌, None, Ok, drop, sym, ap, ◌∙◌, arith}
 use Rattle.std.proofs.lemmas.List.{drop_all}
-use Rattle.coef_int.specs.Operations.{first_overflow}
-use Rattle.definitions.specs.Poly.{poly_multiple}
+use Rattle.coef_int.specs.Range.{IsCoefficient}
+use Rattle.coef_int.specs.Operations.{first_overflow, product_of}
+use Rattle.definitions.specs.Poly.{Term, poly_multiple}
 use Rattle.nc_polynomial.specs.Terms.{scaled, products}
 use Rattle.nc_polynomial.specs.Faults.{unless_overflow}
-use Rattle.nc_polynomial.proofs.Chains.{ranged_scale}
+use Rattle.nc_polynomial.proofs.Chains.{first-fits, ranged_scale}
+use Rattle.nc_polynomial.proofs.Steps.{drop_next}
 use Rattle.nc_polynomial.proofs.multiples.kept_terms.Goals as goal
+
+pub loop-term-preserved : goal.loop-term-preserved
+loop-term-preserved c =
+    let by = c.args.by in
+    let p = c.args.terms.now in
+    let i = c.loop-term.term-index in
+    let t : Term = c.term-item.result in
+    let rest = drop (i + 1) p in
+    let back : drop i p ≡ t ∷ rest = drop_next p i t (search rules) (search rules) in
+    let fits : IsCoefficient (by *ℤ t.0) = search rules in
+    let kept : first_overflow (products by (drop i p)) ≡ first_overflow (products by p) = search rules in
+    let same : first_overflow (products by rest) ≡ first_overflow (products by p) =
+    sym (first-fits (product_of by t.0) (products by rest) fits) ∙ ap (λ l. first_overflow (products by l)) (sym back) ∙ kept in
+    search (rules, same)
 
 pub returns-clause-in_range : goal.returns-clause-in_range
 returns-clause-in_range c =

@@ -33,3 +33,9 @@ returns-clause-in_range c =
     let out = c.loop-x.sum in
     let gone : aligned c.loop-x.left.items c.loop-x.right.items ≡ [] = search rules in
     ranged_add c.args.p c.args.q out (sym c.loop-x.invariant.same ∙ ap (λ l. join out (total_from l)) gone ∙ ap Ok (append-nil out))
+
+pub returns-clause-exact : goal.returns-clause-exact
+returns-clause-exact c =
+    let out = c.loop-x.sum in
+    let gone : aligned c.loop-x.left.items c.loop-x.right.items ≡ [] = search rules in
+    sym c.loop-x.invariant.same ∙ ap (λ l. join out (total_from l)) gone ∙ ap Ok (append-nil out)

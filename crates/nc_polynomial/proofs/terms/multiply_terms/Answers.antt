@@ -41,3 +41,13 @@ returns-clause-in_range c =
     let gone : into_iter_items at.coefficient-iterator ≡ [] = nil_from_length _ (sym at.invariant.left ∙ c.in-None.ensures.steps.0) in
     let kept : join out (multiply_from (into_iter_items at.coefficient-iterator) by) ≡ multiply_from c.args.terms by = search rules in
     ranged_multiply c.args.terms by out (sym kept ∙ ap (λ l. join out (multiply_from l by)) gone ∙ ap Ok (append-nil out))
+
+pub returns-clause-exact : goal.returns-clause-exact
+returns-clause-exact c =
+    let at = c.loop-coefficient in
+    let by = c.args.by in
+    let out = at.multiplied in
+    let gone : into_iter_items at.coefficient-iterator ≡ [] = nil_from_length _ (sym at.invariant.left ∙ c.in-None.ensures.steps.0) in
+    let kept : join out (multiply_from (into_iter_items at.coefficient-iterator) by) ≡ multiply_from c.args.terms by = search rules in
+    let whole : multiply_from c.args.terms by ≡ Ok out = sym kept ∙ ap (λ l. join out (multiply_from l by)) gone ∙ ap Ok (append-nil out) in
+    search (rules, whole)

@@ -1,11 +1,25 @@
-use Rattle.std.proofs.Common.{rules, ◌≡◌, ◌+◌, ◌++◌, [], ◌∷◌, ◌<◌, length, get_or, take, sym, ap, ap₂, subst, ◌∙◌, arith}
+use Rattle.std.proofs.Common.{rules, FitsSigned, ◌≡◌, ◌+◌, ◌++◌, [], ◌∷◌, ◌<◌, length, get_or, take, sym, ap, ap₂, subst, ◌∙◌, arith}
+use Rattle.std.proofs.lemmas.Int.{fits_signed_from_abs, to_z-of_z}
 use Rattle.std.proofs.lemmas.List.{take_all}
-use Rattle.std.specs.Int.{◌∣◌}
+use Rattle.std.specs.Int.{◌∣◌, w128}
 use Rattle.std.specs.Int.RustNames.{unsigned_abs, int_div}
+use Rattle.coef_int.specs.Range.{IsCoefficient}
 use Rattle.definitions.specs.Poly.{Term, poly_multiple}
-use Rattle.nc_polynomial.proofs.Divisors.{quotient_times, canonical_back, multiple-append}
+use Rattle.nc_polynomial.proofs.Divisors.{quotient_in, quotient_times, canonical_back, multiple-append}
 use Rattle.nc_polynomial.proofs.Steps.{take_next}
 use Rattle.nc_polynomial.proofs.poly.Poly.divide.Goals as goal
+
+pub nonzero_div-term : goal.nonzero_div-term
+nonzero_div-term c =
+    let p = c.args.self.now.terms in
+    let t : Term = c.term-item.result in
+    let k = c.args.by in
+    let same = c.as_slice-term-items.ensures in
+    let item : t ≡ get_or p c.loop-term.term-index t = c.term-item.is ∙ ap (λ xs. get_or xs c.loop-term.term-index t) same in
+    let divides : unsigned_abs k ∣ unsigned_abs t.0 = subst (λ (u : Term). unsigned_abs k ∣ unsigned_abs u.0) (sym item) (c.requires.divides c.loop-term.term-index t (omega (arith, ap length same))) in
+    let in_range : IsCoefficient t.0 = search rules in
+    let fits : FitsSigned w128 (int_div t.0 k) = fits_signed_from_abs w128 (int_div t.0 k) (quotient_in t.0 k in_range c.requires.nonzero divides) in
+    (search rules, simp (to_z-of_z w128 t.0 (fits_signed_from_abs w128 t.0 in_range), to_z-of_z w128 k c.ranges.by) fits)
 
 pub loop-term-preserved : goal.loop-term-preserved
 loop-term-preserved c =
@@ -31,3 +45,10 @@ invariant_of-result c =
     let kept : poly_multiple c.args.by c.loop-term.quotients ≡ take c.loop-term.term-index p = search rules in
     let whole : poly_multiple c.args.by c.loop-term.quotients ≡ p = kept ∙ take_all c.loop-term.term-index p (omega (arith, ap length c.as_slice-term-items.ensures)) in
     record { canonical = canonical_back c.args.by c.requires.nonzero c.loop-term.quotients p whole c.args.self.now.canonical }
+
+pub returns : goal.returns
+returns c =
+    let p = c.args.self.now.terms in
+    let kept : poly_multiple c.args.by c.loop-term.quotients ≡ take c.loop-term.term-index p = search rules in
+    let whole : poly_multiple c.args.by c.loop-term.quotients ≡ p = kept ∙ take_all c.loop-term.term-index p (omega (arith, ap length c.as_slice-term-items.ensures)) in
+    search (rules, whole)
