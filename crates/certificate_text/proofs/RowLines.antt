@@ -11,7 +11,7 @@ use Rattle.certificate_text.specs.declared.fault.Flaw.TheVariants.{BadLine}
 use Rattle.cofactor_trace.specs.declared.CertRow.{CertRow}
 use Rattle.certificate_text.specs.Fault.{◌>>=◌, asked}
 use Rattle.certificate_text.specs.Letters.{is_letter, is_number, is_integer}
-use Rattle.certificate_text.specs.Lines.{RowTokens, is, is_close, closed, number_part, origin_part, row_parts, is_row, row_of, row_values, lemma_row_of, over_lemma}
+use Rattle.certificate_text.specs.Lines.{RowTokens, is, is_close, number_part, origin_part, row_parts, is_row, row_of, row_values, lemma_row_of, over_lemma}
 use Rattle.certificate_text.specs.Blocks.{origin_tokens, row_line, IsPlainRow}
 use Rattle.certificate_text.proofs.Closing.{closed_behind}
 

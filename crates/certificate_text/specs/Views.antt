@@ -1,6 +1,4 @@
 -- The program's values as the definitions see them.
-use Rattle.std.specs.Prelude.{ℕ, List, map}
-use Rattle.std.specs.Borrow.{Bor}
 use Rattle.certificate_text.specs.declared.letter.Spelled as code_letter
 use Rattle.certificate_text.specs.declared.row.RowTokens as code_row
 use Rattle.certificate_text.specs.Letters.{Spelled}

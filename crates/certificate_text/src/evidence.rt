@@ -5,7 +5,9 @@ ghost use Rattle.std.specs.List.{All, flat_map};
 ghost use Rattle.certificate_text.specs.Evidence.{IsLemmaRowOver};
 ghost use Rattle.certificate_text.specs.Written.{IsLemmaOver, IsEvidenceOver, origin_text, lemma_row_text, scaled_text, lemma_text, lemmas_text, goal_text, lemma_certificate_text, evidence_text};
 
-use crate::write::{put, put_certificate, put_integer, put_number, put_opening, put_word};
+use crate::write::{
+    put, put_certificate, put_integer, put_number, put_opening, put_row_end, put_row_front,
+};
 use cofactor_trace::{CertFrom, Evidence, Lemma, LemmaCertificate, LemmaRow};
 use quiver::Quiver;
 use std::alloc::{AllocError, Global};
@@ -26,15 +28,9 @@ fn put_lemma_row(out: &mut Vec<u8>, quiver: &Quiver, row: &LemmaRow) -> Result<(
     requires { IsLemmaRowOver quiver.now row.now }
     ensures { OnOk result (out.new.items ≡ out.old.items ++ lemma_row_text quiver.now row.now) }
 {
-    put(out, "row ")?;
-    put_integer(out, row.coef)?;
-    put(out, " (")?;
-    put_word(out, quiver, &row.left)?;
-    put(out, ") ")?;
+    put_row_front(out, quiver, row.coef, &row.left)?;
     put_origin(out, row.from)?;
-    put(out, " (")?;
-    put_word(out, quiver, &row.right)?;
-    put(out, ")\n")
+    put_row_end(out, quiver, &row.right)
 }
 
 fn put_lemma_rows(out: &mut Vec<u8>, quiver: &Quiver, rows: &[LemmaRow]) -> Result<(), AllocError>

@@ -1,7 +1,8 @@
 //! What a line of evidence text comes to at its place.
 
-ghost use Rattle.std.specs.Prelude.{◌≡◌, ◌++◌, ◌∷◌, [], Ok};
+ghost use Rattle.std.specs.Prelude.{◌≡◌, ◌++◌, ◌∷◌, [], List, Ok, false};
 ghost use Rattle.certificate_text.specs.Fault.{Reads};
+ghost use Rattle.certificate_text.specs.Lines.{is_end};
 ghost use Rattle.certificate_text.specs.Reading.{progress, headed, lemmas_headed, outside, begun, scaled, lemma_row, in_rows, in_lemma, in_goal, step};
 ghost use Rattle.certificate_text.specs.Tokens.{tokens_of};
 ghost use Rattle.certificate_text.specs.declared.place.Place.TheVariants as place;
@@ -130,6 +131,23 @@ fn ended_block(mut blocks: Listing<Evidence>, block: Evidence) -> Result<Progres
     Ok(Progress { blocks, place })
 }
 
+// A row more of a certificate without lemmas, and the size with it.
+fn push_row(
+    alloc: Global,
+    quiver: &Quiver,
+    certificate: &mut Certificate,
+    size: Size,
+    line: &[u8],
+) -> Result<Size, LineFault>
+    requires { is_end (tokens_of line.now) ≡ false }
+    ensures { (blocks : List Evidence) → Reads (λ size. progress blocks (place.Rows certificate.new size)) result (in_rows quiver.now blocks certificate.old size (tokens_of line.now)) }
+{
+    let row = row_of(alloc, quiver, line)?;
+    let size = grown(size, &row.left, &row.right)?;
+    certificate.rows.push(row)?;
+    Ok(size)
+}
+
 // A row of a certificate without lemmas, or its end.
 fn in_rows(
     alloc: Global,
@@ -144,9 +162,7 @@ fn in_rows(
     if is_end(line) {
         return ended_block(blocks, Evidence::Plain(certificate));
     }
-    let row = row_of(alloc, quiver, line)?;
-    let size = grown(size, &row.left, &row.right)?;
-    certificate.rows.push(row)?;
+    let size = push_row(alloc, quiver, &mut certificate, size, line)?;
     let place = Place::Rows { certificate, size };
     Ok(Progress { blocks, place })
 }
@@ -160,33 +176,41 @@ fn scaled(
 ) -> Result<Progress, Flaw>
     ensures { result ≡ scaled blocks opened (tokens_of line.now) }
 {
-    let rows = Listing::new(alloc);
-    let place = if begins("goal", line) {
-        let scale = goal_scale_of(line)?;
-        let goal = Lemma { scale, rows };
-        Place::Goal { opened, goal }
+    let is_goal = begins("goal", line);
+    let scale = if is_goal {
+        goal_scale_of(line)
     } else {
-        let scale = lemma_scale_of(opened.lemmas.len(), line)?;
-        let lemma = Lemma { scale, rows };
+        lemma_scale_of(opened.lemmas.len(), line)
+    };
+    let lemma = Lemma {
+        scale: scale?,
+        rows: Listing::new(alloc),
+    };
+    let place = if is_goal {
+        Place::Goal {
+            opened,
+            goal: lemma,
+        }
+    } else {
         Place::Lemma { opened, lemma }
     };
     Ok(Progress { blocks, place })
 }
 
 // A row more of the lemma or of the goal.
-fn lemma_row(
+fn push_lemma_row(
     alloc: Global,
     quiver: &Quiver,
-    mut opened: Opened,
-    mut lemma: Lemma,
+    opened: &mut Opened,
+    lemma: &mut Lemma,
     line: &[u8],
-) -> Result<(Opened, Lemma), LineFault>
-    ensures { Reads (λ next. next) result (lemma_row quiver.now opened lemma (tokens_of line.now)) }
+) -> Result<(), LineFault>
+    ensures { Reads (λ _. (opened.new, lemma.new)) result (lemma_row quiver.now opened.old lemma.old (tokens_of line.now)) }
 {
     let row = lemma_row_of(alloc, quiver, line)?;
     opened.size = grown(opened.size, &row.left, &row.right)?;
     lemma.rows.push(row)?;
-    Ok((opened, lemma))
+    Ok(())
 }
 
 // A row of a lemma, or the next lemma or the goal.
@@ -195,13 +219,13 @@ fn in_lemma(
     quiver: &Quiver,
     blocks: Listing<Evidence>,
     mut opened: Opened,
-    lemma: Lemma,
+    mut lemma: Lemma,
     line: &[u8],
 ) -> Result<Progress, LineFault>
     ensures { Reads (λ p. p) result (in_lemma quiver.now blocks opened lemma (tokens_of line.now)) }
 {
     if begins("row", line) {
-        let (opened, lemma) = lemma_row(alloc, quiver, opened, lemma, line)?;
+        push_lemma_row(alloc, quiver, &mut opened, &mut lemma, line)?;
         let place = Place::Lemma { opened, lemma };
         return Ok(Progress { blocks, place });
     }
@@ -214,8 +238,8 @@ fn in_goal(
     alloc: Global,
     quiver: &Quiver,
     blocks: Listing<Evidence>,
-    opened: Opened,
-    goal: Lemma,
+    mut opened: Opened,
+    mut goal: Lemma,
     line: &[u8],
 ) -> Result<Progress, LineFault>
     ensures { Reads (λ p. p) result (in_goal quiver.now blocks opened goal (tokens_of line.now)) }
@@ -229,7 +253,7 @@ fn in_goal(
         };
         return ended_block(blocks, Evidence::Lemmas(certificate));
     }
-    let (opened, goal) = lemma_row(alloc, quiver, opened, goal, line)?;
+    push_lemma_row(alloc, quiver, &mut opened, &mut goal, line)?;
     let place = Place::Goal { opened, goal };
     Ok(Progress { blocks, place })
 }

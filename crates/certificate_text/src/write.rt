@@ -142,19 +142,44 @@ pub fn put_poly(out: &mut Vec<u8>, quiver: &Quiver, poly: &Poly) -> Result<(), A
     put_terms(out, quiver, poly.terms.as_slice())
 }
 
+// The first half of a row, its coefficient and the word in front.
+pub(crate) fn put_row_front(
+    out: &mut Vec<u8>,
+    quiver: &Quiver,
+    coef: i128,
+    left: &Word,
+) -> Result<(), AllocError>
+    requires { IsOver (letter_count quiver.now) left.now }
+    ensures { OnOk result (out.new.items ≡ out.old.items ++ codes "row " ++ signed_decimal coef ++ codes " (" ++ word_text quiver.now left.now ++ codes ") ") }
+{
+    put(out, "row ")?;
+    put_integer(out, coef)?;
+    put(out, " (")?;
+    put_word(out, quiver, left)?;
+    put(out, ") ")
+}
+
+// The end of a row, the word behind.
+pub(crate) fn put_row_end(
+    out: &mut Vec<u8>,
+    quiver: &Quiver,
+    right: &Word,
+) -> Result<(), AllocError>
+    requires { IsOver (letter_count quiver.now) right.now }
+    ensures { OnOk result (out.new.items ≡ out.old.items ++ codes " (" ++ word_text quiver.now right.now ++ codes ")\n") }
+{
+    put(out, " (")?;
+    put_word(out, quiver, right)?;
+    put(out, ")\n")
+}
+
 fn put_row(out: &mut Vec<u8>, quiver: &Quiver, row: &CertRow) -> Result<(), AllocError>
     requires { IsRowOver quiver.now row.now }
     ensures { OnOk result (out.new.items ≡ out.old.items ++ row_text quiver.now row.now) }
 {
-    put(out, "row ")?;
-    put_integer(out, row.coef)?;
-    put(out, " (")?;
-    put_word(out, quiver, &row.left)?;
-    put(out, ") ")?;
+    put_row_front(out, quiver, row.coef, &row.left)?;
     put_number(out, u128::from(row.generator))?;
-    put(out, " (")?;
-    put_word(out, quiver, &row.right)?;
-    put(out, ")\n")
+    put_row_end(out, quiver, &row.right)
 }
 
 fn put_rows(out: &mut Vec<u8>, quiver: &Quiver, rows: &[CertRow]) -> Result<(), AllocError>

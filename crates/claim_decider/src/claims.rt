@@ -3,8 +3,8 @@ ghost use Rattle.std.specs.Prelude.{◌≡◌, ◌≢◌, ◌<◌, ◌≤◌, �
 ghost use Rattle.std.specs.List.{All, AllZip};
 ghost use Rattle.traced_completion.specs.declared.budget.Budget.{Budget as Asked};
 ghost use Rattle.traced_completion.specs.PlainRun.{start, setting_of};
-ghost use Rattle.traced_completion.specs.Completions.{IsBudget, IsCompletionOf};
-ghost use Rattle.claim_decider.specs.Decided.{claim_numbers, AreOutcomesOf, AreLastRules, polynomials_in};
+ghost use Rattle.traced_completion.specs.Completions.{IsBudget, IsCompletionOf, state_of};
+ghost use Rattle.claim_decider.specs.Decided.{claim_numbers, AreOutcomesOf, AreLastRules, IsLastRound, polynomials_in};
 ghost use Rattle.claim_decider.specs.Cases.{IsNumber, IsOfProblem, HasRounds, Follows, IsCase, IsSettled, case_numbers, Gives};
 
 use crate::case::{Case, Standing, follow, open_case};
@@ -97,14 +97,75 @@ fn run<R: Threads + Sync, G: Gate + Sync>(
     ensures rules { IfOk result (λ d. AreLastRules (setting_of problem.now budget) format problem.now (case_numbers cases.items) d.rules) }
 {
     let mut completion = Completion::start(alloc, problem, budget)?;
-    let mut cases = cases;
-    while !are_settled(cases.as_slice()) {
-        let step = completion.round(rt, alloc, problem, workers, gate)?;
-        follow_all(alloc, problem, format, &completion, step, &mut cases)?;
-    }
+    decide_cases(
+        rt,
+        alloc,
+        problem,
+        format,
+        workers,
+        gate,
+        &mut completion,
+        cases,
+    )
+}
+
+// What becomes of the claims, by a completion before its first round.
+fn decide_cases<R: Threads + Sync, G: Gate + Sync>(
+    rt: &R,
+    alloc: Global,
+    problem: &Problem,
+    format: Format,
+    workers: u32,
+    gate: &G,
+    completion: &mut Completion,
+    mut cases: Vec<Case>,
+) -> Result<Decided, AllocError>
+    requires some_worker { 0 < workers }
+    requires at_most_64 { workers ≤ 64 }
+    requires of_problem { IsCompletionOf problem.now completion.old }
+    requires no_round { completion.old.rounds ≡ 0 }
+    requires numbers { All (IsOfProblem problem.now) cases.items }
+    requires cases { All (IsCase (setting_of problem.now completion.old.budget) format problem.now completion.old.rounds (state_of completion.old)) cases.items }
+    ensures outcomes { IfOk result (λ d. AreOutcomesOf (setting_of problem.now completion.old.budget) format problem.now (case_numbers cases.items) d.outcomes) }
+    ensures rules { IfOk result (λ d. AreLastRules (setting_of problem.now completion.old.budget) format problem.now (case_numbers cases.items) d.rules) }
+{
+    settle(
+        rt, alloc, problem, format, workers, gate, completion, &mut cases,
+    )?;
     let rules = polynomials(alloc, completion.rules.rules.as_slice())?;
     let outcomes = outcomes(alloc, cases)?;
     Ok(Decided { outcomes, rules })
+}
+
+// Makes rounds of a completion until each of the claims has its outcome.
+fn settle<R: Threads + Sync, G: Gate + Sync>(
+    rt: &R,
+    alloc: Global,
+    problem: &Problem,
+    format: Format,
+    workers: u32,
+    gate: &G,
+    completion: &mut Completion,
+    cases: &mut Vec<Case>,
+) -> Result<(), AllocError>
+    requires some_worker { 0 < workers }
+    requires at_most_64 { workers ≤ 64 }
+    requires of_problem { IsCompletionOf problem.now completion.old }
+    requires no_round { completion.old.rounds ≡ 0 }
+    requires numbers { All (IsOfProblem problem.now) cases.old.items }
+    requires cases { All (IsCase (setting_of problem.now completion.old.budget) format problem.now completion.old.rounds (state_of completion.old)) cases.old.items }
+    ensures of_problem { OnOk result (IsCompletionOf problem.now completion.new) }
+    ensures budget { OnOk result (completion.new.budget ≡ completion.old.budget) }
+    ensures numbers { OnOk result (case_numbers cases.new.items ≡ case_numbers cases.old.items) }
+    ensures settled { OnOk result (All IsSettled cases.new.items) }
+    ensures cases { OnOk result (All (IsCase (setting_of problem.now completion.old.budget) format problem.now completion.new.rounds (state_of completion.new)) cases.new.items) }
+    ensures last { OnOk result (IsLastRound (setting_of problem.now completion.old.budget) format problem.now (case_numbers cases.new.items) completion.new.rounds) }
+{
+    while !are_settled(cases.as_slice()) {
+        let step = completion.round(rt, alloc, problem, workers, gate)?;
+        follow_all(alloc, problem, format, completion, step, cases)?;
+    }
+    Ok(())
 }
 
 // Whether each claim has its outcome.

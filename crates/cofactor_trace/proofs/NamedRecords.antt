@@ -1,8 +1,9 @@
 -- Records that are pointed to, one by one.
-use Rattle.std.proofs.Common.{◌≡◌, ℕ, ◌+◌, ◌<◌, ℤ, int_div, List, [], ◌∷◌, ◌++◌, map, length, drop, get_or, sym, ap, subst, ◌∙◌}
+use Rattle.std.proofs.Common.{◌≡◌, ℕ, ◌+◌, ◌<◌, ℤ, int_div, List, [], ◌∷◌, ◌++◌, map, length, drop, get_or, Some, sym, ap, subst, ◌∙◌}
 use Rattle.std.specs.List.{All}
 use Rattle.std.specs.Borrow.{Bor}
 use Rattle.std.proofs.lemmas.List.{get_or-map, length-map}
+use Rattle.coef_int.specs.declared.Overflow.{Overflow}
 use Rattle.coef_int.specs.Range.{IsCoefficient}
 use Rattle.coef_int.specs.Operations.{product_of, first_overflow}
 use Rattle.nc_polynomial.proofs.Steps.{drop_next}
@@ -10,6 +11,7 @@ use Rattle.nc_polynomial.proofs.Chains.{first-fits}
 use Rattle.coef_int.specs.Divisor.{gcd_of}
 use Rattle.cofactor_trace.specs.declared.Made.{Made}
 use Rattle.cofactor_trace.specs.Expansion.{lcm_of, common_multiple, multiple_products}
+use Rattle.cofactor_trace.proofs.Operations.{first-before}
 use Rattle.cofactor_trace.specs.Naming.{records}
 
 module _ (xs : List (Bor Made)) (i : ℕ) (x : Bor Made) (inside : i < length xs) (item : x ≡ get_or xs i x) where
@@ -23,19 +25,25 @@ module _ (xs : List (Bor Made)) (i : ℕ) (x : Bor Made) (inside : i < length xs
   records_next = ap records (drop_next xs i x inside item)
 
   -- ---- the common multiple of scales, with one more
-  module _ (goal : Made) (common next : ℤ) where
+  module _ (goal : Made) (common : ℤ) where
     abbrev rest : ℕ → List ℤ
     rest k = map (λ m. m.scale) (records (drop k xs) ++ goal ∷ [])
 
     rest_is : rest i ≡ x.now.scale ∷ rest (i + 1)
     rest_is = ap (λ l. map (λ (m : Made). m.scale) (l ++ goal ∷ [])) records_next
 
-    pub multiple_next : next ≡ lcm_of common x.now.scale → common_multiple next (rest (i + 1)) ≡ common_multiple common (rest i)
-    multiple_next is = ap (λ z. common_multiple z (rest (i + 1))) is ∙ sym (ap (common_multiple common) rest_is)
+    pub multiple_next : (next : ℤ) → next ≡ lcm_of common x.now.scale → common_multiple next (rest (i + 1)) ≡ common_multiple common (rest i)
+    multiple_next next is = ap (λ z. common_multiple z (rest (i + 1))) is ∙ sym (ap (common_multiple common) rest_is)
 
-    pub products_next : next ≡ lcm_of common x.now.scale → IsCoefficient (lcm_of common x.now.scale)
+    pub products_next : (next : ℤ) → next ≡ lcm_of common x.now.scale → IsCoefficient (lcm_of common x.now.scale)
         → first_overflow (multiple_products next (rest (i + 1))) ≡ first_overflow (multiple_products common (rest i))
-    products_next is fits =
+    products_next next is fits =
         ap (λ z. first_overflow (multiple_products z (rest (i + 1)))) is
         ∙ sym (first-fits (product_of common (int_div x.now.scale (gcd_of common x.now.scale))) (multiple_products (lcm_of common x.now.scale) (rest (i + 1))) fits)
         ∙ sym (ap (λ l. first_overflow (multiple_products common l)) rest_is)
+
+    -- the first product is the one that overflows
+    pub products_stop : (o : Overflow) → first_overflow (multiple_products common (x.now.scale ∷ [])) ≡ Some o → first_overflow (multiple_products common (rest i)) ≡ Some o
+    products_stop o stopped =
+        ap (λ l. first_overflow (multiple_products common l)) rest_is
+        ∙ first-before (multiple_products common (x.now.scale ∷ [])) (multiple_products (lcm_of common x.now.scale) (rest (i + 1))) o stopped

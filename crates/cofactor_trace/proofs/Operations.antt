@@ -1,10 +1,10 @@
 -- Operations one after another, and the first of them that overflows.
-use Rattle.std.proofs.Common.{◌≡◌, ℕ, ◌+◌, ◌<◌, ◌≤◌, List, ◌∷◌, ◌++◌, map, length, drop, get_or, Some, None, sym, ap, ◌∙◌, arith}
+use Rattle.std.proofs.Common.{◌≡◌, ◌↔◌, ℕ, ◌+◌, ◌<◌, ◌≤◌, ℤ, ◌*ℤ◌, Result, Ok, Err, IfOk, IfErr, IsOk, MatchResult, List, [], ◌∷◌, ◌++◌, map, length, drop, get_or, Some, None, refl, sym, subst, ap, ◌∙◌, arith}
 use Rattle.std.proofs.lemmas.Bool.Decides.{nat_tests}
 use Rattle.std.proofs.lemmas.List.{drop_all}
 use Rattle.coef_int.specs.declared.Overflow.{Overflow}
 use Rattle.coef_int.specs.Range.{IsCoefficient}
-use Rattle.coef_int.specs.Operations.{exact_value, first_overflow}
+use Rattle.coef_int.specs.Operations.{exact_value, product_of, first_overflow}
 use Rattle.nc_polynomial.proofs.Steps.{drop_next}
 use Rattle.nc_polynomial.proofs.Chains.{or_first, first-append, first-fits}
 
@@ -16,6 +16,16 @@ first-behind os more none = first-append os more ∙ ap (λ f. or_first f (first
 
 pub first-before : (os more : List Overflow) (o : Overflow) → first_overflow os ≡ Some o → first_overflow (os ++ more) ≡ Some o
 first-before os more o some = first-append os more ∙ ap (λ f. or_first f (first_overflow more)) some
+
+-- a product that is checked
+pub checked_product : (r : Result ℤ Overflow) (x y : ℤ) → IfOk r (λ z. z ≡ x *ℤ y) → IsOk r ↔ IsCoefficient (x *ℤ y) → IfErr r (λ o. o ≡ product_of x y)
+    → MatchResult r (λ z. (first_overflow (product_of x y ∷ []) ≡ None) × (z ≡ x *ℤ y)) (λ o. first_overflow (product_of x y ∷ []) ≡ Some o)
+checked_product (Ok z) x y exact fits operands = (first-fits (product_of x y) [] (fits.0 refl), exact)
+checked_product (Err o) x y exact fits operands = first-fails (product_of x y) [] (λ inside. let ok = fits.1 inside in absurd (cc)) ∙ ap Some (sym operands)
+
+pub checked_product-in_range : (r : Result ℤ Overflow) (x y : ℤ) → IfOk r (λ z. z ≡ x *ℤ y) → IsOk r ↔ IsCoefficient (x *ℤ y) → IfOk r IsCoefficient
+checked_product-in_range (Ok z) x y exact fits = subst IsCoefficient (sym exact) (fits.0 refl)
+checked_product-in_range (Err o) x y exact fits = tt
 
 -- one operation for each item of a list
 module _ {X : Type 0} (f : X → Overflow) (xs : List X) (i : ℕ) (kept : first_overflow (map f (drop i xs)) ≡ first_overflow (map f xs)) where

@@ -3,18 +3,19 @@ ghost use Rattle.std.specs.Prelude.{◌≡◌, ◌<ℤ◌, ◌++◌, ◌∷◌, 
 ghost use Rattle.std.specs.List.{All};
 ghost use Rattle.coef_int.specs.Range.{IsCoefficient};
 ghost use Rattle.coef_int.specs.Operations.{first_overflow};
-ghost use Rattle.cofactor_trace.specs.Expansion.{lcm_of, common_multiple, multiple_products};
+ghost use Rattle.cofactor_trace.specs.Expansion.{common_multiple, multiple_products};
 ghost use Rattle.cofactor_trace.specs.Needed.{IsAmongFirst, IsRecord, AreRecords};
 ghost use Rattle.cofactor_trace.specs.GatherFaults.{Explains};
 ghost use Rattle.cofactor_trace.specs.Lemmas as gathering;
 ghost use Rattle.cofactor_trace.specs.Lemmas.{gathered_of};
 ghost use Rattle.cofactor_trace.specs.Naming.{IsScaled, named_in, records};
 
+use crate::divisor::raise;
 use crate::extent::check_limits;
 use crate::naming::name_rules;
 use crate::replacement::Replacement;
 use crate::{CertFrom, GatherFault, Lemma, LemmaCertificate, LemmaRow, Made, Origin, Row};
-use coef_int::{Overflow, divisor, negate, quotient, times};
+use coef_int::{Overflow, negate};
 use lists::Listing;
 use std::alloc::{AllocError, Global};
 
@@ -44,21 +45,6 @@ pub fn gather(
         lemmas: make_lemmas(alloc, replacements, named)?,
         goal: make_lemma(alloc, replacements, target)?,
     })
-}
-
-// The least common multiple of a number and a scale.
-fn raise(common: i128, scale: i128) -> Result<i128, Overflow>
-    requires common_in { IsCoefficient common }
-    requires common_positive { pos 0 <ℤ common }
-    requires scale_in { IsCoefficient scale }
-    requires scale_positive { pos 0 <ℤ scale }
-    ensures exact { MatchResult result (λ d. (first_overflow (multiple_products common (scale ∷ [])) ≡ None) × (d ≡ lcm_of common scale))
-        (λ o. first_overflow (multiple_products common (scale ∷ [])) ≡ Some o) }
-    ensures in_range { IfOk result IsCoefficient }
-    ensures positive { IfOk result (λ d. pos 0 <ℤ d) }
-{
-    let by = divisor(common, scale);
-    times(common, quotient(scale, by))
 }
 
 // The least common multiple of the scales of lemmas and goal, taken in order.

@@ -11,11 +11,11 @@ ghost use Rattle.cofactor_trace.specs.Faults.{Explains, IsFirst};
 ghost use Rattle.cofactor_trace.specs.Ranges.{IsRanged};
 ghost use Rattle.cofactor_trace.specs.Table.{IsInRange, with_rows};
 
-use crate::divisor::{content, divide_rows};
+use crate::divisor::{primitive, raise};
 use crate::size::{Size, check_size, measure_joined};
 use crate::table::{Sums, add_joined, nonzero_rows};
 use crate::{CertRow, Cofactors, ExpandFault, Made, Origin, Row};
-use coef_int::{divisor, quotient, times};
+use coef_int::{quotient, times};
 use std::alloc::Global;
 use std::collections::BTreeMap;
 use word_core::Word;
@@ -74,9 +74,7 @@ fn common_denominator(expansions: &Expansions, rows: &[Row]) -> Result<i128, Exp
 {
     let mut common = 1;
     for row in rows {
-        let denominator = denominator_of(expansions, row.from);
-        let by = divisor(common, denominator);
-        common = times(common, quotient(denominator, by))?;
+        common = raise(common, denominator_of(expansions, row.from))?;
     }
     Ok(common)
 }
@@ -179,9 +177,5 @@ pub(crate) fn expand_record(
     check_limits(alloc, expansions, common, rows)?;
     let sums = add_rows(alloc, expansions, common, rows)?;
     let gathered = nonzero_rows(alloc, sums)?;
-    let by = content(denominator, gathered.as_slice());
-    Ok(Cofactors {
-        denominator: quotient(denominator, by),
-        rows: divide_rows(alloc, gathered, by)?,
-    })
+    Ok(primitive(alloc, denominator, gathered)?)
 }

@@ -9,10 +9,14 @@ use Rattle.adjoint_rules.specs.declared.problem.Problem.{Problem}
 use Rattle.adjoint_rules.specs.Problem.{IsShape}
 use Rattle.model_search.specs.declared.plan.Plan.{Plan}
 use Rattle.model_search.specs.Candidates.{IsSolution, IsGreedy}
-use Rattle.model_search.specs.Unknowns.{set_count, filled, picked}
+use Rattle.model_search.specs.Unknowns.{set_count, filled, picked, unit_values}
 use Rattle.model_search.specs.Plans.{FitsShape, AreEntryValues}
 use Rattle.model_search.specs.Equations.{entries_at, system_for}
+use Rattle.adjoint_rules.proofs.Generators.{posed_quiver}
+use Rattle.model_search.proofs.CandidateModels.{modulus_of_shape}
 use Rattle.model_search.proofs.DrawnEntries.{flag_of_each}
+use Rattle.model_search.proofs.FilledValues.{length-filled, All-filled}
+use Rattle.model_search.proofs.LinearRows.{unit_values_below}
 use Rattle.model_search.proofs.SolvedEntries.{length-picked, All-picked}
 use Rattle.model_search.proofs.SystemSolutions.{zero_below, units_below, units_alike, unit_of_each, is_system, are_values, solves_from, greedy_filled}
 
@@ -22,6 +26,18 @@ module _ (problem : Problem) (s : Shape) (shape : IsShape (object_count problem.
   -- the entries at a unit, and at zero
   abbrev pub entries_for : ℕ → List ℕ
   entries_for k = entries_at problem s plan.solved plan.generators drawn k
+
+  -- the values of the entries there
+  pub plan_filled : (unknown : ℕ) → AreEntryValues problem s (filled plan.solved drawn (unit_values (set_count plan.solved) unknown))
+  plan_filled unknown =
+      let q = quiver_of problem.parts.quiver in
+      let unit = unit_values (set_count plan.solved) unknown in
+      let same : length drawn ≡ length plan.solved = values.one_each ∙ sym (flag_of_each q s problem.parts.solved) ∙ ap length (sym fits.solved) in
+      let least = (modulus_of_shape q s (posed_quiver problem.parts problem.posed) shape).at_least in
+      record {
+        one_each = length-filled plan.solved drawn unit same ∙ values.one_each;
+        below = All-filled (λ value. value < s.modulus) plan.solved drawn unit values.below (unit_values_below s.modulus (set_count plan.solved) unknown least);
+      }
 
   pub plan_zero_below : All (λ x. x < s.modulus) (entries_for (set_count plan.solved))
   plan_zero_below =

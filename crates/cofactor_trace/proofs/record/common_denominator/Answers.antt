@@ -1,13 +1,39 @@
-use Rattle.std.proofs.Common.{rules, ◌≡◌, ◌+◌, ◌<ℤ◌, pos, int_div, drop, sym, ap, subst, ◌∙◌}
+use Rattle.std.proofs.Common.{rules, ◌≡◌, ◌+◌, ◌∷◌, [], pos, int_div, drop, Some, None, Err, sym, ap, ◌∙◌, arith}
+use Rattle.std.proofs.lemmas.List.{drop_all}
+use Rattle.std.specs.Option.{option_map}
 use Rattle.coef_int.specs.Range.{IsCoefficient}
 use Rattle.coef_int.specs.Operations.{product_of, first_overflow}
 use Rattle.nc_polynomial.proofs.Steps.{drop_next}
 use Rattle.nc_polynomial.proofs.Chains.{first-fits}
 use Rattle.coef_int.specs.Divisor.{gcd_of}
-use Rattle.cofactor_trace.specs.Expansion.{lcm_of, multiple_products, denominators, common_multiple}
+use Rattle.cofactor_trace.specs.declared.fault.ExpandFault.TheVariants as fault
+use Rattle.cofactor_trace.specs.Expansion.{lcm_of, multiple_products, denominators, common_multiple, overflow_in}
 use Rattle.cofactor_trace.specs.Needed.{known_from}
-use Rattle.cofactor_trace.proofs.Divisors.{lcm_of-positive}
+use Rattle.cofactor_trace.proofs.Operations.{first-before}
 use Rattle.cofactor_trace.proofs.record.common_denominator.Goals as goal
+
+pub raise-requires-clause-common_in : goal.raise-requires-clause-common_in
+raise-requires-clause-common_in c = search rules
+
+pub raise-requires-clause-scale_in : goal.raise-requires-clause-scale_in
+raise-requires-clause-scale_in c = search rules
+
+pub returns-in_err-common-clause-exact : goal.returns-in_err-common-clause-exact
+returns-in_err-common-clause-exact c =
+    let known = known_from c.args.expansions.now.entries in
+    let rows = c.args.rows.now in
+    let i = c.loop-row.row-index in
+    let row = c.row-item.result in
+    let old = c.loop-row.common in
+    let d = (known row.from).denominator in
+    let o = c.in_err-common.field-0.0 in
+    let next = drop_next rows i row c.loop-row-test.true c.row-item.is in
+    let d_is : c.denominator_of.result ≡ d = search rules in
+    let stopped : first_overflow (multiple_products old (d ∷ [])) ≡ Some o = search (rules, d_is) in
+    let so_far : first_overflow (multiple_products old (denominators known (drop i rows))) ≡ first_overflow (multiple_products (pos 1) (denominators known rows)) = search rules in
+    let back : c.from_residual.result ≡ Err (fault.Overflow o) = search rules in
+    rw back (ap (option_map fault.Overflow) (sym so_far ∙ ap (λ l. first_overflow (multiple_products old (denominators known l))) next
+    ∙ first-before (multiple_products old (d ∷ [])) (multiple_products (lcm_of old d) (denominators known (drop (i + 1) rows))) o stopped))
 
 pub loop-row-preserved : goal.loop-row-preserved
 loop-row-preserved c =
@@ -18,13 +44,9 @@ loop-row-preserved c =
     let old = c.loop-row.common in
     let d = (known row.from).denominator in
     let next = drop_next rows i row c.loop-row-test.true c.row-item.is in
-    let d_is : c.denominator_of-denominator.result ≡ d = search rules in
-    let by_is : c.divisor-by.result ≡ gcd_of old d = search rules in
-    let quotient_is : c.quotient.result ≡ int_div d (gcd_of old d) = search rules in
+    let d_is : c.denominator_of.result ≡ d = search rules in
     let new_is : c.in_ok-common.common ≡ lcm_of old d = search rules in
-    let old_in : pos 0 <ℤ old = search rules in
-    let d_in : pos 0 <ℤ d = search rules in
-    let fits : IsCoefficient (lcm_of old d) = search rules in
+    let fits : IsCoefficient (lcm_of old d) = search (rules, new_is) in
     let products_so_far : first_overflow (multiple_products old (denominators known (drop i rows))) ≡ first_overflow (multiple_products (pos 1) (denominators known rows)) = search rules in
     let value_so_far : common_multiple old (denominators known (drop i rows)) ≡ common_multiple (pos 1) (denominators known rows) = search rules in
     let products : first_overflow (multiple_products c.in_ok-common.common (denominators known (drop (i + 1) rows))) ≡ first_overflow (multiple_products (pos 1) (denominators known rows)) =
@@ -34,5 +56,18 @@ loop-row-preserved c =
     let value : common_multiple c.in_ok-common.common (denominators known (drop (i + 1) rows)) ≡ common_multiple (pos 1) (denominators known rows) =
     ap (λ z. common_multiple z (denominators known (drop (i + 1) rows))) new_is
     ∙ ap (λ l. common_multiple old (denominators known l)) (sym next) ∙ value_so_far in
-    let positive : pos 0 <ℤ c.in_ok-common.common = subst (λ z. pos 0 <ℤ z) (sym new_is) (lcm_of-positive old d old_in d_in) in
-    record { products = search (rules, products); value = search (rules, value); positive = search (rules, positive); in_range = search rules }
+    record { products = search (rules, products); value = search (rules, value); positive = search rules; in_range = search rules }
+
+pub returns-clause-exact : goal.returns-clause-exact
+returns-clause-exact c =
+    let known = known_from c.args.expansions.now.entries in
+    let rows = c.args.rows.now in
+    let i = c.loop-row.row-index in
+    let past = drop_all i rows (omega arith) in
+    let products_so_far : first_overflow (multiple_products c.loop-row.common (denominators known (drop i rows))) ≡ first_overflow (multiple_products (pos 1) (denominators known rows)) = search rules in
+    let value_so_far : common_multiple c.loop-row.common (denominators known (drop i rows)) ≡ common_multiple (pos 1) (denominators known rows) = search rules in
+    let none : overflow_in (multiple_products (pos 1) (denominators known rows)) ≡ None =
+    ap (option_map fault.Overflow) (sym products_so_far ∙ ap (λ l. first_overflow (multiple_products c.loop-row.common (denominators known l))) past) in
+    let value : c.loop-row.common ≡ common_multiple (pos 1) (denominators known rows) =
+    sym (ap (λ l. common_multiple c.loop-row.common (denominators known l)) past) ∙ value_so_far in
+    search (rules, none, value)

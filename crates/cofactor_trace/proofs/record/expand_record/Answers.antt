@@ -1,15 +1,13 @@
-use Rattle.std.proofs.Common.{rules, ◌≡◌, ◌*ℤ◌, ◌<ℤ◌, [], pos, int_div, map, to_z, of_z, None, Err, Ok, sym, ap, ap₂, subst, ◌∙◌}
+use Rattle.std.proofs.Common.{rules, ◌≡◌, ◌*ℤ◌, ◌<ℤ◌, [], pos, to_z, of_z, None, Err, Ok, sym, ap, subst, ◌∙◌}
 use mir.Syntax.{w128}
-use Rattle.std.specs.Int.{◌∣◌}
-use Rattle.std.specs.Int.RustNames.{unsigned_abs}
 use Rattle.coef_int.specs.Range.{IsCoefficient}
 use Rattle.coef_int.specs.Operations.{product_of}
 use Rattle.cofactor_trace.specs.declared.fault.ExpandFault.TheVariants as fault
-use Rattle.cofactor_trace.specs.Expansion.{joined, joined_products, limit_fault, overflow_in, content_of, divided_row}
+use Rattle.cofactor_trace.specs.Expansion.{joined, joined_products, limit_fault, overflow_in, primitive}
 use Rattle.cofactor_trace.specs.Faults.{IsFirst, IsOverflowOf}
 use Rattle.cofactor_trace.specs.Needed.{known_from}
 use Rattle.cofactor_trace.specs.Table.{with_rows, rows_in}
-use Rattle.cofactor_trace.proofs.Divisors.{product_positive, quotient_positive, content-first}
+use Rattle.cofactor_trace.proofs.Divisors.{product_positive}
 use Rattle.cofactor_trace.proofs.RecordLaws.{IsCommon, Begins, AddsUp, at_common, at_denominator, at_limits, at_rows, at_gathering, at_end}
 use Rattle.cofactor_trace.proofs.record.expand_record.Goals as goal
 use Rattle.cofactor_trace.proofs.record.expand_record.Goals.{In_ok-denominator, In_ok-check_limits, In_ok-sums}
@@ -100,38 +98,71 @@ returns-in_err-gathered-clause-exact c =
     let back : c.from_residual-in_err-gathered.result ≡ Err e = search rules in
     rw back (at_gathering (known_from c.args.expansions.now.entries) c.args.made.now c.as_slice-rows.result.now c.in_ok-common.common entries e added stopped)
 
-pub content-by-requires-clause-positive : goal.content-by-requires-clause-positive
-content-by-requires-clause-positive c =
-    let positive = denominator_positive (goal.at.content-by-requires-clause-positive c).In_ok-denominator in
+pub primitive-requires-clause-positive : goal.primitive-requires-clause-positive
+primitive-requires-clause-positive c =
+    let positive = denominator_positive (goal.at.primitive-requires-clause-positive c).In_ok-denominator in
     search (rules, positive)
-
-pub returns-clause-ranged : goal.returns-clause-ranged
-returns-clause-ranged c =
-    let d = c.in_ok-denominator.denominator in
-    let gathered = c.in_ok-gathered.gathered in
-    let by = c.content-by.result in
-    let d_in = denominator_positive (goal.at.returns-clause-ranged c).In_ok-denominator in
-    let by_is : by ≡ content_of d gathered = search rules in
-    let by_in : pos 0 <ℤ by = search rules in
-    let divides : unsigned_abs by ∣ unsigned_abs d = subst (λ g. unsigned_abs g ∣ unsigned_abs d) (sym by_is) (content-first d (map (λ r. r.coef) gathered)) in
-    let quotient_is : c.quotient.result ≡ int_div d by = search rules in
-    let positive : pos 0 <ℤ c.quotient.result = subst (λ z. pos 0 <ℤ z) (sym quotient_is) (quotient_positive d by d_in by_in divides) in
-    record { positive = search (rules, positive); denominator_in = search rules; coefficients_in = search rules }
 
 pub returns-clause-exact : goal.returns-clause-exact
 returns-clause-exact c =
     let passed = goal.at.returns-clause-exact c in
     let added = adds_up passed.In_ok-sums (begins passed.In_ok-denominator) (short passed.In_ok-check_limits) in
-    let entries = c.in_ok-sums.sums.entries in
     let gathered = c.in_ok-gathered.gathered in
-    let ends : rows_in entries ≡ Ok gathered = search rules in
-    let d = c.args.made.now.scale *ℤ c.in_ok-common.common in
-    let d_is : c.in_ok-denominator.denominator ≡ d = search rules in
-    let by = c.content-by.result in
-    let by_is : by ≡ content_of d gathered = search rules in
-    let quotient_is : c.quotient.result ≡ int_div d by = search rules in
-    let rows_are : c.in_ok-divide_rows.field-0 ≡ map (divided_row by) gathered = search rules in
-    let same_quotient : to_z w128 (of_z w128 c.quotient.result) ≡ c.quotient.result = search rules in
-    at_end (known_from c.args.expansions.now.entries) c.args.made.now c.as_slice-rows.result.now c.in_ok-common.common entries gathered added ends
-    ∙ ap (λ g. Ok (record { denominator = int_div d g; rows = map (divided_row g) gathered })) (sym by_is)
-    ∙ ap₂ (λ q l. Ok (record { denominator = q; rows = l })) (sym (same_quotient ∙ quotient_is)) (sym rows_are)
+    let ends : rows_in c.in_ok-sums.sums.entries ≡ Ok gathered = search rules in
+    let same : c.in_ok-primitive.field-0 ≡ primitive (c.args.made.now.scale *ℤ c.in_ok-common.common) gathered = search rules in
+    at_end (known_from c.args.expansions.now.entries) c.args.made.now c.as_slice-rows.result.now c.in_ok-common.common c.in_ok-sums.sums.entries gathered added ends
+    ∙ ap Ok (sym same)
+
+pub common_denominator-requires : goal.common_denominator-requires
+common_denominator-requires c = search rules
+
+pub returns-in_err-common-clause-ranged : goal.returns-in_err-common-clause-ranged
+returns-in_err-common-clause-ranged c = search rules
+
+pub times-requires-clause-left_in : goal.times-requires-clause-left_in
+times-requires-clause-left_in c = search rules
+
+pub times-requires-clause-right_in : goal.times-requires-clause-right_in
+times-requires-clause-right_in c = search rules
+
+pub returns-in_err-denominator-clause-ranged : goal.returns-in_err-denominator-clause-ranged
+returns-in_err-denominator-clause-ranged c = search rules
+
+pub check_limits-requires : goal.check_limits-requires
+check_limits-requires c = search rules
+
+pub returns-in_err-check_limits-clause-ranged : goal.returns-in_err-check_limits-clause-ranged
+returns-in_err-check_limits-clause-ranged c = search rules
+
+pub add_rows-requires-clause-ranged : goal.add_rows-requires-clause-ranged
+add_rows-requires-clause-ranged c = search rules
+
+pub add_rows-requires-clause-common_in : goal.add_rows-requires-clause-common_in
+add_rows-requires-clause-common_in c = search rules
+
+pub add_rows-requires-clause-coefficients_in : goal.add_rows-requires-clause-coefficients_in
+add_rows-requires-clause-coefficients_in c = search rules
+
+pub returns-in_err-sums-clause-ranged : goal.returns-in_err-sums-clause-ranged
+returns-in_err-sums-clause-ranged c = search rules
+
+pub nonzero_rows-requires : goal.nonzero_rows-requires
+nonzero_rows-requires c = search rules
+
+pub returns-in_err-gathered-clause-ranged : goal.returns-in_err-gathered-clause-ranged
+returns-in_err-gathered-clause-ranged c = search rules
+
+pub primitive-requires-clause-denominator_in : goal.primitive-requires-clause-denominator_in
+primitive-requires-clause-denominator_in c = search rules
+
+pub primitive-requires-clause-coefficients_in : goal.primitive-requires-clause-coefficients_in
+primitive-requires-clause-coefficients_in c = search rules
+
+pub returns-in_err-primitive-clause-ranged : goal.returns-in_err-primitive-clause-ranged
+returns-in_err-primitive-clause-ranged c = search rules
+
+pub returns-in_err-primitive-clause-exact : goal.returns-in_err-primitive-clause-exact
+returns-in_err-primitive-clause-exact c = search rules
+
+pub returns-clause-ranged : goal.returns-clause-ranged
+returns-clause-ranged c = search rules
