@@ -1,22 +1,7 @@
 //! Proves and refutes identities of operators: the program.
 #![tactic(auto)]
 
-mod answer;
-mod call;
-mod check;
-mod confirm;
-mod decide;
-mod ending;
-mod fault;
-mod files;
-mod judge;
-mod laws;
-mod refusal;
-mod refute;
-mod run;
-mod statement;
-mod stop;
-
+use command_runs::run;
 use flow_io::{RealShelf, RealSink};
 use in_order_parallel::OpenGate;
 use matrix_models::Matrices;
@@ -44,26 +29,7 @@ fn main(rt: HostRuntime) -> ExitCode {
     let mut shelf = RealShelf::new(rt);
     let mut sink = RealSink::new(rt);
     let category = Matrices { modulus: 2 };
-    ExitCode::from(run::run(
+    ExitCode::from(run(
         &rt, alloc, &category, &words, &mut shelf, &mut sink, &OpenGate,
     ))
 }
-
-#[cfg(test)]
-mod call_tests;
-#[cfg(test)]
-mod decided_rows;
-#[cfg(test)]
-mod gallery_rows;
-#[cfg(test)]
-mod gate_tests;
-#[cfg(test)]
-mod lemma_rows;
-#[cfg(test)]
-mod model_rows;
-#[cfg(test)]
-mod round_tests;
-#[cfg(test)]
-mod test_rows;
-#[cfg(test)]
-mod tests;

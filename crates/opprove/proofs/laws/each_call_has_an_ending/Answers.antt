@@ -1,5 +1,0 @@
-use Rattle.opprove.proofs.EachCall as lemma
-use Rattle.opprove.proofs.laws.each_call_has_an_ending.Goals as goal
-
-pub returns : goal.returns
-returns c = lemma.each_call_has_an_ending

@@ -1,0 +1,127 @@
+//! What no clause says of the runs that decide and refute claims: that rounds and candidates are on threads, and that all claims
+//! share one run.
+use crate::decided_rows::{POWER, POWER_TWICE, TWO_CANDIDATES};
+use category_laws::Parity;
+use command_runs::run;
+use flow_io::{MemoryShelf, MemorySink};
+use in_order_parallel::Gate;
+use lists::{Listing, Text};
+use std::alloc::{AllocError, Global};
+use std::sync::atomic::{AtomicU64, Ordering};
+use std::test::Fail;
+use std::thread::Threads;
+
+const WORDS: &[&str] = &[
+    "prove",
+    "s",
+    "--pairs",
+    "33",
+    "--workers",
+    "2",
+    "--no-models",
+];
+
+// How many reductions passed.
+#[derive(Drop)]
+struct Counting {
+    passed: AtomicU64,
+}
+
+impl Gate for Counting {
+    fn pass(&self, _item: usize) {
+        self.passed.fetch_add(1, Ordering::SeqCst);
+    }
+}
+
+// Each item sets its flag, and then waits for another item's.
+#[derive(Drop)]
+struct Meeting {
+    flags: Vec<AtomicU64>,
+    met: AtomicU64,
+}
+
+impl Meeting {
+    fn sees_another(&self, item: usize) -> bool {
+        self.flags.iter().enumerate().any(|(place, flag)| place != item
+            && flag.load(Ordering::SeqCst) == 1)
+    }
+}
+
+impl Gate for Meeting {
+    fn pass(&self, item: usize) {
+        if let Some(flag) = self.flags.get(item) {
+            flag.store(1, Ordering::SeqCst);
+        }
+        for _ in 0..50_000_000u32 {
+            if self.sees_another(item) {
+                self.met.fetch_add(1, Ordering::SeqCst);
+                return;
+            }
+        }
+    }
+}
+
+fn shelf_of(alloc: Global, statement: &[u8]) -> Result<MemoryShelf, AllocError> {
+    let mut files = Listing::new(alloc);
+    let name = Text::from_str(alloc, "s")?;
+    files.push((name, Listing::from_vec(statement.to_vec(alloc)?)))?;
+    MemoryShelf::new(alloc, files, Listing::new(alloc))
+}
+
+// The status of a run over the statement.
+fn status<R: Threads + Sync, G: Gate + Sync>(
+    rt: &R,
+    alloc: Global,
+    call: &[&str],
+    statement: &[u8],
+    gate: &G,
+) -> Result<u8, AllocError> {
+    let mut words = Vec::new(alloc);
+    for word in call {
+        words.push(String::from_str(alloc, word)?)?;
+    }
+    let mut shelf = shelf_of(alloc, statement)?;
+    let mut sink = MemorySink::new(alloc, 8, 1000, Listing::new(alloc))?;
+    Ok(run(rt, alloc, &Parity, &words, &mut shelf, &mut sink, gate))
+}
+
+#[test]
+fn claims_share_one_run(rt: HostRuntime) -> Result<(), Fail> {
+    for statement in [POWER, POWER_TWICE] {
+        let gate = Counting {
+            passed: AtomicU64::new(0),
+        };
+        assert_eq!(rt; status(&rt, rt.alloc(), WORDS, statement, &gate)?, 10);
+        assert_eq!(rt; gate.passed.load(Ordering::SeqCst), 33);
+    }
+    Ok(())
+}
+
+// So many flags, none of which is set.
+fn meeting_of(alloc: Global, items: u32) -> Result<Meeting, AllocError> {
+    let mut flags = Vec::new(alloc);
+    for _ in 0..items {
+        flags.push(AtomicU64::new(0))?;
+    }
+    Ok(Meeting {
+        flags,
+        met: AtomicU64::new(0),
+    })
+}
+
+#[test]
+fn reductions_of_a_round_meet(rt: HostRuntime) -> Result<(), Fail> {
+    let gate = meeting_of(rt.alloc(), 32)?;
+    assert_eq!(rt; status(&rt, rt.alloc(), WORDS, POWER, &gate)?, 10);
+    assert_eq!(rt; gate.met.load(Ordering::SeqCst), 33);
+    Ok(())
+}
+
+#[test]
+fn candidates_of_a_block_meet(rt: HostRuntime) -> Result<(), Fail> {
+    let gate = meeting_of(rt.alloc(), 2)?;
+    let words = &["refute", "s", "--workers", "2"];
+    assert_eq!(rt; status(&rt, rt.alloc(), words, TWO_CANDIDATES, &gate)?, 13);
+    assert_eq!(rt; gate.met.load(Ordering::SeqCst), 2);
+    Ok(())
+}

@@ -1,0 +1,21 @@
+//! Tests of whole runs, over files and a sink in memory: rows of words and files with the status and the report.
+#![tactic(auto)]
+
+#[cfg(test)]
+mod call_tests;
+#[cfg(test)]
+mod decided_rows;
+#[cfg(test)]
+mod gallery_rows;
+#[cfg(test)]
+mod gate_tests;
+#[cfg(test)]
+mod lemma_rows;
+#[cfg(test)]
+mod model_rows;
+#[cfg(test)]
+mod round_tests;
+#[cfg(test)]
+mod test_rows;
+#[cfg(test)]
+mod tests;

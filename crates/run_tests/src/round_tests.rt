@@ -1,0 +1,312 @@
+//! Rounds of completions, told call by call, and the rules that they make: worked out by hand.
+ghost use Rattle.std.specs.Prelude.{◌<◌, ◌≤◌, IfOk};
+ghost use Rattle.traced_completion.specs.Completions.{IsBudget, IsCompletionOf};
+
+use adjoint_rules::Problem;
+use cofactor_trace::{Cause, Halt, Made, Place};
+use in_order_parallel::OpenGate;
+use nc_polynomial::Poly;
+use quiver::Quiver;
+use signature_typing::elaborate;
+use statement_syntax::read_tree;
+use std::alloc::{AllocError, Global};
+use std::test::Fail;
+use std::thread::Threads;
+use traced_completion::{Budget, Completion, Step};
+use word_core::{Letter, Word};
+
+// A statement, the pairs and steps that may be spent, how many rounds are asked for, and the story: a line for each of
+// them, with the number of rules, that of pending ambiguities and the first of these with its word, and then each rule.
+// An identity is written as its object.
+type Row = (&'static [u8], (u32, u32), u32, &'static str);
+
+const ROWS: &[Row] = &[
+    // (b a b - a b a) a b less b a (b a b - a b a) is b a a b a - a b a a b. Then b is the only end of b a b that begins
+    // b a a b a, which ends with b a, as b a b and it itself begin.
+    (
+        b"object V\nmap a b : V -> V\nassume b a b = a b a\nclaim a = b\n",
+        (1, 100),
+        4,
+        "went rules 1 pending 1 first 1 1 Overlap 2 b a b a b\nwent rules 2 pending 3 first 2 1 Overlap 3 b a a b a b\nstopped pairs 1 least b a a b a b rules 2 pending 3 first 2 1 Overlap 3 b a a b a b\nstopped pairs 1 least b a a b a b rules 2 pending 3 first 2 1 Overlap 3 b a a b a b\nrule 1 b a b, -1 a b a, scale 1\nrule 1 b a a b a, -1 a b a a b, scale 1\n",
+    ),
+    // The word overlaps itself at the places 1 to 33. A round takes 32 of these, and the last one's word has 67 letters.
+    (
+        b"object U\nmap a : U -> U\nassume a a a a a a a a a a a a a a a a a a a a a a a a a a a a a a a a a a = 0\nclaim a = 0\n",
+        (33, 100),
+        5,
+        "went rules 1 pending 33 first 1 1 Overlap 1 a a a a a a a a a a a a a a a a a a a a a a a a a a a a a a a a a a a\nwent rules 1 pending 1 first 1 1 Overlap 33 a a a a a a a a a a a a a a a a a a a a a a a a a a a a a a a a a a a a a a a a a a a a a a a a a a a a a a a a a a a a a a a a a a a\nwent rules 1 pending 0\nclosed rules 1 pending 0\nclosed rules 1 pending 0\nrule 1 a a a a a a a a a a a a a a a a a a a a a a a a a a a a a a a a a a, scale 1\n",
+    ),
+    (
+        b"object U\nmap a : U -> U\nclaim a = a\n",
+        (1, 1),
+        3,
+        "went rules 0 pending 0\nclosed rules 0 pending 0\nclosed rules 0 pending 0\n",
+    ),
+    (
+        b"object U\nmap x : U -> U\nassume 2 x = 0\nclaim x = 0\n",
+        (1, 1),
+        2,
+        "went rules 1 pending 0\nclosed rules 1 pending 0\nrule 1 x, scale 2\n",
+    ),
+    // The relations of U and those of V come first, though they are numbered behind the assumptions. Of the 20 words of
+    // three letters, l a r alone gives a rule, r - l. It is in U r, r V and a r, of which the last one gives a l - V, and
+    // that overlaps V a, l a, l V and l a.
+    (
+        b"object U V\nmap l : V -> U\nmap a : U -> V\nmap r : V -> U\nassume l a = [U]\nassume a r = [V]\nclaim l = r\n",
+        (27, 100),
+        6,
+        "went rules 10 pending 20 first 1 1 Overlap 1 U U U\nwent rules 11 pending 3 first 4 11 Inclusion 1 U r\nwent rules 12 pending 4 first 7 12 Overlap 1 V a l\nwent rules 12 pending 0\nclosed rules 12 pending 0\nclosed rules 12 pending 0\nrule 1 U U, -1 U, scale 1\nrule 1 U l, -1 l, scale 1\nrule 1 a U, -1 a, scale 1\nrule 1 U r, -1 r, scale 1\nrule 1 V V, -1 V, scale 1\nrule 1 l V, -1 l, scale 1\nrule 1 V a, -1 a, scale 1\nrule 1 r V, -1 r, scale 1\nrule 1 l a, -1 U, scale 1\nrule 1 a r, -1 V, scale 1\nrule 1 r, -1 l, scale 1\nrule 1 a l, -1 V, scale 1\n",
+    ),
+    // The S-polynomial of a b a is 5 times the first rule less the large number times the second one, and the number by which
+    // a rule is multiplied stands on the left.
+    (
+        b"object V\nmap a b : V -> V\nassume 170141183460469231731687303715884105727 a b = b\nassume 5 b a = a\nclaim a = b\n",
+        (9, 9),
+        3,
+        "went rules 2 pending 2 first 1 2 Overlap 1 a b a\nstopped overflow 5 times 170141183460469231731687303715884105727 at round 1 least a b a rules 2 pending 2 first 1 2 Overlap 1 a b a\nstopped overflow 5 times 170141183460469231731687303715884105727 at round 1 least a b a rules 2 pending 2 first 1 2 Overlap 1 a b a\nrule 170141183460469231731687303715884105727 a b, -1 b, scale 1\nrule 5 b a, -1 a, scale 1\n",
+    ),
+    // The S-polynomial of c b d is a d times the negative of the large number, and its first reduction doubles it.
+    (
+        b"object V\nmap a b c d : V -> V\nassume c b = 170141183460469231731687303715884105727 a\nassume 2 a d = a\nassume b d = 0\nclaim a = b\n",
+        (9, 9),
+        3,
+        "went rules 3 pending 1 first 1 3 Overlap 1 c b d\nstopped overflow -170141183460469231731687303715884105727 times 2 at round 1 least c b d rules 3 pending 1 first 1 3 Overlap 1 c b d\nstopped overflow -170141183460469231731687303715884105727 times 2 at round 1 least c b d rules 3 pending 1 first 1 3 Overlap 1 c b d\nrule 1 c b, -170141183460469231731687303715884105727 a, scale 1\nrule 2 a d, -1 a, scale 1\nrule 1 b d, scale 1\n",
+    ),
+    // c b d gives the rule 2 e d - c a, by which the second reduction of f b d doubles f a and then e d times the negative
+    // of the large number. The rule is taken back.
+    (
+        b"object V\nmap a b c d e f : V -> V\nassume c b = 2 e\nassume b d = a\nassume f b = 170141183460469231731687303715884105727 e\nclaim a = b\n",
+        (9, 9),
+        3,
+        "went rules 3 pending 2 first 1 2 Overlap 1 c b d\nstopped overflow -170141183460469231731687303715884105727 times 2 at round 1 least c b d rules 3 pending 2 first 1 2 Overlap 1 c b d\nstopped overflow -170141183460469231731687303715884105727 times 2 at round 1 least c b d rules 3 pending 2 first 1 2 Overlap 1 c b d\nrule 1 c b, -2 e, scale 1\nrule 1 b d, -1 a, scale 1\nrule 1 f b, -170141183460469231731687303715884105727 e, scale 1\n",
+    ),
+    // c b d gives c a, which is tripled and leaves d. The record of d has the first rule the large number times, tripled.
+    (
+        b"object V\nmap a b c d : V -> V\nassume c b = 0\nassume 170141183460469231731687303715884105727 b d = a\nassume 3 c a = d\nclaim a = b\n",
+        (9, 9),
+        3,
+        "went rules 3 pending 1 first 1 2 Overlap 1 c b d\nstopped overflow 170141183460469231731687303715884105727 times 3 at round 1 least c b d rules 3 pending 1 first 1 2 Overlap 1 c b d\nstopped overflow 170141183460469231731687303715884105727 times 3 at round 1 least c b d rules 3 pending 1 first 1 2 Overlap 1 c b d\nrule 1 c b, scale 1\nrule 170141183460469231731687303715884105727 b d, -1 a, scale 1\nrule 3 c a, -1 d, scale 1\n",
+    ),
+    // A generator is multiplied by 2 before the rule 2 b - a is taken away, which is taken back.
+    (
+        b"object V\nmap a b : V -> V\nassume 2 b = a\nassume 170141183460469231731687303715884105727 b b = a\nclaim a = b\n",
+        (9, 9),
+        2,
+        "stopped overflow 170141183460469231731687303715884105727 times 2 at round 0 rules 0 pending 0\nstopped overflow 170141183460469231731687303715884105727 times 2 at round 0 rules 0 pending 0\n",
+    ),
+    // After one step by the rule a one of the words a b and b a is left.
+    (
+        b"object V\nmap a b : V -> V\nassume a = 0\nassume a b = b a\nclaim a = b\n",
+        (9, 1),
+        2,
+        "stopped steps 1 at round 0 rules 0 pending 0\nstopped steps 1 at round 0 rules 0 pending 0\n",
+    ),
+    // c d e gives c and y 8 times. Each y is 64 letters b, and so there are 513 letters after the eighth step. Terms stand by
+    // their numbers of letters, and so a leading term that is heavy may stand last.
+    (
+        b"object V\nmap b c d e x y : V -> V\norder weight d 1000 x 9 y 65\nassume c d = 0\nassume d e = y y y y y y y y\nassume x = b b b b b b b b\nassume y = x x x x x x x x\nclaim b = c\n",
+        (9, 9),
+        3,
+        "went rules 4 pending 1 first 1 2 Overlap 1 c d e\nstopped size letters true at round 1 least c d e rules 4 pending 1 first 1 2 Overlap 1 c d e\nstopped size letters true at round 1 least c d e rules 4 pending 1 first 1 2 Overlap 1 c d e\nrule 1 c d, scale 1\nrule -1 y y y y y y y y, 1 d e, scale 1\nrule -1 b b b b b b b b, 1 x, scale 1\nrule -1 b b b b b b b b b b b b b b b b b b b b b b b b b b b b b b b b b b b b b b b b b b b b b b b b b b b b b b b b b b b b b b b b, 1 y, scale 1\n",
+    ),
+];
+
+fn name_of(quiver: &Quiver, letter: Letter) -> &str {
+    if u32::from(letter.0) < quiver.letters() {
+        quiver.letter_name(letter)
+    } else {
+        "?"
+    }
+}
+
+// A blank and a name for each letter.
+fn word_text(alloc: Global, quiver: &Quiver, word: &Word) -> Result<String, Fail> {
+    let mut text = String::new(alloc);
+    for place in 0..word.len() {
+        text.push_str(" ")?;
+        text.push_str(name_of(quiver, word.letter(place)))?;
+    }
+    Ok(text)
+}
+
+fn rule_text(alloc: Global, quiver: &Quiver, poly: &Poly, made: &Made) -> Result<String, Fail> {
+    let mut text = String::from_str(alloc, "rule")?;
+    for (coefficient, word) in poly.terms.as_slice() {
+        let word = word_text(alloc, quiver, word)?;
+        text = format!(in alloc; "{text} {coefficient}{word},")?;
+    }
+    Ok(format!(in alloc; "{text} scale {}", made.scale)?)
+}
+
+fn cause_text(alloc: Global, cause: Cause) -> Result<String, AllocError> {
+    match cause {
+        Cause::Pairs { spent } => format!(in alloc; "pairs {spent}"),
+        Cause::Steps { limit } => format!(in alloc; "steps {limit}"),
+        Cause::Size { letters } => format!(in alloc; "size letters {letters}"),
+        Cause::Rows { letters } => format!(in alloc; "rows letters {letters}"),
+        Cause::Overflow(fault) => {
+            let sign = if fault.product { "times" } else { "plus" };
+            format!(in alloc; "overflow {} {sign} {}", fault.left, fault.right)
+        }
+    }
+}
+
+fn halt_text(alloc: Global, quiver: &Quiver, halt: &Halt) -> Result<String, Fail> {
+    let mut text = cause_text(alloc, halt.cause)?;
+    if let Place::Round(number) = halt.place {
+        text = format!(in alloc; "{text} at round {number}")?;
+    }
+    if let Some(word) = &halt.least {
+        let word = word_text(alloc, quiver, word)?;
+        text = format!(in alloc; "{text} least{word}")?;
+    }
+    Ok(text)
+}
+
+fn step_text(alloc: Global, quiver: &Quiver, step: &Step) -> Result<String, Fail> {
+    match step {
+        Step::Went => Ok(String::from_str(alloc, "went")?),
+        Step::Closed => Ok(String::from_str(alloc, "closed")?),
+        Step::Stopped(halt) => {
+            let halt = halt_text(alloc, quiver, halt)?;
+            Ok(format!(in alloc; "stopped {halt}")?)
+        }
+    }
+}
+
+// The numbers of rules and of pending ambiguities, and the first of these with its word.
+fn state_text(alloc: Global, quiver: &Quiver, completion: &Completion) -> Result<String, Fail> {
+    let rules = completion.rules().len();
+    let pending = completion.pending();
+    let text = format!(in alloc; "rules {rules} pending {pending}")?;
+    if pending == 0 {
+        return Ok(text);
+    }
+    let (which, word) = completion.pending_at(0);
+    let word = word_text(alloc, quiver, word)?;
+    Ok(format!(in alloc;
+        "{text} first {} {} {:?} {}{word}",
+        which.i, which.j, which.kind, which.place
+    )?)
+}
+
+// So many calls of `round`: a line on each.
+fn rounds_text<R: Threads + Sync>(
+    rt: &R,
+    alloc: Global,
+    problem: &Problem,
+    completion: &mut Completion,
+    workers: u32,
+    calls: u32,
+) -> Result<String, Fail>
+    requires started { IsCompletionOf problem.now completion.old }
+    requires some_worker { 0 < workers }
+    requires at_most_64 { workers ≤ 64 }
+{
+    let quiver = &problem.parts.quiver;
+    let mut text = String::new(alloc);
+    for _ in 0..calls {
+        let step = completion.round(rt, alloc, problem, workers, &OpenGate)?;
+        let step = step_text(alloc, quiver, &step)?;
+        let state = state_text(alloc, quiver, completion)?;
+        text = format!(in alloc; "{text}{step} {state}\n")?;
+    }
+    Ok(text)
+}
+
+// A line on each rule.
+fn rules_text(alloc: Global, quiver: &Quiver, completion: &Completion) -> Result<String, Fail> {
+    let mut text = String::new(alloc);
+    let rules = completion.rules().rules.as_slice();
+    for (rule, made) in rules.iter().zip(completion.made()) {
+        let rule = rule_text(alloc, quiver, &rule.poly, made)?;
+        text = format!(in alloc; "{text}{rule}\n")?;
+    }
+    Ok(text)
+}
+
+// The story of so many calls of `round`, and of the rules after them.
+fn story_from<R: Threads + Sync>(
+    rt: &R,
+    alloc: Global,
+    problem: &Problem,
+    completion: &mut Completion,
+    workers: u32,
+    calls: u32,
+) -> Result<String, Fail>
+    requires started { IsCompletionOf problem.now completion.old }
+    requires some_worker { 0 < workers }
+    requires at_most_64 { workers ≤ 64 }
+{
+    let rounds = rounds_text(rt, alloc, problem, completion, workers, calls)?;
+    let rules = rules_text(alloc, &problem.parts.quiver, completion)?;
+    Ok(format!(in alloc; "{rounds}{rules}")?)
+}
+
+// The story of a completion from its start.
+fn story<R: Threads + Sync>(
+    rt: &R,
+    alloc: Global,
+    problem: &Problem,
+    budget: Budget,
+    workers: u32,
+    calls: u32,
+) -> Result<String, Fail>
+    requires budget { IsBudget budget }
+    requires some_worker { 0 < workers }
+    requires at_most_64 { workers ≤ 64 }
+{
+    let mut completion = Completion::start(alloc, problem, budget)?;
+    story_from(rt, alloc, problem, &mut completion, workers, calls)
+}
+
+// The problem of a statement.
+fn problem_of(alloc: Global, statement: &[u8]) -> Result<Problem, Fail> {
+    if statement.len() > 1000 {
+        return Err(Fail::new("the statement is too long for a test"));
+    }
+    let tree = read_tree(alloc, statement)?;
+    Ok(elaborate(alloc, &tree)?)
+}
+
+// A budget, which must be one.
+fn budget_of(pairs: u32, steps: u32) -> Result<Budget, Fail>
+    ensures { IfOk result IsBudget }
+{
+    let is_budget = 1 <= pairs && pairs <= 1_000_000 && 1 <= steps && steps <= 1_000_000;
+    if is_budget {
+        Ok(Budget { pairs, steps })
+    } else {
+        Err(Fail::new("this is no budget"))
+    }
+}
+
+// The story of a statement's problem.
+fn told<R: Threads + Sync>(
+    rt: &R,
+    alloc: Global,
+    statement: &[u8],
+    budget: Budget,
+    workers: u32,
+    calls: u32,
+) -> Result<String, Fail>
+    requires budget { IsBudget budget }
+    requires some_worker { 0 < workers }
+    requires at_most_64 { workers ≤ 64 }
+{
+    let problem = problem_of(alloc, statement)?;
+    story(rt, alloc, &problem, budget, workers, calls)
+}
+
+#[test]
+fn rounds_go_as_worked_out(rt: HostRuntime) -> Result<(), Fail> {
+    let alloc = rt.alloc();
+    for (statement, (pairs, steps), calls, want) in ROWS {
+        let budget = budget_of(*pairs, *steps)?;
+        for workers in 1..3 {
+            let got = told(&rt, alloc, statement, budget, workers, *calls)?;
+            assert_eq!(rt; got.as_str(), *want, "{statement:?}");
+        }
+    }
+    Ok(())
+}
