@@ -3,6 +3,7 @@ use crate::texts::{all_over, is_over, poly, poly_text, quiver_of, same, word};
 use adjoint_rules::{adjoint_poly, adjoint_word, generators_are_unique};
 use quiver::Quiver;
 use std::alloc::Global;
+use std::process::Abort;
 use std::test::Fail;
 use word_core::Word;
 
@@ -34,9 +35,13 @@ fn adjoint_text(alloc: Global, quiver: &Quiver, terms: &[(i128, &[u16])]) -> Res
 fn an_adjoint_reverses_words(rt: HostRuntime) -> Result<(), Fail> {
     generators_are_unique();
     let quiver = small(rt.alloc())?;
+    tell_adjoints(&rt, rt.alloc(), &quiver)
+}
+
+fn tell_adjoints(rt: &impl Abort, alloc: Global, quiver: &Quiver) -> Result<(), Fail> {
     for (terms, want) in ADJOINTS {
-        let got = adjoint_text(rt.alloc(), &quiver, terms)?;
-        same(&rt, got.as_str(), want, want);
+        let got = adjoint_text(alloc, quiver, terms)?;
+        same(rt, got.as_str(), want, want);
     }
     Ok(())
 }
@@ -53,7 +58,12 @@ fn adjoint_of(alloc: Global, quiver: &Quiver, letters: &[u16]) -> Result<Word, F
 #[test]
 fn an_adjoint_of_a_word_is_a_word(rt: HostRuntime) -> Result<(), Fail> {
     let quiver = small(rt.alloc())?;
-    let adjoint = adjoint_of(rt.alloc(), &quiver, &[1, 2, 2])?;
-    assert!(rt; adjoint == word(rt.alloc(), &[1, 1, 2])?);
+    compare_words(&rt, rt.alloc(), &quiver)
+}
+
+fn compare_words(rt: &impl Abort, alloc: Global, quiver: &Quiver) -> Result<(), Fail> {
+    let adjoint = adjoint_of(alloc, quiver, &[1, 2, 2])?;
+    let want = word(alloc, &[1, 1, 2])?;
+    assert!(rt; adjoint == want);
     Ok(())
 }

@@ -1,4 +1,6 @@
 //! Arithmetic of polynomials and of lists of terms, with the first fault.
+ghost use Rattle.coef_int.specs.Range.{IsCoefficient};
+
 use crate::notation::{number, poly, terms, word, written_fault, written_poly, written_terms};
 use crate::texts::{all_over, same};
 use lists::{Duplicate, Listing};
@@ -7,11 +9,12 @@ use nc_polynomial::{
     scale_terms, shift_terms,
 };
 use std::alloc::{AllocError, Global};
+use std::process::Abort;
 use std::test::Fail;
 use word_core::{Letter, Word};
 
 // A sum of terms in any order, and the polynomial that it is.
-const COLLECTED: [(&str, &str); 6] = [
+const COLLECTED: &[(&str, &str)] = &[
     ("2 b + 5 + 3 cb + 4 h + -2 b", "3 cb + 4 h + 5"),
     ("0", "0"),
     ("1 a^501 + -1 a^501", "0"),
@@ -28,11 +31,18 @@ fn told(alloc: Global, answer: &Result<Poly, PolyFault>) -> Result<String, Alloc
     }
 }
 
+// What is told of the sum of terms.
+fn told_of_terms(alloc: Global, text: &str) -> Result<String, Fail> {
+    let list = terms(alloc, text)?;
+    let sum = Poly::from_terms(alloc, &list);
+    Ok(told(alloc, &sum)?)
+}
+
 #[test]
 fn terms_are_collected_in_descending_order(rt: HostRuntime) -> Result<(), Fail> {
-    for (text, want) in &COLLECTED {
-        let sum = Poly::from_terms(rt.alloc(), &terms(rt.alloc(), text)?);
-        assert_eq!(rt; told(rt.alloc(), &sum)?.as_str(), *want, "{text}");
+    for (text, want) in COLLECTED {
+        let got = told_of_terms(rt.alloc(), text)?;
+        same(&rt, got.as_str(), want, text);
     }
     canonical_is_unique();
     Ok(())
@@ -56,7 +66,7 @@ enum Call {
 // A name, a call, its operands, of which some calls take the first alone, and what comes of it.
 type Row = (&'static str, Call, &'static str, &'static str, &'static str);
 
-const ROWS: [Row; 31] = [
+const ROWS: &[Row] = &[
     ("a copy", Call::Copy, "2 ab + 3 a", "0", "2 ab + 3 a"),
     ("its own", Call::Duplicate, "2 ab + 3 a", "0", "2 ab + 3 a"),
     ("p + q", Call::Add, "2 ab + 3 a", "-2 ab + 1 b", "1 b + 3 a"),
@@ -242,6 +252,18 @@ fn adjoint(poly: &Poly) -> Result<Poly, Fail> {
     Ok(poly.adjoint_by(&stars)?)
 }
 
+// Between two words.
+fn between(
+    alloc: Global,
+    poly: &Poly,
+    left: &str,
+    right: &str,
+) -> Result<Result<Poly, PolyFault>, Fail> {
+    let left = word(alloc, left)?;
+    let right = word(alloc, right)?;
+    Ok(poly.left_right(&left, &right))
+}
+
 fn answer(alloc: Global, call: Call, p: &Poly, q: &Poly) -> Result<Result<Poly, PolyFault>, Fail> {
     Ok(match call {
         Call::Copy => Ok(p.copy()?),
@@ -251,7 +273,7 @@ fn answer(alloc: Global, call: Call, p: &Poly, q: &Poly) -> Result<Result<Poly, 
         Call::Scale(by) => p.scale(number(by)?),
         Call::Combine(a, b) => Poly::combine(number(a)?, p, number(b)?, q),
         Call::Product => p.product(q),
-        Call::Between(left, right) => p.left_right(&word(alloc, left)?, &word(alloc, right)?),
+        Call::Between(left, right) => between(alloc, p, left, right)?,
         Call::Divide => Ok(primitive(p)?),
         Call::Adjoint => Ok(adjoint(p)?),
     })
@@ -268,7 +290,7 @@ fn told_of(alloc: Global, row: &Row) -> Result<String, Fail> {
 
 #[test]
 fn arithmetic_is_exact_or_tells_its_first_fault(rt: HostRuntime) -> Result<(), Fail> {
-    for row in &ROWS {
+    for row in ROWS {
         let got = told_of(rt.alloc(), row)?;
         same(&rt, got.as_str(), row.4, row.0);
     }
@@ -276,29 +298,45 @@ fn arithmetic_is_exact_or_tells_its_first_fault(rt: HostRuntime) -> Result<(), F
 }
 
 // Polynomials with their contents.
-const CONTENTS: [(&str, i128); 3] = [("-6 ab + 4 a + 10", 2), ("-3 ab + 2 a + 5", 1), ("0", 0)];
+const CONTENTS: &[(&str, i128)] = &[("-6 ab + 4 a + 10", 2), ("-3 ab + 2 a + 5", 1), ("0", 0)];
+
+fn content_of(alloc: Global, text: &str) -> Result<i128, Fail> {
+    let poly = poly(alloc, text)?;
+    Ok(poly.content())
+}
 
 #[test]
 fn contents_have_no_sign(rt: HostRuntime) -> Result<(), Fail> {
-    for (text, want) in &CONTENTS {
-        assert_eq!(rt; poly(rt.alloc(), text)?.content(), *want, "{text}");
+    for (text, want) in CONTENTS {
+        assert_eq!(rt; content_of(rt.alloc(), text)?, *want, "{text}");
     }
     Ok(())
 }
 
 // Two polynomials, and whether they are the same.
-const SAME: [(&str, &str, bool); 3] = [
+const SAME: &[(&str, &str, bool)] = &[
     ("3 cb + 4 h + 5", "5 + 4 h + 3 cb", true),
     ("3 cb + 4 h + 5", "0", false),
     ("3 cb + 4 h + 5", "3 bc + 4 h + 5", false),
 ];
 
+fn are_same(alloc: Global, left: &str, right: &str) -> Result<bool, Fail> {
+    let left = poly(alloc, left)?;
+    let right = poly(alloc, right)?;
+    Ok(left.same(&right))
+}
+
+fn is_zero(alloc: Global, text: &str) -> Result<bool, Fail> {
+    let poly = poly(alloc, text)?;
+    Ok(poly.same(&Poly::zero(alloc)))
+}
+
 #[test]
 fn coefficients_are_compared_word_by_word(rt: HostRuntime) -> Result<(), Fail> {
     let alloc = rt.alloc();
-    assert!(rt; poly(alloc, "0")?.same(&Poly::zero(alloc)));
-    for (left, right, want) in &SAME {
-        let got = poly(alloc, left)?.same(&poly(alloc, right)?);
+    assert!(rt; is_zero(alloc, "0")?);
+    for (left, right, want) in SAME {
+        let got = are_same(alloc, left, right)?;
         assert_eq!(rt; got, *want, "{left} and {right}");
     }
     Ok(())
@@ -316,7 +354,7 @@ enum ListCall {
 }
 
 // The terms of a polynomial, a call, and what comes of it.
-const LISTS: [(&str, ListCall, &str); 10] = [
+const LISTS: &[(&str, ListCall, &str)] = &[
     ("2 ab + 3 a", ListCall::Scale("-4"), "-8 ab + -12 a"),
     ("M ab + 3 a", ListCall::Scale("2"), "2 times M"),
     ("2 ab + 3 a", ListCall::Multiply("-4"), "-8 ab + -12 a"),
@@ -335,32 +373,54 @@ const LISTS: [(&str, ListCall, &str); 10] = [
 
 type Terms = Listing<(i128, Word)>;
 
+fn shifted(
+    alloc: Global,
+    by: i128,
+    left: &str,
+    poly: &Poly,
+    right: &str,
+) -> Result<Result<Terms, PolyFault>, Fail>
+    requires { IsCoefficient by }
+{
+    let left = word(alloc, left)?;
+    let right = word(alloc, right)?;
+    Ok(shift_terms(alloc, by, &left, poly.terms.as_slice(), &right))
+}
+
 fn listed(alloc: Global, call: ListCall, p: Poly) -> Result<Result<Terms, PolyFault>, Fail> {
     let terms = p.terms.as_slice();
     Ok(match call {
         ListCall::Scale(by) => scale_terms(alloc, number(by)?, terms),
         ListCall::Multiply(by) => multiply_terms(alloc, p.terms, number(by)?),
-        ListCall::Shift(by, left, right) => {
-            let (left, right) = (word(alloc, left)?, word(alloc, right)?);
-            shift_terms(alloc, number(by)?, &left, terms, &right)
-        }
+        ListCall::Shift(by, left, right) => shifted(alloc, number(by)?, left, &p, right)?,
         ListCall::Negate => Ok(negate_terms(alloc, p.terms)?),
         ListCall::Merge(q) => merge_terms(alloc, p.terms, poly(alloc, q)?.terms),
         ListCall::FromDescending => Ok(Poly::from_descending(p.terms)?.terms),
     })
 }
 
+fn terms_text(alloc: Global, terms: &Result<Terms, PolyFault>) -> Result<String, Fail> {
+    match terms {
+        Ok(terms) => {
+            check_size(terms.as_slice())?;
+            Ok(written_terms(alloc, terms.as_slice())?)
+        }
+        Err(fault) => Ok(written_fault(alloc, fault)?),
+    }
+}
+
+// What is told of a call of the terms of a polynomial.
+fn told_of_list(alloc: Global, text: &str, call: ListCall) -> Result<String, Fail> {
+    let poly = poly(alloc, text)?;
+    let terms = listed(alloc, call, poly)?;
+    terms_text(alloc, &terms)
+}
+
 #[test]
 fn lists_of_terms_are_made_as_polynomials_are(rt: HostRuntime) -> Result<(), Fail> {
     let alloc = rt.alloc();
-    for (text, call, want) in &LISTS {
-        let got = match listed(alloc, *call, poly(alloc, text)?)? {
-            Ok(terms) => {
-                check_size(terms.as_slice())?;
-                written_terms(alloc, terms.as_slice())?
-            }
-            Err(fault) => written_fault(alloc, &fault)?,
-        };
+    for (text, call, want) in LISTS {
+        let got = told_of_list(alloc, text, *call)?;
         assert_eq!(rt; got.as_str(), *want, "{text}: {call:?}");
     }
     Ok(())
@@ -380,11 +440,18 @@ fn letters_between(alloc: Global, first: u16, end: u16) -> Result<Poly, Fail> {
 #[test]
 fn sums_of_20001_terms_are_refused(rt: HostRuntime) -> Result<(), Fail> {
     let most = letters_between(rt.alloc(), 0, 20_000)?;
+    refuse_one_more(&rt, rt.alloc(), &most)
+}
+
+fn refuse_one_more(rt: &impl Abort, alloc: Global, most: &Poly) -> Result<(), Fail> {
     assert_eq!(rt; most.terms(), 20_000);
-    let sum = most.add(&letters_between(rt.alloc(), 20_000, 20_001)?);
-    assert_eq!(rt;
-        told(rt.alloc(), &sum)?.as_str(),
-        "there are more than 20,000 terms"
+    let more = letters_between(alloc, 20_000, 20_001)?;
+    let got = told(alloc, &most.add(&more))?;
+    same(
+        rt,
+        got.as_str(),
+        "there are more than 20,000 terms",
+        "20,001",
     );
     Ok(())
 }

@@ -1,6 +1,7 @@
 //! Parity, its opposite and pairs of categories.
 use category_laws::{Category, Involutive, Opposite, Pair, Parity};
 use std::alloc::{AllocError, Global};
+use std::process::Abort;
 use std::test::Fail;
 
 // Each call of a category, once: the composite of -(1 + 0) after 1, which is -1, and whether it is told from 0.
@@ -37,7 +38,11 @@ fn adjoint_of_one<C: Involutive>(
 
 #[test]
 fn each_category_is_called_through_its_bounds(rt: HostRuntime) -> Result<(), Fail> {
-    let alloc = rt.alloc();
+    negate_one(&rt, rt.alloc())?;
+    adjoin_one(&rt, rt.alloc())
+}
+
+fn negate_one(rt: &impl Abort, alloc: Global) -> Result<(), Fail> {
     let (in_parity, is_zero) = negative_of_one(&Parity, alloc, &())?;
     assert_eq!(rt; (in_parity, is_zero), (true, false));
     let (in_opposite, is_zero) = negative_of_one(&Opposite(Parity), alloc, &())?;
@@ -45,9 +50,13 @@ fn each_category_is_called_through_its_bounds(rt: HostRuntime) -> Result<(), Fai
     let pair = Pair(Parity, Parity);
     let (in_pair, is_zero) = negative_of_one(&pair, alloc, &((), ()))?;
     assert!(rt; in_pair.0 && in_pair.1 && !is_zero);
+    Ok(())
+}
+
+fn adjoin_one(rt: &impl Abort, alloc: Global) -> Result<(), Fail> {
     assert!(rt; adjoint_of_one(&Parity, alloc, &())?);
     assert!(rt; adjoint_of_one(&Opposite(Parity), alloc, &())?);
-    assert!(rt; adjoint_of_one(&pair, alloc, &((), ()))?);
+    assert!(rt; adjoint_of_one(&Pair(Parity, Parity), alloc, &((), ()))?);
     Ok(())
 }
 

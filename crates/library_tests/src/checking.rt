@@ -9,7 +9,9 @@ use certificate_text::read_certificates;
 use cofactor_checker::{Accepted, Refusal, check, check_over, refusal_is_unique};
 use cofactor_trace::{CertRow, Certificate, Origin};
 use lists::Listing;
+use nc_polynomial::Poly;
 use std::alloc::{AllocError, Global};
+use std::process::Abort;
 use std::test::Fail;
 
 // The row over a generator that is written.
@@ -53,29 +55,33 @@ fn certificate(alloc: Global, claim: u32, denominator: &str, sum: &str) -> Resul
 // What is told of the outcome.
 fn told(alloc: Global, outcome: &Result<Accepted, Refusal>) -> Result<String, AllocError> {
     let mut text = String::new(alloc);
+    write_outcome(&mut text, outcome)?;
+    Ok(text)
+}
+
+fn write_outcome(text: &mut String, outcome: &Result<Accepted, Refusal>) -> Result<(), AllocError> {
     match outcome {
         Ok(accepted) => {
             write!(text, "claim {} denominator ", accepted.claim)?;
-            write_number(&mut text, accepted.denominator)?;
+            write_number(text, accepted.denominator)
         }
         Err(Refusal::Overflow { row, overflow }) => {
             write!(text, "row {row}: ")?;
-            write_overflow(&mut text, overflow)?;
+            write_overflow(text, overflow)
         }
         Err(Refusal::Differs { word, want, got }) => {
-            write_word(&mut text, word)?;
-            write!(text, ": want {want} got {got}")?;
+            write_word(text, word)?;
+            write!(text, ": want {want} got {got}")
         }
-        Err(refusal) => write!(text, "{refusal}")?,
+        Err(refusal) => write!(text, "{refusal}"),
     }
-    Ok(text)
 }
 
 // The number of a claim, a denominator, rows, and what is told of that certificate.
 type Row = (u32, &'static str, &'static str, &'static str);
 
 // The claim a = c over a = b, b = c and a = c.
-const OVER_MAPS: [Row; 12] = [
+const OVER_MAPS: &[Row] = &[
     (1, "1", "1 () g3 ()", "claim 1 denominator 1"),
     (1, "1", "1 () g1 () + 1 () g2 ()", "claim 1 denominator 1"),
     (1, "2", "2 () g3 ()", "claim 1 denominator 2"),
@@ -107,7 +113,7 @@ const OVER_MAPS: [Row; 12] = [
 ];
 
 // The claim 2 a = b over itself.
-const OVER_DOUBLE: [Row; 4] = [
+const OVER_DOUBLE: &[Row] = &[
     (1, "M", "", "row 0: M times 2"),
     (1, "1", "M () g1 ()", "row 1: M times 2"),
     (
@@ -125,37 +131,65 @@ const OVER_DOUBLE: [Row; 4] = [
 ];
 
 // Claims, generators and certificates over them.
-const TABLES: [(&[&str], &[&str], &[Row]); 2] = [
+type Table = (
+    &'static [&'static str],
+    &'static [&'static str],
+    &'static [Row],
+);
+
+const TABLES: &[Table] = &[
     (
         &["1 a + -1 c"],
         &["1 a + -1 b", "1 b + -1 c", "1 a + -1 c"],
-        &OVER_MAPS,
+        OVER_MAPS,
     ),
-    (&["2 a + -1 b"], &["2 a + -1 b"], &OVER_DOUBLE),
+    (&["2 a + -1 b"], &["2 a + -1 b"], OVER_DOUBLE),
 ];
 
 #[test]
 fn the_first_test_that_fails_is_told(rt: HostRuntime) -> Result<(), Fail> {
-    let alloc = rt.alloc();
-    for (claims, generators, rows) in &TABLES {
-        let claims = polys(alloc, claims)?;
-        let generators = polys(alloc, generators)?;
-        for (claim, denominator, sum, want) in *rows {
-            let certificate = certificate(alloc, *claim, denominator, sum)?;
-            let outcome = check_over(alloc, &claims, &generators, &certificate);
-            assert_eq!(rt;
-                told(alloc, &outcome)?.as_str(),
-                *want,
-                "{denominator}: {sum}"
-            );
-        }
+    for table in TABLES {
+        compare_table(&rt, rt.alloc(), table)?;
     }
     refusal_is_unique();
     Ok(())
 }
 
+fn compare_table(rt: &impl Abort, alloc: Global, table: &Table) -> Result<(), Fail> {
+    let (claims, generators, rows) = *table;
+    let claims = polys(alloc, claims)?;
+    let generators = polys(alloc, generators)?;
+    compare_rows(rt, alloc, &claims, &generators, rows)
+}
+
+fn compare_rows(
+    rt: &impl Abort,
+    alloc: Global,
+    claims: &[Poly],
+    generators: &[Poly],
+    rows: &[Row],
+) -> Result<(), Fail> {
+    for row in rows {
+        let got = told_over(alloc, claims, generators, row)?;
+        assert_eq!(rt; got.as_str(), row.3, "{}: {}", row.1, row.2);
+    }
+    Ok(())
+}
+
+// What is told of the certificate of a row.
+fn told_over(
+    alloc: Global,
+    claims: &[Poly],
+    generators: &[Poly],
+    row: &Row,
+) -> Result<String, Fail> {
+    let certificate = certificate(alloc, row.0, row.1, row.2)?;
+    let outcome = check_over(alloc, claims, generators, &certificate);
+    Ok(told(alloc, &outcome)?)
+}
+
 // A statement, an evidence text over it, and what is told of each of its certificates.
-const TEXTS: [(&str, &str, &str); 2] = [
+const TEXTS: &[(&str, &str, &str)] = &[
     (
         "object U V\nmap a b : U -> V\nassume a = b\nclaim a = b\n",
         "certificate 1\nclaim 1\ndenominator 3\nrow 3 () 1 ()\nend\n",
@@ -176,7 +210,7 @@ fn told_of_each(alloc: Global, problem: &Problem, evidence: &str) -> Result<Stri
     let certificates = read_certificates(alloc, evidence.as_bytes(), &problem.parts.quiver)?;
     let mut text = String::new(alloc);
     for certificate in certificates.as_slice() {
-        text.push_str(&told(alloc, &check(alloc, problem, certificate))?)?;
+        write_outcome(&mut text, &check(alloc, problem, certificate))?;
         text.push_str("; ")?;
     }
     Ok(text)
@@ -191,7 +225,7 @@ fn told_of_texts(alloc: Global, statement: &str, evidence: &str) -> Result<Strin
 
 #[test]
 fn certificates_are_checked_over_the_problem_of_a_text(rt: HostRuntime) -> Result<(), Fail> {
-    for (statement, evidence, want) in &TEXTS {
+    for (statement, evidence, want) in TEXTS {
         let got = told_of_texts(rt.alloc(), statement, evidence)?;
         same(&rt, got.as_str(), want, evidence);
     }

@@ -2,9 +2,10 @@
 use crate::texts::{same, tree_of};
 use adjoint_rules::Shape;
 use quiver::Quiver;
-use statement_names::{Names, abbreviation, read_names};
+use statement_names::{Equation, Names, abbreviation, read_names};
 use statement_syntax::Tree;
 use std::alloc::{AllocError, Global};
+use std::process::Abort;
 use std::test::Fail;
 use word_orders::OrderSpec;
 
@@ -47,7 +48,7 @@ fn told(alloc: Global, names: &Names) -> Result<String, AllocError> {
 
 type Row = (&'static str, &'static str);
 
-const FILES: [Row; 15] = [
+const FILES: &[Row] = &[
     (
         "object U V\nmap a : U -> V\nmap x : V -> U\nmap p : U -> U self\npinv a x\nclaim p = p [U]\norder weight p 3 a 2\nsolve a\nmodel 3 V 2\n",
         "objects 2 letters 7 starred true marked [Object(0)] solved [Letter(2), Letter(4)] order [(Letter(6), 3), (Letter(2), 2), (Letter(3), 2)] shape 3 [1, 2]",
@@ -110,18 +111,28 @@ const FILES: [Row; 15] = [
     ),
 ];
 
+fn names_of(alloc: Global, text: &str) -> Result<Names, Fail> {
+    let tree = tree_of(alloc, text)?;
+    Ok(read_names(alloc, &tree)?)
+}
+
+// All that the names of this file stand for.
+fn told_of(alloc: Global, text: &str) -> Result<String, Fail> {
+    let names = names_of(alloc, text)?;
+    Ok(told(alloc, &names)?)
+}
+
 #[test]
 fn names_are_numbered_and_read(rt: HostRuntime) -> Result<(), Fail> {
     for (text, want) in FILES {
-        let names = read_names(rt.alloc(), &tree_of(rt.alloc(), text)?)?;
-        let got = told(rt.alloc(), &names)?;
+        let got = told_of(rt.alloc(), text)?;
         same(&rt, got.as_str(), want, text);
     }
     Ok(())
 }
 
 // Statements, and for each equation that they stand for the place of its left side and the number of terms on its right.
-const ABBREVIATIONS: [Row; 6] = [
+const ABBREVIATIONS: &[Row] = &[
     ("  pinv a x", "1.3.1 1.3.1 1.3.1 1.3.1 "),
     ("inverse a x", "1.1.1 1.1.1 "),
     ("inner a b", "1.1.1 "),
@@ -130,25 +141,45 @@ const ABBREVIATIONS: [Row; 6] = [
     ("solve a", ""),
 ];
 
-fn equations_text(alloc: Global, quiver: &Quiver, tree: &Tree) -> Result<String, Fail> {
-    let mut text = String::new(alloc);
-    for statement in tree.statements.as_slice() {
-        for equation in abbreviation(alloc, quiver, statement)?.as_slice() {
-            let at = equation.left.at;
-            let terms = equation.right.terms.len();
-            text.push_str(format!(in alloc; "{}.{}.{terms} ", at.line, at.column)?.as_str())?;
-        }
+fn write_equations(text: &mut String, equations: &[Equation]) -> Result<(), AllocError> {
+    for equation in equations {
+        let at = equation.left.at;
+        let terms = equation.right.terms.len();
+        write!(text, "{}.{}.{terms} ", at.line, at.column)?;
     }
-    Ok(text)
+    Ok(())
+}
+
+fn write_statements(
+    text: &mut String,
+    alloc: Global,
+    quiver: &Quiver,
+    tree: &Tree,
+) -> Result<(), Fail> {
+    for statement in tree.statements.as_slice() {
+        let equations = abbreviation(alloc, quiver, statement)?;
+        write_equations(text, equations.as_slice())?;
+    }
+    Ok(())
+}
+
+fn equations_text(alloc: Global, quiver: &Quiver, text: &str) -> Result<String, Fail> {
+    let tree = tree_of(alloc, text)?;
+    let mut written = String::new(alloc);
+    write_statements(&mut written, alloc, quiver, &tree)?;
+    Ok(written)
 }
 
 #[test]
 fn abbreviations_are_written_out(rt: HostRuntime) -> Result<(), Fail> {
     let quiver = Quiver::new(rt.alloc())?;
+    tell_abbreviations(&rt, rt.alloc(), &quiver)
+}
+
+fn tell_abbreviations(rt: &impl Abort, alloc: Global, quiver: &Quiver) -> Result<(), Fail> {
     for (text, want) in ABBREVIATIONS {
-        let tree = tree_of(rt.alloc(), text)?;
-        let got = equations_text(rt.alloc(), &quiver, &tree)?;
-        same(&rt, got.as_str(), want, text);
+        let got = equations_text(alloc, quiver, text)?;
+        same(rt, got.as_str(), want, text);
     }
     Ok(())
 }

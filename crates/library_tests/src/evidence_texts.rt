@@ -66,33 +66,34 @@ fn shown(alloc: Global, written: Result<Vec<u8>, CertFault>) -> Result<String, F
 }
 
 // What is written back of the text, or its first fault.
-fn told(alloc: Global, quiver: &Quiver, text: &[u8]) -> Result<String, Fail> {
+fn told(alloc: Global, text: &[u8]) -> Result<String, Fail> {
     if text.len() > 1_000_000_000 {
         return Err(Fail::new("the text is too long for a test"));
     }
-    shown(alloc, written(alloc, quiver, text))
+    let quiver = small(alloc)?;
+    shown(alloc, written(alloc, &quiver, text))
 }
 
 // The same where format 1 alone is read.
-fn told_plain(alloc: Global, quiver: &Quiver, text: &[u8]) -> Result<String, Fail> {
+fn told_plain(alloc: Global, text: &[u8]) -> Result<String, Fail> {
     if text.len() > 1_000_000_000 {
         return Err(Fail::new("the text is too long for a test"));
     }
-    shown(alloc, written_plain(alloc, quiver, text))
+    let quiver = small(alloc)?;
+    shown(alloc, written_plain(alloc, &quiver, text))
 }
 
 // Asserts that each text, between this front and this back, is told of as its row says.
 fn tell_all(
     rt: &impl Abort,
     alloc: Global,
-    quiver: &Quiver,
     front: &str,
     rows: &[Row],
     back: &str,
 ) -> Result<(), Fail> {
     for (row, want) in rows {
         let text = format!(in alloc; "{front}{row}{back}")?;
-        let got = told(alloc, quiver, text.as_bytes())?;
+        let got = told(alloc, text.as_bytes())?;
         same(rt, got.as_str(), want, row);
     }
     Ok(())
@@ -100,10 +101,9 @@ fn tell_all(
 
 // The same of texts that repeat a piece.
 fn tell_repeated(rt: &impl Abort, alloc: Global, rows: &[Repeated]) -> Result<(), Fail> {
-    let quiver = small(alloc)?;
     for row in rows {
         let text = repeated(alloc, row)?;
-        let got = told(alloc, &quiver, text.as_bytes())?;
+        let got = told(alloc, text.as_bytes())?;
         same(rt, got.as_str(), row.4, row.4);
     }
     Ok(())
@@ -117,25 +117,22 @@ fn row_with(alloc: Global, front: &str, count: usize, back: &str) -> Result<Stri
 
 #[test]
 fn certificates_are_written_back_or_their_first_fault_told(rt: HostRuntime) -> Result<(), Fail> {
-    let quiver = small(rt.alloc())?;
-    tell_all(&rt, rt.alloc(), &quiver, "", CERTIFICATES, "")?;
-    tell_all(&rt, rt.alloc(), &quiver, "", FAULTS, "")?;
-    tell_all(&rt, rt.alloc(), &quiver, HEAD, ROWS, "\nend\n")
+    tell_all(&rt, rt.alloc(), "", CERTIFICATES, "")?;
+    tell_all(&rt, rt.alloc(), "", FAULTS, "")?;
+    tell_all(&rt, rt.alloc(), HEAD, ROWS, "\nend\n")
 }
 
 #[test]
 fn lemmas_are_written_back_or_their_first_fault_told(rt: HostRuntime) -> Result<(), Fail> {
-    let quiver = small(rt.alloc())?;
-    tell_all(&rt, rt.alloc(), &quiver, "", LEMMAS, "")?;
-    tell_all(&rt, rt.alloc(), &quiver, LEMMA_HEAD, LEMMA_LINES, "\nend\n")?;
-    tell_all(&rt, rt.alloc(), &quiver, GOAL_HEAD, GOALS, "\nend\n")
+    tell_all(&rt, rt.alloc(), "", LEMMAS, "")?;
+    tell_all(&rt, rt.alloc(), LEMMA_HEAD, LEMMA_LINES, "\nend\n")?;
+    tell_all(&rt, rt.alloc(), GOAL_HEAD, GOALS, "\nend\n")
 }
 
 #[test]
 fn format_1_alone_is_read_where_certificates_are_asked_for(rt: HostRuntime) -> Result<(), Fail> {
-    let quiver = small(rt.alloc())?;
     for (text, want) in PLAIN {
-        let got = told_plain(rt.alloc(), &quiver, text.as_bytes())?;
+        let got = told_plain(rt.alloc(), text.as_bytes())?;
         same(&rt, got.as_str(), want, text);
     }
     Ok(())
@@ -143,9 +140,8 @@ fn format_1_alone_is_read_where_certificates_are_asked_for(rt: HostRuntime) -> R
 
 #[test]
 fn bytes_that_are_not_utf8_come_first(rt: HostRuntime) -> Result<(), Fail> {
-    let quiver = small(rt.alloc())?;
     for (text, want) in NOT_UTF8 {
-        let got = told(rt.alloc(), &quiver, text)?;
+        let got = told(rt.alloc(), text)?;
         same(&rt, got.as_str(), want, want);
     }
     Ok(())
@@ -153,28 +149,48 @@ fn bytes_that_are_not_utf8_come_first(rt: HostRuntime) -> Result<(), Fail> {
 
 #[test]
 fn a_flaw_of_a_row_is_told_at_each_place(rt: HostRuntime) -> Result<(), Fail> {
-    let alloc = rt.alloc();
-    let quiver = small(alloc)?;
-    for (before, count, behind, code, limit) in FLAWS {
-        let row = row_with(alloc, before, *count, behind)?;
-        for (front, back, line) in PLACES {
-            let text = format!(in alloc; "{front}{row}{back}")?;
-            let got = told(alloc, &quiver, text.as_bytes())?;
-            let want = format!(in alloc; "K{code} in line {line}, limit {limit}")?;
-            same(&rt, got.as_str(), want.as_str(), text.as_str());
+    for flaw in FLAWS {
+        let row = row_with(rt.alloc(), flaw.0, flaw.1, flaw.2)?;
+        for place in PLACES {
+            tell_flaw(&rt, rt.alloc(), &row, place, (flaw.3, flaw.4))?;
         }
     }
     Ok(())
 }
 
+// Asserts the code and the limit of the flaw of a row at a place.
+fn tell_flaw(
+    rt: &impl Abort,
+    alloc: Global,
+    row: &str,
+    place: &(&str, &str, u32),
+    told_as: (u32, u32),
+) -> Result<(), Fail> {
+    let (front, back, line) = place;
+    let (code, limit) = told_as;
+    let text = format!(in alloc; "{front}{row}{back}")?;
+    let got = told(alloc, text.as_bytes())?;
+    let want = format!(in alloc; "K{code} in line {line}, limit {limit}")?;
+    same(rt, got.as_str(), want.as_str(), text.as_str());
+    Ok(())
+}
+
+// A certificate between blocks of another kind with this row.
+fn among_others(
+    alloc: Global,
+    front: &str,
+    count: usize,
+    back: &str,
+) -> Result<String, AllocError> {
+    let row = row_with(alloc, front, count, back)?;
+    format!(in alloc; "model 1\n{row}\n{row}\nend\n{EMPTY}basis\n{row}\nend")
+}
+
 #[test]
 fn a_block_of_another_kind_has_no_flaw(rt: HostRuntime) -> Result<(), Fail> {
-    let alloc = rt.alloc();
-    let quiver = small(alloc)?;
     for (before, count, behind, _, _) in FLAWS {
-        let row = row_with(alloc, before, *count, behind)?;
-        let text = format!(in alloc; "model 1\n{row}\n{row}\nend\n{EMPTY}basis\n{row}\nend")?;
-        let got = told(alloc, &quiver, text.as_bytes())?;
+        let text = among_others(rt.alloc(), before, *count, behind)?;
+        let got = told(rt.alloc(), text.as_bytes())?;
         same(&rt, got.as_str(), EMPTY, text.as_str());
     }
     Ok(())
@@ -182,21 +198,24 @@ fn a_block_of_another_kind_has_no_flaw(rt: HostRuntime) -> Result<(), Fail> {
 
 #[test]
 fn a_certificate_that_is_cut_is_told(rt: HostRuntime) -> Result<(), Fail> {
-    let alloc = rt.alloc();
-    let quiver = small(alloc)?;
     for whole in CUT {
-        let mut text = String::new(alloc);
+        let mut text = String::new(rt.alloc());
         for line in whole.lines() {
-            let code = if text.is_empty() { 7 } else { 6 };
-            let want = format!(in alloc; "K{code} in line 0, limit 0")?;
-            let got = told(alloc, &quiver, text.as_bytes())?;
-            same(&rt, got.as_str(), want.as_str(), text.as_str());
+            tell_cut(&rt, rt.alloc(), text.as_str())?;
             text.push_str(line)?;
             text.push_str("\n")?;
         }
-        let got = told(alloc, &quiver, text.as_bytes())?;
+        let got = told(rt.alloc(), text.as_bytes())?;
         same(&rt, got.as_str(), whole, "nothing is cut off");
     }
+    Ok(())
+}
+
+fn tell_cut(rt: &impl Abort, alloc: Global, text: &str) -> Result<(), Fail> {
+    let code = if text.is_empty() { 7 } else { 6 };
+    let want = format!(in alloc; "K{code} in line 0, limit 0")?;
+    let got = told(alloc, text.as_bytes())?;
+    same(rt, got.as_str(), want.as_str(), text);
     Ok(())
 }
 
@@ -207,11 +226,9 @@ fn blocks_are_at_most_100(rt: HostRuntime) -> Result<(), Fail> {
 
 #[test]
 fn limits_of_words_and_blocks_are_kept(rt: HostRuntime) -> Result<(), Fail> {
-    let alloc = rt.alloc();
-    let quiver = small(alloc)?;
     for row in KEPT {
-        let text = repeated(alloc, row)?;
-        let got = told(alloc, &quiver, text.as_bytes())?;
+        let text = repeated(rt.alloc(), row)?;
+        let got = told(rt.alloc(), text.as_bytes())?;
         same(&rt, got.as_str(), text.as_str(), row.4);
     }
     Ok(())
@@ -255,24 +272,33 @@ fn laws_of_evidence_text_are_called() {
 
 #[test]
 fn a_block_of_another_kind_is_not_counted(rt: HostRuntime) -> Result<(), Fail> {
-    let quiver = small(rt.alloc())?;
     let blocks = EMPTY.repeat(rt.alloc(), 100)?;
     let text = format!(in rt.alloc(); "{blocks}basis\nend\n")?;
-    let got = told(rt.alloc(), &quiver, text.as_bytes())?;
+    let got = told(rt.alloc(), text.as_bytes())?;
     same(&rt, got.as_str(), blocks.as_str(), "100 blocks");
     Ok(())
 }
 
+fn told_of_word(alloc: Global, letters: &[u16]) -> Result<String, Fail> {
+    let quiver = small(alloc)?;
+    let word = word(alloc, letters)?;
+    word_text(alloc, &quiver, &word)
+}
+
+fn told_of_poly(alloc: Global, terms: &[(i128, &[u16])]) -> Result<String, Fail> {
+    let quiver = small(alloc)?;
+    let poly = poly(alloc, terms)?;
+    poly_text(alloc, &quiver, &poly)
+}
+
 #[test]
 fn words_and_polynomials_are_written(rt: HostRuntime) -> Result<(), Fail> {
-    let alloc = rt.alloc();
-    let quiver = small(alloc)?;
     for (letters, want) in WORDS {
-        let got = word_text(alloc, &quiver, &word(alloc, letters)?)?;
+        let got = told_of_word(rt.alloc(), letters)?;
         same(&rt, got.as_str(), want, want);
     }
     for (terms, want) in WRITTEN {
-        let got = poly_text(alloc, &quiver, &poly(alloc, terms)?)?;
+        let got = told_of_poly(rt.alloc(), terms)?;
         same(&rt, got.as_str(), want, want);
     }
     Ok(())

@@ -82,16 +82,39 @@ fn told(alloc: Global, records: &[Made], target: &Made) -> Result<String, Fail> 
         return Err(Fail::new("a record names a later rule"));
     }
     let mut text = String::new(alloc);
-    match expand(alloc, records, target) {
-        Ok(cofactors) => {
-            write_number(&mut text, cofactors.denominator)?;
-            text.push_str(" | ")?;
-            text.push_str(&written_sum(alloc, cofactors.rows.as_slice())?)?;
-        }
-        Err(ExpandFault::Overflow(overflow)) => write_overflow(&mut text, &overflow)?,
-        Err(fault) => write!(text, "{fault}")?,
-    }
+    write_outcome(&mut text, alloc, &expand(alloc, records, target))?;
     Ok(text)
+}
+
+fn write_outcome(
+    text: &mut String,
+    alloc: Global,
+    outcome: &Result<Cofactors, ExpandFault>,
+) -> Result<(), AllocError> {
+    match outcome {
+        Ok(cofactors) => {
+            write_number(text, cofactors.denominator)?;
+            text.push_str(" | ")?;
+            text.push_str(&written_sum(alloc, cofactors.rows.as_slice())?)
+        }
+        Err(ExpandFault::Overflow(overflow)) => write_overflow(text, overflow),
+        Err(fault) => write!(text, "{fault}"),
+    }
+}
+
+fn records_of(alloc: Global, texts: &[&str]) -> Result<Vec<Made>, Fail> {
+    let mut records = Vec::new(alloc);
+    for text in texts {
+        records.push(record(alloc, text)?)?;
+    }
+    Ok(records)
+}
+
+// The same of records that are written.
+fn told_of(alloc: Global, texts: &[&str], target: &str) -> Result<String, Fail> {
+    let records = records_of(alloc, texts)?;
+    let target = record(alloc, target)?;
+    told(alloc, &records, &target)
 }
 
 const HALVES_AND_THIRDS: &[&str] = &[
@@ -108,7 +131,7 @@ type Expanded = (
     &'static str,
 );
 
-const EXPANDED: [Expanded; 11] = [
+const EXPANDED: &[Expanded] = &[
     (
         "generators alone, divided by 2",
         &[],
@@ -179,12 +202,8 @@ const EXPANDED: [Expanded; 11] = [
 #[test]
 fn records_expand_as_worked_out(rt: HostRuntime) -> Result<(), Fail> {
     let alloc = rt.alloc();
-    for (name, texts, target, want) in &EXPANDED {
-        let mut records = Vec::new(alloc);
-        for text in *texts {
-            records.push(record(alloc, text)?)?;
-        }
-        let got = told(alloc, &records, &record(alloc, target)?)?;
+    for (name, texts, target, want) in EXPANDED {
+        let got = told_of(alloc, texts, target)?;
         assert_eq!(rt; got.as_str(), *want, "{name}");
     }
     expansions_balance();
@@ -213,18 +232,22 @@ fn many_rows(alloc: Global, count: u16, from: Origin) -> Result<Made, AllocError
 
 // The numbers of rows of a rule and of a record over it, and what is told: 449 times 446 rows of six letters are more than
 // 200,000, and 420 times 400 of them have more than 1,000,000 letters.
-const MANY: [(u16, u16, &str); 2] = [
+const MANY: &[(u16, u16, &str)] = &[
     (449, 446, "there are more than 200,000 rows"),
     (420, 400, "the rows have more than 1,000,000 letters"),
 ];
 
+// What is told of a record with so many rows over a rule with so many.
+fn told_of_many(alloc: Global, inner: u16, outer: u16) -> Result<String, Fail> {
+    let records = [many_rows(alloc, inner, Origin::Generator(1))?];
+    let target = many_rows(alloc, outer, Origin::Rule(1))?;
+    told(alloc, &records, &target)
+}
+
 #[test]
 fn rows_and_letters_are_limited(rt: HostRuntime) -> Result<(), Fail> {
-    for (inner, outer, want) in &MANY {
-        let mut records = Vec::new(rt.alloc());
-        records.push(many_rows(rt.alloc(), *inner, Origin::Generator(1))?)?;
-        let target = many_rows(rt.alloc(), *outer, Origin::Rule(1))?;
-        let got = told(rt.alloc(), &records, &target)?;
+    for (inner, outer, want) in MANY {
+        let got = told_of_many(rt.alloc(), *inner, *outer)?;
         assert_eq!(rt; got.as_str(), *want, "{inner} times {outer}");
     }
     Ok(())
@@ -232,27 +255,7 @@ fn rows_and_letters_are_limited(rt: HostRuntime) -> Result<(), Fail> {
 
 #[test]
 fn rows_are_copied_through_the_bound(rt: HostRuntime) -> Result<(), Fail> {
-    let alloc = rt.alloc();
-    let made = copied(&record(alloc, "2: 1 (a) g1 (b)")?)?;
-    assert!(rt; made.rows.len() > 0);
-    let row = copied(made.rows.at(0))?;
-    let mut rows = Listing::new(alloc);
-    rows.push(CertRow {
-        coef: row.coef,
-        left: row.left,
-        generator: 1,
-        right: row.right,
-    })?;
-    let certificate = Certificate {
-        claim: 1,
-        denominator: made.scale,
-        rows: copied(&rows)?,
-    };
-    let cofactors = Cofactors {
-        denominator: certificate.denominator,
-        rows: copied(&certificate)?.rows,
-    };
-    let got = written_sum(alloc, copied(&cofactors)?.rows.as_slice())?;
+    let got = text_of_copies(rt.alloc(), "2: 1 (a) g1 (b)")?;
     assert_eq!(rt; got.as_str(), "1 (a) g1 (b)");
     let halt = Halt {
         cause: Cause::Pairs { spent: 3 },
@@ -261,4 +264,56 @@ fn rows_are_copied_through_the_bound(rt: HostRuntime) -> Result<(), Fail> {
     };
     assert!(rt; copied(&halt)?.least.is_none());
     Ok(())
+}
+
+// The first row of a copy of a record, over the first generator.
+fn first_row(made: &Made) -> Result<CertRow, Fail> {
+    if made.rows.len() == 0 {
+        return Err(Fail::new("a row is wanted"));
+    }
+    let row = copied(made.rows.at(0))?;
+    Ok(CertRow {
+        coef: row.coef,
+        left: row.left,
+        generator: 1,
+        right: row.right,
+    })
+}
+
+// A copy of the list of that row alone.
+fn one_row(alloc: Global, made: &Made) -> Result<Listing<CertRow>, Fail> {
+    let mut rows = Listing::new(alloc);
+    rows.push(first_row(made)?)?;
+    Ok(copied(&rows)?)
+}
+
+// The certificate of that row.
+fn certificate_of(alloc: Global, record: &Made) -> Result<Certificate, Fail> {
+    let made = copied(record)?;
+    Ok(Certificate {
+        claim: 1,
+        denominator: made.scale,
+        rows: one_row(alloc, &made)?,
+    })
+}
+
+// The cofactors of a copy of the certificate.
+fn cofactors_of(certificate: &Certificate) -> Result<Cofactors, AllocError> {
+    Ok(Cofactors {
+        denominator: certificate.denominator,
+        rows: copied(certificate)?.rows,
+    })
+}
+
+fn text_of_copy(alloc: Global, cofactors: &Cofactors) -> Result<String, AllocError> {
+    let copy = copied(cofactors)?;
+    written_sum(alloc, copy.rows.as_slice())
+}
+
+// The rows of a record after each part of it is copied.
+fn text_of_copies(alloc: Global, text: &str) -> Result<String, Fail> {
+    let record = record(alloc, text)?;
+    let certificate = certificate_of(alloc, &record)?;
+    let cofactors = cofactors_of(&certificate)?;
+    Ok(text_of_copy(alloc, &cofactors)?)
 }

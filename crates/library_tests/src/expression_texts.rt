@@ -3,7 +3,7 @@ ghost use Rattle.std.specs.Prelude.{◌≡◌};
 ghost use Rattle.quiver.specs.Declarations.{named_in};
 ghost use Rattle.expressions.specs.Names.{are_names, are_names_of_term, are_names_of_primary, is_map, is_object};
 
-use crate::expression_rows::{MARKS, OVERFLOWS, POLYNOMIALS, SIGNATURES};
+use crate::expression_rows::{MARKS, OVERFLOWS, POLYNOMIALS, Row, SIGNATURES};
 use crate::texts::{Map, poly_text, quiver_of, same, tree_of};
 use expressions::{
     SignatureFault, equation_poly, equation_signature, equations_are_typed, has_mark, letter_of,
@@ -14,6 +14,7 @@ use nc_polynomial::{Poly, PolyFault};
 use quiver::{Named, Quiver, Sig};
 use statement_syntax::{Name, Primary, Spot, StatementKind, Sum, Term, Tree};
 use std::alloc::{AllocError, Global};
+use std::process::Abort;
 use std::test::Fail;
 use word_core::{Letter, Object};
 
@@ -76,18 +77,42 @@ fn is_object(quiver: &Quiver, name: &Name) -> bool
     matches!(quiver.find(name.text.as_str()), Some(Named::Object(_)))
 }
 
+fn name(alloc: Global, text: &str) -> Result<Name, AllocError> {
+    Ok(Name {
+        text: Text::from_str(alloc, text)?,
+        at: Spot { line: 3, column: 1 },
+    })
+}
+
+// The letter of the map of this name.
+fn letter_named(alloc: Global, quiver: &Quiver, text: &str) -> Result<Option<Letter>, AllocError> {
+    let name = name(alloc, text)?;
+    if is_map(quiver, &name) {
+        Ok(Some(letter_of(quiver, &name)))
+    } else {
+        Ok(None)
+    }
+}
+
+// The object of this name.
+fn object_named(alloc: Global, quiver: &Quiver, text: &str) -> Result<Option<Object>, AllocError> {
+    let name = name(alloc, text)?;
+    if is_object(quiver, &name) {
+        Ok(Some(object_of(quiver, &name)))
+    } else {
+        Ok(None)
+    }
+}
+
 #[test]
 fn a_name_stands_for_a_map_or_an_object(rt: HostRuntime) -> Result<(), Fail> {
     let quiver = small(rt.alloc())?;
-    let at = Spot { line: 3, column: 1 };
-    let text = Text::from_str(rt.alloc(), "x")?;
-    let map = Name { text, at };
-    let text = Text::from_str(rt.alloc(), "V")?;
-    let object = Name { text, at };
-    assert!(&rt; is_map(&quiver, &map));
-    assert!(&rt; is_object(&quiver, &object));
-    assert_eq!(&rt; letter_of(&quiver, &map), Letter(6));
-    assert_eq!(&rt; object_of(&quiver, &object), Object(1));
+    find_names(&rt, rt.alloc(), &quiver)
+}
+
+fn find_names(rt: &impl Abort, alloc: Global, quiver: &Quiver) -> Result<(), Fail> {
+    assert_eq!(rt; letter_named(alloc, quiver, "x")?, Some(Letter(6)));
+    assert_eq!(rt; object_named(alloc, quiver, "V")?, Some(Object(1)));
     Ok(())
 }
 
@@ -158,11 +183,20 @@ fn answer_text(
     }
 }
 
+fn tree_of_claim(alloc: Global, front: &str, claim: &str) -> Result<Tree, Fail> {
+    let text = format!(in alloc; "{front}claim {claim}")?;
+    tree_of(alloc, text.as_str())
+}
+
 // What is told of the signature of a claim on the third line, or of its polynomial.
-fn told(alloc: Global, quiver: &Quiver, claim: &str, signature: bool) -> Result<String, Fail> {
-    let text = format!(in alloc; "\n\nclaim {claim}")?;
-    let tree = tree_of(alloc, text.as_str())?;
-    let (left, right) = sides(&tree)?;
+fn told(alloc: Global, claim: &str, signature: bool) -> Result<String, Fail> {
+    let quiver = small(alloc)?;
+    let tree = tree_of_claim(alloc, "\n\n", claim)?;
+    told_of(alloc, &quiver, &tree, signature)
+}
+
+fn told_of(alloc: Global, quiver: &Quiver, tree: &Tree, signature: bool) -> Result<String, Fail> {
+    let (left, right) = sides(tree)?;
     if !are_names(quiver, left) || !are_names(quiver, right) {
         return Err(Fail::new("a name is not declared"));
     }
@@ -173,14 +207,20 @@ fn told(alloc: Global, quiver: &Quiver, claim: &str, signature: bool) -> Result<
     }
 }
 
+// Claims, and whether their signatures are told, or else their polynomials.
+const EQUATIONS: &[(bool, &[Row])] = &[
+    (true, SIGNATURES),
+    (false, POLYNOMIALS),
+    (false, OVERFLOWS),
+];
+
 #[test]
 fn an_equation_is_left_minus_right(rt: HostRuntime) -> Result<(), Fail> {
     equations_are_typed();
     letters_are_written();
-    let quiver = small(rt.alloc())?;
-    for (signature, rows) in [(true, SIGNATURES), (false, POLYNOMIALS), (false, OVERFLOWS)] {
-        for (claim, want) in rows {
-            let got = told(rt.alloc(), &quiver, claim, signature)?;
+    for (signature, rows) in EQUATIONS {
+        for (claim, want) in *rows {
+            let got = told(rt.alloc(), claim, *signature)?;
             same(&rt, got.as_str(), want, claim);
         }
     }
@@ -188,34 +228,43 @@ fn an_equation_is_left_minus_right(rt: HostRuntime) -> Result<(), Fail> {
 }
 
 // Products of so many factors, in brackets one in another or not, and what is told where both sides are one of them.
-const SIZES: [(&str, &str, usize, &str); 4] = [
+type Size = (&'static str, &'static str, usize, &'static str);
+
+const SIZES: &[Size] = &[
     (" p", "", 499, "0"),
     (" p", "", 500, "too many letters"),
     (" (p + x a) (", ")", 14, "0"),
     (" (p + x a) (", ")", 15, "too many terms"),
 ];
 
+fn large_claim(alloc: Global, size: &Size) -> Result<String, AllocError> {
+    let (left, right, count, _) = *size;
+    let left = left.repeat(alloc, count)?;
+    let right = right.repeat(alloc, count)?;
+    format!(in alloc; "{left} p{right} ={left} p{right}")
+}
+
 #[test]
 fn large_polynomials_are_refused(rt: HostRuntime) -> Result<(), Fail> {
-    let alloc = rt.alloc();
-    let quiver = small(alloc)?;
-    for (left, right, count, want) in SIZES {
-        let left = left.repeat(alloc, count)?;
-        let right = right.repeat(alloc, count)?;
-        let claim = format!(in alloc; "{left} p{right} ={left} p{right}")?;
-        let got = told(alloc, &quiver, claim.as_str(), false)?;
-        same(&rt, got.as_str(), want, claim.as_str());
+    for size in SIZES {
+        let claim = large_claim(rt.alloc(), size)?;
+        let got = told(rt.alloc(), claim.as_str(), false)?;
+        same(&rt, got.as_str(), size.3, claim.as_str());
     }
     Ok(())
+}
+
+// Whether the left side of the claim has a mark.
+fn is_marked(alloc: Global, claim: &str) -> Result<bool, Fail> {
+    let tree = tree_of_claim(alloc, "", claim)?;
+    let (left, _) = sides(&tree)?;
+    Ok(has_mark(left))
 }
 
 #[test]
 fn marks_are_found(rt: HostRuntime) -> Result<(), Fail> {
     for (claim, want) in MARKS {
-        let text = format!(in rt.alloc(); "claim {claim}")?;
-        let tree = tree_of(rt.alloc(), text.as_str())?;
-        let (left, _) = sides(&tree)?;
-        assert_eq!(rt; has_mark(left), *want, "{claim}");
+        assert_eq!(rt; is_marked(rt.alloc(), claim)?, *want, "{claim}");
     }
     Ok(())
 }

@@ -8,6 +8,7 @@ use std::alloc::{AllocError, Allocator, Global};
 use std::fmt::Display;
 use std::fs::{self, Metadata, OpenFile, OpenOptions};
 use std::io::{self, ErrorKind, Read, Seek, SeekFrom, Write};
+use std::process::Abort;
 use std::rt::Files;
 use std::sync::atomic::{AtomicU64, Ordering};
 use std::test::Fail;
@@ -25,7 +26,7 @@ struct Load {
 }
 
 // In the order in which they are made; the second is to fail.
-const LOADS: [Load; 7] = [
+const LOADS: &[Load] = &[
     Load {
         name: "f",
         most: 3,
@@ -83,18 +84,17 @@ fn is_wanted(got: &Result<Vec<u8>, ShelfFault>, want: &Want) -> bool {
 
 #[test]
 fn a_shelf_in_memory_gives_its_files(rt: HostRuntime) -> Result<(), Fail> {
-    let alloc = rt.alloc();
-    let mut shelf = two_files(alloc, &[2])?;
+    let mut shelf = two_files(rt.alloc(), &[2])?;
+    load_all(&rt, rt.alloc(), &mut shelf);
+    Ok(())
+}
+
+fn load_all(rt: &impl Abort, alloc: Global, shelf: &mut MemoryShelf) {
     for (place, load) in LOADS.iter().enumerate() {
         let got = shelf.load(alloc, load.name, load.most);
-        assert!(rt;
-            is_wanted(&got, &load.want),
-            "load {} of {}",
-            place + 1,
-            load.name
-        );
+        let wanted = is_wanted(&got, &load.want);
+        assert!(rt; wanted, "load {} of {}", place + 1, load.name);
     }
-    Ok(())
 }
 
 #[test]
@@ -102,25 +102,29 @@ fn a_sink_in_memory_fails_where_it_is_to(rt: HostRuntime) -> Result<(), Fail> {
     let alloc = rt.alloc();
     let failing = Listing::from_vec([3, 5].to_vec(alloc)?);
     let mut sink = MemorySink::new(alloc, 2, 9, failing)?;
-    assert_eq!(rt; put_all(&mut sink, b""), Ok(()));
+    put_until_full(&rt, &mut sink);
+    Ok(())
+}
+
+fn put_until_full(rt: &impl Abort, sink: &mut MemorySink) {
+    assert_eq!(rt; put_all(sink, b""), Ok(()));
     assert_eq!(rt;
-        put_all(&mut sink, b"abcdef"),
+        put_all(sink, b"abcdef"),
         Err(PutFault::Failed { written: 4 })
     );
     assert_eq!(rt; sink.bytes(), b"abcd".as_slice());
-    assert_eq!(rt; put_all(&mut sink, b"xy"), Ok(()));
+    assert_eq!(rt; put_all(sink, b"xy"), Ok(()));
     assert_eq!(rt; sink.finish(), Err(SinkFault::Failed));
     assert!(rt; !sink.finished());
     assert_eq!(rt; sink.finish(), Ok(()));
     assert!(rt; sink.finished());
     // Three bytes of room are left.
     assert_eq!(rt;
-        put_all(&mut sink, b"1234"),
+        put_all(sink, b"1234"),
         Err(PutFault::Failed { written: 2 })
     );
     assert_eq!(rt; sink.bytes(), b"abcdxy12".as_slice());
     assert!(rt; !sink.finished());
-    Ok(())
 }
 
 #[test]

@@ -1,12 +1,13 @@
 //! The index of many words: its nodes, the time of look-ups, and the same answers as a search of the list.
 
-ghost use Rattle.std.specs.Prelude.{◌≡◌, ◌<◌, length, IfOk};
+ghost use Rattle.std.specs.Prelude.{◌≡◌, ◌<◌, [], length, IfOk};
 
 use lists::Listing;
 use rand_core::utils::NextWord;
 use rand_pcg::Lcg64Xsh32;
 use rule_index::Index;
 use std::alloc::{AllocError, Global};
+use std::process::Abort;
 use std::test::Fail;
 use word_core::{Letter, Word};
 
@@ -24,12 +25,21 @@ fn word(alloc: Global, letters: &[u16]) -> Result<Word, AllocError>
 fn prefixes_are_counted_once(rt: HostRuntime) -> Result<(), Fail> {
     let mut index = Index::new(rt.alloc())?;
     assert_eq!(rt; index.nodes(), 1);
-    index.insert(&word(rt.alloc(), &[1, 2])?, 1)?;
-    index.insert(&word(rt.alloc(), &[1, 3])?, 2)?;
+    insert_two(rt.alloc(), &mut index)?;
     assert_eq!(rt; index.nodes(), 4);
     index.truncate(1);
     assert_eq!(rt; index.nodes(), 3);
     Ok(())
+}
+
+// Inserts two words with the same first letter.
+fn insert_two(alloc: Global, index: &mut Index) -> Result<(), AllocError>
+    requires { index.old ≡ [] }
+{
+    let first = word(alloc, &[1, 2])?;
+    let second = word(alloc, &[1, 3])?;
+    index.insert(&first, 1)?;
+    index.insert(&second, 2)
 }
 
 // The word of so many letters 0 and two more letters.
@@ -60,13 +70,17 @@ fn words_with_one_beginning(alloc: Global) -> Result<Index, AllocError> {
 fn many_words_with_one_beginning(rt: HostRuntime) -> Result<(), Fail> {
     let index = words_with_one_beginning(rt.alloc())?;
     assert_eq!(rt; index.nodes(), 1889);
-    let word = zeros(rt.alloc(), 498, 0, 0)?;
-    for _ in 0..100_000 {
-        assert_eq!(rt; index.first_match(&word), None);
-    }
-    let word = zeros(rt.alloc(), 498, 40, 40)?;
-    assert_eq!(rt; index.first_match(&word), Some((1600, 250)));
+    let none = zeros(rt.alloc(), 498, 0, 0)?;
+    let last = zeros(rt.alloc(), 498, 40, 40)?;
+    look_up(&rt, &index, &none, &last);
     Ok(())
+}
+
+fn look_up(rt: &impl Abort, index: &Index, none: &Word, last: &Word) {
+    for _ in 0..100_000 {
+        assert_eq!(rt; index.first_match(none), None);
+    }
+    assert_eq!(rt; index.first_match(last), Some((1600, 250)));
 }
 
 // A word of 1 to 8 letters from 0 to 3.
@@ -92,6 +106,10 @@ fn listed(words: &Listing<(Word, u32)>, text: &Word) -> Option<(u32, usize)> {
     None
 }
 
+fn compare(rt: &impl Abort, index: &Index, words: &Listing<(Word, u32)>, text: &Word) {
+    assert_eq!(rt; index.first_match(text), listed(words, text));
+}
+
 #[test]
 fn the_same_as_a_search_of_the_list(rt: HostRuntime) -> Result<(), Fail> {
     let mut index = Index::new(rt.alloc())?;
@@ -104,7 +122,7 @@ fn the_same_as_a_search_of_the_list(rt: HostRuntime) -> Result<(), Fail> {
     }
     for _ in 0..2000u32 {
         let text = random(rt.alloc(), &mut stream)?;
-        assert_eq!(rt; index.first_match(&text), listed(&words, &text));
+        compare(&rt, &index, &words, &text);
     }
     Ok(())
 }
@@ -125,7 +143,7 @@ fn after_truncation_the_same_as_a_search_of_the_list(rt: HostRuntime) -> Result<
         index.insert(&word, number)?;
         words.push((word, number))?;
         let text = random(rt.alloc(), &mut stream)?;
-        assert_eq!(rt; index.first_match(&text), listed(&words, &text));
+        compare(&rt, &index, &words, &text);
     }
     Ok(())
 }

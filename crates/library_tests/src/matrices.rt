@@ -18,6 +18,13 @@ fn residue(modulus: u32, text: &str) -> Result<u32, Fail> {
     }
 }
 
+fn push_row(entries: &mut Vec<u32>, modulus: u32, row: &str) -> Result<(), Fail> {
+    for entry in row.trim().split(' ') {
+        entries.push(residue(modulus, entry)?)?;
+    }
+    Ok(())
+}
+
 // The matrix that is written: rows between bars, and negative numbers where they are shorter, as `1 -2 | 0 3`.
 fn matrix(alloc: Global, modulus: u32, text: &str) -> Result<Matrix, Fail>
     requires { IsModulus modulus }
@@ -27,9 +34,7 @@ fn matrix(alloc: Global, modulus: u32, text: &str) -> Result<Matrix, Fail>
     let mut rows = 0u32;
     for row in text.split('|') {
         rows = rows.saturating_add(1);
-        for entry in row.trim().split(' ') {
-            entries.push(residue(modulus, entry)?)?;
-        }
+        push_row(&mut entries, modulus, row)?;
     }
     match u32::try_from(entries.len()) {
         Ok(count) => {
@@ -43,6 +48,11 @@ fn matrix(alloc: Global, modulus: u32, text: &str) -> Result<Matrix, Fail>
 // The same text of a matrix.
 fn written(alloc: Global, matrix: &Matrix) -> Result<String, AllocError> {
     let mut text = String::new(alloc);
+    write_matrix(&mut text, matrix)?;
+    Ok(text)
+}
+
+fn write_matrix(text: &mut String, matrix: &Matrix) -> Result<(), AllocError> {
     for row in 0..matrix.rows() {
         text.push_str(if row > 0 { " |" } else { "" })?;
         for column in 0..matrix.columns() {
@@ -56,7 +66,7 @@ fn written(alloc: Global, matrix: &Matrix) -> Result<String, AllocError> {
             }
         }
     }
-    Ok(text)
+    Ok(())
 }
 
 #[derive(Clone, Copy, Debug)]
@@ -71,7 +81,7 @@ enum Call {
 }
 
 // A modulus, a matrix, a call, another matrix that some calls do not read, and what comes of it.
-const ROWS: [(u32, &str, Call, &str, &str); 8] = [
+const ROWS: &[(u32, &str, Call, &str, &str)] = &[
     (7, "1 2 | 3 -3", Call::Copy, "0", "1 2 | 3 -3"),
     (7, "1 2 | 3 -3", Call::Add, "3 1 | 0 -3", "-3 3 | 3 1"),
     (7, "1 2 | 3 -3", Call::Negate, "0", "-1 -2 | -3 3"),
@@ -92,73 +102,114 @@ const ROWS: [(u32, &str, Call, &str, &str); 8] = [
 fn answer(alloc: Global, modulus: u32, left: &str, call: Call, right: &str) -> Result<Matrix, Fail>
     requires { IsModulus modulus }
 {
-    let category = Matrices { modulus };
     let left = matrix(alloc, modulus, left)?;
     let right = matrix(alloc, modulus, right)?;
+    called(alloc, modulus, &left, call, &right)
+}
+
+fn called(
+    alloc: Global,
+    modulus: u32,
+    left: &Matrix,
+    call: Call,
+    right: &Matrix,
+) -> Result<Matrix, Fail>
+    requires modulus { IsModulus modulus }
+    requires left { IsMatrix modulus left.now }
+    requires right { IsMatrix modulus right.now }
+{
+    let category = Matrices { modulus };
     let sides = (left.rows(), left.columns()) == (right.rows(), right.columns());
     let fits = left.columns() == right.rows();
     Ok(match call {
-        Call::Copy => copied(&left)?,
-        Call::Add if sides => category.add(alloc, &left, &right)?,
-        Call::Negate => category.negate(alloc, &left)?,
-        Call::Compose if fits => category.compose(alloc, &left, &right)?,
-        Call::Adjoint => category.adjoint(alloc, &left)?,
+        Call::Copy => copied(left)?,
+        Call::Add if sides => category.add(alloc, left, right)?,
+        Call::Negate => category.negate(alloc, left)?,
+        Call::Compose if fits => category.compose(alloc, left, right)?,
+        Call::Adjoint => category.adjoint(alloc, left)?,
         Call::Exchanged if fits => {
-            let after = category.adjoint(alloc, &right)?;
-            let first = category.adjoint(alloc, &left)?;
+            let after = category.adjoint(alloc, right)?;
+            let first = category.adjoint(alloc, left)?;
             category.compose(alloc, &after, &first)?
         }
         _ => return Err(Fail::new("the sides do not fit")),
     })
 }
 
+// The same text of what comes of a call.
+fn told_of_call(
+    alloc: Global,
+    modulus: u32,
+    left: &str,
+    call: Call,
+    right: &str,
+) -> Result<String, Fail>
+    requires { IsModulus modulus }
+{
+    let answer = answer(alloc, modulus, left, call, right)?;
+    Ok(written(alloc, &answer)?)
+}
+
 #[test]
 fn entries_are_residues(rt: HostRuntime) -> Result<(), Fail> {
     let alloc = rt.alloc();
-    for (modulus, left, call, right, want) in &ROWS {
+    for (modulus, left, call, right, want) in ROWS {
         assert!(rt; *modulus >= 2 && *modulus <= PRIME);
-        let got = answer(alloc, *modulus, left, *call, right)?;
-        assert_eq!(rt;
-            written(alloc, &got)?.as_str(),
-            *want,
-            "{call:?} {left} and {right}"
-        );
+        let got = told_of_call(alloc, *modulus, left, *call, right)?;
+        assert_eq!(rt; got.as_str(), *want, "{call:?} {left} and {right}");
     }
     Ok(())
 }
 
 // A modulus, two matrices, and whether they are the same.
-const SAME: [(u32, &str, &str, bool); 3] = [
+const SAME: &[(u32, &str, &str, bool)] = &[
     (PRIME, "22 28 | -49 -64", "22 28 | -49 -64", true),
     (PRIME, "22 28 | -49 -64", "-1 -2 -3 | 4 5 6", false),
     (7, "1 2", "1 | 2", false),
 ];
 
+fn are_same(alloc: Global, modulus: u32, left: &str, right: &str) -> Result<bool, Fail>
+    requires { IsModulus modulus }
+{
+    let category = Matrices { modulus };
+    let left = matrix(alloc, modulus, left)?;
+    let right = matrix(alloc, modulus, right)?;
+    Ok(category.same(&left, &right))
+}
+
 #[test]
 fn matrices_of_other_sides_are_told_apart(rt: HostRuntime) -> Result<(), Fail> {
     let alloc = rt.alloc();
-    for (modulus, left, right, want) in &SAME {
+    for (modulus, left, right, want) in SAME {
         assert!(rt; *modulus >= 2 && *modulus <= PRIME);
-        let category = Matrices { modulus: *modulus };
-        let left = matrix(alloc, *modulus, left)?;
-        let right = matrix(alloc, *modulus, right)?;
-        assert_eq!(rt; category.same(&left, &right), *want);
+        assert_eq!(rt; are_same(alloc, *modulus, left, right)?, *want);
     }
     Ok(())
 }
 
 // What is told of a matrix that is asked for.
-fn told(alloc: Global, made: Result<Matrix, MatrixFault>) -> Result<String, AllocError> {
+fn told(alloc: Global, made: &Result<Matrix, MatrixFault>) -> Result<String, AllocError> {
     match made {
         Ok(_made) => format!(in alloc; "made"),
         Err(MatrixFault::BadShape) => format!(in alloc; "a bad shape"),
         Err(MatrixFault::EntryTooLarge { place }) => format!(in alloc; "too large at {place}"),
-        Err(MatrixFault::Memory(failed)) => Err(failed),
+        Err(MatrixFault::Memory(failed)) => Err(*failed),
     }
 }
 
+// The same of the matrix modulo 2 with these sides and entries.
+fn told_of_new(
+    alloc: Global,
+    rows: u32,
+    columns: u32,
+    entries: &[u32],
+) -> Result<String, AllocError> {
+    let made = Matrix::new(alloc, 2, rows, columns, entries);
+    told(alloc, &made)
+}
+
 // Rows, columns and entries modulo 2, and what is told of them.
-const MADE: [(u32, u32, &[u32], &str); 9] = [
+const MADE: &[(u32, u32, &[u32], &str)] = &[
     (2, 2, &[0, 1, 1, 0], "made"),
     (1, 64, &[0; 64], "made"),
     (2, 2, &[0, 1, 2, 2], "too large at 2"),
@@ -172,13 +223,9 @@ const MADE: [(u32, u32, &[u32], &str); 9] = [
 
 #[test]
 fn shapes_and_entries_are_refused(rt: HostRuntime) -> Result<(), Fail> {
-    for (rows, columns, entries, want) in &MADE {
-        let made = Matrix::new(rt.alloc(), 2, *rows, *columns, entries);
-        assert_eq!(rt;
-            told(rt.alloc(), made)?.as_str(),
-            *want,
-            "{rows} by {columns}: {entries:?}"
-        );
+    for (rows, columns, entries, want) in MADE {
+        let got = told_of_new(rt.alloc(), *rows, *columns, entries)?;
+        assert_eq!(rt; got.as_str(), *want, "{rows} by {columns}: {entries:?}");
     }
     Ok(())
 }

@@ -17,7 +17,7 @@ enum Call {
 // A call, its two operands, of which `Negate` takes the first alone, and what comes of it: of an overflow its operands.
 type Row = (Call, &'static str, &'static str, &'static str);
 
-const ROWS: [Row; 25] = [
+const ROWS: &[Row] = &[
     (Call::Times, "-6", "7", "-42"),
     (Call::Times, "0", "-M", "0"),
     (Call::Times, "M", "-1", "-M"),
@@ -94,7 +94,7 @@ fn told(alloc: Global, answer: &Result<i128, Overflow>) -> Result<String, AllocE
 
 #[test]
 fn results_are_exact_up_to_the_greatest_coefficient(rt: HostRuntime) -> Result<(), Fail> {
-    for (call, left, right, want) in &ROWS {
+    for (call, left, right, want) in ROWS {
         let got = told(rt.alloc(), &answer(*call, left, right)?)?;
         assert_eq!(rt; got.as_str(), *want, "{call:?} of {left} and {right}");
     }

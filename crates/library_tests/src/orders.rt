@@ -9,6 +9,7 @@ use crate::notation::word;
 use lists::Listing;
 use std::alloc::{AllocError, Global};
 use std::cmp::Ordering;
+use std::process::Abort;
 use std::test::Fail;
 use word_core::{Letter, Word};
 use word_orders::{AnyOrder, BlockLex, DegLex, OrderFault, OrderSpec, WeightLex, WordOrder};
@@ -43,7 +44,7 @@ fn told(alloc: Global, order: Result<AnyOrder, OrderFault>) -> Result<String, Al
 }
 
 // Weights of letters where there are 3 letters, and what is said of them.
-const WEIGHTS: [(&[(Letter, u32)], &str); 11] = [
+const WEIGHTS: &[(&[(Letter, u32)], &str)] = &[
     (&[], "taken"),
     (&[(Letter(0), 1), (Letter(2), 1000)], "taken"),
     (
@@ -75,16 +76,21 @@ const WEIGHTS: [(&[(Letter, u32)], &str); 11] = [
     ),
 ];
 
+// What is said of the order by weights that is asked for alone.
+fn told_alone(alloc: Global, weights: &[(Letter, u32)]) -> Result<String, AllocError> {
+    let order = match WeightLex::new(alloc, weights, 3) {
+        Ok(order) => Ok(AnyOrder::Weight(order)),
+        Err(fault) => Err(fault),
+    };
+    told(alloc, order)
+}
+
 #[test]
 fn faults_of_weights_come_in_order(rt: HostRuntime) -> Result<(), Fail> {
     let alloc = rt.alloc();
-    for (weights, want) in &WEIGHTS {
+    for (weights, want) in WEIGHTS {
         let any = told(alloc, by_weights(alloc, weights, 3))?;
-        let alone = match WeightLex::new(alloc, weights, 3) {
-            Ok(order) => Ok(AnyOrder::Weight(order)),
-            Err(fault) => Err(fault),
-        };
-        let alone = told(alloc, alone)?;
+        let alone = told_alone(alloc, weights)?;
         assert_eq!(rt;
             (any.as_str(), alone.as_str()),
             (*want, *want),
@@ -95,7 +101,7 @@ fn faults_of_weights_come_in_order(rt: HostRuntime) -> Result<(), Fail> {
 }
 
 // Blocks of letters where there are 3 letters, and what is said of them.
-const BLOCKS: [(&[Letter], &str); 4] = [
+const BLOCKS: &[(&[Letter], &str)] = &[
     (&[Letter(2), Letter(0)], "taken"),
     (
         &[Letter(1), Letter(0), Letter(1)],
@@ -111,7 +117,7 @@ const BLOCKS: [(&[Letter], &str); 4] = [
 #[test]
 fn faults_of_blocks_come_in_order(rt: HostRuntime) -> Result<(), Fail> {
     let alloc = rt.alloc();
-    for (block, want) in &BLOCKS {
+    for (block, want) in BLOCKS {
         let any = told(alloc, by_block(alloc, block, 3))?;
         let alone = match BlockLex::new(alloc, block, 3) {
             Ok(order) => Ok(AnyOrder::Block(order)),
@@ -171,12 +177,14 @@ fn shared<O: WordOrder + Sync>(order: &O) -> &O
     order
 }
 
-const HEAVY: [(Letter, u32); 3] = [(Letter(0), 1000), (Letter(1), 3), (Letter(2), 5)];
+const HEAVY: &[(Letter, u32)] = &[(Letter(0), 1000), (Letter(1), 3), (Letter(2), 5)];
 
-const BLOCK: [Letter; 2] = [Letter(0), Letter(2)];
+const BLOCK: &[Letter] = &[Letter(0), Letter(2)];
 
 // Two words, and how they compare in the canonical order, by the weights and by the block.
-const COMPARED: [(&str, &str, [Ordering; 3]); 7] = [
+type Compared = (&'static str, &'static str, [Ordering; 3]);
+
+const COMPARED: &[Compared] = &[
     (
         "bab",
         "aba",
@@ -210,26 +218,90 @@ const COMPARED: [(&str, &str, [Ordering; 3]); 7] = [
     ),
 ];
 
+// Asserts how two words compare in the three orders, and in the canonical one alone.
+fn compare_words(
+    rt: &impl Abort,
+    degree: &AnyOrder,
+    by_weight: &AnyOrder,
+    by_block: &AnyOrder,
+    words: (&Word, &Word),
+    row: &Compared,
+)
+    requires degree { 2 ^ 16 ≤ letters_of degree.now }
+    requires by_weight { 2 ^ 16 ≤ letters_of by_weight.now }
+    requires by_block { 2 ^ 16 ≤ letters_of by_block.now }
+{
+    let (first, second) = words;
+    let (left, right, want) = row;
+    let got = [
+        compared(degree, first, second),
+        compared(shared(by_weight), first, second),
+        compared(by_block, first, second),
+    ];
+    assert_eq!(rt; got, *want, "{left} and {right}");
+    assert_eq!(rt; compared(shared(&DegLex::new()), first, second), want[0]);
+}
+
+// Asserts what holds of any two words.
+fn follow_laws(
+    rt: &impl Abort,
+    alloc: Global,
+    by_weight: &AnyOrder,
+    by_block: &AnyOrder,
+    words: (&Word, &Word),
+) -> Result<(), Fail>
+    requires by_weight { 2 ^ 16 ≤ letters_of by_weight.now }
+    requires by_block { 2 ^ 16 ≤ letters_of by_block.now }
+{
+    let (first, second) = words;
+    let around = (second, first);
+    assert!(rt; stays_below(&DegLex::new(), first, second, around)?);
+    assert!(rt; stays_below(by_weight, first, second, around)?);
+    assert!(rt; is_above_empty(alloc, &DegLex::new(), first));
+    assert!(rt; is_above_empty(alloc, by_block, first));
+    Ok(())
+}
+
+fn compare_row(
+    rt: &impl Abort,
+    alloc: Global,
+    degree: &AnyOrder,
+    by_weight: &AnyOrder,
+    by_block: &AnyOrder,
+    row: &Compared,
+) -> Result<(), Fail>
+    requires degree { 2 ^ 16 ≤ letters_of degree.now }
+    requires by_weight { 2 ^ 16 ≤ letters_of by_weight.now }
+    requires by_block { 2 ^ 16 ≤ letters_of by_block.now }
+{
+    let first = word(alloc, row.0)?;
+    let second = word(alloc, row.1)?;
+    compare_words(rt, degree, by_weight, by_block, (&first, &second), row);
+    follow_laws(rt, alloc, by_weight, by_block, (&first, &second))
+}
+
+fn compare_rows(
+    rt: &impl Abort,
+    alloc: Global,
+    degree: &AnyOrder,
+    by_weight: &AnyOrder,
+    by_block: &AnyOrder,
+) -> Result<(), Fail>
+    requires degree { 2 ^ 16 ≤ letters_of degree.now }
+    requires by_weight { 2 ^ 16 ≤ letters_of by_weight.now }
+    requires by_block { 2 ^ 16 ≤ letters_of by_block.now }
+{
+    for row in COMPARED {
+        compare_row(rt, alloc, degree, by_weight, by_block, row)?;
+    }
+    Ok(())
+}
+
 #[test]
 fn orders_compare_what_they_are_named_for(rt: HostRuntime) -> Result<(), Fail> {
     let alloc = rt.alloc();
-    let by_weight = by_weights(alloc, &HEAVY, LETTERS)?;
-    let by_block = by_block(alloc, &BLOCK, LETTERS)?;
+    let by_weight = by_weights(alloc, HEAVY, LETTERS)?;
+    let by_block = by_block(alloc, BLOCK, LETTERS)?;
     let degree = AnyOrder::new(alloc, &OrderSpec::Degree, LETTERS)?;
-    for (left, right, want) in &COMPARED {
-        let (first, second) = (word(alloc, left)?, word(alloc, right)?);
-        let got = [
-            compared(&degree, &first, &second),
-            compared(shared(&by_weight), &first, &second),
-            compared(&by_block, &first, &second),
-        ];
-        assert_eq!(rt; got, *want, "{left} and {right}");
-        assert_eq!(rt; compared(shared(&DegLex::new()), &first, &second), want[0]);
-        let around = (&second, &first);
-        assert!(rt; stays_below(&DegLex::new(), &first, &second, around)?);
-        assert!(rt; stays_below(&by_weight, &first, &second, around)?);
-        assert!(rt; is_above_empty(alloc, &DegLex::new(), &first));
-        assert!(rt; is_above_empty(alloc, &by_block, &first));
-    }
-    Ok(())
+    compare_rows(&rt, alloc, &degree, &by_weight, &by_block)
 }

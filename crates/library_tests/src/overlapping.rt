@@ -5,12 +5,14 @@ ghost use Rattle.ambiguities.specs.Ambiguities.{IsAmbiguity};
 use crate::notation::{write_word, written_fault, written_poly, written_rows};
 use crate::rules::rules_of;
 use ambiguities::{
-    Ambiguity, Kind, between, leading_words_cancel, overlap_word, s_poly, s_polynomials_are_typed,
-    s_polynomials_balance,
+    Ambiguity, Kind, SPoly, between, leading_words_cancel, overlap_word, s_poly,
+    s_polynomials_are_typed, s_polynomials_balance,
 };
+use nc_polynomial::PolyFault;
 use rule_reduce::Rules;
 use std::alloc::{AllocError, Global};
 use std::test::Fail;
+use word_core::Word;
 use word_orders::DegLex;
 
 // A name, rules, the least number that one rule of an ambiguity is to have, and the ambiguities in their order.
@@ -22,7 +24,7 @@ type Listed = (
 );
 
 // Of a rule the leading word is what is written first.
-const LISTED: [Listed; 7] = [
+const LISTED: &[Listed] = &[
     ("no rule", &[], 0, &[]),
     (
         "bab with itself",
@@ -65,7 +67,9 @@ const LISTED: [Listed; 7] = [
     ),
 ];
 
-fn numbers(alloc: Global, found: &[Ambiguity]) -> Result<Vec<(u32, u32, Kind, u32)>, AllocError> {
+type Numbers = Vec<(u32, u32, Kind, u32)>;
+
+fn numbers(alloc: Global, found: &[Ambiguity]) -> Result<Numbers, AllocError> {
     let mut numbers = Vec::new(alloc);
     for which in found {
         numbers.push((which.i, which.j, which.kind, which.place))?;
@@ -73,12 +77,22 @@ fn numbers(alloc: Global, found: &[Ambiguity]) -> Result<Vec<(u32, u32, Kind, u3
     Ok(numbers)
 }
 
+fn listed_between(alloc: Global, rules: &Rules<DegLex>, from: u32) -> Result<Numbers, AllocError> {
+    let found = between(rules, from)?;
+    numbers(alloc, found.as_slice())
+}
+
+// The ambiguities of the rules of polynomials.
+fn listed(alloc: Global, texts: &[&str], from: u32) -> Result<Numbers, Fail> {
+    let rules = rules_of(alloc, DegLex::new(), texts)?;
+    Ok(listed_between(alloc, &rules, from)?)
+}
+
 #[test]
 fn ambiguities_are_listed_in_order(rt: HostRuntime) -> Result<(), Fail> {
     let alloc = rt.alloc();
-    for (name, texts, from, want) in &LISTED {
-        let rules = rules_of(alloc, DegLex::new(), texts)?;
-        let got = numbers(alloc, between(&rules, *from)?.as_slice())?;
+    for (name, texts, from, want) in LISTED {
+        let got = listed(alloc, texts, *from)?;
         assert_eq!(rt; got.as_slice(), *want, "{name}");
     }
     Ok(())
@@ -99,7 +113,7 @@ fn nth(rules: &Rules<DegLex>, place: usize) -> Result<Option<Ambiguity>, AllocEr
 // A name, two rules, the place of an ambiguity in their list, and its overlap word, S-polynomial and rows, or the fault.
 type Row = (&'static str, &'static [&'static str], usize, &'static str);
 
-const ROWS: [Row; 6] = [
+const ROWS: &[Row] = &[
     (
         "3 (2 ba - a) b - 2 b (3 ab - b)",
         &["2 ba + -1 a", "3 ab + -1 b"],
@@ -141,29 +155,60 @@ const ROWS: [Row; 6] = [
     ),
 ];
 
+fn overlap_text(
+    alloc: Global,
+    rules: &Rules<DegLex>,
+    which: &Ambiguity,
+) -> Result<String, AllocError>
+    requires { IsAmbiguity rules.now.rules which.now }
+{
+    let word = overlap_word(rules, which)?;
+    written_word(alloc, &word)
+}
+
+fn written_word(alloc: Global, word: &Word) -> Result<String, AllocError> {
+    let mut text = String::new(alloc);
+    write_word(&mut text, word)?;
+    Ok(text)
+}
+
+// The S-polynomial and its rows, or the fault.
+fn made_text(alloc: Global, made: &Result<SPoly, PolyFault>) -> Result<String, AllocError> {
+    match made {
+        Ok(made) => {
+            let poly = written_poly(alloc, &made.poly)?;
+            let rows = written_rows(alloc, made.rows.as_slice())?;
+            format!(in alloc; "{poly} | {rows}")
+        }
+        Err(fault) => written_fault(alloc, fault),
+    }
+}
+
 // What is told of an ambiguity of rules.
+fn told_of(alloc: Global, rules: &Rules<DegLex>, which: &Ambiguity) -> Result<String, AllocError>
+    requires { IsAmbiguity rules.now.rules which.now }
+{
+    let word = overlap_text(alloc, rules, which)?;
+    let made = made_text(alloc, &s_poly(rules, which))?;
+    format!(in alloc; "{word} | {made}")
+}
+
+fn told_at(alloc: Global, rules: &Rules<DegLex>, place: usize) -> Result<String, Fail> {
+    match nth(rules, place)? {
+        Some(which) => Ok(told_of(alloc, rules, &which)?),
+        None => Err(Fail::new("there is no such ambiguity")),
+    }
+}
+
+// What is told of the ambiguity at a place of the list of the rules of polynomials.
 fn told(alloc: Global, texts: &[&str], place: usize) -> Result<String, Fail> {
     let rules = rules_of(alloc, DegLex::new(), texts)?;
-    let Some(which) = nth(&rules, place)? else {
-        return Err(Fail::new("there is no such ambiguity"));
-    };
-    let mut text = String::new(alloc);
-    write_word(&mut text, &overlap_word(&rules, &which)?)?;
-    text.push_str(" | ")?;
-    match s_poly(&rules, &which) {
-        Ok(made) => {
-            text.push_str(&written_poly(alloc, &made.poly)?)?;
-            text.push_str(" | ")?;
-            text.push_str(&written_rows(alloc, made.rows.as_slice())?)?;
-        }
-        Err(fault) => text.push_str(&written_fault(alloc, &fault)?)?,
-    }
-    Ok(text)
+    told_at(alloc, &rules, place)
 }
 
 #[test]
 fn s_polynomials_are_as_worked_out(rt: HostRuntime) -> Result<(), Fail> {
-    for (name, texts, place, want) in &ROWS {
+    for (name, texts, place, want) in ROWS {
         let got = told(rt.alloc(), texts, *place)?;
         assert_eq!(rt; got.as_str(), *want, "{name}");
     }

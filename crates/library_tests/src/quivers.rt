@@ -3,6 +3,7 @@ use crate::texts::{all_over, is_over, quiver_of, same, word};
 use nc_polynomial::{Poly, PolyFault};
 use quiver::{Named, Quiver, QuiverStop, Sig};
 use std::alloc::{AllocError, Global};
+use std::process::Abort;
 use std::test::Fail;
 use word_core::{Letter, Object};
 
@@ -30,7 +31,7 @@ fn sum(alloc: Global, words: &[&[u16]]) -> Result<Poly, PolyFault> {
 }
 
 // Names, and what they stand for.
-const NAMED: [(&str, Option<Named>); 6] = [
+const NAMED: &[(&str, Option<Named>)] = &[
     ("U", Some(Named::Object(Object(0)))),
     ("V", Some(Named::Object(Object(1)))),
     ("a", Some(Named::Map(Letter(2)))),
@@ -42,14 +43,18 @@ const NAMED: [(&str, Option<Named>); 6] = [
 #[test]
 fn names_are_found(rt: HostRuntime) -> Result<(), Fail> {
     let quiver = small(rt.alloc())?;
-    for (name, want) in &NAMED {
-        assert_eq!(rt; quiver.find(name), *want, "{name}");
-    }
+    find_names(&rt, &quiver);
     Ok(())
 }
 
+fn find_names(rt: &impl Abort, quiver: &Quiver) {
+    for (name, want) in NAMED {
+        assert_eq!(rt; quiver.find(name), *want, "{name}");
+    }
+}
+
 // Letters by their numbers, with their names, their adjoints, their sources and their targets.
-const LETTERS: [(u16, &str, u16, u16, u16); 5] = [
+const LETTERS: &[(u16, &str, u16, u16, u16)] = &[
     (0, "U", 0, 0, 0),
     (1, "V", 1, 1, 1),
     (2, "a", 3, 0, 1),
@@ -60,29 +65,40 @@ const LETTERS: [(u16, &str, u16, u16, u16); 5] = [
 #[test]
 fn letters_are_numbered_in_the_order_of_declaration(rt: HostRuntime) -> Result<(), Fail> {
     let quiver = small(rt.alloc())?;
+    compare_letters(&rt, &quiver);
+    Ok(())
+}
+
+fn compare_letters(rt: &impl Abort, quiver: &Quiver) {
     assert_eq!(rt; (quiver.objects(), quiver.letters()), (2, 5));
-    for (number, name, star, source, target) in &LETTERS {
+    for (number, name, star, source, target) in LETTERS {
         let letter = Letter(*number);
         assert!(rt; u32::from(letter.0) < quiver.letters());
-        same(&rt, quiver.letter_name(letter), name, name);
+        same(rt, quiver.letter_name(letter), name, name);
         let got = (quiver.star_of(letter), quiver.signature_of(letter));
         let want = (Letter(*star), signature(*source, *target));
         assert_eq!(rt; got, want, "{number}");
     }
-    Ok(())
 }
+
+// Objects by their numbers, with their names and their identities.
+const IDENTITIES: &[(u16, &str, u16)] = &[(0, "U", 0), (1, "V", 1), (2, "W", 5)];
 
 #[test]
 fn an_object_after_a_map_has_a_later_identity(rt: HostRuntime) -> Result<(), Fail> {
     let mut quiver = small(rt.alloc())?;
     quiver.add_object("W")?;
-    for (number, name, identity) in [(0, "U", 0), (1, "V", 1), (2, "W", 5)] {
-        let object = Object(number);
-        assert!(rt; u32::from(object.0) < quiver.objects());
-        assert_eq!(rt; quiver.object_name(object), name);
-        assert_eq!(rt; quiver.identity_of(object), Letter(identity), "{name}");
-    }
+    compare_identities(&rt, &quiver);
     Ok(())
+}
+
+fn compare_identities(rt: &impl Abort, quiver: &Quiver) {
+    for (number, name, identity) in IDENTITIES {
+        let object = Object(*number);
+        assert!(rt; u32::from(object.0) < quiver.objects());
+        same(rt, quiver.object_name(object), name, name);
+        assert_eq!(rt; quiver.identity_of(object), Letter(*identity), "{name}");
+    }
 }
 
 const DOUBLE: &str = "the name is declared";
@@ -111,8 +127,10 @@ fn refusal(
     }
 }
 
-// Quivers with so many objects more, and then with so many maps more from the first object to itself, and what they refuse.
-const REFUSALS: [(u32, u32, &[Refusal]); 3] = [
+// So many objects more, and then so many maps more from the first object to itself, and what a quiver with them refuses.
+type Refusals = (u32, u32, &'static [Refusal]);
+
+const REFUSALS: &[Refusals] = &[
     (
         0,
         0,
@@ -151,19 +169,32 @@ fn declare(alloc: Global, quiver: &mut Quiver, objects: u32, maps: u32) -> Resul
 
 #[test]
 fn a_refused_declaration_leaves_the_quiver(rt: HostRuntime) -> Result<(), Fail> {
-    let alloc = rt.alloc();
-    for (objects, maps, rows) in &REFUSALS {
-        let mut quiver = small(alloc)?;
-        declare(alloc, &mut quiver, *objects, *maps)?;
-        let letters = quiver.letters();
-        for (name, object, want) in *rows {
-            let got = refusal(alloc, &mut quiver, name, *object)?;
-            assert_eq!(rt; got.as_str(), *want, "{name}");
-        }
-        assert_eq!(rt; quiver.letters(), letters);
-        for name in ["q", "n", "W"] {
-            assert_eq!(rt; quiver.find(name), None, "{name}");
-        }
+    for refusals in REFUSALS {
+        let mut quiver = small(rt.alloc())?;
+        refuse(&rt, rt.alloc(), &mut quiver, refusals)?;
+    }
+    Ok(())
+}
+
+// Names that are refused.
+const REFUSED: &[&str] = &["q", "n", "W"];
+
+fn refuse(
+    rt: &impl Abort,
+    alloc: Global,
+    quiver: &mut Quiver,
+    refusals: &Refusals,
+) -> Result<(), Fail> {
+    let (objects, maps, rows) = *refusals;
+    declare(alloc, quiver, objects, maps)?;
+    let letters = quiver.letters();
+    for (name, object, want) in rows {
+        let got = refusal(alloc, quiver, name, *object)?;
+        same(rt, got.as_str(), want, name);
+    }
+    assert_eq!(rt; quiver.letters(), letters);
+    for name in REFUSED {
+        assert_eq!(rt; quiver.find(name), None, "{name}");
     }
     Ok(())
 }
@@ -172,9 +203,13 @@ fn a_refused_declaration_leaves_the_quiver(rt: HostRuntime) -> Result<(), Fail> 
 fn the_last_names_are_found(rt: HostRuntime) -> Result<(), Fail> {
     let mut quiver = small(rt.alloc())?;
     declare(rt.alloc(), &mut quiver, 62, 198)?;
+    find_last_names(&rt, &quiver);
+    Ok(())
+}
+
+fn find_last_names(rt: &impl Abort, quiver: &Quiver) {
     assert_eq!(rt; quiver.find("V61"), Some(Named::Object(Object(63))));
     assert_eq!(rt; quiver.find("m197"), Some(Named::Map(Letter(461))));
-    Ok(())
 }
 
 // A polynomial as its words, and its signature.
@@ -196,7 +231,7 @@ const VV: Option<Sig> = Some(Sig {
 });
 
 // One word, and sums.
-const SIGNED: [Signed; 14] = [
+const SIGNED: &[Signed] = &[
     (&[&[]], None),
     (&[&[0]], UU),
     (&[&[4, 2]], UV),
@@ -216,15 +251,35 @@ const SIGNED: [Signed; 14] = [
 #[test]
 fn letters_of_a_path_meet_and_words_of_a_polynomial_agree(rt: HostRuntime) -> Result<(), Fail> {
     let quiver = small(rt.alloc())?;
-    for (words, want) in &SIGNED {
-        let poly = sum(rt.alloc(), words)?;
-        assert!(rt; all_over(&poly, quiver.letters()));
-        assert_eq!(rt; quiver.poly_signature(&poly), *want, "{words:?}");
+    compare_signatures(&rt, rt.alloc(), &quiver)
+}
+
+fn compare_signatures(rt: &impl Abort, alloc: Global, quiver: &Quiver) -> Result<(), Fail> {
+    for (words, want) in SIGNED {
+        assert_eq!(rt; signature_of_sum(alloc, quiver, words)?, *want, "{words:?}");
         if let [letters] = *words {
-            let path = word(rt.alloc(), letters)?;
-            assert!(rt; is_over(&path, quiver.letters()));
-            assert_eq!(rt; quiver.word_signature(&path), *want, "{words:?}");
+            assert_eq!(rt;
+                signature_of_path(alloc, quiver, letters)?,
+                *want,
+                "{words:?}"
+            );
         }
     }
     Ok(())
+}
+
+fn signature_of_sum(alloc: Global, quiver: &Quiver, words: &[&[u16]]) -> Result<Option<Sig>, Fail> {
+    let poly = sum(alloc, words)?;
+    if !all_over(&poly, quiver.letters()) {
+        return Err(Fail::new("a letter is not of the quiver"));
+    }
+    Ok(quiver.poly_signature(&poly))
+}
+
+fn signature_of_path(alloc: Global, quiver: &Quiver, letters: &[u16]) -> Result<Option<Sig>, Fail> {
+    let path = word(alloc, letters)?;
+    if !is_over(&path, quiver.letters()) {
+        return Err(Fail::new("a letter is not of the quiver"));
+    }
+    Ok(quiver.word_signature(&path))
 }

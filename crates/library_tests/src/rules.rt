@@ -13,15 +13,16 @@ use rule_reduce::{
     reductions_balance, rests_are_irreducible, rows_are_by_rules, types_are_kept, words_stay_below,
 };
 use std::alloc::{AllocError, Global};
+use std::process::Abort;
 use std::test::Fail;
 use word_core::{Letter, Word};
 use word_orders::{DegLex, WeightLex, WordOrder};
 
 // The words of an index with their numbers, which ascend.
-const INDEXED: [(&str, u32); 2] = [("cb", 3), ("b", 5)];
+const INDEXED: &[(&str, u32)] = &[("cb", 3), ("b", 5)];
 
 // A word, and the least number whose word is in it with the leftmost place.
-const MATCHES: [(&str, Option<(u32, usize)>); 5] = [
+const MATCHES: &[(&str, Option<(u32, usize)>)] = &[
     ("becbcb", Some((3, 2))),
     ("cebb", Some((5, 2))),
     ("b", Some((5, 0))),
@@ -46,10 +47,14 @@ fn index_of(alloc: Global, words: &[(&str, u32)]) -> Result<Index, Fail> {
 
 #[test]
 fn the_least_number_counts_and_then_the_leftmost_place(rt: HostRuntime) -> Result<(), Fail> {
-    let index = index_of(rt.alloc(), &INDEXED)?;
-    for (text, want) in &MATCHES {
-        let got = index.first_match(&word(rt.alloc(), text)?);
-        assert_eq!(rt; got, *want, "{text}");
+    let index = index_of(rt.alloc(), INDEXED)?;
+    find_matches(&rt, rt.alloc(), &index)
+}
+
+fn find_matches(rt: &impl Abort, alloc: Global, index: &Index) -> Result<(), Fail> {
+    for (text, want) in MATCHES {
+        let word = word(alloc, text)?;
+        assert_eq!(rt; index.first_match(&word), *want, "{text}");
     }
     Ok(())
 }
@@ -72,7 +77,7 @@ fn may_push<O: WordOrder + Drop>(rules: &Rules<O>, poly: &Poly) -> bool
 }
 
 // Polynomials, and whether they may be pushed.
-const PUSHED: [(&str, bool); 5] = [
+const PUSHED: &[(&str, bool)] = &[
     ("2 b + -1 a", true),
     ("2 b + -2 a", false),
     ("-2 b + 1 a", false),
@@ -83,10 +88,27 @@ const PUSHED: [(&str, bool); 5] = [
 #[test]
 fn only_such_polynomials_may_be_pushed(rt: HostRuntime) -> Result<(), Fail> {
     let rules = Rules::new(rt.alloc(), DegLex::new())?;
-    for (text, want) in &PUSHED {
-        let got = may_push(&rules, &poly(rt.alloc(), text)?);
-        assert_eq!(rt; got, *want, "{text}");
+    compare_pushed(&rt, rt.alloc(), &rules)
+}
+
+fn compare_pushed(rt: &impl Abort, alloc: Global, rules: &Rules<DegLex>) -> Result<(), Fail> {
+    for (text, want) in PUSHED {
+        let poly = poly(alloc, text)?;
+        assert_eq!(rt; may_push(rules, &poly), *want, "{text}");
     }
+    Ok(())
+}
+
+// Pushes a polynomial that may be pushed.
+fn push<O: WordOrder + Drop>(rules: &mut Rules<O>, poly: Poly) -> Result<(), Fail>
+    requires { 2 ^ 16 ≤ O.letters rules.old.order }
+    ensures { rules.new.order ≡ rules.old.order }
+{
+    read_letters(&rules.order, poly.terms.as_slice());
+    if !rules.may_push(&poly) {
+        return Err(Fail::new("the polynomial may not be pushed"));
+    }
+    rules.push(poly)?;
     Ok(())
 }
 
@@ -102,11 +124,7 @@ pub fn rules_of<O: WordOrder + Drop>(
     let mut rules = Rules::new(alloc, order)?;
     for text in polys {
         let poly = poly(alloc, text)?;
-        read_letters(&rules.order, poly.terms.as_slice());
-        if !rules.may_push(&poly) {
-            return Err(Fail::new("the polynomial may not be pushed"));
-        }
-        rules.push(poly)?;
+        push(&mut rules, poly)?;
     }
     Ok(rules)
 }
@@ -114,20 +132,29 @@ pub fn rules_of<O: WordOrder + Drop>(
 // The rules with their leading terms.
 fn written_rules<O: WordOrder + Drop>(alloc: Global, rules: &Rules<O>) -> Result<String, Fail> {
     let mut text = String::new(alloc);
+    write_rules(&mut text, alloc, rules)?;
+    Ok(text)
+}
+
+fn write_rules<O: WordOrder + Drop>(
+    text: &mut String,
+    alloc: Global,
+    rules: &Rules<O>,
+) -> Result<(), AllocError> {
     for place in 0..rules.len() {
         let (leading, lead) = rules.lead(place + 1);
-        write_number(&mut text, leading)?;
+        write_number(text, leading)?;
         text.push_str(" ")?;
-        write_word(&mut text, lead)?;
+        write_word(text, lead)?;
         text.push_str(" of ")?;
         text.push_str(&written_poly(alloc, rules.poly(place + 1))?)?;
         text.push_str("; ")?;
     }
-    Ok(text)
+    Ok(())
 }
 
 // The multiplier, the rest, the rows and the number of steps of a normal form, or why there is none.
-fn told(alloc: Global, form: Result<Reduced, ReduceFault>) -> Result<String, AllocError> {
+fn told(alloc: Global, form: &Result<Reduced, ReduceFault>) -> Result<String, AllocError> {
     match form {
         Ok(form) => {
             let rest = written_poly(alloc, &form.rest)?;
@@ -136,7 +163,7 @@ fn told(alloc: Global, form: Result<Reduced, ReduceFault>) -> Result<String, All
         }
         Err(ReduceFault::Overflow(overflow)) => {
             let mut text = String::new(alloc);
-            write_overflow(&mut text, &overflow)?;
+            write_overflow(&mut text, overflow)?;
             Ok(text)
         }
         Err(fault) => format!(in alloc; "{fault}"),
@@ -161,9 +188,35 @@ fn reduced<O: WordOrder + Drop>(
 {
     let rules = rules_of(alloc, order, reduction.rules)?;
     let poly = poly(alloc, reduction.poly)?;
+    told_of(alloc, &rules, &poly, reduction.steps)
+}
+
+fn told_of<O: WordOrder + Drop>(
+    alloc: Global,
+    rules: &Rules<O>,
+    poly: &Poly,
+    steps: u32,
+) -> Result<(String, String), Fail>
+    requires { 2 ^ 16 ≤ O.letters rules.now.order }
+{
     read_letters(&rules.order, poly.terms.as_slice());
-    let form = told(alloc, rules.normal_form(&poly, reduction.steps))?;
-    Ok((written_rules(alloc, &rules)?, form))
+    let form = told(alloc, &rules.normal_form(poly, steps))?;
+    Ok((written_rules(alloc, rules)?, form))
+}
+
+// The same in the canonical order, or else by the weight of b.
+fn reduced_by(
+    alloc: Global,
+    weight: Option<u32>,
+    reduction: Reduction,
+) -> Result<(String, String), Fail> {
+    match weight {
+        None => reduced(alloc, DegLex::new(), reduction),
+        Some(weight) => {
+            let order = WeightLex::new(alloc, &[(Letter(1), weight)], 65536)?;
+            reduced(alloc, order, reduction)
+        }
+    }
 }
 
 // The rules 2 b - a and 3 c - b.
@@ -181,7 +234,7 @@ type Row = (
     (&'static str, &'static str),
 );
 
-const ROWS: [Row; 11] = [
+const ROWS: &[Row] = &[
     (
         "one step",
         None,
@@ -264,19 +317,13 @@ const ROWS: [Row; 11] = [
 #[test]
 fn normal_forms_are_as_worked_out(rt: HostRuntime) -> Result<(), Fail> {
     let alloc = rt.alloc();
-    for (name, weight, rules, poly, steps, want) in &ROWS {
+    for (name, weight, rules, poly, steps, want) in ROWS {
         let reduction = Reduction {
             rules,
             poly,
             steps: *steps,
         };
-        let (rules, form) = match weight {
-            None => reduced(alloc, DegLex::new(), reduction)?,
-            Some(weight) => {
-                let order = WeightLex::new(alloc, &[(Letter(1), *weight)], 65536)?;
-                reduced(alloc, order, reduction)?
-            }
-        };
+        let (rules, form) = reduced_by(alloc, *weight, reduction)?;
         assert_eq!(rt; (rules.as_str(), form.as_str()), *want, "{name}");
     }
     Ok(())

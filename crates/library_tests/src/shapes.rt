@@ -6,7 +6,7 @@ use std::alloc::Global;
 use std::test::Fail;
 
 // A modulus, the sides of the objects, and what is told of the shape.
-const ROWS: [(u32, &[u32], &str); 9] = [
+const ROWS: &[(u32, &[u32], &str)] = &[
     (2, &[1, 2], "a shape"),
     (65537, &[6, 1], "a shape"),
     (7, &[], "a shape"),
@@ -36,7 +36,7 @@ fn told(alloc: Global, modulus: u32, sides: &[u32]) -> Result<String, Fail> {
 
 #[test]
 fn the_modulus_counts_before_the_sides(rt: HostRuntime) -> Result<(), Fail> {
-    for (modulus, sides, want) in &ROWS {
+    for (modulus, sides, want) in ROWS {
         let got = told(rt.alloc(), *modulus, sides)?;
         assert_eq!(rt; got.as_str(), *want, "{modulus}: {sides:?}");
     }

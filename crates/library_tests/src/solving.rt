@@ -6,6 +6,7 @@ use crate::texts::same;
 use lists::Listing;
 use matrix_models::{LinearRow, System, solve};
 use std::alloc::{AllocError, Global};
+use std::process::Abort;
 use std::test::Fail;
 
 // The factors of an equation, and its right side.
@@ -84,16 +85,20 @@ fn solution(alloc: Global, system: &System, prefer: &[u32]) -> Result<Option<Vec
     }
 }
 
+fn equation_of(alloc: Global, equation: &Equation) -> Result<LinearRow, AllocError> {
+    let factors = Listing::from_vec(equation.0.to_vec(alloc)?);
+    Ok(LinearRow {
+        factors,
+        right: equation.1,
+    })
+}
+
 // The system of a row.
 fn system_of(alloc: Global, row: &Row) -> Result<System, AllocError> {
     let (modulus, unknowns, equations, _, _) = row;
     let mut rows = Listing::new(alloc);
-    for (factors, right) in *equations {
-        let factors = Listing::from_vec(factors.to_vec(alloc)?);
-        rows.push(LinearRow {
-            factors,
-            right: *right,
-        })?;
+    for equation in *equations {
+        rows.push(equation_of(alloc, equation)?)?;
     }
     Ok(System {
         modulus: *modulus,
@@ -115,8 +120,12 @@ fn written(alloc: Global, values: &[u32]) -> Result<String, AllocError> {
 // What is told of the solution of a row.
 fn told(alloc: Global, row: &Row) -> Result<String, Fail> {
     let system = system_of(alloc, row)?;
-    match solution(alloc, &system, row.3)? {
-        Some(values) => Ok(written(alloc, &values)?),
+    told_of(alloc, &system, row.3)
+}
+
+fn told_of(alloc: Global, system: &System, prefer: &[u32]) -> Result<String, Fail> {
+    match &solution(alloc, system, prefer)? {
+        Some(values) => Ok(written(alloc, values)?),
         None => Ok(String::from_str(alloc, "none")?),
     }
 }
@@ -170,7 +179,12 @@ fn differences(alloc: Global) -> Result<System, AllocError> {
 #[test]
 fn differences_give_the_squares(rt: HostRuntime) -> Result<(), Fail> {
     let system = differences(rt.alloc())?;
-    match solution(rt.alloc(), &system, &[0; 40])? {
+    let got = solution(rt.alloc(), &system, &[0; 40])?;
+    compare_squares(&rt, &got)
+}
+
+fn compare_squares(rt: &impl Abort, got: &Option<Vec<u32>>) -> Result<(), Fail> {
+    match got {
         Some(values) => assert_eq!(rt; values.as_slice(), SQUARES.as_slice()),
         None => return Err(Fail::new("there is a solution")),
     }

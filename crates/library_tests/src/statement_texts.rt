@@ -1,14 +1,16 @@
 //! Statement texts: what is written back of them, their first faults, and their problems.
+ghost use Rattle.std.specs.Prelude.{◌≤◌, length};
+
 use crate::name_rows::{LIMITS, NAMES, NUMBERS};
 use crate::problem_rows::{ARITHMETIC, LATE, PROBLEMS, SIGNATURES};
 use crate::statement_rows::{
-    FAULTS, LINES, LITERALS, MISFITS, NAMED, NESTED, NOT_UTF8, STATEMENTS,
+    FAULTS, LINES, LITERALS, MISFITS, NAMED, NESTED, NOT_UTF8, Row, STATEMENTS,
 };
 use crate::texts::{poly_text, problem_of, repeated, same};
 use adjoint_rules::Problem;
 use lists::Text;
 use signature_typing::{TypeFault, problem_is_unique};
-use statement_syntax::{Spot, StatementKind, SyntaxFault, read_tree, write_tree};
+use statement_syntax::{Spot, StatementKind, SyntaxFault, Tree, read_tree, write_tree};
 use std::alloc::{AllocError, Global};
 use std::test::Fail;
 
@@ -17,17 +19,19 @@ fn written(alloc: Global, text: &[u8]) -> Result<String, Fail> {
     if text.len() > 1000 {
         return Err(Fail::new("the text is too long for a test"));
     }
-    match read_tree(alloc, text) {
-        Ok(tree) => Ok(String::from_utf8(write_tree(alloc, &tree)?)?),
-        Err(SyntaxFault::Memory(failed)) => Err(Fail::new(failed)),
+    match &read_tree(alloc, text) {
+        Ok(tree) => Ok(String::from_utf8(write_tree(alloc, tree)?)?),
+        Err(SyntaxFault::Memory(failed)) => Err(Fail::new(*failed)),
         Err(fault) => Ok(format!(in alloc; "{fault}")?),
     }
 }
 
+const WRITTEN: &[&[Row]] = &[STATEMENTS, LINES, NAMED, LITERALS, FAULTS, MISFITS];
+
 #[test]
 fn a_text_is_written_back_or_its_first_fault_told(rt: HostRuntime) -> Result<(), Fail> {
-    for rows in [STATEMENTS, LINES, NAMED, LITERALS, FAULTS, MISFITS] {
-        for (text, want) in rows {
+    for rows in WRITTEN {
+        for (text, want) in *rows {
             let got = written(rt.alloc(), text.as_bytes())?;
             same(&rt, got.as_str(), want, text);
         }
@@ -39,11 +43,16 @@ fn a_text_is_written_back_or_its_first_fault_told(rt: HostRuntime) -> Result<(),
     Ok(())
 }
 
+// A claim with a letter in 64 brackets.
+fn most_nested(alloc: Global) -> Result<String, AllocError> {
+    let right = ")".repeat(alloc, 64)?;
+    let left = "(".repeat(alloc, 64)?;
+    format!(in alloc; "claim {left}a{right} = a\n")
+}
+
 #[test]
 fn the_65th_nested_bracket_is_too_deep(rt: HostRuntime) -> Result<(), Fail> {
-    let right = ")".repeat(rt.alloc(), 64)?;
-    let left = "(".repeat(rt.alloc(), 64)?;
-    let most = format!(in rt.alloc(); "claim {left}a{right} = a\n")?;
+    let most = most_nested(rt.alloc())?;
     let got = written(rt.alloc(), most.as_bytes())?;
     same(&rt, got.as_str(), most.as_str(), "64");
     for row in NESTED {
@@ -54,10 +63,7 @@ fn the_65th_nested_bracket_is_too_deep(rt: HostRuntime) -> Result<(), Fail> {
     Ok(())
 }
 
-#[test]
-fn a_sum_stands_at_its_sign_and_a_term_after_it(rt: HostRuntime) -> Result<(), Fail> {
-    let tree = read_tree(rt.alloc(), b"object U\n claim - 2 a + b' = c")?;
-    let mut places = Vec::new(rt.alloc());
+fn push_places(places: &mut Vec<Spot>, tree: &Tree) -> Result<(), AllocError> {
     for statement in tree.statements.as_slice() {
         places.push(statement.at)?;
         if let StatementKind::Claim(left, _) = &statement.kind {
@@ -67,6 +73,22 @@ fn a_sum_stands_at_its_sign_and_a_term_after_it(rt: HostRuntime) -> Result<(), F
             }
         }
     }
+    Ok(())
+}
+
+// The places of the statements, and in the claims those of the left sides and their terms.
+fn places_of(alloc: Global, text: &[u8]) -> Result<Vec<Spot>, Fail>
+    requires { length text.now ≤ 1000 }
+{
+    let tree = read_tree(alloc, text)?;
+    let mut places = Vec::new(alloc);
+    push_places(&mut places, &tree)?;
+    Ok(places)
+}
+
+#[test]
+fn a_sum_stands_at_its_sign_and_a_term_after_it(rt: HostRuntime) -> Result<(), Fail> {
+    let places = places_of(rt.alloc(), b"object U\n claim - 2 a + b' = c")?;
     let want = [(1, 1), (2, 2), (2, 8), (2, 10), (2, 16)].map(|(line, column)| Spot {
         line,
         column,
@@ -112,12 +134,22 @@ fn ends(alloc: Global, source: &Text, target: &Text) -> Result<String, AllocErro
 
 // The generators, and then the claims, each with its signature.
 fn problem_text(alloc: Global, problem: &Problem) -> Result<String, Fail> {
-    let parts = &problem.parts;
     let mut text = String::new(alloc);
+    write_generators(&mut text, alloc, problem)?;
+    write_claims(&mut text, alloc, problem)?;
+    Ok(text)
+}
+
+fn write_generators(text: &mut String, alloc: Global, problem: &Problem) -> Result<(), Fail> {
     for generator in problem.generators.as_slice() {
-        let poly = poly_text(alloc, &parts.quiver, generator)?;
-        text.push_str(format!(in alloc; "{}\n", poly.as_str())?.as_str())?;
+        let poly = poly_text(alloc, &problem.parts.quiver, generator)?;
+        write!(text, "{poly}\n")?;
     }
+    Ok(())
+}
+
+fn write_claims(text: &mut String, alloc: Global, problem: &Problem) -> Result<(), Fail> {
+    let parts = &problem.parts;
     for (claim, sig) in parts
         .claims
         .as_slice()
@@ -126,12 +158,9 @@ fn problem_text(alloc: Global, problem: &Problem) -> Result<String, Fail> {
     {
         let (source, target) = (sig.source.0, sig.target.0);
         let poly = poly_text(alloc, &parts.quiver, claim)?;
-        text.push_str(format!(in alloc;
-            "claim {source} -> {target}: {}\n",
-            poly.as_str()
-        )?.as_str())?;
+        write!(text, "claim {source} -> {target}: {poly}\n")?;
     }
-    Ok(text)
+    Ok(())
 }
 
 // What is made of the problem of the text, or its first fault.
@@ -143,10 +172,12 @@ fn outcome(alloc: Global, text: &str, whole: bool) -> Result<String, Fail> {
     }
 }
 
+const FAULTY: &[&[Row]] = &[NAMES, NUMBERS, SIGNATURES, ARITHMETIC, LATE];
+
 #[test]
 fn the_first_fault_is_told_with_its_place(rt: HostRuntime) -> Result<(), Fail> {
-    for rows in [NAMES, NUMBERS, SIGNATURES, ARITHMETIC, LATE] {
-        for (text, want) in rows {
+    for rows in FAULTY {
+        for (text, want) in *rows {
             let got = outcome(rt.alloc(), text, false)?;
             same(&rt, got.as_str(), want, text);
         }

@@ -1,5 +1,5 @@
 //! What the themes share: texts that are read, words, and what a call asks of a polynomial.
-ghost use Rattle.std.specs.Prelude.{◌≡◌, IfOk, IsTrue};
+ghost use Rattle.std.specs.Prelude.{◌≡◌, ◌<◌, IfOk, IsTrue};
 ghost use Rattle.std.specs.List.{All};
 ghost use Rattle.coef_int.specs.Range.{IsCoefficient};
 ghost use Rattle.word_core.specs.Letters.{IsOver};
@@ -74,19 +74,21 @@ pub fn repeated(alloc: Global, row: &Repeated) -> Result<String, AllocError> {
     let (front, piece, count, back, _) = row;
     let mut text = String::from_str(alloc, front)?;
     for number in 0..*count {
-        match piece {
-            Piece::Plain(piece) => text.push_str(piece)?,
-            Piece::Numbered(before, after) => {
-                text.push_str(format!(in alloc; "{before}{number}{after}")?.as_str())?
-            }
-            Piece::Counted(before, after) => {
-                let turn = number + 1;
-                text.push_str(format!(in alloc; "{before}{turn}{after}")?.as_str())?
-            }
-        }
+        write_piece(&mut text, piece, number)?;
     }
     text.push_str(back)?;
     Ok(text)
+}
+
+// Writes the piece of this turn.
+fn write_piece(text: &mut String, piece: &Piece, number: u32) -> Result<(), AllocError>
+    requires { number < 4294967295 }
+{
+    match piece {
+        Piece::Plain(piece) => text.push_str(piece),
+        Piece::Numbered(before, after) => write!(text, "{before}{number}{after}"),
+        Piece::Counted(before, after) => write!(text, "{before}{}{after}", number + 1),
+    }
 }
 
 /// The word with these letters.

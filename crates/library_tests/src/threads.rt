@@ -3,6 +3,7 @@ ghost use Rattle.std.specs.Prelude.{◌≡◌, ◌<◌, ◌≤◌, ◌*◌, IfOk
 
 use in_order_parallel::{Gate, Job, OpenGate, map_in_order};
 use std::alloc::{AllocError, Global};
+use std::process::Abort;
 use std::sync::atomic::{AtomicU64, Ordering};
 use std::test::Fail;
 use std::thread::Threads;
@@ -129,21 +130,29 @@ fn answers_are_those_of_one_worker(rt: HostRuntime) -> Result<(), Fail> {
 #[test]
 fn each_place_passes_the_gate_once_and_first(rt: HostRuntime) -> Result<(), Fail> {
     let alloc = rt.alloc();
-    for items in [0, 1, 2, 7, 1000] {
-        for workers in [1, 3, 64] {
-            let log = no_passes(alloc, items)?;
-            let places = Vec::from_iter(alloc, 0..items)?;
-            let answers = map_in_order(&rt, alloc, &places, &log, workers, &log)?;
-            assert_eq!(rt; answers.len(), items, "{items} items, {workers} workers");
-            for (place, before) in answers.iter().enumerate() {
-                assert_eq!(rt; *before, 1, "place {place} of {items}, {workers} workers");
-            }
-            for (place, count) in log.counts.iter().enumerate() {
-                let passed = count.load(Ordering::SeqCst);
-                assert_eq!(rt; passed, 1, "place {place} of {items}, {workers} workers");
-            }
-            assert_eq!(rt; log.strays.load(Ordering::SeqCst), 0);
+    for items in ITEMS {
+        for workers in WORKERS {
+            let log = no_passes(alloc, *items)?;
+            let places = Vec::from_iter(alloc, 0..*items)?;
+            let answers = map_in_order(&rt, alloc, &places, &log, *workers, &log)?;
+            pass_once(&rt, &log, &answers, *items, *workers);
         }
     }
     Ok(())
+}
+
+const ITEMS: &[usize] = &[0, 1, 2, 7, 1000];
+
+const WORKERS: &[u32] = &[1, 3, 64];
+
+fn pass_once(rt: &impl Abort, log: &Passes, answers: &[u64], items: usize, workers: u32) {
+    assert_eq!(rt; answers.len(), items, "{items} items, {workers} workers");
+    for (place, before) in answers.iter().enumerate() {
+        assert_eq!(rt; *before, 1, "place {place} of {items}, {workers} workers");
+    }
+    for (place, count) in log.counts.iter().enumerate() {
+        let passed = count.load(Ordering::SeqCst);
+        assert_eq!(rt; passed, 1, "place {place} of {items}, {workers} workers");
+    }
+    assert_eq!(rt; log.strays.load(Ordering::SeqCst), 0);
 }

@@ -1,16 +1,21 @@
 //! Words: their letters, parts and joins, places and overlaps, and how they compare.
 use crate::notation::{word, write_word};
-use lists::Duplicate;
+use lists::{Duplicate, Listing};
 use std::alloc::Global;
 use std::cmp::Ordering;
+use std::process::Abort;
 use std::test::Fail;
 use word_core::{Letter, Object, Word};
 
-const LETTERS: [u16; 3] = [7, 0, 65535];
+const LETTERS: &[u16] = &[7, 0, 65535];
 
 #[test]
 fn letters_are_read_back(rt: HostRuntime) -> Result<(), Fail> {
     let mut word = Word::new(rt.alloc());
+    read_back(&rt, &mut word)
+}
+
+fn read_back(rt: &impl Abort, word: &mut Word) -> Result<(), Fail> {
     assert_eq!(rt; word.len(), 0);
     for (place, letter) in LETTERS.iter().enumerate() {
         word.push(Letter(*letter))?;
@@ -33,7 +38,7 @@ enum Part {
 }
 
 // A word, what is made of it, and the letters of that.
-const PARTS: [(&str, Part, &str); 9] = [
+const PARTS: &[(&str, Part, &str)] = &[
     ("efgh", Part::Slice(1, 3), "fg"),
     ("efgh", Part::Slice(4, 4), ""),
     ("efgh", Part::Slice(0, 4), "efgh"),
@@ -45,30 +50,50 @@ const PARTS: [(&str, Part, &str); 9] = [
     ("", Part::Copy, ""),
 ];
 
+fn concat(alloc: Global, left: &Word, right: &str) -> Result<Word, Fail> {
+    let right = word(alloc, right)?;
+    Ok(left.concat(&right)?)
+}
+
+fn between(alloc: Global, whole: &Word, left: &str, right: &str) -> Result<Word, Fail> {
+    let left = word(alloc, left)?;
+    let right = word(alloc, right)?;
+    Ok(whole.between(&left, &right)?)
+}
+
 fn made_of(alloc: Global, text: &str, part: Part) -> Result<Word, Fail> {
     let whole = word(alloc, text)?;
+    part_of(alloc, &whole, part)
+}
+
+fn part_of(alloc: Global, whole: &Word, part: Part) -> Result<Word, Fail> {
     Ok(match part {
         Part::Slice(from, to) if from <= to && to <= whole.len() => whole.slice(from, to)?,
         Part::Slice(_, _) => return Err(Fail::new("the part is not in the word")),
-        Part::Concat(right) => whole.concat(&word(alloc, right)?)?,
-        Part::Between(left, right) => whole.between(&word(alloc, left)?, &word(alloc, right)?)?,
+        Part::Concat(right) => concat(alloc, whole, right)?,
+        Part::Between(left, right) => between(alloc, whole, left, right)?,
         Part::Copy => whole.copy()?,
         Part::Duplicate => whole.duplicate()?,
     })
 }
 
+fn write_part(text: &mut String, alloc: Global, whole: &str, part: Part) -> Result<(), Fail> {
+    let made = made_of(alloc, whole, part)?;
+    Ok(write_word(text, &made)?)
+}
+
 #[test]
 fn parts_and_joins_are_as_written(rt: HostRuntime) -> Result<(), Fail> {
-    for (text, call, want) in &PARTS {
+    for (text, call, want) in PARTS {
         let mut got = String::new(rt.alloc());
-        write_word(&mut got, &made_of(rt.alloc(), text, *call)?)?;
+        write_part(&mut got, rt.alloc(), text, *call)?;
         assert_eq!(rt; got.as_str(), *want, "{text}: {call:?}");
     }
     Ok(())
 }
 
 // Words, and their first place in `cbcbd`.
-const PLACES: [(&str, Option<usize>); 6] = [
+const PLACES: &[(&str, Option<usize>)] = &[
     ("", Some(0)),
     ("cb", Some(0)),
     ("b", Some(1)),
@@ -80,18 +105,19 @@ const PLACES: [(&str, Option<usize>); 6] = [
 #[test]
 fn the_leftmost_place_counts(rt: HostRuntime) -> Result<(), Fail> {
     let whole = word(rt.alloc(), "cbcbd")?;
-    for (text, want) in &PLACES {
-        assert_eq!(rt;
-            whole.first_place(&word(rt.alloc(), text)?),
-            *want,
-            "{text}"
-        );
+    find_places(&rt, rt.alloc(), &whole)
+}
+
+fn find_places(rt: &impl Abort, alloc: Global, whole: &Word) -> Result<(), Fail> {
+    for (text, want) in PLACES {
+        let part = word(alloc, text)?;
+        assert_eq!(rt; whole.first_place(&part), *want, "{text}");
     }
     Ok(())
 }
 
 // Words, a place in `cbcbd`, and whether they occur there.
-const OCCURRENCES: [(&str, usize, bool); 4] = [
+const OCCURRENCES: &[(&str, usize, bool)] = &[
     ("cb", 2, true),
     ("cb", 1, false),
     ("bd", 4, false),
@@ -101,16 +127,20 @@ const OCCURRENCES: [(&str, usize, bool); 4] = [
 #[test]
 fn a_word_occurs_at_a_place_or_not(rt: HostRuntime) -> Result<(), Fail> {
     let whole = word(rt.alloc(), "cbcbd")?;
-    for (text, place, want) in &OCCURRENCES {
+    compare_occurrences(&rt, rt.alloc(), &whole)
+}
+
+fn compare_occurrences(rt: &impl Abort, alloc: Global, whole: &Word) -> Result<(), Fail> {
+    for (text, place, want) in OCCURRENCES {
         assert!(rt; *place <= whole.len());
-        let part = word(rt.alloc(), text)?;
+        let part = word(alloc, text)?;
         assert_eq!(rt; whole.occurs_at(&part, *place), *want, "{text} at {place}");
     }
     Ok(())
 }
 
 // Two words, and the lengths of what is an end of the first and a beginning of the second.
-const OVERLAPS: [(&str, &str, &[usize]); 6] = [
+const OVERLAPS: &[(&str, &str, &[usize])] = &[
     ("cbc", "cbc", &[2]),
     ("bbb", "bbb", &[1, 2]),
     ("dbc", "bc", &[]),
@@ -119,16 +149,22 @@ const OVERLAPS: [(&str, &str, &[usize]); 6] = [
     ("", "b", &[]),
 ];
 
+fn overlaps_of(alloc: Global, left: &str, right: &str) -> Result<Listing<usize>, Fail> {
+    let left = word(alloc, left)?;
+    let right = word(alloc, right)?;
+    Ok(left.overlaps(&right)?)
+}
+
 #[test]
 fn overlaps_are_proper(rt: HostRuntime) -> Result<(), Fail> {
-    for (left, right, want) in &OVERLAPS {
-        let places = word(rt.alloc(), left)?.overlaps(&word(rt.alloc(), right)?)?;
+    for (left, right, want) in OVERLAPS {
+        let places = overlaps_of(rt.alloc(), left, right)?;
         assert_eq!(rt; places.as_slice(), *want, "{left} and {right}");
     }
     Ok(())
 }
 
-const LENGTH_FIRST: [(&str, &str, Ordering); 5] = [
+const LENGTH_FIRST: &[(&str, &str, Ordering)] = &[
     ("j", "bb", Ordering::Less),
     ("cbc", "bcb", Ordering::Greater),
     ("bcj", "bda", Ordering::Less),
@@ -136,16 +172,27 @@ const LENGTH_FIRST: [(&str, &str, Ordering); 5] = [
     ("", "a", Ordering::Less),
 ];
 
+fn compared(alloc: Global, left: &str, right: &str) -> Result<[Ordering; 2], Fail> {
+    let first = word(alloc, left)?;
+    let second = word(alloc, right)?;
+    Ok([first.cmp_degree(&second), first.cmp(&second)])
+}
+
+// Whether the first is below the second, and whether they are equal.
+fn told(alloc: Global, left: &str, right: &str) -> Result<[bool; 2], Fail> {
+    let first = word(alloc, left)?;
+    let second = word(alloc, right)?;
+    Ok([first < second, first == second])
+}
+
 #[test]
 fn length_counts_before_letters(rt: HostRuntime) -> Result<(), Fail> {
-    for (left, right, want) in &LENGTH_FIRST {
-        let first = word(rt.alloc(), left)?;
-        let second = word(rt.alloc(), right)?;
-        let got = (first.cmp_degree(&second), first.cmp(&second));
-        assert_eq!(rt; got, (*want, *want), "{left} and {right}");
-        let got = (first < second, first == second);
-        let told = (*want == Ordering::Less, *want == Ordering::Equal);
-        assert_eq!(rt; got, told, "{left} and {right}");
+    for (left, right, want) in LENGTH_FIRST {
+        let got = compared(rt.alloc(), left, right)?;
+        assert_eq!(rt; got, [*want, *want], "{left} and {right}");
+        let got = told(rt.alloc(), left, right)?;
+        let want = [*want == Ordering::Less, *want == Ordering::Equal];
+        assert_eq!(rt; got, want, "{left} and {right}");
     }
     Ok(())
 }
