@@ -1,5 +1,5 @@
 //! Adjoints of words and polynomials.
-use crate::texts::{all_over, is_over, poly, poly_text, quiver_of, same, word};
+use crate::texts::{all_over, holds, is_over, poly, poly_text, quiver_of, same, word};
 use adjoint_rules::{adjoint_poly, adjoint_word, generators_are_unique};
 use quiver::Quiver;
 use std::alloc::Global;
@@ -64,6 +64,6 @@ fn an_adjoint_of_a_word_is_a_word(rt: HostRuntime) -> Result<(), Fail> {
 fn compare_words(rt: &impl Abort, alloc: Global, quiver: &Quiver) -> Result<(), Fail> {
     let adjoint = adjoint_of(alloc, quiver, &[1, 2, 2])?;
     let want = word(alloc, &[1, 1, 2])?;
-    assert!(rt; adjoint == want);
+    holds(rt, adjoint == want, "1 1 2");
     Ok(())
 }

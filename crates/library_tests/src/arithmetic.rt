@@ -2,7 +2,7 @@
 ghost use Rattle.coef_int.specs.Range.{IsCoefficient};
 
 use crate::notation::{number, poly, terms, word, written_fault, written_poly, written_terms};
-use crate::texts::{all_over, same};
+use crate::texts::{all_over, equal, holds, same};
 use lists::{Duplicate, Listing};
 use nc_polynomial::{
     Poly, PolyFault, canonical_is_unique, check_size, merge_terms, multiply_terms, negate_terms,
@@ -308,7 +308,7 @@ fn content_of(alloc: Global, text: &str) -> Result<i128, Fail> {
 #[test]
 fn contents_have_no_sign(rt: HostRuntime) -> Result<(), Fail> {
     for (text, want) in CONTENTS {
-        assert_eq!(rt; content_of(rt.alloc(), text)?, *want, "{text}");
+        equal(&rt, &content_of(rt.alloc(), text)?, want, text);
     }
     Ok(())
 }
@@ -334,10 +334,10 @@ fn is_zero(alloc: Global, text: &str) -> Result<bool, Fail> {
 #[test]
 fn coefficients_are_compared_word_by_word(rt: HostRuntime) -> Result<(), Fail> {
     let alloc = rt.alloc();
-    assert!(rt; is_zero(alloc, "0")?);
+    holds(&rt, is_zero(alloc, "0")?, "0");
     for (left, right, want) in SAME {
         let got = are_same(alloc, left, right)?;
-        assert_eq!(rt; got, *want, "{left} and {right}");
+        equal(&rt, &got, want, right);
     }
     Ok(())
 }
@@ -421,7 +421,7 @@ fn lists_of_terms_are_made_as_polynomials_are(rt: HostRuntime) -> Result<(), Fai
     let alloc = rt.alloc();
     for (text, call, want) in LISTS {
         let got = told_of_list(alloc, text, *call)?;
-        assert_eq!(rt; got.as_str(), *want, "{text}: {call:?}");
+        same(&rt, got.as_str(), want, text);
     }
     Ok(())
 }
@@ -444,7 +444,7 @@ fn sums_of_20001_terms_are_refused(rt: HostRuntime) -> Result<(), Fail> {
 }
 
 fn refuse_one_more(rt: &impl Abort, alloc: Global, most: &Poly) -> Result<(), Fail> {
-    assert_eq!(rt; most.terms(), 20_000);
+    equal(rt, &most.terms(), &20_000, "20,000");
     let more = letters_between(alloc, 20_000, 20_001)?;
     let got = told(alloc, &most.add(&more))?;
     same(

@@ -1,4 +1,5 @@
 //! Parity, its opposite and pairs of categories.
+use crate::texts::{holds, same};
 use category_laws::{Category, Involutive, Opposite, Pair, Parity};
 use std::alloc::{AllocError, Global};
 use std::process::Abort;
@@ -44,19 +45,21 @@ fn each_category_is_called_through_its_bounds(rt: HostRuntime) -> Result<(), Fai
 
 fn negate_one(rt: &impl Abort, alloc: Global) -> Result<(), Fail> {
     let (in_parity, is_zero) = negative_of_one(&Parity, alloc, &())?;
-    assert_eq!(rt; (in_parity, is_zero), (true, false));
+    holds(rt, in_parity && !is_zero, "parity");
     let (in_opposite, is_zero) = negative_of_one(&Opposite(Parity), alloc, &())?;
-    assert_eq!(rt; (in_opposite, is_zero), (true, false));
+    holds(rt, in_opposite && !is_zero, "its opposite");
     let pair = Pair(Parity, Parity);
     let (in_pair, is_zero) = negative_of_one(&pair, alloc, &((), ()))?;
-    assert!(rt; in_pair.0 && in_pair.1 && !is_zero);
+    holds(rt, in_pair.0 && in_pair.1 && !is_zero, "a pair");
     Ok(())
 }
 
 fn adjoin_one(rt: &impl Abort, alloc: Global) -> Result<(), Fail> {
-    assert!(rt; adjoint_of_one(&Parity, alloc, &())?);
-    assert!(rt; adjoint_of_one(&Opposite(Parity), alloc, &())?);
-    assert!(rt; adjoint_of_one(&Pair(Parity, Parity), alloc, &((), ()))?);
+    holds(rt, adjoint_of_one(&Parity, alloc, &())?, "parity");
+    let in_opposite = adjoint_of_one(&Opposite(Parity), alloc, &())?;
+    holds(rt, in_opposite, "its opposite");
+    let in_pair = adjoint_of_one(&Pair(Parity, Parity), alloc, &((), ()))?;
+    holds(rt, in_pair, "a pair");
     Ok(())
 }
 
@@ -65,8 +68,8 @@ fn sums_and_composites_are_made_part_by_part(rt: HostRuntime) -> Result<(), Fail
     let alloc = rt.alloc();
     let pair = Pair(Parity, Opposite(Parity));
     let sum = pair.add(alloc, &(true, true), &(true, false))?;
-    assert!(rt; !sum.0 && sum.1);
+    holds(&rt, !sum.0 && sum.1, "a sum");
     let composite = pair.compose(alloc, &(true, true), &(true, false))?;
-    assert!(rt; composite.0 && !composite.1);
+    holds(&rt, composite.0 && !composite.1, "a composite");
     Ok(())
 }

@@ -171,7 +171,7 @@ fn compare_rows(
 ) -> Result<(), Fail> {
     for row in rows {
         let got = told_over(alloc, claims, generators, row)?;
-        assert_eq!(rt; got.as_str(), row.3, "{}: {}", row.1, row.2);
+        same(rt, got.as_str(), row.3, row.2);
     }
     Ok(())
 }

@@ -5,6 +5,7 @@ ghost use Rattle.coef_int.specs.Range.{IsCoefficient};
 ghost use Rattle.cofactor_trace.specs.Needed.{AreRecords, IsAmongFirst, IsRecord};
 
 use crate::notation::{copied, number, rows, write_number, write_overflow, write_row};
+use crate::texts::{holds, same};
 use cofactor_trace::{
     Cause, CertRow, Certificate, Cofactors, ExpandFault, Halt, Made, Origin, Place, Row, expand,
     expansions_balance, expansions_fit, generators_are_named,
@@ -204,7 +205,7 @@ fn records_expand_as_worked_out(rt: HostRuntime) -> Result<(), Fail> {
     let alloc = rt.alloc();
     for (name, texts, target, want) in EXPANDED {
         let got = told_of(alloc, texts, target)?;
-        assert_eq!(rt; got.as_str(), *want, "{name}");
+        same(&rt, got.as_str(), want, name);
     }
     expansions_balance();
     expansions_fit();
@@ -248,7 +249,7 @@ fn told_of_many(alloc: Global, inner: u16, outer: u16) -> Result<String, Fail> {
 fn rows_and_letters_are_limited(rt: HostRuntime) -> Result<(), Fail> {
     for (inner, outer, want) in MANY {
         let got = told_of_many(rt.alloc(), *inner, *outer)?;
-        assert_eq!(rt; got.as_str(), *want, "{inner} times {outer}");
+        same(&rt, got.as_str(), want, want);
     }
     Ok(())
 }
@@ -256,13 +257,13 @@ fn rows_and_letters_are_limited(rt: HostRuntime) -> Result<(), Fail> {
 #[test]
 fn rows_are_copied_through_the_bound(rt: HostRuntime) -> Result<(), Fail> {
     let got = text_of_copies(rt.alloc(), "2: 1 (a) g1 (b)")?;
-    assert_eq!(rt; got.as_str(), "1 (a) g1 (b)");
+    same(&rt, got.as_str(), "1 (a) g1 (b)", "a copy of rows");
     let halt = Halt {
         cause: Cause::Pairs { spent: 3 },
         place: Place::Run,
         least: None,
     };
-    assert!(rt; copied(&halt)?.least.is_none());
+    holds(&rt, copied(&halt)?.least.is_none(), "a copy of a halt");
     Ok(())
 }
 

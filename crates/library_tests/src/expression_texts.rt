@@ -4,7 +4,7 @@ ghost use Rattle.quiver.specs.Declarations.{named_in};
 ghost use Rattle.expressions.specs.Names.{are_names, are_names_of_term, are_names_of_primary, is_map, is_object};
 
 use crate::expression_rows::{MARKS, OVERFLOWS, POLYNOMIALS, Row, SIGNATURES};
-use crate::texts::{Map, poly_text, quiver_of, same, tree_of};
+use crate::texts::{Map, equal, poly_text, quiver_of, same, tree_of};
 use expressions::{
     SignatureFault, equation_poly, equation_signature, equations_are_typed, has_mark, letter_of,
     letters_are_written, object_of,
@@ -111,8 +111,18 @@ fn a_name_stands_for_a_map_or_an_object(rt: HostRuntime) -> Result<(), Fail> {
 }
 
 fn find_names(rt: &impl Abort, alloc: Global, quiver: &Quiver) -> Result<(), Fail> {
-    assert_eq!(rt; letter_named(alloc, quiver, "x")?, Some(Letter(6)));
-    assert_eq!(rt; object_named(alloc, quiver, "V")?, Some(Object(1)));
+    equal(
+        rt,
+        &letter_named(alloc, quiver, "x")?,
+        &Some(Letter(6)),
+        "x",
+    );
+    equal(
+        rt,
+        &object_named(alloc, quiver, "V")?,
+        &Some(Object(1)),
+        "V",
+    );
     Ok(())
 }
 
@@ -264,7 +274,7 @@ fn is_marked(alloc: Global, claim: &str) -> Result<bool, Fail> {
 #[test]
 fn marks_are_found(rt: HostRuntime) -> Result<(), Fail> {
     for (claim, want) in MARKS {
-        assert_eq!(rt; is_marked(rt.alloc(), claim)?, *want, "{claim}");
+        equal(&rt, &is_marked(rt.alloc(), claim)?, want, claim);
     }
     Ok(())
 }

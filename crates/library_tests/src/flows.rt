@@ -1,4 +1,5 @@
 //! Shelves and sinks, in memory and of the machine.
+use crate::texts::{equal, holds};
 use flow_io::{
     MemoryShelf, MemorySink, PutFault, RealShelf, RealSink, Shelf, ShelfFault, Sink, SinkFault,
     put_all,
@@ -90,10 +91,9 @@ fn a_shelf_in_memory_gives_its_files(rt: HostRuntime) -> Result<(), Fail> {
 }
 
 fn load_all(rt: &impl Abort, alloc: Global, shelf: &mut MemoryShelf) {
-    for (place, load) in LOADS.iter().enumerate() {
+    for load in LOADS {
         let got = shelf.load(alloc, load.name, load.most);
-        let wanted = is_wanted(&got, &load.want);
-        assert!(rt; wanted, "load {} of {}", place + 1, load.name);
+        holds(rt, is_wanted(&got, &load.want), load.name);
     }
 }
 
@@ -107,24 +107,20 @@ fn a_sink_in_memory_fails_where_it_is_to(rt: HostRuntime) -> Result<(), Fail> {
 }
 
 fn put_until_full(rt: &impl Abort, sink: &mut MemorySink) {
-    assert_eq!(rt; put_all(sink, b""), Ok(()));
-    assert_eq!(rt;
-        put_all(sink, b"abcdef"),
-        Err(PutFault::Failed { written: 4 })
-    );
-    assert_eq!(rt; sink.bytes(), b"abcd".as_slice());
-    assert_eq!(rt; put_all(sink, b"xy"), Ok(()));
-    assert_eq!(rt; sink.finish(), Err(SinkFault::Failed));
-    assert!(rt; !sink.finished());
-    assert_eq!(rt; sink.finish(), Ok(()));
-    assert!(rt; sink.finished());
+    equal(rt, &put_all(sink, b""), &Ok(()), "nothing");
+    let failed = Err(PutFault::Failed { written: 4 });
+    equal(rt, &put_all(sink, b"abcdef"), &failed, "abcdef");
+    holds(rt, sink.bytes() == b"abcd".as_slice(), "abcd");
+    equal(rt, &put_all(sink, b"xy"), &Ok(()), "xy");
+    equal(rt, &sink.finish(), &Err(SinkFault::Failed), "a finish");
+    holds(rt, !sink.finished(), "not finished");
+    equal(rt, &sink.finish(), &Ok(()), "a second finish");
+    holds(rt, sink.finished(), "finished");
     // Three bytes of room are left.
-    assert_eq!(rt;
-        put_all(sink, b"1234"),
-        Err(PutFault::Failed { written: 2 })
-    );
-    assert_eq!(rt; sink.bytes(), b"abcdxy12".as_slice());
-    assert!(rt; !sink.finished());
+    let failed = Err(PutFault::Failed { written: 2 });
+    equal(rt, &put_all(sink, b"1234"), &failed, "1234");
+    holds(rt, sink.bytes() == b"abcdxy12".as_slice(), "abcdxy12");
+    holds(rt, !sink.finished(), "no longer finished");
 }
 
 #[test]
@@ -147,8 +143,8 @@ fn files_of_the_machine_are_read_whole(rt: HostRuntime) -> Result<(), Fail> {
 #[test]
 fn standard_output_takes_all_bytes(rt: HostRuntime) -> Result<(), Fail> {
     let mut sink = RealSink::new(rt);
-    assert_eq!(rt; put_all(&mut sink, b"put\n"), Ok(()));
-    assert_eq!(rt; sink.finish(), Ok(()));
+    equal(&rt, &put_all(&mut sink, b"put\n"), &Ok(()), "put");
+    equal(&rt, &sink.finish(), &Ok(()), "a finish");
     Ok(())
 }
 
@@ -183,9 +179,9 @@ fn a_write_that_takes_one_byte_is_told_as_one(rt: HostRuntime) -> Result<(), Fai
         calls: AtomicU64::new(0),
     };
     let mut sink = RealSink::new(&output);
-    assert_eq!(rt; sink.put(b"put"), Ok(1));
-    assert_eq!(rt; put_all(&mut sink, b"put"), Ok(()));
-    assert_eq!(rt; output.calls.load(Ordering::SeqCst), 4);
+    equal(&rt, &sink.put(b"put"), &Ok(1), "a put");
+    equal(&rt, &put_all(&mut sink, b"put"), &Ok(()), "put");
+    equal(&rt, &output.calls.load(Ordering::SeqCst), &4, "calls");
     Ok(())
 }
 

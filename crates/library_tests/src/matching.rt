@@ -2,6 +2,7 @@
 
 ghost use Rattle.std.specs.Prelude.{◌≡◌, ◌<◌, [], length, IfOk};
 
+use crate::texts::equal;
 use lists::Listing;
 use rand_core::utils::NextWord;
 use rand_pcg::Lcg64Xsh32;
@@ -24,11 +25,11 @@ fn word(alloc: Global, letters: &[u16]) -> Result<Word, AllocError>
 #[test]
 fn prefixes_are_counted_once(rt: HostRuntime) -> Result<(), Fail> {
     let mut index = Index::new(rt.alloc())?;
-    assert_eq!(rt; index.nodes(), 1);
+    equal(&rt, &index.nodes(), &1, "no words");
     insert_two(rt.alloc(), &mut index)?;
-    assert_eq!(rt; index.nodes(), 4);
+    equal(&rt, &index.nodes(), &4, "two words");
     index.truncate(1);
-    assert_eq!(rt; index.nodes(), 3);
+    equal(&rt, &index.nodes(), &3, "one word");
     Ok(())
 }
 
@@ -69,7 +70,7 @@ fn words_with_one_beginning(alloc: Global) -> Result<Index, AllocError> {
 #[test]
 fn many_words_with_one_beginning(rt: HostRuntime) -> Result<(), Fail> {
     let index = words_with_one_beginning(rt.alloc())?;
-    assert_eq!(rt; index.nodes(), 1889);
+    equal(&rt, &index.nodes(), &1889, "words with one beginning");
     let none = zeros(rt.alloc(), 498, 0, 0)?;
     let last = zeros(rt.alloc(), 498, 40, 40)?;
     look_up(&rt, &index, &none, &last);
@@ -78,9 +79,14 @@ fn many_words_with_one_beginning(rt: HostRuntime) -> Result<(), Fail> {
 
 fn look_up(rt: &impl Abort, index: &Index, none: &Word, last: &Word) {
     for _ in 0..100_000 {
-        assert_eq!(rt; index.first_match(none), None);
+        equal(rt, &index.first_match(none), &None, "none");
     }
-    assert_eq!(rt; index.first_match(last), Some((1600, 250)));
+    equal(
+        rt,
+        &index.first_match(last),
+        &Some((1600, 250)),
+        "the last one",
+    );
 }
 
 // A word of 1 to 8 letters from 0 to 3.
@@ -107,7 +113,7 @@ fn listed(words: &Listing<(Word, u32)>, text: &Word) -> Option<(u32, usize)> {
 }
 
 fn compare(rt: &impl Abort, index: &Index, words: &Listing<(Word, u32)>, text: &Word) {
-    assert_eq!(rt; index.first_match(text), listed(words, text));
+    equal(rt, &index.first_match(text), &listed(words, text), "a word");
 }
 
 #[test]

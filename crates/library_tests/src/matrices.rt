@@ -3,6 +3,7 @@ ghost use Rattle.std.specs.Prelude.{IfOk};
 ghost use Rattle.matrix_models.specs.Matrix.{IsMatrix, IsModulus};
 
 use crate::notation::copied;
+use crate::texts::{equal, holds, same};
 use category_laws::{Category, Involutive, Opposite, Pair};
 use matrix_models::{Matrices, Matrix, MatrixFault};
 use std::alloc::{AllocError, Global};
@@ -156,7 +157,7 @@ fn entries_are_residues(rt: HostRuntime) -> Result<(), Fail> {
     for (modulus, left, call, right, want) in ROWS {
         assert!(rt; *modulus >= 2 && *modulus <= PRIME);
         let got = told_of_call(alloc, *modulus, left, *call, right)?;
-        assert_eq!(rt; got.as_str(), *want, "{call:?} {left} and {right}");
+        same(&rt, got.as_str(), want, left);
     }
     Ok(())
 }
@@ -182,7 +183,7 @@ fn matrices_of_other_sides_are_told_apart(rt: HostRuntime) -> Result<(), Fail> {
     let alloc = rt.alloc();
     for (modulus, left, right, want) in SAME {
         assert!(rt; *modulus >= 2 && *modulus <= PRIME);
-        assert_eq!(rt; are_same(alloc, *modulus, left, right)?, *want);
+        equal(&rt, &are_same(alloc, *modulus, left, right)?, want, right);
     }
     Ok(())
 }
@@ -225,7 +226,7 @@ const MADE: &[(u32, u32, &[u32], &str)] = &[
 fn shapes_and_entries_are_refused(rt: HostRuntime) -> Result<(), Fail> {
     for (rows, columns, entries, want) in MADE {
         let got = told_of_new(rt.alloc(), *rows, *columns, entries)?;
-        assert_eq!(rt; got.as_str(), *want, "{rows} by {columns}: {entries:?}");
+        same(&rt, got.as_str(), want, want);
     }
     Ok(())
 }
@@ -258,8 +259,13 @@ fn opposites_and_pairs_are_called_through_the_bounds(rt: HostRuntime) -> Result<
     let (five, seven) = (Matrices { modulus: 5 }, Matrices { modulus: 7 });
     let left = matrix(alloc, 5, "2 3")?;
     let right = matrix(alloc, 7, "0 | 6")?;
-    assert!(rt; has_laws(&five, alloc, &left)?);
-    assert!(rt; has_laws(&Opposite(five), alloc, &left)?);
-    assert!(rt; has_laws(&Pair(five, seven), alloc, &(left, right))?);
+    holds(&rt, has_laws(&five, alloc, &left)?, "modulo 5");
+    holds(
+        &rt,
+        has_laws(&Opposite(five), alloc, &left)?,
+        "the opposite",
+    );
+    let in_pair = has_laws(&Pair(five, seven), alloc, &(left, right))?;
+    holds(&rt, in_pair, "a pair");
     Ok(())
 }

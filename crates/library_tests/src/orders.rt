@@ -6,6 +6,7 @@ ghost use Rattle.std.specs.declared.cmp.Ordering.TheVariants.{Less, Equal};
 ghost use Rattle.word_orders.specs.Specified.{letters_of};
 
 use crate::notation::word;
+use crate::texts::{equal, holds, same};
 use lists::Listing;
 use std::alloc::{AllocError, Global};
 use std::cmp::Ordering;
@@ -91,11 +92,8 @@ fn faults_of_weights_come_in_order(rt: HostRuntime) -> Result<(), Fail> {
     for (weights, want) in WEIGHTS {
         let any = told(alloc, by_weights(alloc, weights, 3))?;
         let alone = told_alone(alloc, weights)?;
-        assert_eq!(rt;
-            (any.as_str(), alone.as_str()),
-            (*want, *want),
-            "{weights:?}"
-        );
+        same(&rt, any.as_str(), want, "any order");
+        same(&rt, alone.as_str(), want, "an order by weights");
     }
     Ok(())
 }
@@ -124,7 +122,8 @@ fn faults_of_blocks_come_in_order(rt: HostRuntime) -> Result<(), Fail> {
             Err(fault) => Err(fault),
         };
         let alone = told(alloc, alone)?;
-        assert_eq!(rt; (any.as_str(), alone.as_str()), (*want, *want), "{block:?}");
+        same(&rt, any.as_str(), want, "any order");
+        same(&rt, alone.as_str(), want, "an order by blocks");
     }
     Ok(())
 }
@@ -238,8 +237,9 @@ fn compare_words(
         compared(shared(by_weight), first, second),
         compared(by_block, first, second),
     ];
-    assert_eq!(rt; got, *want, "{left} and {right}");
-    assert_eq!(rt; compared(shared(&DegLex::new()), first, second), want[0]);
+    equal(rt, &got, want, right);
+    let by_bound = compared(shared(&DegLex::new()), first, second);
+    equal(rt, &by_bound, &want[0], left);
 }
 
 // Asserts what holds of any two words.
@@ -255,10 +255,14 @@ fn follow_laws(
 {
     let (first, second) = words;
     let around = (second, first);
-    assert!(rt; stays_below(&DegLex::new(), first, second, around)?);
-    assert!(rt; stays_below(by_weight, first, second, around)?);
-    assert!(rt; is_above_empty(alloc, &DegLex::new(), first));
-    assert!(rt; is_above_empty(alloc, by_block, first));
+    let by_degree = stays_below(&DegLex::new(), first, second, around)?;
+    holds(rt, by_degree, "by degree");
+    let stays = stays_below(by_weight, first, second, around)?;
+    holds(rt, stays, "by weight");
+    let by_degree = is_above_empty(alloc, &DegLex::new(), first);
+    holds(rt, by_degree, "by degree, above the empty word");
+    let is_above = is_above_empty(alloc, by_block, first);
+    holds(rt, is_above, "by blocks, above the empty word");
     Ok(())
 }
 

@@ -4,6 +4,7 @@ ghost use Rattle.ambiguities.specs.Ambiguities.{IsAmbiguity};
 
 use crate::notation::{write_word, written_fault, written_poly, written_rows};
 use crate::rules::rules_of;
+use crate::texts::same;
 use ambiguities::{
     Ambiguity, Kind, SPoly, between, leading_words_cancel, overlap_word, s_poly,
     s_polynomials_are_typed, s_polynomials_balance,
@@ -210,7 +211,7 @@ fn told(alloc: Global, texts: &[&str], place: usize) -> Result<String, Fail> {
 fn s_polynomials_are_as_worked_out(rt: HostRuntime) -> Result<(), Fail> {
     for (name, texts, place, want) in ROWS {
         let got = told(rt.alloc(), texts, *place)?;
-        assert_eq!(rt; got.as_str(), *want, "{name}");
+        same(&rt, got.as_str(), want, name);
     }
     Ok(())
 }

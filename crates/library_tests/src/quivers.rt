@@ -1,5 +1,5 @@
 //! Quivers: numbers and names of letters, refused declarations, and signatures.
-use crate::texts::{all_over, is_over, quiver_of, same, word};
+use crate::texts::{all_over, equal, is_over, quiver_of, same, word};
 use nc_polynomial::{Poly, PolyFault};
 use quiver::{Named, Quiver, QuiverStop, Sig};
 use std::alloc::{AllocError, Global};
@@ -49,7 +49,7 @@ fn names_are_found(rt: HostRuntime) -> Result<(), Fail> {
 
 fn find_names(rt: &impl Abort, quiver: &Quiver) {
     for (name, want) in NAMED {
-        assert_eq!(rt; quiver.find(name), *want, "{name}");
+        equal(rt, &quiver.find(name), want, name);
     }
 }
 
@@ -70,14 +70,15 @@ fn letters_are_numbered_in_the_order_of_declaration(rt: HostRuntime) -> Result<(
 }
 
 fn compare_letters(rt: &impl Abort, quiver: &Quiver) {
-    assert_eq!(rt; (quiver.objects(), quiver.letters()), (2, 5));
+    equal(rt, &quiver.objects(), &2, "objects");
+    equal(rt, &quiver.letters(), &5, "letters");
     for (number, name, star, source, target) in LETTERS {
         let letter = Letter(*number);
         assert!(rt; u32::from(letter.0) < quiver.letters());
         same(rt, quiver.letter_name(letter), name, name);
         let got = (quiver.star_of(letter), quiver.signature_of(letter));
         let want = (Letter(*star), signature(*source, *target));
-        assert_eq!(rt; got, want, "{number}");
+        equal(rt, &got, &want, name);
     }
 }
 
@@ -97,7 +98,7 @@ fn compare_identities(rt: &impl Abort, quiver: &Quiver) {
         let object = Object(*number);
         assert!(rt; u32::from(object.0) < quiver.objects());
         same(rt, quiver.object_name(object), name, name);
-        assert_eq!(rt; quiver.identity_of(object), Letter(*identity), "{name}");
+        equal(rt, &quiver.identity_of(object), &Letter(*identity), name);
     }
 }
 
@@ -192,9 +193,9 @@ fn refuse(
         let got = refusal(alloc, quiver, name, *object)?;
         same(rt, got.as_str(), want, name);
     }
-    assert_eq!(rt; quiver.letters(), letters);
+    equal(rt, &quiver.letters(), &letters, "letters");
     for name in REFUSED {
-        assert_eq!(rt; quiver.find(name), None, "{name}");
+        equal(rt, &quiver.find(name), &None, name);
     }
     Ok(())
 }
@@ -208,8 +209,10 @@ fn the_last_names_are_found(rt: HostRuntime) -> Result<(), Fail> {
 }
 
 fn find_last_names(rt: &impl Abort, quiver: &Quiver) {
-    assert_eq!(rt; quiver.find("V61"), Some(Named::Object(Object(63))));
-    assert_eq!(rt; quiver.find("m197"), Some(Named::Map(Letter(461))));
+    let object = Some(Named::Object(Object(63)));
+    equal(rt, &quiver.find("V61"), &object, "V61");
+    let map = Some(Named::Map(Letter(461)));
+    equal(rt, &quiver.find("m197"), &map, "m197");
 }
 
 // A polynomial as its words, and its signature.
@@ -256,13 +259,10 @@ fn letters_of_a_path_meet_and_words_of_a_polynomial_agree(rt: HostRuntime) -> Re
 
 fn compare_signatures(rt: &impl Abort, alloc: Global, quiver: &Quiver) -> Result<(), Fail> {
     for (words, want) in SIGNED {
-        assert_eq!(rt; signature_of_sum(alloc, quiver, words)?, *want, "{words:?}");
+        equal(rt, &signature_of_sum(alloc, quiver, words)?, want, "a sum");
         if let [letters] = *words {
-            assert_eq!(rt;
-                signature_of_path(alloc, quiver, letters)?,
-                *want,
-                "{words:?}"
-            );
+            let got = signature_of_path(alloc, quiver, letters)?;
+            equal(rt, &got, want, "a path");
         }
     }
     Ok(())

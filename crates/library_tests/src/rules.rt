@@ -6,6 +6,7 @@ ghost use Rattle.word_core.specs.Letters.{IsOver};
 use crate::notation::{
     poly, word, write_number, write_overflow, write_word, written_poly, written_rows,
 };
+use crate::texts::{equal, same};
 use nc_polynomial::Poly;
 use rule_index::Index;
 use rule_reduce::{
@@ -54,7 +55,7 @@ fn the_least_number_counts_and_then_the_leftmost_place(rt: HostRuntime) -> Resul
 fn find_matches(rt: &impl Abort, alloc: Global, index: &Index) -> Result<(), Fail> {
     for (text, want) in MATCHES {
         let word = word(alloc, text)?;
-        assert_eq!(rt; index.first_match(&word), *want, "{text}");
+        equal(rt, &index.first_match(&word), want, text);
     }
     Ok(())
 }
@@ -94,7 +95,7 @@ fn only_such_polynomials_may_be_pushed(rt: HostRuntime) -> Result<(), Fail> {
 fn compare_pushed(rt: &impl Abort, alloc: Global, rules: &Rules<DegLex>) -> Result<(), Fail> {
     for (text, want) in PUSHED {
         let poly = poly(alloc, text)?;
-        assert_eq!(rt; may_push(rules, &poly), *want, "{text}");
+        equal(rt, &may_push(rules, &poly), want, text);
     }
     Ok(())
 }
@@ -324,7 +325,8 @@ fn normal_forms_are_as_worked_out(rt: HostRuntime) -> Result<(), Fail> {
             steps: *steps,
         };
         let (rules, form) = reduced_by(alloc, *weight, reduction)?;
-        assert_eq!(rt; (rules.as_str(), form.as_str()), *want, "{name}");
+        same(&rt, rules.as_str(), want.0, name);
+        same(&rt, form.as_str(), want.1, name);
     }
     Ok(())
 }

@@ -1,4 +1,5 @@
 //! Shapes of models: in which of them models are looked for.
+use crate::texts::same;
 use adjoint_rules::Shape;
 use lists::Listing;
 use model_search::{ShapeFault, check_shape};
@@ -38,7 +39,7 @@ fn told(alloc: Global, modulus: u32, sides: &[u32]) -> Result<String, Fail> {
 fn the_modulus_counts_before_the_sides(rt: HostRuntime) -> Result<(), Fail> {
     for (modulus, sides, want) in ROWS {
         let got = told(rt.alloc(), *modulus, sides)?;
-        assert_eq!(rt; got.as_str(), *want, "{modulus}: {sides:?}");
+        same(&rt, got.as_str(), want, want);
     }
     Ok(())
 }

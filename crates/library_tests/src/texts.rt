@@ -11,6 +11,7 @@ use quiver::Quiver;
 use signature_typing::{TypeFault, elaborate};
 use statement_syntax::{Tree, read_tree};
 use std::alloc::{AllocError, Global};
+use std::fmt::Debug;
 use std::process::Abort;
 use std::test::Fail;
 use word_core::{Letter, Object, Word};
@@ -18,6 +19,16 @@ use word_core::{Letter, Object, Word};
 /// Ends the test where what came is not what was expected, and tells both with the name of the row.
 pub fn same(rt: &impl Abort, got: &str, want: &str, row: &str) {
     assert_eq!(rt; got, want, "{row}");
+}
+
+/// The same of values that are compared by `==`.
+pub fn equal<T: PartialEq + Debug>(rt: &impl Abort, got: &T, want: &T, row: &str) {
+    assert_eq!(rt; got, want, "{row}");
+}
+
+/// Ends the test where the fact does not hold, and tells the name of the row.
+pub fn holds(rt: &impl Abort, fact: bool, row: &str) {
+    assert!(rt; fact, "{row}");
 }
 
 /// The tree of a text.

@@ -1,6 +1,7 @@
 //! A job at each item of a slice: that threads are started, what the gate sees, and that the calls succeed.
 ghost use Rattle.std.specs.Prelude.{◌≡◌, ◌<◌, ◌≤◌, ◌*◌, IfOk, map};
 
+use crate::texts::{equal, holds};
 use in_order_parallel::{Gate, Job, OpenGate, map_in_order};
 use std::alloc::{AllocError, Global};
 use std::process::Abort;
@@ -110,7 +111,7 @@ fn two_items_meet_on_two_threads(rt: HostRuntime) -> Result<(), Fail> {
     };
     let answers = doubled(&rt, rt.alloc(), &[5, 7], 2, &gate)?;
     assert_eq!(rt; answers.as_slice(), [10, 14].as_slice());
-    assert_eq!(rt; gate.met.load(Ordering::SeqCst), 2);
+    equal(&rt, &gate.met.load(Ordering::SeqCst), &2, "meetings");
     Ok(())
 }
 
@@ -122,7 +123,7 @@ fn answers_are_those_of_one_worker(rt: HostRuntime) -> Result<(), Fail> {
     assert_eq!(rt; of_one.last(), Some(&1998));
     for workers in [3, 64] {
         let answers = doubled(&rt, alloc, &numbers, workers, &OpenGate)?;
-        assert_eq!(rt; answers, of_one, "{workers} workers");
+        holds(&rt, answers == of_one, "as one worker");
     }
     Ok(())
 }
@@ -135,7 +136,7 @@ fn each_place_passes_the_gate_once_and_first(rt: HostRuntime) -> Result<(), Fail
             let log = no_passes(alloc, *items)?;
             let places = Vec::from_iter(alloc, 0..*items)?;
             let answers = map_in_order(&rt, alloc, &places, &log, *workers, &log)?;
-            pass_once(&rt, &log, &answers, *items, *workers);
+            pass_once(&rt, &log, &answers, *items);
         }
     }
     Ok(())
@@ -145,14 +146,13 @@ const ITEMS: &[usize] = &[0, 1, 2, 7, 1000];
 
 const WORKERS: &[u32] = &[1, 3, 64];
 
-fn pass_once(rt: &impl Abort, log: &Passes, answers: &[u64], items: usize, workers: u32) {
-    assert_eq!(rt; answers.len(), items, "{items} items, {workers} workers");
-    for (place, before) in answers.iter().enumerate() {
-        assert_eq!(rt; *before, 1, "place {place} of {items}, {workers} workers");
+fn pass_once(rt: &impl Abort, log: &Passes, answers: &[u64], items: usize) {
+    equal(rt, &answers.len(), &items, "answers");
+    for before in answers {
+        equal(rt, before, &1, "what was passed before an answer");
     }
-    for (place, count) in log.counts.iter().enumerate() {
-        let passed = count.load(Ordering::SeqCst);
-        assert_eq!(rt; passed, 1, "place {place} of {items}, {workers} workers");
+    for count in &log.counts {
+        equal(rt, &count.load(Ordering::SeqCst), &1, "passes of a place");
     }
-    assert_eq!(rt; log.strays.load(Ordering::SeqCst), 0);
+    equal(rt, &log.strays.load(Ordering::SeqCst), &0, "strays");
 }

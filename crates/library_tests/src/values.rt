@@ -6,6 +6,7 @@ ghost use Rattle.matrix_models.specs.Matrix.{IsModulus};
 ghost use Rattle.matrix_models.specs.Matrices.{matrices};
 ghost use Rattle.quiver.specs.Declarations.{quiver_of};
 
+use crate::texts::equal;
 use category_laws::{Category, Opposite, Pair, Parity};
 use lists::Listing;
 use matrix_models::{Matrices, Matrix};
@@ -111,8 +112,10 @@ fn modulo_5_and_7(alloc: Global) -> Result<(u32, u32), Fail> {
 
 #[test]
 fn values_are_sums_of_multiples_of_composites(rt: HostRuntime) -> Result<(), Fail> {
-    assert_eq!(rt; modulo_5(rt.alloc())?, 0);
-    assert_eq!(rt; modulo_5_turned(rt.alloc())?, 0);
-    assert_eq!(rt; modulo_5_and_7(rt.alloc())?, (0, 3));
+    equal(&rt, &modulo_5(rt.alloc())?, &0, "modulo 5");
+    equal(&rt, &modulo_5_turned(rt.alloc())?, &0, "turned round");
+    let (by_5, by_7) = modulo_5_and_7(rt.alloc())?;
+    equal(&rt, &by_5, &0, "modulo 5 in a pair");
+    equal(&rt, &by_7, &3, "modulo 7 in a pair");
     Ok(())
 }

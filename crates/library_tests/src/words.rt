@@ -1,5 +1,6 @@
 //! Words: their letters, parts and joins, places and overlaps, and how they compare.
 use crate::notation::{word, write_word};
+use crate::texts::{equal, same};
 use lists::{Duplicate, Listing};
 use std::alloc::Global;
 use std::cmp::Ordering;
@@ -87,7 +88,7 @@ fn parts_and_joins_are_as_written(rt: HostRuntime) -> Result<(), Fail> {
     for (text, call, want) in PARTS {
         let mut got = String::new(rt.alloc());
         write_part(&mut got, rt.alloc(), text, *call)?;
-        assert_eq!(rt; got.as_str(), *want, "{text}: {call:?}");
+        same(&rt, got.as_str(), want, text);
     }
     Ok(())
 }
@@ -111,7 +112,7 @@ fn the_leftmost_place_counts(rt: HostRuntime) -> Result<(), Fail> {
 fn find_places(rt: &impl Abort, alloc: Global, whole: &Word) -> Result<(), Fail> {
     for (text, want) in PLACES {
         let part = word(alloc, text)?;
-        assert_eq!(rt; whole.first_place(&part), *want, "{text}");
+        equal(rt, &whole.first_place(&part), want, text);
     }
     Ok(())
 }
@@ -134,7 +135,7 @@ fn compare_occurrences(rt: &impl Abort, alloc: Global, whole: &Word) -> Result<(
     for (text, place, want) in OCCURRENCES {
         assert!(rt; *place <= whole.len());
         let part = word(alloc, text)?;
-        assert_eq!(rt; whole.occurs_at(&part, *place), *want, "{text} at {place}");
+        equal(rt, &whole.occurs_at(&part, *place), want, text);
     }
     Ok(())
 }
@@ -189,10 +190,10 @@ fn told(alloc: Global, left: &str, right: &str) -> Result<[bool; 2], Fail> {
 fn length_counts_before_letters(rt: HostRuntime) -> Result<(), Fail> {
     for (left, right, want) in LENGTH_FIRST {
         let got = compared(rt.alloc(), left, right)?;
-        assert_eq!(rt; got, [*want, *want], "{left} and {right}");
+        equal(&rt, &got, &[*want, *want], right);
         let got = told(rt.alloc(), left, right)?;
         let want = [*want == Ordering::Less, *want == Ordering::Equal];
-        assert_eq!(rt; got, want, "{left} and {right}");
+        equal(&rt, &got, &want, right);
     }
     Ok(())
 }
