@@ -16,6 +16,7 @@ pub mod AffineMatrices
 pub mod AffineArrows
 pub mod AffineValues
 pub mod LinearRows
+pub mod MadeModels
 pub mod SolvedEntries
 pub mod DistinctEntries
 pub mod GeneratorEntries

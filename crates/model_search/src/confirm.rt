@@ -33,14 +33,7 @@ pub fn confirm_model(alloc: Global, problem: &Problem, model: &Model) -> Result<
         return Err(ModelRefusal::NoSuchClaim);
     }
     check_maps(alloc, &parts.quiver, model)?;
-    let representation = representation_of(alloc, &parts.quiver, model)?;
-    if let Some(assumption) = first_not_zero(alloc, problem, model, &representation)? {
-        return Err(ModelRefusal::NotZero { assumption });
-    }
-    if is_claim_zero(alloc, problem, model, &representation)? {
-        return Err(ModelRefusal::ClaimZero);
-    }
-    Ok(())
+    check_model(alloc, problem, model)
 }
 
 /// Whether the model refutes the claim that it names. It names one, and each declared map has its matrix.
@@ -49,12 +42,46 @@ pub(crate) fn refutes(alloc: Global, problem: &Problem, model: &Model) -> Result
     requires fitting { IsFitting problem.now model.now }
     ensures { IfOk result (λ refuted. IsTrue refuted ↔ Refutes problem.now model.now) }
 {
-    let representation = representation_of(alloc, &problem.parts.quiver, model)?;
-    if first_not_zero(alloc, problem, model, &representation)?.is_some() {
-        return Ok(false);
+    match check_model(alloc, problem, model) {
+        Ok(()) => Ok(true),
+        Err(ModelRefusal::Memory(failed)) => Err(failed),
+        Err(_) => Ok(false),
     }
-    let zero = is_claim_zero(alloc, problem, model, &representation)?;
-    Ok(!zero)
+}
+
+// The assumptions are zero in the model and its claim isn't, or it is told what else is so.
+fn check_model(alloc: Global, problem: &Problem, model: &Model) -> Result<(), ModelRefusal>
+    requires model { IsModel (quiver_of problem.now.parts.quiver) model.now }
+    requires fitting { IsFitting problem.now model.now }
+    ensures confirmed { OnOk result (Refutes problem.now model.now) }
+    ensures refused { IfErr result (RefusesModel problem.now model.now) }
+    ensures complete { Refutes problem.now model.now → IfErr result IsMemory }
+{
+    let representation = representation_of(alloc, &problem.parts.quiver, model)?;
+    check_values(alloc, problem, model, &representation)
+}
+
+// The same, by the representation of the model.
+fn check_values(
+    alloc: Global,
+    problem: &Problem,
+    model: &Model,
+    representation: &Representation<Matrices>,
+) -> Result<(), ModelRefusal>
+    requires model { IsModel (quiver_of problem.now.parts.quiver) model.now }
+    requires fitting { IsFitting problem.now model.now }
+    requires lists { AreOfModel (quiver_of problem.now.parts.quiver) model.now representation.now.objects representation.now.arrows }
+    ensures confirmed { OnOk result (Refutes problem.now model.now) }
+    ensures refused { IfErr result (RefusesModel problem.now model.now) }
+    ensures complete { Refutes problem.now model.now → IfErr result IsMemory }
+{
+    if let Some(assumption) = first_not_zero(alloc, problem, model, representation)? {
+        return Err(ModelRefusal::NotZero { assumption });
+    }
+    if is_claim_zero(alloc, problem, model, representation)? {
+        return Err(ModelRefusal::ClaimZero);
+    }
+    Ok(())
 }
 
 // Whether the claim that the model names is zero.

@@ -35,13 +35,14 @@ pub(crate) fn model_with(
     let mut first = 0;
     for number in 0..quiver.letters() {
         let letter = Letter(number as u16);
-        if is_declared(quiver, letter) {
+        let map = if is_declared(quiver, letter) {
             let matrix = matrix_with(alloc, quiver, shape, letter, values, first)?;
-            maps.push(Some(matrix))?;
             first += map_entry_count(quiver, shape, letter) as usize;
+            Some(matrix)
         } else {
-            maps.push(None)?;
-        }
+            None
+        };
+        maps.push(map)?;
     }
     let sides = shape.sides.duplicate()?;
     Ok(Model {

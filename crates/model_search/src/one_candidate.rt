@@ -73,8 +73,8 @@ fn greedy_values(
     ensures greedy { IfOk result (λ found. IfSome found (IsGreedy problem.now shape.now drawn.now)) }
 {
     let solved = plan.solved.as_slice();
-    let system = system_of(alloc, problem, shape, plan, drawn)?;
     let prefer = picked(alloc, solved, drawn)?;
+    let system = system_of(alloc, problem, shape, plan, drawn)?;
     match solve(alloc, &system, prefer.as_slice())? {
         Some(values) => Ok(Some(filled(alloc, solved, drawn, values.as_slice())?)),
         None => Ok(None),

@@ -26,11 +26,11 @@ pub(crate) fn representation_of(
     requires maps { HaveMatrices (quiver_of quiver.now) model.now (letters (quiver_of quiver.now)) }
     ensures { IfOk result (λ f. AreOfModel (quiver_of quiver.now) model.now f.objects f.arrows) }
 {
-    let objects = model.sides.duplicate()?;
     let mut arrows = Listing::new(alloc);
     for number in 0..quiver.letters() {
         arrows.push(arrow_for(alloc, quiver, model, Letter(number as u16))?)?;
     }
+    let objects = model.sides.duplicate()?;
     Ok(Representation { objects, arrows })
 }
 

@@ -31,12 +31,14 @@ pub(crate) fn filled(
     let mut all = Listing::new(alloc);
     let mut next = 0;
     for place in 0..solved.len() {
-        if solved[place] {
-            all.push(values[next])?;
+        let value = if solved[place] {
+            let given = values[next];
             next += 1;
+            given
         } else {
-            all.push(drawn[place])?;
-        }
+            drawn[place]
+        };
+        all.push(value)?;
     }
     Ok(all)
 }

@@ -1,8 +1,14 @@
-use Rattle.std.proofs.Common.{rules, ◌≡◌, ◌+◌, ◌-◌, ◌%◌, ℕ, List, ◌++◌, ◌∷◌, [], get_or, map, take, sym, ap, ap₂, ◌∙◌}
+use Rattle.std.proofs.Common.{rules, ◌≡◌, ◌+◌, ◌-◌, ◌%◌, ◌<◌, ℕ, List, ◌++◌, ◌∷◌, [], length, get_or, map, take, sym, ap, ap₂, subst, ◌∙◌}
 use Rattle.std.proofs.lemmas.List.{take_more, map-append}
 use Rattle.std.proofs.lemmas.Option.{get_or_from_slice_get}
 use Rattle.model_search.specs.Equations.{factor_by}
 use Rattle.model_search.proofs.equations.row_by.Goals as goal
+
+pub at-requires : goal.at-requires
+at-requires c =
+    let u = c.at_unit-item.result in
+    let long = c.requires.alike c.loop-at_unit.at_unit-index u c.loop-at_unit-test.true in
+    subst (λ n. c.args.place < n) (sym (ap length c.at_unit-item.is ∙ long)) c.requires.place
 
 pub loop-at_unit-preserved : goal.loop-at_unit-preserved
 loop-at_unit-preserved c =

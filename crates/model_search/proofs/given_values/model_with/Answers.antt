@@ -9,7 +9,7 @@ use Rattle.model_search.specs.Candidates.{is_declared_map, map_entries, matrix_b
 use Rattle.model_search.specs.EntryPlaces.{entries_before}
 use Rattle.model_search.proofs.EntryCounts.{entries_with, entries_without}
 use Rattle.model_search.proofs.given_values.model_with.Goals as goal
-use Rattle.model_search.proofs.given_values.model_with.Goals.{then-is_declared+in_ok-matrix+in_ok-push, else-is_declared+in_ok-push-2}
+use Rattle.model_search.proofs.given_values.model_with.Goals.{then-is_declared+in_ok-matrix, else-is_declared}
 
 pub loop-number-preserved : goal.loop-number-preserved
 loop-number-preserved c =
@@ -17,23 +17,24 @@ loop-number-preserved c =
     let s = c.args.shape.now in
     let values = c.args.values.now in
     let n = c.loop-number.number in
+    let pushed : c.push.new.self ≡ c.loop-number.maps ++ c.if-is_declared.map ∷ [] = search rules in
     elim c.if-is_declared.branch [
-      | then-is_declared+in_ok-matrix+in_ok-push w ↦
+      | then-is_declared+in_ok-matrix w ↦
           let declared : is_declared_map q n ≡ true = search rules in
-          let pushed : c.if-is_declared.maps ≡ c.loop-number.maps ++ Some (matrix_by q s values n) ∷ [] = search rules in
+          let made : c.if-is_declared.map ≡ Some (matrix_by q s values n) = search rules in
           let placed : place_by q s values n ≡ Some (matrix_by q s values n) = ap (λ b. cond b (Some (matrix_by q s values n)) None) declared in
           let more = ap length (entries_with q s n declared) ∙ length-append (entries_before q s n) (map_entries q s n) in
           let sum : c.if-is_declared.first ≡ c.loop-number.first + w.map_entry_count.result = search rules in (
-            pushed ∙ ap₂ (λ xs x. xs ++ x ∷ []) c.loop-number.invariant.0 (sym placed) ∙ sym (map-range_with_len_more (place_by q s values) 0 n n (omega arith)),
+            pushed ∙ ap₂ (λ xs x. xs ++ x ∷ []) c.loop-number.invariant.0 (made ∙ sym placed) ∙ sym (map-range_with_len_more (place_by q s values) 0 n n (omega arith)),
             sum ∙ ap₂ ◌+◌ c.loop-number.invariant.1 w.map_entry_count.ensures.count ∙ sym more,
             omega (arith, sum, c.loop-number.invariant.2, w.map_entry_count.ensures.few),
           )
-      | else-is_declared+in_ok-push-2 w ↦
+      | else-is_declared w ↦
           let other : is_declared_map q n ≡ false = search rules in
-          let pushed : c.if-is_declared.maps ≡ c.loop-number.maps ++ None ∷ [] = search rules in
+          let made : c.if-is_declared.map ≡ None = search rules in
           let placed : place_by q s values n ≡ None = ap (λ b. cond b (Some (matrix_by q s values n)) None) other in
           let same : c.if-is_declared.first ≡ c.loop-number.first = search rules in (
-            pushed ∙ ap₂ (λ xs x. xs ++ x ∷ []) c.loop-number.invariant.0 (sym placed) ∙ sym (map-range_with_len_more (place_by q s values) 0 n n (omega arith)),
+            pushed ∙ ap₂ (λ xs x. xs ++ x ∷ []) c.loop-number.invariant.0 (made ∙ sym placed) ∙ sym (map-range_with_len_more (place_by q s values) 0 n n (omega arith)),
             same ∙ c.loop-number.invariant.1 ∙ sym (ap length (entries_without q s n other)),
             omega (arith, same, c.loop-number.invariant.2),
           )

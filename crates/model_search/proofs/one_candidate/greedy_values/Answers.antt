@@ -4,8 +4,22 @@ use Rattle.matrix_models.specs.Greedy as of_system
 use Rattle.model_search.specs.Candidates.{IsGreedy}
 use Rattle.model_search.specs.Unknowns.{filled, picked, set_count}
 use Rattle.model_search.specs.Equations.{system_for}
+use Rattle.quiver.specs.Declarations.{quiver_of}
+use Rattle.model_search.proofs.DrawnEntries.{flag_of_each}
 use Rattle.model_search.proofs.PlanSystems.{plan_system, plan_prefer, plan_greedy, plan_none, unknown_of_each_flag}
 use Rattle.model_search.proofs.one_candidate.greedy_values.Goals as goal
+
+pub picked-requires : goal.picked-requires
+picked-requires c =
+    let problem = c.args.problem.now in
+    let flags = flag_of_each (quiver_of problem.parts.quiver) c.args.shape.now problem.parts.solved in
+    record { one_each = c.requires.drawn.one_each ∙ sym flags ∙ ap length (sym (c.as_slice-solved.ensures ∙ c.requires.plan.solved)) }
+
+pub filled-requires-clause-one_each : goal.filled-requires-clause-one_each
+filled-requires-clause-one_each c =
+    let problem = c.args.problem.now in
+    let flags = flag_of_each (quiver_of problem.parts.quiver) c.args.shape.now problem.parts.solved in
+    c.requires.drawn.one_each ∙ sym flags ∙ ap length (sym (c.as_slice-solved.ensures ∙ c.requires.plan.solved))
 
 pub solve-requires-clause-system : goal.solve-requires-clause-system
 solve-requires-clause-system c =

@@ -4,7 +4,7 @@ use Rattle.model_search.specs.Unknowns.{filled, set_count}
 use Rattle.model_search.proofs.FilledValues.{length-filled}
 use Rattle.model_search.proofs.SolvedEntries.{before, before_more, before_within, filled_set, filled_as_drawn}
 use Rattle.model_search.proofs.unknowns.filled.Goals as goal
-use Rattle.model_search.proofs.unknowns.filled.Goals.{then-solved-place+in_ok-push, else-solved-place+in_ok-push-2}
+use Rattle.model_search.proofs.unknowns.filled.Goals.{then-solved-place, else-solved-place}
 
 -- the next value is there
 next_within : (flags : List Bool) (place next count : ℕ) → count ≡ set_count flags → next ≡ before flags place → place < length flags → get_or flags place false ≡ true → next < count
@@ -35,23 +35,24 @@ loop-place-preserved c =
       c.requires.one_each,
       c.loop-place-test.true,
     ) in
+    let pushed : c.push.new.self ≡ c.loop-place.all ++ c.if-solved-place.value ∷ [] = search rules in
     elim c.if-solved-place.branch [
-      | then-solved-place+in_ok-push w ↦
+      | then-solved-place w ↦
           let set : get_or flags place false ≡ true = search rules in
-          let pushed : c.if-solved-place.all ≡ c.loop-place.all ++ get_or values c.loop-place.next 0 ∷ [] = search rules in
+          let taken : c.if-solved-place.value ≡ get_or values c.loop-place.next 0 = search rules in
           let value = ap (λ k. get_or values k 0) c.loop-place.invariant.1
           ∙ sym (filled_set flags drawn values place c.requires.one_each c.requires.one_for_each c.loop-place-test.true set) in
           let next : c.if-solved-place.next ≡ c.loop-place.next + 1 = search rules in (
-            pushed ∙ ap (λ xs. xs ++ get_or values c.loop-place.next 0 ∷ []) c.loop-place.invariant.0
-                ∙ ap (λ x. take place all ++ x ∷ []) value ∙ sym (take_more all place 0 inside),
+            pushed ∙ ap (λ xs. xs ++ c.if-solved-place.value ∷ []) c.loop-place.invariant.0
+                ∙ ap (λ x. take place all ++ x ∷ []) (taken ∙ value) ∙ sym (take_more all place 0 inside),
             omega (arith, next, c.loop-place.invariant.1, before_more flags place true c.loop-place-test.true set),
           )
-      | else-solved-place+in_ok-push-2 w ↦
+      | else-solved-place w ↦
           let unset : get_or flags place false ≡ false = search rules in
-          let pushed : c.if-solved-place.all ≡ c.loop-place.all ++ get_or drawn place 0 ∷ [] = search rules in
+          let taken : c.if-solved-place.value ≡ get_or drawn place 0 = search rules in
           let value = sym (filled_as_drawn flags drawn values place c.loop-place-test.true unset) in
           let next : c.if-solved-place.next ≡ c.loop-place.next = search rules in (
-            pushed ∙ ap (λ xs. xs ++ get_or drawn place 0 ∷ []) c.loop-place.invariant.0 ∙ ap (λ x. take place all ++ x ∷ []) value
+            pushed ∙ ap (λ xs. xs ++ c.if-solved-place.value ∷ []) c.loop-place.invariant.0 ∙ ap (λ x. take place all ++ x ∷ []) (taken ∙ value)
                 ∙ sym (take_more all place 0 inside),
             omega (arith, next, c.loop-place.invariant.1, before_more flags place false c.loop-place-test.true unset),
           )
