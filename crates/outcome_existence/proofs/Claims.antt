@@ -29,7 +29,7 @@ use Rattle.rule_reduce.specs.declared.state.State.{State}
 use Rattle.rule_reduce.specs.declared.fault.ReduceFault.{ReduceFault}
 use Rattle.rule_reduce.specs.NormalForms.{normal_form_of}
 use Rattle.ambiguities.specs.declared.ambiguity.Ambiguity.{Ambiguity}
-use Rattle.traced_completion.specs.Making.{Recorded}
+use Rattle.rule_making.specs.Making.{Recorded}
 use Rattle.traced_completion.specs.PlainRun.{Setting, RunState, Outcome as RoundOutcome, start, went, closed, stopped, IsCauseOf, Ends, IsRound, IsRunState}
 use Rattle.traced_completion.proofs.RunStates.{states_bounded}
 use Rattle.claim_decider.specs.declared.outcome.Outcome.{Outcome}

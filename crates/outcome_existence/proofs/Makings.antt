@@ -14,8 +14,8 @@ use Rattle.nc_polynomial.proofs.Divisors.{canonical_back}
 use Rattle.cofactor_trace.specs.declared.Made.{Made}
 use Rattle.rule_reduce.specs.declared.rule.Rule.{Rule}
 use Rattle.rule_reduce.specs.Leading.{greatest_from, leading_term}
-use Rattle.traced_completion.specs.Making.{Rest, leads_negative, negated_rows, IsMadeFrom}
-use Rattle.traced_completion.proofs.Quotients.{signed, signed_nonzero, negative_divides}
+use Rattle.rule_making.specs.Making.{Rest, leads_negative, negated_rows, IsMadeFrom}
+use Rattle.rule_making.proofs.Quotients.{signed, signed_nonzero, negative_divides}
 use Rattle.outcome_existence.proofs.Contents.{HasContent, has_content, positive_content, quotient, multiple_of_quotient}
 
 pub record HasRule (compare : Compare) (rest : Rest) : Type 0 where

@@ -13,7 +13,7 @@ use Rattle.rule_reduce.specs.NormalForms.{IsMemory}
 use Rattle.ambiguities.specs.declared.ambiguity.Ambiguity.{Ambiguity}
 use Rattle.traced_completion.specs.declared.pending.waiting.Waiting.{Waiting}
 use Rattle.traced_completion.specs.Results.{each_in_turn}
-use Rattle.traced_completion.specs.Making.{Recorded}
+use Rattle.rule_making.specs.Making.{Recorded}
 use Rattle.traced_completion.specs.Works.{generator_work, first_of}
 use Rattle.traced_completion.specs.Pending.{ambiguities_of}
 use Rattle.traced_completion.specs.PlainRun.{Setting, RunState, Outcome, went, closed, stopped, IsCauseOf, Ends, recorded, IsTreated, TreatsFirst, TreatsPending, taken_count, IsRoundZero, IsLaterRound}

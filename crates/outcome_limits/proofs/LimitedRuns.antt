@@ -33,7 +33,7 @@ use Rattle.ambiguities.specs.SPolynomials.{s_rows_of}
 use Rattle.ambiguities.proofs.Numbers.{rule_at-first, rule_at-last}
 use Rattle.adjoint_rules.specs.Problem.{polynomials}
 use Rattle.traced_completion.specs.UnitsFirst.{units_first}
-use Rattle.traced_completion.specs.Making.{Rest, leads_negative, IsMadeFrom}
+use Rattle.rule_making.specs.Making.{Rest, leads_negative, IsMadeFrom}
 use Rattle.traced_completion.specs.RunLaws.{HasWords}
 use Rattle.traced_completion.specs.PlainRun.{Setting, RunState, IsRunState}
 use Rattle.traced_completion.proofs.RunRules.{AreWords, normal_words, s_words}

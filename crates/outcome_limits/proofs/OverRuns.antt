@@ -26,7 +26,7 @@ use Rattle.ambiguities.specs.Ambiguities.{IsAmbiguity, lead_at, overlap_word_of}
 use Rattle.ambiguities.specs.SPolynomials.{s_rows_of}
 use Rattle.ambiguities.proofs.Bounds.{over_overlap_word}
 use Rattle.traced_completion.specs.declared.pending.waiting.Waiting.{Waiting}
-use Rattle.traced_completion.specs.Making.{Recorded}
+use Rattle.rule_making.specs.Making.{Recorded}
 use Rattle.traced_completion.specs.Pending.{IsPending, ambiguities_of}
 use Rattle.traced_completion.specs.RunLaws.{HasWords}
 use Rattle.traced_completion.specs.PlainRun.{Setting, RunState, went, closed, stopped, Ends, taken_count, TreatsFirst, TreatsPending, IsRound, IsRunState}

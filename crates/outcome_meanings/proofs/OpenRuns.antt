@@ -27,7 +27,7 @@ use Rattle.completion_laws.proofs.Outside.{nonzero_is_outside, nonzero_is_not_be
 use Rattle.completion_laws.proofs.ShapeLaws.{normal_forms_are_shaped}
 use Rattle.traced_completion.specs.declared.budget.Budget.{Budget}
 use Rattle.traced_completion.specs.declared.pending.waiting.Waiting.{Waiting}
-use Rattle.traced_completion.specs.Making.{Recorded}
+use Rattle.rule_making.specs.Making.{Recorded}
 use Rattle.traced_completion.specs.Pending.{AreAllPending, ambiguities_of}
 use Rattle.traced_completion.specs.PlainRun.{Setting, RunState, went, closed, stopped, Ends, taken_count, TreatsFirst, TreatsPending, IsRound, IsRunState, setting_of}
 use Rattle.claim_decider.specs.Outcomes.{IsLeft, IsOpen}

@@ -17,8 +17,8 @@ use Rattle.completion_laws.specs.Rests.{IsMadeOf, IsAppended, nothing_left, rule
 use Rattle.completion_laws.specs.Typed.{IsTypedInPlay}
 use Rattle.completion_laws.proofs.MakingLaws.{scale_positive, pushed_rules_are_made}
 use Rattle.completion_laws.proofs.TypedLaws.{typed_has_no_empty_word}
-use Rattle.traced_completion.specs.Making.{Recorded, rest_with, leads_negative, IsMadeFrom, Adds}
-use Rattle.traced_completion.proofs.Quotients.{quotient_words, leading_positive}
+use Rattle.rule_making.specs.Making.{Recorded, rest_with, leads_negative, IsMadeFrom, Adds}
+use Rattle.rule_making.proofs.Quotients.{quotient_words, leading_positive}
 
 -- what holds of each word with a coefficient holds of each term
 listed : (P : List ℕ → Type 0) (p : List Term) → IsShaped p → ((w : List ℕ) → coefficient_of p w ≢ pos 0 → P w) → All (λ t. P t.1) p

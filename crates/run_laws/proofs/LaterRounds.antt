@@ -25,7 +25,7 @@ use Rattle.completion_laws.specs.Typed.{AreTypedInPlay}
 use Rattle.completion_laws.proofs.ShapeLaws.{s_polynomials_are_shaped}
 use Rattle.completion_laws.proofs.Treating.{ambiguities_are_kept, resolved_at_once_is_kept}
 use Rattle.completion_laws.proofs.TypedLaws.{s_polynomials_stay_typed, rules_stay_typed}
-use Rattle.traced_completion.specs.Making.{Recorded, Rest, rest_with, Adds}
+use Rattle.rule_making.specs.Making.{Recorded, Rest, rest_with, Adds}
 use Rattle.traced_completion.specs.Results.{and_then, halted, unless_overflow, each_in_turn}
 use Rattle.traced_completion.specs.Works.{First, first_of, rows_operations, second_rows, second_rest, second_reduction, second_work, Goes, InTurn}
 use Rattle.run_laws.specs.KeptRuns.{IsGenerator}

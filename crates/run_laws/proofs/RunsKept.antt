@@ -23,7 +23,7 @@ use Rattle.completion_laws.specs.Typed.{IsTypedInPlay, AreTypedInPlay}
 use Rattle.completion_laws.proofs.ShapeLaws.{normal_forms_are_shaped, rests_have_letters_below}
 use Rattle.completion_laws.proofs.Steps.{generators_are_kept}
 use Rattle.completion_laws.proofs.TypedLaws.{normal_forms_stay_typed, rules_stay_typed}
-use Rattle.traced_completion.specs.Making.{Recorded, Rest, rest_with, Adds}
+use Rattle.rule_making.specs.Making.{Recorded, Rest, rest_with, Adds}
 use Rattle.traced_completion.specs.Results.{and_then}
 use Rattle.traced_completion.specs.Works.{generator_work, Goes, InTurn}
 use Rattle.run_laws.specs.KeptRuns.{IsGenerator}

@@ -15,7 +15,7 @@ use Rattle.completion_laws.specs.Conclusions.{NothingPending}
 use Rattle.completion_laws.specs.Typed.{IsTypedInPlay}
 use Rattle.completion_laws.proofs.Steps.{start_is_kept}
 use Rattle.traced_completion.specs.declared.pending.waiting.Waiting.{Waiting}
-use Rattle.traced_completion.specs.Making.{Recorded}
+use Rattle.rule_making.specs.Making.{Recorded}
 use Rattle.traced_completion.specs.Results.{each_in_turn}
 use Rattle.traced_completion.specs.Works.{generator_work, First, first_of, InTurn, InTwoPasses}
 use Rattle.traced_completion.specs.Pending.{IsBeforeInStore, IsPending, ambiguities_of}

@@ -16,7 +16,7 @@ use Rattle.rule_reduce.specs.declared.fault.ReduceFault.TheVariants as fault
 use Rattle.rule_reduce.specs.NormalForms.{normal_form_of}
 use Rattle.adjoint_rules.specs.Problem.{polynomials}
 use Rattle.traced_completion.specs.Results.{and_then, Explains}
-use Rattle.traced_completion.specs.Making.{Recorded, rest_with, IsExtended}
+use Rattle.rule_making.specs.Making.{Recorded, rest_with, IsExtended}
 use Rattle.traced_completion.specs.Works.{generator_rows, generator_work, Does}
 use Rattle.traced_completion.specs.UnitsFirst.{units_first}
 

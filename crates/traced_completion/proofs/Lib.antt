@@ -6,9 +6,6 @@ pub mod Places
 pub mod Appending
 pub mod Sorting
 pub mod Advancing
-pub mod RowLists
-pub mod Quotients
-pub mod Extended
 pub mod NonemptyWords
 pub mod KeptReductions
 pub mod InOrder

@@ -33,8 +33,8 @@ use Rattle.ambiguities.specs.Ambiguities.{IsAmbiguity, lead_at, overlap_word_of}
 use Rattle.ambiguities.proofs.Bounds.{over_overlap_word}
 use Rattle.ambiguities.specs.SPolynomials.{first_row, second_row, row_multiple, s_polynomial_of}
 use Rattle.ambiguities.proofs.Multiples.{passed}
-use Rattle.traced_completion.specs.Making.{is_negative, is_term_negative, leads_negative, Rest, IsMadeFrom}
-use Rattle.traced_completion.proofs.Quotients.{signed, signed_nonzero, multiple_term, leading-multiple, quotient_words, positive_quotient}
+use Rattle.rule_making.specs.Making.{is_negative, is_term_negative, leads_negative, Rest, IsMadeFrom}
+use Rattle.rule_making.proofs.Quotients.{signed, signed_nonzero, multiple_term, leading-multiple, quotient_words, positive_quotient}
 use Rattle.traced_completion.proofs.UniqueRuns.{same_factor}
 
 combined_is : (a : ℤ) (p : List Term) (b : ℤ) (q r : List Term) → combined a p b q ≡ Ok r → added (scaled a p) (scaled b q) ≡ r

@@ -22,11 +22,11 @@ use Rattle.traced_completion.specs.declared.completion.Completion.{Completion}
 use Rattle.traced_completion.specs.declared.completion.Step.{Step}
 use Rattle.traced_completion.specs.declared.pending.waiting.Waiting.{Waiting}
 use Rattle.traced_completion.specs.Results.{each_in_turn}
-use Rattle.traced_completion.specs.Making.{Recorded}
+use Rattle.rule_making.specs.Making.{Recorded}
 use Rattle.traced_completion.specs.Works.{generator_work, first_of, InTurn, InTwoPasses, EndsWith}
 use Rattle.traced_completion.specs.UnitsFirst.{units_first}
 use Rattle.traced_completion.specs.Pending.{AreAllPending, IsNextStore, ambiguities_of, first_word}
-use Rattle.traced_completion.specs.Reductions.{HasRecords}
+use Rattle.rule_making.specs.Records.{HasRecords}
 use Rattle.traced_completion.specs.PlainRun.{RunState, Outcome, went, closed, stopped, Setting, start, recorded, taken_count, Ends, TreatsFirst, TreatsPending, IsRound, IsRoundZero, IsRunState, setting_of}
 use Rattle.traced_completion.specs.Completions.{state_of, outcome_of, IsUnchanged, IsGivingUp, IsRunOf, IsCompletionOf}
 use Rattle.traced_completion.proofs.Ascending.{contains-first}

@@ -7,7 +7,7 @@ use Rattle.rule_reduce.specs.declared.rule.Rule.{Rule}
 use Rattle.rule_reduce.specs.declared.fault.ReduceFault.{ReduceFault}
 use Rattle.rule_reduce.specs.declared.fault.ReduceFault.TheVariants as fault
 use Rattle.traced_completion.specs.Results.{Explains}
-use Rattle.traced_completion.specs.Making.{Recorded, Rest, Adds}
+use Rattle.rule_making.specs.Making.{Recorded, Rest, Adds}
 use Rattle.traced_completion.specs.Works.{Work, Does, Goes, InTurn, EndsWith}
 
 -- a list that begins with another does so with an item more

@@ -21,12 +21,12 @@ use Rattle.rule_reduce.proofs.MadeRules.{one_content}
 use Rattle.ambiguities.specs.declared.ambiguity.Ambiguity.{Ambiguity}
 use Rattle.traced_completion.specs.declared.pending.waiting.Waiting.{Waiting}
 use Rattle.traced_completion.specs.Results.{each_in_turn}
-use Rattle.traced_completion.specs.Making.{Recorded, Rest, leads_negative, IsMadeFrom, Adds}
+use Rattle.rule_making.specs.Making.{Recorded, Rest, leads_negative, IsMadeFrom, Adds}
 use Rattle.traced_completion.specs.Works.{Work, generator_work, First, first_of, Goes, InTurn, InTwoPasses, second_work}
 use Rattle.traced_completion.specs.Pending.{ambiguities_of}
 use Rattle.traced_completion.specs.PlainRun.{Setting, RunState, Outcome, went, stopped, IsCauseOf, Ends, recorded, IsTreated, TreatsFirst, TreatsPending, IsRoundZero, IsLaterRound, IsRound, taken_count}
 use Rattle.traced_completion.specs.RunLaws.{RoundsAreUnique, StatesAreUnique}
-use Rattle.traced_completion.proofs.Quotients.{signed, signed_nonzero}
+use Rattle.rule_making.proofs.Quotients.{signed, signed_nonzero}
 use Rattle.traced_completion.proofs.StoreLemmas.{stores-unique}
 
 -- ---- rules

@@ -16,7 +16,7 @@ use Rattle.traced_completion.specs.declared.pending.waiting.Waiting.{Waiting}
 use Rattle.traced_completion.specs.declared.budget.Budget.{Budget}
 use Rattle.traced_completion.specs.Pending.{AreAllPending}
 use Rattle.traced_completion.specs.PlainRun.{RunState, Outcome, went, closed, stopped, IsCauseOf, recorded, IsRunState, setting_of}
-use Rattle.traced_completion.specs.Reductions.{HasRecords}
+use Rattle.rule_making.specs.Records.{HasRecords}
 
 abbrev pub budget_limit : ℕ
 budget_limit = 1000000

@@ -7,12 +7,13 @@ pub use Rattle.nc_polynomial.specs.Content
 pub use Rattle.cofactor_trace.specs.Needed
 pub use Rattle.rule_reduce.specs.RuleLists
 pub use Rattle.rule_reduce.specs.NormalForms
+pub use Rattle.rule_making.specs.Making
+pub use Rattle.rule_making.specs.Records
 pub use Rattle.ambiguities.specs.Ambiguities
 pub use Rattle.ambiguities.specs.Listed
 pub use Rattle.ambiguities.specs.SPolynomials
 pub use Rattle.adjoint_rules.specs.Problem
 pub mod Results
-pub mod Making
 pub mod Works
 pub mod Reductions
 pub mod Pending

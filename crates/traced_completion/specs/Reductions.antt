@@ -5,8 +5,6 @@ use Rattle.coef_int.specs.Range.{IsCoefficient}
 use Rattle.word_core.specs.Letters.{IsOver}
 use Rattle.word_orders.specs.Admissible.{Compare}
 use Rattle.nc_polynomial.specs.declared.poly.Poly.{Poly}
-use Rattle.cofactor_trace.specs.Needed.{IsAmongFirst, AreRecords}
-use Rattle.cofactor_trace.specs.declared.Row.{Row}
 use Rattle.rule_reduce.specs.declared.fault.ReduceFault.{ReduceFault}
 use Rattle.rule_reduce.specs.declared.rule.Rule.{Rule}
 use Rattle.rule_reduce.specs.declared.rules.Reduced.{Reduced}
@@ -14,7 +12,7 @@ use Rattle.rule_reduce.specs.declared.state.State.{State}
 use Rattle.traced_completion.specs.declared.first_reductions.First.{First as Kept}
 use Rattle.ambiguities.specs.declared.ambiguity.Ambiguity.{Ambiguity}
 use Rattle.traced_completion.specs.Results.{Explains}
-use Rattle.traced_completion.specs.Making.{Recorded}
+use Rattle.rule_making.specs.Records.{AreRows}
 use Rattle.traced_completion.specs.Works.{First, first_of}
 
 -- with the rest as a list
@@ -24,12 +22,7 @@ plain r = record { multiplier = r.multiplier; rest = r.rest.terms; rows = r.rows
 abbrev pub plain_first : Kept → First
 plain_first f = record { rows = f.rows; reduced = plain f.reduced }
 
--- The coefficients of the rows are in range, and they are over generators and the first rules, as many as the count says.
-pub record AreRows (count : ℕ) (rows : List Row) : Type 0 where
-  pub in_range : All (λ r. IsCoefficient r.coef) rows
-  pub named : All (λ r. IsAmongFirst count r.from) rows
-
--- and the multiplier is in range; no word of the rest is empty, and all letters are below a number
+-- The multiplier and the rows are in range; no word of the rest is empty, and all letters are below a number
 pub record IsKept (letters count : ℕ) (s : State) : Type 0 where
   pub multiplier : IsCoefficient s.multiplier
   pub rows : AreRows count s.rows
@@ -49,8 +42,3 @@ pub record IsReducible (letters : ℕ) (p : Poly) : Type 0 where
 pub record IsAnswer (letters : ℕ) (compare : Compare) (steps : ℕ) (rules : List Rule) (which : Ambiguity) (answer : Result Kept ReduceFault) : Type 0 where
   pub exact : MatchResult answer (λ f. first_of compare steps rules which ≡ Ok (plain_first f)) (Explains (first_of compare steps rules which))
   pub kept : IfOk answer (λ f. IsKeptFirst letters (length rules) (plain_first f))
-
--- Each rule has a record, which names generators and rules before that rule.
-pub record HasRecords (r : Recorded) : Type 0 where
-  pub one_each : length r.made ≡ length r.rules
-  pub records : AreRecords r.made

@@ -16,7 +16,7 @@ use Rattle.rule_reduce.specs.NormalForms.{normal_form_of}
 use Rattle.ambiguities.specs.declared.ambiguity.Ambiguity.{Ambiguity}
 use Rattle.ambiguities.specs.SPolynomials.{s_rows_of, s_polynomial_of}
 use Rattle.traced_completion.specs.Results.{and_then, halted, unless_overflow}
-use Rattle.traced_completion.specs.Making.{Recorded, Rest, rest_with, negated_rows, Adds}
+use Rattle.rule_making.specs.Making.{Recorded, Rest, rest_with, negated_rows, Adds}
 
 -- What is left of something by the rules so far, with its rows, or a fault.
 abbrev pub Work : Type 0

@@ -6,11 +6,12 @@ ghost use Rattle.adjoint_rules.specs.Problem.{polynomials};
 ghost use Rattle.traced_completion.specs.Results.{Explains};
 ghost use Rattle.traced_completion.specs.Works.{generator_rows, generator_work, Does, InTurn, EndsWith};
 ghost use Rattle.traced_completion.specs.UnitsFirst.{units_first};
-ghost use Rattle.traced_completion.specs.Reductions.{HasRecords, IsReducible};
+ghost use Rattle.rule_making.specs.Records.{HasRecords};
+ghost use Rattle.traced_completion.specs.Reductions.{IsReducible};
 
-use crate::making::push_rule;
+use rule_making::push_rule;
 use crate::reduction::reduce;
-use crate::rows::{join_rows, negate_rows};
+use rule_making::{join_rows, negate_rows};
 use cofactor_trace::{Made, Origin, Row};
 use lists::Listing;
 use nc_polynomial::Poly;

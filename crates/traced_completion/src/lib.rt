@@ -6,12 +6,10 @@ mod completion;
 mod first_reductions;
 mod generators;
 mod laws;
-mod making;
 mod passes;
 mod pending;
 mod reduction;
 mod rounds;
-mod rows;
 mod second_reduction;
 mod units;
 

@@ -2,7 +2,8 @@
 ghost use Rattle.std.specs.Prelude.{◌≡◌, ◌<◌, ◌≤◌, ◌+◌, ◌^◌, length, map, take, IfErr, OnOk, Ok};
 ghost use Rattle.std.specs.List.{All};
 ghost use Rattle.traced_completion.specs.Works.{second_work, InTurn, EndsWith};
-ghost use Rattle.traced_completion.specs.Reductions.{plain_first, IsKeptFirst, HasRecords};
+ghost use Rattle.rule_making.specs.Records.{HasRecords};
+ghost use Rattle.traced_completion.specs.Reductions.{plain_first, IsKeptFirst};
 
 use crate::first_reductions::First;
 use crate::second_reduction::treat;

@@ -6,12 +6,13 @@ ghost use Rattle.coef_int.specs.Operations.{first_overflow};
 ghost use Rattle.rule_reduce.specs.Steps.{row_operations};
 ghost use Rattle.traced_completion.specs.Results.{Explains, unless_overflow};
 ghost use Rattle.traced_completion.specs.Works.{less_rows, second_rows, rows_operations, second_work, Does};
-ghost use Rattle.traced_completion.specs.Reductions.{plain, plain_first, IsKeptFirst, HasRecords};
+ghost use Rattle.rule_making.specs.Records.{HasRecords};
+ghost use Rattle.traced_completion.specs.Reductions.{plain, plain_first, IsKeptFirst};
 
 use crate::first_reductions::First;
-use crate::making::push_rule;
+use rule_making::push_rule;
 use crate::reduction::reduce;
-use crate::rows::{join_rows, multiply_rows, negate_rows};
+use rule_making::{join_rows, multiply_rows, negate_rows};
 use cofactor_trace::{Made, Row};
 use lists::Listing;
 use nc_polynomial::Poly;

@@ -1,11 +1,12 @@
 use Rattle.std.proofs.Common.{rules, ◌≡◌, ◌<◌, ◌-◌, length, get_or, List, sym, subst, arith}
 use Rattle.cofactor_trace.specs.declared.Row.{Row}
 use Rattle.adjoint_rules.specs.Problem.{polynomials}
-use Rattle.traced_completion.specs.Making.{Recorded, IsExtended}
+use Rattle.rule_making.specs.Making.{Recorded, IsExtended}
 use Rattle.traced_completion.specs.Works.{generator_rows}
 use Rattle.traced_completion.specs.Reductions.{plain, IsKept, IsReducible}
 use Rattle.traced_completion.proofs.GeneratorWorks.{generator_is, generator_fault, nothing_left, rest_made}
-use Rattle.traced_completion.proofs.Records.{AreNamed, generator_named}
+use Rattle.rule_making.proofs.Records.{AreNamed}
+use Rattle.traced_completion.proofs.Records.{generator_named}
 use Rattle.traced_completion.proofs.generators.reduce_generator.Goals as goal
 
 pub reduce-requires-clause-over : goal.reduce-requires-clause-over

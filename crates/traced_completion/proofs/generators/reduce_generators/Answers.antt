@@ -2,7 +2,7 @@ use Rattle.std.proofs.Common.{rules, ◌≡◌, ◌+◌, ◌∷◌, length, map,
 use Rattle.std.specs.List.{All}
 use Rattle.adjoint_rules.specs.Problem.{polynomials}
 use Rattle.traced_completion.specs.Results.{Explains}
-use Rattle.traced_completion.specs.Making.{Recorded}
+use Rattle.rule_making.specs.Making.{Recorded}
 use Rattle.traced_completion.specs.Works.{generator_work, Does, InTurn}
 use Rattle.traced_completion.specs.UnitsFirst.{units_first}
 use Rattle.traced_completion.specs.Reductions.{IsReducible}

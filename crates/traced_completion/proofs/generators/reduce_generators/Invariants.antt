@@ -1,10 +1,10 @@
 use Rattle.std.proofs.Common.{◌≡◌, ◌≤◌, ◌+◌, length, map, take, drop, Result}
 use Rattle.rule_reduce.specs.declared.fault.ReduceFault.{ReduceFault}
 use Rattle.adjoint_rules.specs.Problem.{polynomials}
-use Rattle.traced_completion.specs.Making.{Recorded}
+use Rattle.rule_making.specs.Making.{Recorded}
 use Rattle.traced_completion.specs.Works.{generator_work, InTurn}
 use Rattle.traced_completion.specs.UnitsFirst.{units_first}
-use Rattle.traced_completion.specs.Reductions.{HasRecords}
+use Rattle.rule_making.specs.Records.{HasRecords}
 use Rattle.traced_completion.proofs.generators.reduce_generators.Given as goal
 
 -- how the works that are left end by the rules so far, all works end by the rules from before

@@ -5,7 +5,7 @@ use Rattle.std.proofs.lemmas.List.{take_all}
 use Rattle.std.proofs.lemmas.List.Elements.{All-tail}
 use Rattle.traced_completion.specs.declared.first_reductions.First.{First}
 use Rattle.traced_completion.specs.Results.{Explains}
-use Rattle.traced_completion.specs.Making.{Recorded}
+use Rattle.rule_making.specs.Making.{Recorded}
 use Rattle.traced_completion.specs.Works.{second_work, Does, InTurn, EndsWith}
 use Rattle.traced_completion.specs.Reductions.{plain_first, IsKeptFirst}
 use Rattle.traced_completion.proofs.Turns.{does_grows, goes_well, ends_with, ends_weaker}

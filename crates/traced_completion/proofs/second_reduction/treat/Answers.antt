@@ -2,7 +2,8 @@ use Rattle.std.proofs.Common.{length, subst}
 use Rattle.traced_completion.specs.Works.{second_rows, rows_operations}
 use Rattle.traced_completion.specs.Reductions.{plain, plain_first, IsKept}
 use Rattle.traced_completion.proofs.RowChains.{value_of}
-use Rattle.traced_completion.proofs.Records.{AreNamed, second_named}
+use Rattle.rule_making.proofs.Records.{AreNamed}
+use Rattle.traced_completion.proofs.Records.{second_named}
 use Rattle.traced_completion.proofs.second_reduction.treat.Goals as goal
 
 pub push_rule-requires-clause-rows : goal.push_rule-requires-clause-rows

@@ -4,15 +4,15 @@ ghost use Rattle.std.specs.List.{All};
 ghost use Rattle.coef_int.specs.Range.{IsCoefficient};
 ghost use Rattle.coef_int.specs.Operations.{first_overflow};
 ghost use Rattle.rule_reduce.specs.Steps.{multiplied_row, row_operations};
-ghost use Rattle.traced_completion.specs.Making.{negated_rows};
+ghost use Rattle.rule_making.specs.Making.{negated_rows};
 
 use coef_int::Overflow;
 use cofactor_trace::Row;
 use lists::Listing;
 use std::alloc::AllocError;
 
-// The rows with their coefficients negated.
-pub(crate) fn negate_rows(rows: Listing<Row>) -> Listing<Row>
+/// The rows with their coefficients negated.
+pub fn negate_rows(rows: Listing<Row>) -> Listing<Row>
     requires { All (λ r. IsCoefficient r.coef) rows }
     ensures exact { result ≡ negated_rows rows }
     ensures in_range { All (λ r. IsCoefficient r.coef) result }
@@ -24,8 +24,9 @@ pub(crate) fn negate_rows(rows: Listing<Row>) -> Listing<Row>
     Listing::from_vec(negated)
 }
 
-// The rows with their coefficients times a number, which is the right operand of each product.
-pub(crate) fn multiply_rows(rows: Listing<Row>, by: i128) -> Result<Listing<Row>, Overflow>
+/// The rows with their coefficients times a number, which is the right operand of each product; or the first product that is
+/// out of range.
+pub fn multiply_rows(rows: Listing<Row>, by: i128) -> Result<Listing<Row>, Overflow>
     requires factor_in { IsCoefficient by }
     requires in_range { All (λ r. IsCoefficient r.coef) rows }
     ensures in_range { IfOk result (All (λ r. IsCoefficient r.coef)) }
@@ -39,8 +40,8 @@ pub(crate) fn multiply_rows(rows: Listing<Row>, by: i128) -> Result<Listing<Row>
     Ok(Listing::from_vec(multiplied))
 }
 
-// The rows of the one list and then those of the other.
-pub(crate) fn join_rows(front: Listing<Row>, back: Listing<Row>) -> Result<Listing<Row>, AllocError>
+/// The rows of the one list and then those of the other.
+pub fn join_rows(front: Listing<Row>, back: Listing<Row>) -> Result<Listing<Row>, AllocError>
     ensures { IfOk result (λ joined. joined ≡ front ++ back) }
 {
     let mut joined = front.into_vec();

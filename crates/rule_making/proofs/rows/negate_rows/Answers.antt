@@ -2,9 +2,9 @@ use Rattle.std.proofs.Common.{rules, ◌≡◌, ◌<◌, get_or, length}
 use Rattle.std.proofs.lemmas.List.Elements.{All-set}
 use Rattle.coef_int.specs.Range.{IsCoefficient}
 use Rattle.cofactor_trace.specs.declared.Row.{Row}
-use Rattle.traced_completion.specs.Making.{negated_row}
-use Rattle.traced_completion.proofs.RowLists.{written_more}
-use Rattle.traced_completion.proofs.rows.negate_rows.Goals as goal
+use Rattle.rule_making.specs.Making.{negated_row}
+use Rattle.rule_making.proofs.RowLists.{written_more}
+use Rattle.rule_making.proofs.rows.negate_rows.Goals as goal
 
 pub loop-row-preserved : goal.loop-row-preserved
 loop-row-preserved c =

@@ -1,8 +1,8 @@
 use Rattle.std.proofs.Common.{◌≡◌, ◌++◌, map, take, drop}
 use Rattle.std.specs.List.{All}
 use Rattle.coef_int.specs.Range.{IsCoefficient}
-use Rattle.traced_completion.specs.Making.{negated_row}
-use Rattle.traced_completion.proofs.rows.negate_rows.Given as goal
+use Rattle.rule_making.specs.Making.{negated_row}
+use Rattle.rule_making.proofs.rows.negate_rows.Given as goal
 
 abbrev pub invariant-loop-row : goal.invariant-loop-row
 invariant-loop-row l = record {

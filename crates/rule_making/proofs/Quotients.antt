@@ -17,7 +17,7 @@ use Rattle.nc_polynomial.specs.Content.{IsContent, DividesEach}
 use Rattle.nc_polynomial.proofs.Divisors.{abs_positive}
 use Rattle.rule_reduce.proofs.AtMost.{leading-all}
 use Rattle.rule_reduce.specs.Leading.{greater_term, greatest_from, leading_term}
-use Rattle.traced_completion.specs.Making.{is_negative, is_term_negative, leads_negative}
+use Rattle.rule_making.specs.Making.{is_negative, is_term_negative, leads_negative}
 
 abbrev pub multiple_term : ℤ → Term → Term
 multiple_term k t = (k *ℤ t.0, t.1)

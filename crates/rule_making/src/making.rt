@@ -5,9 +5,9 @@ ghost use Rattle.coef_int.specs.Range.{IsCoefficient};
 ghost use Rattle.definitions.specs.Poly.{poly_multiple};
 ghost use Rattle.word_core.specs.Letters.{IsOver};
 ghost use Rattle.nc_polynomial.specs.Content.{IsContent};
-ghost use Rattle.traced_completion.specs.Making.{leads_negative, negated_rows, IsExtended};
+ghost use Rattle.rule_making.specs.Making.{leads_negative, negated_rows, IsExtended};
 ghost use Rattle.cofactor_trace.specs.Needed.{IsRecord};
-ghost use Rattle.traced_completion.specs.Reductions.{AreRows, HasRecords};
+ghost use Rattle.rule_making.specs.Records.{AreRows, HasRecords};
 
 use crate::rows::negate_rows;
 use cofactor_trace::{Made, Row};
@@ -54,8 +54,10 @@ fn divide_rest<O: WordOrder>(
     Ok((poly, Made { scale, rows }))
 }
 
-// Makes what a reduction left a rule, and appends it with its record.
-pub(crate) fn push_rule<O: WordOrder + Drop>(
+/// Makes what a reduction left a rule, and appends it with its record: the rest divided by its content, or by the negative of
+/// that where its leading coefficient is negative. No word of the rest is empty, and it isn't zero. Where memory is short,
+/// rules and records stay as they were.
+pub fn push_rule<O: WordOrder + Drop>(
     rules: &mut Rules<O>,
     made: &mut Listing<Made>,
     rest: &Poly,

@@ -5,10 +5,10 @@ use Rattle.nc_polynomial.specs.Content.{IsContent, DividesEach}
 use Rattle.std.specs.List.{All}
 use Rattle.coef_int.specs.Range.{IsCoefficient}
 use Rattle.cofactor_trace.specs.declared.Row.{Row}
-use Rattle.traced_completion.specs.Making.{negated_rows}
-use Rattle.traced_completion.proofs.Records.{AreNamed, negated_named}
-use Rattle.traced_completion.proofs.Quotients.{negative_divides}
-use Rattle.traced_completion.proofs.making.divide_rest.Goals as goal
+use Rattle.rule_making.specs.Making.{negated_rows}
+use Rattle.rule_making.proofs.Records.{AreNamed, negated_named}
+use Rattle.rule_making.proofs.Quotients.{negative_divides}
+use Rattle.rule_making.proofs.making.divide_rest.Goals as goal
 
 pub divide-requires-clause-divides : goal.divide-requires-clause-divides
 divide-requires-clause-divides g c =

@@ -9,7 +9,7 @@ use Rattle.cofactor_trace.specs.declared.Made.{Made}
 use Rattle.rule_reduce.specs.declared.rule.Rule.{Rule}
 use Rattle.rule_reduce.specs.Leading.{leading_term}
 use Rattle.rule_reduce.specs.RuleLists.{rule_from}
-use Rattle.traced_completion.specs.Making.{Rest, leads_negative, negated_rows, IsExtended}
+use Rattle.rule_making.specs.Making.{Rest, leads_negative, negated_rows, IsExtended}
 
 module _ (compare : Compare) (rest : Rest) (poly : Poly) (m : Made) (content : IsContent rest.polynomial m.scale) (positive : pos 0 <ℤ m.scale)
     (divided : poly_multiple (if leads_negative compare rest.polynomial then neg_ℤ m.scale else m.scale) poly.terms ≡ rest.polynomial)

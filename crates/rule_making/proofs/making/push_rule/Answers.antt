@@ -3,12 +3,12 @@ use Rattle.definitions.specs.Poly.{poly_multiple}
 use Rattle.word_core.specs.Letters.{IsOver}
 use Rattle.nc_polynomial.specs.Content.{IsContent}
 use Rattle.rule_reduce.specs.RuleLists.{rule_from}
-use Rattle.traced_completion.specs.Making.{leads_negative, negated_rows}
-use Rattle.traced_completion.proofs.Quotients.{signed, quotient_words, quotient_primitive, leading_positive}
+use Rattle.rule_making.specs.Making.{leads_negative, negated_rows}
+use Rattle.rule_making.proofs.Quotients.{signed, quotient_words, quotient_primitive, leading_positive}
 use Rattle.cofactor_trace.specs.Needed.{IsRecord}
-use Rattle.traced_completion.proofs.Extended.{extended, pushed_rule}
-use Rattle.traced_completion.proofs.Records.{records_push}
-use Rattle.traced_completion.proofs.making.push_rule.Goals as goal
+use Rattle.rule_making.proofs.Extended.{extended, pushed_rule}
+use Rattle.rule_making.proofs.Records.{records_push}
+use Rattle.rule_making.proofs.making.push_rule.Goals as goal
 
 pub push-requires-2-clause-primitive : goal.push-requires-2-clause-primitive
 push-requires-2-clause-primitive g c =

@@ -1,0 +1,4 @@
+pub mod RowLists
+pub mod Quotients
+pub mod Extended
+pub mod Records

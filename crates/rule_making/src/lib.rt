@@ -1,0 +1,8 @@
+//! Rules that are made of what reductions leave, with the records of how each was made, and the rows of these records.
+#![tactic(auto)]
+
+mod making;
+mod rows;
+
+pub use making::push_rule;
+pub use rows::{join_rows, multiply_rows, negate_rows};
