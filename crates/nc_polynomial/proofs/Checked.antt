@@ -15,6 +15,11 @@ abbrev pub join : List Term → Result (List Term) PolyFault → Result (List Te
 join out (Ok xs) = Ok (out ++ xs)
 join out (Err e) = Err e
 
+-- no terms before it leave a result as it is
+pub join-none : (r : Result (List Term) PolyFault) → join [] r ≡ r
+join-none (Ok xs) = refl
+join-none (Err e) = refl
+
 join-append : (out a xs : List Term) (o : Option Overflow) → join out (unless_overflow o (Ok (a ++ xs))) ≡ join (out ++ a) (unless_overflow o (Ok xs))
 join-append out a xs None = ap Ok (sym (append_assoc out a xs))
 join-append out a xs (Some o) = refl

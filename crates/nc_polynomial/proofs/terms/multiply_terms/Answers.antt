@@ -1,15 +1,59 @@
-use Rattle.std.proofs.Common.{rules, ◌≡◌, ◌++◌, [], ◌∷◌, ◌*ℤ◌, length, sym, ap, subst, ◌∙◌, Ok, arith}
+use Rattle.std.proofs.Common.{rules, ◌≡◌, ◌++◌, [], ◌∷◌, ◌*ℤ◌, length, sym, ap, ap₂, subst, ◌∙◌, Ok, Err, arith, to_z, of_z}
+use mir.Syntax.{w128}
 use Rattle.std.proofs.lemmas.List.{append-nil, nil_from_length}
-use Rattle.std.proofs.lemmas.List.Elements.{All-tail}
+use Rattle.std.proofs.lemmas.List.Elements.{All-head, All-tail}
 use Rattle.std.specs.List.{All}
 use Rattle.std.specs.Vec.Iter.{into_iter_items}
 use Rattle.coef_int.specs.Range.{IsCoefficient}
 use Rattle.coef_int.specs.Operations.{product_of}
 use Rattle.definitions.specs.Poly.{Term}
+use Rattle.nc_polynomial.specs.declared.fault.PolyFault.TheVariants as fault
 use Rattle.nc_polynomial.specs.Terms.{multiplied, multiplications, keep}
 use Rattle.nc_polynomial.proofs.Chains.{ranged_multiply}
-use Rattle.nc_polynomial.proofs.Checked.{join, multiply_from, one-fits}
+use Rattle.nc_polynomial.proofs.Checked.{join, join-none, multiply_from, one-fits, one-fails}
 use Rattle.nc_polynomial.proofs.terms.multiply_terms.Goals as goal
+
+pub loop-coefficient-init : goal.loop-coefficient-init
+loop-coefficient-init c =
+    let by = c.args.by in
+    let items : into_iter_items c.into_iter-coefficient-iterator.result ≡ c.args.terms = c.into_iter-coefficient-iterator.ensures.into_iter_gives.0 ∙ c.into_vec-coefficient-items.ensures in
+    record {
+      left = search rules;
+      terms_in = subst (All (λ (u : Term). IsCoefficient u.0)) (sym items) c.requires.in_range;
+      same =
+          ap₂ (λ l xs. join l (multiply_from xs (to_z w128 (of_z w128 by)))) c.new-multiplied.ensures items
+          ∙ join-none (multiply_from c.args.terms (to_z w128 (of_z w128 by)));
+    }
+
+pub times-requires-clause-left_in : goal.times-requires-clause-left_in
+times-requires-clause-left_in c =
+    let t : Term = (c.in-Some.coefficient, c.in-Some.word) in
+    let t_is : to_z w128 (of_z w128 t.0) ≡ t.0 = search rules in
+    let steps : into_iter_items c.loop-coefficient.coefficient-iterator ≡ t ∷ into_iter_items c.next.new.self = c.in-Some.ensures.steps.0 in
+    rw t_is (All-head (λ (u : Term). IsCoefficient u.0) t (into_iter_items c.next.new.self) (subst (All (λ (u : Term). IsCoefficient u.0)) steps c.loop-coefficient.invariant.terms_in))
+
+pub returns-in_err-product-clause-exact : goal.returns-in_err-product-clause-exact
+returns-in_err-product-clause-exact c =
+    let at = c.loop-coefficient in
+    let by = c.args.by in
+    let t : Term = (c.in-Some.coefficient, c.in-Some.word) in
+    let out = at.multiplied in
+    let rest = into_iter_items c.next.new.self in
+    let steps : into_iter_items at.coefficient-iterator ≡ t ∷ rest = c.in-Some.ensures.steps.0 in
+    let o = product_of t.0 by in
+    let given : c.from_residual.result ≡ Err (fault.Overflow o) = search rules in
+    let fails : ¬ IsCoefficient (t.0 *ℤ by) = search rules in
+    let by_is : to_z w128 (of_z w128 by) ≡ by = search rules in
+    let kept : join out (multiply_from (into_iter_items at.coefficient-iterator) by) ≡ multiply_from c.args.terms by =
+    subst (λ b. join out (multiply_from (into_iter_items at.coefficient-iterator) b) ≡ multiply_from c.args.terms b) by_is at.invariant.same in
+    let why : multiply_from c.args.terms by ≡ Err (fault.Overflow o) =
+    sym kept ∙ ap (λ l. join out (multiply_from l by)) steps ∙ one-fails o (multiplications rest by) out (multiplied (t ∷ rest) by) fails in
+    rw given why
+
+pub returns-in_err-push_nonzero-clause-exact : goal.returns-in_err-push_nonzero-clause-exact
+returns-in_err-push_nonzero-clause-exact c =
+    let given : c.from_residual-in_err-push_nonzero.result ≡ Err (fault.Memory c.in_err-push_nonzero.field-0.0) = search rules in
+    rw given tt
 
 pub loop-coefficient-preserved : goal.loop-coefficient-preserved
 loop-coefficient-preserved c =
@@ -39,7 +83,9 @@ returns-clause-in_range c =
     let by = c.args.by in
     let out = at.multiplied in
     let gone : into_iter_items at.coefficient-iterator ≡ [] = nil_from_length _ (sym at.invariant.left ∙ c.in-None.ensures.steps.0) in
-    let kept : join out (multiply_from (into_iter_items at.coefficient-iterator) by) ≡ multiply_from c.args.terms by = search rules in
+    let by_is : to_z w128 (of_z w128 by) ≡ by = search rules in
+    let kept : join out (multiply_from (into_iter_items at.coefficient-iterator) by) ≡ multiply_from c.args.terms by =
+    subst (λ b. join out (multiply_from (into_iter_items at.coefficient-iterator) b) ≡ multiply_from c.args.terms b) by_is at.invariant.same in
     ranged_multiply c.args.terms by out (sym kept ∙ ap (λ l. join out (multiply_from l by)) gone ∙ ap Ok (append-nil out))
 
 pub returns-clause-exact : goal.returns-clause-exact
@@ -48,6 +94,8 @@ returns-clause-exact c =
     let by = c.args.by in
     let out = at.multiplied in
     let gone : into_iter_items at.coefficient-iterator ≡ [] = nil_from_length _ (sym at.invariant.left ∙ c.in-None.ensures.steps.0) in
-    let kept : join out (multiply_from (into_iter_items at.coefficient-iterator) by) ≡ multiply_from c.args.terms by = search rules in
+    let by_is : to_z w128 (of_z w128 by) ≡ by = search rules in
+    let kept : join out (multiply_from (into_iter_items at.coefficient-iterator) by) ≡ multiply_from c.args.terms by =
+    subst (λ b. join out (multiply_from (into_iter_items at.coefficient-iterator) b) ≡ multiply_from c.args.terms b) by_is at.invariant.same in
     let whole : multiply_from c.args.terms by ≡ Ok out = sym kept ∙ ap (λ l. join out (multiply_from l by)) gone ∙ ap Ok (append-nil out) in
     search (rules, whole)
