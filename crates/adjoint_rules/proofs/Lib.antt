@@ -5,3 +5,4 @@ pub mod Counted
 pub mod Generators
 mod Examples
 pub mod Involution
+pub mod UnitLists
