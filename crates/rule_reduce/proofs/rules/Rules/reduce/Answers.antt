@@ -1,4 +1,4 @@
-use Rattle.std.proofs.Common.{rules, ◌≡◌, ◌<◌, ◌≤◌, ◌+◌, ◌-◌, suc, length, zero, List, Some, None, Ok, Result, IfSome, arith, sym, ap, ◌∙◌, subst}
+use Rattle.std.proofs.Common.{rules, ◌≡◌, ℕ, Option, ◌<◌, ◌≤◌, ◌+◌, ◌-◌, suc, length, zero, List, Some, None, Ok, Err, Result, IfSome, arith, refl, sym, ap, ◌∙◌, subst}
 use Rattle.std.specs.List.{All}
 use Rattle.definitions.specs.Poly.{Term}
 use Rattle.word_core.specs.Letters.{IsOver}
@@ -8,6 +8,7 @@ use Rattle.rule_reduce.specs.declared.rule.Rule.{Rule}
 use Rattle.rule_reduce.specs.declared.state.Choice.{Choice}
 use Rattle.rule_reduce.specs.declared.state.State.{State}
 use Rattle.rule_reduce.specs.declared.fault.ReduceFault.{ReduceFault}
+use Rattle.rule_reduce.specs.declared.fault.ReduceFault.TheVariants as halt
 use Rattle.rule_reduce.specs.RuleLists.{entries_of}
 use Rattle.rule_reduce.specs.Choices.{choice_of, IsSettled}
 use Rattle.rule_reduce.specs.Steps.{step_result}
@@ -18,6 +19,18 @@ use Rattle.rule_reduce.proofs.Chosen.{found}
 use Rattle.rule_reduce.proofs.RowsByRules.{number_within}
 use Rattle.rule_reduce.proofs.rules.Rules.reduce.Goals as goal
 
+-- the choice by the index is that by the rules' entries
+over_entries : (compare : Compare) (index entries : List (List ℕ × ℕ)) (terms : List Term) (c : Option Choice) → index ≡ entries → choice_of compare index terms ≡ c → choice_of compare entries terms ≡ c
+over_entries compare index entries terms c same h = subst (λ es. choice_of compare es terms ≡ c) same h
+
+-- a round whose state goes on as the next one leaves the result as it is
+after_round : {A : Type 0} (runs : ℕ → State → A) (s next : State) (left now later : ℕ) (whole : A) → later ≡ left → suc left ≡ now → runs (suc left) s ≡ runs left next → runs now s ≡ whole → runs later next ≡ whole
+after_round runs s next left now later whole fewer more goes same = ap (λ n. runs n next) fewer ∙ sym goes ∙ ap (λ n. runs n s) more ∙ same
+
+-- where the last round ends, the result ends
+ends_as : {A : Type 0} (runs : ℕ → A) (now n : ℕ) (whole end : A) → now ≡ n → runs n ≡ end → runs now ≡ whole → whole ≡ end
+ends_as runs now n whole end at is same = sym same ∙ ap runs at ∙ is
+
 pub returns-in-Err-clause-exact : goal.returns-in-Err-clause-exact
 returns-in-Err-clause-exact g c =
     let compare = g.O.WordOrder.compare c.args.self.now.order in
@@ -27,10 +40,10 @@ returns-in-Err-clause-exact g c =
     let choice = c.in-Some.choice in
     let e = c.in-Err.fault in
     let left = limit - c.loop.counter - 1 in
-    let pick = subst (λ es. choice_of compare es s.rest ≡ Some choice) c.args.self.now.indexed (search rules) in
+    let pick : choice_of compare (entries_of all) s.rest ≡ Some choice = over_entries compare c.args.self.now.index (entries_of all) s.rest (Some choice) c.args.self.now.indexed (search rules) in
     let why : Explains (step_result all choice s) e = search rules in
     let more : suc left ≡ limit - c.loop.counter = omega arith in
-    let same = ap (λ n. reduction limit compare all n s) more ∙ c.loop.invariant.same in
+    let same : reduction limit compare all (suc left) s ≡ reduction limit compare all limit c.args.start = ap (λ n. reduction limit compare all n s) more ∙ c.loop.invariant.same in
     let halted : c.halt.result ≡ halt_of e = search rules in
     rw halted (subst (λ (r : Result State ReduceFault). ExplainsHalt r (halt_of e)) same (explains_fault limit compare all s left choice e pick why))
 
@@ -44,7 +57,7 @@ loop-preserved g c =
     let choice = c.in-Some.choice in
     let next = c.in-Ok.next in
     let left = limit - c.loop.counter - 1 in
-    let pick = subst (λ es. choice_of compare es s.rest ≡ Some choice) c.args.self.now.indexed (search rules) in
+    let pick : choice_of compare (entries_of all) s.rest ≡ Some choice = over_entries compare c.args.self.now.index (entries_of all) s.rest (Some choice) c.args.self.now.indexed (search rules) in
     let same_rules : c.as_slice.result.now ≡ all = search rules in
     let stepped : step_result all choice s ≡ Ok next = search rules in
     let more : suc left ≡ limit - c.loop.counter = omega arith in
@@ -53,7 +66,7 @@ loop-preserved g c =
     let word_over : IsOver letters choice.word = search rules in
     let word : choice.word ≡ c.in_ok-copy.field-0 = search rules in
     let above : All (λ t. IsSettled compare (entries_of all) choice.word t.1) next.rest = step_settles letters compare (g.O.WordOrder.rank c.args.self.now.order) (g.met.O.WordOrder.admissible c.args.self.now.order) all choice c.args.self.now.each s next pick stepped in
-    let above_index = subst (λ es. All (λ t. IsSettled compare es choice.word t.1) next.rest) (sym c.args.self.now.indexed) above in
+    let above_index : All (λ t. IsSettled compare c.args.self.now.index choice.word t.1) next.rest = subst (λ es. All (λ t. IsSettled compare es choice.word t.1) next.rest) (sym c.args.self.now.indexed) above in
     record {
       within = omega arith;
       used = search rules;
@@ -61,7 +74,7 @@ loop-preserved g c =
       over = c.in-Ok.ensures.letters letters (subst (λ (rs : List Rule). All (λ f. All (λ u. IsOver letters u.1) f.poly.terms) rs) (sym same_rules) rules_over) word_over c.loop.invariant.over;
       last_over = subst (IsOver letters) word word_over;
       settled = subst (λ w. All (λ t. IsSettled compare c.args.self.now.index w t.1) next.rest) word above_index;
-      same = ap (λ n. reduction limit compare all n next) fewer ∙ sym (goes_on limit compare all s left choice next pick stepped) ∙ ap (λ n. reduction limit compare all n s) more ∙ c.loop.invariant.same;
+      same = after_round (λ n t. reduction limit compare all n t) s next left (limit - c.loop.counter) (limit - (c.loop.counter + 1)) _ fewer more (goes_on limit compare all s left choice next pick stepped) c.loop.invariant.same;
     }
 
 pub returns-in-Some-2-clause-exact : goal.returns-in-Some-2-clause-exact
@@ -71,9 +84,9 @@ returns-in-Some-2-clause-exact g c =
     let limit = c.args.steps in
     let s = c.loop.state in
     let choice = c.in-Some-2.field-0 in
-    let pick = subst (λ es. choice_of compare es s.rest ≡ Some choice) c.args.self.now.indexed (search rules) in
+    let pick : choice_of compare (entries_of all) s.rest ≡ Some choice = over_entries compare c.args.self.now.index (entries_of all) s.rest (Some choice) c.args.self.now.indexed (search rules) in
     let none_left : limit - c.loop.counter ≡ zero = omega arith in
-    sym c.loop.invariant.same ∙ ap (λ n. reduction limit compare all n s) none_left ∙ runs_out limit compare all s choice pick
+    ends_as (λ n. reduction limit compare all n s) (limit - c.loop.counter) zero (reduction limit compare all limit c.args.start) (Err (halt.Steps limit)) none_left (runs_out limit compare all s choice pick) c.loop.invariant.same
 
 pub returns-in-None-2-clause-exact : goal.returns-in-None-2-clause-exact
 returns-in-None-2-clause-exact g c =
@@ -81,8 +94,8 @@ returns-in-None-2-clause-exact g c =
     let all = c.args.self.now.rules in
     let limit = c.args.steps in
     let s = c.loop.state in
-    let pick = subst (λ es. choice_of compare es s.rest ≡ None) c.args.self.now.indexed (search rules) in
-    sym c.loop.invariant.same ∙ stops limit compare all s (limit - c.loop.counter) pick
+    let pick : choice_of compare (entries_of all) s.rest ≡ None = over_entries compare c.args.self.now.index (entries_of all) s.rest None c.args.self.now.indexed (search rules) in
+    ends_as (λ n. reduction limit compare all n s) (limit - c.loop.counter) (limit - c.loop.counter) (reduction limit compare all limit c.args.start) (Ok s) refl (stops limit compare all s (limit - c.loop.counter) pick) c.loop.invariant.same
 
 pub returns-in-None-clause-exact : goal.returns-in-None-clause-exact
 returns-in-None-clause-exact g c =
@@ -90,8 +103,8 @@ returns-in-None-clause-exact g c =
     let all = c.args.self.now.rules in
     let limit = c.args.steps in
     let s = c.loop.state in
-    let pick = subst (λ es. choice_of compare es s.rest ≡ None) c.args.self.now.indexed (search rules) in
-    sym c.loop.invariant.same ∙ stops limit compare all s (limit - c.loop.counter) pick
+    let pick : choice_of compare (entries_of all) s.rest ≡ None = over_entries compare c.args.self.now.index (entries_of all) s.rest None c.args.self.now.indexed (search rules) in
+    ends_as (λ n. reduction limit compare all n s) (limit - c.loop.counter) (limit - c.loop.counter) (reduction limit compare all limit c.args.start) (Ok s) refl (stops limit compare all s (limit - c.loop.counter) pick) c.loop.invariant.same
 
 -- the rule that is chosen is there
 is_there : (compare : Compare) (rules : List Rule) (terms : List Term) (choice : Choice) → choice_of compare (entries_of rules) terms ≡ Some choice → (0 < choice.number) × (choice.number ≤ length rules)
@@ -104,7 +117,7 @@ take_step-requires-clause-first g c =
     let compare = g.O.WordOrder.compare c.args.self.now.order in
     let terms = c.loop.state.rest in
     let choice = c.in-Some.choice in
-    let pick = subst (λ es. choice_of compare es terms ≡ Some choice) c.args.self.now.indexed (search rules) in
+    let pick : choice_of compare (entries_of c.args.self.now.rules) terms ≡ Some choice = over_entries compare c.args.self.now.index (entries_of c.args.self.now.rules) terms (Some choice) c.args.self.now.indexed (search rules) in
     (is_there compare c.args.self.now.rules terms choice pick).0
 
 pub take_step-requires-clause-last : goal.take_step-requires-clause-last
@@ -112,7 +125,7 @@ take_step-requires-clause-last g c =
     let compare = g.O.WordOrder.compare c.args.self.now.order in
     let terms = c.loop.state.rest in
     let choice = c.in-Some.choice in
-    let pick = subst (λ es. choice_of compare es terms ≡ Some choice) c.args.self.now.indexed (search rules) in
+    let pick : choice_of compare (entries_of c.args.self.now.rules) terms ≡ Some choice = over_entries compare c.args.self.now.index (entries_of c.args.self.now.rules) terms (Some choice) c.args.self.now.indexed (search rules) in
     let same : c.as_slice.result.now ≡ c.args.self.now.rules = search rules in
     subst (λ rs. choice.number ≤ length rs) (sym same) (is_there compare c.args.self.now.rules terms choice pick).1
 
