@@ -1,7 +1,7 @@
 -- Ambiguities that are put at the end of the store.
 use Rattle.std.proofs.Common.{◌≡◌, ◌⊎◌, inl, inr, ℕ, ◌+◌, ◌<◌, ◌≤◌, List, [], ◌∷◌, ◌++◌, map, length, take, get_or, sym, ap, ap₂, ◌∙◌, arith}
 use Rattle.std.specs.List.{Contains}
-use Rattle.std.proofs.lemmas.List.{append_assoc, append-nil, map_more}
+use Rattle.std.proofs.lemmas.List.{append_assoc, append-nil, map_more, take-append-le, take_all}
 use Rattle.rule_reduce.specs.declared.rule.Rule.{Rule}
 use Rattle.ambiguities.specs.declared.ambiguity.Ambiguity.{Ambiguity}
 use Rattle.ambiguities.specs.Ambiguities.{overlap_word_of}
@@ -36,3 +36,7 @@ nothing-new rules known old past = record {
         go : (known + 1 ≤ a.i) ⊎ (known + 1 ≤ a.j) → ⊥
         go (inl first) = omega (arith, first, past, rule_at-last rules a.i from.0.first from.0.first_numbered)
         go (inr second) = omega (arith, second, past, rule_at-last rules a.j from.0.second from.0.second_numbered)
+
+-- what was there before stands in front
+pub appended-front : (rules : List Rule) (old now : List Waiting) (found : List Ambiguity) → now ≡ appended_waiting rules old found → take (length old) now ≡ old
+appended-front rules old now found is = ap (take (length old)) is ∙ take-append-le (length old) old _ (omega arith) ∙ take_all (length old) old (omega arith)

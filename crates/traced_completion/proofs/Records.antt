@@ -1,13 +1,15 @@
 -- Rows of records name what is there before.
-use Rattle.std.proofs.Common.{ℕ, ℤ, List, [], ◌∷◌, map}
+use Rattle.std.proofs.Common.{◌≤◌, ℕ, ℤ, List, [], ◌∷◌, map, arith}
 use Rattle.std.specs.List.{All}
-use Rattle.std.proofs.lemmas.List.Elements.{All-map, All-append, All-from_recursion}
+use Rattle.std.proofs.lemmas.List.Elements.{All-weaker, All-map, All-append, All-from_recursion}
+use Rattle.cofactor_trace.specs.declared.Origin.{Origin}
 use Rattle.cofactor_trace.specs.declared.Origin.TheVariants as origin
 use Rattle.cofactor_trace.specs.declared.Row.{Row}
 use Rattle.cofactor_trace.specs.Needed.{IsAmongFirst}
 use Rattle.rule_reduce.specs.declared.state.State.{State}
 use Rattle.rule_reduce.specs.Steps.{multiplied_row}
 use Rattle.rule_making.specs.Making.{negated_rows}
+use Rattle.rule_making.specs.Records.{AreRows}
 use Rattle.rule_making.proofs.Records.{AreNamed, negated_named}
 use Rattle.traced_completion.specs.Works.{First, generator_rows, less_rows, first_rows, second_rows}
 use Rattle.traced_completion.specs.Reductions.{IsKept, IsKeptFirst}
@@ -20,6 +22,29 @@ less_named count rows by taken named also =
 pub second_named : (letters count : ℕ) (f : First) (s : State) → IsKeptFirst letters count f → IsKept letters count s → AreNamed count (second_rows f s)
 second_named letters count f s first second =
     less_named count (first_rows f) s.multiplier s.rows (less_named count f.rows f.reduced.multiplier f.reduced.rows first.rows.named first.reduced.rows.named) second.rows.named
+
+-- what names the first rules names them among more rules
+among_more : (count more : ℕ) → count ≤ more → (o : Origin) → IsAmongFirst count o → IsAmongFirst more o
+among_more count more most (origin.Generator n) named = tt
+among_more count more most (origin.Rule n) named = (named.0, omega (arith, named.1, most))
+
+-- so do rows, and what a first reduction keeps
+rows_more : (count more : ℕ) → count ≤ more → (rows : List Row) → AreRows count rows → AreRows more rows
+rows_more count more most rows are = record {
+  in_range = are.in_range;
+  named = All-weaker (λ (r : Row). IsAmongFirst count r.from) (λ (r : Row). IsAmongFirst more r.from) (λ r named. among_more count more most r.from named) rows are.named;
+}
+
+pub first_more : (letters count more : ℕ) → count ≤ more → (f : First) → IsKeptFirst letters count f → IsKeptFirst letters more f
+first_more letters count more most f kept = record {
+  rows = rows_more count more most f.rows kept.rows;
+  reduced = record {
+    multiplier = kept.reduced.multiplier;
+    rows = rows_more count more most f.reduced.rows kept.reduced.rows;
+    nonempty = kept.reduced.nonempty;
+    over = kept.reduced.over;
+  };
+}
 
 -- those of a generator
 pub generator_named : (count number : ℕ) (multiplier : ℤ) (taken : List Row) → AreNamed count taken → AreNamed count (generator_rows number multiplier taken)

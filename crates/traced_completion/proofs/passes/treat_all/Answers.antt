@@ -1,15 +1,30 @@
-use Rattle.std.proofs.Common.{rules, ◌≡◌, ◌∷◌, length, map, Err, IfErr, refl, sym, subst, arith, ap, ◌∙◌}
+use Rattle.std.proofs.Common.{rules, ◌≡◌, ◌≤◌, ◌∷◌, length, take, map, Err, IfErr, refl, sym, subst, arith, ap, ◌∙◌}
 use Rattle.std.specs.List.{All}
 use Rattle.std.specs.Vec.Iter.{into_iter_items}
-use Rattle.std.proofs.lemmas.List.{take_all}
-use Rattle.std.proofs.lemmas.List.Elements.{All-tail}
+use Rattle.std.proofs.lemmas.List.{length-take, take_all}
+use Rattle.std.proofs.lemmas.List.Elements.{All-head, All-tail}
 use Rattle.traced_completion.specs.declared.first_reductions.First.{First}
 use Rattle.traced_completion.specs.Results.{Explains}
 use Rattle.rule_making.specs.Making.{Recorded}
 use Rattle.traced_completion.specs.Works.{second_work, Does, InTurn, EndsWith}
 use Rattle.traced_completion.specs.Reductions.{plain_first, IsKeptFirst}
+use Rattle.traced_completion.proofs.Records.{first_more}
 use Rattle.traced_completion.proofs.Turns.{does_grows, goes_well, ends_with, ends_weaker}
 use Rattle.traced_completion.proofs.passes.treat_all.Goals as goal
+
+pub treat-requires-clause-kept : goal.treat-requires-clause-kept
+treat-requires-clause-kept g c =
+    let at = c.loop-first in
+    let given = c.args.rules.now in
+    let letters = g.O.WordOrder.letters given.order in
+    let Kept : First → Type 0 = λ f. IsKeptFirst letters (length given.rules) (plain_first f) in
+    let first = c.in-Some.first in
+    let rest = into_iter_items c.next.new.self in
+    let next : into_iter_items at.first-iterator ≡ first ∷ rest = c.in-Some.ensures.steps.0 in
+    let kept : Kept first = All-head Kept first rest (subst (All Kept) next at.invariant.kept) in
+    let front : length given.rules ≤ length at.rules.rules = omega (arith, ap length at.invariant.rules_front, length-take (length given.rules) at.rules.rules) in
+    subst (λ o. IsKeptFirst (g.O.WordOrder.letters o) (length at.rules.rules) (plain_first first)) (sym at.invariant.order)
+    (first_more letters (length given.rules) (length at.rules.rules) front (plain_first first) kept)
 
 pub loop-first-init : goal.loop-first-init
 loop-first-init g c =
@@ -77,3 +92,38 @@ returns-in_err-treat-clause-fault g c =
     e (ends_with compare work works before e why) in
     let back : c.from_residual.result ≡ Err e = search rules in
     subst (λ r. IfErr r (EndsWith All-end)) (sym back) ends
+
+pub returns-clause-order : goal.returns-clause-order
+returns-clause-order g c = c.loop-first.invariant.order
+
+pub returns-clause-records : goal.returns-clause-records
+returns-clause-records g c = search rules
+
+pub returns-clause-rules_front : goal.returns-clause-rules_front
+returns-clause-rules_front g c = c.loop-first.invariant.rules_front
+
+pub returns-clause-made_front : goal.returns-clause-made_front
+returns-clause-made_front g c = c.loop-first.invariant.made_front
+
+pub returns-in_err-treat-clause-order : goal.returns-in_err-treat-clause-order
+returns-in_err-treat-clause-order g c = c.treat.ensures.order ∙ c.loop-first.invariant.order
+
+pub returns-in_err-treat-clause-records : goal.returns-in_err-treat-clause-records
+returns-in_err-treat-clause-records g c =
+    let back : c.from_residual.result ≡ Err c.in_err-treat.field-0.0 = search rules in
+    rw back tt
+
+pub returns-in_err-treat-clause-exact : goal.returns-in_err-treat-clause-exact
+returns-in_err-treat-clause-exact g c =
+    let back : c.from_residual.result ≡ Err c.in_err-treat.field-0.0 = search rules in
+    rw back tt
+
+pub returns-in_err-treat-clause-rules_front : goal.returns-in_err-treat-clause-rules_front
+returns-in_err-treat-clause-rules_front g c =
+    let same : c.treat.new.rules.rules ≡ c.loop-first.rules.rules = search rules in
+    ap (take (length c.args.rules.now.rules)) same ∙ c.loop-first.invariant.rules_front
+
+pub returns-in_err-treat-clause-made_front : goal.returns-in_err-treat-clause-made_front
+returns-in_err-treat-clause-made_front g c =
+    let same : c.treat.new.made ≡ c.loop-first.made = search rules in
+    ap (take (length c.args.made.now)) same ∙ c.loop-first.invariant.made_front

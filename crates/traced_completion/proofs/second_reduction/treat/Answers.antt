@@ -1,4 +1,5 @@
-use Rattle.std.proofs.Common.{length, subst}
+use Rattle.std.proofs.Common.{rules, ◌≡◌, length, Err, subst}
+use Rattle.rule_reduce.specs.declared.fault.ReduceFault.TheVariants.{Memory}
 use Rattle.traced_completion.specs.Works.{second_rows, rows_operations}
 use Rattle.traced_completion.specs.Reductions.{plain, plain_first, IsKept}
 use Rattle.traced_completion.proofs.RowChains.{value_of}
@@ -17,3 +18,13 @@ push_rule-requires-clause-rows g c =
       in_range = c.in-Ok-record_rows.ensures.in_range;
       named = subst (AreNamed (length given.rules)) is (second_named (g.O.WordOrder.letters given.order) (length given.rules) f s c.requires.kept second);
     }
+
+pub returns-in_err-push_rule-clause-records : goal.returns-in_err-push_rule-clause-records
+returns-in_err-push_rule-clause-records g c =
+    let back : c.from_residual.result ≡ Err (Memory c.in_err-push_rule.field-0.0) = search rules in
+    rw back tt
+
+pub returns-in_err-push_rule-clause-exact : goal.returns-in_err-push_rule-clause-exact
+returns-in_err-push_rule-clause-exact g c =
+    let back : c.from_residual.result ≡ Err (Memory c.in_err-push_rule.field-0.0) = search rules in
+    rw back tt

@@ -1,4 +1,4 @@
-use Rattle.std.proofs.Common.{rules, ◌≡◌, [], ◌∷◌, ◌++◌, get_or, sym, subst, ◌∙◌}
+use Rattle.std.proofs.Common.{rules, ◌≡◌, [], ◌∷◌, ◌++◌, take, get_or, Err, sym, subst, ◌∙◌}
 use Rattle.std.specs.List.{All}
 use Rattle.std.proofs.lemmas.List.Elements.{All-push}
 use Rattle.word_core.specs.Letters.{IsOver}
@@ -6,7 +6,7 @@ use Rattle.ambiguities.specs.declared.ambiguity.Ambiguity.{Ambiguity}
 use Rattle.ambiguities.specs.declared.ambiguity.Kind.TheVariants.{Overlap}
 use Rattle.ambiguities.specs.Ambiguities.{overlap_word_of}
 use Rattle.traced_completion.specs.declared.pending.waiting.Waiting.{Waiting}
-use Rattle.traced_completion.proofs.Appending.{appended-more}
+use Rattle.traced_completion.proofs.Appending.{appended-more, appended-front}
 use Rattle.traced_completion.proofs.pending.store.push_waiting.Goals as goal
 
 pub loop-which-preserved : goal.loop-which-preserved
@@ -23,3 +23,18 @@ loop-which-preserved g c =
       over = subst (All (λ (w : Waiting). IsOver (g.O.WordOrder.letters c.args.rules.now.order) w.word)) (sym pushed)
           (All-push (λ (w : Waiting). IsOver (g.O.WordOrder.letters c.args.rules.now.order) w.word) c.loop-which.items.items next kept.over over);
     }
+
+pub returns-in_err-word-clause-ok : goal.returns-in_err-word-clause-ok
+returns-in_err-word-clause-ok g c =
+    let back : c.from_residual.result ≡ Err c.in_err-word.field-0.0 = search rules in
+    rw back tt
+
+pub returns-in_err-word-clause-over : goal.returns-in_err-word-clause-over
+returns-in_err-word-clause-over g c =
+    let back : c.from_residual.result ≡ Err c.in_err-word.field-0.0 = search rules in
+    rw back tt
+
+pub returns-in_err-word-clause-err : goal.returns-in_err-word-clause-err
+returns-in_err-word-clause-err g c =
+    let back : c.from_residual.result ≡ Err c.in_err-word.field-0.0 = search rules in
+    rw back (appended-front c.args.rules.now.rules c.args.items.now.items c.loop-which.items.items (take c.loop-which.which-index c.args.found.now) c.loop-which.invariant.passed)
