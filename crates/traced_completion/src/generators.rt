@@ -9,12 +9,11 @@ ghost use Rattle.traced_completion.specs.UnitsFirst.{units_first};
 ghost use Rattle.rule_making.specs.Records.{HasRecords};
 ghost use Rattle.traced_completion.specs.Reductions.{IsReducible};
 
-use rule_making::push_rule;
 use crate::reduction::reduce;
-use rule_making::{join_rows, negate_rows};
 use cofactor_trace::{Made, Origin, Row};
 use lists::Listing;
 use nc_polynomial::Poly;
+use rule_making::{join_rows, negate_rows, push_rule};
 use rule_reduce::{ReduceFault, Reduced, Rules};
 use std::alloc::{AllocError, Global};
 use word_core::Word;

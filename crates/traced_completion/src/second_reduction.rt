@@ -10,12 +10,11 @@ ghost use Rattle.rule_making.specs.Records.{HasRecords};
 ghost use Rattle.traced_completion.specs.Reductions.{plain, plain_first, IsKeptFirst};
 
 use crate::first_reductions::First;
-use rule_making::push_rule;
 use crate::reduction::reduce;
-use rule_making::{join_rows, multiply_rows, negate_rows};
 use cofactor_trace::{Made, Row};
 use lists::Listing;
 use nc_polynomial::Poly;
+use rule_making::{join_rows, multiply_rows, negate_rows, push_rule};
 use rule_reduce::{ReduceFault, Reduced, Rules};
 use word_orders::WordOrder;
 
