@@ -293,6 +293,16 @@ def grammars() -> str:
     return "the TextMate grammars are JSON"
 
 
+def gate_time() -> str:
+    if not Path("/proc/self/stat").exists():
+        raise Skipped("there is no /proc")
+    work = "import time\nwhile time.process_time() < 2: pass"
+    answer = run(sys.executable, CONTRIB / "gate_time.py", sys.executable, "-c", work, "--crate-name", "lists")
+    row = re.search(r"^\| `lists` \| [12] \|  \|  \|$", answer.out, re.MULTILINE)
+    need(answer.status == 0 and not answer.error and bool(row), answer)
+    return "the time of a process is counted by its crate"
+
+
 def main(words: List[str]) -> int:
     """Tries the second checkers and the second search, and, but for the word `checker`, all other tools."""
     with tempfile.TemporaryDirectory() as name:
@@ -305,7 +315,7 @@ def main(words: List[str]) -> int:
             lambda: try_models.example_searches(folder),
             lambda: singular(folder), lambda: sympy(folder), cofactors, lambda: latex(folder), manual,
             shell("bash", "opprove.bash"), shell("zsh", "_opprove"), shell("fish", "opprove.fish"),
-            lambda: vim(folder), grammars, lambda: plain(folder),
+            lambda: vim(folder), grammars, lambda: plain(folder), gate_time,
         ]  # fmt: skip
         for check in checker if words == ["checker"] else checker + others:
             try:

@@ -1,0 +1,91 @@
+#!/usr/bin/env python3
+"""Runs the gate, or another command, and prints what it cost: a table of processor seconds by crate, for the library, the tests and the edits.
+
+usage: gate_time.py [COMMAND ..]
+
+Without a command it runs `bash .ci/run`. From nothing is a fresh clone on a machine where rt has kept nothing. Twice a second the processes of
+the prover are looked up in /proc (so this wants Linux), and their time is counted by the crate and the pass that they work at. What a process
+does in its last half second isn't seen. A processor of a shared machine may be half as fast in one hour as in another: compare crates that haven't
+changed before two tables are compared.
+"""
+from __future__ import annotations
+
+import os
+import subprocess
+import sys
+import time
+from collections import Counter
+from pathlib import Path
+from typing import Dict, List, NamedTuple, Optional, Tuple
+
+PASSES = ("library", "tests", "edits")
+TICKS = os.sysconf("SC_CLK_TCK")
+
+
+class Seen(NamedTuple):
+    what: Optional[Tuple[str, str]]
+    seconds: float
+    times: int
+
+
+def started(process: Path) -> Tuple[str, float]:
+    """When a process was started, which tells it from others of its number, and its processor seconds so far."""
+    fields = (process / "stat").read_text().rpartition(")")[2].split()
+    return fields[19], (int(fields[11]) + int(fields[12])) / TICKS
+
+
+def worked_at(process: Path) -> Optional[Tuple[str, str]]:
+    """The crate and the pass that a process of the prover works at."""
+    words = (process / "cmdline").read_bytes().decode(errors="replace").split("\0")
+    if "--crate-name" not in words[:-1]:
+        return None
+    folder = os.readlink(process / "cwd")
+    what = "edits" if "/rt-edit" in folder else "tests" if "--test" in words else "library"
+    return words[words.index("--crate-name") + 1], what
+
+
+def look(seen: Dict[Tuple[str, str], Seen], total: Counter) -> None:
+    """Adds what the processes did since the last look. A process may become another program in its first seconds."""
+    for process in Path("/proc").glob("[0-9]*"):
+        try:
+            start, seconds = started(process)
+            last = seen.get((process.name, start), Seen(None, 0.0, 0))
+            what = worked_at(process) if last.times < 6 else last.what
+        except (OSError, ValueError, IndexError):
+            continue
+        if what:
+            total[what] += seconds - last.seconds
+        seen[process.name, start] = Seen(what, seconds, last.times + 1)
+
+
+def print_table(total: Counter) -> None:
+    print("| Crate | Library | Tests | Edits |\n|---|---|---|---|")
+    for crate in sorted({crate for crate, _ in total}):
+        cells = [f"{total[crate, what]:,.0f}" if total[crate, what] >= 0.5 else "" for what in PASSES]
+        print(f"| `{crate}` | {' | '.join(cells)} |")
+    sums = [sum(seconds for (_, of), seconds in total.items() if of == what) for what in PASSES]
+    print(f"| **all** | {' | '.join(f'{seconds:,.0f}' for seconds in sums)} |")
+    print(f"\n{sum(sums) / 60:.1f} processor minutes of the prover")
+
+
+def main(words: List[str]) -> int:
+    if not Path("/proc/self/stat").exists():
+        print("gate_time.py: there is no /proc to look processes up in", file=sys.stderr)
+        return 2
+    seen: Dict[Tuple[str, str], Seen] = {}
+    total: Counter = Counter()
+    look(seen, Counter())
+    try:
+        gate = subprocess.Popen(words or ["bash", ".ci/run"])
+    except OSError as error:
+        print(f"gate_time.py: {error}", file=sys.stderr)
+        return 2
+    while gate.poll() is None:
+        look(seen, total)
+        time.sleep(0.5)
+    print_table(total)
+    return gate.returncode
+
+
+if __name__ == "__main__":
+    sys.exit(main(sys.argv[1:]))
