@@ -1,3 +1,4 @@
+pub mod Chains
 pub mod Found
 pub mod Steps
 pub mod Options

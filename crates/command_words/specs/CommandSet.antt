@@ -31,6 +31,11 @@ workers_option = number_option (codes "workers") 1 64 (codes "4")
 abbrev pub seed_option : Rule
 seed_option = number_option (codes "seed") 0 18446744073709551615 (codes "1")
 
+-- the command with these arguments behind those that it has
+abbrev pub with_rules : App → List Rule → App
+with_rules a [] = a
+with_rules a (r ∷ rs) = with_rules (with_rule a r) rs
+
 abbrev pub prove_command : App
 prove_command = with_rule (with_rule (with_rule (with_rule (with_rule (with_rule (with_rule (new_app (codes "prove"))
     (required_word (codes "file")))

@@ -1,9 +1,10 @@
 //! The commands as clap gets them: what `specs/CommandSet.antt` says.
-ghost use Rattle.std.specs.Prelude.{◌≡◌, IfOk, false};
+ghost use Rattle.std.specs.Prelude.{◌≡◌, IfOk, false, map};
 ghost use Rattle.std.specs.Result.{IsOkAnd};
-ghost use Rattle.clap.specs.Words.{app_of, rule_of, with_rule, with_subcommand};
+ghost use Rattle.std.specs.List.{All};
+ghost use Rattle.clap.specs.Words.{app_of, rule_of, with_subcommand};
 ghost use Rattle.clap.specs.declared.builder.command.Command.TheViews.{out-Command as fields_of};
-ghost use Rattle.command_words.specs.CommandSet.{command_set, bare_command, prove_command, refute_command, bench_command, pair_command, required_word, required_number, number_option, workers_option, seed_option, flag_option};
+ghost use Rattle.command_words.specs.CommandSet.{command_set, with_rules, bare_command, prove_command, refute_command, bench_command, pair_command, required_word, required_number, number_option, workers_option, seed_option, flag_option};
 
 use clap::builder::ValueParser;
 use clap::{Arg, ArgAction, Command};
@@ -57,53 +58,63 @@ fn flag_option<'a>(alloc: Global, id: &'a str) -> Arg<'a>
     Arg::new(alloc, id).long(id).action(ArgAction::SetTrue)
 }
 
-fn with_arg<'a>(command: Command<'a>, arg: Arg<'a>) -> Result<Command<'a>, AllocError>
-    requires { arg.global ≡ false }
-    ensures app { IfOk result (λ c. app_of c ≡ with_rule (app_of command.entry) (rule_of arg.entry)) }
+// The command with these arguments, one after another.
+fn with_args<'a>(command: Command<'a>, args: Vec<Arg<'a>>) -> Result<Command<'a>, AllocError>
+    requires { All (λ a. a.global ≡ false) args.items }
+    ensures app { IfOk result (λ c. app_of c ≡ with_rules (app_of command.entry) (map rule_of args.entry.items)) }
     ensures local { IfOk result (λ c. (fields_of c).has_globals ≡ (fields_of command.entry).has_globals) }
 {
-    command.arg(arg)
+    command.args(args)
 }
 
 fn prove_command<'a>(alloc: Global) -> Result<Command<'a>, AllocError>
     ensures app { IfOk result (λ c. app_of c ≡ prove_command) }
     ensures local { IfOk result (λ c. (fields_of c).has_globals ≡ false) }
 {
-    let command = with_arg(Command::new(alloc, "prove"), required_word(alloc, "file"))?;
-    let command = with_arg(command, number_option(alloc, "pairs", 1, 1000000, "5000"))?;
-    let command = with_arg(command, number_option(alloc, "steps", 1, 1000000, "20000"))?;
-    let command = with_arg(command, workers_option(alloc))?;
-    let command = with_arg(command, seed_option(alloc))?;
-    let command = with_arg(command, number_option(alloc, "format", 1, 2, "2"))?;
-    with_arg(command, flag_option(alloc, "no-models"))
+    let args = vec![in alloc;
+        required_word(alloc, "file"),
+        number_option(alloc, "pairs", 1, 1000000, "5000"),
+        number_option(alloc, "steps", 1, 1000000, "20000"),
+        workers_option(alloc),
+        seed_option(alloc),
+        number_option(alloc, "format", 1, 2, "2"),
+        flag_option(alloc, "no-models"),
+    ]?;
+    with_args(Command::new(alloc, "prove"), args)
 }
 
 fn refute_command<'a>(alloc: Global) -> Result<Command<'a>, AllocError>
     ensures app { IfOk result (λ c. app_of c ≡ refute_command) }
     ensures local { IfOk result (λ c. (fields_of c).has_globals ≡ false) }
 {
-    let command = with_arg(Command::new(alloc, "refute"), required_word(alloc, "file"))?;
-    let command = with_arg(command, workers_option(alloc))?;
-    with_arg(command, seed_option(alloc))
+    let args = vec![in alloc;
+        required_word(alloc, "file"),
+        workers_option(alloc),
+        seed_option(alloc),
+    ]?;
+    with_args(Command::new(alloc, "refute"), args)
 }
 
 fn bench_command<'a>(alloc: Global) -> Result<Command<'a>, AllocError>
     ensures app { IfOk result (λ c. app_of c ≡ bench_command) }
     ensures local { IfOk result (λ c. (fields_of c).has_globals ≡ false) }
 {
-    let command = with_arg(
-        Command::new(alloc, "bench"),
+    let args = vec![in alloc;
         required_number(alloc, "size", 1, 60),
-    )?;
-    with_arg(command, workers_option(alloc))
+        workers_option(alloc),
+    ]?;
+    with_args(Command::new(alloc, "bench"), args)
 }
 
 fn pair_command<'a>(alloc: Global, name: &'a str) -> Result<Command<'a>, AllocError>
     ensures app { IfOk result (λ c. app_of c ≡ pair_command name.entry.now) }
     ensures local { IfOk result (λ c. (fields_of c).has_globals ≡ false) }
 {
-    let command = with_arg(Command::new(alloc, name), required_word(alloc, "statement"))?;
-    with_arg(command, required_word(alloc, "evidence"))
+    let args = vec![in alloc;
+        required_word(alloc, "statement"),
+        required_word(alloc, "evidence"),
+    ]?;
+    with_args(Command::new(alloc, name), args)
 }
 
 fn bare_command<'a>(alloc: Global) -> Command<'a>
