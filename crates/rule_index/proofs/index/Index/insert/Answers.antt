@@ -60,3 +60,22 @@ invariant_of-self-inside-2 c =
         ),
       ),
     )
+
+-- where memory is short after the room was taken, the tree is another and holds the same
+pub invariant_of-self-inside : goal.invariant_of-self-inside
+invariant_of-self-inside c =
+    let i = c.self.inside in
+    let same = c.reserve.ensures.same in
+    let tree = c.reserve.new.tree in (
+      i.ascending,
+      (
+        c.reserve.ensures.tree,
+        (
+          subst (λ ls. IsMarked i.entries (words_of tree.nodes.items) ls) (sym same.leasts) (subst (λ ns. IsMarked i.entries (words_of ns) i.tree.leasts.items) (sym same.nodes) i.marked),
+          (same.letters ∙ i.lettered ∙ ap letters_of (sym same.nodes), (subst (λ ns. IsCounted i.entries (words_of ns) i.sizes.items) (sym same.nodes) i.counted, tt)),
+        ),
+      ),
+    )
+
+pub insert-requires-clause-tree : goal.insert-requires-clause-tree
+insert-requires-clause-tree c = c.reserve.ensures.tree
