@@ -62,3 +62,16 @@ module _ (old new : Inside) (ds : List Declaration) (d : Declaration) (view_is :
     names = names_table ∙ ap naming_table (sym declarations_added);
     declared = subst IsDeclared (sym declarations_added) declared;
   }
+
+-- a quiver that holds the same is kept as well
+pub kept_of_same : (before after : Inside) → after.names.entries ≡ before.names.entries → after.objects.items ≡ before.objects.items → after.letters.items ≡ before.letters.items → IsKept before → IsKept after
+kept_of_same before after names objects letters kept =
+    let tables : letters_in after ≡ letters_in before = ap (map letter_entry) letters in
+    let named : names_in after ≡ names_in before = ap (map (λ e. (string_bytes e.0, e.1))) names in
+    let declared : declarations after ≡ declarations before = ap₂ declarations_by tables named in
+    record {
+      objects = ap (map object_entry) objects ∙ kept.objects ∙ ap object_table (sym declared);
+      letters = tables ∙ kept.letters ∙ ap letter_table (sym declared);
+      names = named ∙ kept.names ∙ ap naming_table (sym declared);
+      declared = subst IsDeclared (sym declared) kept.declared;
+    }

@@ -7,7 +7,7 @@ use Rattle.quiver.specs.Refusals.{map_fault}
 use Rattle.quiver.proofs.Growth.{next_turn}
 use Rattle.quiver.proofs.Declared.{declared_map, fresh_map}
 use Rattle.quiver.proofs.Fields.{are_declared, names_len}
-use Rattle.quiver.proofs.Added.{Adds, declarations_added, kept_added}
+use Rattle.quiver.proofs.Added.{Adds, declarations_added, kept_added, kept_of_same}
 use Rattle.quiver.proofs.quiver.Quiver.add_map.Goals as goal
 
 -- ---- a map that is its own adjoint
@@ -88,3 +88,10 @@ pub invariant_of-self-in-Continue-branch-7 : goal.invariant_of-self-in-Continue-
 invariant_of-self-in-Continue-branch-7 c =
     kept_added c.self.inside _ c.args.self.now _ c.self.view_is c.self.invariant (adds_pair c)
     (declared_map c.args.self.now c.args.name.now (are_declared c.self.inside c.args.self.now c.self.view_is c.self.invariant) _ _ _ c.requires.source_in c.requires.target_in (allowed_pair c))
+
+-- ---- where memory is short, the quiver holds what it held
+pub invariant_of-self : goal.invariant_of-self
+invariant_of-self c = kept_of_same c.self.inside _ refl refl c.reserve.ensures.items c.self.invariant
+
+pub invariant_of-self-in_err-insert : goal.invariant_of-self-in_err-insert
+invariant_of-self-in_err-insert c = kept_of_same c.self.inside _ (search rules) refl c.reserve.ensures.items c.self.invariant

@@ -1,10 +1,10 @@
-use Rattle.std.proofs.Common.{rules, arith, ◌≡◌, ◌∷◌, [], length, None, ap}
+use Rattle.std.proofs.Common.{rules, arith, ◌≡◌, ◌∷◌, [], length, None, refl, ap}
 use Rattle.quiver.specs.declared.named.Named.TheVariants.{Object}
 use Rattle.quiver.specs.Declarations.{object}
 use Rattle.quiver.specs.Refusals.{object_fault}
 use Rattle.quiver.proofs.Declared.{declared_object, fresh_object}
 use Rattle.quiver.proofs.Fields.{are_declared, names_len}
-use Rattle.quiver.proofs.Added.{Adds, declarations_added, kept_added}
+use Rattle.quiver.proofs.Added.{Adds, declarations_added, kept_added, kept_of_same}
 use Rattle.quiver.proofs.quiver.Quiver.add_object.Goals as goal
 
 allowed : (c : goal.In_ok-push-2) → object_fault c.args.self.now c.args.name.now ≡ None
@@ -39,3 +39,13 @@ invariant_of-self-2 c =
 
 pub returns-clause-declared : goal.returns-clause-declared
 returns-clause-declared c = declarations_added c.self.inside _ c.args.self.now (object c.args.name.now) c.self.view_is c.self.invariant (adds c)
+
+-- where memory is short, the quiver holds what it held
+pub invariant_of-self : goal.invariant_of-self
+invariant_of-self c = kept_of_same c.self.inside _ refl c.reserve.ensures.items refl c.self.invariant
+
+pub invariant_of-self-in_err-reserve-2 : goal.invariant_of-self-in_err-reserve-2
+invariant_of-self-in_err-reserve-2 c = kept_of_same c.self.inside _ refl c.reserve.ensures.items c.reserve-2.ensures.items c.self.invariant
+
+pub invariant_of-self-in_err-insert : goal.invariant_of-self-in_err-insert
+invariant_of-self-in_err-insert c = kept_of_same c.self.inside _ (search rules) c.reserve.ensures.items c.reserve-2.ensures.items c.self.invariant
