@@ -12,6 +12,7 @@ use Rattle.rule_index.specs.Automaton.{ends_with, first_of, marked, letters_of, 
 use Rattle.rule_index.proofs.Suffixes.{same-true, has-at}
 use Rattle.rule_index.proofs.Pushing.{Same, is_same, is_other, same_or}
 use Rattle.rule_index.proofs.Fronts.{front-more}
+use Rattle.rule_index.proofs.SameTree.{tree_of_same}
 use Rattle.rule_index.proofs.Starting.{others, others-end}
 use Rattle.rule_index.proofs.Ending.{or_either, or_right, ends-itself}
 
@@ -154,9 +155,7 @@ pub inserted : (old mid new : Tree) (word : List ℕ) (place at : ℕ) (ends : L
 inserted old mid new word place at ends first h nodes_are letters_are heads_are nexts_are links_are first_is size moved =
     let whole : take (length word) word ≡ word = take_all (length word) word (omega arith) in
     record {
-      tree = subst (λ ns. IsTree ns new.heads.items new.nexts.items new.links.items) (sym nodes_are)
-          (subst (λ hs. IsTree mid.nodes.items hs new.nexts.items new.links.items) (sym heads_are)
-          (subst (λ xs. IsTree mid.nodes.items mid.heads.items xs new.links.items) (sym nexts_are) (subst (λ ls. IsTree mid.nodes.items mid.heads.items mid.nexts.items ls) (sym links_are) h.tree)));
+      tree = tree_of_same mid.nodes.items new.nodes.items mid.heads.items new.heads.items mid.nexts.items new.nexts.items mid.links.items new.links.items nodes_are heads_are nexts_are links_are h.tree;
       marked = λ entries number count m.
           subst (λ ns. IsMarked (entries ++ (word, number) ∷ []) (words_of ns) new.leasts.items) (sym nodes_are)
           (marked-word mid.nodes.items (words_of mid.nodes.items) h.tree.spelled word at ends h.inside (h.word_is ∙ whole) (subst (λ w. IsEnds (words_of mid.nodes.items) w ends) whole h.ends_are)

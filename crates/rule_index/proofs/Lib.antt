@@ -1,3 +1,4 @@
+pub mod SameTree
 pub mod PlacesOfWords
 pub mod Matching
 pub mod Suffixes

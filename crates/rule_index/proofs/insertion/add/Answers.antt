@@ -21,3 +21,18 @@ chain_one-requires-clause-chained c =
     (subst (λ hs. IsChained (nodes ++ new ∷ []) (length nodes) hs c.deref_mut-2.result.now) (sym heads_are)
     (subst (λ xs. IsChained (nodes ++ new ∷ []) (length nodes) old.heads.items xs) (sym nexts_are)
     (chained-longer nodes (length nodes) old.heads.items old.nexts.items c.requires.tree.chained new refl))))
+
+pub returns-clause-nodes : goal.returns-clause-nodes
+returns-clause-nodes c =
+    let nodes = c.args.tree.now.nodes.items in
+    let read : c.index.result.now ≡ node_at nodes c.args.at = get_or_read nodes c.args.at c.index.result.now c.requires.inside c.index.ensures root in
+    c.put.ensures.items ∙ ap (λ (m : Node). nodes ++ record { parent = c.args.at; letter = c.args.letter; depth = m.depth + 1 } ∷ []) read
+
+pub returns-clause-room : goal.returns-clause-room
+returns-clause-room c count room = record {
+  nodes = omega (arith, room.nodes, c.put.ensures.len, c.put.ensures.capacity);
+  letters = omega (arith, room.letters, c.put-5.ensures.len, c.put-5.ensures.capacity);
+  nexts = omega (arith, room.nexts, c.put-2.ensures.len, c.put-2.ensures.capacity);
+  links = omega (arith, room.links, c.put-3.ensures.len, c.put-3.ensures.capacity);
+  leasts = omega (arith, room.leasts, c.put-4.ensures.len, c.put-4.ensures.capacity);
+}
