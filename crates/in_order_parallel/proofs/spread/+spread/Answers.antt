@@ -1,4 +1,4 @@
-use Rattle.std.proofs.Common.{take, drop, rules}
+use Rattle.std.proofs.Common.{IfOk, take, drop, arith, subst}
 use Rattle.std.specs.List.{AllZip}
 use Rattle.in_order_parallel.proofs.Zips.{AllZip-halves}
 use Rattle.in_order_parallel.proofs.spread.+spread.Goals as goal
@@ -6,7 +6,39 @@ use Rattle.in_order_parallel.proofs.spread.+spread.Goals as goal
 -- the answers of the items in front, and then those of the items behind them
 pub returns : goal.returns
 returns g t c =
+    let agrees = g.J.Job.gives c.args.job.now in
     let place = c.share_of.result in
-    let front : AllZip (g.J.Job.gives c.args.job.now) (take place c.args.items.now) c.in_ok-answers.answers.items = search rules in
-    let back : AllZip (g.J.Job.gives c.args.job.now) (drop place c.args.items.now) c.in_ok-more.more.items = search rules in
-    rw c.in_ok-append.ensures.items (AllZip-halves (g.J.Job.gives c.args.job.now) c.args.items.now _ _ place front back)
+    let items = c.args.items.now in
+    let left = c.in_ok-answers.answers.items in
+    let right = c.in_ok-more.more.items in
+    let front : AllZip agrees c.split_at.result.0.now left = subst (λ r. IfOk r (λ v. AllZip agrees c.split_at.result.0.now v.items)) {x = c.join-left.result.0} c.in_ok-answers.was c.join-left.ensures.first in
+    let back : AllZip agrees c.split_at.result.1.now right = subst (λ r. IfOk r (λ v. AllZip agrees c.split_at.result.1.now v.items)) {x = c.join-left.result.1} c.in_ok-more.was c.join-left.ensures.second in
+    rw c.in_ok-append.ensures.items (AllZip-halves agrees items left right place (subst (λ l. AllZip agrees l left) {y = take place items} c.split_at.ensures.front front) (subst (λ l. AllZip agrees l right) {y = drop place items} c.split_at.ensures.back back))
+
+-- the workers in front have no more items than there are
+pub split_at-requires : goal.split_at-requires
+split_at-requires g t c = c.share_of.ensures.within
+
+-- what the call of itself answers
+pub join+arg2-returns : goal.join+arg2-returns
+join+arg2-returns g t c = c.spread.ensures
+
+-- what the call of itself answers
+pub join+arg3-returns : goal.join+arg3-returns
+join+arg3-returns g t c = c.spread.ensures
+
+-- what the closure answers
+pub fn::spread::join+arg2+FnOnce::call_once-returns : goal.fn::spread::join+arg2+FnOnce::call_once-returns
+fn::spread::join+arg2+FnOnce::call_once-returns g t c = c.join+arg2.ensures
+
+-- what the closure answers
+pub fn::spread::join+arg3+FnOnce::call_once-returns : goal.fn::spread::join+arg3+FnOnce::call_once-returns
+fn::spread::join+arg3+FnOnce::call_once-returns g t c = c.join+arg3.ensures
+
+-- what the call asks for is what its caller was asked for
+pub fn::spread::join+arg2+FnOnce::call_once-join+arg2-requires : goal.fn::spread::join+arg2+FnOnce::call_once-join+arg2-requires
+fn::spread::join+arg2+FnOnce::call_once-join+arg2-requires g t c κs within = (omega arith, (search within, (search within, (search within, (search within, (search within, (search c.requires, (search c.requires, (search c.requires, (search c.requires, (search c.requires, search c.requires)))))))))))
+
+-- what the call asks for is what its caller was asked for
+pub fn::spread::join+arg3+FnOnce::call_once-join+arg3-requires : goal.fn::spread::join+arg3+FnOnce::call_once-join+arg3-requires
+fn::spread::join+arg3+FnOnce::call_once-join+arg3-requires g t c κs within = (omega arith, (search within, (search within, (search within, (search within, (search within, (search c.requires, (search c.requires, (search c.requires, (search c.requires, (search c.requires, search c.requires)))))))))))
