@@ -11,6 +11,7 @@ pub mod KeptReductions
 pub mod InOrder
 pub mod FirstReductions
 pub mod RowChains
+pub mod SecondWorks
 pub mod Records
 pub mod Turns
 pub mod UnitCounts

@@ -40,6 +40,10 @@ same_fault A B o (fault.Size s) why = absurd (other why)
     other is = cc
 same_fault A B o (fault.Memory e) why = tt
 
+pub other_explains : {A B : Type 0} (o : Option Overflow) (x : A) (y : B) (e : ReduceFault) → Explains (unless_overflow o x) e → Explains (unless_overflow o y) e
+other_explains None x y e why = none_explains x (Ok y) e why
+other_explains (Some o) x y e why = same_fault _ _ o e why
+
 -- the first fault of the first operations is that of all
 pub first_explains : {A B : Type 0} (os more : List Overflow) (x : A) (y : B) (e : ReduceFault) → Explains (unless_overflow (first_overflow os) x) e → Explains (unless_overflow (first_overflow (os ++ more)) y) e
 first_explains os more x y e why = subst (λ o. Explains (unless_overflow o y) e) (sym (first-append os more)) (go (first_overflow os) why)
@@ -62,6 +66,10 @@ value_of os x v is = go (first_overflow os) is
     go : (o : Option Overflow) → unless_overflow o x ≡ Ok v → x ≡ v
     go None k = same_value x v k
     go (Some o) k = absurd (no_error v (fault.Overflow o) (sym k))
+
+pub other_value : {A B : Type 0} (o : Option Overflow) (x v : A) (y : B) → unless_overflow o x ≡ Ok v → unless_overflow o y ≡ Ok y
+other_value None x v y is = λ _. Ok y
+other_value (Some o) x v y is = absurd (no_error v (fault.Overflow o) (sym is))
 
 -- ---- the rows of a record
 module _ (f : First) (s : State) where

@@ -1,8 +1,8 @@
 -- What a round makes of the completion of a problem.
-use Rattle.std.proofs.Common.{◌≡◌, ◌<◌, ◌≤◌, ℕ, zero, suc, ◌+◌, List, [], ◌∷◌, ◌++◌, length, map, take, drop, Bool, true, false, leb, Option, Some, None, Result, Err, refl, sym, ap, ◌∙◌, subst, arith}
+use Rattle.std.proofs.Common.{◌≡◌, ◌<◌, ◌≤◌, ℕ, zero, suc, ◌+◌, List, [], ◌∷◌, ◌++◌, length, map, take, drop, Bool, true, false, leb, Option, Some, None, Result, Ok, Err, OnErr, refl, sym, ap, ◌∙◌, subst, arith}
 use Rattle.std.specs.List.{All}
 use Rattle.std.proofs.lemmas.List.{length-map, length-take-le, take-append-drop}
-use Rattle.std.proofs.lemmas.Bool.{leb-true}
+use Rattle.std.proofs.lemmas.Bool.{leb-true, leb-false}
 use Rattle.word_orders.specs.Admissible.{Compare}
 use Rattle.word_orders.specs.Specified.{asked_cmp, made_cmp}
 use Rattle.word_orders.specs.declared.any.AnyOrder.{AnyOrder}
@@ -20,6 +20,7 @@ use Rattle.adjoint_rules.specs.Parts.{units_in}
 use Rattle.traced_completion.specs.declared.budget.Budget.{Budget}
 use Rattle.traced_completion.specs.declared.completion.Completion.{Completion}
 use Rattle.traced_completion.specs.declared.completion.Step.{Step}
+use Rattle.traced_completion.specs.declared.completion.Step.TheVariants.{Went, Closed, Stopped}
 use Rattle.traced_completion.specs.declared.pending.waiting.Waiting.{Waiting}
 use Rattle.traced_completion.specs.Results.{each_in_turn}
 use Rattle.rule_making.specs.Making.{Recorded}
@@ -28,7 +29,7 @@ use Rattle.traced_completion.specs.UnitsFirst.{units_first}
 use Rattle.traced_completion.specs.Pending.{AreAllPending, IsNextStore, ambiguities_of, first_word}
 use Rattle.rule_making.specs.Records.{HasRecords}
 use Rattle.traced_completion.specs.PlainRun.{RunState, Outcome, went, closed, stopped, Setting, start, recorded, taken_count, Ends, TreatsFirst, TreatsPending, IsRound, IsRoundZero, IsRunState, setting_of}
-use Rattle.traced_completion.specs.Completions.{state_of, outcome_of, IsUnchanged, IsGivingUp, IsRunOf, IsCompletionOf}
+use Rattle.traced_completion.specs.Completions.{state_of, outcome_of, IsUnchanged, IsUnchangedAfter, IsGivingUp, IsRunOf, IsCompletionOf}
 use Rattle.traced_completion.proofs.Ascending.{contains-first}
 use Rattle.traced_completion.proofs.StoreLemmas.{taken-ambiguities}
 
@@ -43,6 +44,31 @@ stays_completion problem old new same is =
     (subst (λ n. IsRunOf problem new.budget new.rules.order n (state_of old) old.waiting) (sym same.rounds)
     (subst (λ o. IsRunOf problem new.budget o old.rounds (state_of old) old.waiting) (sym same.order)
     (subst (λ b. IsRunOf problem b old.rules.order old.rounds (state_of old) old.waiting) (sym same.budget) is))))
+
+pub on_error : {T E : Type 0} (r : Result T E) (P : Type 0) → P → OnErr r P
+on_error (Ok x) P p = tt
+on_error (Err e) P p = p
+
+pub stays_after : (step : Step) (old new : Completion) → IsUnchanged old new → IsUnchangedAfter step old new
+stays_after Went old new same = tt
+stays_after Closed old new same = same
+stays_after (Stopped halt) old new same = same
+
+-- what was tried is taken back
+pub taken_back : (old tried new : Completion) (rules treated : ℕ) → rules ≡ length old.rules.rules → treated ≡ length old.treated → length old.made ≡ length old.rules.rules
+    → tried.budget ≡ old.budget → tried.rounds ≡ old.rounds → tried.rules.order ≡ old.rules.order
+    → take (length old.rules.rules) tried.rules.rules ≡ old.rules.rules → take (length old.made) tried.made ≡ old.made → take (length old.treated) tried.treated ≡ old.treated → tried.waiting ≡ old.waiting
+    → new.budget ≡ tried.budget → new.rounds ≡ tried.rounds → new.rules.order ≡ tried.rules.order
+    → new.rules.rules ≡ take rules tried.rules.rules → new.made ≡ take rules tried.made → new.treated ≡ take treated tried.treated → new.waiting ≡ tried.waiting → IsUnchanged old new
+taken_back old tried new rules treated rules_are treated_are one_each budget rounds order rules_front made_front treated_front waiting budget_back rounds_back order_back rules_back made_back treated_back waiting_back = record {
+  budget = budget_back ∙ budget;
+  rounds = rounds_back ∙ rounds;
+  order = order_back ∙ order;
+  rules = rules_back ∙ ap (λ n. take n tried.rules.rules) rules_are ∙ rules_front;
+  made = made_back ∙ ap (λ n. take n tried.made) (rules_are ∙ sym one_each) ∙ made_front;
+  treated = treated_back ∙ ap (λ n. take n tried.treated) treated_are ∙ treated_front;
+  waiting = waiting_back ∙ waiting;
+}
 
 -- ---- the setting
 module _ (problem : Problem) (budget : Budget) (order : AnyOrder) (rounds : ℕ) (s : RunState) (waiting : List Waiting) (is : IsRunOf problem budget order rounds s waiting) where
@@ -155,6 +181,13 @@ module _ (problem : Problem) (budget : Budget) (order : AnyOrder) (rounds : ℕ)
       go zero above = absurd (omega (arith, above))
       go (suc n) above = record { pending = []; all_pending = subst (λ ws. AreAllPending asked s.rules s.treated ws) none is.all_waiting; treats = refl }
 
+  pub closed_for_none : 0 < rounds → length waiting ≡ 0 → IsRound setting rounds s closed
+  closed_for_none later none = closed_outcome later (go waiting none)
+    where
+      go : (ws : List Waiting) → length ws ≡ 0 → ws ≡ []
+      go [] k = refl
+      go (w ∷ ws) k = absurd (omega (arith, k))
+
   -- ---- the run after the round
   pub next_run : (t : RunState) (waiting' : List Waiting) (count : ℕ) → take (length s.rules) t.rules ≡ s.rules → t.treated ≡ s.treated ++ ambiguities_of (take count waiting)
       → IsNextStore (made_cmp order) t.rules (length s.rules) count waiting waiting' → HasRecords (recorded t)
@@ -192,6 +225,13 @@ given_up P number least treated (fault.Size z) step t ends giving = record { res
 given_up P number least treated (fault.Memory e) step t ends giving = absurd giving.reason_of
 
 -- ---- numbers
+pub is_spent : (pairs treated : ℕ) → pairs ≤ treated → leb pairs treated ≡ true
+is_spent pairs treated most = go (leb pairs treated) refl
+  where
+    go : (b : Bool) → leb pairs treated ≡ b → leb pairs treated ≡ true
+    go true is = is
+    go false is = absurd (omega (arith, most, leb-false pairs treated is))
+
 pub not_spent : (pairs treated : ℕ) → treated < pairs → leb pairs treated ≡ false
 not_spent pairs treated left = go (leb pairs treated) refl
   where

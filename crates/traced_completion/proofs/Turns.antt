@@ -1,5 +1,5 @@
 -- Works one after another.
-use Rattle.std.proofs.Common.{◌≡◌, ◌≤◌, suc, List, [], ◌∷◌, ◌++◌, length, take, Option, Some, None, Result, Err, refl, sym, ap, ◌∙◌, subst, arith}
+use Rattle.std.proofs.Common.{◌≡◌, ◌≤◌, ℕ, suc, List, [], ◌∷◌, ◌++◌, length, map, take, Option, Some, None, Result, Ok, Err, refl, sym, ap, ◌∙◌, subst, arith}
 use Rattle.std.proofs.lemmas.List.{length-append, length-take, take-append-le}
 use Rattle.word_orders.specs.Admissible.{Compare}
 use Rattle.cofactor_trace.specs.declared.Made.{Made}
@@ -8,7 +8,7 @@ use Rattle.rule_reduce.specs.declared.fault.ReduceFault.{ReduceFault}
 use Rattle.rule_reduce.specs.declared.fault.ReduceFault.TheVariants as fault
 use Rattle.traced_completion.specs.Results.{Explains}
 use Rattle.rule_making.specs.Making.{Recorded, Rest, Adds}
-use Rattle.traced_completion.specs.Works.{Work, Does, Goes, InTurn, EndsWith}
+use Rattle.traced_completion.specs.Works.{Work, First, second_work, Does, Goes, InTurn, InTwoPasses, EndsWith}
 
 -- a list that begins with another does so with an item more
 pub front_stays : {X : Type 0} (xs ys : List X) (x : X) → take (length xs) ys ≡ xs → take (length xs) (ys ++ x ∷ []) ≡ xs
@@ -63,3 +63,19 @@ ends_weaker P Q weaker (fault.Steps limit) ends = weaker (Err (fault.Steps limit
 ends_weaker P Q weaker (fault.Overflow o) ends = weaker (Err (fault.Overflow o)) ends
 ends_weaker P Q weaker (fault.Size s) ends = weaker (Err (fault.Size s)) ends
 ends_weaker P Q weaker (fault.Memory e) ends = tt
+
+-- ---- two passes
+module _ (compare : Compare) (steps : ℕ) (before : Recorded) (firsts : Result (List First) ReduceFault) where
+  -- a fault of the first pass ends both
+  pub first_ends : (e : ReduceFault) → Explains firsts e → EndsWith (InTwoPasses compare steps firsts before) e
+  first_ends (fault.Steps limit) why = subst (λ r. InTwoPasses compare steps r before (Err (fault.Steps limit))) (sym why) refl
+  first_ends (fault.Overflow o) why = subst (λ r. InTwoPasses compare steps r before (Err (fault.Overflow o))) (sym why) refl
+  first_ends (fault.Size s) why = subst (λ r. InTwoPasses compare steps r before (Err (fault.Size s))) (sym why) refl
+  first_ends (fault.Memory e) why = tt
+
+  -- and where it goes well, both end as the second one does
+  pub second_goes : (fs : List First) (result : Result Recorded ReduceFault) → firsts ≡ Ok fs → InTurn compare (map (second_work compare steps) fs) before result → InTwoPasses compare steps firsts before result
+  second_goes fs result is turns = subst (λ r. InTwoPasses compare steps r before result) (sym is) turns
+
+  pub second_ends : (fs : List First) (e : ReduceFault) → firsts ≡ Ok fs → EndsWith (InTurn compare (map (second_work compare steps) fs) before) e → EndsWith (InTwoPasses compare steps firsts before) e
+  second_ends fs e is ends = subst (λ r. EndsWith (InTwoPasses compare steps r before) e) (sym is) ends

@@ -1,4 +1,5 @@
-use Rattle.std.proofs.Common.{rules, ◌≡◌, ◌<◌, ◌-◌, length, get_or, List, sym, subst, arith}
+use Rattle.std.proofs.Common.{rules, ◌≡◌, ◌<◌, ◌-◌, length, get_or, List, Err, sym, subst, arith}
+use Rattle.rule_reduce.specs.declared.fault.ReduceFault.TheVariants.{Memory}
 use Rattle.cofactor_trace.specs.declared.Row.{Row}
 use Rattle.adjoint_rules.specs.Problem.{polynomials}
 use Rattle.rule_making.specs.Making.{Recorded, IsExtended}
@@ -65,3 +66,58 @@ returns-clause-exact g c =
     let extended : IsExtended compare (record { polynomial = c.in-Ok.reduced.rest.terms; rows = generator_rows c.args.number c.in-Ok.reduced.multiplier c.in-Ok.reduced.rows }) before after =
     subst (λ (rows : List Row). IsExtended compare (record { polynomial = c.in-Ok.reduced.rest.terms; rows = rows }) before after) same pushed in
     rest_made compare c.args.steps (polynomials c.args.generators.now) c.args.number given.rules p.terms is (plain c.in-Ok.reduced) before after c.in-Ok.ensures.exact some extended
+
+pub subtract_from_generator-requires-clause-taken_in : goal.subtract_from_generator-requires-clause-taken_in
+subtract_from_generator-requires-clause-taken_in g c = c.in-Ok.ensures.kept.rows.in_range
+
+pub push_rule-requires-clause-over : goal.push_rule-requires-clause-over
+push_rule-requires-clause-over g c = c.in-Ok.ensures.kept.over
+
+pub push_rule-requires-clause-nonempty : goal.push_rule-requires-clause-nonempty
+push_rule-requires-clause-nonempty g c = c.in-Ok.ensures.kept.nonempty
+
+pub push_rule-requires-clause-records : goal.push_rule-requires-clause-records
+push_rule-requires-clause-records g c = c.requires.records
+
+pub returns-clause-records : goal.returns-clause-records
+returns-clause-records g c = c.in_ok-push_rule.ensures.records
+
+pub returns-in_err-rows-clause-exact : goal.returns-in_err-rows-clause-exact
+returns-in_err-rows-clause-exact g c =
+    let back : c.from_residual.result ≡ Err (Memory c.in_err-rows.field-0.0) = search rules in
+    rw back tt
+
+pub returns-in_err-rows-clause-records : goal.returns-in_err-rows-clause-records
+returns-in_err-rows-clause-records g c =
+    let back : c.from_residual.result ≡ Err (Memory c.in_err-rows.field-0.0) = search rules in
+    rw back tt
+
+pub returns-in_err-rows-clause-fault : goal.returns-in_err-rows-clause-fault
+returns-in_err-rows-clause-fault g c =
+    let back : c.from_residual.result ≡ Err (Memory c.in_err-rows.field-0.0) = search rules in
+    rw back tt
+
+pub returns-in_err-push_rule-clause-exact : goal.returns-in_err-push_rule-clause-exact
+returns-in_err-push_rule-clause-exact g c =
+    let back : c.from_residual-in_err-push_rule.result ≡ Err (Memory c.in_err-push_rule.field-0.0) = search rules in
+    rw back tt
+
+pub returns-in_err-push_rule-clause-records : goal.returns-in_err-push_rule-clause-records
+returns-in_err-push_rule-clause-records g c =
+    let back : c.from_residual-in_err-push_rule.result ≡ Err (Memory c.in_err-push_rule.field-0.0) = search rules in
+    rw back tt
+
+pub returns-in_err-push_rule-clause-fault : goal.returns-in_err-push_rule-clause-fault
+returns-in_err-push_rule-clause-fault g c =
+    let back : c.from_residual-in_err-push_rule.result ≡ Err (Memory c.in_err-push_rule.field-0.0) = search rules in
+    rw back tt
+
+pub returns-in_err-push_rule-clause-rules_back : goal.returns-in_err-push_rule-clause-rules_back
+returns-in_err-push_rule-clause-rules_back g c =
+    let back : c.from_residual-in_err-push_rule.result ≡ Err (Memory c.in_err-push_rule.field-0.0) = search rules in
+    rw back c.in_err-push_rule.ensures.rules_back
+
+pub returns-in_err-push_rule-clause-made_back : goal.returns-in_err-push_rule-clause-made_back
+returns-in_err-push_rule-clause-made_back g c =
+    let back : c.from_residual-in_err-push_rule.result ≡ Err (Memory c.in_err-push_rule.field-0.0) = search rules in
+    rw back c.in_err-push_rule.ensures.made_back

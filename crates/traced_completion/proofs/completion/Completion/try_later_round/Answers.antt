@@ -1,8 +1,19 @@
-use Rattle.std.proofs.Common.{rules, ◌≡◌, length, take, Err, subst, arith, ap}
+use Rattle.std.proofs.Common.{rules, ◌≡◌, List, ◌++◌, length, map, take, Ok, Err, sym, subst, arith, ap}
+use Rattle.std.specs.List.{All}
 use Rattle.std.proofs.lemmas.List.{length-take}
-use Rattle.word_orders.specs.Specified.{made_cmp}
+use Rattle.std.proofs.lemmas.List.Elements.{All-take}
+use Rattle.word_core.specs.Letters.{IsOver}
+use Rattle.word_orders.specs.Specified.{made_cmp, letters_of}
 use Rattle.rule_reduce.specs.declared.fault.ReduceFault.TheVariants.{Memory}
-use Rattle.traced_completion.specs.Pending.{IsNextStore}
+use Rattle.ambiguities.specs.Ambiguities.{IsAmbiguity}
+use Rattle.traced_completion.specs.declared.pending.waiting.Waiting.{Waiting}
+use Rattle.traced_completion.specs.Results.{Explains, each_in_turn}
+use Rattle.traced_completion.specs.Works.{first_of}
+use Rattle.traced_completion.specs.Reductions.{plain_first}
+use Rattle.traced_completion.specs.Pending.{IsNextStore, ambiguities_of}
+use Rattle.traced_completion.specs.PlainRun.{recorded}
+use Rattle.traced_completion.specs.Completions.{state_of}
+use Rattle.traced_completion.proofs.Turns.{first_ends, second_goes, second_ends}
 use Rattle.traced_completion.proofs.completion.Completion.try_later_round.Goals as goal
 
 pub returns-clause-next : goal.returns-clause-next
@@ -123,3 +134,70 @@ pub treat_all-requires-clause-few : goal.treat_all-requires-clause-few
 treat_all-requires-clause-few g c =
     let taken : c.first-taken.result.now ≡ take c.args.count c.args.self.now.waiting = search rules in
     omega (arith, ap length taken, length-take c.args.count c.args.self.now.waiting, c.in-Ok.ensures.one_each)
+
+pub returns-in-Err-clause-fault : goal.returns-in-Err-clause-fault
+returns-in-Err-clause-fault g c =
+    let old = c.args.self.now in
+    let compare = made_cmp old.rules.order in
+    let why : Explains (each_in_turn (first_of compare old.budget.steps old.rules.rules) (ambiguities_of (take c.args.count old.waiting))) c.in-Err.fault =
+    subst (λ (ws : List Waiting). Explains (each_in_turn (first_of compare old.budget.steps old.rules.rules) (ambiguities_of ws)) c.in-Err.fault) c.first-taken.ensures c.in-Err.ensures.exact in
+    first_ends compare old.budget.steps (recorded (state_of old)) (each_in_turn (first_of compare old.budget.steps old.rules.rules) (ambiguities_of (take c.args.count old.waiting))) c.in-Err.fault why
+
+pub returns-in-Err-treat_all-clause-fault : goal.returns-in-Err-treat_all-clause-fault
+returns-in-Err-treat_all-clause-fault g c =
+    let old = c.args.self.now in
+    let compare = made_cmp old.rules.order in
+    let firsts : each_in_turn (first_of compare old.budget.steps old.rules.rules) (ambiguities_of (take c.args.count old.waiting)) ≡ Ok (map plain_first c.in-Ok.firsts) =
+    subst (λ (ws : List Waiting). each_in_turn (first_of compare old.budget.steps old.rules.rules) (ambiguities_of ws) ≡ Ok (map plain_first c.in-Ok.firsts)) c.first-taken.ensures c.in-Ok.ensures.exact in
+    second_ends compare old.budget.steps (recorded (state_of old)) (each_in_turn (first_of compare old.budget.steps old.rules.rules) (ambiguities_of (take c.args.count old.waiting)))
+    (map plain_first c.in-Ok.firsts) c.in-Err-treat_all.fault firsts c.in-Err-treat_all.ensures.fault
+
+pub returns-clause-exact : goal.returns-clause-exact
+returns-clause-exact g c =
+    let old = c.args.self.now in
+    let compare = made_cmp old.rules.order in
+    let firsts : each_in_turn (first_of compare old.budget.steps old.rules.rules) (ambiguities_of (take c.args.count old.waiting)) ≡ Ok (map plain_first c.in-Ok.firsts) =
+    subst (λ (ws : List Waiting). each_in_turn (first_of compare old.budget.steps old.rules.rules) (ambiguities_of ws) ≡ Ok (map plain_first c.in-Ok.firsts)) c.first-taken.ensures c.in-Ok.ensures.exact in
+    second_goes compare old.budget.steps (recorded (state_of old)) (each_in_turn (first_of compare old.budget.steps old.rules.rules) (ambiguities_of (take c.args.count old.waiting)))
+    (map plain_first c.in-Ok.firsts) (Ok (record { rules = c.treat_all.new.rules.rules; made = c.treat_all.new.made })) firsts c.in-Ok-treat_all.ensures.exact
+
+pub returns-clause-records : goal.returns-clause-records
+returns-clause-records g c = c.in-Ok-treat_all.ensures.records
+
+pub returns-clause-treated : goal.returns-clause-treated
+returns-clause-treated g c =
+    let old = c.args.self.now in
+    subst (λ (ws : List Waiting). c.push_treated.new.treated ≡ old.treated ++ ambiguities_of ws) c.first.ensures c.in_ok-push_treated.ensures.ok
+
+pub returns-in_err-push_treated-clause-fault : goal.returns-in_err-push_treated-clause-fault
+returns-in_err-push_treated-clause-fault g c =
+    let back : c.from_residual.result ≡ Err (Memory c.in_err-push_treated.field-0.0) = search rules in
+    rw back tt
+
+pub returns-in_err-advance-clause-fault : goal.returns-in_err-advance-clause-fault
+returns-in_err-advance-clause-fault g c =
+    let back : c.from_residual-in_err-advance.result ≡ Err (Memory c.in_err-advance.field-0.0) = search rules in
+    rw back tt
+
+pub returns-in_err-advance-clause-waiting_back : goal.returns-in_err-advance-clause-waiting_back
+returns-in_err-advance-clause-waiting_back g c =
+    let back : c.from_residual-in_err-advance.result ≡ Err (Memory c.in_err-advance.field-0.0) = search rules in
+    rw back c.in_err-advance.ensures.err
+
+pub treat_all-requires-clause-kept : goal.treat_all-requires-clause-kept
+treat_all-requires-clause-kept g c = c.in-Ok.ensures.kept
+
+pub treat_all-requires-clause-records : goal.treat_all-requires-clause-records
+treat_all-requires-clause-records g c = c.requires.records
+
+pub advance-requires-clause-over : goal.advance-requires-clause-over
+advance-requires-clause-over g c = subst (λ o. All (λ (w : Waiting). IsOver (letters_of o) w.word) c.args.self.now.waiting) (sym c.treat_all.ensures.order) c.requires.over
+
+pub advance-requires-clause-taken : goal.advance-requires-clause-taken
+advance-requires-clause-taken g c = c.requires.count
+
+pub reduce_all-requires-clause-ambiguities : goal.reduce_all-requires-clause-ambiguities
+reduce_all-requires-clause-ambiguities g c κs within =
+    let old = c.args.self.now in
+    let Among : Waiting → Type 0 = λ w. IsAmbiguity old.rules.rules w.which in
+    subst (All Among) (sym c.first-taken.ensures) (All-take Among c.args.count old.waiting c.requires.ambiguities)

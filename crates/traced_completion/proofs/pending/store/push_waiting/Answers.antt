@@ -1,11 +1,13 @@
-use Rattle.std.proofs.Common.{rules, ◌≡◌, [], ◌∷◌, ◌++◌, take, get_or, Err, sym, subst, ◌∙◌}
+use Rattle.std.proofs.Common.{rules, ◌≡◌, [], ◌∷◌, ◌++◌, length, take, get_or, Err, sym, ap, subst, ◌∙◌, arith}
 use Rattle.std.specs.List.{All}
+use Rattle.std.proofs.lemmas.List.{append-nil, take_all}
 use Rattle.std.proofs.lemmas.List.Elements.{All-push}
 use Rattle.word_core.specs.Letters.{IsOver}
 use Rattle.ambiguities.specs.declared.ambiguity.Ambiguity.{Ambiguity}
 use Rattle.ambiguities.specs.declared.ambiguity.Kind.TheVariants.{Overlap}
 use Rattle.ambiguities.specs.Ambiguities.{overlap_word_of}
 use Rattle.traced_completion.specs.declared.pending.waiting.Waiting.{Waiting}
+use Rattle.traced_completion.specs.StoreOrder.{appended_waiting}
 use Rattle.traced_completion.proofs.Appending.{appended-more, appended-front}
 use Rattle.traced_completion.proofs.pending.store.push_waiting.Goals as goal
 
@@ -38,3 +40,14 @@ pub returns-in_err-word-clause-err : goal.returns-in_err-word-clause-err
 returns-in_err-word-clause-err g c =
     let back : c.from_residual.result ≡ Err c.in_err-word.field-0.0 = search rules in
     rw back (appended-front c.args.rules.now.rules c.args.items.now.items c.loop-which.items.items (take c.loop-which.which-index c.args.found.now) c.loop-which.invariant.passed)
+
+pub loop-which-init : goal.loop-which-init
+loop-which-init g c = record { passed = sym (append-nil c.args.items.now.items); over = c.requires.over }
+
+pub returns-clause-ok : goal.returns-clause-ok
+returns-clause-ok g c =
+    let found = c.args.found.now in
+    c.loop-which.invariant.passed ∙ ap (appended_waiting c.args.rules.now.rules c.args.items.now.items) (take_all c.loop-which.which-index found (omega (arith, c.loop-which-test.false)))
+
+pub returns-clause-over : goal.returns-clause-over
+returns-clause-over g c = c.loop-which.invariant.over
