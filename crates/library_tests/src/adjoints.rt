@@ -32,10 +32,11 @@ fn adjoint_text(alloc: Global, quiver: &Quiver, terms: &[(i128, &[u16])]) -> Res
 }
 
 #[test]
-fn an_adjoint_reverses_words(rt: HostRuntime) -> Result<(), Fail> {
+fn an_adjoint_reverses_each_word(rt: HostRuntime) -> Result<(), Fail> {
     generators_are_unique();
     let quiver = small(rt.alloc())?;
-    tell_adjoints(&rt, rt.alloc(), &quiver)
+    tell_adjoints(&rt, rt.alloc(), &quiver)?;
+    compare_words(&rt, rt.alloc(), &quiver)
 }
 
 fn tell_adjoints(rt: &impl Abort, alloc: Global, quiver: &Quiver) -> Result<(), Fail> {
@@ -53,12 +54,6 @@ fn adjoint_of(alloc: Global, quiver: &Quiver, letters: &[u16]) -> Result<Word, F
         return Err(Fail::new("a letter is not of the quiver"));
     }
     Ok(adjoint_word(alloc, quiver, &path)?)
-}
-
-#[test]
-fn an_adjoint_of_a_word_is_a_word(rt: HostRuntime) -> Result<(), Fail> {
-    let quiver = small(rt.alloc())?;
-    compare_words(&rt, rt.alloc(), &quiver)
 }
 
 fn compare_words(rt: &impl Abort, alloc: Global, quiver: &Quiver) -> Result<(), Fail> {

@@ -219,9 +219,22 @@ fn tell_cut(rt: &impl Abort, alloc: Global, text: &str) -> Result<(), Fail> {
     Ok(())
 }
 
+// Texts at the limits of blocks, rows, lemmas and letters, and past them.
+const LIMITED: &[&[Repeated]] = &[
+    LIMITS,
+    MANY_ROWS,
+    MANY_ROWS_OF_LEMMAS,
+    MANY_LEMMAS,
+    MANY_LETTERS,
+    MANY_LETTERS_OF_LEMMAS,
+];
+
 #[test]
-fn blocks_are_at_most_100(rt: HostRuntime) -> Result<(), Fail> {
-    tell_repeated(&rt, rt.alloc(), LIMITS)
+fn blocks_rows_lemmas_and_letters_are_limited(rt: HostRuntime) -> Result<(), Fail> {
+    for rows in LIMITED {
+        tell_repeated(&rt, rt.alloc(), rows)?;
+    }
+    Ok(())
 }
 
 #[test]
@@ -232,31 +245,6 @@ fn limits_of_words_and_blocks_are_kept(rt: HostRuntime) -> Result<(), Fail> {
         same(&rt, got.as_str(), text.as_str(), row.4);
     }
     Ok(())
-}
-
-#[test]
-fn rows_are_at_most_200_000(rt: HostRuntime) -> Result<(), Fail> {
-    tell_repeated(&rt, rt.alloc(), MANY_ROWS)
-}
-
-#[test]
-fn rows_of_lemmas_are_at_most_200_000(rt: HostRuntime) -> Result<(), Fail> {
-    tell_repeated(&rt, rt.alloc(), MANY_ROWS_OF_LEMMAS)
-}
-
-#[test]
-fn lemmas_are_at_most_200_000(rt: HostRuntime) -> Result<(), Fail> {
-    tell_repeated(&rt, rt.alloc(), MANY_LEMMAS)
-}
-
-#[test]
-fn letters_are_at_most_a_million(rt: HostRuntime) -> Result<(), Fail> {
-    tell_repeated(&rt, rt.alloc(), MANY_LETTERS)
-}
-
-#[test]
-fn letters_of_lemmas_are_at_most_a_million(rt: HostRuntime) -> Result<(), Fail> {
-    tell_repeated(&rt, rt.alloc(), MANY_LETTERS_OF_LEMMAS)
 }
 
 // The laws have nothing to run.

@@ -215,7 +215,7 @@ fn records_expand_as_worked_out(rt: HostRuntime) -> Result<(), Fail> {
 
 // A record with so many rows, each with another word of three letters in front.
 fn many_rows(alloc: Global, count: u16, from: Origin) -> Result<Made, AllocError> {
-    let mut rows = Listing::new(alloc);
+    let mut rows = Listing::with_room(alloc, usize::from(count))?;
     for number in 0..count {
         let mut left = Word::new(alloc);
         left.push(Letter(number))?;

@@ -24,6 +24,8 @@ mod expression_texts;
 #[cfg(test)]
 mod flows;
 #[cfg(test)]
+mod making;
+#[cfg(test)]
 mod matching;
 #[cfg(test)]
 mod matrices;

@@ -41,10 +41,11 @@ const NAMED: &[(&str, Option<Named>)] = &[
 ];
 
 #[test]
-fn names_are_found(rt: HostRuntime) -> Result<(), Fail> {
+fn names_letters_and_signatures_are_as_declared(rt: HostRuntime) -> Result<(), Fail> {
     let quiver = small(rt.alloc())?;
     find_names(&rt, &quiver);
-    Ok(())
+    compare_letters(&rt, &quiver);
+    compare_signatures(&rt, rt.alloc(), &quiver)
 }
 
 fn find_names(rt: &impl Abort, quiver: &Quiver) {
@@ -61,13 +62,6 @@ const LETTERS: &[(u16, &str, u16, u16, u16)] = &[
     (3, "a", 2, 1, 0),
     (4, "p", 4, 1, 1),
 ];
-
-#[test]
-fn letters_are_numbered_in_the_order_of_declaration(rt: HostRuntime) -> Result<(), Fail> {
-    let quiver = small(rt.alloc())?;
-    compare_letters(&rt, &quiver);
-    Ok(())
-}
 
 fn compare_letters(rt: &impl Abort, quiver: &Quiver) {
     equal(rt, &quiver.objects(), &2, "objects");
@@ -250,12 +244,6 @@ const SIGNED: &[Signed] = &[
     (&[&[4, 2], &[4]], None),
     (&[&[2, 4], &[2]], None),
 ];
-
-#[test]
-fn letters_of_a_path_meet_and_words_of_a_polynomial_agree(rt: HostRuntime) -> Result<(), Fail> {
-    let quiver = small(rt.alloc())?;
-    compare_signatures(&rt, rt.alloc(), &quiver)
-}
 
 fn compare_signatures(rt: &impl Abort, alloc: Global, quiver: &Quiver) -> Result<(), Fail> {
     for (words, want) in SIGNED {
