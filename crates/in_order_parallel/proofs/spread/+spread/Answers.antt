@@ -1,4 +1,4 @@
-use Rattle.std.proofs.Common.{IfOk, take, drop, arith, subst}
+use Rattle.std.proofs.Common.{IfOk, take, drop, subst}
 use Rattle.std.specs.List.{AllZip}
 use Rattle.in_order_parallel.proofs.Zips.{AllZip-halves}
 use Rattle.in_order_parallel.proofs.spread.+spread.Goals as goal
@@ -34,11 +34,3 @@ fn::spread::join+arg2+FnOnce::call_once-returns g t c = c.join+arg2.ensures
 -- what the closure answers
 pub fn::spread::join+arg3+FnOnce::call_once-returns : goal.fn::spread::join+arg3+FnOnce::call_once-returns
 fn::spread::join+arg3+FnOnce::call_once-returns g t c = c.join+arg3.ensures
-
--- what the call asks for is what its caller was asked for
-pub fn::spread::join+arg2+FnOnce::call_once-join+arg2-requires : goal.fn::spread::join+arg2+FnOnce::call_once-join+arg2-requires
-fn::spread::join+arg2+FnOnce::call_once-join+arg2-requires g t c κs within = (omega arith, (search within, (search within, (search within, (search within, (search within, (search c.requires, (search c.requires, (search c.requires, (search c.requires, (search c.requires, search c.requires)))))))))))
-
--- what the call asks for is what its caller was asked for
-pub fn::spread::join+arg3+FnOnce::call_once-join+arg3-requires : goal.fn::spread::join+arg3+FnOnce::call_once-join+arg3-requires
-fn::spread::join+arg3+FnOnce::call_once-join+arg3-requires g t c κs within = (omega arith, (search within, (search within, (search within, (search within, (search within, (search c.requires, (search c.requires, (search c.requires, (search c.requires, (search c.requires, search c.requires)))))))))))
