@@ -3,6 +3,7 @@ pub mod Divisors
 pub mod Lists
 pub mod Gathering
 pub mod Operations
+pub mod Numbers
 pub mod Halts
 pub mod SizeLaws
 pub mod TableLaws

@@ -1,3 +1,4 @@
 pub mod Ranges
+pub mod Texts
 pub mod Counts
 pub mod Verdicts

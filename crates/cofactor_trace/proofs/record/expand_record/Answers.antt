@@ -1,5 +1,6 @@
 use Rattle.std.proofs.Common.{rules, ◌≡◌, ◌*ℤ◌, ◌<ℤ◌, [], pos, to_z, of_z, None, Err, Ok, sym, ap, subst, ◌∙◌}
 use mir.Syntax.{w128}
+use Rattle.std.specs.List.{All}
 use Rattle.coef_int.specs.Range.{IsCoefficient}
 use Rattle.coef_int.specs.Operations.{product_of}
 use Rattle.cofactor_trace.specs.declared.fault.ExpandFault.TheVariants as fault
@@ -8,9 +9,10 @@ use Rattle.cofactor_trace.specs.Faults.{IsFirst, IsOverflowOf}
 use Rattle.cofactor_trace.specs.Needed.{known_from}
 use Rattle.cofactor_trace.specs.Table.{with_rows, rows_in}
 use Rattle.cofactor_trace.proofs.Divisors.{product_positive}
+use Rattle.cofactor_trace.proofs.Numbers.{same_number}
 use Rattle.cofactor_trace.proofs.RecordLaws.{IsCommon, Begins, AddsUp, at_common, at_denominator, at_limits, at_rows, at_gathering, at_end}
 use Rattle.cofactor_trace.proofs.record.expand_record.Goals as goal
-use Rattle.cofactor_trace.proofs.record.expand_record.Goals.{In_ok-denominator, In_ok-check_limits, In_ok-sums}
+use Rattle.cofactor_trace.proofs.record.expand_record.Goals.{In_ok-denominator, In_ok-check_limits, In_ok-sums, After-from_residual, After-from_residual-in_err-check_limits, After-from_residual-in_err-sums, After-from_residual-in_err-gathered}
 
 -- the least common multiple is found, and the denominator is a coefficient
 begins : (c : In_ok-denominator) → Begins (known_from c.args.expansions.now.entries) c.args.made.now c.as_slice-rows.result.now c.in_ok-common.common
@@ -21,19 +23,19 @@ begins c = record {
 
 -- the number that the later calls take is the least common multiple
 same_common : (c : In_ok-denominator) → to_z w128 (of_z w128 c.in_ok-common.common) ≡ c.in_ok-common.common
-same_common c = search rules
+same_common c = same_number c.in_ok-common.common c.in_ok-common.ensures.in_range
 
 denominator_positive : (c : In_ok-denominator) → pos 0 <ℤ c.in_ok-denominator.denominator
 denominator_positive c =
     let product : c.in_ok-denominator.denominator ≡ c.args.made.now.scale *ℤ c.in_ok-common.common = search rules in
-    let common_in : pos 0 <ℤ c.in_ok-common.common = search rules in
+    let common_in : pos 0 <ℤ c.in_ok-common.common = c.in_ok-common.ensures.positive in
     subst (λ z. pos 0 <ℤ z) (sym product) (product_positive c.args.made.now.scale c.in_ok-common.common c.requires.positive common_in)
 
 -- the limits are kept
 short : (c : In_ok-check_limits) → limit_fault (joined (known_from c.args.expansions.now.entries) c.in_ok-common.common c.as_slice-rows.result.now) ≡ None
 short c =
-    let same : to_z w128 (of_z w128 c.in_ok-common.common) ≡ c.in_ok-common.common = search rules in
-    subst (λ z. limit_fault (joined (known_from c.args.expansions.now.entries) z c.as_slice-rows.result.now) ≡ None) same c.in_ok-check_limits.ensures
+    let is = same_number c.in_ok-common.common c.in_ok-common.ensures.in_range in
+    subst (λ z. limit_fault (joined (known_from c.args.expansions.now.entries) z c.as_slice-rows.result.now) ≡ None) is c.in_ok-check_limits.ensures
 
 -- and the rows are added up
 adds_up : (c : In_ok-sums) → Begins (known_from c.args.expansions.now.entries) c.args.made.now c.as_slice-rows.result.now c.in_ok-common.common
@@ -42,20 +44,32 @@ adds_up : (c : In_ok-sums) → Begins (known_from c.args.expansions.now.entries)
 adds_up c begun kept =
     let known = known_from c.args.expansions.now.entries in
     let rows = c.as_slice-rows.result.now in
-    let same : to_z w128 (of_z w128 c.in_ok-common.common) ≡ c.in_ok-common.common = search rules in
+    let is = same_number c.in_ok-common.common c.in_ok-common.ensures.in_range in
     record {
       begins = begun;
       short = kept;
-      products = subst (λ z. overflow_in (joined_products known z rows) ≡ None) same c.in_ok-sums.ensures.exact;
-      entries_are = subst (λ z. c.in_ok-sums.sums.entries ≡ with_rows [] (joined known z rows)) same c.in_ok-sums.ensures.added;
+      products = subst (λ z. overflow_in (joined_products known z rows) ≡ None) is c.in_ok-sums.ensures.exact;
+      entries_are = subst (λ z. c.in_ok-sums.sums.entries ≡ with_rows [] (joined known z rows)) is c.in_ok-sums.ensures.added;
     }
+
+-- what stopped a step is returned
+stopped_common : (c : After-from_residual) → c.from_residual.result ≡ Err c.in_err-common.field-0.0
+stopped_common c = search rules
+
+stopped_check_limits : (c : After-from_residual-in_err-check_limits) → c.from_residual-in_err-check_limits.result ≡ Err c.in_err-check_limits.field-0.0
+stopped_check_limits c = search rules
+
+stopped_sums : (c : After-from_residual-in_err-sums) → c.from_residual-in_err-sums.result ≡ Err c.in_err-sums.field-0.0
+stopped_sums c = search rules
+
+stopped_gathered : (c : After-from_residual-in_err-gathered) → c.from_residual-in_err-gathered.result ≡ Err c.in_err-gathered.field-0.0
+stopped_gathered c = search rules
 
 pub returns-in_err-common-clause-exact : goal.returns-in_err-common-clause-exact
 returns-in_err-common-clause-exact c =
     let known = known_from c.args.expansions.now.entries in
     let e = c.in_err-common.field-0.0 in
-    let back : c.from_residual.result ≡ Err e = search rules in
-    rw back (at_common known c.args.made.now c.as_slice-rows.result.now e c.as_slice-rows.ensures c.in_err-common.ensures.exact)
+    rw (stopped_common c) (at_common known c.args.made.now c.as_slice-rows.result.now e c.as_slice-rows.ensures c.in_err-common.ensures.exact)
 
 pub returns-in_err-denominator-clause-exact : goal.returns-in_err-denominator-clause-exact
 returns-in_err-denominator-clause-exact c =
@@ -75,8 +89,7 @@ returns-in_err-check_limits-clause-exact c =
     let rows = c.as_slice-rows.result.now in
     let e = c.in_err-check_limits.field-0.0 in
     let stopped = subst (λ z. IsFirst (limit_fault (joined known z rows)) e) (same_common passed.In_ok-denominator) c.in_err-check_limits.ensures in
-    let back : c.from_residual-in_err-check_limits.result ≡ Err e = search rules in
-    rw back (at_limits known c.args.made.now rows c.in_ok-common.common e (begins passed.In_ok-denominator) stopped)
+    rw (stopped_check_limits c) (at_limits known c.args.made.now rows c.in_ok-common.common e (begins passed.In_ok-denominator) stopped)
 
 pub returns-in_err-sums-clause-exact : goal.returns-in_err-sums-clause-exact
 returns-in_err-sums-clause-exact c =
@@ -85,8 +98,7 @@ returns-in_err-sums-clause-exact c =
     let rows = c.as_slice-rows.result.now in
     let e = c.in_err-sums.field-0.0 in
     let stopped = subst (λ z. IsFirst (overflow_in (joined_products known z rows)) e) (same_common passed.In_ok-denominator) c.in_err-sums.ensures.exact in
-    let back : c.from_residual-in_err-sums.result ≡ Err e = search rules in
-    rw back (at_rows known c.args.made.now rows c.in_ok-common.common e (begins passed.In_ok-denominator) (short passed.In_ok-check_limits) stopped)
+    rw (stopped_sums c) (at_rows known c.args.made.now rows c.in_ok-common.common e (begins passed.In_ok-denominator) (short passed.In_ok-check_limits) stopped)
 
 pub returns-in_err-gathered-clause-exact : goal.returns-in_err-gathered-clause-exact
 returns-in_err-gathered-clause-exact c =
@@ -94,9 +106,8 @@ returns-in_err-gathered-clause-exact c =
     let added = adds_up passed.In_ok-sums (begins passed.In_ok-denominator) (short passed.In_ok-check_limits) in
     let entries = c.in_ok-sums.sums.entries in
     let e = c.in_err-gathered.field-0.0 in
-    let stopped : IsOverflowOf (rows_in entries) e = search rules in
-    let back : c.from_residual-in_err-gathered.result ≡ Err e = search rules in
-    rw back (at_gathering (known_from c.args.expansions.now.entries) c.args.made.now c.as_slice-rows.result.now c.in_ok-common.common entries e added stopped)
+    let stopped : IsOverflowOf (rows_in entries) e = c.in_err-gathered.ensures.exact in
+    rw (stopped_gathered c) (at_gathering (known_from c.args.expansions.now.entries) c.args.made.now c.as_slice-rows.result.now c.in_ok-common.common entries e added stopped)
 
 pub primitive-requires-clause-positive : goal.primitive-requires-clause-positive
 primitive-requires-clause-positive c =
@@ -108,55 +119,55 @@ returns-clause-exact c =
     let passed = goal.at.returns-clause-exact c in
     let added = adds_up passed.In_ok-sums (begins passed.In_ok-denominator) (short passed.In_ok-check_limits) in
     let gathered = c.in_ok-gathered.gathered in
-    let ends : rows_in c.in_ok-sums.sums.entries ≡ Ok gathered = search rules in
+    let ends : rows_in c.in_ok-sums.sums.entries ≡ Ok gathered = c.in_ok-gathered.ensures.exact in
     let same : c.in_ok-primitive.field-0 ≡ primitive (c.args.made.now.scale *ℤ c.in_ok-common.common) gathered = search rules in
     at_end (known_from c.args.expansions.now.entries) c.args.made.now c.as_slice-rows.result.now c.in_ok-common.common c.in_ok-sums.sums.entries gathered added ends
     ∙ ap Ok (sym same)
 
 pub common_denominator-requires : goal.common_denominator-requires
-common_denominator-requires c = search rules
+common_denominator-requires c = c.requires.ranged
 
 pub returns-in_err-common-clause-ranged : goal.returns-in_err-common-clause-ranged
-returns-in_err-common-clause-ranged c = search rules
+returns-in_err-common-clause-ranged c = rw (stopped_common c) tt
 
 pub times-requires-clause-left_in : goal.times-requires-clause-left_in
-times-requires-clause-left_in c = search rules
+times-requires-clause-left_in c = subst IsCoefficient (sym (same_number c.args.made.now.scale c.requires.scale_in)) c.requires.scale_in
 
 pub times-requires-clause-right_in : goal.times-requires-clause-right_in
-times-requires-clause-right_in c = search rules
+times-requires-clause-right_in c = subst IsCoefficient (sym (same_number c.in_ok-common.common c.in_ok-common.ensures.in_range)) c.in_ok-common.ensures.in_range
 
 pub returns-in_err-denominator-clause-ranged : goal.returns-in_err-denominator-clause-ranged
 returns-in_err-denominator-clause-ranged c = search rules
 
 pub check_limits-requires : goal.check_limits-requires
-check_limits-requires c = search rules
+check_limits-requires c = c.requires.ranged
 
 pub returns-in_err-check_limits-clause-ranged : goal.returns-in_err-check_limits-clause-ranged
-returns-in_err-check_limits-clause-ranged c = search rules
+returns-in_err-check_limits-clause-ranged c = rw (stopped_check_limits c) tt
 
 pub add_rows-requires-clause-ranged : goal.add_rows-requires-clause-ranged
-add_rows-requires-clause-ranged c = search rules
+add_rows-requires-clause-ranged c = c.requires.ranged
 
 pub add_rows-requires-clause-common_in : goal.add_rows-requires-clause-common_in
-add_rows-requires-clause-common_in c = search rules
+add_rows-requires-clause-common_in c = subst IsCoefficient (sym (same_number c.in_ok-common.common c.in_ok-common.ensures.in_range)) c.in_ok-common.ensures.in_range
 
 pub add_rows-requires-clause-coefficients_in : goal.add_rows-requires-clause-coefficients_in
-add_rows-requires-clause-coefficients_in c = search rules
+add_rows-requires-clause-coefficients_in c = subst (All (λ r. IsCoefficient r.coef)) (sym c.as_slice-rows.ensures) c.requires.coefficients_in
 
 pub returns-in_err-sums-clause-ranged : goal.returns-in_err-sums-clause-ranged
-returns-in_err-sums-clause-ranged c = search rules
+returns-in_err-sums-clause-ranged c = rw (stopped_sums c) tt
 
 pub nonzero_rows-requires : goal.nonzero_rows-requires
-nonzero_rows-requires c = search rules
+nonzero_rows-requires c = c.in_ok-sums.ensures.sums_in
 
 pub returns-in_err-gathered-clause-ranged : goal.returns-in_err-gathered-clause-ranged
-returns-in_err-gathered-clause-ranged c = search rules
+returns-in_err-gathered-clause-ranged c = rw (stopped_gathered c) tt
 
 pub primitive-requires-clause-denominator_in : goal.primitive-requires-clause-denominator_in
 primitive-requires-clause-denominator_in c = search rules
 
 pub primitive-requires-clause-coefficients_in : goal.primitive-requires-clause-coefficients_in
-primitive-requires-clause-coefficients_in c = search rules
+primitive-requires-clause-coefficients_in c = c.in_ok-gathered.ensures.in_range
 
 pub returns-in_err-primitive-clause-ranged : goal.returns-in_err-primitive-clause-ranged
 returns-in_err-primitive-clause-ranged c = search rules
@@ -165,4 +176,4 @@ pub returns-in_err-primitive-clause-exact : goal.returns-in_err-primitive-clause
 returns-in_err-primitive-clause-exact c = search rules
 
 pub returns-clause-ranged : goal.returns-clause-ranged
-returns-clause-ranged c = search rules
+returns-clause-ranged c = c.in_ok-primitive.ensures.ranged

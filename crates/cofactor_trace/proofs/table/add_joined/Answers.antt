@@ -1,4 +1,4 @@
-use Rattle.std.proofs.Common.{rules, ◌≡◌, ◌+◌, ◌++◌, ◌*ℤ◌, map, drop, Err, sym, ap, ◌∙◌, arith}
+use Rattle.std.proofs.Common.{rules, ◌≡◌, ◌+◌, ◌++◌, ◌*ℤ◌, map, drop, Err, refl, sym, ap, subst, ◌∙◌, arith}
 use Rattle.std.proofs.lemmas.List.{drop_all}
 use Rattle.std.specs.Option.{option_map}
 use Rattle.coef_int.specs.Range.{IsCoefficient}
@@ -8,6 +8,7 @@ use Rattle.cofactor_trace.specs.declared.CertRow.{CertRow}
 use Rattle.cofactor_trace.specs.declared.fault.ExpandFault.TheVariants as fault
 use Rattle.cofactor_trace.specs.Expansion.{joined_row}
 use Rattle.cofactor_trace.specs.Table.{with_row, with_rows}
+use Rattle.cofactor_trace.proofs.Numbers.{same_number}
 use Rattle.cofactor_trace.proofs.Operations.{first_next, first_stops, first_none}
 use Rattle.cofactor_trace.proofs.table.add_joined.Goals as goal
 
@@ -16,7 +17,7 @@ returns-in_err-coef-clause-exact c =
     let k = c.args.factor in
     let row = c.row-item.result in
     let f = λ (s : CertRow). product_of k s.coef in
-    let kept : first_overflow (map f (drop c.loop-row.row-index c.args.inner.now)) ≡ first_overflow (map f c.args.inner.now) = search rules in
+    let kept : first_overflow (map f (drop c.loop-row.row-index c.args.inner.now)) ≡ first_overflow (map f c.args.inner.now) = subst (λ z. first_overflow (map (λ (s : CertRow). product_of z s.coef) (drop c.loop-row.row-index c.args.inner.now)) ≡ first_overflow (map (λ (s : CertRow). product_of z s.coef) c.args.inner.now)) (same_number c.args.factor c.requires.factor_in) c.loop-row.invariant.products in
     let fails : ¬ IsCoefficient (k *ℤ row.coef) = search rules in
     let back : c.from_residual.result ≡ Err (fault.Overflow (product_of k row.coef)) = search rules in
     rw back (ap (option_map fault.Overflow) (first_stops f c.args.inner.now c.loop-row.row-index kept row c.loop-row-test.true c.row-item.is fails))
@@ -29,38 +30,43 @@ loop-row-preserved c =
     let row = c.row-item.result in
     let i = c.loop-row.row-index in
     let f = λ (s : CertRow). product_of k s.coef in
-    let kept : first_overflow (map f (drop i inner)) ≡ first_overflow (map f inner) = search rules in
+    let kept : first_overflow (map f (drop i inner)) ≡ first_overflow (map f inner) = subst (λ z. first_overflow (map (λ (s : CertRow). product_of z s.coef) (drop c.loop-row.row-index c.args.inner.now)) ≡ first_overflow (map (λ (s : CertRow). product_of z s.coef) c.args.inner.now)) (same_number c.args.factor c.requires.factor_in) c.loop-row.invariant.products in
     let fits : IsCoefficient (k *ℤ row.coef) = search rules in
     let products : first_overflow (map f (drop (i + 1) inner)) ≡ first_overflow (map f inner) = first_next f inner i kept row c.loop-row-test.true c.row-item.is fits in
     let old = c.loop-row.sums.entries in
-    let so_far : with_rows old (map (joined_row k outer) (drop i inner)) ≡ with_rows c.args.sums.now.entries (map (joined_row k outer) inner) = search rules in
-    let left : c.in_ok-concat.field-0 ≡ outer.left ++ row.left = search rules in
-    let right : c.in_ok-concat-2.field-0 ≡ row.right ++ outer.right = search rules in
+    let so_far : with_rows old (map (joined_row k outer) (drop i inner)) ≡ with_rows c.args.sums.now.entries (map (joined_row k outer) inner) = subst (λ z. with_rows c.loop-row.sums.entries (map (joined_row z c.args.outer.now) (drop c.loop-row.row-index c.args.inner.now)) ≡ with_rows c.args.sums.now.entries (map (joined_row z c.args.outer.now) c.args.inner.now)) (same_number c.args.factor c.requires.factor_in) c.loop-row.invariant.added in
+    let left : c.in_ok-concat.field-0 ≡ outer.left ++ row.left = c.in_ok-concat.ensures in
+    let right : c.in_ok-concat-2.field-0 ≡ row.right ++ outer.right = c.in_ok-concat-2.ensures in
     let coef : c.in_ok-coef.coef ≡ k *ℤ row.coef = search rules in
     let put : c.add.new.sums.entries ≡ with_row old (joined_row k outer row) = search (rules, left, right, coef) in
     let added : with_rows c.add.new.sums.entries (map (joined_row k outer) (drop (i + 1) inner)) ≡ with_rows c.args.sums.now.entries (map (joined_row k outer) inner) =
     ap (λ es. with_rows es (map (joined_row k outer) (drop (i + 1) inner))) put
     ∙ ap (λ l. with_rows old (map (joined_row k outer) l)) (sym (drop_next inner i row c.loop-row-test.true c.row-item.is)) ∙ so_far in
-    record { sums_in = search rules; added = search (rules, added); products = search (rules, products) }
+    let number = sym (same_number k c.requires.factor_in) in
+    record {
+      sums_in = c.in_ok-add.ensures.sums_in;
+      added = subst (λ z. with_rows c.add.new.sums.entries (map (joined_row z outer) (drop (i + 1) inner)) ≡ with_rows c.args.sums.now.entries (map (joined_row z outer) inner)) number added;
+      products = subst (λ z. first_overflow (map (λ (s : CertRow). product_of z s.coef) (drop (i + 1) inner)) ≡ first_overflow (map (λ (s : CertRow). product_of z s.coef) inner)) number products;
+    }
 
 pub returns-clause-added : goal.returns-clause-added
 returns-clause-added c =
     let k = c.args.factor in
     let jr = joined_row k c.args.outer.now in
-    let so_far : with_rows c.loop-row.sums.entries (map jr (drop c.loop-row.row-index c.args.inner.now)) ≡ with_rows c.args.sums.now.entries (map jr c.args.inner.now) = search rules in
+    let so_far : with_rows c.loop-row.sums.entries (map jr (drop c.loop-row.row-index c.args.inner.now)) ≡ with_rows c.args.sums.now.entries (map jr c.args.inner.now) = subst (λ z. with_rows c.loop-row.sums.entries (map (joined_row z c.args.outer.now) (drop c.loop-row.row-index c.args.inner.now)) ≡ with_rows c.args.sums.now.entries (map (joined_row z c.args.outer.now) c.args.inner.now)) (same_number c.args.factor c.requires.factor_in) c.loop-row.invariant.added in
     ap (λ l. with_rows c.loop-row.sums.entries (map jr l)) (sym (drop_all c.loop-row.row-index c.args.inner.now (omega arith))) ∙ so_far
 
 pub returns-clause-exact : goal.returns-clause-exact
 returns-clause-exact c =
     let f = λ (s : CertRow). product_of c.args.factor s.coef in
-    let kept : first_overflow (map f (drop c.loop-row.row-index c.args.inner.now)) ≡ first_overflow (map f c.args.inner.now) = search rules in
+    let kept : first_overflow (map f (drop c.loop-row.row-index c.args.inner.now)) ≡ first_overflow (map f c.args.inner.now) = subst (λ z. first_overflow (map (λ (s : CertRow). product_of z s.coef) (drop c.loop-row.row-index c.args.inner.now)) ≡ first_overflow (map (λ (s : CertRow). product_of z s.coef) c.args.inner.now)) (same_number c.args.factor c.requires.factor_in) c.loop-row.invariant.products in
     ap (option_map fault.Overflow) (first_none f c.args.inner.now c.loop-row.row-index kept (omega arith))
 
 pub loop-row-init : goal.loop-row-init
-loop-row-init c = search rules
+loop-row-init c = record { sums_in = c.requires.sums_in; added = refl; products = refl }
 
 pub times-requires-clause-left_in : goal.times-requires-clause-left_in
-times-requires-clause-left_in c = search rules
+times-requires-clause-left_in c = subst IsCoefficient (sym (same_number c.args.factor c.requires.factor_in)) c.requires.factor_in
 
 pub times-requires-clause-right_in : goal.times-requires-clause-right_in
 times-requires-clause-right_in c = search rules
@@ -99,7 +105,7 @@ pub add-requires-clause-coef_in : goal.add-requires-clause-coef_in
 add-requires-clause-coef_in c = search rules
 
 pub add-requires-clause-sums_in : goal.add-requires-clause-sums_in
-add-requires-clause-sums_in c = search rules
+add-requires-clause-sums_in c = c.loop-row.invariant.sums_in
 
 pub returns-in_err-add-clause-sums_in : goal.returns-in_err-add-clause-sums_in
 returns-in_err-add-clause-sums_in c = search rules
@@ -114,4 +120,4 @@ pub loop-row-smaller : goal.loop-row-smaller
 loop-row-smaller c = search rules
 
 pub returns-clause-sums_in : goal.returns-clause-sums_in
-returns-clause-sums_in c = search rules
+returns-clause-sums_in c = c.loop-row.invariant.sums_in
