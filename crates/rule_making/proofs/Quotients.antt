@@ -137,3 +137,9 @@ quotient_primitive b s v p positive content is = quotient_content (signed b s) s
 -- what the content divides its negative divides
 pub negative_divides : (s : ℤ) (p : List Term) → DividesEach (unsigned_abs s) p → DividesEach (unsigned_abs (neg_ℤ s)) p
 negative_divides s p divides = subst (λ n. DividesEach n p) (sym (signed_size true s)) divides
+
+-- only the content of zero is zero
+pub content_positive : (s : ℤ) (p : List Term) → IsContent p s → (s ≡ pos 0 → p ≡ []) → 0 < length p → pos 0 <ℤ s
+content_positive (pos zero) p content empty some = absurd (omega (arith, some, ap length (empty refl)))
+content_positive (pos (suc n)) p content empty some = omega (arith, ints)
+content_positive (negsuc n) p content empty some = absurd (omega (arith, ints, content.nonnegative))

@@ -1,7 +1,7 @@
 -- Rows that are written over one after another.
-use Rattle.std.proofs.Common.{◌≡◌, ◌<◌, ℕ, ◌+◌, ◌-◌, ℤ, ◌*ℤ◌, List, ◌∷◌, ◌++◌, length, map, take, drop, set, get_or, Some, sym, ap, ◌∙◌, arith}
+use Rattle.std.proofs.Common.{◌≡◌, ◌<◌, ◌≤◌, ℕ, ◌+◌, ◌-◌, ℤ, ◌*ℤ◌, List, ◌∷◌, ◌++◌, length, map, take, drop, set, get_or, Some, sym, ap, ◌∙◌, arith}
 use Rattle.std.proofs.lemmas.Bool.Decides.{nat_tests}
-use Rattle.std.proofs.lemmas.List.{drop_more, get_or-append_right, get_or-drop, length-map, length-take-le}
+use Rattle.std.proofs.lemmas.List.{drop_more, get_or-append_right, get_or-drop, length-append, length-drop, length-map, length-take, length-take-le}
 use Rattle.std.proofs.lemmas.List.Edits.{map_over_more}
 use Rattle.coef_int.specs.declared.Overflow.{Overflow}
 use Rattle.coef_int.specs.Range.{IsCoefficient}
@@ -24,6 +24,10 @@ still_there f xs ys i row below so_far is =
   where
     no_more : (n : ℕ) → n + (n - n) ≡ n
     no_more n = omega arith
+
+-- all rows are written over
+pub all_written : (f : Row → Row) (xs ys : List Row) (i : ℕ) → ys ≡ map f (take i xs) ++ drop i xs → length ys ≤ i → length xs ≤ i
+all_written f xs ys i so_far most = omega (arith, most, ap length so_far ∙ length-append (map f (take i xs)) (drop i xs), length-map (take i xs) f, length-take i xs, length-drop i xs)
 
 -- no product before it overflows, nor its own
 pub none_before : (xs : List Row) (i : ℕ) (row : Row) (by : ℤ) → i < length xs → row ≡ get_or xs i row → IsCoefficient (row.coef *ℤ by)

@@ -1,11 +1,14 @@
 -- What a round makes of the completion of a problem.
-use Rattle.std.proofs.Common.{◌≡◌, ◌<◌, ◌≤◌, ℕ, zero, suc, ◌+◌, List, [], ◌∷◌, ◌++◌, length, map, take, drop, Bool, true, false, leb, Option, Some, None, Result, Ok, Err, OnErr, refl, sym, ap, ◌∙◌, subst, arith}
+use Rattle.std.proofs.Common.{◌≡◌, ◌<◌, ◌≤◌, ℕ, zero, suc, ◌+◌, List, [], ◌∷◌, ◌++◌, length, map, take, drop, slice_get, Bool, true, false, leb, Option, Some, None, Result, Ok, Err, OnErr, refl, sym, ap, ◌∙◌, subst, arith}
 use Rattle.std.specs.List.{All}
 use Rattle.std.proofs.lemmas.List.{length-map, length-take-le, take-append-drop}
 use Rattle.std.proofs.lemmas.Bool.{leb-true, leb-false}
 use Rattle.word_orders.specs.Admissible.{Compare}
-use Rattle.word_orders.specs.Specified.{asked_cmp, made_cmp}
+use Rattle.word_orders.specs.Specified.{asked_cmp, made_cmp, letters_of}
 use Rattle.word_orders.specs.declared.any.AnyOrder.{AnyOrder}
+use Rattle.quiver.specs.Declarations.{letter_count}
+use Rattle.cofactor_trace.specs.declared.Made.{Made}
+use Rattle.cofactor_trace.specs.Needed.{IsRecord}
 use Rattle.cofactor_trace.specs.declared.halt.Cause.TheVariants as cause
 use Rattle.cofactor_trace.specs.declared.halt.Place.TheVariants as place
 use Rattle.rule_reduce.specs.declared.rule.Rule.{Rule}
@@ -29,9 +32,9 @@ use Rattle.traced_completion.specs.UnitsFirst.{units_first}
 use Rattle.traced_completion.specs.Pending.{AreAllPending, IsNextStore, ambiguities_of, first_word}
 use Rattle.rule_making.specs.Records.{HasRecords}
 use Rattle.traced_completion.specs.PlainRun.{RunState, Outcome, went, closed, stopped, Setting, start, recorded, taken_count, Ends, TreatsFirst, TreatsPending, IsRound, IsRoundZero, IsRunState, setting_of}
-use Rattle.traced_completion.specs.Completions.{state_of, outcome_of, IsUnchanged, IsUnchangedAfter, IsGivingUp, IsRunOf, IsCompletionOf}
+use Rattle.traced_completion.specs.Completions.{IsBudget, state_of, outcome_of, IsUnchanged, IsUnchangedAfter, IsGivingUp, IsRunOf, IsCompletionOf}
 use Rattle.traced_completion.proofs.Ascending.{contains-first}
-use Rattle.traced_completion.proofs.StoreLemmas.{taken-ambiguities}
+use Rattle.traced_completion.proofs.StoreLemmas.{nothing-at_first, taken-ambiguities}
 
 -- ---- a completion that stays
 unchanged_state : (old new : Completion) → IsUnchanged old new → state_of old ≡ state_of new
@@ -209,6 +212,33 @@ module _ (problem : Problem) (budget : Budget) (order : AnyOrder) (rounds : ℕ)
       } in
       subst (λ n. IsRunOf problem budget' order' n t waiting') (sym same_rounds)
       (subst (λ o. IsRunOf problem budget' o (suc rounds) t waiting') (sym same_order) (subst (λ b. IsRunOf problem b order (suc rounds) t waiting') (sym same_budget) here))
+
+-- ---- the run before round 0
+none_there : (m : Made) → ◌≡◌ {A = Option Made} None (Some m) → ⊥
+none_there m is = cc
+
+no_record : (place : ℕ) (m : Made) → slice_get [] place ≡ Some m → IsRecord place m
+no_record zero m is = absurd (none_there m is)
+no_record (suc n) m is = absurd (none_there m is)
+
+pub first_run : (problem : Problem) (budget : Budget) (order : AnyOrder) (rules : List Rule) (made : List Made) (treated : List Ambiguity) (waiting : List Waiting)
+    → ((u v : List ℕ) → made_cmp order u v ≡ asked_cmp problem.parts.order u v) → letter_count problem.parts.quiver ≤ letters_of order → IsBudget budget
+    → rules ≡ [] → made ≡ [] → treated ≡ [] → waiting ≡ [] → IsRunOf problem budget order 0 (record { rules = rules; made = made; treated = treated }) waiting
+first_run problem budget order rules made treated waiting compares letters in_budget rules_are made_are treated_are waiting_are =
+    let there : start ≡ record { rules = rules; made = made; treated = treated } = sym (λ i. record { rules = rules_are i; made = made_are i; treated = treated_are i }) in
+    let here : IsRunOf problem budget order 0 start [] = record {
+      compares = compares;
+      letters = letters;
+      in_budget = in_budget;
+      run = refl;
+      treated = λ k d below. absurd (omega (arith, below));
+      all_waiting = nothing-at_first (asked_cmp problem.parts.order) [];
+      records = record { one_each = refl; records = record { at = no_record } };
+      few_treated = omega arith;
+      few_rules = omega arith;
+      few_rounds = omega arith;
+    } in
+    subst (λ s. IsRunOf problem budget order 0 s waiting) there (subst (IsRunOf problem budget order 0 start) (sym waiting_are) here)
 
 -- ---- a round that is given up
 -- how the works end, and the outcome

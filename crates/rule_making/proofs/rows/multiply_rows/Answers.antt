@@ -1,10 +1,12 @@
-use Rattle.std.proofs.Common.{rules, ◌≡◌, ◌<◌, ◌++◌, ◌*ℤ◌, map, take, drop, get_or, length, Some, ◌∙◌}
+use Rattle.std.proofs.Common.{rules, ◌≡◌, ◌<◌, ◌≤◌, ◌++◌, ◌*ℤ◌, List, map, take, drop, get_or, length, Some, Err, refl, sym, ap, ◌∙◌, subst, arith}
+use Rattle.std.specs.List.{All}
+use Rattle.std.proofs.lemmas.List.{drop_all}
 use Rattle.std.proofs.lemmas.List.Elements.{All-set}
 use Rattle.coef_int.specs.Range.{IsCoefficient}
 use Rattle.coef_int.specs.Operations.{first_overflow, product_of}
 use Rattle.cofactor_trace.specs.declared.Row.{Row}
 use Rattle.rule_reduce.specs.Steps.{multiplied_row, row_operations}
-use Rattle.rule_making.proofs.RowLists.{written_more, still_there, none_before, overflow_at}
+use Rattle.rule_making.proofs.RowLists.{written_more, all_written, still_there, none_before, overflow_at}
 use Rattle.rule_making.proofs.rows.multiply_rows.Goals as goal
 
 pub returns-in_err-row-clause-exact : goal.returns-in_err-row-clause-exact
@@ -42,3 +44,28 @@ loop-row-preserved c =
       in_range = All-set (λ (r : Row). IsCoefficient r.coef) ys i _ (search rules) c.loop-row.invariant.in_range;
       none_yet = search (rules, none);
     }
+
+pub loop-row-init : goal.loop-row-init
+loop-row-init c =
+    let first : c.deref_mut-row-items.result.now ≡ c.args.rows = search rules in
+    record { so_far = first; in_range = subst (All (λ (r : Row). IsCoefficient r.coef)) (sym first) c.requires.in_range; none_yet = refl }
+
+pub returns-clause-exact : goal.returns-clause-exact
+returns-clause-exact c =
+    let xs = c.args.rows in
+    let i = c.loop-row.row-index in
+    let so_far : c.loop-row.row-items ≡ map (multiplied_row c.args.by) (take i xs) ++ drop i xs = search rules in
+    let none_yet : first_overflow (row_operations xs c.args.by) ≡ first_overflow (row_operations (drop i xs) c.args.by) = search rules in
+    let most : length c.loop-row.row-items ≤ i = omega (arith, c.loop-row-test.false) in
+    let all = all_written (multiplied_row c.args.by) xs c.loop-row.row-items i so_far most in
+    none_yet ∙ ap (λ (rows : List Row). first_overflow (row_operations rows c.args.by)) (drop_all i xs all)
+
+pub returns-in_err-row-clause-in_range : goal.returns-in_err-row-clause-in_range
+returns-in_err-row-clause-in_range c =
+    let back : c.from_residual.result ≡ Err c.in_err-row.field-0.0 = search rules in
+    rw back tt
+
+pub returns-in_err-row-clause-value : goal.returns-in_err-row-clause-value
+returns-in_err-row-clause-value c =
+    let back : c.from_residual.result ≡ Err c.in_err-row.field-0.0 = search rules in
+    rw back tt

@@ -1,4 +1,5 @@
-use Rattle.std.proofs.Common.{rules, ◌≡◌, ◌<◌, get_or, length}
+use Rattle.std.proofs.Common.{rules, ◌≡◌, ◌<◌, get_or, length, sym, subst}
+use Rattle.std.specs.List.{All}
 use Rattle.std.proofs.lemmas.List.Elements.{All-set}
 use Rattle.coef_int.specs.Range.{IsCoefficient}
 use Rattle.cofactor_trace.specs.declared.Row.{Row}
@@ -19,3 +20,8 @@ loop-row-preserved c =
       so_far = search (rules, more);
       in_range = All-set (λ (r : Row). IsCoefficient r.coef) ys i _ (search rules) c.loop-row.invariant.in_range;
     }
+
+pub loop-row-init : goal.loop-row-init
+loop-row-init c =
+    let first : c.deref_mut-row-items.result.now ≡ c.args.rows = search rules in
+    record { so_far = first; in_range = subst (All (λ (r : Row). IsCoefficient r.coef)) (sym first) c.requires }

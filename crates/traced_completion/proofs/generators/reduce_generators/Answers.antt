@@ -1,4 +1,5 @@
-use Rattle.std.proofs.Common.{rules, ◌≡◌, ◌+◌, ◌∷◌, length, map, drop, Ok, sym, subst, arith}
+use Rattle.std.proofs.Common.{rules, ◌≡◌, ◌+◌, ◌∷◌, length, map, take, drop, Ok, refl, sym, ap, ◌∙◌, subst, arith}
+use Rattle.std.proofs.lemmas.List.{take_all}
 use Rattle.std.specs.List.{All}
 use Rattle.adjoint_rules.specs.Problem.{polynomials}
 use Rattle.traced_completion.specs.Results.{Explains}
@@ -26,7 +27,7 @@ returns-in-Err-clause-fault g c =
     let work = generator_work compare c.args.steps ps in
     let before : Recorded = record { rules = c.loop-turn.rules.rules; made = c.loop-turn.made } in
     let next : drop c.loop-turn.turn turns ≡ number ∷ drop (c.loop-turn.turn + 1) turns = turns_left c.args.units (length c.args.generators.now) c.loop-turn.turn number c.requires.units (search rules) (search rules) in
-    let fault : Explains (generator_work (g.O.WordOrder.compare c.loop-turn.rules.order) c.args.steps ps number before.rules) e = search rules in
+    let fault : Explains (generator_work (g.O.WordOrder.compare c.loop-turn.rules.order) c.args.steps ps number before.rules) e = c.in-Err.ensures.fault in
     let why : Explains (work number before.rules) e = subst (λ o. Explains (generator_work (g.O.WordOrder.compare o) c.args.steps ps number before.rules) e) same fault in
     let ends = ends_with compare (work number) (map work (drop (c.loop-turn.turn + 1) turns)) before e why in
     ends_weaker (InTurn compare (work number ∷ map work (drop (c.loop-turn.turn + 1) turns)) before) (InTurn compare (map work turns) (record { rules = c.args.rules.now.rules; made = c.args.made.now }))
@@ -43,12 +44,12 @@ loop-turn-preserved g c =
     let before : Recorded = record { rules = c.loop-turn.rules.rules; made = c.loop-turn.made } in
     let after : Recorded = record { rules = c.reduce_generator.new.rules.rules; made = c.reduce_generator.new.made } in
     let next : drop c.loop-turn.turn turns ≡ number ∷ drop (c.loop-turn.turn + 1) turns = turns_left c.args.units (length c.args.generators.now) c.loop-turn.turn number c.requires.units (search rules) (search rules) in
-    let exact : Does (g.O.WordOrder.compare c.loop-turn.rules.order) (generator_work (g.O.WordOrder.compare c.loop-turn.rules.order) c.args.steps ps number before.rules) before after = search rules in
+    let exact : Does (g.O.WordOrder.compare c.loop-turn.rules.order) (generator_work (g.O.WordOrder.compare c.loop-turn.rules.order) c.args.steps ps number before.rules) before after = c.in-Ok.ensures.exact in
     let does : Does compare (work number before.rules) before after = subst (λ o. Does (g.O.WordOrder.compare o) (generator_work (g.O.WordOrder.compare o) c.args.steps ps number before.rules) before after) same exact in
     let grows = does_grows compare (work number before.rules) before after does in
     record {
-      order = search rules;
-      records = search rules;
+      order = c.reduce_generator.ensures.order ∙ same;
+      records = c.in-Ok.ensures.records;
       most = omega (arith, grows.most, c.loop-turn.invariant.most);
       rules_front = grows.rules_front c.args.rules.now.rules c.loop-turn.invariant.rules_front;
       made_front = grows.made_front c.args.made.now c.loop-turn.invariant.made_front;
@@ -65,3 +66,35 @@ returns-clause-exact g c =
     let before : Recorded = record { rules = c.loop-turn.rules.rules; made = c.loop-turn.made } in
     let none = no_turns_left c.args.units (length c.args.generators.now) c.loop-turn.turn c.requires.units (search rules) in
     c.loop-turn.invariant.goes_on (Ok before) (subst (λ ns. InTurn compare (map work ns) before (Ok before)) (sym none) (λ _. Ok before))
+
+pub loop-turn-init : goal.loop-turn-init
+loop-turn-init g c =
+    record {
+      order = refl;
+      records = c.requires.records;
+      most = omega arith;
+      rules_front = take_all _ c.args.rules.now.rules (omega arith);
+      made_front = take_all _ c.args.made.now (omega arith);
+      goes_on = λ result turns. turns;
+    }
+
+pub returns-clause-order : goal.returns-clause-order
+returns-clause-order g c = c.loop-turn.invariant.order
+
+pub returns-clause-records : goal.returns-clause-records
+returns-clause-records g c = c.loop-turn.invariant.records
+
+pub returns-clause-rules_front : goal.returns-clause-rules_front
+returns-clause-rules_front g c = c.loop-turn.invariant.rules_front
+
+pub returns-clause-made_front : goal.returns-clause-made_front
+returns-clause-made_front g c = c.loop-turn.invariant.made_front
+
+pub returns-in-Err-clause-order : goal.returns-in-Err-clause-order
+returns-in-Err-clause-order g c = c.reduce_generator.ensures.order ∙ c.loop-turn.invariant.order
+
+pub returns-in-Err-clause-rules_front : goal.returns-in-Err-clause-rules_front
+returns-in-Err-clause-rules_front g c = ap (take (length c.args.rules.now.rules)) c.in-Err.ensures.rules_back ∙ c.loop-turn.invariant.rules_front
+
+pub returns-in-Err-clause-made_front : goal.returns-in-Err-clause-made_front
+returns-in-Err-clause-made_front g c = ap (take (length c.args.made.now)) c.in-Err.ensures.made_back ∙ c.loop-turn.invariant.made_front

@@ -1,4 +1,4 @@
-use Rattle.std.proofs.Common.{rules, ◌≡◌, length, map, Ok, Err, sym, ap, subst, arith}
+use Rattle.std.proofs.Common.{rules, ◌≡◌, length, map, Ok, Err, sym, subst, arith}
 use Rattle.std.specs.List.{All}
 use Rattle.word_core.specs.Letters.{IsOver}
 use Rattle.word_orders.specs.Specified.{made_cmp, letters_of}

@@ -1,4 +1,4 @@
-use Rattle.std.proofs.Common.{rules, ◌≡◌, length, drop, sym, subst}
+use Rattle.std.proofs.Common.{rules, ◌≡◌, length, drop, Err, sym, subst}
 use Rattle.std.specs.List.{All}
 use Rattle.std.specs.List.Sorted.{IsPermutation, IsSorted}
 use Rattle.std.proofs.lemmas.List.Elements.{All-drop}
@@ -23,7 +23,7 @@ returns-then-len-count-clause-ok g c =
 pub returns-then-len-count-clause-over : goal.returns-then-len-count-clause-over
 returns-then-len-count-clause-over g c =
     let letters = g.O.WordOrder.letters c.args.rules.now.order in
-    let over : All (λ (w : Waiting). IsOver letters w.word) c.push_new.new.items.items = search rules in
+    let over : All (λ (w : Waiting). IsOver letters w.word) c.push_new.new.items.items = c.in_ok-push_new.ensures.over in
     subst (All (λ (w : Waiting). IsOver letters w.word)) (sym c.drop_first.ensures) (All-drop (λ (w : Waiting). IsOver letters w.word) c.args.taken c.push_new.new.items.items over)
 
 pub returns-clause-ok : goal.returns-clause-ok
@@ -32,14 +32,34 @@ returns-clause-ok g c =
     let by = g.O.WordOrder.compare order in
     let laws = g.met.O.WordOrder.admissible order in
     let extends : IsExtended c.args.rules.now.rules c.args.known c.args.self.now c.push_new.new.items.items = search rules in
-    let moved : IsPermutation (drop c.args.taken c.push_new.new.items.items) c.in_ok-self-inside.field-0.items = search rules in
-    let sorted : IsSorted (waiting_cmp by) c.in_ok-self-inside.field-0.items = search rules in
+    let moved : IsPermutation (drop c.args.taken c.push_new.new.items.items) c.in_ok-self-inside.field-0.items = c.in_ok-self-inside.ensures.permutation in
+    let sorted : IsSorted (waiting_cmp by) c.in_ok-self-inside.field-0.items = c.in_ok-self-inside.ensures.sorted in
     next-store by laws.total laws.same c.args.rules.now.rules c.args.known c.args.taken c.args.self.now c.push_new.new.items.items c.in_ok-self-inside.field-0.items c.requires.taken extends moved sorted
 
 pub returns-clause-over : goal.returns-clause-over
 returns-clause-over g c =
     let letters = g.O.WordOrder.letters c.args.rules.now.order in
-    let over : All (λ (w : Waiting). IsOver letters w.word) c.push_new.new.items.items = search rules in
-    let moved : IsPermutation (drop c.args.taken c.push_new.new.items.items) c.in_ok-self-inside.field-0.items = search rules in
+    let over : All (λ (w : Waiting). IsOver letters w.word) c.push_new.new.items.items = c.in_ok-push_new.ensures.over in
+    let moved : IsPermutation (drop c.args.taken c.push_new.new.items.items) c.in_ok-self-inside.field-0.items = c.in_ok-self-inside.ensures.permutation in
     All-permutation (λ (w : Waiting). IsOver letters w.word) (drop c.args.taken c.push_new.new.items.items) c.in_ok-self-inside.field-0.items moved
     (All-drop (λ (w : Waiting). IsOver letters w.word) c.args.taken c.push_new.new.items.items over)
+
+pub returns-in_err-push_new-clause-ok : goal.returns-in_err-push_new-clause-ok
+returns-in_err-push_new-clause-ok g c =
+    let back : c.from_residual.result ≡ Err c.in_err-push_new.field-0.0 = search rules in
+    rw back tt
+
+pub returns-in_err-push_new-clause-over : goal.returns-in_err-push_new-clause-over
+returns-in_err-push_new-clause-over g c =
+    let back : c.from_residual.result ≡ Err c.in_err-push_new.field-0.0 = search rules in
+    rw back tt
+
+pub returns-in_err-self-inside-clause-ok : goal.returns-in_err-self-inside-clause-ok
+returns-in_err-self-inside-clause-ok g c =
+    let back : c.from_residual-in_err-self-inside.result ≡ Err c.in_err-self-inside.field-0.0 = search rules in
+    rw back tt
+
+pub returns-in_err-self-inside-clause-over : goal.returns-in_err-self-inside-clause-over
+returns-in_err-self-inside-clause-over g c =
+    let back : c.from_residual-in_err-self-inside.result ≡ Err c.in_err-self-inside.field-0.0 = search rules in
+    rw back tt
