@@ -51,12 +51,6 @@ pub record Compares (m : BTreeMap (List ℕ) ℤ) (d : ℤ) (claim rest : List (
   pub passed : List (ℤ × List ℕ)
   pub splits : claim ≡ rest ++ passed
 
--- the same of equal things
-pub compares_same : {m : BTreeMap (List ℕ) ℤ} {d e : ℤ} {claim rest left : List (ℤ × List ℕ)} {entries later : List (List ℕ × ℤ)}
-    → d ≡ e → rest ≡ left → entries ≡ later → Compares m d claim rest entries → Compares m e claim left later
-compares_same {m = m} {d = d} {claim = claim} {left = left} {entries = entries} {later = later} d_is rest_is entries_is compares =
-    subst (λ z. Compares m z claim left later) d_is (subst (λ x. Compares m d claim left x) entries_is (subst (λ x. Compares m d claim x entries) rest_is compares))
-
 -- the multiple of the claim
 abbrev wanted : ℤ → List (ℤ × List ℕ) → List ℕ → ℤ
 wanted d claim w = d *ℤ coefficient_of claim w
