@@ -1,8 +1,9 @@
 -- the first overflow of some operations, one operation on
-use Rattle.std.proofs.Common.{◌≡◌, ◌^◌, ℕ, ℤ, ◌*ℤ◌, All, List, [], ◌∷◌, Bool, true, false, cond, Option, Some, None, refl, arith}
+use Rattle.std.proofs.Common.{◌≡◌, ◌^◌, ℕ, ◌+◌, ◌<◌, ◌≤◌, ℤ, ◌*ℤ◌, All, List, [], ◌∷◌, length, drop, get_or, Bool, true, false, cond, Option, Some, None, refl, sym, ap, ◌∙◌, arith}
 use Rattle.std.specs.Int.RustNames.{unsigned_abs}
 use Rattle.std.specs.List.{AllByRecursion}
 use Rattle.std.proofs.lemmas.Bool.Decides.{nat_tests}
+use Rattle.std.proofs.lemmas.List.{at_drop_more, at_drop_all}
 use Rattle.std.proofs.lemmas.List.Elements.{All-from_recursion}
 use borrow.Author.Tests.{ltb-true}
 use Rattle.coef_int.specs.declared.Overflow.{Overflow}
@@ -43,3 +44,22 @@ products_fit d p none = All-from_recursion (λ t. IsCoefficient (d *ℤ t.0)) p 
     go (t ∷ p) none =
         let parts = one (is_coefficient (d *ℤ t.0)) (product_of d t.0) (first_overflow (products d p)) none in
         (ltb-true (unsigned_abs (d *ℤ t.0)) (2 ^ 127) parts.0, go p parts.1)
+
+-- The products before the place i of a polynomial fit.
+module _ (d : ℤ) (p : List (ℤ × List ℕ)) (i : ℕ) (so_far : first_overflow (products d (drop i p)) ≡ first_overflow (products d p)) where
+  -- none is left
+  pub all_fit : length p ≤ i → first_overflow (products d p) ≡ None
+  all_fit all = sym so_far ∙ at_drop_all (λ x. first_overflow (products d x)) p i all
+
+  -- the term is next
+  module _ (t : ℤ × List ℕ) (below : i < length p) (is : t ≡ get_or p i t) where
+    from_term : first_overflow (products d p) ≡ first_overflow (product_of d t.0 ∷ products d (drop (i + 1) p))
+    from_term =
+        sym so_far ∙ at_drop_more (λ x. first_overflow (products d x)) p i t below
+        ∙ sym (ap (λ x. first_overflow (products d (x ∷ drop (i + 1) p))) is)
+
+    pub term_fits : IsCoefficient (d *ℤ t.0) → first_overflow (products d (drop (i + 1) p)) ≡ first_overflow (products d p)
+    term_fits fits = sym (from_term ∙ first-fits (product_of d t.0) (products d (drop (i + 1) p)) fits)
+
+    pub term_fails : ¬ IsCoefficient (d *ℤ t.0) → first_overflow (products d p) ≡ Some (product_of d t.0)
+    term_fails fails = from_term ∙ first-fails (product_of d t.0) (products d (drop (i + 1) p)) fails

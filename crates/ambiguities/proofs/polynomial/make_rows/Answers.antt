@@ -1,7 +1,10 @@
-use Rattle.std.proofs.Common.{rules, ◌≡◌, ◌+◌, ◌-◌, neg_ℤ, int_div, length, take, drop, Some, sym, ap₂, ◌∙◌, arith}
+use Rattle.std.proofs.Common.{rules, ◌≡◌, ◌+◌, ◌-◌, ℤ, pos, neg_ℤ, ◌<ℤ◌, int_div, subst, to_z, of_z, length, take, drop, Some, sym, ap₂, ◌∙◌, arith}
 use Rattle.std.proofs.lemmas.List.{take_rest}
 use Rattle.cofactor_trace.specs.declared.Origin.TheVariants as origin
 use Rattle.cofactor_trace.specs.declared.Row.{Row}
+use mir.Syntax.{w128}
+use Rattle.coef_int.specs.Range.{IsCoefficient}
+use Rattle.rule_reduce.proofs.Numbers.{rule_at-all}
 use Rattle.coef_int.specs.Divisor.{gcd_of}
 use Rattle.rule_reduce.specs.RuleLists.{rule_at}
 use Rattle.ambiguities.specs.Ambiguities.{overlap_word_of}
@@ -9,25 +12,60 @@ use Rattle.ambiguities.specs.SPolynomials.{first_row, second_row}
 use Rattle.ambiguities.proofs.Joined.{lead_at-is, leading_at-is, first_fits, second_fits}
 use Rattle.ambiguities.proofs.polynomial.make_rows.Goals as goal
 
+-- a coefficient is read back
+read_back : (z : ℤ) → IsCoefficient z → to_z w128 (of_z w128 z) ≡ z
+read_back z fits = search rules
+
+pub factors-of_first-requires-clause-first_in : goal.factors-of_first-requires-clause-first_in
+factors-of_first-requires-clause-first_in c =
+    let all = c.args.rules.now in
+    let g = c.rule_with-first.result.now in
+    let fits = rule_at-all (λ r. IsCoefficient r.leading) all c.args.which.now.i g c.rule_with-first.ensures c.requires.leading_in in
+    subst IsCoefficient (sym (read_back g.leading fits)) fits
+
+pub factors-of_first-requires-clause-second_in : goal.factors-of_first-requires-clause-second_in
+factors-of_first-requires-clause-second_in c =
+    let all = c.args.rules.now in
+    let h = c.rule_with-second.result.now in
+    let fits = rule_at-all (λ r. IsCoefficient r.leading) all c.args.which.now.j h c.rule_with-second.ensures c.requires.leading_in in
+    subst IsCoefficient (sym (read_back h.leading fits)) fits
+
+pub factors-of_first-requires-clause-positive : goal.factors-of_first-requires-clause-positive
+factors-of_first-requires-clause-positive c =
+    let all = c.args.rules.now in
+    let h = c.rule_with-second.result.now in
+    let fits = rule_at-all (λ r. IsCoefficient r.leading) all c.args.which.now.j h c.rule_with-second.ensures c.requires.leading_in in
+    subst (λ z. pos 0 <ℤ z) (sym (read_back h.leading fits)) (rule_at-all (λ r. pos 0 <ℤ r.leading) all c.args.which.now.j h c.rule_with-second.ensures c.requires.positive)
+
 pub slice-requires-clause-order : goal.slice-requires-clause-order
 slice-requires-clause-order c =
     let first = c.rule_with-first.result.now in
-    omega (arith, first_fits c.args.rules.now c.args.which.now c.requires.ambiguity first (search rules) c.in_ok-word.word (search rules))
+    omega (arith, first_fits c.args.rules.now c.args.which.now c.requires.ambiguity first c.rule_with-first.ensures c.in_ok-word.word c.in_ok-word.ensures)
 
 pub row_around-requires-clause-before : goal.row_around-requires-clause-before
 row_around-requires-clause-before c =
     let second = c.rule_with-second.result.now in
-    omega (arith, second_fits c.args.rules.now c.args.which.now c.requires.ambiguity second (search rules) c.in_ok-word.word (search rules))
+    omega (arith, second_fits c.args.rules.now c.args.which.now c.requires.ambiguity second c.rule_with-second.ensures c.in_ok-word.word c.in_ok-word.ensures)
 
 pub overflow_add-end : goal.overflow_add-end
 overflow_add-end c =
     let second = c.rule_with-second.result.now in
-    omega (arith, second_fits c.args.rules.now c.args.which.now c.requires.ambiguity second (search rules) c.in_ok-word.word (search rules))
+    omega (arith, second_fits c.args.rules.now c.args.which.now c.requires.ambiguity second c.rule_with-second.ensures c.in_ok-word.word c.in_ok-word.ensures)
 
 pub row_around-requires-clause-behind : goal.row_around-requires-clause-behind
 row_around-requires-clause-behind c =
     let second = c.rule_with-second.result.now in
-    omega (arith, second_fits c.args.rules.now c.args.which.now c.requires.ambiguity second (search rules) c.in_ok-word.word (search rules))
+    omega (arith, second_fits c.args.rules.now c.args.which.now c.requires.ambiguity second c.rule_with-second.ensures c.in_ok-word.word c.in_ok-word.ensures)
+
+pub returns-clause-first_in : goal.returns-clause-first_in
+returns-clause-first_in c =
+    let fits = c.factors-of_first.ensures.first_in in
+    subst IsCoefficient (sym (read_back c.factors-of_first.result.0 fits)) fits
+
+pub returns-clause-second_in : goal.returns-clause-second_in
+returns-clause-second_in c =
+    let is : c.in_ok-right.right.coef ≡ c.negate.result = search rules in
+    subst IsCoefficient (sym is) c.negate.ensures.in_range
 
 pub returns-clause-first : goal.returns-clause-first
 returns-clause-first c =
@@ -35,9 +73,9 @@ returns-clause-first c =
     let a = c.args.which.now in
     let g = c.rule_with-first.result.now in
     let h = c.rule_with-second.result.now in
-    let first : rule_at all a.i ≡ Some g = search rules in
-    let second : rule_at all a.j ≡ Some h = search rules in
-    let word : c.in_ok-word.word ≡ overlap_word_of all a = search rules in
+    let first : rule_at all a.i ≡ Some g = c.rule_with-first.ensures in
+    let second : rule_at all a.j ≡ Some h = c.rule_with-second.ensures in
+    let word : c.in_ok-word.word ≡ overlap_word_of all a = c.in_ok-word.ensures in
     let factor : c.factors-of_first.result.0 ≡ int_div h.leading (gcd_of g.leading h.leading) = search rules in
     let behind : c.in_ok-slice.field-0 ≡ take (length c.in_ok-word.word - length g.lead) (drop (length g.lead) c.in_ok-word.word) = search rules in
     let coef = factor ∙ ap₂ (λ k l. int_div l (gcd_of k l)) (sym (leading_at-is all a.i g first)) (sym (leading_at-is all a.j h second)) in
@@ -53,9 +91,9 @@ returns-clause-second c =
     let g = c.rule_with-first.result.now in
     let h = c.rule_with-second.result.now in
     let w = c.in_ok-word.word in
-    let first : rule_at all a.i ≡ Some g = search rules in
-    let second : rule_at all a.j ≡ Some h = search rules in
-    let word : w ≡ overlap_word_of all a = search rules in
+    let first : rule_at all a.i ≡ Some g = c.rule_with-first.ensures in
+    let second : rule_at all a.j ≡ Some h = c.rule_with-second.ensures in
+    let word : w ≡ overlap_word_of all a = c.in_ok-word.ensures in
     let factor : c.negate.result ≡ neg_ℤ (int_div g.leading (gcd_of g.leading h.leading)) = search rules in
     let coef = factor ∙ ap₂ (λ k l. neg_ℤ (int_div k (gcd_of k l))) (sym (leading_at-is all a.i g first)) (sym (leading_at-is all a.j h second)) in
     let lead = sym (lead_at-is all a.j h second) in

@@ -6,13 +6,29 @@ use Rattle.nc_polynomial.specs.Faults.{checked, Explains}
 use Rattle.rule_reduce.specs.Steps.{move_row, move_of, move_result, multiplied_state, state_operations, IsInRange}
 use Rattle.rule_reduce.proofs.Exits.{less, exit_multiplied, exit_subtracted, step_ends, memory-explains}
 use Rattle.rule_reduce.proofs.stepping.take_away.Goals as goal
+use Rattle.rule_reduce.proofs.stepping.take_away.Goals.{In_ok-row, In_ok-next}
+
+-- the factors are those of the move
+by_is : (c : In_ok-row) → c.quotient-by.result ≡ (move_of c.args.choice.now c.args.rule.now).by
+by_is c = search rules
+
+times_is : (c : In_ok-row) → c.quotient-times.result ≡ (move_of c.args.choice.now c.args.rule.now).times
+times_is c = search rules
+
+-- and so is the row
+made_row_is : (c : In_ok-row) → c.in_ok-row.row ≡ record (move_row (move_of c.args.choice.now c.args.rule.now)) { coef = c.quotient-times.result }
+made_row_is c = search rules
+
+-- the state is multiplied
+multiplied_is : (c : In_ok-next) → checked (state_operations c.quotient-by.result c.args.state) (multiplied_state c.quotient-by.result c.args.state) ≡ Ok c.in_ok-next.next
+multiplied_is c = search rules
 
 pub returns-in_err-next-clause-exact : goal.returns-in_err-next-clause-exact
 returns-in_err-next-clause-exact c =
     let g = c.args.rule.now in
     let m = move_of c.args.choice.now g in
     let s = c.args.state in
-    let by : c.quotient-by.result ≡ m.by = search rules in
+    let by : c.quotient-by.result ≡ m.by = by_is (goal.at.returns-in_err-next-clause-exact c).In_ok-row in
     let e = c.in_err-next.field-0.0 in
     let made : Explains (checked (state_operations c.quotient-by.result s) (multiplied_state c.quotient-by.result s)) e = search rules in
     let why = subst (λ k. Explains (checked (state_operations k s) (multiplied_state k s)) e) by made in
@@ -26,11 +42,11 @@ returns-in_err-next-2-clause-exact c =
     let m = move_of choice g in
     let s = c.args.state in
     let t = c.in_ok-next.next in
-    let by : c.quotient-by.result ≡ m.by = search rules in
-    let made : checked (state_operations c.quotient-by.result s) (multiplied_state c.quotient-by.result s) ≡ Ok t = search rules in
+    let by : c.quotient-by.result ≡ m.by = by_is (goal.at.returns-in_err-next-2-clause-exact c).In_ok-row in
+    let made : checked (state_operations c.quotient-by.result s) (multiplied_state c.quotient-by.result s) ≡ Ok t = multiplied_is (goal.at.returns-in_err-next-2-clause-exact c).In_ok-next in
     let all = subst (λ k. checked (state_operations k s) (multiplied_state k s) ≡ Ok t) by made in
-    let times : c.quotient-times.result ≡ m.times = search rules in
-    let made_row : c.in_ok-row.row ≡ record (move_row m) { coef = c.quotient-times.result } = search rules in
+    let times : c.quotient-times.result ≡ m.times = times_is (goal.at.returns-in_err-next-2-clause-exact c).In_ok-row in
+    let made_row : c.in_ok-row.row ≡ record (move_row m) { coef = c.quotient-times.result } = made_row_is (goal.at.returns-in_err-next-2-clause-exact c).In_ok-row in
     let left : c.in_ok-row.row.left ≡ m.left = ap (λ (r : Row). r.left) made_row in
     let right : c.in_ok-row.row.right ≡ m.right = ap (λ (r : Row). r.right) made_row in
     let e = c.in_err-next-2.field-0.0 in
@@ -61,11 +77,11 @@ returns-clause-exact c =
     let m = move_of choice g in
     let s = c.args.state in
     let t = c.in_ok-next.next in
-    let by : c.quotient-by.result ≡ m.by = search rules in
-    let made : checked (state_operations c.quotient-by.result s) (multiplied_state c.quotient-by.result s) ≡ Ok t = search rules in
+    let by : c.quotient-by.result ≡ m.by = by_is (goal.at.returns-clause-exact c).In_ok-row in
+    let made : checked (state_operations c.quotient-by.result s) (multiplied_state c.quotient-by.result s) ≡ Ok t = multiplied_is (goal.at.returns-clause-exact c).In_ok-next in
     let all = subst (λ k. checked (state_operations k s) (multiplied_state k s) ≡ Ok t) by made in
-    let times : c.quotient-times.result ≡ m.times = search rules in
-    let made_row : c.in_ok-row.row ≡ record (move_row m) { coef = c.quotient-times.result } = search rules in
+    let times : c.quotient-times.result ≡ m.times = times_is (goal.at.returns-clause-exact c).In_ok-row in
+    let made_row : c.in_ok-row.row ≡ record (move_row m) { coef = c.quotient-times.result } = made_row_is (goal.at.returns-clause-exact c).In_ok-row in
     let left : c.in_ok-row.row.left ≡ m.left = ap (λ (r : Row). r.left) made_row in
     let right : c.in_ok-row.row.right ≡ m.right = ap (λ (r : Row). r.right) made_row in
     let p = c.in_ok-next-2.field-0.terms in

@@ -1,5 +1,6 @@
-use Rattle.std.proofs.Common.{rules, ◌≡◌, ℕ, Option, ◌<◌, ◌≤◌, ◌+◌, ◌-◌, suc, length, zero, List, Some, None, Ok, Err, Result, IfSome, arith, refl, sym, ap, ◌∙◌, subst}
+use Rattle.std.proofs.Common.{rules, ◌≡◌, ℕ, Option, pos, ◌<ℤ◌, ◌<◌, ◌≤◌, ◌+◌, ◌-◌, suc, length, zero, List, Some, None, Ok, Err, Result, IfSome, arith, refl, sym, ap, ◌∙◌, subst}
 use Rattle.std.specs.List.{All}
+use Rattle.coef_int.specs.Range.{IsCoefficient}
 use Rattle.definitions.specs.Poly.{Term}
 use Rattle.word_core.specs.Letters.{IsOver}
 use Rattle.word_orders.specs.Admissible.{Compare}
@@ -30,6 +31,47 @@ after_round runs s next left now later whole fewer more goes same = ap (λ n. ru
 -- where the last round ends, the result ends
 ends_as : {A : Type 0} (runs : ℕ → A) (now n : ℕ) (whole end : A) → now ≡ n → runs n ≡ end → runs now ≡ whole → whole ≡ end
 ends_as runs now n whole end at is same = sym same ∙ ap runs at ∙ is
+
+pub loop-init : goal.loop-init
+loop-init g c =
+    let compare = g.O.WordOrder.compare c.args.self.now.order in
+    let limit = c.args.steps in
+    let whole : limit - 0 ≡ limit = omega arith in
+    record {
+      within = omega arith;
+      used = omega (arith, c.requires.unused);
+      in_range = c.requires.in_range;
+      over = c.requires.over;
+      last_over = tt;
+      settled = tt;
+      same = ap (λ n. reduction limit compare c.args.self.now.rules n c.args.start) whole;
+    }
+
+pub take_step-requires-clause-leading_in : goal.take_step-requires-clause-leading_in
+take_step-requires-clause-leading_in g c =
+    subst (All (λ (f : Rule). IsCoefficient f.leading)) (sym c.as_slice.ensures) (λ k d inside. (c.args.self.now.each k d inside).in_range)
+
+pub take_step-requires-clause-positive : goal.take_step-requires-clause-positive
+take_step-requires-clause-positive g c =
+    subst (All (λ (f : Rule). pos 0 <ℤ f.leading)) (sym c.as_slice.ensures) (λ k d inside. (c.args.self.now.each k d inside).positive)
+
+pub choose-requires-clause-terms_in : goal.choose-requires-clause-terms_in
+choose-requires-clause-terms_in g c = subst (All (λ (t : Term). IsCoefficient t.0)) (sym c.as_slice-terms.ensures) c.loop.invariant.in_range.rest.shaped.in_range
+
+pub choose-requires-clause-over : goal.choose-requires-clause-over
+choose-requires-clause-over g c = subst (All (λ (t : Term). IsOver (g.O.WordOrder.letters c.args.self.now.order) t.1)) (sym c.as_slice-terms.ensures) c.loop.invariant.over
+
+pub choose-requires-clause-last_over : goal.choose-requires-clause-last_over
+choose-requires-clause-last_over g c = if_borrowed (IsOver (g.O.WordOrder.letters c.args.self.now.order)) c.as_ref.result c.loop.last c.as_ref.ensures.value c.loop.invariant.last_over
+
+pub choose-requires-2-clause-terms_in : goal.choose-requires-2-clause-terms_in
+choose-requires-2-clause-terms_in g c = subst (All (λ (t : Term). IsCoefficient t.0)) (sym c.as_slice-2.ensures) c.loop.invariant.in_range.rest.shaped.in_range
+
+pub choose-requires-2-clause-over : goal.choose-requires-2-clause-over
+choose-requires-2-clause-over g c = subst (All (λ (t : Term). IsOver (g.O.WordOrder.letters c.args.self.now.order) t.1)) (sym c.as_slice-2.ensures) c.loop.invariant.over
+
+pub choose-requires-2-clause-last_over : goal.choose-requires-2-clause-last_over
+choose-requires-2-clause-last_over g c = if_borrowed (IsOver (g.O.WordOrder.letters c.args.self.now.order)) c.as_ref-2.result c.loop.last c.as_ref-2.ensures.value c.loop.invariant.last_over
 
 pub returns-in-Err-clause-exact : goal.returns-in-Err-clause-exact
 returns-in-Err-clause-exact g c =

@@ -1,0 +1,25 @@
+use Rattle.std.proofs.Common.{◌≡◌, ℕ, List, Option, Some, None, sym, refl, ap, ◌∙◌}
+use Rattle.std.specs.declared.cmp.Ordering.{Ordering}
+use Rattle.std.specs.declared.cmp.Ordering.TheVariants.{Less, Equal, Greater}
+use Rattle.definitions.specs.Poly.{Term}
+use Rattle.nc_polynomial.specs.Terms.{by_order}
+use Rattle.rule_index.specs.Matches.{match_of}
+use Rattle.word_orders.specs.Admissible.{Compare}
+use Rattle.rule_reduce.specs.declared.state.Choice.{Choice}
+use Rattle.rule_reduce.specs.Choices.{better_choice, choice_or}
+use Rattle.rule_reduce.proofs.choosing.improve.Goals as goal
+
+-- a term in whose word nothing occurs changes no choice
+choice_stays : (compare : Compare) (entries : List (List ℕ × ℕ)) (best : Option Choice) (t : Term) → match_of entries t.1 ≡ None → best ≡ better_choice compare entries best t
+choice_stays compare entries None t none = ap (λ m. choice_or t m None) (sym none)
+choice_stays compare entries (Some best) t none =
+    sym (ap (λ m. by_order (compare t.1 best.word) (Some best) (Some best) (choice_or t m (Some best))) none ∙ any_order (compare t.1 best.word))
+  where
+    any_order : (o : Ordering) → by_order o (Some best) (Some best) (Some best) ≡ Some best
+    any_order Less = refl
+    any_order Equal = refl
+    any_order Greater = refl
+
+pub returns-in-None-clause-exact : goal.returns-in-None-clause-exact
+returns-in-None-clause-exact g c =
+    choice_stays (g.O.WordOrder.compare c.args.order.now) c.args.index.now c.args.best (c.args.coefficient, c.args.word.now) (sym c.first_match.ensures ∙ c.in-None.is)
