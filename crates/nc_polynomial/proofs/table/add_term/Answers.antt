@@ -17,15 +17,13 @@ returns-in-Vacant-clause-added c =
 
 pub returns-then-total-eq0-clause-running : goal.returns-then-total-eq0-clause-running
 returns-then-total-eq0-clause-running c =
-    let removed = c.remove.ensures.removed in
-    running_from_update c.args.table.now _ c.args.word None (search (rules, removed)) c.requires.running (λ same. (cc)) (search rules)
+    running_from_update c.args.table.now _ c.args.word None (search rules) c.requires.running (λ same. (cc)) (search rules)
 
 pub returns-then-total-eq0-clause-added : goal.returns-then-total-eq0-clause-added
 returns-then-total-eq0-clause-added c =
     let total : c.in_ok-total-in-Occupied.total ≡ coefficient_in c.args.table.now c.args.word +ℤ c.args.coefficient = search rules in
-    let removed = c.remove.ensures.removed in
     let zero : pos 0 ≡ c.in_ok-total-in-Occupied.total = search rules in
-    adds_from_update c.args.table.now _ c.args.word None (search (rules, removed)) c.args.coefficient (zero ∙ total)
+    adds_from_update c.args.table.now _ c.args.word None (search rules) c.args.coefficient (zero ∙ total)
 
 pub returns-else-total-eq0-clause-running : goal.returns-else-total-eq0-clause-running
 returns-else-total-eq0-clause-running c =
