@@ -1,41 +1,37 @@
-use Rattle.std.proofs.Common.{rules, ◌≡◌, ◌+◌, ◌-◌, ℤ, pos, neg_ℤ, ◌<ℤ◌, int_div, subst, to_z, of_z, length, take, drop, Some, sym, ap₂, ◌∙◌, arith}
+use Rattle.std.proofs.Common.{rules, ◌≡◌, ◌+◌, ◌-◌, pos, neg_ℤ, ◌<ℤ◌, int_div, subst, length, take, drop, Some, sym, ap₂, ◌∙◌, arith}
 use Rattle.std.proofs.lemmas.List.{take_rest}
 use Rattle.cofactor_trace.specs.declared.Origin.TheVariants as origin
 use Rattle.cofactor_trace.specs.declared.Row.{Row}
-use mir.Syntax.{w128}
 use Rattle.coef_int.specs.Range.{IsCoefficient}
 use Rattle.rule_reduce.proofs.Numbers.{rule_at-all}
 use Rattle.coef_int.specs.Divisor.{gcd_of}
+use Rattle.cofactor_trace.proofs.Numbers.{same_number}
 use Rattle.rule_reduce.specs.RuleLists.{rule_at}
 use Rattle.ambiguities.specs.Ambiguities.{overlap_word_of}
 use Rattle.ambiguities.specs.SPolynomials.{first_row, second_row}
 use Rattle.ambiguities.proofs.Joined.{lead_at-is, leading_at-is, first_fits, second_fits}
 use Rattle.ambiguities.proofs.polynomial.make_rows.Goals as goal
 
--- a coefficient is read back
-read_back : (z : ℤ) → IsCoefficient z → to_z w128 (of_z w128 z) ≡ z
-read_back z fits = search rules
-
 pub factors-of_first-requires-clause-first_in : goal.factors-of_first-requires-clause-first_in
 factors-of_first-requires-clause-first_in c =
     let all = c.args.rules.now in
     let g = c.rule_with-first.result.now in
     let fits = rule_at-all (λ r. IsCoefficient r.leading) all c.args.which.now.i g c.rule_with-first.ensures c.requires.leading_in in
-    subst IsCoefficient (sym (read_back g.leading fits)) fits
+    subst IsCoefficient (sym (same_number g.leading fits)) fits
 
 pub factors-of_first-requires-clause-second_in : goal.factors-of_first-requires-clause-second_in
 factors-of_first-requires-clause-second_in c =
     let all = c.args.rules.now in
     let h = c.rule_with-second.result.now in
     let fits = rule_at-all (λ r. IsCoefficient r.leading) all c.args.which.now.j h c.rule_with-second.ensures c.requires.leading_in in
-    subst IsCoefficient (sym (read_back h.leading fits)) fits
+    subst IsCoefficient (sym (same_number h.leading fits)) fits
 
 pub factors-of_first-requires-clause-positive : goal.factors-of_first-requires-clause-positive
 factors-of_first-requires-clause-positive c =
     let all = c.args.rules.now in
     let h = c.rule_with-second.result.now in
     let fits = rule_at-all (λ r. IsCoefficient r.leading) all c.args.which.now.j h c.rule_with-second.ensures c.requires.leading_in in
-    subst (λ z. pos 0 <ℤ z) (sym (read_back h.leading fits)) (rule_at-all (λ r. pos 0 <ℤ r.leading) all c.args.which.now.j h c.rule_with-second.ensures c.requires.positive)
+    subst (λ z. pos 0 <ℤ z) (sym (same_number h.leading fits)) (rule_at-all (λ r. pos 0 <ℤ r.leading) all c.args.which.now.j h c.rule_with-second.ensures c.requires.positive)
 
 pub slice-requires-clause-order : goal.slice-requires-clause-order
 slice-requires-clause-order c =
@@ -60,7 +56,7 @@ row_around-requires-clause-behind c =
 pub returns-clause-first_in : goal.returns-clause-first_in
 returns-clause-first_in c =
     let fits = c.factors-of_first.ensures.first_in in
-    subst IsCoefficient (sym (read_back c.factors-of_first.result.0 fits)) fits
+    subst IsCoefficient (sym (same_number c.factors-of_first.result.0 fits)) fits
 
 pub returns-clause-second_in : goal.returns-clause-second_in
 returns-clause-second_in c =
