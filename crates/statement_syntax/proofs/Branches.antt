@@ -1,22 +1,33 @@
 -- What the readers of names, literals and brackets come to, each at one of its branches.
-use Rattle.std.proofs.Common.{◌≡◌, ℕ, ◌≤◌, ◌<◌, List, ◌∷◌, length, Ok, Err, take, refl, sym, ap, ap₂, ◌∙◌}
+use Rattle.std.proofs.Common.{◌≡◌, ℕ, ◌≤◌, ◌<◌, List, [], ◌∷◌, ◌++◌, length, Result, Ok, Err, take, refl, sym, ap, ap₂, subst, ◌∙◌, arith}
 use Rattle.std.specs.Prelude.{if◌then◌else◌}
+use Rattle.std.specs.Result.{IsErrAnd}
 use Rattle.std.specs.List.{prefix_len, take_while}
 use Rattle.std.specs.Str.{encode_utf8_all}
 use Rattle.unicode_ident.specs.Ident.{is_xid_continue}
 use Rattle.std.proofs.lemmas.Bool.{lt-ltb, le-leb}
 use Rattle.statement_syntax.specs.declared.place.Spot.{Spot}
+use Rattle.statement_syntax.specs.declared.token.TokenKind.{TokenKind}
 use Rattle.statement_syntax.specs.declared.token.TokenKind.TheVariants as kind
+use Rattle.statement_syntax.specs.declared.tree.Name.{Name}
 use Rattle.statement_syntax.specs.declared.tree.Number.{Number}
+use Rattle.statement_syntax.specs.declared.tree.StatementKind.{StatementKind}
+use Rattle.statement_syntax.specs.declared.line.MapRest.TheVariants as rest
+use Rattle.statement_syntax.specs.declared.line.Line.{Line}
+use Rattle.statement_syntax.specs.declared.line.Line.TheVariants as line
+use Rattle.statement_syntax.specs.declared.expression.Misfit.{Misfit}
+use Rattle.statement_syntax.specs.declared.expression.ReadError.{ReadError}
+use Rattle.statement_syntax.specs.declared.expression.ReadError.TheVariants as error
 use Rattle.statement_syntax.specs.declared.expression.Head.{Head}
 use Rattle.statement_syntax.specs.declared.expression.Level.{Level}
 use Rattle.statement_syntax.specs.declared.expression.Reading.{Reading}
 use Rattle.statement_syntax.specs.declared.expression.Focus.{Focus}
 use Rattle.statement_syntax.specs.declared.expression.Focus.TheVariants.{Outside}
-use Rattle.statement_syntax.specs.declared.expression.Misfit.TheVariants.{TooDeep}
+use Rattle.statement_syntax.specs.declared.expression.Misfit.TheVariants.{Expected, TooDeep}
 use Rattle.statement_syntax.specs.declared.expression.Part.{Part}
 use Rattle.statement_syntax.specs.declared.expression.Part.TheVariants.{Nothing, Scaled, Product}
-use Rattle.statement_syntax.specs.Steps.{outside, empty_head, open_step, literal_step}
+use Rattle.statement_syntax.specs.Steps.{◌>>=◌, outside, empty_head, open_step, literal_step, Fails, Gives}
+use Rattle.statement_syntax.specs.Lines.{name_in, on_colon, colon_after, map_names_step, line_end, statement_by}
 use Rattle.statement_syntax.specs.declared.scan.Item.TheVariants as item
 use Rattle.statement_syntax.specs.declared.scan.ScanFault.TheVariants.{BadToken}
 use Rattle.statement_syntax.specs.Token.{name_of}
@@ -53,3 +64,44 @@ pub name_read : (first : ℕ) (rest text : List ℕ) (more : ℕ) → more ≡ p
 name_read first rest text more count is short =
     let whole : text ≡ encode_utf8_all (first ∷ take_while is_xid_continue rest) = is ∙ ap (λ n. encode_utf8_all (first ∷ take n rest)) count in
     ap₂ name_of (sym whole) (sym count) ∙ name_fits text more short
+
+-- ---- names of `map`
+
+pub map_lacks_names : (at : Spot) (names : List Name) (k : TokenKind) (place : Spot) → k ≡ kind.Colon → length names ≡ 0 → map_names_step at names k place ≡ Err Expected
+map_lacks_names at [] k place is none = ap (λ x. map_names_step at [] x place) is
+map_lacks_names at (n ∷ names) k place is none = absurd (omega (arith, none))
+
+pub map_named : (at : Spot) (names : List Name) (k : TokenKind) (place : Spot) → k ≡ kind.Colon → 0 < length names → map_names_step at names k place ≡ Ok (line.Map at names rest.Colon)
+map_named at [] k place is some = absurd (omega (arith, some))
+map_named at (n ∷ names) k place is some = ap (λ x. map_names_step at (n ∷ names) x place) is
+
+not_colon : {A : Type 0} (found other : A) (k : TokenKind) → (k ≡ kind.Colon → ⊥) → on_colon found other k ≡ other
+not_colon found other kind.Colon differs = absurd (differs refl)
+not_colon found other k differs = refl
+
+pub map_goes_on : (at : Spot) (names now : List Name) (k : TokenKind) (place : Spot) (n : Name) → (k ≡ kind.Colon → ⊥) → name_in k place ≡ Ok n → now ≡ names ++ n ∷ []
+    → map_names_step at names k place ≡ Ok (line.Map at now rest.Names)
+map_goes_on at names now k place n differs read is =
+    not_colon (colon_after at names) (name_in k place >>= λ n. Ok (line.Map at (names ++ n ∷ []) rest.Names)) k differs
+    ∙ ap (λ r. r >>= λ n. Ok (line.Map at (names ++ n ∷ []) rest.Names)) read
+    ∙ ap (λ ns. Ok (line.Map at ns rest.Names)) (sym is)
+
+pub map_refused : (at : Spot) (names : List Name) (k : TokenKind) (place : Spot) (f : Misfit) → (k ≡ kind.Colon → ⊥) → name_in k place ≡ Err f → map_names_step at names k place ≡ Err f
+map_refused at names k place f differs read =
+    not_colon (colon_after at names) (name_in k place >>= λ n. Ok (line.Map at (names ++ n ∷ []) rest.Names)) k differs
+    ∙ ap (λ r. r >>= λ n. Ok (line.Map at (names ++ n ∷ []) rest.Names)) read
+
+-- ---- what a `?` returns
+
+pub misfit_given : {A : Type 0} (r : Result A ReadError) (read : Result A Misfit) (f : Misfit) → IsErrAnd r (λ e. e ≡ error.Misfit f) → read ≡ Err f → Gives r read
+misfit_given (Ok x) read f told is = absurd told
+misfit_given (Err e) read f told is = subst (λ e. Fails e read) (sym told) is
+
+-- ---- ends of lines
+
+pub line_ended : (l under : Line) (at : Spot) (end : Result StatementKind Misfit) (kind : StatementKind) → l ≡ under → line_end under ≡ statement_by at end → end ≡ Ok kind
+    → line_end l ≡ Ok (record { at = at; kind = kind })
+line_ended l under at end kind is by read = ap line_end is ∙ by ∙ ap (statement_by at) read
+
+pub line_refused : (l under : Line) (at : Spot) (end : Result StatementKind Misfit) (f : Misfit) → l ≡ under → line_end under ≡ statement_by at end → end ≡ Err f → line_end l ≡ Err f
+line_refused l under at end f is by read = ap line_end is ∙ by ∙ ap (statement_by at) read
