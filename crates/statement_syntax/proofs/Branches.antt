@@ -1,7 +1,7 @@
 -- What the readers of names, literals and brackets come to, each at one of its branches.
-use Rattle.std.proofs.Common.{◌≡◌, ℕ, ◌≤◌, ◌<◌, List, [], ◌∷◌, ◌++◌, length, Result, Ok, Err, take, refl, sym, ap, ap₂, subst, ◌∙◌, arith}
-use Rattle.std.specs.Prelude.{if◌then◌else◌}
-use Rattle.std.specs.Result.{IsErrAnd}
+use Rattle.std.proofs.Common.{◌≡◌, ℕ, ◌≤◌, ◌<◌, List, [], ◌∷◌, ◌++◌, ◌⊎◌, inl, inr, Bool, true, Option, length, Result, Ok, Err, take, refl, sym, ap, ap₂, subst, ◌∙◌, arith}
+use Rattle.std.specs.Prelude.{if◌then◌else◌, nat_le, nat_lt, ◌==◌, ◌^◌, pos, false}
+use Rattle.std.specs.Result.{IsErrAnd, IfOk}
 use Rattle.std.specs.List.{prefix_len, take_while}
 use Rattle.std.specs.Str.{encode_utf8_all}
 use Rattle.unicode_ident.specs.Ident.{is_xid_continue}
@@ -11,7 +11,9 @@ use Rattle.statement_syntax.specs.declared.token.TokenKind.{TokenKind}
 use Rattle.statement_syntax.specs.declared.token.TokenKind.TheVariants as kind
 use Rattle.statement_syntax.specs.declared.tree.Name.{Name}
 use Rattle.statement_syntax.specs.declared.tree.Number.{Number}
+use Rattle.statement_syntax.specs.declared.tree.Statement.{Statement}
 use Rattle.statement_syntax.specs.declared.tree.StatementKind.{StatementKind}
+use Rattle.statement_syntax.specs.declared.line.PairWord.{PairWord}
 use Rattle.statement_syntax.specs.declared.line.MapRest.TheVariants as rest
 use Rattle.statement_syntax.specs.declared.line.Line.{Line}
 use Rattle.statement_syntax.specs.declared.line.Line.TheVariants as line
@@ -28,9 +30,12 @@ use Rattle.statement_syntax.specs.declared.expression.Part.{Part}
 use Rattle.statement_syntax.specs.declared.expression.Part.TheVariants.{Nothing, Scaled, Product}
 use Rattle.statement_syntax.specs.Steps.{◌>>=◌, outside, empty_head, open_step, literal_step, Fails, Gives}
 use Rattle.statement_syntax.specs.Lines.{name_in, on_colon, colon_after, map_names_step, line_end, statement_by}
+use Rattle.statement_syntax.specs.declared.scan.Item.{Item}
 use Rattle.statement_syntax.specs.declared.scan.Item.TheVariants as item
-use Rattle.statement_syntax.specs.declared.scan.ScanFault.TheVariants.{BadToken}
-use Rattle.statement_syntax.specs.Token.{name_of}
+use Rattle.statement_syntax.specs.declared.scan.ItemError.{ItemError}
+use Rattle.statement_syntax.specs.declared.scan.ScanFault.{ScanFault}
+use Rattle.statement_syntax.specs.declared.scan.ScanFault.TheVariants.{BadToken, LiteralTooLarge}
+use Rattle.statement_syntax.specs.Token.{name_of, literal_of, sign_at, more_of, GivesItem}
 
 -- ---- literals and brackets
 
@@ -105,3 +110,46 @@ line_ended l under at end kind is by read = ap line_end is ∙ by ∙ ap (statem
 
 pub line_refused : (l under : Line) (at : Spot) (end : Result StatementKind Misfit) (f : Misfit) → l ≡ under → line_end under ≡ statement_by at end → end ≡ Err f → line_end l ≡ Err f
 line_refused l under at end f is by read = ap line_end is ∙ by ∙ ap (statement_by at) read
+
+passed_on : {A B : Type 0} (e : ReadError) (read : Result A Misfit) (f : A → Result B Misfit) → Fails e read → Fails e (read >>= f)
+passed_on error.Memory read f fails = fails
+passed_on (error.Misfit m) read f fails = ap (λ r. r >>= f) fails
+
+pub line_fails : (r : Result Statement ReadError) (l under : Line) (at : Spot) (end : Result StatementKind Misfit) (e : ReadError) → IsErrAnd r (λ x. x ≡ e) → l ≡ under
+    → line_end under ≡ statement_by at end → Fails e end → Gives r (line_end l)
+line_fails (Ok x) l under at end e told is by fails = absurd told
+line_fails (Err x) l under at end e told is by fails =
+    subst (λ y. Fails y (line_end l)) (sym told) (subst (λ r. Fails e r) (sym (ap line_end is ∙ by)) (passed_on e end (λ kind. Ok (record { at = at; kind = kind })) fails))
+
+-- a line of which too little is read
+pub line_lacks : (l : Line) → (l ≡ line.Start) ⊎ (((word : PairWord) × (at : Spot) × (first : Option Name) × (l ≡ line.Pair word at first)) ⊎ (((at : Spot) × (l ≡ line.Projection at))
+    ⊎ (((at : Spot) × (l ≡ line.Order at)) ⊎ ((at : Spot) × (l ≡ line.Model at))))) → line_end l ≡ Err Expected
+line_lacks l (inl is) = ap line_end is
+line_lacks l (inr (inl (word, at, first, is))) = ap line_end is
+line_lacks l (inr (inr (inl (at, is)))) = ap line_end is
+line_lacks l (inr (inr (inr (inl (at, is))))) = ap line_end is
+line_lacks l (inr (inr (inr (inr (at, is))))) = ap line_end is
+
+-- ---- how long items are
+
+chosen : {X E : Type 0} (P : X → Type 0) (b : Bool) (first second : Result X E) → IfOk first P → IfOk second P → IfOk (if b then first else second) P
+chosen P true first second here there = here
+chosen P false first second here there = there
+
+pub given_short : (n : ℕ) (r : Result Item ItemError) (read : Result Item ScanFault) → GivesItem r read → IfOk read (λ i. more_of i ≤ n) → IfOk r (λ i. more_of i ≤ n)
+given_short n (Ok i) read gives short = subst (λ x. IfOk x (λ i. more_of i ≤ n)) gives short
+given_short n (Err e) read gives short = tt
+
+pub name_short : (n : ℕ) (text : List ℕ) (more : ℕ) → more ≤ n → IfOk (name_of text more) (λ i. more_of i ≤ n)
+name_short n text more short = chosen (λ i. more_of i ≤ n) (nat_le (length text) 32) (Ok (item.Token (kind.Name text) more)) (Err BadToken) short tt
+
+pub literal_short : (n value more : ℕ) → more ≤ n → IfOk (literal_of value more) (λ i. more_of i ≤ n)
+literal_short n value more short = chosen (λ i. more_of i ≤ n) (nat_lt value (2 ^ 127)) (Ok (item.Token (kind.Literal (pos value)) more)) (Err LiteralTooLarge) short tt
+
+one_sign : (n : ℕ) (b : Bool) (k : TokenKind) (other : Result Item ScanFault) → IfOk other (λ i. more_of i ≤ n) → IfOk (if b then Ok (item.Token k 0) else other) (λ i. more_of i ≤ n)
+one_sign n b k other short = chosen (λ i. more_of i ≤ n) b (Ok (item.Token k 0)) other (omega arith) short
+
+pub sign_short : (n c : ℕ) → IfOk (sign_at c) (λ i. more_of i ≤ n)
+sign_short n c =
+    one_sign n (c == 58) kind.Colon _ (one_sign n (c == 61) kind.Equals _ (one_sign n (c == 43) kind.Plus _ (one_sign n (c == 40) kind.Open _
+    (one_sign n (c == 41) kind.Close _ (one_sign n (c == 91) kind.OpenSquare _ (one_sign n (c == 93) kind.CloseSquare _ (one_sign n (c == 39) kind.Quote (Err BadToken) tt)))))))

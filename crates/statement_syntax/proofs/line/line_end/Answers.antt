@@ -1,6 +1,6 @@
 use Rattle.std.proofs.Common.{refl, sym, ap, ◌∙◌}
 use Rattle.statement_syntax.specs.Lines.{line_end}
-use Rattle.statement_syntax.proofs.Branches.{misfit_given, line_ended, line_refused}
+use Rattle.statement_syntax.proofs.Branches.{misfit_given, line_ended, line_refused, line_fails, line_lacks}
 use Rattle.statement_syntax.proofs.line.line_end.Goals as goal
 
 pub returns-in-List : goal.returns-in-List
@@ -37,3 +37,14 @@ returns-in_err-shape_end-in-Shape c =
 
 pub returns-in-Whole : goal.returns-in-Whole
 returns-in-Whole c = ap line_end c.in-Whole.is
+
+pub returns-in-Sides : goal.returns-in-Sides
+returns-in-Sides c = line_ended c.args.line _ c.in-Sides.at _ c.in_ok-sides_end-in-Sides.field-0 c.in-Sides.is refl c.in_ok-sides_end-in-Sides.ensures
+
+pub returns-in_err-sides_end-in-Sides : goal.returns-in_err-sides_end-in-Sides
+returns-in_err-sides_end-in-Sides c =
+    line_fails c.from_residual-in_err-sides_end-in-Sides.result c.args.line _ c.in-Sides.at _ c.in_err-sides_end-in-Sides.field-0.0
+    c.from_residual-in_err-sides_end-in-Sides.ensures.1 c.in-Sides.is refl c.in_err-sides_end-in-Sides.ensures
+
+pub returns : goal.returns
+returns c = line_lacks c.args.line c.in-Start.is
