@@ -6,6 +6,7 @@ use Rattle.std.specs.List.{prefix_len, take_while}
 use Rattle.std.specs.Str.{encode_utf8_all}
 use Rattle.unicode_ident.specs.Ident.{is_xid_continue}
 use Rattle.std.proofs.lemmas.Bool.{lt-ltb, le-leb}
+use Rattle.std.proofs.lemmas.List.{append-nil}
 use Rattle.statement_syntax.specs.declared.place.Spot.{Spot}
 use Rattle.statement_syntax.specs.declared.token.TokenKind.{TokenKind}
 use Rattle.statement_syntax.specs.declared.token.TokenKind.TheVariants as kind
@@ -29,6 +30,7 @@ use Rattle.statement_syntax.specs.declared.expression.Misfit.TheVariants.{Expect
 use Rattle.statement_syntax.specs.declared.expression.Part.{Part}
 use Rattle.statement_syntax.specs.declared.expression.Part.TheVariants.{Nothing, Scaled, Product}
 use Rattle.statement_syntax.specs.Steps.{◌>>=◌, outside, empty_head, open_step, literal_step, Fails, Gives}
+use Rattle.statement_syntax.specs.Written.{sign_kinds}
 use Rattle.statement_syntax.specs.Lines.{name_in, on_colon, colon_after, map_names_step, line_end, statement_by}
 use Rattle.statement_syntax.specs.declared.scan.Item.{Item}
 use Rattle.statement_syntax.specs.declared.scan.Item.TheVariants as item
@@ -153,3 +155,8 @@ pub sign_short : (n c : ℕ) → IfOk (sign_at c) (λ i. more_of i ≤ n)
 sign_short n c =
     one_sign n (c == 58) kind.Colon _ (one_sign n (c == 61) kind.Equals _ (one_sign n (c == 43) kind.Plus _ (one_sign n (c == 40) kind.Open _
     (one_sign n (c == 41) kind.Close _ (one_sign n (c == 91) kind.OpenSquare _ (one_sign n (c == 93) kind.CloseSquare _ (one_sign n (c == 39) kind.Quote (Err BadToken) tt)))))))
+
+-- ---- no sign is written
+
+pub unsigned : (leading negative : Bool) (out : List TokenKind) → leading ≡ true → negative ≡ false → out ≡ out ++ sign_kinds leading negative
+unsigned leading negative out first plain = sym (append-nil out) ∙ ap₂ (λ l n. out ++ sign_kinds l n) (sym first) (sym plain)
