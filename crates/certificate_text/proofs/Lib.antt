@@ -14,6 +14,7 @@ mod FlawedLines
 mod NextLines
 mod Standing
 pub mod Meets
+pub mod RowSteps
 pub mod RowLines
 mod RowValues
 mod BlockLines
