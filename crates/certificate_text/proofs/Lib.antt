@@ -4,6 +4,7 @@ pub mod Numbers
 pub mod Fronts
 pub mod Reading
 pub mod Joins
+pub mod Puts
 pub mod Results
 pub mod Zips
 pub mod LineTrees
