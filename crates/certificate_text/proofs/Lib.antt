@@ -4,6 +4,7 @@ pub mod Numbers
 pub mod Fronts
 pub mod Reading
 pub mod Joins
+pub mod Puts
 pub mod Results
 pub mod Zips
 pub mod LineTrees
@@ -14,6 +15,7 @@ mod FlawedLines
 mod NextLines
 mod Standing
 pub mod Meets
+pub mod RowSteps
 pub mod RowLines
 mod RowValues
 mod BlockLines

@@ -1,5 +1,6 @@
 pub mod Values
 pub mod Scanning
+pub mod Branches
 pub mod Choices
 pub mod Machine
 pub mod Seen

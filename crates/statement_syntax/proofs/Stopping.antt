@@ -2,6 +2,7 @@
 use Rattle.std.proofs.Common.{◌≡◌, ℕ, List, [], ◌∷◌, ◌++◌, inl, inr, Ok, Err, refl, sym, ap, subst, ◌∙◌, append_assoc}
 use Rattle.std.proofs.lemmas.List.{append-nil}
 use Rattle.std.specs.Str.{IsUtf8, chars}
+use Rattle.std.specs.Str.Lossy.{utf8_valid_len}
 use Rattle.statement_syntax.specs.declared.place.Spot.{Spot}
 use Rattle.statement_syntax.specs.declared.token.Token.{Token}
 use Rattle.statement_syntax.specs.declared.token.TokenKind.TheVariants as kind
@@ -142,3 +143,8 @@ tells_by bytes ts refused TooDeep utf8 read loop is =
 pub is_first : (bytes : List ℕ) (ts : List Token) (refused : SyntaxFault) → IsUtf8 bytes → tokens_of (chars bytes) ≡ Ok ts → Refused ts refused → TellsFirstFault bytes refused
 is_first bytes ts (refusal.Memory e) utf8 read loop = tt
 is_first bytes ts (refusal.Fault code l c) utf8 read loop = subst (TellsFirstFault bytes) (sym loop.tells) (tells_by bytes ts (refusal.Fault code l c) loop.misfit utf8 read loop refl)
+
+-- ---- bytes that are no text
+
+pub told_not_utf8 : (bytes : List ℕ) (told : SyntaxFault) (column : ℕ) → told ≡ fault_at fault.NotUtf8 (record { line = 0; column = column }) → (IsUtf8 bytes → ⊥) → column ≡ utf8_valid_len bytes → TellsFirstFault bytes told
+told_not_utf8 bytes told column is invalid at = subst (TellsFirstFault bytes) (sym is) (fault.NotUtf8, refl, (invalid, ap (λ n. record { line = 0; column = n }) at))

@@ -1,0 +1,87 @@
+-- What a row of a certificate comes to: it is added, or its fault is told.
+use Rattle.std.proofs.Common.{◌≡◌, ℕ, false, List, [], ◌∷◌, ◌++◌, Result, Ok, Err, sym, ap, subst, ◌∙◌}
+use Rattle.std.specs.Prelude.{if◌then◌else◌}
+use Rattle.std.specs.Result.{IsErrAnd}
+use Rattle.quiver.specs.Declarations.{Declaration}
+use Rattle.cofactor_trace.specs.declared.CertRow.{CertRow}
+use Rattle.cofactor_trace.specs.declared.Certificate.{Certificate}
+use Rattle.cofactor_trace.specs.declared.evidence.Lemma.{Lemma}
+use Rattle.cofactor_trace.specs.declared.evidence.LemmaRow.{LemmaRow}
+use Rattle.cofactor_trace.specs.declared.evidence.Evidence.{Evidence}
+use Rattle.cofactor_trace.specs.declared.evidence.Evidence.TheVariants as block
+use Rattle.certificate_text.specs.declared.fault.Flaw.{Flaw}
+use Rattle.certificate_text.specs.declared.fault.LineFault.{LineFault}
+use Rattle.certificate_text.specs.declared.fault.LineFault.TheVariants as line_fault
+use Rattle.certificate_text.specs.declared.place.Size.{Size}
+use Rattle.certificate_text.specs.declared.place.Opened.{Opened}
+use Rattle.certificate_text.specs.declared.place.Place.TheVariants as at
+use Rattle.certificate_text.specs.declared.place.Progress.{Progress}
+use Rattle.certificate_text.specs.Fault.{◌>>=◌, ExplainsLine, Reads, IsLineMemory}
+use Rattle.certificate_text.specs.Lines.{is_end, row_of, lemma_row_of, grown}
+use Rattle.certificate_text.specs.Reading.{progress, certificate_of, lemma_of, resized, in_rows, lemma_row}
+
+-- ---- what a `?` returns
+
+pub flaw_told : {X Y : Type 0} (view : X → Y) (r : Result X LineFault) (read : Result Y Flaw) (f : Flaw) → IsErrAnd r (λ e. e ≡ line_fault.Flaw f) → read ≡ Err f → Reads view r read
+flaw_told view (Ok x) read f told is = absurd told
+flaw_told view (Err e) read f told is = subst (λ e. ExplainsLine read e) (sym told) is
+
+pub memory_told : {X Y : Type 0} (view : X → Y) (r : Result X LineFault) (read : Result Y Flaw) → IsErrAnd r IsLineMemory → Reads view r read
+memory_told view (Ok x) read told = absurd told
+memory_told view (Err (line_fault.Flaw f)) read told = absurd told
+memory_told view (Err (line_fault.Memory e)) read told = tt
+
+explained_on : {A B : Type 0} (read : Result A Flaw) (f : A → Result B Flaw) (e : LineFault) → ExplainsLine read e → ExplainsLine (read >>= f) e
+explained_on read f (line_fault.Flaw flaw) is = ap (λ r. r >>= f) is
+explained_on read f (line_fault.Memory e) is = tt
+
+told_on : {X A Y : Type 0} (view : X → Y) (r : Result X LineFault) (read : Result A Flaw) (f : A → Result Y Flaw) (e : LineFault) → IsErrAnd r (λ x. x ≡ e) → ExplainsLine read e → Reads view r (read >>= f)
+told_on view (Ok x) read f e told is = absurd told
+told_on view (Err x) read f e told is = subst (λ y. ExplainsLine (read >>= f) y) (sym told) (explained_on read f e is)
+
+-- ---- a row without lemmas
+
+abbrev behind_row : List Evidence → Certificate → Size → CertRow → Result Progress Flaw
+behind_row done c size row = grown size row.left row.right >>= λ size. Ok (progress done (at.Rows (certificate_of c.claim c.denominator (c.rows ++ row ∷ [])) size))
+
+in_rows_row : (ds : List Declaration) (done : List Evidence) (c : Certificate) (size : Size) (line : List (List ℕ)) → is_end line ≡ false → in_rows ds done c size line ≡ (row_of ds line >>= behind_row done c size)
+in_rows_row ds done c size line goes =
+    ap (λ b. if b then Ok (progress (done ++ block.Plain c ∷ []) at.Outside) else row_of ds line >>= behind_row done c size) goes
+
+pub row_told : {X : Type 0} (view : X → Progress) (r : Result X LineFault) (ds : List Declaration) (done : List Evidence) (c : Certificate) (size : Size) (line : List (List ℕ)) (e : LineFault) → is_end line ≡ false
+    → IsErrAnd r (λ x. x ≡ e) → ExplainsLine (row_of ds line) e → Reads view r (in_rows ds done c size line)
+row_told view r ds done c size line e goes told is =
+    subst (λ x. Reads view r x) (sym (in_rows_row ds done c size line goes)) (told_on view r (row_of ds line) (behind_row done c size) e told is)
+
+pub row_too_large : (ds : List Declaration) (done : List Evidence) (c : Certificate) (size : Size) (line : List (List ℕ)) (row : CertRow) (f : Flaw) → is_end line ≡ false
+    → row_of ds line ≡ Ok row → grown size row.left row.right ≡ Err f → in_rows ds done c size line ≡ Err f
+row_too_large ds done c size line row f goes read large =
+    in_rows_row ds done c size line goes ∙ ap (λ r. r >>= behind_row done c size) read
+    ∙ ap (λ r. r >>= λ size. Ok (progress done (at.Rows (certificate_of c.claim c.denominator (c.rows ++ row ∷ [])) size))) large
+
+pub row_added : (ds : List Declaration) (done : List Evidence) (c : Certificate) (size now : Size) (line : List (List ℕ)) (row : CertRow) (rows : List CertRow) → is_end line ≡ false
+    → row_of ds line ≡ Ok row → grown size row.left row.right ≡ Ok now → rows ≡ c.rows ++ row ∷ [] → in_rows ds done c size line ≡ Ok (progress done (at.Rows (certificate_of c.claim c.denominator rows) now))
+row_added ds done c size now line row rows goes read grows is =
+    in_rows_row ds done c size line goes ∙ ap (λ r. r >>= behind_row done c size) read
+    ∙ ap (λ r. r >>= λ size. Ok (progress done (at.Rows (certificate_of c.claim c.denominator (c.rows ++ row ∷ [])) size))) grows
+    ∙ ap (λ rs. Ok (progress done (at.Rows (certificate_of c.claim c.denominator rs) now))) (sym is)
+
+-- ---- a row of a lemma or of the goal
+
+pub lemma_row_told : {X : Type 0} (view : X → Opened × Lemma) (r : Result X LineFault) (ds : List Declaration) (o : Opened) (l : Lemma) (line : List (List ℕ)) (e : LineFault)
+    → IsErrAnd r (λ x. x ≡ e) → ExplainsLine (lemma_row_of ds line) e → Reads view r (lemma_row ds o l line)
+lemma_row_told view r ds o l line e told is =
+    told_on view r (lemma_row_of ds line) (λ row. grown o.size row.left row.right >>= λ size. Ok (resized o size, lemma_of l.scale (l.rows ++ row ∷ []))) e told is
+
+pub lemma_row_too_large : (ds : List Declaration) (o : Opened) (l : Lemma) (line : List (List ℕ)) (row : LemmaRow) (f : Flaw)
+    → lemma_row_of ds line ≡ Ok row → grown o.size row.left row.right ≡ Err f → lemma_row ds o l line ≡ Err f
+lemma_row_too_large ds o l line row f read large =
+    ap (λ r. r >>= λ row. grown o.size row.left row.right >>= λ size. Ok (resized o size, lemma_of l.scale (l.rows ++ row ∷ []))) read
+    ∙ ap (λ r. r >>= λ size. Ok (resized o size, lemma_of l.scale (l.rows ++ row ∷ []))) large
+
+pub lemma_row_added : (ds : List Declaration) (o : Opened) (l : Lemma) (line : List (List ℕ)) (row : LemmaRow) (now : Size) (rows : List LemmaRow)
+    → lemma_row_of ds line ≡ Ok row → grown o.size row.left row.right ≡ Ok now → rows ≡ l.rows ++ row ∷ [] → lemma_row ds o l line ≡ Ok (resized o now, lemma_of l.scale rows)
+lemma_row_added ds o l line row now rows read grows is =
+    ap (λ r. r >>= λ row. grown o.size row.left row.right >>= λ size. Ok (resized o size, lemma_of l.scale (l.rows ++ row ∷ []))) read
+    ∙ ap (λ r. r >>= λ size. Ok (resized o size, lemma_of l.scale (l.rows ++ row ∷ []))) grows
+    ∙ ap (λ rs. Ok (resized o now, lemma_of l.scale rs)) (sym is)
