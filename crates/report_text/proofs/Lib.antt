@@ -1,4 +1,3 @@
 pub mod Ranges
-pub mod Texts
 pub mod Counts
 pub mod Verdicts
