@@ -1,4 +1,4 @@
-use Rattle.std.proofs.Common.{rules, ◌≡◌, ◌++◌, OnOk, codes, if◌then◌else◌, ap, ◌∙◌, subst, append_assoc}
+use Rattle.std.proofs.Common.{rules, ◌≡◌, ◌++◌, OnOk, codes, if◌then◌else◌, ap, ◌∙◌}
 use Rattle.std.specs.Fmt.{signed_decimal}
 use Rattle.certificate_text.proofs.Puts.{three_put}
 use Rattle.report_text.proofs.head.put_overflow.Goals.{then-overflow, else-overflow}
@@ -15,6 +15,5 @@ returns c =
       | else-overflow w ↦ rw w.if-overflow.false (ap (λ put. put.now) w.put-is)
     ]
     in
-    subst (λ text. OnOk c.put_integer-2.result (c.put_integer-2.new.out.items ≡ c.args.out.now.items ++ text)) (append_assoc (signed_decimal o.left) (if o.product then codes " times " else codes " plus ") (signed_decimal o.right))
-    (three_put c.put_integer-2.result c.args.out.now.items (signed_decimal o.left) (if o.product then codes " times " else codes " plus ") (signed_decimal o.right) c.put_integer.new.out.items c.put.new.out.items c.put_integer-2.new.out.items
-    left (c.in_ok-put.ensures ∙ ap (λ text. c.put_integer.new.out.items ++ text) sign) right)
+    three_put c.put_integer-2.result c.args.out.now.items (signed_decimal o.left) (if o.product then codes " times " else codes " plus ") (signed_decimal o.right) c.put_integer.new.out.items c.put.new.out.items
+    c.put_integer-2.new.out.items left (c.in_ok-put.ensures ∙ ap (λ text. c.put_integer.new.out.items ++ text) sign) right
