@@ -138,7 +138,7 @@ module _ (problem : Problem) (m : Model) where
   same_assumption : (a b : ℕ) → IsFirstNotZero problem m a → IsFirstNotZero problem m b → a ≡ b
   same_assumption a b one other = omega (arith, one.numbered, other.numbered, zero_before a b one other, zero_before b a other one)
 
-  not_all_zero : (a : ℕ) → IsFirstNotZero problem m a → AllByRecursion (IsZeroIn problem m) (assumptions_of problem) → ⊥
+  pub not_all_zero : (a : ℕ) → IsFirstNotZero problem m a → AllByRecursion (IsZeroIn problem m) (assumptions_of problem) → ⊥
   not_all_zero a one all = one.other (subst (λ n. IsZeroIn problem m (generator_at (assumptions_of problem) n)) (sym one.numbered) (all_have (IsZeroIn problem m) (assumptions_of problem) one.before one.inside all))
 
   -- ---- the tests in their order

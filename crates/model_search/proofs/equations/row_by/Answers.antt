@@ -1,7 +1,9 @@
-use Rattle.std.proofs.Common.{rules, ◌≡◌, ◌+◌, ◌-◌, ◌%◌, ◌<◌, ℕ, List, ◌++◌, ◌∷◌, [], length, get_or, map, take, sym, ap, ap₂, subst, ◌∙◌}
-use Rattle.std.proofs.lemmas.List.{take_more, map-append}
+use Rattle.std.proofs.Common.{rules, ◌≡◌, ◌+◌, ◌-◌, ◌%◌, ◌<◌, ℕ, List, ◌++◌, ◌∷◌, [], length, get_or, map, take, sym, ap, ap₂, subst, ◌∙◌, arith}
+use Rattle.std.specs.List.{All}
+use Rattle.std.proofs.lemmas.List.{take_all, take_more, map-append}
 use Rattle.std.proofs.lemmas.Option.{get_or_from_slice_get}
 use Rattle.model_search.specs.Equations.{factor_by}
+use Rattle.model_search.proofs.Places.{all_at}
 use Rattle.model_search.proofs.equations.row_by.Goals as goal
 
 pub at-requires : goal.at-requires
@@ -9,6 +11,17 @@ at-requires c =
     let u = c.at_unit-item.result in
     let long = c.requires.alike c.loop-at_unit.at_unit-index u c.loop-at_unit-test.true in
     subst (λ n. c.args.place < n) (sym (ap length c.at_unit-item.is ∙ long)) c.requires.place
+
+pub overflow_add-at : goal.overflow_add-at
+overflow_add-at c =
+    let m = c.args.modulus in
+    let u = c.at_unit-item.result in
+    let all = subst (All (λ entry. entry < m)) (sym c.at_unit-item.is) (c.requires.units_below c.loop-at_unit.at_unit-index u c.loop-at_unit-test.true) in
+    let below : c.at.result.now < m = all_at (λ entry. entry < m) u c.args.place c.at.result.now all c.at.ensures in
+    omega (arith, below, c.requires.modulus.below)
+
+pub overflow_sub-at : goal.overflow_sub-at
+overflow_sub-at c = omega (arith, c.requires.zero_below c.args.place 0 c.requires.place)
 
 pub loop-at_unit-preserved : goal.loop-at_unit-preserved
 loop-at_unit-preserved c =
@@ -24,3 +37,14 @@ loop-at_unit-preserved c =
     ∙ ap (λ x. map f (take k units) ++ f x ∷ []) c.at_unit-item.is
     ∙ sym (map-append f (take k units) (get_or units k u ∷ []))
     ∙ ap (map f) (sym (take_more units k u c.loop-at_unit-test.true))
+
+pub returns : goal.returns
+returns c =
+    let units = c.args.at_units.now in
+    let m = c.args.modulus in
+    let zero = c.args.at_zero.now in
+    let f : List ℕ → ℕ = factor_by m zero c.args.place in
+    let all = c.loop-at_unit.invariant ∙ ap (map f) (take_all c.loop-at_unit.at_unit-index units c.loop-at_unit-test.false) in λ i. record {
+      factors = all i;
+      right = (m - get_or zero c.args.place 0) % m;
+    }
