@@ -7,7 +7,7 @@ use Rattle.std.proofs.lemmas.List.Elements.{All-get_or}
 use Rattle.definitions.specs.Category.{IsArrow}
 use Rattle.definitions.specs.Quiver.{Quiver, IsQuiver, letters, source, target, star}
 use Rattle.definitions.specs.Representation.{Represents, StarRepresents}
-use Rattle.matrix_models.specs.Matrix.{Matrix, IsMatrix, IsSide}
+use Rattle.matrix_models.specs.Matrix.{Matrix, IsSide}
 use Rattle.matrix_models.specs.Matrices.{matrices, transpose, identity_matrix, IsObject}
 use Rattle.matrix_models.specs.Laws.{matrices_laws, transpose_laws}
 use Rattle.matrix_models.specs.declared.model.Model.{Model}
@@ -73,16 +73,6 @@ module _ (q : Quiver) (quiver : IsQuiver q) (m : Model) (model : IsModel q m) wh
     -- the arrow of an adjoint is the transpose of the map's
     adjoint_is : (a : ℕ) → q.objects ≤ a → star q a < a → IsMap q (star q a) → arrow_of q m a ≡ transpose m.modulus (arrow_of q m (star q a))
     adjoint_is a map below h = arrow_of-adjoint q m a map below ∙ ap (transpose m.modulus) (sym (arrow_of-map q m (star q a) h.map h.declared))
-
-    -- the transpose, modulo its own modulus, of the matrix that the map has
-    pub arrow_of-transpose : (a : ℕ) (x : Matrix) → q.objects ≤ a → a < letters q → star q a < a → map_at m (star q a) ≡ Some x → transpose x.modulus x ≡ arrow_of q m a
-    arrow_of-transpose a x map letter below there =
-        let is_map = adjoint_is_map a map letter below in
-        let has = maps.each (star q a) is_map.letter is_map in
-        let is_matrix : IsMatrix m.modulus x = subst (λ o. IsMatrix m.modulus (matrix_or_zero m.modulus o)) (sym has.there ∙ there) has.ends.matrix in
-        ap (λ n. transpose n x) is_matrix.modulus_is
-        ∙ ap (λ o. transpose m.modulus (matrix_or_zero m.modulus o)) (sym there)
-        ∙ sym (arrow_of-adjoint q m a map below)
 
     letter_is_arrow : (a : ℕ) → a < letters q → Ends (source q a) (target q a) (arrow_of q m a)
     letter_is_arrow a letter = go (cases_lt a q.objects) (cases_lt (star q a) a)

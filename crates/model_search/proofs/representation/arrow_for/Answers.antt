@@ -4,7 +4,7 @@ use Rattle.quiver.specs.Declarations.{quiver_of}
 use Rattle.quiver.proofs.Counts.{letters-quiver_of}
 use Rattle.matrix_models.specs.Matrices.{identity_matrix}
 use Rattle.model_search.specs.Models.{map_at, matrix_or_zero, IsMap}
-use Rattle.model_search.proofs.Arrows.{side_read, arrow_of-identity, arrow_of-map, adjoint_is_map, arrow_of-transpose}
+use Rattle.model_search.proofs.Arrows.{side_read, arrow_of-identity, arrow_of-map, adjoint_is_map}
 use Rattle.model_search.proofs.representation.arrow_for.Goals as goal
 
 pub map_of-requires-clause-in_range : goal.map_of-requires-clause-in_range
@@ -47,15 +47,3 @@ returns-then-letter-star c =
     let map : q.objects ≤ a = search rules in
     let declared = subst (λ n. a ≤ n) c.star_of-star.ensures.star c.if-letter-star.true in
     subst (λ y. IfOk c.duplicate.result (λ x. x ≡ y)) (ap (matrix_or_zero m.modulus) (sym c.map_of.ensures) ∙ sym (arrow_of-map q m a map declared)) c.duplicate.ensures.same
-
--- the transpose of the matrix that the adjoint of the letter has
-pub returns : goal.returns
-returns c =
-    let q = quiver_of c.args.quiver.now in
-    let m = c.args.model.now in
-    let a = c.args.letter.0 in
-    let letter = subst (λ n. a < n) (sym (letters-quiver_of c.args.quiver.now)) c.requires.letter in
-    let map : q.objects ≤ a = search rules in
-    let below = subst (λ n. n < a) c.star_of-star.ensures.star c.if-letter-star.false in
-    let there = subst (λ n. map_at m n ≡ Some c.map_of-2.result.now) c.star_of-star.ensures.star c.map_of-2.ensures in
-    subst (λ y. IfOk c.transpose_of.result (λ x. x ≡ y)) (arrow_of-transpose q c.requires.quiver m c.requires.model c.requires.maps a c.map_of-2.result.now map letter below there) c.transpose_of.ensures
