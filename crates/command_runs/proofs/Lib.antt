@@ -20,7 +20,6 @@ pub mod Writing
 pub mod BenchSize
 pub mod Commands
 pub mod Endings
-pub mod Grown
 pub mod Prefix
 pub mod Corollaries
 pub mod EachCall

@@ -11,6 +11,7 @@ pub mod Judged
 pub mod Decide
 pub mod Refute
 pub mod Answers
+pub mod OverProblem
 pub mod Ends
 pub mod Put
 pub mod Run

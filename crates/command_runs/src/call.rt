@@ -1,5 +1,5 @@
 //! The files of a call.
-ghost use Rattle.std.specs.Prelude.{◌≡◌, IfOk};
+ghost use Rattle.std.specs.Prelude.{◌≡◌, IfOk, [], ◌∷◌};
 ghost use Rattle.command_runs.specs.Call.{file_word, pair_files, files_of};
 
 use command_words::{Call, PairCall};
@@ -21,13 +21,20 @@ pub struct FileWord {
 pub fn call_files(alloc: Global, call: &Call) -> Result<Listing<FileWord>, AllocError>
     ensures { IfOk result (λ files. files ≡ files_of call.now) }
 {
-    let mut files = Listing::new(alloc);
     match call {
-        Call::Prove(prove) => files.push(file_word(&prove.file, STATEMENT_LIMIT)?)?,
-        Call::Refute(refute) => files.push(file_word(&refute.file, STATEMENT_LIMIT)?)?,
-        Call::Check(pair) | Call::Model(pair) => return pair_files(alloc, pair),
-        Call::Bench(_) => {}
+        Call::Prove(prove) => statement_file(alloc, &prove.file),
+        Call::Refute(refute) => statement_file(alloc, &refute.file),
+        Call::Check(pair) | Call::Model(pair) => pair_files(alloc, pair),
+        Call::Bench(_) => Ok(Listing::new(alloc)),
     }
+}
+
+// A statement alone.
+fn statement_file(alloc: Global, name: &Text) -> Result<Listing<FileWord>, AllocError>
+    ensures { IfOk result (λ files. files ≡ file_word name.now 1048576 ∷ []) }
+{
+    let mut files = Listing::new(alloc);
+    files.push(file_word(name, STATEMENT_LIMIT)?)?;
     Ok(files)
 }
 

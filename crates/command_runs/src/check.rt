@@ -5,14 +5,13 @@ ghost use Rattle.cofactor_trace.specs.declared.evidence.Format.TheVariants.{Lemm
 ghost use Rattle.certificate_text.specs.Evidence.{IsEvidence, IsFirstFault, IsCheckableEvidence};
 ghost use Rattle.command_runs.specs.Refusals.{claim_text};
 ghost use Rattle.command_runs.specs.Blocks.{OverEvidence};
-ghost use Rattle.command_runs.specs.Check.{AcceptsCertificate, RefusesCertificate, AnswersEvidence, AnswersCheck};
+ghost use Rattle.command_runs.specs.Check.{AcceptsCertificate, RefusesCertificate, AnswersEvidence};
 ghost use Rattle.command_runs.specs.Stop.{StopsBy, EndsAs};
 
 use crate::ending::Ending;
 use crate::fault::evidence_fault;
 use crate::judge::{Block, Judged, judge_blocks};
 use crate::refusal::cause_text;
-use crate::statement::read_statement;
 use crate::stop::Stop;
 use adjoint_rules::Problem;
 use certificate_text::{CertFault, read_evidence};
@@ -24,18 +23,8 @@ use lists::Listing;
 use quiver::Quiver;
 use std::alloc::{AllocError, Global};
 
-/// How a run of `check` ends that has loaded both files.
-pub fn check_texts(alloc: Global, statement: &[u8], evidence: &[u8]) -> Result<Ending, Stop>
-    requires statement_fits { length statement.now ≤ 1048576 }
-    requires evidence_fits { length evidence.now ≤ 67108864 }
-    ensures { EndsAs (AnswersCheck statement.now evidence.now) result }
-{
-    let problem = read_statement(alloc, statement)?;
-    judge_evidence(alloc, &problem, evidence)
-}
-
-// How a run ends over a problem and an evidence text.
-fn judge_evidence(alloc: Global, problem: &Problem, evidence: &[u8]) -> Result<Ending, Stop>
+/// How a run of `check` ends over a problem and an evidence text.
+pub fn judge_evidence(alloc: Global, problem: &Problem, evidence: &[u8]) -> Result<Ending, Stop>
     requires { length evidence.now ≤ 67108864 }
     ensures { EndsAs (AnswersEvidence evidence.now problem.now) result }
 {

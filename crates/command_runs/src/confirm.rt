@@ -6,13 +6,12 @@ ghost use Rattle.model_text.specs.Models.{IsModels, IsFirstFault, IsModel};
 ghost use Rattle.command_runs.specs.Letters.{HasModelLetter};
 ghost use Rattle.command_runs.specs.Refusals.{claim_confirmed, map_cause, model_cause};
 ghost use Rattle.command_runs.specs.Blocks.{OverEvidence};
-ghost use Rattle.command_runs.specs.Confirm.{ConfirmsModel, RefusesModelBlock, AnswersModelText, AnswersModel};
+ghost use Rattle.command_runs.specs.Confirm.{ConfirmsModel, RefusesModelBlock, AnswersModelText};
 ghost use Rattle.command_runs.specs.Stop.{StopsBy, EndsAs};
 
 use crate::ending::Ending;
 use crate::fault::evidence_fault;
 use crate::judge::{Block, Judged, judge_blocks};
-use crate::statement::read_statement;
 use crate::stop::Stop;
 use adjoint_rules::Problem;
 use certificate_text::CertFault;
@@ -25,18 +24,8 @@ use quiver::Quiver;
 use std::alloc::{AllocError, Global};
 use word_core::Letter;
 
-/// How a run of `model` ends that has loaded both files.
-pub fn confirm_texts(alloc: Global, statement: &[u8], text: &[u8]) -> Result<Ending, Stop>
-    requires statement_fits { length statement.now ≤ 1048576 }
-    requires text_fits { length text.now ≤ 67108864 }
-    ensures { EndsAs (AnswersModel statement.now text.now) result }
-{
-    let problem = read_statement(alloc, statement)?;
-    judge_models(alloc, &problem, text)
-}
-
-// How a run ends over a problem and a text of models.
-fn judge_models(alloc: Global, problem: &Problem, text: &[u8]) -> Result<Ending, Stop>
+/// How a run of `model` ends over a problem and a text of models.
+pub fn judge_models(alloc: Global, problem: &Problem, text: &[u8]) -> Result<Ending, Stop>
     requires { length text.now ≤ 67108864 }
     ensures { EndsAs (AnswersModelText text.now problem.now) result }
 {

@@ -2,37 +2,31 @@
 ghost use Rattle.std.specs.Prelude.{◌≡◌, ◌<◌, ◌≤◌, true, IfOk, IfSome, IfNone, length};
 ghost use Rattle.std.specs.List.{All};
 ghost use Rattle.command_words.specs.Calls.{IsInRange};
-ghost use Rattle.command_words.specs.declared.call.Call.TheVariants.{Prove, Bench};
+ghost use Rattle.command_words.specs.declared.call.Call.TheVariants.{Prove};
 ghost use Rattle.claim_decider.specs.Decided.{claim_numbers};
 ghost use Rattle.model_search.specs.Candidates.{NoneBreaks};
 ghost use Rattle.model_search.specs.Models.{IsClaimNumber};
 ghost use Rattle.report_text.specs.Report.{report_of, heads_of, status_of, IsPolyOver, IsVerdictOver};
 ghost use Rattle.traced_completion.specs.Completions.{IsBudget};
-ghost use Rattle.command_runs.specs.Decide.{format_of, asked_by, asked_by_bench, IsVerdictOn, AreVerdictsOn, Decides, AnswersClaims, AnswersProve, AnswersBench};
+ghost use Rattle.command_runs.specs.Decide.{format_of, asked_by, IsVerdictOn, AreVerdictsOn, Decides, AnswersClaims};
 ghost use Rattle.command_runs.specs.Refute.{LeastBreaks};
 ghost use Rattle.command_runs.specs.Stop.{EndsAs};
 
 use crate::ending::Ending;
-use crate::statement::read_statement;
 use crate::stop::Stop;
 use adjoint_rules::Problem;
 use claim_decider::{Outcome, decide_all};
 use cofactor_trace::Format;
-use command_words::{BenchCall, ProveCall};
+use command_words::ProveCall;
 use in_order_parallel::Gate;
 use lists::Listing;
 use matrix_models::Model;
 use model_search::search;
 use nc_polynomial::Poly;
-use report_text::{Verdict, heads, report, status_of, write_bench};
+use report_text::{Verdict, heads, report, status_of};
 use std::alloc::{AllocError, Global};
 use std::thread::Threads;
 use traced_completion::Budget;
-
-const BENCH_BUDGET: Budget = Budget {
-    pairs: 5000,
-    steps: 20_000,
-};
 
 /// How claims are decided.
 #[derive(Clone, Copy)]
@@ -46,6 +40,17 @@ pub struct Asked {
     /// Whether models are looked for where a claim is left undecided.
     pub models: bool,
 }
+
+/// How `bench` has its claims decided.
+pub const ASKED_BY_BENCH: Asked = Asked {
+    budget: Budget {
+        pairs: 5000,
+        steps: 20_000,
+    },
+    form: Format::Lemmas,
+    seed: 1,
+    models: false,
+};
 
 // What is said of the claims of a problem: a verdict on each, and the rules by which they were decided.
 #[derive(Drop)]
@@ -64,8 +69,8 @@ fn format_of(number: u64) -> Format
     }
 }
 
-// What the words of `prove` ask for.
-fn asked_by(call: &ProveCall) -> Asked
+/// What the words of `prove` ask for.
+pub fn asked_by(call: &ProveCall) -> Asked
     requires { IsInRange (Prove call.now) }
     ensures { result ≡ asked_by call.now }
 {
@@ -181,8 +186,8 @@ fn decide<R: Threads + Sync, G: Gate + Sync>(
     })
 }
 
-// How a run ends over a problem: with the report of all verdicts.
-fn report_claims<R: Threads + Sync, G: Gate + Sync>(
+/// How a run of `prove` ends over a problem: with the report of all verdicts.
+pub fn report_claims<R: Threads + Sync, G: Gate + Sync>(
     rt: &R,
     alloc: Global,
     problem: &Problem,
@@ -206,8 +211,8 @@ fn report_claims<R: Threads + Sync, G: Gate + Sync>(
     Ok(Ending::decided(status_of(verdicts), report))
 }
 
-// How a run ends over a problem: with the head lines of all verdicts.
-fn head_claims<R: Threads + Sync, G: Gate + Sync>(
+/// How a run of `bench` ends over a problem: with the head lines of all verdicts.
+pub fn head_claims<R: Threads + Sync, G: Gate + Sync>(
     rt: &R,
     alloc: Global,
     problem: &Problem,
@@ -229,42 +234,4 @@ fn head_claims<R: Threads + Sync, G: Gate + Sync>(
         said.rules.as_slice(),
     )?;
     Ok(Ending::decided(status_of(verdicts), heads))
-}
-
-/// How a run of `prove` ends that has loaded its statement: with the report of all verdicts.
-pub fn prove<R: Threads + Sync, G: Gate + Sync>(
-    rt: &R,
-    alloc: Global,
-    call: &ProveCall,
-    statement: &[u8],
-    gate: &G,
-) -> Result<Ending, Stop>
-    requires in_range { IsInRange (Prove call.now) }
-    requires statement_fits { length statement.now ≤ 1048576 }
-    ensures { EndsAs (AnswersProve call.now statement.now) result }
-{
-    let problem = read_statement(alloc, statement)?;
-    let workers = call.workers as u32;
-    report_claims(rt, alloc, &problem, asked_by(call), workers, gate)
-}
-
-/// How a run of `bench` ends: with the head lines of the verdicts on the claims of its statement.
-pub fn bench<R: Threads + Sync, G: Gate + Sync>(
-    rt: &R,
-    alloc: Global,
-    call: &BenchCall,
-    gate: &G,
-) -> Result<Ending, Stop>
-    requires { IsInRange (Bench call.now) }
-    ensures { EndsAs (AnswersBench call.now) result }
-{
-    let statement = write_bench(alloc, call.size as u32)?;
-    let problem = read_statement(alloc, &statement)?;
-    let asked = Asked {
-        budget: BENCH_BUDGET,
-        form: Format::Lemmas,
-        seed: 1,
-        models: false,
-    };
-    head_claims(rt, alloc, &problem, asked, call.workers as u32, gate)
 }

@@ -101,6 +101,16 @@ fn overflow_text(alloc: Global, row: u32, overflow: &Overflow) -> Result<Vec<u8>
     Ok(text.into_bytes())
 }
 
+// Three texts behind one another.
+fn joined(alloc: Global, front: &[u8], middle: &[u8], back: &[u8]) -> Result<Vec<u8>, AllocError>
+    ensures { IfOk result (λ text. text.items ≡ front.now ++ (middle.now ++ back.now)) }
+{
+    let mut text = front.to_vec(alloc)?;
+    text.extend_from_slice(middle)?;
+    text.extend_from_slice(back)?;
+    Ok(text)
+}
+
 fn difference_text(
     alloc: Global,
     quiver: &Quiver,
@@ -111,14 +121,11 @@ fn difference_text(
     requires { IsOver (letter_count quiver.now) word.now }
     ensures { IfOk result (λ text. text.items ≡ codes "C6 word " ++ (word_text quiver.now word.now ++ (codes " want " ++ (signed_decimal want ++ (codes " got " ++ signed_decimal got))))) }
 {
-    let letters = write_word(alloc, quiver, word)?;
     let mut wanted = Buffer::new();
     let mut found = Buffer::new();
+    let letters = write_word(alloc, quiver, word)?;
     let numbers = format!(in alloc; " want {} got {}", wanted.format(want), found.format(got))?;
-    let mut text = b"C6 word ".to_vec(alloc)?;
-    text.extend_from_slice(&letters)?;
-    text.extend_from_slice(numbers.as_bytes())?;
-    Ok(text)
+    joined(alloc, b"C6 word ", &letters, numbers.as_bytes())
 }
 
 fn indivisible_text(
@@ -131,12 +138,10 @@ fn indivisible_text(
     requires { IsOver (letter_count quiver.now) word.now }
     ensures { IfOk result (λ text. text.items ≡ codes "C8 lemma " ++ (decimal lemma ++ (codes " word " ++ (word_text quiver.now word.now ++ (codes " got " ++ signed_decimal got))))) }
 {
-    let letters = write_word(alloc, quiver, word)?;
+    let mut number = Buffer::new();
     let mut found = Buffer::new();
+    let letters = write_word(alloc, quiver, word)?;
+    let front = format!(in alloc; "C8 lemma {} word ", number.format(lemma))?;
     let end = format!(in alloc; " got {}", found.format(got))?;
-    let mut text = numbered(alloc, "C8 lemma ", lemma)?;
-    text.extend_from_slice(b" word ")?;
-    text.extend_from_slice(&letters)?;
-    text.extend_from_slice(end.as_bytes())?;
-    Ok(text)
+    joined(alloc, front.as_bytes(), &letters, end.as_bytes())
 }

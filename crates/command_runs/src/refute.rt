@@ -2,18 +2,14 @@
 ghost use Rattle.std.specs.Prelude.{◌<◌, ◌≤◌, IfOk, length};
 ghost use Rattle.std.specs.List.{All, AllZip};
 ghost use Rattle.claim_decider.specs.Decided.{claim_numbers};
-ghost use Rattle.command_words.specs.Calls.{IsInRange};
-ghost use Rattle.command_words.specs.declared.call.Call.TheVariants.{Refute};
 ghost use Rattle.model_search.specs.Models.{IsClaimNumber};
 ghost use Rattle.report_text.specs.Report.{IsVerdictOver};
-ghost use Rattle.command_runs.specs.Refute.{IsSearchedOn, AnswersSearch, AnswersRefute};
+ghost use Rattle.command_runs.specs.Refute.{IsSearchedOn, AnswersSearch};
 ghost use Rattle.command_runs.specs.Stop.{EndsAs};
 
 use crate::ending::Ending;
-use crate::statement::read_statement;
 use crate::stop::Stop;
 use adjoint_rules::Problem;
-use command_words::RefuteCall;
 use in_order_parallel::Gate;
 use lists::Listing;
 use model_search::{all_candidates, search};
@@ -21,24 +17,8 @@ use report_text::{Verdict, report, status_of};
 use std::alloc::{AllocError, Global};
 use std::thread::Threads;
 
-/// How a run of `refute` ends that has loaded its statement: with the report of all verdicts.
-pub fn refute<R: Threads + Sync, G: Gate + Sync>(
-    rt: &R,
-    alloc: Global,
-    call: &RefuteCall,
-    statement: &[u8],
-    gate: &G,
-) -> Result<Ending, Stop>
-    requires in_range { IsInRange (Refute call.now) }
-    requires statement_fits { length statement.now ≤ 1048576 }
-    ensures { EndsAs (AnswersRefute call.now statement.now) result }
-{
-    let problem = read_statement(alloc, statement)?;
-    report_search(rt, alloc, &problem, call.seed, call.workers as u32, gate)
-}
-
-// How a run ends over a problem: with the report of all verdicts.
-fn report_search<R: Threads + Sync, G: Gate + Sync>(
+/// How a run of `refute` ends over a problem: with the report of all verdicts.
+pub fn report_search<R: Threads + Sync, G: Gate + Sync>(
     rt: &R,
     alloc: Global,
     problem: &Problem,

@@ -1,11 +1,14 @@
 //! The top call.
-ghost use Rattle.std.specs.Prelude.{◌≡◌, IfOk, IsTrue};
+ghost use Rattle.std.specs.Prelude.{◌≡◌, IfOk, IfErr, IsTrue};
 ghost use Rattle.std.specs.Io.KnownBytes.{Appends};
 ghost use Rattle.flow_io.specs.Causes.{Rose};
+ghost use Rattle.command_words.specs.Calls.{IsInRange};
+ghost use Rattle.command_runs.specs.Answers.{Answers};
+ghost use Rattle.command_runs.specs.Call.{files_of};
 ghost use Rattle.command_runs.specs.Ends.{MayEnd};
-ghost use Rattle.command_runs.specs.Files.{RoseAt};
+ghost use Rattle.command_runs.specs.Files.{RoseAt, WereLoaded, AfterFiles};
 ghost use Rattle.command_runs.specs.Put.{IsPut};
-ghost use Rattle.command_runs.specs.Stop.{EndsAs};
+ghost use Rattle.command_runs.specs.Stop.{StopsBy, EndsAs};
 ghost use Rattle.command_runs.specs.Run.{seen, IsReported, IsSinkFailure, IsCutShort, IsUsage, TellsOtherWords, IsNotLoaded, TellsMissing, TellsTooLong, IsAnswered, IsComplete};
 ghost use Rattle.command_runs.specs.Headline.{MeansAsSaid};
 
@@ -15,9 +18,10 @@ use crate::ending::Ending;
 use crate::files::load_files;
 use crate::stop::Stop;
 use category_laws::Preadditive;
-use command_words::{Refusal, read_words};
+use command_words::{Call, Refusal, read_words};
 use flow_io::{Shelf, Sink, put_all};
 use in_order_parallel::Gate;
+use lists::Listing;
 use representations::{lemmas_sound, sound};
 use std::alloc::{AllocError, Global};
 use std::thread::Threads;
@@ -25,6 +29,34 @@ use std::thread::Threads;
 const SINK_FAILED: u8 = 5;
 
 const OUT_OF_MEMORY: u8 = 6;
+
+// The contents of the call's files, or how the run ends at the first that can't be loaded.
+fn load_call<L: Shelf>(
+    alloc: Global,
+    call: &Call,
+    shelf: &mut L,
+) -> Result<Listing<Listing<u8>>, Stop>
+    ensures loaded { IfOk result (WereLoaded (L.file shelf.old) (files_of call.now)) }
+    ensures stopped { IfErr result (StopsBy (AfterFiles (L.file shelf.old) (RoseAt (L.faults shelf.old) (L.faults shelf.new)) (files_of call.now) (λ _ _. ⊥))) }
+{
+    let files = call_files(alloc, call)?;
+    load_files(alloc, shelf, files.as_slice())
+}
+
+// The answer of the call, from its files.
+fn answer_call<R: Threads + Sync, L: Shelf, G: Gate + Sync>(
+    rt: &R,
+    alloc: Global,
+    call: &Call,
+    shelf: &mut L,
+    gate: &G,
+) -> Result<Ending, Stop>
+    requires { IsInRange call.now }
+    ensures { EndsAs (AfterFiles (L.file shelf.old) (RoseAt (L.faults shelf.old) (L.faults shelf.new)) (files_of call.now) (Answers call.now)) result }
+{
+    let contents = load_call(alloc, call, shelf)?;
+    answer(rt, alloc, call, contents.as_slice(), gate)
+}
 
 // The answer of the call that the words are, from its files.
 fn answer_words<R: Threads + Sync, L: Shelf, G: Gate + Sync>(
@@ -36,14 +68,11 @@ fn answer_words<R: Threads + Sync, L: Shelf, G: Gate + Sync>(
 ) -> Result<Ending, Stop>
     ensures { EndsAs (MayEnd words.now (L.file shelf.old) (RoseAt (L.faults shelf.old) (L.faults shelf.new))) result }
 {
-    let call = match read_words(alloc, words) {
-        Ok(call) => call,
-        Err(Refusal::Words) => return Ok(Ending::usage(alloc)?),
-        Err(Refusal::Memory) => return Err(Stop::Memory(AllocError)),
-    };
-    let files = call_files(alloc, &call)?;
-    let contents = load_files(alloc, shelf, files.as_slice())?;
-    answer(rt, alloc, &call, contents.as_slice(), gate)
+    match read_words(alloc, words) {
+        Ok(call) => answer_call(rt, alloc, &call, shelf, gate),
+        Err(Refusal::Words) => Ok(Ending::usage(alloc)?),
+        Err(Refusal::Memory) => Err(Stop::Memory(AllocError)),
+    }
 }
 
 // How a run ends, before anything is put.

@@ -1,9 +1,10 @@
 //! What no clause says of the calls of the devices: their order, and that none comes after one that failed.
+use crate::calls::{owned, shelf_of};
 use category_laws::Parity;
 use command_runs::run;
 use flow_io::{MemoryShelf, MemorySink};
 use in_order_parallel::OpenGate;
-use lists::{Listing, Text};
+use lists::Listing;
 use std::alloc::{AllocError, Global};
 use std::test::Fail;
 use std::thread::Threads;
@@ -35,24 +36,6 @@ const PUTS: [Row; 5] = [
     (&[7], 5, ACCEPTED, 7),
 ];
 
-fn words(alloc: Global) -> Result<Vec<String>, AllocError> {
-    let mut all = Vec::new(alloc);
-    for word in ["check", "s", "c"] {
-        all.push(String::from_str(alloc, word)?)?;
-    }
-    Ok(all)
-}
-
-// A shelf with the files `s` and `c`, of which these loads fail.
-fn shelf(alloc: Global, statement: &[u8], failing: &[u64]) -> Result<MemoryShelf, AllocError> {
-    let mut files = Listing::new(alloc);
-    let first = Text::from_str(alloc, "s")?;
-    files.push((first, Listing::from_vec(statement.to_vec(alloc)?)))?;
-    let second = Text::from_str(alloc, "c")?;
-    files.push((second, Listing::from_vec(EVIDENCE.to_vec(alloc)?)))?;
-    MemoryShelf::new(alloc, files, Listing::from_vec(failing.to_vec(alloc)?))
-}
-
 fn sink(alloc: Global, failing: &[u64]) -> Result<MemorySink, AllocError> {
     MemorySink::new(alloc, 8, 1000, Listing::from_vec(failing.to_vec(alloc)?))
 }
@@ -73,7 +56,7 @@ fn done_with<R: Threads + Sync>(
     shelf: &mut MemoryShelf,
     sink: &mut MemorySink,
 ) -> Result<Done, AllocError> {
-    let words = words(alloc)?;
+    let words = owned(alloc, &["check", "s", "c"])?;
     let status = run(rt, alloc, &Parity, &words, shelf, sink, &OpenGate);
     Ok(Done {
         status,
@@ -92,7 +75,7 @@ fn done_over<R: Threads + Sync>(
     loads: &[u64],
     puts: &[u64],
 ) -> Result<Done, AllocError> {
-    let mut shelf = shelf(alloc, statement, loads)?;
+    let mut shelf = shelf_of(alloc, statement, EVIDENCE, loads)?;
     let mut sink = sink(alloc, puts)?;
     done_with(rt, alloc, &mut shelf, &mut sink)
 }

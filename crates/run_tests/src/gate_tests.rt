@@ -1,11 +1,12 @@
 //! What no clause says of the runs that decide and refute claims: that rounds and candidates are on threads, and that all claims
 //! share one run.
+use crate::calls::{owned, shelf_of};
 use crate::decided_rows::{POWER, POWER_TWICE, TWO_CANDIDATES};
 use category_laws::Parity;
 use command_runs::run;
-use flow_io::{MemoryShelf, MemorySink};
+use flow_io::MemorySink;
 use in_order_parallel::Gate;
-use lists::{Listing, Text};
+use lists::Listing;
 use std::alloc::{AllocError, Global};
 use std::sync::atomic::{AtomicU64, Ordering};
 use std::test::Fail;
@@ -61,13 +62,6 @@ impl Gate for Meeting {
     }
 }
 
-fn shelf_of(alloc: Global, statement: &[u8]) -> Result<MemoryShelf, AllocError> {
-    let mut files = Listing::new(alloc);
-    let name = Text::from_str(alloc, "s")?;
-    files.push((name, Listing::from_vec(statement.to_vec(alloc)?)))?;
-    MemoryShelf::new(alloc, files, Listing::new(alloc))
-}
-
 // The status of a run over the statement.
 fn status<R: Threads + Sync, G: Gate + Sync>(
     rt: &R,
@@ -76,11 +70,8 @@ fn status<R: Threads + Sync, G: Gate + Sync>(
     statement: &[u8],
     gate: &G,
 ) -> Result<u8, AllocError> {
-    let mut words = Vec::new(alloc);
-    for word in call {
-        words.push(String::from_str(alloc, word)?)?;
-    }
-    let mut shelf = shelf_of(alloc, statement)?;
+    let words = owned(alloc, call)?;
+    let mut shelf = shelf_of(alloc, statement, b"", &[])?;
     let mut sink = MemorySink::new(alloc, 8, 1000, Listing::new(alloc))?;
     Ok(run(rt, alloc, &Parity, &words, &mut shelf, &mut sink, gate))
 }

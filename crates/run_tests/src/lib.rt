@@ -4,6 +4,8 @@
 #[cfg(test)]
 mod call_tests;
 #[cfg(test)]
+mod calls;
+#[cfg(test)]
 mod decided_rows;
 #[cfg(test)]
 mod gallery_rows;

@@ -1,4 +1,5 @@
 //! Runs of the program over files and a sink in memory.
+use crate::calls::{owned, shelf_of};
 use crate::decided_rows::{
     BROKEN, DOUBLED, INNER, OTHERS, PLAIN, PROVED, PROVED_PLAINLY, WITHOUT_FILES,
 };
@@ -10,7 +11,7 @@ use category_laws::Parity;
 use command_runs::run;
 use flow_io::{MemoryShelf, MemorySink};
 use in_order_parallel::OpenGate;
-use lists::{Listing, Text};
+use lists::Listing;
 use std::alloc::{AllocError, Global};
 use std::process::Abort;
 use std::test::Fail;
@@ -19,20 +20,6 @@ use std::thread::Threads;
 const CHECK: &[&str] = &["check", "s", "c"];
 
 const MODEL: &[&str] = &["model", "s", "c"];
-
-// A shelf with the files `s` and `c`.
-fn shelf_of(
-    alloc: Global,
-    statement: &[u8],
-    certificate: &[u8],
-) -> Result<MemoryShelf, AllocError> {
-    let mut files = Listing::new(alloc);
-    let first = Text::from_str(alloc, "s")?;
-    files.push((first, Listing::from_vec(statement.to_vec(alloc)?)))?;
-    let second = Text::from_str(alloc, "c")?;
-    files.push((second, Listing::from_vec(certificate.to_vec(alloc)?)))?;
-    MemoryShelf::new(alloc, files, Listing::new(alloc))
-}
 
 // The status of a run and what is put.
 fn answer_over<R: Threads + Sync>(
@@ -46,14 +33,6 @@ fn answer_over<R: Threads + Sync>(
     let put = String::from_utf8(sink.bytes().to_vec(alloc)?)?;
     let end = if sink.finished() { "" } else { " not finished" };
     Ok(format!(in alloc; "{status} {}{end}", put.as_str())?)
-}
-
-fn owned(alloc: Global, words: &[&str]) -> Result<Vec<String>, AllocError> {
-    let mut all = Vec::new(alloc);
-    for word in words {
-        all.push(String::from_str(alloc, word)?)?;
-    }
-    Ok(all)
 }
 
 // The status of a run and what is put, into a sink whose puts with these numbers fail.
@@ -79,7 +58,7 @@ fn answer<R: Threads + Sync>(
     certificate: &[u8],
     failing: &[u64],
 ) -> Result<String, Fail> {
-    let mut shelf = shelf_of(alloc, statement, certificate)?;
+    let mut shelf = shelf_of(alloc, statement, certificate, &[])?;
     answer_to(rt, alloc, words, &mut shelf, failing)
 }
 
