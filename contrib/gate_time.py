@@ -5,8 +5,8 @@ usage: gate_time.py [COMMAND ..]
 
 Without a command it runs `bash .ci/run`. From nothing is a fresh clone on a machine where rt has kept nothing. Twice a second the processes of
 the prover are looked up in /proc (so this wants Linux), and their time is counted by the crate and the pass that they work at: all of the
-machine's, so nothing else may run. What a process does in its last half second isn't seen. A processor of a shared machine may be half as fast in one hour as in another: compare crates that haven't
-changed before two tables are compared.
+machine's, so nothing else may run. What a process does in its last half second isn't seen. A processor of a shared machine may be half as fast
+in one hour as in another: compare crates that haven't changed before two tables are compared.
 """
 from __future__ import annotations
 
