@@ -1,9 +1,10 @@
 -- What follows of how a run ends behind its files.
 use Rattle.std.proofs.Common.{◌≡◌, inl, inr, ℕ, List, [], ◌∷◌, ◌++◌, refl, sym, ap, subst, arith, length, ◌<◌, ◌≤◌}
 use Rattle.std.specs.List.{AllByRecursion}
+use Rattle.flow_io.specs.Causes.{Rose}
 use Rattle.flow_io.specs.Told.{Told, Absent, Holds, MayExceed}
-use Rattle.command_runs.specs.declared.call.FileWord.{FileWord}
-use Rattle.command_runs.specs.Ending.{Ending, load_failed, too_long}
+use Rattle.command_answers.specs.declared.call.FileWord.{FileWord}
+use Rattle.command_answers.specs.Ending.{Ending, load_failed, too_long}
 use Rattle.command_runs.specs.Files.{AreLoaded, EndsAtFile, AfterFiles, WereLoaded, AreHeld, IsReached, IsMissing, IsFirstTooLong}
 
 absent_loaded : (told : Told) (limit : ℕ) (bytes : List ℕ) → told ≡ Absent → AreLoaded told limit bytes → ⊥
@@ -24,6 +25,12 @@ past_loaded told limit file bytes is past loaded =
     let lengths : length bytes ≡ length file = ap length same in
     let fits : length bytes ≤ limit = loaded.1 in
     omega arith
+
+-- the count was no higher before, and as much is told of the file
+pub ends_earlier : (told told' : Told) (before before' now : ℕ) (name : List ℕ) (limit : ℕ) (ending : Ending) → told' ≡ told → before ≤ before'
+    → EndsAtFile told' (Rose before' now) name limit ending → EndsAtFile told (Rose before now) name limit ending
+ends_earlier told told' before before' now name limit ending same order (inl (cause, is)) = inl (omega arith, is)
+ends_earlier told told' before before' now name limit ending same order (inr (long, is)) = inr (subst (λ (t : Told). MayExceed t limit) same long, is)
 
 module _ (told : List ℕ → Told) (rose : List ℕ → Type 0) where
   -- what the contents lead to may say less

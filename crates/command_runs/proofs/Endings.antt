@@ -6,18 +6,20 @@ use Rattle.representations.specs.Evidence.{IsEvidenceSound}
 use Rattle.clap.specs.Words.{subcommand_of}
 use Rattle.command_words.specs.CommandSet.{command_set}
 use Rattle.command_words.proofs.Unique.{one_call}
-use Rattle.command_runs.specs.declared.call.FileWord.{FileWord}
+use Rattle.command_answers.specs.declared.call.FileWord.{FileWord}
 use Rattle.command_words.specs.declared.call.Call.{Call}
-use Rattle.command_runs.specs.Call.{IsCalled, IsTaken, files_of}
-use Rattle.command_runs.specs.Ending.{Ending, usage, too_long}
+use Rattle.command_answers.specs.FileWords.{files_of}
+use Rattle.command_runs.specs.Call.{IsCalled, IsTaken}
+use Rattle.command_answers.specs.Ending.{Ending, usage, too_long}
 use Rattle.command_runs.specs.Files.{AfterFiles, AreHeld, IsMissing, IsFirstTooLong}
-use Rattle.command_runs.specs.Answers.{Answers}
+use Rattle.command_answers.specs.Answers.{Answers}
 use Rattle.command_runs.specs.Ends.{EndsBy, MayEnd, other_words, called}
 use Rattle.command_runs.specs.Put.{IsPut, whole, in_part}
 use Rattle.command_runs.specs.Run.{Run, SaysLoadFailed, SaysTooLong, SaysAnswer}
-use Rattle.command_runs.specs.Headline.{Says, HasMeaning}
+use Rattle.command_answers.specs.Says.{Says}
+use Rattle.command_runs.specs.Headline.{HasMeaning}
 use Rattle.command_runs.proofs.AfterFiles.{Failed, Long, All, Kind, failed, long, all, kind, held, missing, first_too_long, after_weaker}
-use Rattle.command_runs.proofs.Commands.{answers_once, answer_status, answers_say}
+use Rattle.command_answers.proofs.Commands.{answers_once, answer_status, answers_say}
 
 status_is : {ending end : Ending} → ending ≡ end → ending.status ≡ end.status
 status_is same = ap (λ (e : Ending). e.status) same

@@ -1,25 +1,7 @@
 //! A run of the program: from its words and the bytes of its files to the report and the status.
 #![tactic(auto)]
 
-mod answer;
-mod call;
-mod check;
-mod confirm;
-mod decide;
-mod ending;
-mod fault;
 mod files;
-mod judge;
-mod laws;
-mod refusal;
-mod refute;
-mod statement;
-mod stop;
 mod whole_run;
 
-pub use laws::{
-    a_call_is_answered_once, a_faulty_statement_is_answered_by_3,
-    accepted_certificates_are_answered_by_0, confirmed_models_are_answered_by_0,
-    each_call_has_an_ending, status_0_means_what_certificates_mean,
-};
 pub use whole_run::run;

@@ -2,7 +2,7 @@
 use crate::texts::same;
 use adjoint_rules::Shape;
 use lists::Listing;
-use model_search::{ShapeFault, check_shape};
+use model_candidates::{ShapeFault, check_shape};
 use std::alloc::Global;
 use std::test::Fail;
 

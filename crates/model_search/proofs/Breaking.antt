@@ -10,12 +10,12 @@ use Rattle.adjoint_rules.specs.declared.parts.Shape.{Shape}
 use Rattle.adjoint_rules.specs.declared.problem.Problem.{Problem}
 use Rattle.adjoint_rules.specs.Problem.{IsShape}
 use Rattle.adjoint_rules.proofs.Generators.{posed_quiver}
-use Rattle.model_search.specs.Models.{IsModel, HaveMatrices, IsClaimNumber, IsFitting, Refutes}
-use Rattle.model_search.specs.Candidates.{entries_of, digit, digits, model_by, candidate_count, IsShapeOf, IsCandidate, naming, Breaks}
+use Rattle.model_checker.specs.Models.{IsModel, HaveMatrices, IsClaimNumber, IsFitting, Refutes}
+use Rattle.model_candidates.specs.Candidates.{entries_of, digit, digits, model_by, candidate_count, IsShapeOf, IsCandidate, naming, Breaks}
 use Rattle.model_search.specs.Searches.{NoneBreaksAt}
-use Rattle.model_search.proofs.CandidateLaws.{candidate_is_unique}
-use Rattle.model_search.proofs.CandidateModels.{modulus_of_shape, model_by_is_model, model_by_has_matrices}
-use Rattle.model_search.proofs.NumberedShapes.{shape_is_one, shape_is}
+use Rattle.model_candidates.proofs.CandidateLaws.{candidate_is_unique}
+use Rattle.model_candidates.proofs.CandidateModels.{modulus_of_shape, model_by_is_model, model_by_has_matrices}
+use Rattle.model_candidates.proofs.NumberedShapes.{shape_is_one, shape_is}
 
 -- ---- models of candidates
 -- values below the modulus make the model

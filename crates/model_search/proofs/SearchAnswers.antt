@@ -7,15 +7,15 @@ use Rattle.quiver.proofs.Counts.{letters-quiver_of}
 use Rattle.matrix_models.specs.declared.model.Model.{Model}
 use Rattle.adjoint_rules.specs.declared.parts.Shape.{Shape}
 use Rattle.adjoint_rules.specs.declared.problem.Problem.{Problem}
-use Rattle.model_search.specs.Models.{IsModel, Refutes}
-use Rattle.model_search.specs.Candidates.{IsShapeOf, IsCandidate, candidate_count, naming, Breaks, IsEarlier, NoneBreaks}
+use Rattle.model_checker.specs.Models.{IsModel, Refutes}
+use Rattle.model_candidates.specs.Candidates.{IsShapeOf, IsCandidate, candidate_count, naming, Breaks, IsEarlier, NoneBreaks}
 use Rattle.model_search.specs.SearchLaws.{LeastBreakingIsUnique, NoneBreaksLeavesNoLeast, HasLeastBreaking, EachSearchHasAnAnswer, BreakingCandidatesRefute}
 use Rattle.model_search.specs.Searches.{NoneBreaksAt}
 use Rattle.model_search.proofs.Breaking.{named_model, breaks_where_it_refutes, none_without_model, none_where_it_does_not, breaking_model_is_one}
-use Rattle.model_search.proofs.NumberedShapes.{shape_is_one}
-use Rattle.model_search.proofs.CandidateLaws.{each_number_has_a_candidate}
-use Rattle.model_search.proofs.Decided.{IsDecided}
-use Rattle.model_search.proofs.Judged.{refutes_decided}
+use Rattle.model_candidates.proofs.NumberedShapes.{shape_is_one}
+use Rattle.model_candidates.proofs.CandidateLaws.{each_number_has_a_candidate}
+use Rattle.model_checker.proofs.Decided.{IsDecided}
+use Rattle.model_checker.proofs.Judged.{refutes_decided}
 
 -- ---- one at most
 -- of two places one is earlier, or they are one

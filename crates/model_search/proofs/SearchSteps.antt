@@ -7,7 +7,7 @@ use Rattle.matrix_models.specs.declared.model.Model.{Model}
 use Rattle.adjoint_rules.specs.declared.parts.Shape.{Shape}
 use Rattle.adjoint_rules.specs.declared.problem.Problem.{Problem}
 use Rattle.model_search.specs.declared.found.Found.{Found}
-use Rattle.model_search.specs.Candidates.{IsShapeOf, candidate_count, Breaks, IsEarlier, IsLeastBreaking, NoneBreaks}
+use Rattle.model_candidates.specs.Candidates.{IsShapeOf, candidate_count, Breaks, IsEarlier, IsLeastBreaking, NoneBreaks}
 use Rattle.model_search.specs.Searches.{NoneBreaksAt, IsFirstFrom}
 
 module _ (problem : Problem) (claim seed number : ℕ) where

@@ -1,13 +1,2 @@
-pub mod Models
-pub mod Memory
-pub mod Refusals
-pub mod Laws
-pub mod Listed
-pub mod Shapes
-pub mod Candidates
 pub mod SearchLaws
-pub mod EntryPlaces
-pub mod Unknowns
-pub mod Plans
 pub mod Searches
-pub mod Equations

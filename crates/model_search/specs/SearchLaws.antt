@@ -3,8 +3,8 @@ use Rattle.std.specs.Prelude.{◌≡◌, ◌⊎◌, ℕ, length}
 use Rattle.quiver.specs.Declarations.{object_count, letter_count, quiver_of}
 use Rattle.matrix_models.specs.declared.model.Model.{Model}
 use Rattle.adjoint_rules.specs.declared.problem.Problem.{Problem}
-use Rattle.model_search.specs.Models.{IsModel, Refutes}
-use Rattle.model_search.specs.Candidates.{Breaks, IsLeastBreaking, NoneBreaks}
+use Rattle.model_checker.specs.Models.{IsModel, Refutes}
+use Rattle.model_candidates.specs.Candidates.{Breaks, IsLeastBreaking, NoneBreaks}
 
 -- Of all candidates one at most is the least that breaks the claim.
 abbrev pub LeastBreakingIsUnique : Type 0

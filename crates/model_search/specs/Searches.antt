@@ -6,10 +6,10 @@ use Rattle.matrix_models.specs.declared.model.Model.{Model}
 use Rattle.adjoint_rules.specs.declared.parts.Shape.{Shape}
 use Rattle.adjoint_rules.specs.declared.problem.Problem.{Problem}
 use Rattle.model_search.specs.declared.found.Found.{Found}
-use Rattle.model_search.specs.declared.plan.Plan.{Plan}
-use Rattle.model_search.specs.Models.{IsClaimNumber}
-use Rattle.model_search.specs.Plans.{IsPlan}
-use Rattle.model_search.specs.Candidates.{IsShapeOf, candidate_count, Breaks}
+use Rattle.model_candidates.specs.declared.plan.Plan.{Plan}
+use Rattle.model_checker.specs.Models.{IsClaimNumber}
+use Rattle.model_candidates.specs.Plans.{IsPlan}
+use Rattle.model_candidates.specs.Candidates.{IsShapeOf, candidate_count, Breaks}
 
 -- The number of a claim, and that of a candidate of the plan's shape.
 pub record CanBeTested (problem : Problem) (claim : ℕ) (plan : Plan) (k : ℕ) : Type 0 where

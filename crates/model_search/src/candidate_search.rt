@@ -3,18 +3,16 @@ ghost use Rattle.std.specs.Prelude.{◌≡◌, ◌<◌, ◌≤◌, ◌+◌, ◌^
 ghost use Rattle.std.specs.List.{All, range_with_len};
 ghost use Rattle.quiver.specs.Declarations.{quiver_of};
 ghost use Rattle.adjoint_rules.specs.declared.parts.Shape.{Shape as ShapeValue};
-ghost use Rattle.model_search.specs.Models.{IsClaimNumber};
-ghost use Rattle.model_search.specs.Candidates.{IsShapeOf, candidate_count, IsLeastBreaking, NoneBreaks};
-ghost use Rattle.model_search.specs.Plans.{IsPlan};
+ghost use Rattle.model_checker.specs.Models.{IsClaimNumber};
+ghost use Rattle.model_candidates.specs.Candidates.{IsShapeOf, candidate_count, IsLeastBreaking, NoneBreaks};
+ghost use Rattle.model_candidates.specs.Plans.{IsPlan};
 ghost use Rattle.model_search.specs.Searches.{CanBeTested, NoneBreaksAt, IsTested, IsFirstFrom, IsFirstFound};
 
 use crate::Found;
-use crate::candidate_count::candidates;
-use crate::confirm::refutes;
-use crate::one_candidate::candidate_by;
-use crate::plan::{Plan, plan_of};
 use adjoint_rules::Problem;
 use in_order_parallel::{Gate, Job, map_in_order};
+use model_candidates::{Plan, candidate_by, candidates, plan_of};
+use model_checker::refutes;
 use std::alloc::{AllocError, Global};
 use std::thread::Threads;
 

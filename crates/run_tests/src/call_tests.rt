@@ -1,5 +1,5 @@
 //! What no clause says of the calls of the devices: their order, and that none comes after one that failed.
-use crate::calls::{owned, shelf_of};
+use crate::calls::{equal, owned, shelf_of};
 use category_laws::Parity;
 use command_runs::run;
 use flow_io::{MemoryShelf, MemorySink};
@@ -20,7 +20,7 @@ const ACCEPTED: &str = "# block 1 accepted claim 1 denominator 1\n";
 // The numbers of the calls that fail, the status, the bytes that are put, and the number of calls.
 type Row = (&'static [u64], u8, &'static str, u64);
 
-const LOADS: [Row; 4] = [
+const LOADS: &[Row] = &[
     (&[], 0, ACCEPTED, 2),
     (&[1], 4, "# load failed s\n", 1),
     (&[2], 4, "# load failed c\n", 2),
@@ -28,7 +28,7 @@ const LOADS: [Row; 4] = [
 ];
 
 // Eight bytes a put: six puts and a finish.
-const PUTS: [Row; 5] = [
+const PUTS: &[Row] = &[
     (&[], 0, ACCEPTED, 7),
     (&[1], 5, "", 1),
     (&[2], 5, "# block ", 2),
@@ -82,11 +82,10 @@ fn done_over<R: Threads + Sync>(
 
 #[test]
 fn files_are_loaded_in_order_up_to_the_first_that_fails(rt: HostRuntime) -> Result<(), Fail> {
-    for (failing, status, report, loads) in &LOADS {
+    for (failing, status, report, loads) in LOADS {
         let done = done_over(&rt, rt.alloc(), STATEMENT, failing, &[])?;
-        assert_eq!(rt; done.status, *status, "{report}");
-        assert_eq!(rt; done.put.as_slice(), report.as_bytes(), "{report}");
-        assert_eq!(rt; done.loads, *loads, "{report}");
+        equal(&rt, &(done.status, done.loads), &(*status, *loads), report);
+        equal(&rt, &done.put.as_slice(), &report.as_bytes(), report);
     }
     Ok(())
 }
@@ -94,19 +93,22 @@ fn files_are_loaded_in_order_up_to_the_first_that_fails(rt: HostRuntime) -> Resu
 #[test]
 fn both_files_are_loaded_before_the_statement_is_read(rt: HostRuntime) -> Result<(), Fail> {
     let done = done_over(&rt, rt.alloc(), FAULTY, &[], &[])?;
-    assert_eq!(rt; done.status, 3);
-    assert_eq!(rt; done.loads, 2);
+    equal(
+        &rt,
+        &(done.status, done.loads),
+        &(3, 2),
+        "a faulty statement",
+    );
     Ok(())
 }
 
 #[test]
 fn nothing_is_put_after_a_put_that_failed(rt: HostRuntime) -> Result<(), Fail> {
-    for (failing, status, put, calls) in &PUTS {
+    for (failing, status, put, calls) in PUTS {
         let done = done_over(&rt, rt.alloc(), STATEMENT, &[], failing)?;
-        assert_eq!(rt; done.status, *status, "{calls}");
-        assert_eq!(rt; done.put.as_slice(), put.as_bytes(), "{calls}");
-        assert_eq!(rt; done.calls, *calls);
-        assert_eq!(rt; done.finished, *status == 0, "{calls}");
+        equal(&rt, &(done.status, done.calls), &(*status, *calls), put);
+        equal(&rt, &done.put.as_slice(), &put.as_bytes(), put);
+        equal(&rt, &done.finished, &(*status == 0), put);
     }
     Ok(())
 }

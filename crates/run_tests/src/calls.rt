@@ -1,7 +1,9 @@
-//! The words and the files of a call.
+//! What the tests share: the words and the files of a call, and the comparison of what came with what was expected.
 use flow_io::MemoryShelf;
 use lists::{Listing, Text};
 use std::alloc::{AllocError, Global};
+use std::fmt::Debug;
+use std::process::Abort;
 
 /// The words as texts of their own.
 pub fn owned(alloc: Global, words: &[&str]) -> Result<Vec<String>, AllocError> {
@@ -25,4 +27,9 @@ pub fn shelf_of(
     let second = Text::from_str(alloc, "c")?;
     files.push((second, Listing::from_vec(evidence.to_vec(alloc)?)))?;
     MemoryShelf::new(alloc, files, Listing::from_vec(failing.to_vec(alloc)?))
+}
+
+/// Ends the test where what came is not what was expected, and tells both with the name of the row.
+pub fn equal<T: PartialEq + Debug>(rt: &impl Abort, got: &T, want: &T, row: &str) {
+    assert_eq!(rt; got, want, "{row}");
 }

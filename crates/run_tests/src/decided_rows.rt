@@ -1,7 +1,7 @@
 //! Runs of `prove`, `refute` and `bench`: words, a statement, and the status with the report, worked out by hand.
 
 /// The words, the statement that they name by `s`, and the status with the report.
-pub type Row = (&'static [&'static str], &'static [u8], &'static str);
+pub type CallRow = (&'static [&'static str], &'static [u8], &'static str);
 
 const REFLEXIVE: &[u8] = b"object U\nmap a : U -> U\nclaim a = a\n";
 
@@ -66,7 +66,7 @@ const BENCH: &str =
     "10 # claim 1 proved denominator 1 rows 79\n# claim 2 not derivable rules 241\n";
 
 /// Claims that are proved, by evidence with lemmas.
-pub const PROVED: &[Row] = &[
+pub const PROVED: &[CallRow] = &[
     (
         PROVE,
         REFLEXIVE,
@@ -90,7 +90,7 @@ pub const PROVED: &[Row] = &[
 ];
 
 /// Claims that are proved, by rows over generators alone.
-pub const PROVED_PLAINLY: &[Row] = &[
+pub const PROVED_PLAINLY: &[CallRow] = &[
     (
         PLAIN,
         REFLEXIVE,
@@ -119,7 +119,7 @@ pub const PROVED_PLAINLY: &[Row] = &[
 ];
 
 /// Claims that no positive multiple of is a combination of the generators, and claims that are left undecided.
-pub const OTHERS: &[Row] = &[
+pub const OTHERS: &[CallRow] = &[
     (
         PROVE,
         ZERO_OBJECT,
@@ -159,7 +159,7 @@ pub const OTHERS: &[Row] = &[
 ];
 
 /// Claims that a small model breaks, and claims that none of the candidates does.
-pub const BROKEN: &[Row] = &[
+pub const BROKEN: &[CallRow] = &[
     (
         REFUTE,
         ONE_SIDED,
@@ -233,7 +233,7 @@ pub const BROKEN: &[Row] = &[
 ];
 
 /// Runs of `bench`, and words that are not taken.
-pub const WITHOUT_FILES: &[Row] = &[
+pub const WITHOUT_FILES: &[CallRow] = &[
     (
         &["bench", "1"],
         b"",

@@ -76,9 +76,12 @@ fn status<R: Threads + Sync, G: Gate + Sync>(
     Ok(run(rt, alloc, &Parity, &words, &mut shelf, &mut sink, gate))
 }
 
+// A statement with one claim, and the same with two.
+const POWERS: &[&[u8]] = &[POWER, POWER_TWICE];
+
 #[test]
 fn claims_share_one_run(rt: HostRuntime) -> Result<(), Fail> {
-    for statement in [POWER, POWER_TWICE] {
+    for statement in POWERS {
         let gate = Counting {
             passed: AtomicU64::new(0),
         };

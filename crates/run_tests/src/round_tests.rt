@@ -119,75 +119,86 @@ fn name_of(quiver: &Quiver, letter: Letter) -> &str {
     }
 }
 
-// A blank and a name for each letter.
-fn word_text(alloc: Global, quiver: &Quiver, word: &Word) -> Result<String, Fail> {
-    let mut text = String::new(alloc);
+// Writes a blank and a name for each letter.
+fn write_word(text: &mut String, quiver: &Quiver, word: &Word) -> Result<(), AllocError> {
     for place in 0..word.len() {
         text.push_str(" ")?;
         text.push_str(name_of(quiver, word.letter(place)))?;
     }
-    Ok(text)
+    Ok(())
 }
 
-fn rule_text(alloc: Global, quiver: &Quiver, poly: &Poly, made: &Made) -> Result<String, Fail> {
-    let mut text = String::from_str(alloc, "rule")?;
+// Writes the line of a rule.
+fn write_rule(
+    text: &mut String,
+    quiver: &Quiver,
+    poly: &Poly,
+    made: &Made,
+) -> Result<(), AllocError> {
+    text.push_str("rule")?;
     for (coefficient, word) in poly.terms.as_slice() {
-        let word = word_text(alloc, quiver, word)?;
-        text = format!(in alloc; "{text} {coefficient}{word},")?;
+        write!(text, " {coefficient}")?;
+        write_word(text, quiver, word)?;
+        text.push_str(",")?;
     }
-    Ok(format!(in alloc; "{text} scale {}", made.scale)?)
+    write!(text, " scale {}\n", made.scale)
 }
 
-fn cause_text(alloc: Global, cause: Cause) -> Result<String, AllocError> {
+fn write_cause(text: &mut String, cause: Cause) -> Result<(), AllocError> {
     match cause {
-        Cause::Pairs { spent } => format!(in alloc; "pairs {spent}"),
-        Cause::Steps { limit } => format!(in alloc; "steps {limit}"),
-        Cause::Size { letters } => format!(in alloc; "size letters {letters}"),
-        Cause::Rows { letters } => format!(in alloc; "rows letters {letters}"),
+        Cause::Pairs { spent } => write!(text, "pairs {spent}"),
+        Cause::Steps { limit } => write!(text, "steps {limit}"),
+        Cause::Size { letters } => write!(text, "size letters {letters}"),
+        Cause::Rows { letters } => write!(text, "rows letters {letters}"),
         Cause::Overflow(fault) => {
             let sign = if fault.product { "times" } else { "plus" };
-            format!(in alloc; "overflow {} {sign} {}", fault.left, fault.right)
+            write!(text, "overflow {} {sign} {}", fault.left, fault.right)
         }
     }
 }
 
-fn halt_text(alloc: Global, quiver: &Quiver, halt: &Halt) -> Result<String, Fail> {
-    let mut text = cause_text(alloc, halt.cause)?;
+fn write_halt(text: &mut String, quiver: &Quiver, halt: &Halt) -> Result<(), AllocError> {
+    write_cause(text, halt.cause)?;
     if let Place::Round(number) = halt.place {
-        text = format!(in alloc; "{text} at round {number}")?;
+        write!(text, " at round {number}")?;
     }
     if let Some(word) = &halt.least {
-        let word = word_text(alloc, quiver, word)?;
-        text = format!(in alloc; "{text} least{word}")?;
+        text.push_str(" least")?;
+        write_word(text, quiver, word)?;
     }
-    Ok(text)
+    Ok(())
 }
 
-fn step_text(alloc: Global, quiver: &Quiver, step: &Step) -> Result<String, Fail> {
+fn write_step(text: &mut String, quiver: &Quiver, step: &Step) -> Result<(), AllocError> {
     match step {
-        Step::Went => Ok(String::from_str(alloc, "went")?),
-        Step::Closed => Ok(String::from_str(alloc, "closed")?),
+        Step::Went => text.push_str("went"),
+        Step::Closed => text.push_str("closed"),
         Step::Stopped(halt) => {
-            let halt = halt_text(alloc, quiver, halt)?;
-            Ok(format!(in alloc; "stopped {halt}")?)
+            text.push_str("stopped ")?;
+            write_halt(text, quiver, halt)
         }
     }
 }
 
-// The numbers of rules and of pending ambiguities, and the first of these with its word.
-fn state_text(alloc: Global, quiver: &Quiver, completion: &Completion) -> Result<String, Fail> {
+// Writes the numbers of rules and of pending ambiguities, and the first of these with its word.
+fn write_state(
+    text: &mut String,
+    quiver: &Quiver,
+    completion: &Completion,
+) -> Result<(), AllocError> {
     let rules = completion.rules().len();
     let pending = completion.pending();
-    let text = format!(in alloc; "rules {rules} pending {pending}")?;
+    write!(text, "rules {rules} pending {pending}")?;
     if pending == 0 {
-        return Ok(text);
+        return Ok(());
     }
     let (which, word) = completion.pending_at(0);
-    let word = word_text(alloc, quiver, word)?;
-    Ok(format!(in alloc;
-        "{text} first {} {} {:?} {}{word}",
+    write!(
+        text,
+        " first {} {} {:?} {}",
         which.i, which.j, which.kind, which.place
-    )?)
+    )?;
+    write_word(text, quiver, word)
 }
 
 // So many calls of `round`: a line on each.
@@ -207,22 +218,25 @@ fn rounds_text<R: Threads + Sync>(
     let mut text = String::new(alloc);
     for _ in 0..calls {
         let step = completion.round(rt, alloc, problem, workers, &OpenGate)?;
-        let step = step_text(alloc, quiver, &step)?;
-        let state = state_text(alloc, quiver, completion)?;
-        text = format!(in alloc; "{text}{step} {state}\n")?;
+        write_step(&mut text, quiver, &step)?;
+        text.push_str(" ")?;
+        write_state(&mut text, quiver, completion)?;
+        text.push_str("\n")?;
     }
     Ok(text)
 }
 
-// A line on each rule.
-fn rules_text(alloc: Global, quiver: &Quiver, completion: &Completion) -> Result<String, Fail> {
-    let mut text = String::new(alloc);
+// Writes a line on each rule.
+fn write_rules(
+    text: &mut String,
+    quiver: &Quiver,
+    completion: &Completion,
+) -> Result<(), AllocError> {
     let rules = completion.rules().rules.as_slice();
     for (rule, made) in rules.iter().zip(completion.made()) {
-        let rule = rule_text(alloc, quiver, &rule.poly, made)?;
-        text = format!(in alloc; "{text}{rule}\n")?;
+        write_rule(text, quiver, &rule.poly, made)?;
     }
-    Ok(text)
+    Ok(())
 }
 
 // The story of so many calls of `round`, and of the rules after them.
@@ -238,9 +252,9 @@ fn story_from<R: Threads + Sync>(
     requires some_worker { 0 < workers }
     requires at_most_64 { workers ≤ 64 }
 {
-    let rounds = rounds_text(rt, alloc, problem, completion, workers, calls)?;
-    let rules = rules_text(alloc, &problem.parts.quiver, completion)?;
-    Ok(format!(in alloc; "{rounds}{rules}")?)
+    let mut text = rounds_text(rt, alloc, problem, completion, workers, calls)?;
+    write_rules(&mut text, &problem.parts.quiver, completion)?;
+    Ok(text)
 }
 
 // The story of a completion from its start.

@@ -1,12 +1,12 @@
 //! Runs of the program over files and a sink in memory.
 use crate::calls::{owned, shelf_of};
 use crate::decided_rows::{
-    BROKEN, DOUBLED, INNER, OTHERS, PLAIN, PROVED, PROVED_PLAINLY, WITHOUT_FILES,
+    BROKEN, CallRow, DOUBLED, INNER, OTHERS, PLAIN, PROVED, PROVED_PLAINLY, WITHOUT_FILES,
 };
 use crate::gallery_rows::GALLERY;
 use crate::lemma_rows::{LEMMAS, LONG_WORD};
 use crate::model_rows::{FAULTS, MODELS};
-use crate::test_rows::{CALLS, EXAMPLES, JUDGED, REFUSED, SOUND};
+use crate::test_rows::{CALLS, EXAMPLES, JUDGED, REFUSED, Row, SOUND};
 use category_laws::Parity;
 use command_runs::run;
 use flow_io::{MemoryShelf, MemorySink};
@@ -76,12 +76,26 @@ fn tell<R: Threads + Sync + Abort>(
     Ok(())
 }
 
+// The same of each row of a table.
+fn tell_all<R: Threads + Sync + Abort>(
+    rt: &R,
+    alloc: Global,
+    words: &[&str],
+    rows: &[Row],
+) -> Result<(), Fail> {
+    for (statement, text, want) in rows {
+        tell(rt, alloc, words, statement, text, want)?;
+    }
+    Ok(())
+}
+
+// Statements with evidence texts, and what `check` answers.
+const CHECKED: &[&[Row]] = &[EXAMPLES, JUDGED, LEMMAS, REFUSED, &[SOUND]];
+
 #[test]
 fn each_run_has_its_status_and_report(rt: HostRuntime) -> Result<(), Fail> {
-    for rows in [EXAMPLES, JUDGED, LEMMAS, REFUSED, &[SOUND]] {
-        for (statement, certificate, want) in rows {
-            tell(&rt, rt.alloc(), CHECK, statement, certificate, want)?;
-        }
+    for rows in CHECKED {
+        tell_all(&rt, rt.alloc(), CHECK, rows)?;
     }
     for (words, want) in CALLS {
         tell(&rt, rt.alloc(), words, SOUND.0, SOUND.1, want)?;
@@ -91,20 +105,29 @@ fn each_run_has_its_status_and_report(rt: HostRuntime) -> Result<(), Fail> {
 
 #[test]
 fn models_are_confirmed_or_refused(rt: HostRuntime) -> Result<(), Fail> {
-    for rows in [MODELS, FAULTS] {
-        for (statement, models, want) in rows {
-            tell(&rt, rt.alloc(), MODEL, statement, models, want)?;
-        }
+    tell_all(&rt, rt.alloc(), MODEL, MODELS)?;
+    tell_all(&rt, rt.alloc(), MODEL, FAULTS)
+}
+
+// Asserts that the words of each row are answered so over its statement.
+fn tell_calls<R: Threads + Sync + Abort>(
+    rt: &R,
+    alloc: Global,
+    rows: &[CallRow],
+) -> Result<(), Fail> {
+    for (words, statement, want) in rows {
+        tell(rt, alloc, words, statement, b"", want)?;
     }
     Ok(())
 }
 
+// Calls that decide or refute claims, and what they answer.
+const DECIDED: &[&[CallRow]] = &[PROVED, PROVED_PLAINLY, OTHERS, BROKEN, WITHOUT_FILES];
+
 #[test]
 fn each_claim_has_its_verdict(rt: HostRuntime) -> Result<(), Fail> {
-    for rows in [PROVED, PROVED_PLAINLY, OTHERS, BROKEN, WITHOUT_FILES] {
-        for (words, statement, want) in rows {
-            tell(&rt, rt.alloc(), words, statement, b"", want)?;
-        }
+    for rows in DECIDED {
+        tell_calls(&rt, rt.alloc(), rows)?;
     }
     Ok(())
 }
@@ -164,24 +187,32 @@ fn evidence_of_known_identities_is_accepted(rt: HostRuntime) -> Result<(), Fail>
     Ok(())
 }
 
+// Asserts that the report of each proved claim is evidence that is accepted.
+fn check_reports<R: Threads + Sync + Abort>(
+    rt: &R,
+    alloc: Global,
+    rows: &[CallRow],
+) -> Result<(), Fail> {
+    for (_, statement, told) in rows {
+        let report = told.strip_prefix("0 ").unwrap_or("");
+        let got = answer(rt, alloc, CHECK, statement, report.as_bytes(), &[])?;
+        let is_accepted = got
+            .as_str()
+            .starts_with("0 # block 1 accepted claim 1 denominator ");
+        assert!(rt; is_accepted, "{got:?}");
+    }
+    Ok(())
+}
+
 // The report of a proved claim is evidence that is accepted, and that of a claim that isn't derivable has none.
 #[test]
 fn reports_are_evidence(rt: HostRuntime) -> Result<(), Fail> {
-    for rows in [PROVED, PROVED_PLAINLY] {
-        for (_, statement, told) in rows {
-            let report = told.strip_prefix("0 ").unwrap_or("");
-            let got = answer(&rt, rt.alloc(), CHECK, statement, report.as_bytes(), &[])?;
-            let is_accepted = got
-                .as_str()
-                .starts_with("0 # block 1 accepted claim 1 denominator ");
-            assert!(rt; is_accepted, "{got:?}");
-        }
-    }
+    check_reports(&rt, rt.alloc(), PROVED)?;
+    check_reports(&rt, rt.alloc(), PROVED_PLAINLY)?;
     let (_, statement, told) = OTHERS[0];
     let report = told.strip_prefix("10 ").unwrap_or("");
-    let got = answer(&rt, rt.alloc(), CHECK, statement, report.as_bytes(), &[])?;
-    assert_eq!(rt; got.as_str(), "7 # refused K7\n");
-    Ok(())
+    let want = "7 # refused K7\n";
+    tell(&rt, rt.alloc(), CHECK, statement, report.as_bytes(), want)
 }
 
 // The report of a refuted claim is a text of models, the first of which is confirmed.
@@ -199,13 +230,16 @@ fn models_of_refuted_claims_are_confirmed(rt: HostRuntime) -> Result<(), Fail> {
     Ok(())
 }
 
+// Numbers of threads.
+const WORKERS: &[&str] = &["3", "64"];
+
 // Candidates that are drawn are the same on any number of threads.
 #[test]
 fn drawn_models_are_the_same_on_all_threads(rt: HostRuntime) -> Result<(), Fail> {
     let words = &["refute", "s", "--workers", "1"];
     let one = answer(&rt, rt.alloc(), words, INNER, b"", &[])?;
-    for workers in ["3", "64"] {
-        let words = &["refute", "s", "--workers", workers];
+    for workers in WORKERS {
+        let words = &["refute", "s", "--workers", *workers];
         tell(&rt, rt.alloc(), words, INNER, b"", one.as_str())?;
     }
     let report = one.as_str().strip_prefix("11 ").unwrap_or("");

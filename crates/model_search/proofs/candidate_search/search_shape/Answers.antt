@@ -1,7 +1,7 @@
 use Rattle.std.proofs.Common.{◌≡◌, ◌<◌, ◌≤◌, ◌+◌, subst, arith}
 use Rattle.quiver.specs.Declarations.{quiver_of}
-use Rattle.model_search.specs.Candidates.{candidate_count}
-use Rattle.model_search.proofs.NumberedShapes.{shape_of_number}
+use Rattle.model_candidates.specs.Candidates.{candidate_count}
+use Rattle.model_candidates.proofs.NumberedShapes.{shape_of_number}
 use Rattle.model_search.proofs.SearchSteps.{first_of_shape, none_so_far, none_of_shape}
 use Rattle.model_search.proofs.candidate_search.search_shape.Goals as goal
 

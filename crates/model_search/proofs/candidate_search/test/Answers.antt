@@ -1,5 +1,5 @@
 use Rattle.std.proofs.Common.{true≢false, sym, subst, ◌∙◌}
-use Rattle.model_search.specs.Candidates.{IsCandidate}
+use Rattle.model_candidates.specs.Candidates.{IsCandidate}
 use Rattle.model_search.proofs.Breaking.{named_model, named_fits, none_where_it_does_not}
 use Rattle.model_search.proofs.candidate_search.test.Goals as goal
 

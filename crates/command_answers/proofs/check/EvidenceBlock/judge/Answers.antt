@@ -1,0 +1,11 @@
+use Rattle.command_answers.proofs.Letters.{refused_letters}
+use Rattle.command_answers.proofs.Readable.{readable}
+use Rattle.command_answers.proofs.check.EvidenceBlock.judge.Goals as goal
+
+-- the block can be checked
+pub check_evidence-requires : goal.check_evidence-requires
+check_evidence-requires c = readable c.args.problem.now.parts.quiver c.args.self.now c.requires
+
+-- the refusal names letters of the quiver alone
+pub cause_text-requires : goal.cause_text-requires
+cause_text-requires c = refused_letters c.args.problem.now c.args.self.now c.requires c.in-Err.refusal c.in-Err.ensures.refuses

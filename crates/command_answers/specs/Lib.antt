@@ -1,0 +1,17 @@
+pub mod FileWords
+pub mod Ending
+pub mod Texts
+pub mod Refusals
+pub mod Statement
+pub mod Blocks
+pub mod Check
+pub mod Confirm
+pub mod Judged
+pub mod Decide
+pub mod Refute
+pub mod Answers
+pub mod OverProblem
+pub mod Stop
+pub mod Letters
+pub mod Says
+pub mod Laws

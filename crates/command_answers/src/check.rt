@@ -1,0 +1,86 @@
+//! What `check` answers over a statement and an evidence text.
+ghost use Rattle.std.specs.Prelude.{◌≡◌, ◌≤◌, IfOk, IfErr, length};
+ghost use Rattle.std.specs.List.{All};
+ghost use Rattle.cofactor_trace.specs.declared.evidence.Format.TheVariants.{Lemmas};
+ghost use Rattle.certificate_text.specs.Evidence.{IsEvidence, IsFirstFault, IsCheckableEvidence};
+ghost use Rattle.command_answers.specs.Refusals.{claim_text};
+ghost use Rattle.command_answers.specs.Blocks.{OverEvidence};
+ghost use Rattle.command_answers.specs.Check.{AcceptsCertificate, RefusesCertificate, AnswersEvidence};
+ghost use Rattle.command_answers.specs.Stop.{StopsBy, EndsAs};
+
+use crate::ending::Ending;
+use crate::fault::evidence_fault;
+use crate::judge::{Block, Judged, judge_blocks};
+use crate::refusal::cause_text;
+use crate::stop::Stop;
+use adjoint_rules::Problem;
+use certificate_text::{CertFault, read_evidence};
+use cofactor_checker::Accepted;
+use cofactor_trace::Evidence;
+use evidence_checker::check_evidence;
+use itoa::Buffer;
+use lists::Listing;
+use quiver::Quiver;
+use std::alloc::{AllocError, Global};
+
+/// How a run of `check` ends over a problem and an evidence text.
+pub fn judge_evidence(alloc: Global, problem: &Problem, evidence: &[u8]) -> Result<Ending, Stop>
+    requires { length evidence.now ≤ 67108864 }
+    ensures { EndsAs (AnswersEvidence evidence.now problem.now) result }
+{
+    let certificates = certificates_of(alloc, evidence, &problem.parts.quiver)?;
+    judge_blocks(alloc, problem, certificates.as_slice())
+}
+
+// The certificates of the text, or the ending that tells its first fault.
+fn certificates_of(
+    alloc: Global,
+    evidence: &[u8],
+    quiver: &Quiver,
+) -> Result<Listing<Evidence>, Stop>
+    requires { length evidence.now ≤ 67108864 }
+    ensures read { IfOk result (IsEvidence Lemmas quiver.now evidence.now) }
+    ensures checkable { IfOk result (All (IsCheckableEvidence quiver.now)) }
+    ensures stopped { IfErr result (StopsBy (OverEvidence (IsEvidence Lemmas quiver.now evidence.now) (IsFirstFault Lemmas quiver.now evidence.now) (λ _ _. ⊥))) }
+{
+    match read_evidence(alloc, evidence, quiver) {
+        Ok(certificates) => Ok(certificates),
+        Err(CertFault::Fault { code, line, limit }) => {
+            let text = evidence_fault(alloc, code, line, limit)?;
+            Err(Stop::Ended(Ending::refused_evidence(alloc, text.as_str())?))
+        }
+        Err(CertFault::Memory(failed)) => Err(Stop::Memory(failed)),
+    }
+}
+
+impl Block for Evidence {
+    ghost can_judge = { λ problem e. IsCheckableEvidence problem.parts.quiver e };
+
+    ghost accepts = { AcceptsCertificate };
+
+    ghost refuses = { RefusesCertificate };
+
+    fn judge(&self, alloc: Global, problem: &Problem) -> Result<Judged, AllocError> {
+        match check_evidence(alloc, problem, self) {
+            Ok(accepted) => Ok(Judged::Accepted(claim_text(alloc, &accepted)?)),
+            Err(refusal) => {
+                let cause = cause_text(alloc, &problem.parts.quiver, &refusal)?;
+                Ok(Judged::Refused(cause))
+            }
+        }
+    }
+}
+
+// What accepting a certificate says.
+fn claim_text(alloc: Global, accepted: &Accepted) -> Result<Vec<u8>, AllocError>
+    ensures { IfOk result (λ text. text.items ≡ claim_text accepted.now.claim accepted.now.denominator) }
+{
+    let mut claim = Buffer::new();
+    let mut denominator = Buffer::new();
+    let text = format!(in alloc;
+        "accepted claim {} denominator {}",
+        claim.format(accepted.claim),
+        denominator.format(accepted.denominator)
+    )?;
+    Ok(text.into_bytes())
+}

@@ -1,5 +1,0 @@
-use Rattle.command_runs.proofs.EachCall as lemma
-use Rattle.command_runs.proofs.laws.each_call_has_an_ending.Goals as goal
-
-pub returns : goal.returns
-returns c = lemma.each_call_has_an_ending

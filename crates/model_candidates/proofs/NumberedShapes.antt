@@ -1,0 +1,65 @@
+-- The shape with a number, and the draws of its entries.
+use Rattle.std.proofs.Common.{◌≡◌, ℕ, ◌+◌, ◌-◌, ◌*◌, ◌%◌, ◌<◌, ◌≤◌, length, get_or, Some, None, slice_get, ◌⊎◌, inl, inr, sym, ap, ◌∙◌, arith, mod-lt}
+use Rattle.std.specs.List.{range_with_len}
+use Rattle.std.proofs.lemmas.List.Elements.{All-map, All-from_get_or}
+use Rattle.std.proofs.lemmas.List.FromFn.{length-map-range_with_len}
+use Rattle.std.proofs.lemmas.Option.{get_or_from_slice_get, slice_get_cases}
+use Rattle.quiver.specs.Declarations.{object_count, quiver_of}
+use Rattle.adjoint_rules.specs.declared.parts.Shape.{Shape}
+use Rattle.adjoint_rules.specs.declared.problem.Problem.{Problem}
+use Rattle.adjoint_rules.specs.Problem.{IsShape}
+use Rattle.model_candidates.specs.Candidates.{IsShapeOf, entries_of, draws, word_of_stream}
+use Rattle.model_candidates.specs.Plans.{AreEntryValues}
+use Rattle.model_checker.proofs.Places.{all_at}
+
+pub shape_numbered : (problem : Problem) (number : ℕ) (s : Shape) → 1 ≤ number → slice_get problem.parts.shapes (number - 1) ≡ Some s
+    → IsShapeOf problem number s
+shape_numbered problem number s least there = record { before = number - 1; numbered = omega (arith, least); there = there }
+
+-- a number has one shape
+pub one_shape : (problem : Problem) (number : ℕ) (s t : Shape) → slice_get problem.parts.shapes (number - 1) ≡ Some s
+    → IsShapeOf problem number t → s ≡ t
+one_shape problem number s t there is =
+    let before : is.before ≡ number - 1 = omega (arith, is.numbered) in
+    sym (get_or_from_slice_get problem.parts.shapes (number - 1) s s there)
+    ∙ get_or_from_slice_get problem.parts.shapes (number - 1) t s (ap (slice_get problem.parts.shapes) (sym before) ∙ is.there)
+
+pub draws_are_values : (problem : Problem) (s : Shape) (number seed k : ℕ) → 1 ≤ s.modulus → AreEntryValues problem s
+    (draws (quiver_of problem.parts.quiver) s number seed k)
+draws_are_values problem s number seed k positive =
+    let count = length (entries_of (quiver_of problem.parts.quiver) s) in
+    let draw : ℕ → ℕ = λ j. word_of_stream seed number (k * count + j) % s.modulus in
+    record {
+      one_each = length-map-range_with_len draw 0 count;
+      below = All-map (λ value. value < s.modulus) draw (range_with_len 0 count)
+          (All-from_get_or (λ j. draw j < s.modulus) (range_with_len 0 count) 0
+          (λ i inside. mod-lt (word_of_stream seed number (k * count + get_or (range_with_len 0 count) i 0)) positive));
+    }
+
+-- ---- shapes
+-- and no other
+pub shape_is_one : (problem : Problem) (number : ℕ) (s t : Shape) → IsShapeOf problem number s → IsShapeOf problem number t → s ≡ t
+shape_is_one problem number s t first second =
+    let before : number - 1 ≡ first.before = omega (arith, first.numbered) in
+    one_shape problem number s t (ap (slice_get problem.parts.shapes) before ∙ first.there) second
+
+-- which is one for the objects of the problem
+pub posed_shape : (problem : Problem) (k : ℕ) (s : Shape) → slice_get problem.parts.shapes k ≡ Some s → IsShape (object_count problem.parts.quiver) s
+posed_shape problem k s there = all_at (IsShape (object_count problem.parts.quiver)) problem.parts.shapes k s problem.posed.shapes there
+
+pub shape_is : (problem : Problem) (number : ℕ) (s : Shape) → IsShapeOf problem number s → IsShape (object_count problem.parts.quiver) s
+shape_is problem number s numbered = posed_shape problem numbered.before s numbered.there
+
+-- a number in range has one
+pub record HasShapeOf (problem : Problem) (number : ℕ) : Type 0 where
+  pub shape : Shape
+  pub is : IsShapeOf problem number shape
+
+pub shape_of_number : (problem : Problem) (number : ℕ) → 1 ≤ number → number ≤ length problem.parts.shapes → HasShapeOf problem number
+shape_of_number problem number least most = go (slice_get_cases problem.parts.shapes (number - 1)).1
+  where
+    go : ((s : Shape) × (number - 1 < length problem.parts.shapes) × (slice_get problem.parts.shapes (number - 1) ≡ Some s)
+        × (get_or problem.parts.shapes (number - 1) s ≡ s))
+        ⊎ ((length problem.parts.shapes ≤ number - 1) × (slice_get problem.parts.shapes (number - 1) ≡ None)) → HasShapeOf problem number
+    go (inl s) = record { shape = s.0; is = shape_numbered problem number s.0 least s.2 }
+    go (inr past) = absurd (omega (arith, least, most, past.0))

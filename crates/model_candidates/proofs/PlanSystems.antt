@@ -1,0 +1,95 @@
+-- The equations of a plan: what is asked of them, and what their solutions are.
+use Rattle.std.proofs.Common.{◌≡◌, ℕ, ◌<◌, List, length, map, sym, ap, subst, ◌∙◌}
+use Rattle.std.specs.List.{All, range_with_len}
+use Rattle.quiver.specs.Declarations.{object_count, quiver_of}
+use Rattle.matrix_models.specs.Systems.{IsSystem, AreValues, HasNoSolution}
+use Rattle.matrix_models.specs.Greedy as of_system
+use Rattle.adjoint_rules.specs.declared.parts.Shape.{Shape}
+use Rattle.adjoint_rules.specs.declared.problem.Problem.{Problem}
+use Rattle.adjoint_rules.specs.Problem.{IsShape}
+use Rattle.model_candidates.specs.declared.plan.Plan.{Plan}
+use Rattle.model_candidates.specs.Candidates.{IsSolution, IsGreedy}
+use Rattle.model_candidates.specs.Unknowns.{set_count, filled, picked, unit_values}
+use Rattle.model_candidates.specs.Plans.{FitsShape, AreEntryValues}
+use Rattle.model_candidates.specs.Equations.{entries_at, system_for}
+use Rattle.adjoint_rules.proofs.Generators.{posed_quiver}
+use Rattle.model_candidates.proofs.CandidateModels.{modulus_of_shape}
+use Rattle.model_candidates.proofs.DrawnEntries.{flag_of_each}
+use Rattle.model_candidates.proofs.FilledValues.{length-filled, All-filled}
+use Rattle.model_candidates.proofs.LinearRows.{unit_values_below}
+use Rattle.model_candidates.proofs.SolvedEntries.{length-picked, All-picked}
+use Rattle.model_candidates.proofs.SystemSolutions.{zero_below, units_below, units_alike, unit_of_each, is_system, are_values, solves_from, greedy_filled}
+
+module _ (problem : Problem) (s : Shape) (shape : IsShape (object_count problem.parts.quiver) s) (plan : Plan)
+    (fits : FitsShape problem s plan) (drawn : List ℕ)
+    (values : AreEntryValues problem s drawn) where
+  -- the entries at a unit, and at zero
+  abbrev pub entries_for : ℕ → List ℕ
+  entries_for k = entries_at problem s plan.solved plan.generators drawn k
+
+  -- the values of the entries there
+  pub plan_filled : (unknown : ℕ) → AreEntryValues problem s (filled plan.solved drawn (unit_values (set_count plan.solved) unknown))
+  plan_filled unknown =
+      let q = quiver_of problem.parts.quiver in
+      let unit = unit_values (set_count plan.solved) unknown in
+      let same : length drawn ≡ length plan.solved = values.one_each ∙ sym (flag_of_each q s problem.parts.solved) ∙ ap length (sym fits.solved) in
+      let least = (modulus_of_shape q s (posed_quiver problem.parts problem.posed) shape).at_least in
+      record {
+        one_each = length-filled plan.solved drawn unit same ∙ values.one_each;
+        below = All-filled (λ value. value < s.modulus) plan.solved drawn unit values.below (unit_values_below s.modulus (set_count plan.solved) unknown least);
+      }
+
+  pub plan_zero_below : All (λ x. x < s.modulus) (entries_for (set_count plan.solved))
+  plan_zero_below =
+      subst (λ flags. All (λ x. x < s.modulus) (entries_at problem s flags plan.generators drawn (set_count flags))) (sym fits.solved)
+      (zero_below problem s shape drawn values.one_each values.below plan.generators fits.generators)
+
+  pub plan_units_below : All (λ u. All (λ x. x < s.modulus) u) (map entries_for (range_with_len 0 (set_count plan.solved)))
+  plan_units_below =
+      subst (λ flags. All (λ u. All (λ x. x < s.modulus) u) (map (entries_at problem s flags plan.generators drawn)
+      (range_with_len 0 (set_count flags)))) (sym fits.solved)
+      (units_below problem s shape drawn values.one_each values.below plan.generators fits.generators)
+
+  pub plan_units_alike : All (λ u. length u ≡ length (entries_for (set_count plan.solved)))
+      (map entries_for (range_with_len 0 (set_count plan.solved)))
+  plan_units_alike =
+      subst (λ flags. All (λ u. length u ≡ length (entries_at problem s flags plan.generators drawn (set_count flags)))
+      (map (entries_at problem s flags plan.generators drawn) (range_with_len 0 (set_count flags))))
+      (sym fits.solved) (units_alike problem s shape drawn values.one_each values.below plan.generators fits.generators)
+
+  pub plan_system : IsSystem (system_for problem s plan.solved plan.generators drawn)
+  plan_system = subst (λ flags. IsSystem (system_for problem s flags plan.generators drawn)) (sym fits.solved)
+      (is_system problem s shape drawn values.one_each values.below plan.generators fits.generators)
+
+  pub value_of_each_flag : length drawn ≡ length plan.solved
+  value_of_each_flag = values.one_each ∙ sym (flag_of_each (quiver_of problem.parts.quiver) s problem.parts.solved)
+      ∙ ap length (sym fits.solved)
+
+  pub plan_prefer : AreValues (system_for problem s plan.solved plan.generators drawn) (picked plan.solved drawn)
+  plan_prefer =
+      subst (λ flags. AreValues (system_for problem s flags plan.generators drawn) (picked flags drawn)) (sym fits.solved)
+      (are_values problem s shape drawn values.one_each values.below plan.generators fits.generators _
+      (length-picked _ drawn (value_of_each_flag ∙ ap length fits.solved)) (All-picked (λ value. value < s.modulus) _ drawn values.below))
+
+  pub plan_greedy : (chosen : List ℕ) → of_system.IsGreedy (system_for problem s plan.solved plan.generators drawn)
+      (picked plan.solved drawn) chosen
+      → IsGreedy problem s drawn (filled plan.solved drawn chosen)
+  plan_greedy chosen =
+      subst (λ flags. of_system.IsGreedy (system_for problem s flags plan.generators drawn) (picked flags drawn) chosen
+      → IsGreedy problem s drawn (filled flags drawn chosen)) (sym fits.solved)
+      (greedy_filled problem s shape drawn values.one_each values.below plan.generators fits.generators chosen)
+
+  pub plan_none : HasNoSolution (system_for problem s plan.solved plan.generators drawn) → (others : List ℕ)
+      → IsSolution problem s drawn others → ⊥
+  plan_none =
+      subst (λ flags. HasNoSolution (system_for problem s flags plan.generators drawn) → (others : List ℕ)
+      → IsSolution problem s drawn others → ⊥) (sym fits.solved)
+      (λ none others solution. none _ (solves_from problem s shape drawn values.one_each values.below plan.generators fits.generators
+      others solution))
+
+  pub unknown_of_each_flag : (chosen : List ℕ) → AreValues (system_for problem s plan.solved plan.generators drawn) chosen
+      → length chosen ≡ set_count plan.solved
+  unknown_of_each_flag chosen =
+      subst (λ flags. AreValues (system_for problem s flags plan.generators drawn) chosen → length chosen ≡ set_count flags)
+      (sym fits.solved)
+      (λ are. are.one_each ∙ unit_of_each problem s shape drawn values.one_each values.below plan.generators fits.generators)

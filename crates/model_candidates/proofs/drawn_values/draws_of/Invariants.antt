@@ -1,0 +1,12 @@
+use Rattle.std.proofs.Common.{◌≡◌, ◌+◌, ◌*◌, ◌%◌, map}
+use Rattle.std.specs.List.{range_with_len}
+use Rattle.rand_pcg.specs.Lcg.{advance, started, increment_of}
+use Rattle.rand_pcg.specs.Pcg.{multiplier_64}
+use Rattle.model_candidates.specs.Candidates.{word_of_stream}
+use Rattle.model_candidates.proofs.drawn_values.draws_of.Given as goal
+
+-- the draws of the entries that were passed, and the stream behind their words
+abbrev pub invariant-loop-place : goal.invariant-loop-place
+invariant-loop-place l =
+    (l.values ≡ map (λ j. word_of_stream l.seed l.number (l.candidate * l.count + j) % l.modulus) (range_with_len 0 l.place))
+    × (l.stream ≡ advance 64 multiplier_64 (l.candidate * l.count + l.place) (started 64 multiplier_64 l.seed (increment_of 64 l.number)))

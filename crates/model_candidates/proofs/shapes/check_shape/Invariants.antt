@@ -1,0 +1,8 @@
+use Rattle.std.proofs.Common.{take}
+use Rattle.std.specs.List.{All}
+use Rattle.adjoint_rules.specs.Problem.{IsSide}
+use Rattle.model_candidates.proofs.shapes.check_shape.Given as goal
+
+-- the sides that were passed are sides
+abbrev pub invariant-loop-place : goal.invariant-loop-place
+invariant-loop-place l = All IsSide (take l.place l.shape.sides)

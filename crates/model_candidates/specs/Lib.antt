@@ -1,0 +1,6 @@
+pub mod Shapes
+pub mod Candidates
+pub mod EntryPlaces
+pub mod Unknowns
+pub mod Plans
+pub mod Equations

@@ -1,0 +1,19 @@
+//! The candidates of a shape: which matrices are tried as models of a statement, and in which order.
+#![tactic(auto)]
+
+mod candidate_count;
+mod drawn_values;
+mod entries;
+mod equations;
+mod given_values;
+mod one_candidate;
+mod plan;
+mod shape_fault;
+mod shapes;
+mod unknowns;
+
+pub use candidate_count::{all_candidates, candidates};
+pub use one_candidate::{candidate, candidate_by};
+pub use plan::{LinearGenerator, Plan, plan_of};
+pub use shape_fault::ShapeFault;
+pub use shapes::check_shape;

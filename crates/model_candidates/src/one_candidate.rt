@@ -1,0 +1,83 @@
+//! The candidates of a shape.
+ghost use Rattle.std.specs.Prelude.{◌≤◌, ℕ, List, length, IfOk, IfSome, IfNone};
+ghost use Rattle.quiver.specs.Declarations.{object_count};
+ghost use Rattle.adjoint_rules.specs.Problem.{IsShape};
+ghost use Rattle.adjoint_rules.specs.declared.parts.Shape.{Shape as ShapeValue};
+ghost use Rattle.model_candidates.specs.Candidates.{IsCandidate, IsGreedy, IsShapeOf, IsSolution};
+ghost use Rattle.model_candidates.specs.Plans.{AreEntryValues, FitsShape, IsPlan};
+
+use crate::drawn_values::draws_of;
+use crate::equations::system_of;
+use crate::given_values::{model_with, numbered_candidate};
+use crate::plan::{Plan, plan_of};
+use crate::unknowns::{filled, picked};
+use adjoint_rules::{Problem, Shape};
+use lists::Listing;
+use matrix_models::{Model, solve};
+use std::alloc::{AllocError, Global};
+
+/// Candidate k, counted from 0, of the shape with this number, counted from 1, for a seed; `None` exactly where the entries that
+/// are drawn leave equations with no solution. The model names no claim: its claim is 0. There is such a shape.
+pub fn candidate(
+    alloc: Global,
+    problem: &Problem,
+    shape: u32,
+    seed: u64,
+    k: u32,
+) -> Result<Option<Model>, AllocError>
+    requires least { 1 ≤ shape }
+    requires most { shape ≤ length problem.now.parts.shapes }
+    ensures candidate { IfOk result (λ model. (s : ShapeValue) → IsShapeOf problem.now shape s
+        → IsCandidate problem.now shape s seed k model) }
+{
+    let plan = plan_of(alloc, problem, shape)?;
+    candidate_by(alloc, problem, &plan, seed, k)
+}
+
+/// Candidate k, counted from 0, of the plan's shape for a seed; `None` exactly where it has no model. It fails only where memory
+/// is short.
+pub fn candidate_by(
+    alloc: Global,
+    problem: &Problem,
+    plan: &Plan,
+    seed: u64,
+    k: u32,
+) -> Result<Option<Model>, AllocError>
+    requires plan { IsPlan problem.now plan.now }
+    ensures candidate { IfOk result (λ model. (s : ShapeValue) → IsShapeOf problem.now plan.now.number s
+        → IsCandidate problem.now plan.now.number s seed k model) }
+{
+    let quiver = &problem.parts.quiver;
+    let shape = problem.parts.shapes.at(plan.number as usize - 1);
+    if plan.exhaustive {
+        return Ok(Some(numbered_candidate(alloc, quiver, shape, k)?));
+    }
+    let drawn = draws_of(alloc, quiver, shape, plan.number, seed, k)?;
+    match greedy_values(alloc, problem, shape, plan, drawn.as_slice())? {
+        Some(values) => Ok(Some(model_with(alloc, quiver, shape, 0, values.as_slice())?)),
+        None => Ok(None),
+    }
+}
+
+// The greedy solution of the linear generators where the entries that aren't solved for are drawn.
+fn greedy_values(
+    alloc: Global,
+    problem: &Problem,
+    shape: &Shape,
+    plan: &Plan,
+    drawn: &[u32],
+) -> Result<Option<Listing<u32>>, AllocError>
+    requires shape { IsShape (object_count problem.now.parts.quiver) shape.now }
+    requires plan { FitsShape problem.now shape.now plan.now }
+    requires drawn { AreEntryValues problem.now shape.now drawn.now }
+    ensures none { IfOk result (λ found. IfNone found ((values : List ℕ) → ¬ IsSolution problem.now shape.now drawn.now values)) }
+    ensures greedy { IfOk result (λ found. IfSome found (IsGreedy problem.now shape.now drawn.now)) }
+{
+    let solved = plan.solved.as_slice();
+    let prefer = picked(alloc, solved, drawn)?;
+    let system = system_of(alloc, problem, shape, plan, drawn)?;
+    match solve(alloc, &system, prefer.as_slice())? {
+        Some(values) => Ok(Some(filled(alloc, solved, drawn, values.as_slice())?)),
+        None => Ok(None),
+    }
+}

@@ -1,0 +1,73 @@
+//! The entries that are solved for, and values of them.
+ghost use Rattle.std.specs.Prelude.{◌≡◌, ◌≤◌, length, IfOk};
+ghost use Rattle.model_candidates.specs.Unknowns.{set_count, filled, picked, unit_values};
+
+use lists::Listing;
+use std::alloc::{AllocError, Global};
+
+/// How many entries are solved for.
+pub(crate) fn unknown_count(solved: &[bool]) -> u32
+    requires { length solved.now ≤ 16704 }
+    ensures { result ≡ set_count solved.now }
+{
+    let mut count = 0;
+    for flag in solved {
+        count += u32::from(*flag);
+    }
+    count
+}
+
+/// The drawn values, with these in their order in the entries that are solved for.
+pub(crate) fn filled(
+    alloc: Global,
+    solved: &[bool],
+    drawn: &[u32],
+    values: &[u32],
+) -> Result<Listing<u32>, AllocError>
+    requires one_each { length drawn.now ≡ length solved.now }
+    requires one_for_each { length values.now ≡ set_count solved.now }
+    ensures { IfOk result (λ all. all ≡ filled solved.now drawn.now values.now) }
+{
+    let mut all = Listing::new(alloc);
+    let mut next = 0;
+    for place in 0..solved.len() {
+        let value = if solved[place] {
+            let given = values[next];
+            next += 1;
+            given
+        } else {
+            drawn[place]
+        };
+        all.push(value)?;
+    }
+    Ok(all)
+}
+
+/// The values of the entries that are solved for.
+pub(crate) fn picked(
+    alloc: Global,
+    solved: &[bool],
+    values: &[u32],
+) -> Result<Listing<u32>, AllocError>
+    requires one_each { length values.now ≡ length solved.now }
+    ensures { IfOk result (λ chosen. chosen ≡ picked solved.now values.now) }
+{
+    let mut chosen = Listing::new(alloc);
+    for place in 0..solved.len() {
+        if solved[place] {
+            chosen.push(values[place])?;
+        }
+    }
+    Ok(chosen)
+}
+
+/// So many values, 1 at this place and 0 at all others: no place past the end has one.
+pub(crate) fn unit_values(alloc: Global, count: u32, place: u32) -> Result<Listing<u32>, AllocError>
+    ensures { IfOk result (λ values. values ≡ unit_values count place) }
+{
+    let mut values = Listing::new(alloc);
+    for k in 0..count {
+        values.push(u32::from(k == place))?;
+    }
+    Ok(values)
+}

@@ -1,0 +1,5 @@
+pub mod Models
+pub mod Memory
+pub mod Refusals
+pub mod Laws
+pub mod Listed

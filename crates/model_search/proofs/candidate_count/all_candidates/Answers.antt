@@ -1,5 +1,0 @@
-use Rattle.adjoint_rules.proofs.Generators.{posed_quiver}
-use Rattle.model_search.proofs.candidate_count.all_candidates.Goals as goal
-
-pub count_for-requires-clause-quiver : goal.count_for-requires-clause-quiver
-count_for-requires-clause-quiver c = posed_quiver c.args.problem.now.parts c.args.problem.now.posed

@@ -1,5 +1,0 @@
-use Rattle.adjoint_rules.proofs.Generators.{posed_quiver}
-use Rattle.model_search.proofs.confirm.check_model.Goals as goal
-
-pub representation_of-requires-clause-quiver : goal.representation_of-requires-clause-quiver
-representation_of-requires-clause-quiver c = posed_quiver c.args.problem.now.parts c.args.problem.now.posed

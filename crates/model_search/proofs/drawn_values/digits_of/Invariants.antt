@@ -1,8 +1,0 @@
-use Rattle.std.proofs.Common.{◌≡◌, ◌/◌, ◌^◌, map}
-use Rattle.std.specs.List.{range_with_len}
-use Rattle.model_search.specs.Candidates.{digit}
-use Rattle.model_search.proofs.drawn_values.digits_of.Given as goal
-
--- the digits of the entries that were passed, and what is left of the number
-abbrev pub invariant-loop-place : goal.invariant-loop-place
-invariant-loop-place l = (l.values ≡ map (digit l.modulus l.candidate) (range_with_len 0 l.place)) × (l.rest ≡ l.candidate / l.modulus ^ l.place)

@@ -1,5 +1,0 @@
-use Rattle.model_search.proofs.UniqueRefusals as lemma
-use Rattle.model_search.proofs.laws.model_refusal_is_unique.Goals as goal
-
-pub returns : goal.returns
-returns c = lemma.model_refusal_is_unique

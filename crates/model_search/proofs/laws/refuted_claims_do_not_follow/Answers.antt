@@ -1,5 +1,0 @@
-use Rattle.model_search.proofs.Counterexamples.{refuted_claims_do_not_follow}
-use Rattle.model_search.proofs.laws.refuted_claims_do_not_follow.Goals as goal
-
-pub returns : goal.returns
-returns c = refuted_claims_do_not_follow

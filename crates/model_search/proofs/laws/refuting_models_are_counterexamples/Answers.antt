@@ -1,5 +1,0 @@
-use Rattle.model_search.proofs.Counterexamples.{refuting_models_are_counterexamples}
-use Rattle.model_search.proofs.laws.refuting_models_are_counterexamples.Goals as goal
-
-pub returns : goal.returns
-returns c = refuting_models_are_counterexamples

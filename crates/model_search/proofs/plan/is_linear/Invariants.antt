@@ -1,9 +1,0 @@
-use Rattle.std.proofs.Common.{◌≡◌, true, nat_le, take}
-use Rattle.std.specs.List.{list_all}
-use Rattle.quiver.specs.Declarations.{quiver_of}
-use Rattle.model_search.specs.Candidates.{solved_count}
-use Rattle.model_search.proofs.plan.is_linear.Given as goal
-
--- each word that was passed has one solved letter at most
-abbrev pub invariant-loop-place : goal.invariant-loop-place
-invariant-loop-place l = list_all (λ t. nat_le (solved_count (quiver_of l.quiver) l.solved t.1) 1) (take l.place l.poly.terms) ≡ true

@@ -1,6 +1,0 @@
-use Rattle.std.proofs.Common.{◌≡◌, ◌++◌, replicate}
-use Rattle.model_search.proofs.plan.push_flags.Given as goal
-
--- with the flags that were pushed
-abbrev pub invariant-loop : goal.invariant-loop
-invariant-loop l = l.flags ≡ l.initial.flags ++ replicate l.counter l.flag

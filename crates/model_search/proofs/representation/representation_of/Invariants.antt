@@ -1,9 +1,0 @@
-use Rattle.std.proofs.Common.{◌≡◌, map}
-use Rattle.std.specs.List.{range_with_len}
-use Rattle.quiver.specs.Declarations.{quiver_of}
-use Rattle.model_search.specs.Models.{arrow_of}
-use Rattle.model_search.proofs.representation.representation_of.Given as goal
-
--- the matrices of the letters that were passed
-abbrev pub invariant-loop-number : goal.invariant-loop-number
-invariant-loop-number l = l.arrows ≡ map (arrow_of (quiver_of l.quiver) l.model) (range_with_len 0 l.number)

@@ -1,8 +1,0 @@
-use Rattle.std.proofs.Common.{◌≡◌, take}
-use Rattle.model_search.specs.Unknowns.{picked}
-use Rattle.model_search.proofs.SolvedEntries.{before}
-use Rattle.model_search.proofs.unknowns.picked.Given as goal
-
--- the values at the entries before the place
-abbrev pub invariant-loop-place : goal.invariant-loop-place
-invariant-loop-place l = l.chosen ≡ take (before l.solved l.place) (picked l.solved l.values)

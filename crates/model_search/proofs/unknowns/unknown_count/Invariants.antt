@@ -1,7 +1,0 @@
-use Rattle.std.proofs.Common.{◌≡◌}
-use Rattle.model_search.proofs.SolvedEntries.{before}
-use Rattle.model_search.proofs.unknowns.unknown_count.Given as goal
-
--- how many were passed
-abbrev pub invariant-loop-flag : goal.invariant-loop-flag
-invariant-loop-flag l = l.count ≡ before l.solved l.flag-index
