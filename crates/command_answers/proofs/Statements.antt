@@ -1,6 +1,6 @@
 -- A statement has one problem or one first fault, and not both, and what it leads to is one ending.
 use Rattle.std.proofs.Common.{◌≡◌, ◌⊎◌, inl, inr, ℕ, List, Option, Some, None, refl, sym, ap, subst, ◌∙◌}
-use Rattle.statement_syntax.specs.declared.place.Spot.{Spot}
+use Rattle.statement_tokens.specs.declared.place.Spot.{Spot}
 use Rattle.statement_syntax.specs.declared.tree.Statement.{Statement}
 use Rattle.statement_syntax.specs.declared.fault.Fault.{Fault}
 use Rattle.statement_syntax.specs.Fault.{IsTreeOf, IsFirstFault, code_of}

@@ -6,7 +6,7 @@ use Rattle.std.specs.Str.{chars}
 use Rattle.std.proofs.lemmas.List.Folds.{list_all-append}
 use Rattle.std.proofs.lemmas.Str.{scalars-chars}
 use Rattle.quiver.specs.Declarations.{Declaration, name_of, object, arrow}
-use Rattle.statement_syntax.specs.declared.token.Token.{Token}
+use Rattle.statement_tokens.specs.declared.token.Token.{Token}
 use Rattle.statement_syntax.specs.declared.tree.Name.{Name}
 use Rattle.statement_syntax.specs.declared.tree.Statement.{Statement}
 use Rattle.statement_syntax.specs.declared.tree.StatementKind.{StatementKind}
@@ -16,7 +16,7 @@ use Rattle.statement_syntax.specs.declared.line.PairWord.TheVariants.{Pinv, Inve
 use Rattle.statement_syntax.specs.Grammar.{names_tokens, Stated, listed, mapped, sides, paired, projected, by_degree, by_weight, modelled, stated_tokens, StatedLine, file_tokens}
 use Rattle.statement_syntax.specs.Tree.{is_self, stated_kind, file_tree}
 use Rattle.statement_syntax.specs.Places.{bare_names, bare_stated}
-use Rattle.statement_syntax.proofs.Scanning.{spot}
+use Rattle.statement_tokens.proofs.Scanning.{spot}
 use Rattle.statement_syntax.proofs.Spelled.{IsToken, AllKinds, AllKinds-split, tokens_are}
 use Rattle.statement_syntax.proofs.Moved.{kinds}
 use Rattle.statement_syntax.proofs.StatedKinds.{kinds-append}

@@ -4,14 +4,14 @@ use Rattle.std.specs.Str.{chars}
 use Rattle.std.proofs.lemmas.Bool.{le-leb}
 use Rattle.std.proofs.lemmas.List.{append-nil}
 use Rattle.std.proofs.lemmas.Str.{chars-encodes, scalars-chars}
-use Rattle.statement_syntax.specs.declared.token.Token.{Token}
-use Rattle.statement_syntax.specs.declared.token.TokenKind.TheVariants as kind
-use Rattle.statement_syntax.specs.declared.scan.Item.TheVariants as item
-use Rattle.statement_syntax.specs.declared.scan.Placed.{Placed}
-use Rattle.statement_syntax.specs.declared.scan.ScanFault.TheVariants.{BadToken}
-use Rattle.statement_syntax.specs.Token.{◌>>=◌, item_at, name_of, tokens_from, tokens_of, end_of}
+use Rattle.statement_tokens.specs.declared.token.Token.{Token}
+use Rattle.statement_tokens.specs.declared.token.TokenKind.TheVariants as kind
+use Rattle.statement_tokens.specs.declared.scan.Item.TheVariants as item
+use Rattle.statement_tokens.specs.declared.scan.Placed.{Placed}
+use Rattle.statement_tokens.specs.declared.scan.ScanFault.TheVariants.{BadToken}
+use Rattle.statement_tokens.specs.Token.{◌>>=◌, item_at, name_of, tokens_from, tokens_of, end_of}
 use Rattle.statement_syntax.specs.Grammar.{name_token}
-use Rattle.statement_syntax.proofs.Scanning.{spot}
+use Rattle.statement_tokens.proofs.Scanning.{spot}
 use Rattle.statement_syntax.proofs.Moved.{kinds}
 use Rattle.statement_syntax.proofs.Spelled.{SpellsName, IsFileToken, AllKinds, AllKinds-split, tokens_are}
 use Rattle.statement_syntax.proofs.StatedKinds.{kinds-append}

@@ -1,7 +1,7 @@
 -- The ends of signatures are objects of the quiver.
 use Rattle.std.proofs.Common.{ℕ, Bool, true, false, cond, nat_eq, List, [], ◌∷◌, Option, Some, None, Result, Ok, Err, IfOk}
 use Rattle.quiver.specs.declared.named.Sig.{Sig}
-use Rattle.statement_syntax.specs.declared.place.Spot.{Spot}
+use Rattle.statement_tokens.specs.declared.place.Spot.{Spot}
 use Rattle.statement_syntax.specs.declared.tree.Mark.{Mark}
 use Rattle.statement_syntax.specs.declared.tree.Mark.TheVariants.{Adjoint}
 use Rattle.expressions.specs.declared.fault.SignatureFault.{SignatureFault}

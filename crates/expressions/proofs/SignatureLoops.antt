@@ -2,7 +2,7 @@
 use Rattle.std.proofs.Common.{◌≡◌, ◌≢◌, ◌<◌, ◌≤◌, ◌+◌, ℕ, List, [], ◌∷◌, length, drop, get_or, Option, None, Result, Ok, Err, refl, sym, ap, ◌∙◌, arith}
 use Rattle.quiver.specs.declared.named.Sig.{Sig}
 use Rattle.quiver.specs.Declarations.{Declaration}
-use Rattle.statement_syntax.specs.declared.place.Spot.{Spot}
+use Rattle.statement_tokens.specs.declared.place.Spot.{Spot}
 use Rattle.statement_syntax.specs.declared.tree.Factor.{Factor}
 use Rattle.statement_syntax.specs.declared.tree.Term.{Term, out-Term}
 use Rattle.statement_syntax.specs.declared.tree.Sum.{Sum, out-Sum}

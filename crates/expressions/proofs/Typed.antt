@@ -12,7 +12,7 @@ use Rattle.quiver.specs.Declarations.{Declaration, named_in, object_count, quive
 use Rattle.quiver.proofs.Counts.{letters-quiver_of}
 use Rattle.quiver.proofs.Found.{is_named}
 use Rattle.quiver.proofs.Identities.{identity_is, is_quiver}
-use Rattle.statement_syntax.specs.declared.place.Spot.{Spot}
+use Rattle.statement_tokens.specs.declared.place.Spot.{Spot}
 use Rattle.statement_syntax.specs.declared.tree.Primary.{Primary, Letter, Identity, Bracket}
 use Rattle.statement_syntax.specs.declared.tree.Term.{Term, Term', Row_of-Factor, end_of-Factor, more_of-Factor}
 use Rattle.statement_syntax.specs.declared.tree.Sum.{Sum, Sum', Row_of-Term, end_of-Term, more_of-Term}

@@ -8,7 +8,7 @@ use Rattle.definitions.proofs.Adjoints.{is_path-adjoint_word}
 use Rattle.definitions.proofs.Paths.{leads-append}
 use Rattle.nc_polynomial.specs.Product.{product_result}
 use Rattle.quiver.specs.declared.named.Sig.{Sig}
-use Rattle.statement_syntax.specs.declared.place.Spot.{Spot}
+use Rattle.statement_tokens.specs.declared.place.Spot.{Spot}
 use Rattle.statement_syntax.specs.declared.tree.Mark.{Mark}
 use Rattle.statement_syntax.specs.declared.tree.Mark.TheVariants.{Adjoint}
 use Rattle.expressions.specs.declared.fault.SignatureFault.{SignatureFault}

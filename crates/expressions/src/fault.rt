@@ -1,6 +1,6 @@
 //! Faults of signatures.
 use quiver::Sig;
-use statement_syntax::Spot;
+use statement_tokens::Spot;
 use thiserror::Error;
 
 /// The first fault of the signatures in an equation, and its place.

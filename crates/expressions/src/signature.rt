@@ -7,7 +7,8 @@ ghost use Rattle.expressions.specs.Signatures.{HasObjects, turned_by, marked_sig
 use crate::SignatureFault;
 use crate::names::{letter_of, object_of};
 use quiver::{Quiver, Sig};
-use statement_syntax::{Factor, Mark, Primary, Spot, Sum, Term};
+use statement_syntax::{Factor, Mark, Primary, Sum, Term};
+use statement_tokens::Spot;
 
 /// The signature of the two sides of an equation, of which an open one takes that of the other, or the first fault: an
 /// inner expression comes before the outer one and the left before the right; of a product or a sum all parts come

@@ -12,7 +12,8 @@ use expressions::{
 use lists::Text;
 use nc_polynomial::{Poly, PolyFault};
 use quiver::{Named, Quiver, Sig};
-use statement_syntax::{Name, Primary, Spot, StatementKind, Sum, Term, Tree};
+use statement_syntax::{Name, Primary, StatementKind, Sum, Term, Tree};
+use statement_tokens::Spot;
 use std::alloc::{AllocError, Global};
 use std::process::Abort;
 use std::test::Fail;

@@ -10,7 +10,8 @@ use crate::texts::{poly_text, problem_of, repeated, same};
 use adjoint_rules::Problem;
 use lists::Text;
 use signature_typing::{TypeFault, problem_is_unique};
-use statement_syntax::{Spot, StatementKind, SyntaxFault, Tree, read_tree, write_tree};
+use statement_syntax::{StatementKind, SyntaxFault, Tree, read_tree, write_tree};
+use statement_tokens::Spot;
 use std::alloc::{AllocError, Global};
 use std::test::Fail;
 

@@ -12,7 +12,7 @@ use Rattle.nc_polynomial.specs.Faults as poly
 use Rattle.nc_polynomial.specs.Shape.{IsCanonical}
 use Rattle.quiver.specs.Declarations.{Declaration, quiver_of}
 use Rattle.quiver.proofs.Identities.{is_quiver}
-use Rattle.statement_syntax.specs.declared.place.Spot.{Spot}
+use Rattle.statement_tokens.specs.declared.place.Spot.{Spot}
 use Rattle.statement_syntax.specs.declared.tree.Statement.{Statement}
 use Rattle.statement_names.specs.declared.written.Equation.{Equation}
 use Rattle.statement_names.specs.declared.fault.NameFault.{NameFault}

@@ -6,7 +6,7 @@ ghost use Rattle.signature_typing.specs.Fault.{IsMemory, fault_at, told_name, to
 use lists::Text;
 use nc_polynomial::PolyFault;
 use statement_names::{NameFault, NameStop};
-use statement_syntax::Spot;
+use statement_tokens::Spot;
 use std::alloc::{AllocError, AllocFailed};
 use std::fmt;
 use thiserror::Error;

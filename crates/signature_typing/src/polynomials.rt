@@ -19,7 +19,8 @@ use lists::Listing;
 use nc_polynomial::Poly;
 use quiver::Quiver;
 use statement_names::{Equation, abbreviation};
-use statement_syntax::{Spot, Statement, StatementKind, Sum};
+use statement_syntax::{Statement, StatementKind, Sum};
+use statement_tokens::Spot;
 use std::alloc::Global;
 
 /// The polynomials of the assumptions and of the claims.

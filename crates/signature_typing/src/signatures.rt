@@ -18,7 +18,8 @@ use expressions::{SignatureFault, equation_signature};
 use lists::{Listing, Text};
 use quiver::{Quiver, Sig};
 use statement_names::{Equation, abbreviation};
-use statement_syntax::{Spot, Statement, StatementKind, Sum};
+use statement_syntax::{Statement, StatementKind, Sum};
+use statement_tokens::Spot;
 use std::alloc::{AllocError, Global};
 
 /// The signatures of the assumptions and of the claims.

@@ -8,7 +8,7 @@ use Rattle.std.proofs.lemmas.List.FromFn.{length-map-range_with_len}
 use Rattle.quiver.specs.Declarations.{Declaration, object_count, object_name}
 use Rattle.adjoint_rules.specs.Problem.{IsShape, IsSide}
 use Rattle.adjoint_rules.specs.declared.parts.Shape.{Shape}
-use Rattle.statement_syntax.specs.declared.place.Spot.{Spot}
+use Rattle.statement_tokens.specs.declared.place.Spot.{Spot}
 use Rattle.statement_syntax.specs.declared.tree.Name.{Name}
 use Rattle.statement_syntax.specs.declared.tree.Number.{Number}
 use Rattle.statement_syntax.specs.declared.tree.Statement.{Statement}

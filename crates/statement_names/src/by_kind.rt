@@ -9,7 +9,8 @@ use crate::fault::{NameFault, NameStop};
 use crate::kinds::Kind;
 use crate::literal::check_modulus;
 use crate::survey::Survey;
-use statement_syntax::{Name, Number, Spot, Statement, StatementKind, Sum};
+use statement_syntax::{Name, Number, Statement, StatementKind, Sum};
+use statement_tokens::Spot;
 use std::alloc::Global;
 use word_orders::WEIGHT_LIMIT;
 

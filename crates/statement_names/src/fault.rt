@@ -4,7 +4,7 @@ ghost use Rattle.std.specs.Prelude.{◌≡◌};
 ghost use Rattle.statement_names.specs.Faults.{IsMemory};
 ghost use Rattle.statement_names.specs.declared.fault.NameStop.TheVariants as stop;
 
-use statement_syntax::Spot;
+use statement_tokens::Spot;
 use std::alloc::{AllocError, AllocFailed};
 use thiserror::Error;
 

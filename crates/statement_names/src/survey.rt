@@ -8,7 +8,8 @@ ghost use Rattle.statement_names.specs.Survey.{fault_at, behind, short_of};
 use crate::fault::{NameFault, NameStop};
 use crate::kinds::{Kinds, kinds_of};
 use quiver::{MAP_LIMIT, OBJECT_LIMIT};
-use statement_syntax::{Spot, Statement};
+use statement_syntax::Statement;
+use statement_tokens::Spot;
 use std::alloc::Global;
 
 // The greatest number of assumptions.

@@ -8,7 +8,8 @@ ghost use Rattle.statement_syntax.specs.Nodes.{factor_of};
 
 use lists::{Listing, Text};
 use quiver::{Named, Quiver};
-use statement_syntax::{Factor, Mark, Name, Primary, Spot, Statement, StatementKind, Sum, Term};
+use statement_syntax::{Factor, Mark, Name, Primary, Statement, StatementKind, Sum, Term};
+use statement_tokens::Spot;
 use std::alloc::{AllocError, Global};
 
 /// An equation of two expressions.

@@ -1,15 +1,12 @@
--- What the readers of names, literals and brackets come to, each at one of its branches.
-use Rattle.std.proofs.Common.{◌≡◌, ℕ, ◌≤◌, ◌<◌, List, [], ◌∷◌, ◌++◌, ◌⊎◌, inl, inr, Bool, true, Option, length, Result, Ok, Err, take, refl, sym, ap, ap₂, subst, ◌∙◌, arith}
-use Rattle.std.specs.Prelude.{if◌then◌else◌, nat_le, nat_lt, ◌==◌, ◌^◌, pos, false}
-use Rattle.std.specs.Result.{IsErrAnd, IfOk}
-use Rattle.std.specs.List.{prefix_len, take_while}
-use Rattle.std.specs.Str.{encode_utf8_all}
-use Rattle.unicode_ident.specs.Ident.{is_xid_continue}
-use Rattle.std.proofs.lemmas.Bool.{lt-ltb, le-leb}
+-- What the readers of literals, brackets and the names of `map` come to, each at one of its branches.
+use Rattle.std.proofs.Common.{◌≡◌, ◌<◌, List, [], ◌∷◌, ◌++◌, ◌⊎◌, inl, inr, Bool, true, Option, length, Result, Ok, Err, refl, sym, ap, ap₂, subst, ◌∙◌, arith}
+use Rattle.std.specs.Prelude.{if◌then◌else◌, false}
+use Rattle.std.specs.Result.{IsErrAnd}
+use Rattle.std.proofs.lemmas.Bool.{lt-ltb}
 use Rattle.std.proofs.lemmas.List.{append-nil}
-use Rattle.statement_syntax.specs.declared.place.Spot.{Spot}
-use Rattle.statement_syntax.specs.declared.token.TokenKind.{TokenKind}
-use Rattle.statement_syntax.specs.declared.token.TokenKind.TheVariants as kind
+use Rattle.statement_tokens.specs.declared.place.Spot.{Spot}
+use Rattle.statement_tokens.specs.declared.token.TokenKind.{TokenKind}
+use Rattle.statement_tokens.specs.declared.token.TokenKind.TheVariants as kind
 use Rattle.statement_syntax.specs.declared.tree.Name.{Name}
 use Rattle.statement_syntax.specs.declared.tree.Number.{Number}
 use Rattle.statement_syntax.specs.declared.tree.Statement.{Statement}
@@ -28,16 +25,10 @@ use Rattle.statement_syntax.specs.declared.expression.Focus.{Focus}
 use Rattle.statement_syntax.specs.declared.expression.Focus.TheVariants.{Outside}
 use Rattle.statement_syntax.specs.declared.expression.Misfit.TheVariants.{Expected, TooDeep}
 use Rattle.statement_syntax.specs.declared.expression.Part.{Part}
-use Rattle.statement_syntax.specs.declared.expression.Part.TheVariants.{Nothing, Scaled, Product}
+use Rattle.statement_syntax.specs.declared.expression.Part.TheVariants.{Nothing, Scaled}
 use Rattle.statement_syntax.specs.Steps.{◌>>=◌, outside, empty_head, open_step, literal_step, Fails, Gives}
 use Rattle.statement_syntax.specs.Written.{sign_kinds}
 use Rattle.statement_syntax.specs.Lines.{name_in, on_colon, colon_after, map_names_step, line_end, statement_by}
-use Rattle.statement_syntax.specs.declared.scan.Item.{Item}
-use Rattle.statement_syntax.specs.declared.scan.Item.TheVariants as item
-use Rattle.statement_syntax.specs.declared.scan.ItemError.{ItemError}
-use Rattle.statement_syntax.specs.declared.scan.ScanFault.{ScanFault}
-use Rattle.statement_syntax.specs.declared.scan.ScanFault.TheVariants.{BadToken, LiteralTooLarge}
-use Rattle.statement_syntax.specs.Token.{name_of, literal_of, sign_at, more_of, GivesItem}
 
 -- ---- literals and brackets
 
@@ -60,17 +51,6 @@ bracket_opened levels head part at now outer under few levels_is outer_is under_
     let back : outside (record { head = head; part = part; at = at } ∷ levels) empty_head Nothing ≡ record { levels = now.levels; head = now.head; part = now.part; focus = now.focus } =
     rw (levels_is, outer_is, under_is, head_is, part_is, focus_is) refl in
     bracket_opens levels head part at few ∙ ap (λ r. Ok r) back
-
--- ---- names
-
-name_fits : (text : List ℕ) (more : ℕ) → length text ≤ 32 → name_of text more ≡ Ok (item.Token (kind.Name text) more)
-name_fits text more short = ap (λ b. if b then Ok (item.Token (kind.Name text) more) else Err BadToken) (le-leb (length text) 32 short)
-
-pub name_read : (first : ℕ) (rest text : List ℕ) (more : ℕ) → more ≡ prefix_len is_xid_continue rest → text ≡ encode_utf8_all (first ∷ take more rest) → length text ≤ 32
-    → name_of (encode_utf8_all (first ∷ take_while is_xid_continue rest)) (prefix_len is_xid_continue rest) ≡ Ok (item.Token (kind.Name text) more)
-name_read first rest text more count is short =
-    let whole : text ≡ encode_utf8_all (first ∷ take_while is_xid_continue rest) = is ∙ ap (λ n. encode_utf8_all (first ∷ take n rest)) count in
-    ap₂ name_of (sym whole) (sym count) ∙ name_fits text more short
 
 -- ---- names of `map`
 
@@ -131,30 +111,6 @@ line_lacks l (inr (inl (word, at, first, is))) = ap line_end is
 line_lacks l (inr (inr (inl (at, is)))) = ap line_end is
 line_lacks l (inr (inr (inr (inl (at, is))))) = ap line_end is
 line_lacks l (inr (inr (inr (inr (at, is))))) = ap line_end is
-
--- ---- how long items are
-
-chosen : {X E : Type 0} (P : X → Type 0) (b : Bool) (first second : Result X E) → IfOk first P → IfOk second P → IfOk (if b then first else second) P
-chosen P true first second here there = here
-chosen P false first second here there = there
-
-pub given_short : (n : ℕ) (r : Result Item ItemError) (read : Result Item ScanFault) → GivesItem r read → IfOk read (λ i. more_of i ≤ n) → IfOk r (λ i. more_of i ≤ n)
-given_short n (Ok i) read gives short = subst (λ x. IfOk x (λ i. more_of i ≤ n)) gives short
-given_short n (Err e) read gives short = tt
-
-pub name_short : (n : ℕ) (text : List ℕ) (more : ℕ) → more ≤ n → IfOk (name_of text more) (λ i. more_of i ≤ n)
-name_short n text more short = chosen (λ i. more_of i ≤ n) (nat_le (length text) 32) (Ok (item.Token (kind.Name text) more)) (Err BadToken) short tt
-
-pub literal_short : (n value more : ℕ) → more ≤ n → IfOk (literal_of value more) (λ i. more_of i ≤ n)
-literal_short n value more short = chosen (λ i. more_of i ≤ n) (nat_lt value (2 ^ 127)) (Ok (item.Token (kind.Literal (pos value)) more)) (Err LiteralTooLarge) short tt
-
-one_sign : (n : ℕ) (b : Bool) (k : TokenKind) (other : Result Item ScanFault) → IfOk other (λ i. more_of i ≤ n) → IfOk (if b then Ok (item.Token k 0) else other) (λ i. more_of i ≤ n)
-one_sign n b k other short = chosen (λ i. more_of i ≤ n) b (Ok (item.Token k 0)) other (omega arith) short
-
-pub sign_short : (n c : ℕ) → IfOk (sign_at c) (λ i. more_of i ≤ n)
-sign_short n c =
-    one_sign n (c == 58) kind.Colon _ (one_sign n (c == 61) kind.Equals _ (one_sign n (c == 43) kind.Plus _ (one_sign n (c == 40) kind.Open _
-    (one_sign n (c == 41) kind.Close _ (one_sign n (c == 91) kind.OpenSquare _ (one_sign n (c == 93) kind.CloseSquare _ (one_sign n (c == 39) kind.Quote (Err BadToken) tt)))))))
 
 -- ---- no sign is written
 

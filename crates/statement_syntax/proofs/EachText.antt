@@ -3,19 +3,19 @@ use Rattle.std.proofs.Common.{◌≡◌, ◌⊎◌, inl, inr, ℕ, Bool, true, f
 use Rattle.std.specs.Str.{IsUtf8, is_utf8, chars}
 use Rattle.std.specs.Str.Lossy.{utf8_valid_len}
 use Rattle.std.proofs.lemmas.Str.{IsUtf8-from_is_utf8, is_utf8-from_IsUtf8}
-use Rattle.statement_syntax.specs.declared.place.Spot.{Spot}
-use Rattle.statement_syntax.specs.declared.token.Token.{Token}
+use Rattle.statement_tokens.specs.declared.place.Spot.{Spot}
+use Rattle.statement_tokens.specs.declared.token.Token.{Token}
 use Rattle.statement_syntax.specs.declared.tree.Statement.{Statement}
 use Rattle.statement_syntax.specs.declared.expression.Misfit.{Misfit}
 use Rattle.statement_syntax.specs.declared.read.Progress.{Progress}
-use Rattle.statement_syntax.specs.declared.scan.Placed.{Placed}
-use Rattle.statement_syntax.specs.declared.scan.ScanFault.{ScanFault}
-use Rattle.statement_syntax.specs.declared.scan.ScanFault.TheVariants as scan
+use Rattle.statement_tokens.specs.declared.scan.Placed.{Placed}
+use Rattle.statement_tokens.specs.declared.scan.ScanFault.{ScanFault}
+use Rattle.statement_tokens.specs.declared.scan.ScanFault.TheVariants as scan
 use Rattle.statement_syntax.specs.declared.fault.Fault.{Fault}
 use Rattle.statement_syntax.specs.declared.fault.Fault.TheVariants as fault
 use Rattle.statement_syntax.specs.Steps.{run}
 use Rattle.statement_syntax.specs.Lines.{beginning, file_step}
-use Rattle.statement_syntax.specs.Token.{tokens_of}
+use Rattle.statement_tokens.specs.Token.{tokens_of}
 use Rattle.statement_syntax.specs.Fault.{IsTreeOf, IsFirstFault, TellsFirstFault, fault_at, misfit_fault}
 use Rattle.statement_syntax.specs.Stages.{StoppedAt, AllRead}
 use Rattle.statement_syntax.specs.Laws.{EachTextIsRead}

@@ -3,19 +3,19 @@ use Rattle.std.proofs.Common.{◌≡◌, ℕ, zero, suc, ◌+◌, ◌≤◌, tru
 use Rattle.std.specs.Str.{IsUtf8, chars, encode_utf8_all}
 use Rattle.std.proofs.Math.Utf8.{scalars}
 use Rattle.std.proofs.lemmas.Str.{encode_ascii, chars_from_encodes, scalars-chars}
-use Rattle.statement_syntax.specs.declared.token.Token.{Token}
-use Rattle.statement_syntax.specs.declared.token.TokenKind.{TokenKind}
-use Rattle.statement_syntax.specs.declared.token.TokenKind.TheVariants as kind
+use Rattle.statement_tokens.specs.declared.token.Token.{Token}
+use Rattle.statement_tokens.specs.declared.token.TokenKind.{TokenKind}
+use Rattle.statement_tokens.specs.declared.token.TokenKind.TheVariants as kind
 use Rattle.statement_syntax.specs.declared.tree.Statement.{Statement}
-use Rattle.statement_syntax.specs.declared.scan.Item.TheVariants as item
-use Rattle.statement_syntax.specs.declared.scan.Placed.{Placed}
-use Rattle.statement_syntax.specs.Token.{◌>>=◌, item_at, tokens_from, tokens_of, placed, end_of, with_front}
+use Rattle.statement_tokens.specs.declared.scan.Item.TheVariants as item
+use Rattle.statement_tokens.specs.declared.scan.Placed.{Placed}
+use Rattle.statement_tokens.specs.Token.{◌>>=◌, item_at, tokens_from, tokens_of, placed, end_of, with_front}
 use Rattle.statement_syntax.specs.Grammar.{sign_token, Stated, listed, mapped, sides, paired, projected, by_degree, by_weight, modelled, stated_tokens, StatedLine, line_tokens, file_tokens, FileFits}
 use Rattle.statement_syntax.specs.Tree.{stated_kind, file_tree}
 use Rattle.statement_syntax.specs.Fault.{HasText}
 use Rattle.statement_syntax.specs.Places.{somewhere, bare_stated, bare_line, bare_file, ReadsBackAs}
 use Rattle.statement_syntax.specs.Written.{text_from, statement_kinds, tree_text}
-use Rattle.statement_syntax.proofs.Scanning.{spot}
+use Rattle.statement_tokens.proofs.Scanning.{spot}
 use Rattle.statement_syntax.proofs.Moved.{kinds, file_moved}
 use Rattle.statement_syntax.proofs.Spelled.{tokens_are}
 use Rattle.statement_syntax.proofs.BareTokens.{AllSpelled, file_are}

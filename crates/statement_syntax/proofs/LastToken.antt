@@ -1,14 +1,14 @@
 -- The tokens of a text end with the end of a line.
 use Rattle.std.proofs.Common.{◌≡◌, ℕ, zero, suc, ◌+◌, List, [], ◌∷◌, ◌++◌, ◌⊎◌, inl, inr, Result, Ok, Err, refl, sym, ap, subst, ◌∙◌, arith, append_assoc}
 use Rattle.std.proofs.lemmas.List.{append-nil}
-use Rattle.statement_syntax.specs.declared.place.Spot.{Spot}
-use Rattle.statement_syntax.specs.declared.token.Token.{Token}
-use Rattle.statement_syntax.specs.declared.token.TokenKind.TheVariants as kind
-use Rattle.statement_syntax.specs.declared.scan.Item.{Item}
-use Rattle.statement_syntax.specs.declared.scan.Item.TheVariants as item
-use Rattle.statement_syntax.specs.declared.scan.ScanFault.{ScanFault}
-use Rattle.statement_syntax.specs.declared.scan.Placed.{Placed}
-use Rattle.statement_syntax.specs.Token.{◌>>=◌, item_at, tokens_from, placed, end_of, right_of, below}
+use Rattle.statement_tokens.specs.declared.place.Spot.{Spot}
+use Rattle.statement_tokens.specs.declared.token.Token.{Token}
+use Rattle.statement_tokens.specs.declared.token.TokenKind.TheVariants as kind
+use Rattle.statement_tokens.specs.declared.scan.Item.{Item}
+use Rattle.statement_tokens.specs.declared.scan.Item.TheVariants as item
+use Rattle.statement_tokens.specs.declared.scan.ScanFault.{ScanFault}
+use Rattle.statement_tokens.specs.declared.scan.Placed.{Placed}
+use Rattle.statement_tokens.specs.Token.{◌>>=◌, item_at, tokens_from, placed, end_of, right_of, below}
 use Rattle.statement_syntax.specs.Grammar.{sign_token}
 
 -- they end so, or there are none and there is no token before them in their line

@@ -1,5 +1,3 @@
-pub mod Values
-pub mod Scanning
 pub mod Branches
 pub mod Choices
 pub mod Machine

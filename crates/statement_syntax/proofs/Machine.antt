@@ -1,9 +1,9 @@
 -- Reading tokens one by one: what has been read of an expression that isn't at its end.
 use Rattle.std.specs.Prelude.{zero, suc, List, [], ◌∷◌, ◌++◌, length, Option, Some, None, Result, Ok, Err, ℤ, pos, negsuc, nat_lt, if◌then◌else◌}
-use Rattle.statement_syntax.specs.declared.place.Spot.{Spot}
-use Rattle.statement_syntax.specs.declared.token.Token.{Token}
-use Rattle.statement_syntax.specs.declared.token.TokenKind.{TokenKind}
-use Rattle.statement_syntax.specs.declared.token.TokenKind.TheVariants as kind
+use Rattle.statement_tokens.specs.declared.place.Spot.{Spot}
+use Rattle.statement_tokens.specs.declared.token.Token.{Token}
+use Rattle.statement_tokens.specs.declared.token.TokenKind.{TokenKind}
+use Rattle.statement_tokens.specs.declared.token.TokenKind.TheVariants as kind
 use Rattle.statement_syntax.specs.declared.tree.Name.{Name}
 use Rattle.statement_syntax.specs.declared.tree.Number.{Number}
 use Rattle.statement_syntax.specs.declared.expression.Misfit.{Misfit}

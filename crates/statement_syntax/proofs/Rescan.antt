@@ -6,13 +6,13 @@ use Rattle.std.proofs.lemmas.List.{drop_at, take_at}
 use Rattle.std.proofs.lemmas.Bool.{eqb-true}
 use Rattle.unicode_ident.specs.Ident.{is_xid_continue}
 use Rattle.unicode_ident.proofs.IdentLemmas.{is_xid_start-ascii, is_xid_continue-ascii}
-use Rattle.statement_syntax.specs.declared.token.Token.{Token}
-use Rattle.statement_syntax.specs.declared.token.TokenKind.{TokenKind}
-use Rattle.statement_syntax.specs.declared.token.TokenKind.TheVariants as kind
-use Rattle.statement_syntax.specs.declared.scan.Item.TheVariants as item
-use Rattle.statement_syntax.specs.declared.scan.Placed.{Placed}
-use Rattle.statement_syntax.specs.Token.{◌>>=◌, item_at, tokens_from, placed, starts_name, is_digit, begins_with, name_of}
-use Rattle.statement_syntax.proofs.Scanning.{spot, skipped}
+use Rattle.statement_tokens.specs.declared.token.Token.{Token}
+use Rattle.statement_tokens.specs.declared.token.TokenKind.{TokenKind}
+use Rattle.statement_tokens.specs.declared.token.TokenKind.TheVariants as kind
+use Rattle.statement_tokens.specs.declared.scan.Item.TheVariants as item
+use Rattle.statement_tokens.specs.declared.scan.Placed.{Placed}
+use Rattle.statement_tokens.specs.Token.{◌>>=◌, item_at, tokens_from, placed, starts_name, is_digit, begins_with, name_of}
+use Rattle.statement_tokens.proofs.Scanning.{spot, skipped}
 use Rattle.statement_syntax.proofs.Spelled.{EachIs}
 
 -- what follows does not go on

@@ -1,6 +1,6 @@
 -- Items read one after another, whatever a step does.
 use Rattle.std.proofs.Common.{◌≡◌, List, [], ◌∷◌, ◌++◌, ◌⊎◌, inl, inr, Result, Ok, Err, refl, sym, ap, ◌∙◌}
-use Rattle.statement_syntax.specs.declared.token.Token.{Token}
+use Rattle.statement_tokens.specs.declared.token.Token.{Token}
 use Rattle.statement_syntax.specs.declared.expression.Misfit.{Misfit}
 use Rattle.statement_syntax.specs.declared.expression.Misfit.TheVariants.{TooDeep}
 use Rattle.statement_syntax.specs.Steps.{◌>>=◌, run}

@@ -1,10 +1,10 @@
 -- The program's steps are those of the definition, seen without the places of signs.
 use Rattle.std.proofs.Common.{◌≡◌, zero, suc, Bool, true, false, cond, ltb, List, [], ◌∷◌, ◌++◌, length, Option, Some, None, Result, Ok, Err, refl, sym, ap, ap₂, ◌∙◌}
 use Rattle.std.specs.Prelude.{ℤ, pos, negsuc}
-use Rattle.statement_syntax.specs.declared.place.Spot.{Spot}
-use Rattle.statement_syntax.specs.declared.token.Token.{Token}
-use Rattle.statement_syntax.specs.declared.token.TokenKind.{TokenKind}
-use Rattle.statement_syntax.specs.declared.token.TokenKind.TheVariants as kind
+use Rattle.statement_tokens.specs.declared.place.Spot.{Spot}
+use Rattle.statement_tokens.specs.declared.token.Token.{Token}
+use Rattle.statement_tokens.specs.declared.token.TokenKind.{TokenKind}
+use Rattle.statement_tokens.specs.declared.token.TokenKind.TheVariants as kind
 use Rattle.statement_syntax.specs.declared.tree.Name.{Name}
 use Rattle.statement_syntax.specs.declared.tree.Number.{Number}
 use Rattle.statement_syntax.specs.declared.tree.Term.{Term, out-Term, out-roll-Term}

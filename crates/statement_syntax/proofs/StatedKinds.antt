@@ -4,10 +4,10 @@ use Rattle.std.specs.Prelude.{codes}
 use Rattle.std.specs.List.{flat_map}
 use Rattle.std.proofs.lemmas.List.{append-nil, map-append}
 use Rattle.std.proofs.lemmas.Grind.{flat_map-append}
-use Rattle.statement_syntax.specs.declared.place.Spot.{Spot}
-use Rattle.statement_syntax.specs.declared.token.Token.{Token}
-use Rattle.statement_syntax.specs.declared.token.TokenKind.{TokenKind}
-use Rattle.statement_syntax.specs.declared.token.TokenKind.TheVariants as kind
+use Rattle.statement_tokens.specs.declared.place.Spot.{Spot}
+use Rattle.statement_tokens.specs.declared.token.Token.{Token}
+use Rattle.statement_tokens.specs.declared.token.TokenKind.{TokenKind}
+use Rattle.statement_tokens.specs.declared.token.TokenKind.TheVariants as kind
 use Rattle.statement_syntax.specs.declared.tree.Name.{Name}
 use Rattle.statement_syntax.specs.declared.tree.Number.{Number}
 use Rattle.statement_syntax.specs.declared.tree.Mark.{Mark}

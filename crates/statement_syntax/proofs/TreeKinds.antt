@@ -1,7 +1,7 @@
 -- The tokens of a tree, by lists in place of rows.
 use Rattle.std.proofs.Common.{◌≡◌, Bool, true, false, List, [], ◌++◌, ◌∷◌, length, refl, sym, ap, ◌∙◌}
 use Rattle.std.specs.List.{flat_map}
-use Rattle.statement_syntax.specs.declared.token.TokenKind.{TokenKind}
+use Rattle.statement_tokens.specs.declared.token.TokenKind.{TokenKind}
 use Rattle.statement_syntax.specs.declared.tree.Term.{Term, Term', out-Term, outs-Term', Row_of-Factor, end_of-Factor, more_of-Factor, items-the_row-Factor, items_shown-the_row-Factor-1}
 use Rattle.statement_syntax.specs.declared.tree.Sum.{Sum, Sum', out-Sum, outs-Sum', Row_of-Term, end_of-Term, more_of-Term, items-the_row-Term, items_shown-the_row-Term-0}
 use Rattle.statement_syntax.specs.Written.{literal_kinds, sign_kinds, quotes, primary_kinds, factor_kinds, factors_kinds, term_kinds, terms_kinds, sum_kinds}

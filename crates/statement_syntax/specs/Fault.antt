@@ -2,18 +2,18 @@
 use Rattle.std.specs.Prelude.{◌≡◌, ℕ, List, [], ◌∷◌, ◌++◌, Ok, Err}
 use Rattle.std.specs.Str.{IsUtf8, chars}
 use Rattle.std.specs.Str.Lossy.{utf8_valid_len}
-use Rattle.statement_syntax.specs.declared.place.Spot.{Spot}
-use Rattle.statement_syntax.specs.declared.token.Token.{Token}
+use Rattle.statement_tokens.specs.declared.place.Spot.{Spot}
+use Rattle.statement_tokens.specs.declared.token.Token.{Token}
 use Rattle.statement_syntax.specs.declared.tree.Statement.{Statement}
-use Rattle.statement_syntax.specs.declared.scan.ScanFault.{ScanFault}
-use Rattle.statement_syntax.specs.declared.scan.ScanFault.TheVariants as scan
+use Rattle.statement_tokens.specs.declared.scan.ScanFault.{ScanFault}
+use Rattle.statement_tokens.specs.declared.scan.ScanFault.TheVariants as scan
 use Rattle.statement_syntax.specs.declared.expression.Misfit.{Misfit}
 use Rattle.statement_syntax.specs.declared.expression.Misfit.TheVariants as misfit
 use Rattle.statement_syntax.specs.declared.fault.Fault.{Fault}
 use Rattle.statement_syntax.specs.declared.fault.Fault.TheVariants as fault
 use Rattle.statement_syntax.specs.declared.fault.SyntaxFault.{SyntaxFault}
 use Rattle.statement_syntax.specs.declared.fault.SyntaxFault.TheVariants as refusal
-use Rattle.statement_syntax.specs.Token.{tokens_of}
+use Rattle.statement_tokens.specs.Token.{tokens_of}
 use Rattle.statement_syntax.specs.Grammar.{StatedLine, file_tokens, FileFits}
 use Rattle.statement_syntax.specs.Tree.{file_tree}
 

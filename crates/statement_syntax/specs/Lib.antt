@@ -1,4 +1,3 @@
-pub mod Token
 pub mod Grammar
 pub mod Nodes
 pub mod Steps

@@ -1,6 +1,6 @@
 -- The nodes of trees, by their parts.
 use Rattle.std.specs.Prelude.{ℕ, Bool, List, [], ◌∷◌, ◌++◌, Option}
-use Rattle.statement_syntax.specs.declared.place.Spot.{Spot}
+use Rattle.statement_tokens.specs.declared.place.Spot.{Spot}
 use Rattle.statement_syntax.specs.declared.tree.Name.{Name}
 use Rattle.statement_syntax.specs.declared.tree.Number.{Number}
 use Rattle.statement_syntax.specs.declared.tree.Mark.{Mark}

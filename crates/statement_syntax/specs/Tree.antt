@@ -1,6 +1,6 @@
 -- The tree that a text of the grammar stands for, which keeps no places of signs.
 use Rattle.std.specs.Prelude.{Bool, true, false, List, [], ◌∷◌, ◌++◌, map, Option, Some, None}
-use Rattle.statement_syntax.specs.declared.place.Spot.{Spot}
+use Rattle.statement_tokens.specs.declared.place.Spot.{Spot}
 use Rattle.statement_syntax.specs.declared.tree.Number.{Number}
 use Rattle.statement_syntax.specs.declared.tree.Primary.{Primary, Letter, Identity, Bracket}
 use Rattle.statement_syntax.specs.declared.tree.Factor.{Factor}

@@ -2,8 +2,8 @@
 use Rattle.std.specs.Prelude.{ℕ, zero, suc, Bool, true, false, ◌||◌, List, [], ◌∷◌, ◌++◌, length, Option, Some, None, codes}
 use Rattle.std.specs.List.{flat_map}
 use Rattle.std.specs.Fmt.{signed_decimal}
-use Rattle.statement_syntax.specs.declared.token.TokenKind.{TokenKind}
-use Rattle.statement_syntax.specs.declared.token.TokenKind.TheVariants as kind
+use Rattle.statement_tokens.specs.declared.token.TokenKind.{TokenKind}
+use Rattle.statement_tokens.specs.declared.token.TokenKind.TheVariants as kind
 use Rattle.statement_syntax.specs.declared.tree.Name.{Name}
 use Rattle.statement_syntax.specs.declared.tree.Number.{Number}
 use Rattle.statement_syntax.specs.declared.tree.Statement.{Statement}

@@ -4,8 +4,8 @@ ghost use Rattle.std.specs.Prelude.{◌≡◌};
 ghost use Rattle.statement_syntax.specs.Lines.{name_in, number_in, is_word};
 
 use crate::expression::Misfit;
-use crate::token::{Token, TokenKind};
 use crate::tree::{Name, Number};
+use statement_tokens::{Token, TokenKind};
 
 /// The name.
 pub fn name_in(token: Token) -> Result<Name, Misfit>

@@ -6,11 +6,10 @@ ghost use Rattle.statement_syntax.specs.declared.expression.Focus.TheVariants.{O
 ghost use Rattle.statement_syntax.specs.declared.expression.ReadError.TheVariants as read_error;
 
 use crate::part::{ended_part, part_with, quote_step, sign_step, sum_with};
-use crate::place::Spot;
 use crate::stack::Stack;
-use crate::token::{Token, TokenKind};
 use crate::tree::{Factor, Name, Number, Primary, Sum, Term};
 use lists::Listing;
+use statement_tokens::{Spot, Token, TokenKind};
 use std::alloc::{AllocError, AllocFailed, Global};
 use std::mem;
 use thiserror::Error;

@@ -4,8 +4,7 @@ ghost use Rattle.std.specs.Prelude.{◌≡◌};
 ghost use Rattle.statement_syntax.specs.Fault.{code_of, fault_at, scan_fault, misfit_fault};
 
 use crate::expression::Misfit;
-use crate::place::Spot;
-use crate::scan::ScanFault;
+use statement_tokens::{ScanFault, Spot};
 use std::alloc::AllocError;
 use thiserror::Error;
 

@@ -4,9 +4,9 @@ ghost use Rattle.std.specs.Prelude.{◌≡◌, ◌++◌, OnOk};
 ghost use Rattle.std.specs.List.{flat_map};
 ghost use Rattle.statement_syntax.specs.Written.{name_kinds, number_kinds, sign_kinds, quotes, literal_kinds, term_kinds, sum_kinds, factor_kinds, word_kinds, pair_kinds, list_kinds, self_kinds, map_kinds, sides_kinds, two_kinds, projection_kinds, degree_kinds, weight_kinds, shape_kinds, statement_kinds};
 
-use crate::token::TokenKind;
 use crate::tree::{Factor, Name, Number, Primary, StatementKind, Sum, Term};
 use lists::{Duplicate, Listing, Text};
+use statement_tokens::TokenKind;
 use std::alloc::{AllocError, Global};
 
 fn put_name(name: &Name, out: &mut Listing<TokenKind>) -> Result<(), AllocError>

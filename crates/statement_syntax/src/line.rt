@@ -9,11 +9,10 @@ use crate::expression::{Misfit, ReadError, Reading};
 use crate::named::{list_end, list_step, map_end, map_step, pair_step, projection_step};
 use crate::numbered::{no_pairs, order_step, pairs_step, shape_end, weights_end};
 use crate::opening::start_step;
-use crate::place::Spot;
 use crate::sides::{sides_end, sides_step};
-use crate::token::Token;
 use crate::tree::{Name, Number, Statement, StatementKind, Sum};
 use lists::Listing;
+use statement_tokens::{Spot, Token};
 use std::alloc::Global;
 use std::mem;
 

@@ -8,10 +8,9 @@ ghost use Rattle.statement_syntax.specs.Tree.{pair_kind};
 use crate::expected::{is_word, name_in};
 use crate::expression::{Misfit, ReadError};
 use crate::line::{Line, ListWord, MapRest, PairWord};
-use crate::place::Spot;
-use crate::token::{Token, TokenKind};
 use crate::tree::{Name, Statement, StatementKind};
 use lists::Listing;
+use statement_tokens::{Spot, Token, TokenKind};
 
 /// One more name of `object` or `solve`.
 pub fn list_step(

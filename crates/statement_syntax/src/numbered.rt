@@ -7,10 +7,9 @@ ghost use Rattle.statement_syntax.specs.Lines.{no_pairs, pairs_step, whole_pairs
 use crate::expected::{is_word, name_in, number_in};
 use crate::expression::{Misfit, ReadError};
 use crate::line::{Line, Pairs};
-use crate::place::Spot;
-use crate::token::Token;
 use crate::tree::{Name, Number, Statement, StatementKind};
 use lists::Listing;
+use statement_tokens::{Spot, Token};
 use std::alloc::Global;
 
 /// No pair.

@@ -5,10 +5,9 @@ ghost use Rattle.statement_syntax.specs.Lines.{opening_in, opened, start_step};
 
 use crate::expression::Misfit;
 use crate::line::{Line, ListWord, MapRest, Opening, PairWord, SidesWord};
-use crate::place::Spot;
 use crate::sides::start_reading;
-use crate::token::{Token, TokenKind};
 use lists::Listing;
+use statement_tokens::{Spot, Token, TokenKind};
 use std::alloc::Global;
 
 // The statement that a word begins, if it begins one.

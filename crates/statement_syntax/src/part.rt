@@ -5,9 +5,9 @@ ghost use Rattle.statement_syntax.specs.Steps.{part_with, Gives, Turns, ended_pa
 ghost use Rattle.statement_syntax.specs.declared.expression.Part.TheVariants.{Product};
 
 use crate::expression::{Head, Misfit, Part, ReadError};
-use crate::place::Spot;
 use crate::tree::{Factor, Mark, Number, Primary, Sum, Term};
 use lists::Listing;
+use statement_tokens::Spot;
 use std::alloc::{AllocError, Global};
 use std::mem;
 

@@ -11,11 +11,9 @@ ghost use Rattle.statement_syntax.specs.Stages.{TokensRead, LinesRead, IsRefusal
 use crate::expression::ReadError;
 use crate::fault::{Fault, SyntaxFault, fault_at, misfit_fault, scan_fault};
 use crate::line::{Line, line_end, line_step};
-use crate::place::Spot;
-use crate::scan::{ScanError, characters, tokens};
-use crate::token::{Token, TokenKind};
 use crate::tree::{Statement, Tree};
 use lists::Listing;
+use statement_tokens::{ScanError, Spot, Token, TokenKind, characters, tokens};
 use std::alloc::{AllocError, Global};
 use std::mem;
 

@@ -9,10 +9,9 @@ use crate::expression::{
     Focus, Misfit, Part, ReadError, Reading, empty_head, token_step, whole_sum,
 };
 use crate::line::SidesWord;
-use crate::place::Spot;
 use crate::stack::Stack;
-use crate::token::{Token, TokenKind};
 use crate::tree::{StatementKind, Sum};
+use statement_tokens::{Spot, Token, TokenKind};
 use std::alloc::Global;
 use std::mem;
 

@@ -2,8 +2,8 @@
 
 ghost use Rattle.statement_syntax.specs.Fault.{HasText};
 
-use crate::place::Spot;
 use lists::{Listing, Text};
+use statement_tokens::Spot;
 
 /// The statements of a text, one a line. It is the tree of some text of the language.
 #[derive(Drop)]

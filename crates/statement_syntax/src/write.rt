@@ -5,10 +5,10 @@ ghost use Rattle.statement_syntax.specs.Written.{opens, closes, kind_text, gap, 
 ghost use Rattle.statement_syntax.specs.Places.{ReadsBackAs};
 
 use crate::kinds::put_statement;
-use crate::token::TokenKind;
 use crate::tree::Tree;
 use itoa::Buffer;
 use lists::Listing;
+use statement_tokens::TokenKind;
 use std::alloc::{AllocError, Global};
 
 fn opens(kind: &TokenKind) -> bool

@@ -1,6 +1,6 @@
 use Rattle.std.proofs.Common.{◌≡◌, length, arith, rules, ap, ◌∙◌}
 use Rattle.std.specs.Str.{IsUtf8, chars}
-use Rattle.statement_syntax.proofs.Values.{chars_short}
+use Rattle.statement_tokens.proofs.Values.{chars_short}
 use Rattle.statement_syntax.proofs.Stopping.{told_not_utf8}
 use Rattle.statement_syntax.proofs.read.token_list.Goals as goal
 

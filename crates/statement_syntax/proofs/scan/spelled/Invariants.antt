@@ -1,6 +1,0 @@
-use Rattle.std.proofs.Common.{◌≡◌, ◌++◌, ◌∷◌, drop}
-use Rattle.std.specs.Str.{encode_utf8_all}
-use Rattle.statement_syntax.proofs.scan.spelled.Given as goal
-
-abbrev pub invariant-loop-ch : goal.invariant-loop-ch
-invariant-loop-ch l = l.out ++ encode_utf8_all (drop l.ch-index l.more) ≡ encode_utf8_all (l.fn.first ∷ l.more)

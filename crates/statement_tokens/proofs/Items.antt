@@ -1,0 +1,51 @@
+-- What the reader of a name comes to, and how long items are.
+use Rattle.std.proofs.Common.{◌≡◌, ℕ, ◌≤◌, List, ◌∷◌, Bool, true, false, length, Result, Ok, Err, take, sym, ap, ap₂, subst, ◌∙◌, arith}
+use Rattle.std.specs.Prelude.{if◌then◌else◌, nat_le, nat_lt, ◌==◌, ◌^◌, pos}
+use Rattle.std.specs.Result.{IfOk}
+use Rattle.std.specs.List.{prefix_len, take_while}
+use Rattle.std.specs.Str.{encode_utf8_all}
+use Rattle.unicode_ident.specs.Ident.{is_xid_continue}
+use Rattle.std.proofs.lemmas.Bool.{le-leb}
+use Rattle.statement_tokens.specs.declared.token.TokenKind.{TokenKind}
+use Rattle.statement_tokens.specs.declared.token.TokenKind.TheVariants as kind
+use Rattle.statement_tokens.specs.declared.scan.Item.{Item}
+use Rattle.statement_tokens.specs.declared.scan.Item.TheVariants as item
+use Rattle.statement_tokens.specs.declared.scan.ItemError.{ItemError}
+use Rattle.statement_tokens.specs.declared.scan.ScanFault.{ScanFault}
+use Rattle.statement_tokens.specs.declared.scan.ScanFault.TheVariants.{BadToken, LiteralTooLarge}
+use Rattle.statement_tokens.specs.Token.{name_of, literal_of, sign_at, more_of, GivesItem}
+
+-- ---- names
+
+name_fits : (text : List ℕ) (more : ℕ) → length text ≤ 32 → name_of text more ≡ Ok (item.Token (kind.Name text) more)
+name_fits text more short = ap (λ b. if b then Ok (item.Token (kind.Name text) more) else Err BadToken) (le-leb (length text) 32 short)
+
+pub name_read : (first : ℕ) (rest text : List ℕ) (more : ℕ) → more ≡ prefix_len is_xid_continue rest → text ≡ encode_utf8_all (first ∷ take more rest) → length text ≤ 32
+    → name_of (encode_utf8_all (first ∷ take_while is_xid_continue rest)) (prefix_len is_xid_continue rest) ≡ Ok (item.Token (kind.Name text) more)
+name_read first rest text more count is short =
+    let whole : text ≡ encode_utf8_all (first ∷ take_while is_xid_continue rest) = is ∙ ap (λ n. encode_utf8_all (first ∷ take n rest)) count in
+    ap₂ name_of (sym whole) (sym count) ∙ name_fits text more short
+
+-- ---- how long items are
+
+chosen : {X E : Type 0} (P : X → Type 0) (b : Bool) (first second : Result X E) → IfOk first P → IfOk second P → IfOk (if b then first else second) P
+chosen P true first second here there = here
+chosen P false first second here there = there
+
+pub given_short : (n : ℕ) (r : Result Item ItemError) (read : Result Item ScanFault) → GivesItem r read → IfOk read (λ i. more_of i ≤ n) → IfOk r (λ i. more_of i ≤ n)
+given_short n (Ok i) read gives short = subst (λ x. IfOk x (λ i. more_of i ≤ n)) gives short
+given_short n (Err e) read gives short = tt
+
+pub name_short : (n : ℕ) (text : List ℕ) (more : ℕ) → more ≤ n → IfOk (name_of text more) (λ i. more_of i ≤ n)
+name_short n text more short = chosen (λ i. more_of i ≤ n) (nat_le (length text) 32) (Ok (item.Token (kind.Name text) more)) (Err BadToken) short tt
+
+pub literal_short : (n value more : ℕ) → more ≤ n → IfOk (literal_of value more) (λ i. more_of i ≤ n)
+literal_short n value more short = chosen (λ i. more_of i ≤ n) (nat_lt value (2 ^ 127)) (Ok (item.Token (kind.Literal (pos value)) more)) (Err LiteralTooLarge) short tt
+
+one_sign : (n : ℕ) (b : Bool) (k : TokenKind) (other : Result Item ScanFault) → IfOk other (λ i. more_of i ≤ n) → IfOk (if b then Ok (item.Token k 0) else other) (λ i. more_of i ≤ n)
+one_sign n b k other short = chosen (λ i. more_of i ≤ n) b (Ok (item.Token k 0)) other (omega arith) short
+
+pub sign_short : (n c : ℕ) → IfOk (sign_at c) (λ i. more_of i ≤ n)
+sign_short n c =
+    one_sign n (c == 58) kind.Colon _ (one_sign n (c == 61) kind.Equals _ (one_sign n (c == 43) kind.Plus _ (one_sign n (c == 40) kind.Open _
+    (one_sign n (c == 41) kind.Close _ (one_sign n (c == 91) kind.OpenSquare _ (one_sign n (c == 93) kind.CloseSquare _ (one_sign n (c == 39) kind.Quote (Err BadToken) tt)))))))

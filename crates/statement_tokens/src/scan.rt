@@ -1,0 +1,294 @@
+//! Characters to tokens.
+
+ghost use Rattle.std.specs.Prelude.{◌≡◌, ◌≤◌, ◌<◌, ◌+◌, ◌^◌, ◌++◌, ◌∷◌, length, IfOk, OnOk, SomeIff, pos};
+ghost use Rattle.std.specs.List.{prefix_len, take_while};
+ghost use Rattle.std.specs.Str.{chars, encode_utf8_all};
+ghost use Rattle.statement_tokens.specs.Token.{item_at, sign_at, GivesItem, ScansTo, tokens_of, more_of, value_from, name_of, literal_of, begins_with, is_digit, starts_name, end_of};
+ghost use Rattle.unicode_ident.specs.Ident.{is_xid_continue};
+ghost use Rattle.statement_tokens.specs.Token.{is_in};
+ghost use Rattle.statement_tokens.specs.declared.scan.ItemError.TheVariants as item_error;
+ghost use Rattle.statement_tokens.specs.declared.scan.ScanError.TheVariants as scan_error;
+
+use crate::place::Spot;
+use crate::token::{Token, TokenKind};
+use lists::Text;
+use std::alloc::{AllocError, AllocFailed, Global};
+use thiserror::Error;
+
+/// What begins at a character, and how many more characters belong to it.
+#[derive(Drop)]
+pub enum Item {
+    NewLine,
+    Gap(usize),
+    Token(TokenKind, usize),
+}
+
+/// Why characters are no token.
+#[derive(Clone, Copy, Debug, Error)]
+pub enum ScanFault {
+    /// A character begins no token, or a name is too long.
+    #[error("the token is bad")]
+    BadToken,
+    /// A literal is larger than 2^127 - 1.
+    #[error("the literal is too large")]
+    LiteralTooLarge,
+}
+
+/// A fault with the place of its first character.
+#[derive(Clone, Copy, Debug, Error)]
+#[error("{fault}")]
+pub struct Placed {
+    /// What is wrong.
+    pub fault: ScanFault,
+    /// Where its first character stands.
+    pub at: Spot,
+}
+
+/// Why there is no item at a character.
+#[derive(Debug, Drop, Error)]
+pub enum ItemError {
+    #[error(transparent)]
+    Fault(ScanFault),
+    #[error("memory is short")]
+    Memory,
+}
+
+/// Why a text has no tokens.
+#[derive(Debug, Drop, Error)]
+pub enum ScanError {
+    /// The first fault, with its place.
+    #[error(transparent)]
+    Fault(Placed),
+    /// Memory is short.
+    #[error("memory is short")]
+    Memory,
+}
+
+impl From<ScanFault> for ItemError {
+    ghost from_gives = { λ fault e. e ≡ item_error.Fault fault };
+
+    fn from(fault: ScanFault) -> ItemError {
+        ItemError::Fault(fault)
+    }
+}
+
+impl From<AllocError> for ItemError {
+    ghost from_gives = { λ _ e. e ≡ item_error.Memory };
+
+    fn from(_failed: AllocError) -> ItemError {
+        ItemError::Memory
+    }
+}
+
+impl<T: Drop> From<AllocFailed<T>> for ScanError {
+    ghost from_gives = { λ _ e. e ≡ scan_error.Memory };
+
+    fn from(_failed: AllocFailed<T>) -> ScanError {
+        ScanError::Memory
+    }
+}
+
+/// The characters that go on with a token or a comment.
+#[derive(Clone, Copy)]
+pub enum Class {
+    Name,
+    Digit,
+    Comment,
+}
+
+fn is_in(class: Class, ch: char) -> bool
+    ensures { result ≡ is_in class ch }
+{
+    match class {
+        Class::Name => unicode_ident::is_xid_continue(ch),
+        Class::Digit => '0' <= ch && ch <= '9',
+        Class::Comment => ch != '\n',
+    }
+}
+
+fn run_len(class: Class, text: &[char]) -> usize
+    ensures within { result ≤ length text.now }
+    ensures exact { result ≡ prefix_len (is_in class) text.now }
+{
+    let mut count = 0;
+    while count < text.len() && is_in(class, text[count]) {
+        count += 1;
+    }
+    count
+}
+
+// A character and those after it, as a text.
+fn spelled(alloc: Global, first: char, more: &[char]) -> Result<Text, AllocError>
+    ensures { IfOk result (λ t. t ≡ encode_utf8_all (first ∷ more.now)) }
+{
+    let mut out = Text::new(alloc);
+    out.push(first)?;
+    for ch in more {
+        out.push(*ch)?;
+    }
+    Ok(out)
+}
+
+fn sign_at(ch: char) -> Result<Item, ScanFault>
+    ensures { result ≡ sign_at ch }
+{
+    let kind = match ch {
+        ':' => TokenKind::Colon,
+        '=' => TokenKind::Equals,
+        '+' => TokenKind::Plus,
+        '(' => TokenKind::Open,
+        ')' => TokenKind::Close,
+        '[' => TokenKind::OpenSquare,
+        ']' => TokenKind::CloseSquare,
+        '\'' => TokenKind::Quote,
+        _ => return Err(ScanFault::BadToken),
+    };
+    Ok(Item::Token(kind, 0))
+}
+
+// The greatest value of a literal.
+const LARGEST: u128 = 170141183460469231731687303715884105727;
+
+// The value of digits, or None where it is 2^127 or more.
+fn value_of(first: char, more: &[char]) -> Option<u128>
+    ensures { SomeIff result (value_from 0 (first ∷ more.now) < 2 ^ 127) (value_from 0 (first ∷ more.now)) }
+{
+    let mut value: u128 = u128::from((first as u32).saturating_sub(48));
+    for ch in more {
+        let digit = u128::from((*ch as u32).saturating_sub(48));
+        if value > LARGEST / 10 {
+            return None;
+        }
+        value = value * 10 + digit;
+        if value > LARGEST {
+            return None;
+        }
+    }
+    Some(value)
+}
+
+// The greatest number of bytes of a name.
+const NAME_LIMIT: usize = 32;
+
+fn name_at(alloc: Global, first: char, rest: &[char]) -> Result<Item, ItemError>
+    ensures { GivesItem result (name_of (encode_utf8_all (first ∷ take_while is_xid_continue rest.now)) (prefix_len is_xid_continue rest.now)) }
+{
+    let more = run_len(Class::Name, rest);
+    let text = spelled(alloc, first, &rest[..more])?;
+    if text.len() <= NAME_LIMIT {
+        Ok(Item::Token(TokenKind::Name(text), more))
+    } else {
+        Err(ItemError::Fault(ScanFault::BadToken))
+    }
+}
+
+fn literal_at(first: char, rest: &[char]) -> Result<Item, ScanFault>
+    ensures { result ≡ literal_of (value_from 0 (first ∷ take_while is_digit rest.now)) (prefix_len is_digit rest.now) }
+{
+    let more = run_len(Class::Digit, rest);
+    match value_of(first, &rest[..more]) {
+        Some(value) => Ok(Item::Token(TokenKind::Literal(value as i128), more)),
+        None => Err(ScanFault::LiteralTooLarge),
+    }
+}
+
+fn begins_with(ch: char, text: &[char]) -> bool
+    ensures { result ≡ begins_with ch text.now }
+{
+    match text {
+        [] => false,
+        [first, ..] => *first == ch,
+    }
+}
+
+#[tactic(auto, unfolding(crate::specs::Token::item_at))]
+fn item_at(alloc: Global, first: char, rest: &[char]) -> Result<Item, ItemError>
+    ensures exact { GivesItem result (item_at first rest.now) }
+    ensures within { IfOk result (λ item. more_of item ≤ length rest.now) }
+{
+    if first == '\n' {
+        Ok(Item::NewLine)
+    } else if first == ' ' || first == '\t' || (first == '\r' && begins_with('\n', rest)) {
+        Ok(Item::Gap(0))
+    } else if first == '#' {
+        Ok(Item::Gap(run_len(Class::Comment, rest)))
+    } else if starts_name(first) {
+        name_at(alloc, first, rest)
+    } else if is_in(Class::Digit, first) {
+        Ok(literal_at(first, rest)?)
+    } else if first == '-' {
+        if begins_with('>', rest) {
+            Ok(Item::Token(TokenKind::Arrow, 1))
+        } else {
+            Ok(Item::Token(TokenKind::Minus, 0))
+        }
+    } else {
+        Ok(sign_at(first)?)
+    }
+}
+
+fn starts_name(ch: char) -> bool
+    ensures { result ≡ starts_name ch }
+{
+    unicode_ident::is_xid_start(ch) || ch == '_'
+}
+
+/// The characters of a text. It fails only where memory is short.
+pub fn characters(alloc: Global, text: &str) -> Result<Vec<char>, AllocError>
+    ensures { IfOk result (λ v. v.items ≡ chars text.now) }
+{
+    text.chars().collect(alloc)
+}
+
+/// The tokens of a text, or its first fault with its place. A line that has a token ends with one just past its last.
+pub fn tokens(alloc: Global, text: &[char]) -> Result<Vec<Token>, ScanError>
+    requires { length text.now < 4294967295 }
+    ensures { ScansTo (λ v. v.items) result (tokens_of text.now) }
+{
+    let mut out = Vec::new(alloc);
+    let mut place = 0;
+    let mut line = 1;
+    let mut column = 1;
+    let mut past = 0;
+    while place < text.len() {
+        let at = Spot { line, column };
+        let item = match item_at(alloc, text[place], &text[place + 1..]) {
+            Ok(item) => item,
+            Err(ItemError::Memory) => return Err(ScanError::Memory),
+            Err(ItemError::Fault(fault)) => return Err(ScanError::Fault(Placed { fault, at })),
+        };
+        match item {
+            Item::NewLine => {
+                put_end(&mut out, line, past)?;
+                place += 1;
+                line += 1;
+                column = 1;
+                past = 0;
+            }
+            Item::Gap(more) => {
+                place += 1 + more;
+                column += 1 + more as u32;
+            }
+            Item::Token(kind, more) => {
+                out.push(Token { at, kind })?;
+                place += 1 + more;
+                column += 1 + more as u32;
+                past = column;
+            }
+        }
+    }
+    put_end(&mut out, line, past)?;
+    Ok(out)
+}
+
+fn put_end(out: &mut Vec<Token>, line: u32, past: u32) -> Result<(), AllocFailed<Token>>
+    ensures { OnOk result (out.new.items ≡ out.old.items ++ end_of line past) }
+{
+    if past != 0 {
+        out.push(Token {
+            at: Spot { line, column: past },
+            kind: TokenKind::End,
+        })?;
+    }
+    Ok(())
+}
