@@ -1,7 +1,7 @@
 //! What commands answer: from a call and the contents of its files to the status and the report.
 #![tactic(auto)]
 
-mod answer;
+mod answers;
 mod call;
 mod check;
 mod confirm;
@@ -15,7 +15,7 @@ mod refute;
 mod statement;
 mod stop;
 
-pub use answer::answer;
+pub use answers::answer;
 pub use call::{FileWord, call_files};
 pub use ending::Ending;
 pub use laws::{

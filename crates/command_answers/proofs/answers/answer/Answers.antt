@@ -4,7 +4,7 @@ use Rattle.command_words.specs.declared.call.BenchCall.{BenchCall}
 use Rattle.command_words.specs.declared.call.Call.TheVariants.{Bench}
 use Rattle.report_text.specs.Bench.{bench_statement}
 use Rattle.command_answers.proofs.BenchSize.{bench_fits}
-use Rattle.command_answers.proofs.answer.answer.Goals as goal
+use Rattle.command_answers.proofs.answers.answer.Goals as goal
 
 -- the statement of `bench` is within its limit
 pub answer_over-requires-clause-statement_fits : goal.answer_over-requires-clause-statement_fits

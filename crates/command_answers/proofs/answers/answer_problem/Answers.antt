@@ -6,7 +6,7 @@ use Rattle.command_answers.specs.declared.decide.Asked.{Asked}
 use Rattle.command_answers.specs.OverProblem.{AnswersOver}
 use Rattle.command_answers.specs.Decide.{asked_by, AnswersClaims}
 use Rattle.command_answers.specs.Stop.{EndsAs}
-use Rattle.command_answers.proofs.answer.answer_problem.Goals as goal
+use Rattle.command_answers.proofs.answers.answer_problem.Goals as goal
 
 pub returns-in-Prove : goal.returns-in-Prove
 returns-in-Prove g c =
