@@ -2,7 +2,7 @@
 ghost use Rattle.std.specs.Prelude.{◌≡◌, ◌≤◌, length};
 ghost use Rattle.std.specs.List.{AllZip};
 ghost use Rattle.command_words.specs.Calls.{IsInRange};
-ghost use Rattle.command_answers.specs.FileWords.{files_of};
+ghost use Rattle.command_answers.specs.FileWords.{statement_limit, evidence_limit, files_of};
 ghost use Rattle.command_answers.specs.Answers.{Answers};
 ghost use Rattle.command_answers.specs.OverProblem.{AnswersOver};
 ghost use Rattle.command_answers.specs.Statement.{OverStatement};
@@ -61,8 +61,8 @@ fn answer_over<R: Threads + Sync, G: Gate + Sync>(
     gate: &G,
 ) -> Result<Ending, Stop>
     requires in_range { IsInRange call.now }
-    requires statement_fits { length statement.now ≤ 1048576 }
-    requires evidence_fits { length evidence.now ≤ 67108864 }
+    requires statement_fits { length statement.now ≤ statement_limit }
+    requires evidence_fits { length evidence.now ≤ evidence_limit }
     ensures { EndsAs (OverStatement statement.now (AnswersOver call.now evidence.now)) result }
 {
     let problem = read_statement(alloc, statement)?;
@@ -79,7 +79,7 @@ fn answer_problem<R: Threads + Sync, G: Gate + Sync>(
     gate: &G,
 ) -> Result<Ending, Stop>
     requires in_range { IsInRange call.now }
-    requires evidence_fits { length evidence.now ≤ 67108864 }
+    requires evidence_fits { length evidence.now ≤ evidence_limit }
     ensures { EndsAs (AnswersOver call.now evidence.now problem.now) result }
 {
     match call {

@@ -1,6 +1,6 @@
 //! The files of a call.
 ghost use Rattle.std.specs.Prelude.{◌≡◌, IfOk, [], ◌∷◌};
-ghost use Rattle.command_answers.specs.FileWords.{file_word, pair_files, files_of};
+ghost use Rattle.command_answers.specs.FileWords.{statement_limit, file_word, pair_files, files_of};
 
 use command_words::{Call, PairCall};
 use lists::{Duplicate, Listing, Text};
@@ -33,7 +33,7 @@ pub fn call_files(alloc: Global, call: &Call) -> Result<Listing<FileWord>, Alloc
 
 // A statement alone.
 fn statement_file(alloc: Global, name: &Text) -> Result<Listing<FileWord>, AllocError>
-    ensures { IfOk result (λ files. files ≡ file_word name.now 1048576 ∷ []) }
+    ensures { IfOk result (λ files. files ≡ file_word name.now statement_limit ∷ []) }
 {
     let mut files = Listing::new(alloc);
     files.push(file_word(name, STATEMENT_LIMIT)?)?;

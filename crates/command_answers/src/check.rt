@@ -3,6 +3,7 @@ ghost use Rattle.std.specs.Prelude.{◌≡◌, ◌≤◌, IfOk, IfErr, length};
 ghost use Rattle.std.specs.List.{All};
 ghost use Rattle.cofactor_trace.specs.declared.evidence.Format.TheVariants.{Lemmas};
 ghost use Rattle.certificate_text.specs.Evidence.{IsEvidence, IsFirstFault, IsCheckableEvidence};
+ghost use Rattle.command_answers.specs.FileWords.{evidence_limit};
 ghost use Rattle.command_answers.specs.Refusals.{claim_text};
 ghost use Rattle.command_answers.specs.Blocks.{OverEvidence};
 ghost use Rattle.command_answers.specs.Check.{AcceptsCertificate, RefusesCertificate, AnswersEvidence};
@@ -25,7 +26,7 @@ use std::alloc::{AllocError, Global};
 
 /// How a run of `check` ends over a problem and an evidence text.
 pub fn judge_evidence(alloc: Global, problem: &Problem, evidence: &[u8]) -> Result<Ending, Stop>
-    requires { length evidence.now ≤ 67108864 }
+    requires { length evidence.now ≤ evidence_limit }
     ensures { EndsAs (AnswersEvidence evidence.now problem.now) result }
 {
     let certificates = certificates_of(alloc, evidence, &problem.parts.quiver)?;
@@ -38,7 +39,7 @@ fn certificates_of(
     evidence: &[u8],
     quiver: &Quiver,
 ) -> Result<Listing<Evidence>, Stop>
-    requires { length evidence.now ≤ 67108864 }
+    requires { length evidence.now ≤ evidence_limit }
     ensures read { IfOk result (IsEvidence Lemmas quiver.now evidence.now) }
     ensures checkable { IfOk result (All (IsCheckableEvidence quiver.now)) }
     ensures stopped { IfErr result (StopsBy (OverEvidence (IsEvidence Lemmas quiver.now evidence.now) (IsFirstFault Lemmas quiver.now evidence.now) (λ _ _. ⊥))) }

@@ -3,6 +3,7 @@ ghost use Rattle.std.specs.Prelude.{◌≡◌, ◌<◌, ◌≤◌, Some, IfOk, I
 ghost use Rattle.std.specs.List.{All};
 ghost use Rattle.quiver.specs.Declarations.{letter_count};
 ghost use Rattle.model_text.specs.Models.{IsModels, IsFirstFault, IsModel};
+ghost use Rattle.command_answers.specs.FileWords.{evidence_limit};
 ghost use Rattle.command_answers.specs.Letters.{HasModelLetter};
 ghost use Rattle.command_answers.specs.Refusals.{claim_confirmed, map_cause, model_cause};
 ghost use Rattle.command_answers.specs.Blocks.{OverEvidence};
@@ -26,7 +27,7 @@ use word_core::Letter;
 
 /// How a run of `model` ends over a problem and a text of models.
 pub fn judge_models(alloc: Global, problem: &Problem, text: &[u8]) -> Result<Ending, Stop>
-    requires { length text.now ≤ 67108864 }
+    requires { length text.now ≤ evidence_limit }
     ensures { EndsAs (AnswersModelText text.now problem.now) result }
 {
     let models = models_of(alloc, text, &problem.parts.quiver)?;
@@ -35,7 +36,7 @@ pub fn judge_models(alloc: Global, problem: &Problem, text: &[u8]) -> Result<End
 
 // The models of the text, or the ending that tells its first fault.
 fn models_of(alloc: Global, text: &[u8], quiver: &Quiver) -> Result<Listing<Model>, Stop>
-    requires { length text.now ≤ 67108864 }
+    requires { length text.now ≤ evidence_limit }
     ensures read { IfOk result (IsModels quiver.now text.now) }
     ensures models { IfOk result (All (IsModel quiver.now)) }
     ensures stopped { IfErr result (StopsBy (OverEvidence (IsModels quiver.now text.now) (IsFirstFault quiver.now text.now) (λ _ _. ⊥))) }

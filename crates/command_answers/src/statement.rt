@@ -2,6 +2,7 @@
 ghost use Rattle.std.specs.Prelude.{◌≤◌, ℕ, List, IfOk, IfErr, length};
 ghost use Rattle.statement_syntax.specs.Fault.{IsTreeOf};
 ghost use Rattle.signature_typing.specs.Typing.{IsProblemOf};
+ghost use Rattle.command_answers.specs.FileWords.{statement_limit};
 ghost use Rattle.command_answers.specs.Statement.{IsStated, OverStatement};
 ghost use Rattle.command_answers.specs.Stop.{StopsBy};
 
@@ -15,7 +16,7 @@ use std::alloc::Global;
 
 /// The problem of the statement, or the ending that tells its first fault.
 pub fn read_statement(alloc: Global, statement: &[u8]) -> Result<Problem, Stop>
-    requires { length statement.now ≤ 1048576 }
+    requires { length statement.now ≤ statement_limit }
     ensures stated { IfOk result (IsStated statement.now) }
     ensures stopped { IfErr result (StopsBy (OverStatement statement.now (λ _ _. ⊥))) }
 {
@@ -24,7 +25,7 @@ pub fn read_statement(alloc: Global, statement: &[u8]) -> Result<Problem, Stop>
 }
 
 fn tree_of(alloc: Global, statement: &[u8]) -> Result<Tree, Stop>
-    requires { length statement.now ≤ 1048576 }
+    requires { length statement.now ≤ statement_limit }
     ensures tree { IfOk result (λ tree. IsTreeOf statement.now tree.statements) }
     ensures stopped { IfErr result (StopsBy (OverStatement statement.now (λ _ _. ⊥))) }
 {
