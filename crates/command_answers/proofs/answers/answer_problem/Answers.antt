@@ -1,4 +1,4 @@
-use Rattle.std.proofs.Common.{◌≡◌, sym, subst}
+use Rattle.std.proofs.Common.{sym, subst}
 use Rattle.adjoint_rules.specs.declared.problem.Problem.{Problem}
 use Rattle.command_words.specs.declared.call.Call.{Call}
 use Rattle.report_text.specs.Report.{report_of}
