@@ -284,7 +284,12 @@ fn told_of(alloc: Global, row: &Row) -> Result<String, Fail> {
     let (_, call, left, right, _) = *row;
     let left = poly(alloc, left)?;
     let right = poly(alloc, right)?;
-    let got = answer(alloc, call, &left, &right)?;
+    told_of_call(alloc, call, &left, &right)
+}
+
+// What is told of a call of two polynomials.
+fn told_of_call(alloc: Global, call: Call, p: &Poly, q: &Poly) -> Result<String, Fail> {
+    let got = answer(alloc, call, p, q)?;
     Ok(told(alloc, &got)?)
 }
 
@@ -343,7 +348,7 @@ fn coefficients_are_compared_word_by_word(rt: HostRuntime) -> Result<(), Fail> {
 }
 
 // A call of one list of terms, or of two.
-#[derive(Clone, Copy, Debug)]
+#[derive(Clone, Copy)]
 enum ListCall {
     Scale(&'static str),
     Multiply(&'static str),

@@ -3,13 +3,14 @@ ghost use Rattle.std.specs.Prelude.{◌≤◌, All, IfOk, length};
 ghost use Rattle.coef_int.specs.Range.{IsCoefficient};
 
 use crate::notation::{number, polys, row, write_number, write_overflow, write_word};
-use crate::texts::{problem_of, same};
+use crate::texts::{same, tree_of};
 use adjoint_rules::Problem;
 use certificate_text::read_certificates;
 use cofactor_checker::{Accepted, Refusal, check, check_over, refusal_is_unique};
 use cofactor_trace::{CertRow, Certificate, Origin};
 use lists::Listing;
 use nc_polynomial::Poly;
+use signature_typing::elaborate;
 use std::alloc::{AllocError, Global};
 use std::process::Abort;
 use std::test::Fail;
@@ -30,11 +31,10 @@ fn cert_row(alloc: Global, text: &str) -> Result<CertRow, Fail>
     }
 }
 
-// The certificate of a claim that is written: a denominator and rows over generators.
-fn certificate(alloc: Global, claim: u32, denominator: &str, sum: &str) -> Result<Certificate, Fail>
-    ensures denominator { IfOk result (λ c. IsCoefficient c.denominator) }
-    ensures coefficients { IfOk result (λ c. All (λ r. IsCoefficient r.coef) c.rows) }
-    ensures few { IfOk result (λ c. length c.rows ≤ 1000) }
+// The rows over generators of the sum that is written.
+fn cert_rows(alloc: Global, sum: &str) -> Result<Listing<CertRow>, Fail>
+    ensures coefficients { IfOk result (All (λ r. IsCoefficient r.coef)) }
+    ensures few { IfOk result (λ rows. length rows ≤ 1000) }
 {
     let mut list = Listing::new(alloc);
     for part in sum.split('+') {
@@ -45,10 +45,19 @@ fn certificate(alloc: Global, claim: u32, denominator: &str, sum: &str) -> Resul
             list.push(cert_row(alloc, part.trim())?)?;
         }
     }
+    Ok(list)
+}
+
+// The certificate of a claim that is written: a denominator and rows over generators.
+fn certificate(alloc: Global, claim: u32, denominator: &str, sum: &str) -> Result<Certificate, Fail>
+    ensures denominator { IfOk result (λ c. IsCoefficient c.denominator) }
+    ensures coefficients { IfOk result (λ c. All (λ r. IsCoefficient r.coef) c.rows) }
+    ensures few { IfOk result (λ c. length c.rows ≤ 1000) }
+{
     Ok(Certificate {
         claim,
         denominator: number(denominator)?,
-        rows: list,
+        rows: cert_rows(alloc, sum)?,
     })
 }
 
@@ -217,8 +226,9 @@ fn told_of_each(alloc: Global, problem: &Problem, evidence: &str) -> Result<Stri
 }
 
 fn told_of_texts(alloc: Global, statement: &str, evidence: &str) -> Result<String, Fail> {
-    match problem_of(alloc, statement)? {
-        Ok(problem) => told_of_each(alloc, &problem, evidence),
+    let tree = tree_of(alloc, statement)?;
+    match &elaborate(alloc, &tree) {
+        Ok(problem) => told_of_each(alloc, problem, evidence),
         Err(fault) => Err(Fail::new(fault)),
     }
 }

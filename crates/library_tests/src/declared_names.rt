@@ -2,7 +2,7 @@
 use crate::texts::{same, tree_of};
 use adjoint_rules::Shape;
 use quiver::Quiver;
-use statement_names::{Equation, Names, abbreviation, read_names};
+use statement_names::{Equation, NameStop, Names, abbreviation, read_names};
 use statement_syntax::Tree;
 use std::alloc::{AllocError, Global};
 use std::process::Abort;
@@ -111,21 +111,24 @@ const FILES: &[Row] = &[
     ),
 ];
 
-fn names_of(alloc: Global, text: &str) -> Result<Names, Fail> {
-    let tree = tree_of(alloc, text)?;
-    Ok(read_names(alloc, &tree)?)
+// All that the names stand for, where the file has no fault.
+fn told_of(alloc: Global, read: &Result<Names, NameStop>) -> Result<String, Fail> {
+    match read {
+        Ok(names) => Ok(told(alloc, names)?),
+        Err(fault) => Err(Fail::new(fault)),
+    }
 }
 
 // All that the names of this file stand for.
-fn told_of(alloc: Global, text: &str) -> Result<String, Fail> {
-    let names = names_of(alloc, text)?;
-    Ok(told(alloc, &names)?)
+fn told_of_text(alloc: Global, text: &str) -> Result<String, Fail> {
+    let tree = tree_of(alloc, text)?;
+    told_of(alloc, &read_names(alloc, &tree))
 }
 
 #[test]
 fn names_are_numbered_and_read(rt: HostRuntime) -> Result<(), Fail> {
     for (text, want) in FILES {
-        let got = told_of(rt.alloc(), text)?;
+        let got = told_of_text(rt.alloc(), text)?;
         same(&rt, got.as_str(), want, text);
     }
     Ok(())

@@ -5,7 +5,7 @@ use coef_int::{Overflow, divisor, gcd, negate, plus, quotient, times};
 use std::alloc::{AllocError, Global};
 use std::test::Fail;
 
-#[derive(Clone, Copy, Debug)]
+#[derive(Clone, Copy)]
 enum Call {
     Times,
     Plus,

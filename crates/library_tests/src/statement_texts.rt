@@ -6,13 +6,14 @@ use crate::problem_rows::{ARITHMETIC, LATE, PROBLEMS, SIGNATURES};
 use crate::statement_rows::{
     FAULTS, LINES, LITERALS, MISFITS, NAMED, NESTED, NOT_UTF8, Row, STATEMENTS,
 };
-use crate::texts::{poly_text, problem_of, repeated, same};
+use crate::texts::{poly_text, repeated, same, tree_of};
 use adjoint_rules::Problem;
 use lists::Text;
-use signature_typing::{TypeFault, problem_is_unique};
+use signature_typing::{TypeFault, elaborate, problem_is_unique};
 use statement_syntax::{StatementKind, SyntaxFault, Tree, read_tree, write_tree};
 use statement_tokens::Spot;
 use std::alloc::{AllocError, Global};
+use std::process::Abort;
 use std::test::Fail;
 
 // The text that is written back, or the first fault.
@@ -27,16 +28,23 @@ fn written(alloc: Global, text: &[u8]) -> Result<String, Fail> {
     }
 }
 
-const WRITTEN: &[&[Row]] = &[STATEMENTS, LINES, NAMED, LITERALS, FAULTS, MISFITS];
+// Asserts that what is written of each text is as its row says.
+fn tell_written(rt: &impl Abort, alloc: Global, rows: &[Row]) -> Result<(), Fail> {
+    for (text, want) in rows {
+        let got = written(alloc, text.as_bytes())?;
+        same(rt, got.as_str(), want, text);
+    }
+    Ok(())
+}
 
 #[test]
 fn a_text_is_written_back_or_its_first_fault_told(rt: HostRuntime) -> Result<(), Fail> {
-    for rows in WRITTEN {
-        for (text, want) in *rows {
-            let got = written(rt.alloc(), text.as_bytes())?;
-            same(&rt, got.as_str(), want, text);
-        }
-    }
+    tell_written(&rt, rt.alloc(), STATEMENTS)?;
+    tell_written(&rt, rt.alloc(), LINES)?;
+    tell_written(&rt, rt.alloc(), NAMED)?;
+    tell_written(&rt, rt.alloc(), LITERALS)?;
+    tell_written(&rt, rt.alloc(), FAULTS)?;
+    tell_written(&rt, rt.alloc(), MISFITS)?;
     for (text, want) in NOT_UTF8 {
         let got = written(rt.alloc(), text)?;
         same(&rt, got.as_str(), want, want);
@@ -164,26 +172,37 @@ fn write_claims(text: &mut String, alloc: Global, problem: &Problem) -> Result<(
     Ok(())
 }
 
-// What is made of the problem of the text, or its first fault.
-fn outcome(alloc: Global, text: &str, whole: bool) -> Result<String, Fail> {
-    match problem_of(alloc, text)? {
-        Ok(problem) if whole => problem_text(alloc, &problem),
+// The problem as it is written, or no more than that there is one; or its first fault.
+fn told(alloc: Global, made: &Result<Problem, TypeFault>, whole: bool) -> Result<String, Fail> {
+    match made {
+        Ok(problem) if whole => problem_text(alloc, problem),
         Ok(_) => Ok(String::from_str(alloc, "read")?),
-        Err(fault) => Ok(fault_text(alloc, &fault)?),
+        Err(fault) => Ok(fault_text(alloc, fault)?),
     }
 }
 
-const FAULTY: &[&[Row]] = &[NAMES, NUMBERS, SIGNATURES, ARITHMETIC, LATE];
+// The same of the text.
+fn outcome(alloc: Global, text: &str, whole: bool) -> Result<String, Fail> {
+    let tree = tree_of(alloc, text)?;
+    told(alloc, &elaborate(alloc, &tree), whole)
+}
+
+// Asserts that the outcome of each text is as its row says.
+fn tell_outcomes(rt: &impl Abort, alloc: Global, rows: &[Row], whole: bool) -> Result<(), Fail> {
+    for (text, want) in rows {
+        let got = outcome(alloc, text, whole)?;
+        same(rt, got.as_str(), want, text);
+    }
+    Ok(())
+}
 
 #[test]
 fn the_first_fault_is_told_with_its_place(rt: HostRuntime) -> Result<(), Fail> {
-    for rows in FAULTY {
-        for (text, want) in *rows {
-            let got = outcome(rt.alloc(), text, false)?;
-            same(&rt, got.as_str(), want, text);
-        }
-    }
-    Ok(())
+    tell_outcomes(&rt, rt.alloc(), NAMES, false)?;
+    tell_outcomes(&rt, rt.alloc(), NUMBERS, false)?;
+    tell_outcomes(&rt, rt.alloc(), SIGNATURES, false)?;
+    tell_outcomes(&rt, rt.alloc(), ARITHMETIC, false)?;
+    tell_outcomes(&rt, rt.alloc(), LATE, false)
 }
 
 #[test]
@@ -199,9 +218,5 @@ fn limits_are_passed_at_the_next_value(rt: HostRuntime) -> Result<(), Fail> {
 #[test]
 fn a_text_has_its_generators_and_claims(rt: HostRuntime) -> Result<(), Fail> {
     problem_is_unique();
-    for (text, want) in PROBLEMS {
-        let got = outcome(rt.alloc(), text, true)?;
-        same(&rt, got.as_str(), want, text);
-    }
-    Ok(())
+    tell_outcomes(&rt, rt.alloc(), PROBLEMS, true)
 }

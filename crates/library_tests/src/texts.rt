@@ -4,11 +4,9 @@ ghost use Rattle.std.specs.List.{All};
 ghost use Rattle.coef_int.specs.Range.{IsCoefficient};
 ghost use Rattle.word_core.specs.Letters.{IsOver};
 
-use adjoint_rules::Problem;
 use certificate_text::{write_poly, write_word};
 use nc_polynomial::{Poly, PolyFault};
 use quiver::Quiver;
-use signature_typing::{TypeFault, elaborate};
 use statement_syntax::{Tree, read_tree};
 use std::alloc::{AllocError, Global};
 use std::fmt::Debug;
@@ -37,12 +35,6 @@ pub fn tree_of(alloc: Global, text: &str) -> Result<Tree, Fail> {
         return Err(Fail::new("the text is too long for a test"));
     }
     Ok(read_tree(alloc, text.as_bytes())?)
-}
-
-/// The problem of a statement text, or its first fault past the grammar.
-pub fn problem_of(alloc: Global, text: &str) -> Result<Result<Problem, TypeFault>, Fail> {
-    let tree = tree_of(alloc, text)?;
-    Ok(elaborate(alloc, &tree))
 }
 
 /// A map: its name, the numbers of its source and its target, and whether it is its own adjoint.

@@ -29,7 +29,7 @@ fn read_back(rt: &impl Abort, word: &mut Word) -> Result<(), Fail> {
 }
 
 // A call of one word, or of two or three.
-#[derive(Clone, Copy, Debug)]
+#[derive(Clone, Copy)]
 enum Part {
     Slice(usize, usize),
     Concat(&'static str),

@@ -7,7 +7,7 @@ use cofactor_trace::{Cause, Halt, Made, Place};
 use in_order_parallel::OpenGate;
 use nc_polynomial::Poly;
 use quiver::Quiver;
-use signature_typing::elaborate;
+use signature_typing::{TypeFault, elaborate};
 use statement_syntax::read_tree;
 use std::alloc::{AllocError, Global};
 use std::test::Fail;
@@ -274,15 +274,6 @@ fn story<R: Threads + Sync>(
     story_from(rt, alloc, problem, &mut completion, workers, calls)
 }
 
-// The problem of a statement.
-fn problem_of(alloc: Global, statement: &[u8]) -> Result<Problem, Fail> {
-    if statement.len() > 1000 {
-        return Err(Fail::new("the statement is too long for a test"));
-    }
-    let tree = read_tree(alloc, statement)?;
-    Ok(elaborate(alloc, &tree)?)
-}
-
 // A budget, which must be one.
 fn budget_of(pairs: u32, steps: u32) -> Result<Budget, Fail>
     ensures { IfOk result IsBudget }
@@ -295,7 +286,26 @@ fn budget_of(pairs: u32, steps: u32) -> Result<Budget, Fail>
     }
 }
 
-// The story of a statement's problem.
+// The story of the problem that a statement stands for.
+fn story_of<R: Threads + Sync>(
+    rt: &R,
+    alloc: Global,
+    made: &Result<Problem, TypeFault>,
+    budget: Budget,
+    workers: u32,
+    calls: u32,
+) -> Result<String, Fail>
+    requires budget { IsBudget budget }
+    requires some_worker { 0 < workers }
+    requires at_most_64 { workers ≤ 64 }
+{
+    match made {
+        Ok(problem) => story(rt, alloc, problem, budget, workers, calls),
+        Err(fault) => Err(Fail::new(fault)),
+    }
+}
+
+// The same of its text.
 fn told<R: Threads + Sync>(
     rt: &R,
     alloc: Global,
@@ -308,8 +318,11 @@ fn told<R: Threads + Sync>(
     requires some_worker { 0 < workers }
     requires at_most_64 { workers ≤ 64 }
 {
-    let problem = problem_of(alloc, statement)?;
-    story(rt, alloc, &problem, budget, workers, calls)
+    if statement.len() > 1000 {
+        return Err(Fail::new("the statement is too long for a test"));
+    }
+    let tree = read_tree(alloc, statement)?;
+    story_of(rt, alloc, &elaborate(alloc, &tree), budget, workers, calls)
 }
 
 #[test]
