@@ -3,10 +3,11 @@
 
 usage: gate_time.py [COMMAND ..]
 
-Without a command it runs `bash .ci/run`. From nothing is a fresh clone on a machine where rt has kept nothing. Twice a second the processes of
-the prover are looked up in /proc (so this wants Linux), and their time is counted by the crate and the pass that they work at: all of the
-machine's, so nothing else may run. What a process does in its last half second isn't seen. A processor of a shared machine may be half as fast
-in one hour as in another: compare crates that haven't changed before two tables are compared.
+Without a command it runs `bash .ci/run`. From nothing is a fresh clone on a machine where rt has kept nothing. Twice a second the processes
+that the command has started are looked up in /proc (so this wants Linux), and the time of the prover's is counted by the crate and the pass
+that they work at. What a process does in its last half second isn't seen. A processor of a shared machine may be half as fast in one hour as in
+another, and slow while a new machine gets its memory: run what is to be compared at one time, on as many processors each, or compare crates
+that haven't changed first.
 """
 from __future__ import annotations
 
@@ -22,16 +23,37 @@ PASSES = ("library", "tests", "edits")
 TICKS = os.sysconf("SC_CLK_TCK")
 
 
+class Process(NamedTuple):
+    """The number of the parent, when the process was started, which tells it from others of its number, and its processor seconds so far."""
+
+    parent: str
+    start: str
+    seconds: float
+
+
 class Seen(NamedTuple):
     what: Optional[Tuple[str, str]]
     seconds: float
     times: int
 
 
-def started(process: Path) -> Tuple[str, float]:
-    """When a process was started, which tells it from others of its number, and its processor seconds so far."""
-    fields = (process / "stat").read_text().rpartition(")")[2].split()
-    return fields[19], (int(fields[11]) + int(fields[12])) / TICKS
+def processes() -> Dict[str, Process]:
+    """All processes of the machine by their numbers."""
+    found = {}
+    for folder in Path("/proc").glob("[0-9]*"):
+        try:
+            fields = (folder / "stat").read_text().rpartition(")")[2].split()
+        except OSError:
+            continue
+        found[folder.name] = Process(fields[1], fields[19], (int(fields[11]) + int(fields[12])) / TICKS)
+    return found
+
+
+def is_below(number: str, top: str, found: Dict[str, Process]) -> bool:
+    """Whether the process is the one at the top, or was started by one that is."""
+    while number != top and number in found:
+        number = found[number].parent
+    return number == top
 
 
 def worked_at(process: Path) -> Optional[Tuple[str, str]]:
@@ -44,18 +66,20 @@ def worked_at(process: Path) -> Optional[Tuple[str, str]]:
     return words[words.index("--crate-name") + 1], what
 
 
-def look(seen: Dict[Tuple[str, str], Seen], total: Counter) -> None:
-    """Adds what the processes did since the last look. A process may become another program in its first seconds."""
-    for process in Path("/proc").glob("[0-9]*"):
+def look(top: str, seen: Dict[Tuple[str, str], Seen], total: Counter) -> None:
+    """Adds what the processes below the one at the top did since the last look. A process may become another program in its first seconds."""
+    found = processes()
+    for number, process in found.items():
+        if not is_below(number, top, found):
+            continue
+        last = seen.get((number, process.start), Seen(None, 0.0, 0))
         try:
-            start, seconds = started(process)
-            last = seen.get((process.name, start), Seen(None, 0.0, 0))
-            what = worked_at(process) if last.times < 6 else last.what
-        except (OSError, ValueError, IndexError):
+            what = worked_at(Path("/proc") / number) if last.times < 6 else last.what
+        except OSError:
             continue
         if what:
-            total[what] += seconds - last.seconds
-        seen[process.name, start] = Seen(what, seconds, last.times + 1)
+            total[what] += process.seconds - last.seconds
+        seen[number, process.start] = Seen(what, process.seconds, last.times + 1)
 
 
 def print_table(total: Counter) -> None:
@@ -74,14 +98,13 @@ def main(words: List[str]) -> int:
         return 2
     seen: Dict[Tuple[str, str], Seen] = {}
     total: Counter = Counter()
-    look(seen, Counter())
     try:
         gate = subprocess.Popen(words or ["bash", ".ci/run"])
     except OSError as error:
         print(f"gate_time.py: {error}", file=sys.stderr)
         return 2
     while gate.poll() is None:
-        look(seen, total)
+        look(str(gate.pid), seen, total)
         time.sleep(0.5)
     print_table(total)
     return gate.returncode
