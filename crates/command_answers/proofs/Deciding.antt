@@ -17,9 +17,9 @@ use Rattle.claim_decider.specs.Decided.{claim_at, claim_numbers, AreOutcomesOf, 
 use Rattle.claim_decider.proofs.UniqueOutcomes.{outcomes_unique}
 use Rattle.claim_decider.proofs.UniqueRules.{last_rules_unique}
 use Rattle.representations.specs.Evidence.{IsEvidenceSound}
-use Rattle.outcome_meanings.specs.Meanings.{OutcomeMeans, HaltMeans}
-use Rattle.outcome_meanings.proofs.AskedOrders.{asked_rank, asked_cmp-admissible}
-use Rattle.outcome_meanings.proofs.Meanings.{outcomes_mean_what_they_say}
+use Rattle.outcome_laws.specs.Meanings.{OutcomeMeans, HaltMeans}
+use Rattle.outcome_laws.proofs.AskedOrders.{asked_rank, asked_cmp-admissible}
+use Rattle.outcome_laws.proofs.Meanings.{outcomes_mean_what_they_say}
 use Rattle.report_text.specs.declared.verdict.Verdict.{Verdict}
 use Rattle.report_text.specs.Report.{status_of}
 use Rattle.command_answers.specs.Ending.{Ending}

@@ -5,7 +5,7 @@ use Rattle.traced_completion.specs.PlainRun.{setting_of}
 use Rattle.claim_decider.specs.Outcomes.{IsOutcomeOf}
 use Rattle.claim_decider.specs.Decided.{claim_at, claim_numbers}
 use Rattle.command_words.specs.declared.call.Call.TheVariants.{Prove, Check, Refute, Model, Bench}
-use Rattle.outcome_existence.proofs.Problems.{each_problem_has_outcomes}
+use Rattle.outcome_laws.proofs.Problems.{each_problem_has_outcomes}
 use Rattle.report_text.specs.declared.verdict.Verdict.{Verdict}
 use Rattle.report_text.specs.Report.{report_of, heads_of, status_of}
 use Rattle.report_text.specs.Bench.{bench_statement}

@@ -21,7 +21,7 @@ use Rattle.adjoint_rules.specs.Problem.{polynomials, numbers, generators_in}
 use Rattle.adjoint_rules.proofs.Generators.{posed_quiver, claims_have_signatures, marked_are_objects, generators_have_signatures, generators_are_zero, makes_zero}
 use Rattle.claim_decider.specs.Decided.{claim_at}
 use Rattle.representations.specs.Evidence.{IsEvidenceSound}
-use Rattle.outcome_meanings.specs.Meanings.{EvidenceAddsUp}
+use Rattle.outcome_laws.specs.Meanings.{EvidenceAddsUp}
 use Rattle.report_text.specs.Heads.{denominator_of}
 use Rattle.command_answers.specs.Ending.{Ending}
 use Rattle.command_answers.specs.Check.{claim_number, IsAccepted, AnswersCheck}

@@ -8,8 +8,8 @@ use Rattle.claim_decider.specs.declared.outcome.Outcome.{Outcome}
 use Rattle.claim_decider.specs.declared.outcome.Outcome.TheVariants as outcome
 use Rattle.claim_decider.specs.Outcomes.{IsOutcomeOf}
 use Rattle.claim_decider.specs.Decided.{claim_at, AreOutcomesOf}
-use Rattle.outcome_limits.specs.OutcomeLetters.{IsOutcomeOver}
-use Rattle.outcome_limits.proofs.OutcomeLetters.{outcomes_have_letters}
+use Rattle.outcome_laws.specs.OutcomeLetters.{IsOutcomeOver}
+use Rattle.outcome_laws.proofs.OutcomeLetters.{outcomes_have_letters}
 use Rattle.report_text.specs.declared.verdict.Verdict.{Verdict}
 use Rattle.report_text.specs.Report.{IsVerdictOver}
 use Rattle.command_answers.specs.declared.decide.Asked.{Asked}

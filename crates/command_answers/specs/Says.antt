@@ -18,7 +18,7 @@ use Rattle.claim_decider.specs.Decided.{claim_at, claim_numbers}
 use Rattle.model_checker.specs.Models.{representation_of, IsZeroIn}
 use Rattle.model_checker.specs.Laws.{HasOtherValue}
 use Rattle.model_text.specs.Models.{IsModels}
-use Rattle.outcome_meanings.specs.Meanings.{Follows, EvidenceAddsUp, HaltMeans}
+use Rattle.outcome_laws.specs.Meanings.{Follows, EvidenceAddsUp, HaltMeans}
 use Rattle.certificate_text.specs.Evidence.{IsEvidence}
 use Rattle.report_text.specs.declared.verdict.Verdict.{Verdict}
 use Rattle.report_text.specs.declared.verdict.Verdict.TheVariants.{Proved, NotDerivable, Refuted, Undecided, NotRefuted}

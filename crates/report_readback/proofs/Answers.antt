@@ -19,10 +19,10 @@ use Rattle.traced_completion.specs.PlainRun.{setting_of}
 use Rattle.claim_decider.specs.declared.outcome.Outcome.{Outcome}
 use Rattle.claim_decider.specs.declared.outcome.Outcome.TheVariants as outcome
 use Rattle.claim_decider.specs.Decided.{claim_at, claim_numbers, AreOutcomesOf}
-use Rattle.outcome_limits.specs.EvidenceLimits.{IsCertificateWithin, IsLemmaCertificateWithin, IsWithinLimits}
-use Rattle.outcome_limits.proofs.EvidenceFits.{evidence_fits}
-use Rattle.outcome_meanings.specs.Meanings.{IsOutcomeAt}
-use Rattle.outcome_meanings.proofs.DerivedClaims.{certificate_adds_up}
+use Rattle.outcome_laws.specs.EvidenceLimits.{IsCertificateWithin, IsLemmaCertificateWithin, IsWithinLimits}
+use Rattle.outcome_laws.proofs.EvidenceFits.{evidence_fits}
+use Rattle.outcome_laws.specs.Meanings.{IsOutcomeAt}
+use Rattle.outcome_laws.proofs.DerivedClaims.{certificate_adds_up}
 use Rattle.report_readback.specs.ReadBack.{derived_in}
 use Rattle.report_readback.specs.Answered.{PassesLimit, AcceptsOf, RefusesOf, IsAnsweredWithinLimits, DerivedEvidenceIsAnswered, ReportedEvidenceIsAnswered}
 use Rattle.report_readback.proofs.ClaimNumbers.{numbers_there}

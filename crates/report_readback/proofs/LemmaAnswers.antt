@@ -18,8 +18,8 @@ use Rattle.evidence_checker.specs.Rows.{plain_sum}
 use Rattle.evidence_checker.specs.Lemmas.{lemma_polynomials, RefusesLemmas, row_count}
 use Rattle.evidence_checker.specs.Acceptance.{goal_claim, all_polynomials, IsPositive, IsFirstLoose, HasLooseGoal, RefusesBlock, RefusesLemmaCertificate}
 use Rattle.evidence_checker.proofs.Evidence.{sums_agree}
-use Rattle.outcome_limits.specs.EvidenceLimits.{IsLemmaWithin, IsLemmaCertificateWithin}
-use Rattle.outcome_limits.proofs.Results.{split_last}
+use Rattle.outcome_laws.specs.EvidenceLimits.{IsLemmaWithin, IsLemmaCertificateWithin}
+use Rattle.outcome_laws.proofs.Results.{split_last}
 use Rattle.report_readback.proofs.PlainAnswers.{Polys, item, none_differs}
 use Rattle.report_readback.proofs.OneLemma.{Answers, rows_answer, polynomial_is, lemma_answer}
 

@@ -23,10 +23,10 @@ use Rattle.traced_completion.specs.PlainRun.{setting_of}
 use Rattle.claim_decider.specs.declared.outcome.Outcome.TheVariants as outcome
 use Rattle.claim_decider.specs.Outcomes.{record_of, evidence_of_zero}
 use Rattle.claim_decider.specs.Decided.{claim_at}
-use Rattle.outcome_meanings.specs.Meanings.{IsOutcomeAt, LemmaCertificateAddsUp}
-use Rattle.outcome_meanings.proofs.Derivations.{gathering_adds_up}
-use Rattle.outcome_meanings.proofs.Meanings.{derived_claims_add_up}
-use Rattle.outcome_limits.proofs.OutcomeWays.{Way, no_terms, expanded, gathered, left_over, given_up, with_run, way}
+use Rattle.outcome_laws.specs.Meanings.{IsOutcomeAt, LemmaCertificateAddsUp}
+use Rattle.outcome_laws.proofs.Derivations.{gathering_adds_up}
+use Rattle.outcome_laws.proofs.Meanings.{derived_claims_add_up}
+use Rattle.outcome_laws.proofs.OutcomeWays.{Way, no_terms, expanded, gathered, left_over, given_up, with_run, way}
 
 -- ---- rules are polynomials of the program
 

@@ -1,3 +1,6 @@
+mod Spellings
+mod Tokens
+pub mod Declared
 pub mod Numerals
 pub mod Heads
 pub mod Bases

@@ -15,8 +15,8 @@ use Rattle.claim_decider.specs.declared.outcome.Outcome.{Outcome}
 use Rattle.claim_decider.specs.declared.outcome.Outcome.TheVariants as outcome
 use Rattle.claim_decider.specs.Outcomes.{IsOutcomeOf}
 use Rattle.claim_decider.specs.Decided.{claim_at, claim_numbers, AreOutcomesOf}
-use Rattle.outcome_limits.proofs.EvidenceFits.{evidence_fits}
-use Rattle.outcome_limits.proofs.OutcomeLetters.{outcomes_have_letters, last_rules_have_letters}
+use Rattle.outcome_laws.proofs.EvidenceFits.{evidence_fits}
+use Rattle.outcome_laws.proofs.OutcomeLetters.{outcomes_have_letters, last_rules_have_letters}
 use Rattle.report_text.specs.declared.verdict.Verdict.{Verdict}
 use Rattle.report_text.specs.Report.{report_of, IsLeastOver}
 use Rattle.report_readback.specs.ReadBack.{IsReadAs, proved_in, IsWritableVerdict, IsVerdictOfHalt, IsVerdictOf, AreVerdictsOf, derived_in, OutcomeReportsReadBack}

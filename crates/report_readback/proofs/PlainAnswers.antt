@@ -13,7 +13,7 @@ use Rattle.cofactor_checker.specs.declared.Refusal.TheVariants as refusal
 use Rattle.cofactor_checker.specs.Rows.{IsNumberUpTo, LacksGenerator}
 use Rattle.cofactor_checker.specs.Difference.{IsLeastDifference}
 use Rattle.cofactor_checker.specs.Acceptance.{claim_of, Refuses, IsMemory}
-use Rattle.outcome_limits.specs.EvidenceLimits.{IsCertificateWithin}
+use Rattle.outcome_laws.specs.EvidenceLimits.{IsCertificateWithin}
 use Rattle.report_readback.specs.Answered.{PassesLimitOfRows}
 
 abbrev pub Polys : Type 0

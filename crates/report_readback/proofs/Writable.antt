@@ -17,7 +17,7 @@ use Rattle.adjoint_rules.specs.declared.problem.Problem.{Problem}
 use Rattle.certificate_text.specs.Evidence.{IsRowOver}
 use Rattle.certificate_text.specs.Written.{IsLemmaOver, IsEvidenceOver}
 use Rattle.certificate_text.specs.Back.{IsWritableRow, IsWritable, number_of, IsWritableLemma, IsWritableByLemmas, IsWritableEvidence}
-use Rattle.outcome_limits.specs.EvidenceLimits.{IsRowWithin, IsCertificateWithin, IsLemmaWithin, IsLemmaCertificateWithin, IsWithinLimits}
+use Rattle.outcome_laws.specs.EvidenceLimits.{IsRowWithin, IsCertificateWithin, IsLemmaWithin, IsLemmaCertificateWithin, IsWithinLimits}
 
 -- ---- scales and denominators
 

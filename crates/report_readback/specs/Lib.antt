@@ -1,3 +1,4 @@
+pub mod Names
 pub mod ReadBack
 pub mod ModelsReadBack
 pub mod Answered

@@ -1,10 +1,12 @@
-//! Reports are read back as the evidence and the models that they give, and the evidence is accepted unless a limit is passed.
+//! What a statement declares has names of the language, so reports are read back as the evidence and the models that they give, and the evidence is accepted unless a limit is passed.
 #![tactic(auto)]
 
 mod laws;
+mod name_laws;
 
 pub use laws::{
     derived_evidence_is_answered, outcome_reports_are_read_back, reported_evidence_is_answered,
     reports_are_read_back, reports_are_read_back_as_models, statement_reports_are_read_back,
     statement_reports_are_read_back_as_models,
 };
+pub use name_laws::{declared_names_are_names, names_are_name_tokens};

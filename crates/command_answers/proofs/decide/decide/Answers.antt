@@ -4,7 +4,7 @@ use Rattle.std.proofs.lemmas.Slice.Zip.{AllZip-long}
 use Rattle.traced_completion.specs.PlainRun.{setting_of}
 use Rattle.claim_decider.specs.Outcomes.{IsOutcomeOf}
 use Rattle.claim_decider.specs.Decided.{claim_at, claim_numbers}
-use Rattle.outcome_limits.proofs.OutcomeLetters.{last_rules_have_letters}
+use Rattle.outcome_laws.proofs.OutcomeLetters.{last_rules_have_letters}
 use Rattle.command_answers.proofs.Writing.{verdicts_over}
 use Rattle.command_answers.proofs.decide.decide.Goals as goal
 

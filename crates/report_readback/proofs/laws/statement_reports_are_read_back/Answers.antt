@@ -1,4 +1,4 @@
-use Rattle.declared_names.proofs.Declared.{declared_names_are_names}
+use Rattle.report_readback.proofs.Declared.{declared_names_are_names}
 use Rattle.report_readback.proofs.Outcomes.{outcome_reports_read_back}
 use Rattle.report_readback.proofs.laws.statement_reports_are_read_back.Goals as goal
 

@@ -1,6 +1,6 @@
-use Rattle.declared_names.proofs.Declared.{declared_names_are_names}
+use Rattle.report_readback.proofs.Declared.{declared_names_are_names}
 use Rattle.claim_decider.specs.Decided.{claim_numbers}
-use Rattle.outcome_limits.proofs.OutcomeLetters.{last_rules_have_letters}
+use Rattle.outcome_laws.proofs.OutcomeLetters.{last_rules_have_letters}
 use Rattle.report_readback.proofs.ModelReports.{reports_read_back_as_models}
 use Rattle.report_readback.proofs.Outcomes.{verdicts_writable, few_verdicts}
 use Rattle.report_readback.proofs.laws.statement_reports_are_read_back_as_models.Goals as goal

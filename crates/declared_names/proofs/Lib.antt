@@ -1,3 +1,0 @@
-mod Spellings
-mod Tokens
-pub mod Declared

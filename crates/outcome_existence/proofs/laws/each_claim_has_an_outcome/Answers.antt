@@ -1,5 +1,0 @@
-use Rattle.outcome_existence.proofs.Problems.{each_claim_has_an_outcome}
-use Rattle.outcome_existence.proofs.laws.each_claim_has_an_outcome.Goals as goal
-
-pub returns : goal.returns
-returns c = each_claim_has_an_outcome

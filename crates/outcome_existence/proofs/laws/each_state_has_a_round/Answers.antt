@@ -1,5 +1,0 @@
-use Rattle.outcome_existence.proofs.Problems.{each_state_has_a_round}
-use Rattle.outcome_existence.proofs.laws.each_state_has_a_round.Goals as goal
-
-pub returns : goal.returns
-returns c = each_state_has_a_round

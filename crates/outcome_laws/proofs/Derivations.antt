@@ -1,0 +1,123 @@
+-- What is made of a claim that a run reduces to zero: evidence that adds up, or a halt, and it follows in any case.
+use Rattle.std.proofs.Common.{◌≡◌, ℕ, List, [], length, Ok, sym, ap, ◌∙◌, subst, append-nil}
+use Rattle.std.proofs.lemmas.List.Elements.{All-weaker, All-from_recursion}
+use Rattle.coef_int.specs.Range.{IsCoefficient}
+use Rattle.definitions.specs.Poly.{Term, coefficient_of, poly_sum}
+use Rattle.definitions.specs.Combination.{IsCombination, InRationalIdeal}
+use Rattle.cofactor_trace.specs.declared.Origin.{Origin}
+use Rattle.cofactor_trace.specs.declared.Origin.TheVariants as origin
+use Rattle.cofactor_trace.specs.declared.Row.{Row}
+use Rattle.cofactor_trace.specs.declared.Made.{Made}
+use Rattle.cofactor_trace.specs.declared.Cofactors.{Cofactors}
+use Rattle.cofactor_trace.specs.declared.evidence.LemmaCertificate.{LemmaCertificate}
+use Rattle.cofactor_trace.specs.Traces.{traced_sum}
+use Rattle.cofactor_trace.specs.Needed.{IsAmongFirst, IsRecord, AreRecords, expansion_of}
+use Rattle.cofactor_trace.specs.Lemmas.{gathered_of}
+use Rattle.cofactor_trace.specs.Laws.{Traces}
+use Rattle.cofactor_trace.specs.Rows.{rows_of}
+use Rattle.cofactor_trace.specs.LemmaRows.{IsEvidenceOf}
+use Rattle.cofactor_trace.specs.GatheringLaws.{lemma_polys}
+use Rattle.cofactor_trace.proofs.GatheredParts.{parts}
+use Rattle.cofactor_trace.proofs.LemmaBalance.{gatherings_add_up}
+use Rattle.cofactor_trace.proofs.Passes.{expansions_balance}
+use Rattle.word_orders.specs.Specified.{asked_cmp}
+use Rattle.word_orders.specs.Admissible.{Compare}
+use Rattle.quiver.specs.Declarations.{letter_count}
+use Rattle.rule_reduce.specs.declared.rule.Rule.{Rule}
+use Rattle.rule_reduce.specs.declared.state.State.{State}
+use Rattle.rule_reduce.specs.RuleLists.{polynomials_of}
+use Rattle.rule_reduce.specs.NormalForms.{normal_form_of}
+use Rattle.adjoint_rules.specs.declared.problem.Problem.{Problem}
+use Rattle.adjoint_rules.specs.Problem.{polynomials}
+use Rattle.confluence.specs.Reductions.{IsReduced}
+use Rattle.completion_laws.specs.Rests.{IsEarlier}
+use Rattle.completion_laws.specs.Kept.{AreRecorded}
+use Rattle.completion_laws.proofs.Inside.{zero_is_inside}
+use Rattle.completion_laws.proofs.RowSums.{traced_sum-by_rules}
+use Rattle.traced_completion.specs.declared.budget.Budget.{Budget}
+use Rattle.traced_completion.specs.PlainRun.{RunState, IsRunState, setting_of}
+use Rattle.claim_decider.specs.Outcomes.{record_of}
+use Rattle.claim_decider.specs.Decided.{claim_at}
+use Rattle.claim_decider.proofs.Judging.{claim_record}
+use Rattle.outcome_laws.specs.KeptRuns.{done_after}
+use Rattle.outcome_laws.proofs.ProblemPolynomials.{claim_is, generators_shaped}
+use Rattle.outcome_laws.proofs.OpenRuns.{run_kept, claim_reduced}
+use Rattle.outcome_laws.proofs.RangedReductions.{normal_forms_are_ranged}
+use Rattle.outcome_laws.proofs.RangedRuns.{AreMadeInRange, made_at, runs_in_range}
+
+-- ---- records
+among_first : (generators count : ℕ) (from : Origin) → IsEarlier generators count from → IsAmongFirst count from
+among_first generators count (origin.Generator n) is = tt
+among_first generators count (origin.Rule n) is = is
+
+-- what a run records is a record of each rule where all is in range
+pub are_records : (generators : List (List Term)) (rules : List Rule) (made : List Made) → AreRecorded generators rules made → AreMadeInRange made → AreRecords made
+are_records generators rules made recorded each = record {
+  at = λ place m has.
+      let is = recorded.each place m has in
+      let in_range = made_at made place m each has in
+      record {
+        positive = is.positive;
+        scale_in = in_range.0;
+        coefficients_in = All-from_recursion (λ (r : Row). IsCoefficient r.coef) m.rows in_range.1;
+        earlier = All-weaker (λ (r : Row). IsEarlier (length generators) place r.from) (λ (r : Row). IsAmongFirst place r.from) (λ r. among_first (length generators) place r.from) m.rows is.earlier;
+      };
+}
+
+-- where nothing is left, the rows of a reduction add up to the multiplier times the polynomial
+pub zero_traces : (letters : ℕ) (compare : Compare) (generators : List (List Term)) (rules : List Rule) (p : List Term) (s : State)
+    → IsReduced letters compare rules p s → s.rest ≡ [] → Traces generators (polynomials_of rules) (record_of s) p
+zero_traces letters compare generators rules p s reduced none = record {
+  at = λ w.
+      let sum = traced_sum [] (polynomials_of rules) s.rows in
+      ap (λ q. coefficient_of q w) (ap (λ rs. traced_sum generators (polynomials_of rs) s.rows) (sym (append-nil rules)) ∙ traced_sum-by_rules generators rules [] s.rows reduced.by_rules)
+      ∙ sym (ap (λ r. coefficient_of (poly_sum r sum) w) none) ∙ sym (reduced.balances.at w);
+}
+
+-- ---- a claim of which nothing is left after so many rounds
+module _ (problem : Problem) (budget : Budget) (number rounds : ℕ) (s : RunState) (run : IsRunState (setting_of problem budget) rounds s)
+    (left : State) (ends : normal_form_of (asked_cmp problem.parts.order) s.rules (claim_at problem number) budget.steps ≡ Ok left) (none : left.rest ≡ []) where
+  abbrev letters : ℕ
+  letters = letter_count problem.parts.quiver
+
+  abbrev compare : Compare
+  compare = asked_cmp problem.parts.order
+
+  abbrev generators : List (List Term)
+  generators = polynomials problem.generators
+
+  abbrev claim : List Term
+  claim = claim_at problem number
+
+  reduced : IsReduced letters compare s.rules claim left
+  reduced = claim_reduced problem budget number rounds s run left ends
+
+  pub follows : InRationalIdeal generators claim
+  follows =
+      zero_is_inside letters compare generators s.rules s.made (done_after (setting_of problem budget) rounds) s.treated claim left (run_kept problem budget rounds s run).kept reduced
+      (record { at = λ w. ap (λ p. coefficient_of p w) none })
+
+  records : AreRecords s.made
+  records = are_records generators s.rules s.made (run_kept problem budget rounds s run).kept.recorded (runs_in_range (setting_of problem budget) (generators_shaped problem) rounds s run)
+
+  claim_is_record : IsRecord (length s.made) (record_of left)
+  claim_is_record =
+      let kept = (run_kept problem budget rounds s run).kept in
+      let ranged = normal_forms_are_ranged compare s.rules claim budget.steps left (claim_is problem number).shaped.in_range ends in
+      subst (λ n. IsRecord n (record_of left)) (sym kept.recorded.one_each)
+      (claim_record letters compare s.rules claim budget.steps left kept.are_rules ends ranged.multiplier (All-from_recursion (λ (row : Row). IsCoefficient row.coef) left.rows ranged.rows))
+
+  traced : Traces generators (polynomials_of s.rules) (record_of left) claim
+  traced = zero_traces letters compare generators s.rules claim left reduced none
+
+  pub expansion_adds_up : (c : Cofactors) → expansion_of s.made (record_of left) ≡ Ok c → IsCombination generators (rows_of c.rows) c.denominator claim
+  expansion_adds_up c is =
+      expansions_balance generators (polynomials_of s.rules) s.made (record_of left) claim c records claim_is_record (run_kept problem budget rounds s run).kept.recorded.traces traced is
+
+  pub gathering_adds_up : (c : LemmaCertificate) → gathered_of number s.made (record_of left) ≡ Ok c → IsEvidenceOf generators (lemma_polys (polynomials_of s.rules) s.made (record_of left)) c claim
+  gathering_adds_up c is =
+      gatherings_add_up generators (polynomials_of s.rules) number s.made (record_of left) claim c records claim_is_record (run_kept problem budget rounds s run).kept.recorded.traces traced is
+
+  -- a gathered certificate names the claim
+  pub gathering_names : (c : LemmaCertificate) → gathered_of number s.made (record_of left) ≡ Ok c → c.claim ≡ number
+  gathering_names c is = sym (ap (λ (x : LemmaCertificate). x.claim) (parts number s.made (record_of left) c is).is)

@@ -1,0 +1,194 @@
+-- The evidence of derived claims is within the limits.
+use Rattle.std.proofs.Common.{◌≡◌, ◌≤◌, ◌<ℤ◌, ℕ, pos, List, [], ◌∷◌, length, Ok, refl, sym, ap, subst, arith}
+use Rattle.std.specs.List.{All, AllByRecursion}
+use Rattle.std.proofs.lemmas.Int.{ints}
+use Rattle.std.proofs.lemmas.List.{length-map}
+use Rattle.std.proofs.lemmas.List.Elements.{All-nil, All-from_recursion, recursion_from_All}
+use Rattle.definitions.specs.Poly.{Term}
+use Rattle.nc_polynomial.specs.declared.poly.Poly.{Poly}
+use Rattle.cofactor_trace.specs.declared.Row.{Row}
+use Rattle.cofactor_trace.specs.declared.Made.{Made}
+use Rattle.cofactor_trace.specs.declared.Cofactors.{Cofactors}
+use Rattle.cofactor_trace.specs.declared.evidence.LemmaRow.{LemmaRow}
+use Rattle.cofactor_trace.specs.declared.evidence.Lemma.{Lemma}
+use Rattle.cofactor_trace.specs.declared.evidence.LemmaCertificate.{LemmaCertificate}
+use Rattle.cofactor_trace.specs.declared.evidence.Evidence.{Evidence}
+use Rattle.cofactor_trace.specs.declared.evidence.Evidence.TheVariants as evidence
+use Rattle.cofactor_trace.specs.declared.evidence.Format.{Format}
+use Rattle.cofactor_trace.specs.declared.evidence.Format.TheVariants as format
+use Rattle.cofactor_trace.specs.declared.halt.Halt.{Halt}
+use Rattle.cofactor_trace.specs.Laws.{NamesUpTo}
+use Rattle.cofactor_trace.specs.Needed.{IsRecord, expansion_of}
+use Rattle.cofactor_trace.specs.Lemmas.{gathered_of}
+use Rattle.cofactor_trace.specs.GatheringLaws.{parts_of, IsRangedLemma}
+use Rattle.cofactor_trace.proofs.GatheredParts.{parts, gatherings_fit, lemmas_have_rows, gatherings_are_ranged}
+use Rattle.cofactor_trace.proofs.LemmaNames.{lemmas_are_named}
+use Rattle.cofactor_trace.proofs.Limits.{expansions_fit}
+use Rattle.cofactor_trace.proofs.NamedGenerators.{generators_are_named}
+use Rattle.rule_reduce.proofs.Multipliers.{multipliers_are_positive}
+use Rattle.adjoint_rules.specs.declared.problem.Problem.{Problem}
+use Rattle.adjoint_rules.specs.Problem.{polynomials}
+use Rattle.adjoint_rules.specs.Parts.{units_in}
+use Rattle.quiver.specs.Declarations.{letter_count}
+use Rattle.traced_completion.specs.declared.budget.Budget.{Budget}
+use Rattle.traced_completion.specs.PlainRun.{Setting, setting_of}
+use Rattle.traced_completion.proofs.UnitCounts.{few_units}
+use Rattle.claim_decider.specs.declared.outcome.Outcome.TheVariants as outcome
+use Rattle.claim_decider.specs.Outcomes.{evidence_of_zero, record_of, certificate_of}
+use Rattle.claim_decider.specs.Decided.{claim_at}
+use Rattle.outcome_laws.specs.EvidenceLimits.{IsRowWithin, IsLemmaRowWithin, IsLemmaWithin, IsWithinLimits, EvidenceFits}
+use Rattle.outcome_laws.proofs.EvidenceRanges.{expansion_ranged, gathered_positive}
+use Rattle.outcome_laws.proofs.EvidenceWords.{gathered_words}
+use Rattle.outcome_laws.proofs.LimitedRuns.{IsLimitedRow, record_of_rows, named_of_rows, reduced_limited, LimitedRecords, records_limited, turns_in_range, numbered_fits}
+use Rattle.outcome_laws.proofs.OutcomeLetters.{generators_have_words}
+use Rattle.outcome_laws.proofs.OutcomeWays.{Way, no_terms, expanded, gathered, left_over, given_up, with_run, way, IsProvedBy}
+use Rattle.outcome_laws.proofs.ReducedWithin.{Fits, IsShortRow, reduced_within}
+use Rattle.outcome_laws.proofs.Results.{split_last}
+
+abbrev IsShort : List ℕ → Type 0
+IsShort w = length w ≤ 500
+
+short_words : (rows : List Row) → AllByRecursion IsShortRow rows → AllByRecursion (λ r. IsShort r.left × IsShort r.right) rows
+short_words [] each = tt
+short_words (r ∷ rows) each = ((each.0.left, each.0.right), short_words rows each.1)
+
+all_short_words : (made : List Made) → AllByRecursion (λ m. AllByRecursion IsShortRow m.rows) made → AllByRecursion (λ m. AllByRecursion (λ r. IsShort r.left × IsShort r.right) m.rows) made
+all_short_words [] each = tt
+all_short_words (m ∷ made) each = (short_words m.rows each.0, all_short_words made each.1)
+
+lemma_within : (l : Lemma) → IsRangedLemma l → pos 0 <ℤ l.scale → AllByRecursion (λ (r : LemmaRow). IsShort r.left × IsShort r.right) l.rows → IsLemmaWithin l
+lemma_within l ranged positive short =
+    let words = All-from_recursion (λ (r : LemmaRow). IsShort r.left × IsShort r.right) l.rows short in
+    record { positive = positive; scale = ranged.0; rows = λ i r inside. record { coefficient = ranged.1 i r inside; short_left = (words i r inside).0; short_right = (words i r inside).1 } }
+
+module _ (problem : Problem) (budget : Budget) (number : ℕ) where
+  abbrev setting_in : Setting
+  setting_in = setting_of problem budget
+
+  abbrev letters_in : ℕ
+  letters_in = letter_count problem.parts.quiver
+
+  abbrev claim : List Term
+  claim = claim_at problem number
+
+  abbrev count : ℕ
+  count = length problem.generators
+
+  counted : length (polynomials problem.generators) ≡ count
+  counted = length-map problem.generators (λ (p : Poly). p.terms)
+
+  in_range : All (λ n. (1 ≤ n) × (n ≤ length setting_in.generators)) setting_in.in_turn
+  in_range = subst (λ k. All (λ n. (1 ≤ n) × (n ≤ k)) setting_in.in_turn) (sym counted) (turns_in_range (length (units_in problem.parts)) count (few_units problem))
+
+  -- ---- without terms
+  zero_within : (f : Format) → IsWithinLimits problem number (evidence_of_zero f number)
+  zero_within format.Plain = record { claim = refl; positive = omega (arith, ints); denominator = omega (arith, ints); rows = All-nil (IsRowWithin count); few = omega arith; letters = omega arith }
+  zero_within format.Lemmas = record {
+    claim = refl;
+    positive = omega (arith, ints);
+    denominator = omega (arith, ints);
+    lemmas = All-nil IsLemmaWithin;
+    goal = record { positive = omega (arith, ints); scale = omega (arith, ints); rows = All-nil IsLemmaRowWithin };
+    earlier = tt;
+    goal_names = λ i r inside. absurd (omega (arith, inside));
+    few_lemmas = omega arith;
+    few_rows = omega arith;
+    letters = omega arith;
+  }
+
+  -- ---- of a claim that is reduced to zero
+  module _ (by : IsProvedBy setting_in claim) where
+    abbrev target : Made
+    target = record_of by.reduced
+
+    limited : LimitedRecords letters_in setting_in (generators_have_words problem budget) (numbered_fits problem.generators) in_range by.state
+    limited = records_limited letters_in setting_in (generators_have_words problem budget) (numbered_fits problem.generators) in_range by.rounds by.state by.run
+
+    claim_fits : Fits claim
+    claim_fits = numbered_fits problem.parts.claims number
+
+    target_rows : AllByRecursion (IsLimitedRow (length (polynomials problem.generators)) (length by.state.rules)) by.reduced.rows
+    target_rows = reduced_limited letters_in setting_in (generators_have_words problem budget) (numbered_fits problem.generators) in_range by.state.rules claim by.reduced limited.rules claim_fits by.reduction
+
+    target_within : AllByRecursion IsShortRow by.reduced.rows
+    target_within = (reduced_within letters_in setting_in.compare by.state.rules limited.rules claim setting_in.budget.steps by.reduced claim_fits by.reduction).rows
+
+    target_positive : pos 0 <ℤ by.reduced.multiplier
+    target_positive = multipliers_are_positive letters_in setting_in.compare by.state.rules claim setting_in.budget.steps by.reduced limited.rules by.reduction
+
+    target_is : IsRecord (length by.state.made) target
+    target_is =
+        subst (λ n. IsRecord n target) (sym limited.one_each)
+        (record_of_rows (length (polynomials problem.generators)) (length by.state.rules) target target_positive
+        (reduced_within letters_in setting_in.compare by.state.rules limited.rules claim setting_in.budget.steps by.reduced claim_fits by.reduction).multiplier target_rows)
+
+    named : All (NamesUpTo count) by.state.made
+    named = subst (λ n. All (NamesUpTo n) by.state.made) counted limited.named
+
+    target_named : NamesUpTo count target
+    target_named = subst (λ n. NamesUpTo n target) counted (named_of_rows (length (polynomials problem.generators)) (length by.state.rules) target target_rows)
+
+    expanded_within : (c : Cofactors) → expansion_of by.state.made target ≡ Ok c → IsWithinLimits problem number (certificate_of number c)
+    expanded_within c ends =
+        let ranged = expansion_ranged by.state.made target c limited.positive target_positive ends in
+        let fits = expansions_fit by.state.made target c ends in
+        let names = generators_are_named count by.state.made target c named target_named ends in
+        record {
+          claim = refl;
+          positive = ranged.positive;
+          denominator = ranged.denominator_in;
+          rows = λ i r inside.
+              record {
+                coefficient = ranged.coefficients_in i r inside;
+                short_left = (fits.short i r inside).0;
+                short_right = (fits.short i r inside).1;
+                first = (names i r inside).0;
+                last = (names i r inside).1;
+              };
+          few = fits.few;
+          letters = fits.letters;
+        }
+
+    gathered_within : (c : LemmaCertificate) → gathered_of number by.state.made target ≡ Ok c → IsWithinLimits problem number (evidence.Lemmas c)
+    gathered_within c ends =
+        let ranged = gatherings_are_ranged number by.state.made target c limited.are_records target_is ends in
+        let positive = gathered_positive number by.state.made target c limited.positive target_positive ends in
+        let words = gathered_words IsShort number by.state.made target c (all_short_words by.state.made limited.short) (short_words by.reduced.rows target_within) ends in
+        let each : All IsLemmaWithin (parts_of c) = λ i l inside. lemma_within _ (ranged.1 i l inside) (positive.1 i l inside) (words i l inside) in
+        let both = split_last IsLemmaWithin c.lemmas c.goal (recursion_from_All IsLemmaWithin (parts_of c) each) in
+        let names = lemmas_are_named count number by.state.made target c limited.are_records target_is named target_named ends in
+        let sizes = gatherings_fit number by.state.made target c ends in
+        record {
+          claim = sym (ap (λ (x : LemmaCertificate). x.claim) (parts number by.state.made target c ends).is);
+          positive = positive.0;
+          denominator = ranged.0;
+          lemmas = All-from_recursion IsLemmaWithin c.lemmas both.0;
+          goal = both.1;
+          earlier = names.0;
+          goal_names = names.1;
+          few_lemmas = (lemmas_have_rows number by.state.made target c limited.some ends).1;
+          few_rows = sizes.0;
+          letters = sizes.1;
+        }
+
+  -- ---- outcomes
+  same_evidence : (d e : Evidence) → outcome.Derived d ≡ outcome.Derived e → d ≡ e
+  same_evidence d e same = cc
+
+  not_closed : (e : Evidence) (rest : Poly) → outcome.Derived e ≡ outcome.Closed rest → ⊥
+  not_closed e rest same = cc
+
+  not_halted : (e : Evidence) (h : Halt) → outcome.Derived e ≡ outcome.Halted h → ⊥
+  not_halted e h same = cc
+
+  within : (form : Format) (e : Evidence) → Way setting_in form number claim (outcome.Derived e) → IsWithinLimits problem number e
+  within form e (no_terms is) = subst (IsWithinLimits problem number) (sym (same_evidence e _ is)) (zero_within form)
+  within form e (expanded by c ends is) = subst (IsWithinLimits problem number) (sym (same_evidence e _ is)) (expanded_within by c ends)
+  within form e (gathered by c ends is) = subst (IsWithinLimits problem number) (sym (same_evidence e _ is)) (gathered_within by c ends)
+  within form e (left_over rounds s run rest left is) = absurd (not_closed e rest is)
+  within form e (given_up halt none is) = absurd (not_halted e halt is)
+  within form e (with_run rounds s halt run round is) = absurd (not_halted e halt is)
+
+-- the law
+pub evidence_fits : EvidenceFits
+evidence_fits problem budget form number e is = within problem budget number form e (way (setting_of problem budget) form number (claim_at problem number) (outcome.Derived e) is.rounds is.state is.gets)

@@ -1,0 +1,154 @@
+-- The numbers of evidence are coefficients, and its denominator and scales are positive.
+use Rattle.std.proofs.Common.{rules, ◌≡◌, ℕ, zero, suc, ℤ, pos, negsuc, ◌+ℤ◌, ◌*ℤ◌, ◌<ℤ◌, int_div, Bool, true, false, cond, List, [], ◌∷◌, ◌++◌, map, Option, Some, None, Result, Ok, Err, unwrap_or, refl, subst, arith}
+use Rattle.std.proofs.lemmas.Int.{ints}
+use Rattle.std.proofs.lemmas.List.Elements.{All-from_recursion, recursion_from_All}
+use Rattle.std.specs.List.{All, AllByRecursion, fold, flat_map}
+use Rattle.std.specs.Map.{lookup}
+use Rattle.std.specs.BTreeMap.{insert_entry, is_at}
+use Rattle.std.specs.Ordering.{nat_cmp, is_eq}
+use Rattle.std.specs.Option.{option_map}
+use Rattle.coef_int.specs.declared.Overflow.{Overflow}
+use Rattle.coef_int.specs.Range.{IsCoefficient}
+use Rattle.definitions.proofs.UnitSound.{all-append}
+use Rattle.coef_int.specs.Operations.{product_of, sum_of, first_overflow}
+use Rattle.cofactor_trace.specs.declared.Origin.{Origin}
+use Rattle.cofactor_trace.specs.declared.Origin.TheVariants as origin
+use Rattle.cofactor_trace.specs.declared.Row.{Row}
+use Rattle.cofactor_trace.specs.declared.Made.{Made}
+use Rattle.cofactor_trace.specs.declared.CertRow.{CertRow}
+use Rattle.cofactor_trace.specs.declared.Cofactors.{Cofactors}
+use Rattle.cofactor_trace.specs.declared.evidence.Lemma.{Lemma}
+use Rattle.cofactor_trace.specs.declared.evidence.LemmaCertificate.{LemmaCertificate}
+use Rattle.cofactor_trace.specs.declared.fault.ExpandFault.{ExpandFault}
+use Rattle.cofactor_trace.specs.declared.fault.ExpandFault.TheVariants as fault
+use Rattle.cofactor_trace.specs.Gathered.{multiples_of, coefficients_at, total_at, kept_row, gathered, running_sums, sums_of_gathering}
+use Rattle.cofactor_trace.specs.Expansion.{Known, multiple_products, denominators, common_denominator, denominator_products, joined, joined_products, limit_fault, content_of, divided_row, primitive, unless, overflow_in, record_expansion}
+use Rattle.cofactor_trace.specs.Needed.{Numbered, Expansions, none, known_from, and_then, expansion_from, expansion_of, needed_rules}
+use Rattle.cofactor_trace.specs.Lemmas.{gathered_of}
+use Rattle.cofactor_trace.specs.GatheringLaws.{parts_of}
+use Rattle.cofactor_trace.specs.Ranges.{IsRanged}
+use Rattle.cofactor_trace.proofs.Divisors.{quotient_positive, product_positive, content-first, content-positive, common_multiple-positive}
+use Rattle.cofactor_trace.proofs.GatheredParts.{parts, each_part, lemma_record_each}
+use Rattle.cofactor_trace.proofs.Passes.{each_with}
+use Rattle.outcome_laws.proofs.Results.{same_ok, fits_first, none_append}
+use Rattle.outcome_laws.proofs.EvidenceWords.{needed_each}
+
+-- a quotient is no larger
+pub quotient_in_range : (a d : ℤ) → pos 0 <ℤ d → IsCoefficient a → IsCoefficient (int_div a d)
+quotient_in_range a d positive fits = search rules
+
+-- ---- sums
+sum_in_range : (so_far : ℤ) (cs : List ℤ) → IsCoefficient so_far → first_overflow (running_sums so_far cs) ≡ None → IsCoefficient (fold ◌+ℤ◌ so_far cs)
+sum_in_range so_far [] fits others = fits
+sum_in_range so_far (c ∷ cs) fits others =
+    let first = fits_first (sum_of so_far c) (running_sums (so_far +ℤ c) cs) others in
+    sum_in_range (so_far +ℤ c) cs first.0 first.1
+
+abbrev AreIn : List CertRow → Type 0
+AreIn rows = AllByRecursion (λ r. IsCoefficient r.coef) rows
+
+each_in : {X : Type 0} (out : X → List CertRow) (operations : X → List Overflow) → ((x : X) → first_overflow (operations x) ≡ None → AreIn (out x)) → (xs : List X) → first_overflow (flat_map operations xs) ≡ None → AreIn (flat_map out xs)
+each_in out operations each [] fits = tt
+each_in out operations each (x ∷ xs) fits =
+    let both = none_append (operations x) (flat_map operations xs) fits in
+    all-append (λ (r : CertRow). IsCoefficient r.coef) (out x) (flat_map out xs) (each x both.0) (each_in out operations each xs both.1)
+
+integer_cases : (P : ℤ → Type 0) → P (pos 0) → ((n : ℕ) → P (pos (suc n))) → ((n : ℕ) → P (negsuc n)) → (z : ℤ) → P z
+integer_cases P at_zero above below (pos zero) = at_zero
+integer_cases P at_zero above below (pos (suc n)) = above n
+integer_cases P at_zero above below (negsuc n) = below n
+
+gathered_in : (rows : List CertRow) → first_overflow (sums_of_gathering rows) ≡ None → AreIn (gathered rows)
+gathered_in rows fits =
+    each_in (λ m. kept_row (total_at m rows) m) (λ m. running_sums (pos 0) (coefficients_at m rows))
+    (λ m one. integer_cases (λ z. IsCoefficient z → AreIn (kept_row z m)) (λ h. tt) (λ n h. (h, tt)) (λ n h. (h, tt)) (total_at m rows) (sum_in_range (pos 0) (coefficients_at m rows) (omega (arith, ints)) one))
+    (multiples_of rows) fits
+
+divided_in : (d : ℤ) → pos 0 <ℤ d → (rows : List CertRow) → AreIn rows → AreIn (map (divided_row d) rows)
+divided_in d positive [] each = tt
+divided_in d positive (r ∷ rows) each = (quotient_in_range r.coef d positive each.0, divided_in d positive rows each.1)
+
+-- ---- one record
+unless_ok : {A : Type 0} (first : Option ExpandFault) (r : Result A ExpandFault) (x : A) → unless first r ≡ Ok x → (first ≡ None) × (r ≡ Ok x)
+unless_ok None r x h = (refl, h)
+unless_ok (Some e) r x h = absurd (cc)
+
+no_overflow : (o : Option Overflow) → option_map fault.Overflow o ≡ None → o ≡ None
+no_overflow None e = refl
+no_overflow (Some x) e = absurd (cc)
+
+module _ (known : Known) (each_positive : (o : Origin) → pos 0 <ℤ (known o).denominator) where
+  positive_denominators : (rows : List Row) → AllByRecursion (λ d. pos 0 <ℤ d) (denominators known rows)
+  positive_denominators [] = tt
+  positive_denominators (r ∷ rows) = (each_positive r.from, positive_denominators rows)
+
+  record_ranged : (m : Made) (c : Cofactors) → pos 0 <ℤ m.scale → record_expansion known m ≡ Ok c → IsRanged c
+  record_ranged m c scale_in ends =
+      let common = common_denominator known m.rows in
+      let rows = joined known common m.rows in
+      let d = m.scale *ℤ common in
+      let operations = joined_products known common m.rows ++ sums_of_gathering rows in
+      let first = unless_ok (overflow_in (denominator_products known m)) (unless (limit_fault rows) (unless (overflow_in operations) (Ok (primitive d (gathered rows))))) c ends in
+      let second = unless_ok (limit_fault rows) (unless (overflow_in operations) (Ok (primitive d (gathered rows)))) c first.1 in
+      let third = unless_ok (overflow_in operations) (Ok (primitive d (gathered rows))) c second.1 in
+      let products = none_append (multiple_products (pos 1) (denominators known m.rows)) (product_of m.scale common ∷ []) (no_overflow (first_overflow (denominator_products known m)) first.0) in
+      let d_fits : IsCoefficient d = (fits_first (product_of m.scale common) [] products.1).0 in
+      let sums = none_append (joined_products known common m.rows) (sums_of_gathering rows) (no_overflow (first_overflow operations) third.0) in
+      let common_in : pos 0 <ℤ common = common_multiple-positive (pos 1) (denominators known m.rows) (omega (arith, ints)) (positive_denominators m.rows) in
+      let d_in : pos 0 <ℤ d = product_positive m.scale common scale_in common_in in
+      let coefs = map (λ (r : CertRow). r.coef) (gathered rows) in
+      let g = content_of d (gathered rows) in
+      let g_in : pos 0 <ℤ g = content-positive d coefs d_in in
+      subst IsRanged (same_ok (primitive d (gathered rows)) c third.1)
+      (record {
+        positive = quotient_positive d g d_in g_in (content-first d coefs);
+        denominator_in = quotient_in_range d g g_in d_fits;
+        coefficients_in = All-from_recursion (λ (r : CertRow). IsCoefficient r.coef) (map (divided_row g) (gathered rows)) (divided_in g g_in (gathered rows) (gathered_in rows sums.1));
+      })
+
+-- ---- one expansion after another
+abbrev EachPositive : Expansions → Type 0
+EachPositive expansions = AllByRecursion (λ e. pos 0 <ℤ e.1.denominator) expansions
+
+known_positive : (expansions : Expansions) → EachPositive expansions → (o : Origin) → pos 0 <ℤ (known_from expansions o).denominator
+known_positive expansions each (origin.Generator n) = omega (arith, ints)
+known_positive expansions each (origin.Rule n) = go expansions each
+  where
+    go : (es : Expansions) → EachPositive es → pos 0 <ℤ (unwrap_or (lookup (is_at (nat_cmp n)) es) none).denominator
+    go [] each = omega (arith, ints)
+    go (e ∷ es) each = at (is_eq (nat_cmp n e.0)) (go es each.1)
+      where
+        at : (b : Bool) → pos 0 <ℤ (unwrap_or (lookup (is_at (nat_cmp n)) es) none).denominator → pos 0 <ℤ (unwrap_or (cond b (Some e.1) (lookup (is_at (nat_cmp n)) es)) none).denominator
+        at true rest = each.0
+        at false rest = rest
+
+ranged_from : (expansions : Expansions) (rest : List Numbered) (target : Made) (c : Cofactors) → EachPositive expansions → AllByRecursion (λ e. pos 0 <ℤ e.1.scale) rest → pos 0 <ℤ target.scale
+    → expansion_from expansions rest target ≡ Ok c → IsRanged c
+ranged_from expansions [] target c each rules scale_in ends = record_ranged (known_from expansions) (known_positive expansions each) target c scale_in ends
+ranged_from expansions (e ∷ rest) target c each rules scale_in ends =
+    go (record_expansion (known_from expansions) e.1) (record_ranged (known_from expansions) (known_positive expansions each) e.1) ends
+    (λ x ranged. ranged_from (insert_entry nat_cmp expansions e.0 x) rest target c (each_with (λ d. pos 0 <ℤ d.1.denominator) expansions e.0 x each ranged.positive) rules.1 scale_in)
+  where
+    go : (r : Result Cofactors ExpandFault) → ((x : Cofactors) → pos 0 <ℤ e.1.scale → r ≡ Ok x → IsRanged x)
+        → and_then r (λ x. expansion_from (insert_entry nat_cmp expansions e.0 x) rest target) ≡ Ok c
+        → ((x : Cofactors) → IsRanged x → expansion_from (insert_entry nat_cmp expansions e.0 x) rest target ≡ Ok c → IsRanged c) → IsRanged c
+    go (Ok x) ranged ends next = next x (ranged x rules.0 (λ i. Ok x)) ends
+    go (Err f) ranged ends next = absurd (cc)
+
+-- Where each scale is positive, an expansion has coefficients and a positive denominator.
+pub expansion_ranged : (made : List Made) (target : Made) (c : Cofactors) → AllByRecursion (λ m. pos 0 <ℤ m.scale) made → pos 0 <ℤ target.scale → expansion_of made target ≡ Ok c → IsRanged c
+expansion_ranged made target c rules scale_in ends = ranged_from [] (needed_rules made target) target c tt (needed_each (λ m. pos 0 <ℤ m.scale) target 1 made rules) scale_in ends
+
+-- ---- a gathered certificate
+-- Where each scale of the records is positive, so are those of the lemmas and of the goal, and the denominator.
+pub gathered_positive : (claim : ℕ) (made : List Made) (target : Made) (c : LemmaCertificate) → AllByRecursion (λ m. pos 0 <ℤ m.scale) made → pos 0 <ℤ target.scale → gathered_of claim made target ≡ Ok c
+    → (pos 0 <ℤ c.denominator) × All (λ l. pos 0 <ℤ l.scale) (parts_of c)
+gathered_positive claim made target c rules scale_in ends =
+    let p = parts claim made target c ends in
+    let each = each_part claim made target (λ m. pos 0 <ℤ m.scale) (λ (l : Lemma). pos 0 <ℤ l.scale) (λ m h. h) (lemma_record_each claim made target (λ m. pos 0 <ℤ m.scale) (All-from_recursion (λ (m : Made). pos 0 <ℤ m.scale) made rules)) scale_in in
+    subst (λ (x : LemmaCertificate). (pos 0 <ℤ x.denominator) × All (λ l. pos 0 <ℤ l.scale) (parts_of x)) p.is
+    (common_multiple-positive (pos 1) _ (omega (arith, ints)) (positive_scales _ (recursion_from_All (λ (l : Lemma). pos 0 <ℤ l.scale) _ each)), each)
+  where
+    positive_scales : (ls : List Lemma) → AllByRecursion (λ l. pos 0 <ℤ l.scale) ls → AllByRecursion (λ z. pos 0 <ℤ z) (map (λ l. l.scale) ls)
+    positive_scales [] each = tt
+    positive_scales (l ∷ ls) each = (each.0, positive_scales ls each.1)

@@ -1,0 +1,23 @@
+-- Meanings that are refused.
+use Rattle.std.proofs.Common.{pos, [], refl, arith}
+use Rattle.std.proofs.lemmas.Int.{ints}
+use Rattle.nc_polynomial.specs.declared.poly.Poly.{Poly}
+use Rattle.cofactor_trace.specs.declared.evidence.Evidence.TheVariants as evidence
+use Rattle.adjoint_rules.specs.declared.problem.Problem.{Problem}
+use Rattle.claim_decider.specs.declared.outcome.Outcome.TheVariants as outcome
+use Rattle.outcome_laws.specs.Meanings.{Follows, EvidenceAddsUp, OutcomeMeans}
+
+-- evidence that names another claim does not add up
+another_claim : (problem : Problem) → EvidenceAddsUp problem 2 (evidence.Plain (record { claim = 1; denominator = pos 1; rows = [] })) → ⊥
+another_claim problem adds_up = absurd (omega (arith, adds_up.claim))
+
+-- a denominator of zero proves nothing
+no_denominator : (problem : Problem) → EvidenceAddsUp problem 1 (evidence.Plain (record { claim = 1; denominator = pos 0; rows = [] })) → ⊥
+no_denominator problem adds_up = absurd (omega (arith, ints, adds_up.combination.positive))
+
+-- the claim zero follows, so it is never closed
+zero_follows : (problem : Problem) → Follows problem 0
+zero_follows problem = record { denominator = pos 1; rows = []; combination = record { positive = omega (arith, ints); sum = record { at = λ w. refl } } }
+
+never_closed : (problem : Problem) (rest : Poly) → OutcomeMeans problem 0 (outcome.Closed rest) → ⊥
+never_closed problem rest means = means (zero_follows problem)

@@ -1,0 +1,213 @@
+-- What holds of a run while a claim is open, where it closes, and where it stops.
+use Rattle.std.proofs.Common.{◌≡◌, ◌≢◌, ◌<◌, ℕ, zero, suc, pos, Bool, true, false, List, [], ◌∷◌, ◌++◌, length, nat_le, take, Option, Some, None, Result, Ok, Err, sym, ap, ◌∙◌, subst, arith}
+use Rattle.std.proofs.lemmas.List.Elements.{recursion_from_All}
+use Rattle.definitions.specs.Poly.{Term}
+use Rattle.definitions.specs.Combination.{InRationalIdeal}
+use Rattle.nc_polynomial.specs.Shape.{IsShaped}
+use Rattle.nc_polynomial.proofs.Distinct.{distinct-descending, first_coefficient}
+use Rattle.nc_polynomial.proofs.Shapes.{recursion_from_IsDescending}
+use Rattle.cofactor_trace.specs.declared.halt.Halt.{Halt}
+use Rattle.cofactor_trace.specs.declared.halt.Place.{Place}
+use Rattle.cofactor_trace.specs.declared.halt.Place.TheVariants as place
+use Rattle.word_orders.specs.Admissible.{Compare, IsAdmissible}
+use Rattle.word_orders.specs.Specified.{asked_cmp}
+use Rattle.quiver.specs.Declarations.{letter_count, quiver_of}
+use Rattle.rule_reduce.specs.declared.rule.Rule.{Rule}
+use Rattle.rule_reduce.specs.declared.state.State.{State}
+use Rattle.rule_reduce.specs.declared.fault.ReduceFault.{ReduceFault}
+use Rattle.rule_reduce.specs.NormalForms.{normal_form_of}
+use Rattle.ambiguities.specs.declared.ambiguity.Ambiguity.{Ambiguity}
+use Rattle.ambiguities.specs.Resolved.{ComesBelow}
+use Rattle.adjoint_rules.specs.declared.problem.Problem.{Problem}
+use Rattle.adjoint_rules.specs.Problem.{polynomials}
+use Rattle.confluence.specs.Reductions.{IsNonzero, IsReduced}
+use Rattle.confluence.proofs.RestLaws.{normal_forms_are_reduced}
+use Rattle.completion_laws.specs.Conclusions.{NothingPendingBelow}
+use Rattle.completion_laws.proofs.Outside.{nonzero_is_outside, nonzero_is_not_below}
+use Rattle.completion_laws.proofs.ShapeLaws.{normal_forms_are_shaped}
+use Rattle.traced_completion.specs.declared.budget.Budget.{Budget}
+use Rattle.traced_completion.specs.declared.pending.waiting.Waiting.{Waiting}
+use Rattle.rule_making.specs.Making.{Recorded}
+use Rattle.traced_completion.specs.Pending.{AreAllPending, ambiguities_of}
+use Rattle.traced_completion.specs.PlainRun.{Setting, RunState, went, closed, stopped, Ends, taken_count, TreatsFirst, TreatsPending, IsRound, IsRunState, setting_of}
+use Rattle.claim_decider.specs.Outcomes.{IsLeft, IsOpen}
+use Rattle.claim_decider.specs.Decided.{claim_at}
+use Rattle.outcome_laws.specs.KeptRuns.{done_after, IsKeptState}
+use Rattle.outcome_laws.proofs.RunsKept.{letters_below}
+use Rattle.outcome_laws.proofs.WholeRuns.{runs_are_kept, closed_is_nothing_pending, first_is_least_pending}
+use Rattle.outcome_laws.proofs.AskedOrders.{asked_rank, asked_cmp-admissible}
+use Rattle.outcome_laws.proofs.ProblemPolynomials.{any_letter, generators_are, claim_is, claim_letters, turns_in_range, all_have_turns}
+
+-- ---- runs
+pub open_run : (setting : Setting) (claim : List Term) (n : ℕ) (s : RunState) → IsOpen setting claim n s → IsRunState setting n s
+open_run setting claim zero s opened = opened.1
+open_run setting claim (suc n) s opened = record { before = opened.before; is_before = open_run setting claim n opened.before opened.is_before; round = opened.round }
+
+-- a sorted list with a term isn't zero
+pub some_nonzero : (p : List Term) → IsShaped p → 0 < length p → IsNonzero p
+some_nonzero [] shaped some = absurd (omega (arith, some))
+some_nonzero (t ∷ p) shaped some = record {
+  word = t.1;
+  occurs = λ none.
+      (recursion_from_All (λ (u : Term). u.0 ≢ pos 0) (t ∷ p) shaped.nonzero).0
+      (sym (first_coefficient t p (distinct-descending (t ∷ p) (recursion_from_IsDescending (t ∷ p) shaped.descending)).0) ∙ none);
+}
+
+-- ---- stops
+pub same_halt : (h k : Halt) → stopped h ≡ stopped k → h ≡ k
+same_halt h k e = cc
+
+pub not_went : (h : Halt) (s : RunState) → stopped h ≡ went s → ⊥
+not_went h s e = cc
+
+pub not_closed : (h : Halt) → stopped h ≡ closed → ⊥
+not_closed h e = cc
+
+no_word : (word : List ℕ) → ◌≡◌ {A = Option (List ℕ)} None (Some word) → ⊥
+no_word word e = cc
+
+same_word : (u v : List ℕ) → ◌≡◌ {A = Option (List ℕ)} (Some u) (Some v) → u ≡ v
+same_word u v e = cc
+
+-- a place in a run, and none in the work on a claim or on its certificate
+pub record IsInRun (at : Place) : Type 0 where
+  pub no_certificate : (round : ℕ) → at ≡ place.Certificate round → ⊥
+
+round_in_run : (at : Place) (number : ℕ) → at ≡ place.Round number → IsInRun at
+round_in_run at number is = record { no_certificate = λ round e. clash round (sym is ∙ e) }
+  where
+    clash : (round : ℕ) → place.Round number ≡ place.Certificate round → ⊥
+    clash round e = cc
+
+run_in_run : (at : Place) → at ≡ place.Run → IsInRun at
+run_in_run at is = record { no_certificate = λ round e. clash round (sym is ∙ e) }
+  where
+    clash : (round : ℕ) → place.Run ≡ place.Certificate round → ⊥
+    clash round e = cc
+
+-- how a round that stopped was given up
+record IsStop (number : ℕ) (least : Option (List ℕ)) (h : Halt) : Type 0 where
+  least_is : h.least ≡ least
+  in_run : IsInRun h.place
+
+given_up : (number : ℕ) (least : Option (List ℕ)) (treated : List Ambiguity) (r : Result Recorded ReduceFault) (h : Halt) → Ends number least treated r (stopped h) → IsStop number least h
+given_up number least treated (Ok r) h ends = absurd (not_went h _ ends)
+given_up number least treated (Err e) h ends =
+    let same = same_halt h _ ends.stops in
+    record { least_is = ap (λ (k : Halt). k.least) same; in_run = round_in_run h.place number (ap (λ (k : Halt). k.place) same) }
+
+-- nothing is pending below the least word that a stopped round names
+pub record StopsBelow (letters : ℕ) (compare : Compare) (s : RunState) (h : Halt) : Type 0 where
+  pub none_below : (word : List ℕ) → h.least ≡ Some word → NothingPendingBelow letters compare s.rules s.treated word
+  pub in_run : IsInRun h.place
+
+module _ (letters : ℕ) (rank : List ℕ → List ℕ) (setting : Setting) (laws : IsAdmissible letters setting.compare rank) (s : RunState) (h : Halt) where
+  -- round 0 names none
+  pub record NamesNone : Type 0 where
+    pub none : h.least ≡ None
+    pub in_run : IsInRun h.place
+
+  pub zero_stops : IsRound setting 0 s (stopped h) → NamesNone
+  zero_stops round = let stop = given_up 0 None s.treated round.result h round.ends in record { none = stop.least_is; in_run = stop.in_run }
+
+  pub later_stops : (n : ℕ) → IsRound setting (suc n) s (stopped h) → StopsBelow letters setting.compare s h
+  later_stops n round = go round.pending round.all_pending round.treats
+    where
+      below : (w : Waiting) (ws : List Waiting) → AreAllPending setting.compare s.rules s.treated (w ∷ ws) → h.least ≡ Some w.word → IsInRun h.place → StopsBelow letters setting.compare s h
+      below w ws all least in_run = record {
+        none_below = λ word is.
+            subst (NothingPendingBelow letters setting.compare s.rules s.treated) (same_word w.word word (sym least ∙ is))
+            (first_is_least_pending letters setting.compare rank s.rules s.treated w ws laws all);
+        in_run = in_run;
+      }
+
+      by_pairs : (w : Waiting) (ws : List Waiting) → AreAllPending setting.compare s.rules s.treated (w ∷ ws) → (b : Bool) → TreatsFirst setting (suc n) s w.word (w ∷ ws) b (stopped h) → StopsBelow letters setting.compare s h
+      by_pairs w ws all true treats =
+          let same = same_halt h _ treats in
+          below w ws all (ap (λ (k : Halt). k.least) same) (run_in_run h.place (ap (λ (k : Halt). k.place) same))
+      by_pairs w ws all false treats =
+          let stop = given_up (suc n) (Some w.word) (s.treated ++ ambiguities_of (take (taken_count setting.budget s (w ∷ ws)) (w ∷ ws))) treats.result h treats.ends in
+          below w ws all stop.least_is stop.in_run
+
+      go : (ws : List Waiting) → AreAllPending setting.compare s.rules s.treated ws → TreatsPending setting (suc n) s ws (stopped h) → StopsBelow letters setting.compare s h
+      go [] all treats = absurd (not_closed h treats)
+      go (w ∷ ws) all treats = by_pairs w ws all (nat_le setting.budget.pairs (length s.treated)) treats
+
+-- round 0 doesn't close
+zero_goes_on : (setting : Setting) (s : RunState) → IsRound setting 0 s closed → ⊥
+zero_goes_on setting s round = go round.result round.ends
+  where
+    wrong_went : (t : RunState) → closed ≡ went t → ⊥
+    wrong_went t e = cc
+
+    wrong_stop : (h : Halt) → closed ≡ stopped h → ⊥
+    wrong_stop h e = cc
+
+    go : (r : Result Recorded ReduceFault) → Ends 0 None s.treated r closed → ⊥
+    go (Ok r) ends = wrong_went _ ends
+    go (Err e) ends = wrong_stop _ ends.stops
+
+-- ---- the run of a problem
+module _ (problem : Problem) (budget : Budget) where
+  abbrev setting : Setting
+  setting = setting_of problem budget
+
+  abbrev letters : ℕ
+  letters = letter_count problem.parts.quiver
+
+  abbrev compare : Compare
+  compare = asked_cmp problem.parts.order
+
+  abbrev rank : List ℕ → List ℕ
+  rank = asked_rank (letter_count problem.parts.quiver) problem.parts.order
+
+  abbrev generators : List (List Term)
+  generators = polynomials problem.generators
+
+  pub order_laws : IsAdmissible letters compare rank
+  order_laws = asked_cmp-admissible (letter_count problem.parts.quiver) problem.parts.order
+
+  pub run_kept : (n : ℕ) (s : RunState) → IsRunState setting n s → IsKeptState (quiver_of problem.parts.quiver) any_letter letters setting (done_after setting n) s
+  run_kept n s is = runs_are_kept (quiver_of problem.parts.quiver) any_letter letters rank setting n s order_laws (generators_are problem) (turns_in_range problem) is
+
+  module _ (number : ℕ) where
+    abbrev claim : List Term
+    claim = claim_at problem number
+
+    pub claim_reduced : (n : ℕ) (s : RunState) → IsRunState setting n s → (left : State) → normal_form_of compare s.rules claim budget.steps ≡ Ok left → IsReduced letters compare s.rules claim left
+    claim_reduced n s is left ends = normal_forms_are_reduced letters compare rank s.rules claim budget.steps left order_laws (run_kept n s is).kept.are_rules (claim_is problem number).shaped (claim_is problem number).over ends
+
+    -- what is left isn't zero
+    left_nonzero : (rules : List Rule) (rest : List Term) (left : IsLeft setting rules claim rest) → IsNonzero left.reduced.rest
+    left_nonzero rules rest left =
+        some_nonzero left.reduced.rest (normal_forms_are_shaped compare rules claim budget.steps left.reduced (claim_is problem number).shaped left.reduction)
+        (subst (λ (p : List Term). 0 < length p) (sym left.rest_is) left.nonzero)
+
+    pub closed_outside : (n : ℕ) (s : RunState) (rest : List Term) → IsOpen setting claim n s → IsRound setting n s closed → IsLeft setting s.rules claim rest → InRationalIdeal generators claim → ⊥
+    closed_outside zero s rest opened round left inside = zero_goes_on setting s round
+    closed_outside (suc n) s rest opened round left inside =
+        let run = open_run setting claim (suc n) s opened in
+        nonzero_is_outside letters compare rank generators s.rules s.made setting.in_turn s.treated claim left.reduced order_laws (run_kept (suc n) s run).kept (all_have_turns problem)
+        (closed_is_nothing_pending setting n s round) (claim_letters problem number) (claim_reduced (suc n) s run left.reduced left.reduction) (left_nonzero s.rules rest left) inside
+
+    -- an open claim does not follow below a word that nothing is pending below
+    pub open_not_below : (n : ℕ) (s : RunState) → IsOpen setting claim (suc n) s → (word : List ℕ) → NothingPendingBelow letters compare s.rules s.treated word → ComesBelow letters compare generators word claim → ⊥
+    open_not_below n s opened word none_below comes =
+        let run = open_run setting claim (suc n) s opened in
+        nonzero_is_not_below letters compare rank generators s.rules s.made setting.in_turn s.treated word claim opened.left.reduced order_laws
+        (letters_below (quiver_of problem.parts.quiver) any_letter letters generators (recursion_from_All _ generators (generators_are problem)))
+        (run_kept (suc n) s run).kept (all_have_turns problem) none_below (claim_reduced (suc n) s run opened.left.reduced opened.left.reduction)
+        (left_nonzero s.rules opened.rest opened.left) comes
+
+    -- what a stopped run says of the claim
+    pub record StopMeans (h : Halt) : Type 0 where
+      pub not_below : (word : List ℕ) → h.least ≡ Some word → ComesBelow letters compare generators word claim → ⊥
+      pub in_run : IsInRun h.place
+
+    pub stop_means : (n : ℕ) (s : RunState) (h : Halt) → IsOpen setting claim n s → IsRound setting n s (stopped h) → StopMeans h
+    stop_means zero s h opened round =
+        let stop = zero_stops letters rank setting order_laws s h round in
+        record { not_below = λ word least comes. no_word word (sym stop.none ∙ least); in_run = stop.in_run }
+    stop_means (suc n) s h opened round =
+        let stop = later_stops letters rank setting order_laws s h n round in
+        record { not_below = λ word least comes. open_not_below n s opened word (stop.none_below word least) comes; in_run = stop.in_run }

@@ -1,0 +1,146 @@
+-- The letters of outcomes and of last rules are letters of the quiver.
+use Rattle.std.proofs.Common.{◌≡◌, ◌<◌, ℕ, zero, suc, List, [], ◌∷◌, true, nat_lt, Option, Some, None, Ok, refl, sym, subst, arith}
+use Rattle.std.specs.List.{All, AllByRecursion}
+use Rattle.std.proofs.lemmas.Bool.{and_parts}
+use Rattle.std.proofs.lemmas.Bool.Decides.{nat_tests}
+use Rattle.std.proofs.lemmas.List.Elements.{All-nil, All-append, All-map, All-weaker, All-from_recursion, recursion_from_All}
+use Rattle.definitions.specs.Poly.{Term}
+use Rattle.definitions.specs.Combination.{generator_at}
+use Rattle.word_core.specs.Letters.{IsOver}
+use Rattle.nc_polynomial.specs.declared.poly.Poly.{Poly}
+use Rattle.cofactor_trace.specs.declared.Cofactors.{Cofactors}
+use Rattle.cofactor_trace.specs.declared.CertRow.{CertRow}
+use Rattle.cofactor_trace.specs.declared.evidence.LemmaRow.{LemmaRow}
+use Rattle.cofactor_trace.specs.declared.evidence.Lemma.{Lemma}
+use Rattle.cofactor_trace.specs.declared.evidence.LemmaCertificate.{LemmaCertificate}
+use Rattle.cofactor_trace.specs.declared.evidence.Evidence.TheVariants as evidence
+use Rattle.cofactor_trace.specs.declared.evidence.Format.{Format}
+use Rattle.cofactor_trace.specs.declared.evidence.Format.TheVariants as format
+use Rattle.cofactor_trace.specs.Needed.{expansion_of}
+use Rattle.cofactor_trace.specs.Lemmas.{gathered_of}
+use Rattle.cofactor_trace.specs.GatheringLaws.{parts_of}
+use Rattle.rule_reduce.specs.declared.rule.Rule.{Rule}
+use Rattle.rule_reduce.specs.RuleLists.{IsRule}
+use Rattle.quiver.specs.Declarations.{Declaration, letter_count}
+use Rattle.adjoint_rules.specs.declared.problem.Problem.{Problem}
+use Rattle.adjoint_rules.specs.Problem.{polynomials, HasLettersInPlay, IsInPlay, numbers}
+use Rattle.certificate_text.specs.Evidence.{IsRowOver, IsLemmaRowOver}
+use Rattle.certificate_text.specs.Written.{IsLemmaOver, IsEvidenceOver}
+use Rattle.traced_completion.specs.declared.budget.Budget.{Budget}
+use Rattle.traced_completion.specs.Reductions.{IsReducible}
+use Rattle.traced_completion.specs.RunLaws.{HasWords}
+use Rattle.traced_completion.specs.PlainRun.{Setting, RunState, IsRunState, setting_of}
+use Rattle.traced_completion.proofs.ReducibleGenerators.{generators_reducible}
+use Rattle.traced_completion.proofs.RunStates.{states_rules}
+use Rattle.claim_decider.specs.declared.outcome.Outcome.{Outcome}
+use Rattle.claim_decider.specs.Outcomes.{evidence_of_zero, record_of, certificate_of}
+use Rattle.claim_decider.specs.Decided.{claim_at}
+use Rattle.report_text.specs.Report.{IsPolyOver, IsLeastOver}
+use Rattle.outcome_laws.specs.OutcomeLetters.{IsOutcomeOver, OutcomesHaveLetters, LastRulesHaveLetters}
+use Rattle.outcome_laws.proofs.EvidenceWords.{expanded_words, gathered_words}
+use Rattle.outcome_laws.proofs.OutcomeWays.{Way, no_terms, expanded, gathered, left_over, given_up, with_run, way, IsProvedBy}
+use Rattle.outcome_laws.proofs.OverRuns.{AreOver, IsOverRow, reduced_over, records_over, least_over}
+use Rattle.outcome_laws.proofs.Results.{split_last}
+
+-- ---- the problem
+module _ (problem : Problem) (budget : Budget) where
+  abbrev ds : List Declaration
+  ds = problem.parts.quiver
+
+  abbrev letters_in : ℕ
+  letters_in = letter_count problem.parts.quiver
+
+  abbrev setting_in : Setting
+  setting_in = setting_of problem budget
+
+  with_words : (ps : List Poly) → AllByRecursion (IsReducible letters_in) ps → AllByRecursion (HasWords letters_in) (polynomials ps)
+  with_words [] each = tt
+  with_words (p ∷ ps) each = (record { nonempty = each.0.nonempty; over = each.0.over }, with_words ps each.1)
+
+  pub generators_have_words : All (HasWords letters_in) (polynomials problem.generators)
+  generators_have_words =
+      All-from_recursion (HasWords letters_in) (polynomials problem.generators)
+      (with_words problem.generators (recursion_from_All (IsReducible letters_in) problem.generators (generators_reducible problem letters_in (omega arith))))
+
+  pub rules_of : (rounds : ℕ) (s : RunState) → IsRunState setting_in rounds s → All (IsRule letters_in setting_in.compare) s.rules
+  rules_of rounds s is = states_rules letters_in setting_in rounds s generators_have_words is
+
+  -- ---- claims
+  letter_below : (a : ℕ) → IsInPlay ds problem.parts.starred (numbers problem.parts.marked) a → a < letters_in
+  letter_below a in_play = below (and_parts (nat_lt a letters_in) _ in_play).0
+    where
+      below : nat_lt a letters_in ≡ true → a < letters_in
+      below test = grind (arith, nat_tests)
+
+  poly_over : (p : Poly) → HasLettersInPlay ds problem.parts.starred (numbers problem.parts.marked) p → AreOver letters_in p.terms
+  poly_over p each =
+      recursion_from_All (λ (t : Term). IsOver letters_in t.1) p.terms
+      (All-weaker (λ (t : Term). All (IsInPlay ds problem.parts.starred (numbers problem.parts.marked)) t.1) (λ (t : Term). IsOver letters_in t.1)
+      (λ t word. All-weaker (IsInPlay ds problem.parts.starred (numbers problem.parts.marked)) (λ a. a < letters_in) letter_below t.1 word) p.terms each)
+
+  numbered_over : (ps : List Poly) → AllByRecursion (HasLettersInPlay ds problem.parts.starred (numbers problem.parts.marked)) ps → (number : ℕ) → AreOver letters_in (generator_at (polynomials ps) number)
+  numbered_over ps each zero = tt
+  numbered_over [] each (suc n) = tt
+  numbered_over (p ∷ ps) each (suc zero) = poly_over p each.0
+  numbered_over (p ∷ ps) each (suc (suc n)) = numbered_over ps each.1 (suc n)
+
+  pub claim_over : (number : ℕ) → AreOver letters_in (claim_at problem number)
+  claim_over number =
+      numbered_over problem.parts.claims (recursion_from_All (HasLettersInPlay ds problem.parts.starred (numbers problem.parts.marked)) problem.parts.claims problem.posed.claim_letters) number
+
+  -- ---- outcomes
+  module _ (form : Format) (number : ℕ) where
+    abbrev claim : List Term
+    claim = claim_at problem number
+
+    zero_over : (f : Format) → IsEvidenceOver ds (evidence_of_zero f number)
+    zero_over format.Plain = All-nil (IsRowOver ds)
+    zero_over format.Lemmas = (All-nil (IsLemmaOver ds), All-nil (IsLemmaRowOver ds))
+
+    -- the record of the claim
+    target_over : (by : IsProvedBy setting_in claim) → AllByRecursion (IsOverRow letters_in) by.reduced.rows
+    target_over by = (reduced_over letters_in setting_in.compare by.state.rules (rules_of by.rounds by.state by.run) claim setting_in.budget.steps by.reduced (claim_over number) by.reduction).1
+
+    expanded_over : (by : IsProvedBy setting_in claim) (c : Cofactors) → expansion_of by.state.made (record_of by.reduced) ≡ Ok c → IsEvidenceOver ds (certificate_of number c)
+    expanded_over by c ends =
+        All-weaker (λ (r : CertRow). IsOver letters_in r.left × IsOver letters_in r.right) (IsRowOver ds) (λ r both. record { left = both.0; right = both.1 }) c.rows
+        (expanded_words (IsOver letters_in) (All-nil (λ a. a < letters_in)) (λ u v left right. All-append (λ a. a < letters_in) u v left right) by.state.made (record_of by.reduced) c
+        (records_over letters_in setting_in generators_have_words by.rounds by.state by.run) (target_over by) ends)
+
+    lemma_over : (l : Lemma) → AllByRecursion (λ (r : LemmaRow). IsOver letters_in r.left × IsOver letters_in r.right) l.rows → IsLemmaOver ds l
+    lemma_over l each =
+        All-weaker (λ (r : LemmaRow). IsOver letters_in r.left × IsOver letters_in r.right) (IsLemmaRowOver ds) (λ r both. record { left = both.0; right = both.1 }) l.rows
+        (All-from_recursion (λ (r : LemmaRow). IsOver letters_in r.left × IsOver letters_in r.right) l.rows each)
+
+    gathered_over : (by : IsProvedBy setting_in claim) (c : LemmaCertificate) → gathered_of number by.state.made (record_of by.reduced) ≡ Ok c → IsEvidenceOver ds (evidence.Lemmas c)
+    gathered_over by c ends =
+        let words = gathered_words (IsOver letters_in) number by.state.made (record_of by.reduced) c (records_over letters_in setting_in generators_have_words by.rounds by.state by.run) (target_over by) ends in
+        let each = All-weaker (λ (l : Lemma). AllByRecursion (λ (r : LemmaRow). IsOver letters_in r.left × IsOver letters_in r.right) l.rows) (IsLemmaOver ds) lemma_over (parts_of c) words in
+        let both = split_last (IsLemmaOver ds) c.lemmas c.goal (recursion_from_All (IsLemmaOver ds) (parts_of c) each) in
+        (All-from_recursion (IsLemmaOver ds) c.lemmas both.0, both.1)
+
+    least_is_over : (o : Option (List ℕ)) → ((word : List ℕ) → o ≡ Some word → IsOver letters_in word) → IsLeastOver ds o
+    least_is_over None each = tt
+    least_is_over (Some word) each = each word refl
+
+    outcome_over : (o : Outcome) → Way setting_in form number claim o → IsOutcomeOver ds o
+    outcome_over o (no_terms is) = subst (IsOutcomeOver ds) (sym is) (zero_over form)
+    outcome_over o (expanded by c ends is) = subst (IsOutcomeOver ds) (sym is) (expanded_over by c ends)
+    outcome_over o (gathered by c ends is) = subst (IsOutcomeOver ds) (sym is) (gathered_over by c ends)
+    outcome_over o (left_over rounds s run rest left is) =
+        let over = (reduced_over letters_in setting_in.compare s.rules (rules_of rounds s run) claim setting_in.budget.steps left.reduced (claim_over number) left.reduction).0 in
+        subst (IsOutcomeOver ds) (sym is) (subst (λ (p : List Term). All (λ t. IsOver letters_in t.1) p) left.rest_is (All-from_recursion (λ (t : Term). IsOver letters_in t.1) left.reduced.rest over))
+    outcome_over o (given_up halt none is) = subst (IsOutcomeOver ds) (sym is) (subst (IsLeastOver ds) (sym none) tt)
+    outcome_over o (with_run rounds s halt run round is) = subst (IsOutcomeOver ds) (sym is) (least_is_over halt.least (least_over letters_in setting_in generators_have_words rounds s halt run round))
+
+-- the laws
+pub outcomes_have_letters : OutcomesHaveLetters
+outcomes_have_letters problem budget form number o is = outcome_over problem budget form number o (way (setting_of problem budget) form number (claim_at problem number) o is.rounds is.state is.gets)
+
+pub last_rules_have_letters : LastRulesHaveLetters
+last_rules_have_letters problem budget form ns polys are =
+    let rules = rules_of problem budget are.rounds are.state are.run in
+    subst (All (IsPolyOver problem.parts.quiver)) (sym are.are) (
+    All-map (IsPolyOver problem.parts.quiver) (λ (g : Rule). g.poly) are.state.rules
+    (All-weaker (IsRule (letter_count problem.parts.quiver) (setting_of problem budget).compare) (λ (g : Rule). IsPolyOver problem.parts.quiver g.poly) (λ g is. is.over) are.state.rules rules)
+    )

@@ -1,0 +1,156 @@
+-- The letters of records are letters of the generators, and so are those of the least overlap word.
+use Rattle.std.proofs.Common.{◌≡◌, ◌<◌, ℕ, zero, suc, ◌+◌, List, [], ◌∷◌, ◌++◌, length, take, drop, Bool, true, false, nat_le, Option, Some, None, Result, Ok, Err, sym, ap, ◌∙◌, subst}
+use Rattle.std.specs.List.{All, AllByRecursion}
+use Rattle.std.proofs.lemmas.List.Elements.{All-nil, All-head, All-append, All-take, All-drop, All-from_recursion, recursion_from_All, All-contains}
+use Rattle.definitions.specs.Poly.{Term}
+use Rattle.word_core.specs.Letters.{IsOver}
+use Rattle.cofactor_trace.specs.declared.Row.{Row}
+use Rattle.cofactor_trace.specs.declared.Made.{Made}
+use Rattle.cofactor_trace.specs.declared.halt.Halt.{Halt}
+use Rattle.word_orders.specs.Admissible.{Compare}
+use Rattle.rule_reduce.specs.declared.rule.Rule.{Rule}
+use Rattle.rule_reduce.specs.declared.state.State.{State}
+use Rattle.rule_reduce.specs.declared.state.Choice.{Choice}
+use Rattle.rule_reduce.specs.declared.fault.ReduceFault.{ReduceFault}
+use Rattle.rule_reduce.specs.RuleLists.{IsRule, rule_at, entries_of}
+use Rattle.rule_reduce.specs.Choices.{choice_of}
+use Rattle.rule_reduce.specs.Steps.{moved, move_of, move_row}
+use Rattle.rule_reduce.specs.NormalForms.{start_of, normal_form_of}
+use Rattle.rule_reduce.proofs.Chosen.{found}
+use Rattle.rule_reduce.proofs.LettersKept.{each-moved}
+use Rattle.rule_reduce.proofs.Numbers.{rule_at-all}
+use Rattle.rule_reduce.proofs.Rows.{all-multiplied}
+use Rattle.rule_reduce.proofs.Runs.{reduction_keeps}
+use Rattle.ambiguities.specs.declared.ambiguity.Ambiguity.{Ambiguity}
+use Rattle.ambiguities.specs.Ambiguities.{IsAmbiguity, lead_at, overlap_word_of}
+use Rattle.ambiguities.specs.SPolynomials.{s_rows_of}
+use Rattle.ambiguities.proofs.Bounds.{over_overlap_word}
+use Rattle.traced_completion.specs.declared.pending.waiting.Waiting.{Waiting}
+use Rattle.rule_making.specs.Making.{Recorded}
+use Rattle.traced_completion.specs.Pending.{IsPending, ambiguities_of}
+use Rattle.traced_completion.specs.RunLaws.{HasWords}
+use Rattle.traced_completion.specs.PlainRun.{Setting, RunState, went, closed, stopped, Ends, taken_count, TreatsFirst, TreatsPending, IsRound, IsRunState}
+use Rattle.traced_completion.proofs.RunRules.{AreWords, words_over, normal_words, s_words}
+use Rattle.traced_completion.proofs.RunStates.{states_rules}
+use Rattle.traced_completion.proofs.StoreLemmas.{pending-all}
+use Rattle.outcome_laws.proofs.RowsOfRuns.{generator_words, IsKept, IsKeptGenerator, MadeFrom, states_held}
+
+-- ---- reductions
+module _ (letters : ℕ) where
+  abbrev pub AreOver : List Term → Type 0
+  AreOver p = AllByRecursion (λ t. IsOver letters t.1) p
+
+  abbrev pub IsOverRow : Row → Type 0
+  IsOverRow r = IsOver letters r.left × IsOver letters r.right
+
+  over_around : (l r : List ℕ) → IsOver letters l → IsOver letters r → (p : List Term) → AreOver p → AllByRecursion (λ t. IsOver letters (l ++ (t.1 ++ r))) p
+  over_around l r left right [] each = tt
+  over_around l r left right (t ∷ p) each =
+      (All-append (λ a. a < letters) l (t.1 ++ r) left (All-append (λ a. a < letters) t.1 r each.0 right), over_around l r left right p each.1)
+
+  module _ (compare : Compare) (rules : List Rule) (are : All (IsRule letters compare) rules) where
+    -- the words of the rest, and of the rows
+    abbrev IsOverState : State → Type 0
+    IsOverState s = AreOver s.rest × AllByRecursion IsOverRow s.rows
+
+    step_over : (c : Choice) (g : Rule) (s : State) → choice_of compare (entries_of rules) s.rest ≡ Some c → rule_at rules c.number ≡ Some g → IsOverState s → IsOverState (moved (move_of c g) s)
+    step_over c g s chosen has before =
+        let word : IsOver letters c.word =
+        All-contains (λ (t : Term). IsOver letters t.1) s.rest (c.coefficient, c.word) (All-from_recursion (λ (t : Term). IsOver letters t.1) s.rest before.0) (found compare rules s.rest c chosen).term in
+        let left = All-take (λ a. a < letters) c.place c.word word in
+        let right = All-drop (λ a. a < letters) (c.place + length g.lead) c.word word in
+        let rule = recursion_from_All (λ (t : Term). IsOver letters t.1) g.poly.terms (rule_at-all (IsRule letters compare) rules c.number g has are).over in (
+          each-moved (IsOver letters) (move_of c g) s before.0 (over_around (take c.place c.word) (drop (c.place + length g.lead) c.word) left right g.poly.terms rule),
+          all-multiplied IsOverRow (λ by row held. held) (move_of c g).by s.rows (move_row (move_of c g)) before.1 (left, right),
+        )
+
+    pub reduced_over : (p : List Term) (steps : ℕ) (s : State) → AreOver p → normal_form_of compare rules p steps ≡ Ok s → IsOverState s
+    reduced_over p steps s each ends = (reduction_keeps IsOverState compare rules step_over steps steps (start_of p) s ends (each, tt)).kept
+
+    s_rows_over : (a : Ambiguity) → IsAmbiguity rules a → AllByRecursion IsOverRow (s_rows_of rules a)
+    s_rows_over a is =
+        let word : IsOver letters (overlap_word_of rules a) = over_overlap_word letters compare rules a are is in (
+          (All-nil (λ n. n < letters), All-drop (λ n. n < letters) (length (lead_at rules a.i)) (overlap_word_of rules a) word),
+          ((All-take (λ n. n < letters) a.place (overlap_word_of rules a) word, All-drop (λ n. n < letters) (a.place + length (lead_at rules a.j)) (overlap_word_of rules a) word), tt),
+        )
+
+-- ---- records of a run
+module _ (letters : ℕ) (setting : Setting) (generators : All (HasWords letters) setting.generators) where
+  abbrev IsOverRowOf : ℕ → Row → Type 0
+  IsOverRowOf count r = IsOverRow letters r
+
+  abbrev IsOverMade : ℕ → Made → Type 0
+  IsOverMade place m = AllByRecursion (IsOverRow letters) m.rows
+
+  each_generator : (numbers : List ℕ) → AllByRecursion (IsKeptGenerator letters setting (AreWords letters) IsOverRowOf) numbers
+  each_generator [] = tt
+  each_generator (n ∷ ns) = (
+    record {
+      polynomial = generator_words letters setting.generators (recursion_from_All (HasWords letters) setting.generators generators) n;
+      row = λ rules s are ends. (All-nil (λ a. a < letters), All-nil (λ a. a < letters));
+    },
+    each_generator ns,
+  )
+
+  letters_kept : IsKept letters setting (AreWords letters) IsOverRowOf IsOverMade
+  letters_kept = record {
+    more = λ few many r most held. held;
+    negative = λ count r held. held;
+    multiple = λ count by r held fits. held;
+    words = λ p held. held;
+    reduced = λ rules p s are words ends.
+        (normal_words letters setting.compare rules are p setting.budget.steps s words ends, (reduced_over letters setting.compare rules are p setting.budget.steps s (words_over letters p words) ends).1);
+    ambiguous = λ rules a p are is ends. (s_words letters setting.compare rules are a is p ends, s_rows_over letters setting.compare rules are a is);
+    generators = each_generator setting.in_turn;
+    makes = λ count rest g m made polynomial rows some. rows;
+  }
+
+  each_made : (place : ℕ) (made : List Made) → MadeFrom letters setting (AreWords letters) IsOverRowOf IsOverMade letters_kept place made → AllByRecursion (λ m. AllByRecursion (IsOverRow letters) m.rows) made
+  each_made place [] each = tt
+  each_made place (m ∷ made) each = (each.0, each_made (suc place) made each.1)
+
+  pub records_over : (rounds : ℕ) (s : RunState) → IsRunState setting rounds s → AllByRecursion (λ m. AllByRecursion (IsOverRow letters) m.rows) s.made
+  records_over rounds s is = each_made 0 s.made (states_held letters setting (AreWords letters) IsOverRowOf IsOverMade letters_kept rounds s is).made
+
+  -- ---- the least overlap word
+  pub least_over : (rounds : ℕ) (s : RunState) (halt : Halt) → IsRunState setting rounds s → IsRound setting rounds s (stopped halt) → (word : List ℕ) → halt.least ≡ Some word → IsOver letters word
+  least_over rounds s halt run round word least = go rounds run round
+    where
+      not_some : {w : List ℕ} → ◌≡◌ {A = Option (List ℕ)} None (Some w) → ⊥
+      not_some same = cc
+
+      same_word : (v w : List ℕ) → ◌≡◌ {A = Option (List ℕ)} (Some v) (Some w) → v ≡ w
+      same_word v w same = cc
+
+      same_halt : (h : Halt) → stopped halt ≡ stopped h → halt ≡ h
+      same_halt h same = cc
+
+      not_went : {t : RunState} → stopped halt ≡ went t → ⊥
+      not_went same = cc
+
+      not_closed : stopped halt ≡ closed → ⊥
+      not_closed same = cc
+
+      ended : (number : ℕ) (o : Option (List ℕ)) (treated : List Ambiguity) (r : Result Recorded ReduceFault) → Ends number o treated r (stopped halt) → halt.least ≡ o
+      ended number o treated (Ok r) ends = absurd (not_went ends)
+      ended number o treated (Err e) ends = ap (λ (h : Halt). h.least) (same_halt _ ends.stops)
+
+      pending_over : (w : Waiting) → IsPending s.rules s.treated w → All (IsRule letters setting.compare) s.rules → IsOver letters w.word
+      pending_over w is are = subst (IsOver letters) (sym is.overlap) (over_overlap_word letters setting.compare s.rules w.which are is.is)
+
+      later : (number : ℕ) (pending : List Waiting) → All (λ w. IsOver letters w.word) pending → TreatsPending setting number s pending (stopped halt) → IsOver letters word
+      later number [] each treats = absurd (not_closed treats)
+      later number (w ∷ ws) each treats = on (nat_le setting.budget.pairs (length s.treated)) treats
+        where
+          first : halt.least ≡ Some w.word → IsOver letters word
+          first same = subst (IsOver letters) (same_word w.word word (sym same ∙ least)) (All-head (λ (v : Waiting). IsOver letters v.word) w ws each)
+
+          on : (b : Bool) → TreatsFirst setting number s w.word (w ∷ ws) b (stopped halt) → IsOver letters word
+          on true stops = first (ap (λ (h : Halt). h.least) (same_halt _ stops))
+          on false treated = first (ended number (Some w.word) (s.treated ++ ambiguities_of (take (taken_count setting.budget s (w ∷ ws)) (w ∷ ws))) treated.result treated.ends)
+
+      go : (n : ℕ) → IsRunState setting n s → IsRound setting n s (stopped halt) → IsOver letters word
+      go zero before stops = absurd (not_some (sym (ended 0 None s.treated stops.result stops.ends) ∙ least))
+      go (suc n) before stops =
+          let are = states_rules letters setting (suc n) s generators before in
+          later (suc n) stops.pending (pending-all (λ (w : Waiting). IsOver letters w.word) setting.compare s.rules s.treated stops.pending stops.all_pending (λ w one. pending_over w one are)) stops.treats

@@ -1,0 +1,143 @@
+-- Rounds, claims and problems have outcomes.
+use Rattle.std.proofs.Common.{◌≡◌, ◌≢◌, ◌⊎◌, inl, inr, ◌<◌, ◌≤◌, ℕ, zero, suc, pos, List, [], ◌∷◌, length, get_or, refl, sym, subst, arith}
+use Rattle.std.specs.List.{All}
+use Rattle.std.proofs.lemmas.Bool.{cases_lt}
+use Rattle.std.proofs.lemmas.List.Elements.{All-nil, All-cons, All-weaker}
+use Rattle.coef_int.specs.Range.{IsCoefficient}
+use Rattle.definitions.specs.Poly.{Term}
+use Rattle.definitions.specs.Combination.{generator_at}
+use Rattle.word_orders.specs.declared.any.OrderSpec.{OrderSpec}
+use Rattle.word_orders.specs.declared.any.OrderSpec.TheVariants as asked
+use Rattle.word_orders.specs.Admissible.{IsAdmissible}
+use Rattle.word_orders.specs.CanonicalLaws.{word_cmp-admissible}
+use Rattle.word_orders.specs.Lists.{is_listed, weight_of}
+use Rattle.word_orders.specs.Measured.{weight_rank, block_rank}
+use Rattle.word_orders.specs.MeasuredLaws.{weight_cmp-admissible, block_cmp-admissible}
+use Rattle.word_orders.specs.Rank.{rank_of}
+use Rattle.word_orders.specs.Specified.{asked_cmp}
+use Rattle.nc_polynomial.specs.Shape.{IsCanonical}
+use Rattle.nc_polynomial.specs.declared.poly.Poly.{Poly}
+use Rattle.nc_polynomial.proofs.Shapes.{IsDescending-from_recursion}
+use Rattle.cofactor_trace.specs.declared.evidence.Format.{Format}
+use Rattle.adjoint_rules.specs.declared.problem.Problem.{Problem}
+use Rattle.adjoint_rules.specs.Problem.{polynomials}
+use Rattle.traced_completion.specs.declared.budget.Budget.{Budget}
+use Rattle.traced_completion.specs.PlainRun.{Setting, RunState, start, setting_of, IsRunState}
+use Rattle.traced_completion.proofs.Ascending.{contains-first, contains-rest}
+use Rattle.traced_completion.proofs.RunStates.{states_bounded}
+use Rattle.claim_decider.specs.declared.outcome.Outcome.{Outcome}
+use Rattle.claim_decider.specs.Decided.{claim_at, claim_numbers, AreOutcomesOf, GetsOutcomeBy, OneGetsOutcomeAt, polynomials_in}
+use Rattle.outcome_laws.specs.Existence.{EachStateHasARound, EachClaimHasAnOutcome, EachProblemHasOutcomes}
+use Rattle.outcome_laws.proofs.Rounds.{has_round}
+use Rattle.outcome_laws.proofs.Claims.{Got, got, run_of}
+
+-- ---- polynomials
+zero_is_canonical : IsCanonical []
+zero_is_canonical = record {
+  shaped = record {
+    descending = IsDescending-from_recursion [] tt;
+    nonzero = All-nil (λ (t : Term). t.0 ≢ pos 0);
+    in_range = All-nil (λ (t : Term). IsCoefficient t.0);
+  };
+  short = All-nil (λ (t : Term). length t.1 ≤ 500);
+  few = omega arith;
+}
+
+canonical_at : (ps : List Poly) (n : ℕ) → IsCanonical (generator_at (polynomials ps) n)
+canonical_at ps zero = zero_is_canonical
+canonical_at [] (suc n) = subst IsCanonical (sym (past n)) zero_is_canonical
+  where
+    past : (n : ℕ) → get_or {A = List Term} [] n [] ≡ []
+    past zero = refl
+    past (suc n) = refl
+canonical_at (p ∷ ps) (suc zero) = p.canonical
+canonical_at (p ∷ ps) (suc (suc n)) = canonical_at ps (suc n)
+
+-- ---- each order that can be asked for is admissible
+asked_rank : OrderSpec → List ℕ → List ℕ
+asked_rank asked.Degree = rank_of 0
+asked_rank (asked.Weight weights) = weight_rank (weight_of weights) 0
+asked_rank (asked.Block block) = block_rank (is_listed block) 0
+
+asked-admissible : (order : OrderSpec) → IsAdmissible 0 (asked_cmp order) (asked_rank order)
+unfolding asked_rank
+asked-admissible asked.Degree = word_cmp-admissible 0
+asked-admissible (asked.Weight weights) = weight_cmp-admissible (weight_of weights) 0
+asked-admissible (asked.Block block) = block_cmp-admissible (is_listed block) 0
+
+pub each_state_has_a_round : EachStateHasARound
+each_state_has_a_round problem budget number s =
+    has_round (setting_of problem budget) (canonical_at problem.generators) 0 (asked_rank problem.parts.order) (asked-admissible problem.parts.order) number s
+
+-- ---- claims
+module _ (problem : Problem) (budget : Budget) (form : Format) where
+  abbrev setting : Setting
+  setting = setting_of problem budget
+
+  got_of : (number : ℕ) → Got setting (claim_at problem number) (canonical_at problem.parts.claims number) form number
+  got_of number =
+      got setting (claim_at problem number) (canonical_at problem.parts.claims number) form number (canonical_at problem.generators) 0 (asked_rank problem.parts.order) (asked-admissible problem.parts.order)
+
+  outcomes_of : (numbers : List ℕ) → (outcomes : List Outcome) × AreOutcomesOf setting form problem numbers outcomes
+  outcomes_of [] = ([], tt)
+  outcomes_of (n ∷ numbers) =
+      let one = got_of n in
+      let rest = outcomes_of numbers in
+      (one.outcome ∷ rest.0, (record { rounds = one.rounds; state = one.state; gets = one.gets }, rest.1))
+
+  -- the last round that is needed, with its state
+  record Last (numbers : List ℕ) : Type 0 where
+    rounds : ℕ
+    state : RunState
+    run : IsRunState setting rounds state
+    enough : All (GetsOutcomeBy setting form problem rounds) numbers
+    needed : (rounds ≡ 0) ⊎ OneGetsOutcomeAt setting form problem numbers rounds
+
+  last_of : (numbers : List ℕ) → Last numbers
+  last_of [] = record { rounds = 0; state = start; run = refl; enough = All-nil (GetsOutcomeBy setting form problem 0); needed = inl refl }
+  last_of (n ∷ numbers) = go (got_of n) (last_of numbers)
+    where
+      go : Got setting (claim_at problem n) (canonical_at problem.parts.claims n) form n → Last numbers → Last (n ∷ numbers)
+      go one rest = by (cases_lt rest.rounds one.rounds)
+        where
+          by : (rest.rounds < one.rounds) ⊎ (one.rounds ≤ rest.rounds) → Last (n ∷ numbers)
+          by (inl later) = record {
+            rounds = one.rounds;
+            state = one.state;
+            run = run_of setting (claim_at problem n) form n one.rounds one.state one.outcome one.gets;
+            enough = All-cons (GetsOutcomeBy setting form problem one.rounds) n numbers
+                (record { rounds = one.rounds; gets = record { state = one.state; outcome = one.outcome; gets = one.gets }; early = omega arith })
+                (All-weaker (GetsOutcomeBy setting form problem rest.rounds) (GetsOutcomeBy setting form problem one.rounds)
+                (λ m by_then. record { rounds = by_then.rounds; gets = by_then.gets; early = omega (arith, by_then.early, later) }) numbers rest.enough);
+            needed = inr (record { number = n; among = contains-first n numbers; gets = record { state = one.state; outcome = one.outcome; gets = one.gets } });
+          }
+          by (inr earlier) = record {
+            rounds = rest.rounds;
+            state = rest.state;
+            run = rest.run;
+            enough = All-cons (GetsOutcomeBy setting form problem rest.rounds) n numbers
+                (record { rounds = one.rounds; gets = record { state = one.state; outcome = one.outcome; gets = one.gets }; early = earlier }) rest.enough;
+            needed = among rest.needed;
+          }
+            where
+              among : (rest.rounds ≡ 0) ⊎ OneGetsOutcomeAt setting form problem numbers rest.rounds → (rest.rounds ≡ 0) ⊎ OneGetsOutcomeAt setting form problem (n ∷ numbers) rest.rounds
+              among (inl none) = inl none
+              among (inr last) = inr (record { number = last.number; among = contains-rest n numbers last.number last.among; gets = last.gets })
+
+pub each_claim_has_an_outcome : EachClaimHasAnOutcome
+each_claim_has_an_outcome problem budget form number =
+    let one = got_of problem budget form number in
+    let bounded =
+    states_bounded (setting_of problem budget) one.rounds one.state (run_of (setting_of problem budget) (claim_at problem number) form number one.rounds one.state one.outcome one.gets) in
+    record { outcome = one.outcome; is = record { rounds = one.rounds; state = one.state; gets = one.gets }; few_rounds = omega (arith, bounded.few_rounds, bounded.few_treated) }
+
+pub each_problem_has_outcomes : EachProblemHasOutcomes
+each_problem_has_outcomes problem budget form =
+    let outcomes = outcomes_of problem budget form (claim_numbers problem) in
+    let last = last_of problem budget form (claim_numbers problem) in
+    record {
+      outcomes = outcomes.0;
+      rules = polynomials_in last.state.rules;
+      are_outcomes = outcomes.1;
+      are_rules = record { rounds = last.rounds; state = last.state; last = record { enough = last.enough; needed = last.needed }; run = last.run; are = refl };
+    }

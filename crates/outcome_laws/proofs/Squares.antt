@@ -1,0 +1,116 @@
+-- The places in the squares over short words, as the words of the place's two numbers and the word's letters.
+use Rattle.std.proofs.Common.{◌≡◌, ◌≢◌, ℕ, ◌+◌, ◌*◌, ◌^◌, ◌≤◌, ◌<◌, zero, suc, ◌⊎◌, inl, inr, refl, arith, subst, sym, ap, ◌∙◌, Bool, true, false, List, [], ◌∷◌, ◌++◌, map, length}
+use Rattle.std.proofs.lemmas.Bool.{cases_lt}
+use Rattle.std.proofs.lemmas.List.{length-append, length-map}
+use Rattle.std.proofs.lemmas.List.FromFn.{length-range_with_len}
+use Rattle.std.proofs.Math.Nat.{pow-zero, pow-suc}
+use Rattle.std.specs.List.{flat_map, range_with_len}
+use Rattle.definitions.specs.Poly.{Word, word_eq}
+use Rattle.definitions.proofs.Linear.{word_eq-same, word_eq-true}
+use Rattle.outcome_laws.proofs.Turns.{contains_number}
+use Rattle.outcome_laws.specs.Counts.{short_ambiguities}
+use Rattle.outcome_laws.proofs.Pigeons.{Member, here, member_from_contains, member_left, member_right, member_map, member_flat_map}
+
+pub same_or_not : (u v : Word) → (u ≡ v) ⊎ (u ≢ v)
+same_or_not u v = go (word_eq u v) refl
+  where
+    clash : true ≡ false → ⊥
+    clash e = cc
+
+    go : (b : Bool) → word_eq u v ≡ b → (u ≡ v) ⊎ (u ≢ v)
+    go true is = inl (word_eq-true u v is)
+    go false is = inr (λ same. clash (sym (subst (λ w. word_eq u w ≡ true) same (word_eq-same u)) ∙ is))
+
+-- lists of one length
+length_flat_map : {A B : Type 0} (f : A → List B) (c : ℕ) → ((x : A) → length (f x) ≡ c) → (xs : List A) → length (flat_map f xs) ≡ length xs * c
+length_flat_map f c e [] = zero_times c
+  where
+    zero_times : (c : ℕ) → 0 ≡ 0 * c
+    zero_times c = omega arith
+length_flat_map f c e (x ∷ xs) = length-append (f x) (flat_map f xs) ∙ added (length (f x)) (length (flat_map f xs)) (length xs) c (e x) (length_flat_map f c e xs)
+  where
+    added : (a b n c : ℕ) → a ≡ c → b ≡ n * c → a + b ≡ suc n * c
+    added a b n c p q = grind arith
+
+-- the numbers below a number
+abbrev below : ℕ → List ℕ
+below m = range_with_len 0 m
+
+member_below : (m k : ℕ) → k < m → Member k (below m)
+member_below m k inside = member_from_contains (below m) k (contains_number 0 m k (omega arith) (omega (arith, inside)))
+
+-- all letters are in the list
+abbrev pub AllIn : List ℕ → Word → Type 0
+AllIn letters [] = Unit {0}
+AllIn letters (a ∷ w) = Member a letters × AllIn letters w
+
+module _ (letters : List ℕ) where
+  -- the words of a length
+  abbrev words : ℕ → List Word
+  words zero = [] ∷ []
+  words (suc m) = flat_map (λ a. map (λ w. a ∷ w) (words m)) letters
+
+  length_words : (m : ℕ) → length (words m) ≡ length letters ^ m
+  length_words zero = sym (pow-zero (length letters))
+  length_words (suc m) =
+      length_flat_map (λ a. map (λ w. a ∷ w) (words m)) (length letters ^ m) (λ a. length-map (words m) (λ w. a ∷ w) ∙ length_words m) letters
+      ∙ turned (length letters) (length letters ^ m) ∙ sym (pow-suc (length letters) m)
+    where
+      turned : (a b : ℕ) → a * b ≡ b * a
+      turned a b = omega arith
+
+  member_words : (w : Word) → AllIn letters w → Member w (words (length w))
+  member_words [] h = here []
+  member_words (a ∷ w) h = member_flat_map (λ b. map (λ v. b ∷ v) (words (length w))) a (a ∷ w) letters h.0 (member_map (λ v. a ∷ v) w (words (length w)) (member_words w h.1))
+
+  -- the places in the squares over the words of a length
+  abbrev row_of : ℕ → Word → ℕ → List Word
+  row_of m w x = map (λ y. x ∷ y ∷ w) (below m)
+
+  abbrev square_of : ℕ → Word → List Word
+  square_of m w = flat_map (row_of m w) (below m)
+
+  abbrev squares : ℕ → List Word
+  squares m = flat_map (square_of m) (words m)
+
+  length_squares : (m : ℕ) → length (squares m) ≡ length letters ^ m * m * m
+  length_squares m = length_flat_map (square_of m) (m * m) length_square (words m) ∙ ap (λ z. z * (m * m)) (length_words m) ∙ regrouped (length letters ^ m) m
+    where
+      length_row : (w : Word) (x : ℕ) → length (row_of m w x) ≡ m
+      length_row w x = length-map (below m) (λ y. x ∷ y ∷ w) ∙ length-range_with_len 0 m
+
+      length_square : (w : Word) → length (square_of m w) ≡ m * m
+      length_square w = length_flat_map (row_of m w) m (length_row w) (below m) ∙ ap (λ z. z * m) (length-range_with_len 0 m)
+
+      regrouped : (a m : ℕ) → a * (m * m) ≡ a * m * m
+      regrouped a m = grind arith
+
+  member_squares : (w : Word) (x y : ℕ) → AllIn letters w → x < length w → y < length w → Member (x ∷ y ∷ w) (squares (length w))
+  member_squares w x y a hx hy =
+      let m = length w in
+      member_flat_map (square_of m) w (x ∷ y ∷ w) (words m) (member_words w a)
+      (member_flat_map (row_of m w) x (x ∷ y ∷ w) (below m) (member_below m x hx) (member_map (λ z. x ∷ z ∷ w) y (below m) (member_below m y hy)))
+
+  -- those over the words up to a length
+  abbrev pub places : ℕ → List Word
+  places zero = []
+  places (suc n) = places n ++ squares (suc n)
+
+  pub length_places : (n : ℕ) → length (places n) ≡ short_ambiguities (length letters) n
+  length_places zero = refl
+  length_places (suc n) =
+      length-append (places n) (squares (suc n))
+      ∙ added (length (places n)) (length (squares (suc n))) (short_ambiguities (length letters) n) (length letters ^ suc n * suc n * suc n) (length_places n) (length_squares (suc n))
+    where
+      added : (a b c d : ℕ) → a ≡ c → b ≡ d → a + b ≡ c + d
+      added a b c d p q = omega arith
+
+  pub member_places : (n : ℕ) (w : Word) (x y : ℕ) → AllIn letters w → length w ≤ n → x < length w → y < length w → Member (x ∷ y ∷ w) (places n)
+  member_places zero w x y a h hx hy = absurd (omega arith)
+  member_places (suc n) w x y a h hx hy = go (cases_lt (length w) (suc n)) (λ shorter. member_places n w x y a shorter hx hy)
+    where
+      go : (length w < suc n) ⊎ (suc n ≤ length w) → (length w ≤ n → Member (x ∷ y ∷ w) (places n)) → Member (x ∷ y ∷ w) (places n ++ squares (suc n))
+      go (inl less) earlier = member_left (x ∷ y ∷ w) (places n) (squares (suc n)) (earlier (omega (arith, less)))
+      go (inr longest) earlier =
+          let same : length w ≡ suc n = omega (arith, longest, h) in
+          member_right (x ∷ y ∷ w) (places n) (squares (suc n)) (subst (λ m. Member (x ∷ y ∷ w) (squares m)) same (member_squares w x y a hx hy))

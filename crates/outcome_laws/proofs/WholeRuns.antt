@@ -1,0 +1,154 @@
+-- Whole runs keep what is kept, and what is pending.
+use Rattle.std.proofs.Common.{◌≡◌, inl, inr, ◌≤◌, ℕ, zero, suc, Bool, true, false, List, [], ◌∷◌, ◌++◌, length, map, take, nat_le, Option, Some, None, Result, Ok, Err, Contains, refl, sym, ap, ◌∙◌, subst, arith, append-nil}
+use Rattle.std.specs.List.{All, AllByRecursion}
+use Rattle.std.proofs.lemmas.Cmp.{tied_itself}
+use Rattle.std.specs.declared.cmp.Ordering.TheVariants.{Less, Equal}
+use Rattle.std.proofs.lemmas.List.Elements.{recursion_from_All, All-nil}
+use Rattle.definitions.specs.Quiver.{Quiver}
+use Rattle.word_orders.specs.Admissible.{IsAdmissible}
+use Rattle.cofactor_trace.specs.declared.halt.Halt.{Halt}
+use Rattle.rule_reduce.specs.declared.rule.Rule.{Rule}
+use Rattle.rule_reduce.specs.declared.fault.ReduceFault.{ReduceFault}
+use Rattle.ambiguities.specs.declared.ambiguity.Ambiguity.{Ambiguity}
+use Rattle.ambiguities.specs.Ambiguities.{IsAmbiguity, overlap_word_of}
+use Rattle.completion_laws.specs.Conclusions.{NothingPending}
+use Rattle.completion_laws.specs.Typed.{IsTypedInPlay}
+use Rattle.completion_laws.proofs.Steps.{start_is_kept}
+use Rattle.traced_completion.specs.declared.pending.waiting.Waiting.{Waiting}
+use Rattle.rule_making.specs.Making.{Recorded}
+use Rattle.traced_completion.specs.Results.{each_in_turn}
+use Rattle.traced_completion.specs.Works.{generator_work, First, first_of, InTurn, InTwoPasses}
+use Rattle.traced_completion.specs.Pending.{IsBeforeInStore, IsPending, ambiguities_of}
+use Rattle.traced_completion.specs.PlainRun.{Setting, RunState, went, closed, stopped, start, recorded, Ends, taken_count, IsTreated, TreatsFirst, TreatsPending, IsRound, IsRunState}
+use Rattle.outcome_laws.specs.KeptRuns.{IsGenerator, done_after, IsKeptState, RunsAreKept, ClosedIsNothingPending, FirstIsLeastPending}
+use Rattle.outcome_laws.proofs.RunsKept.{no_value, KeptNow, generators_in_turn}
+use Rattle.outcome_laws.proofs.LaterRounds.{ambiguities_in_turn}
+
+-- ---- outcomes
+same_state : (s t : RunState) → went s ≡ went t → s ≡ t
+same_state s t e = cc
+
+-- a round that went ended with a state
+pub record IsEnd (treated : List Ambiguity) (result : Result Recorded ReduceFault) (s : RunState) : Type 0 where
+  pub value : Recorded
+  pub given : result ≡ Ok value
+  pub state : s ≡ record { rules = value.rules; made = value.made; treated = treated }
+
+pub ended : (number : ℕ) (least : Option (List ℕ)) (treated : List Ambiguity) (result : Result Recorded ReduceFault) (s : RunState) → Ends number least treated result (went s) → IsEnd treated result s
+ended number least treated (Ok r) s ends = record { value = r; given = refl; state = same_state s (record { rules = r.rules; made = r.made; treated = treated }) ends }
+ended number least treated (Err e) s given_up = absurd (not_stopped given_up.stops)
+  where
+    not_stopped : {h : Halt} → went s ≡ stopped h → ⊥
+    not_stopped e = cc
+
+-- ---- the ambiguities that are taken are ambiguities of the rules
+taken_are : (rules : List Rule) (treated : List Ambiguity) (count : ℕ) (pending : List Waiting) → ((w : Waiting) → Contains pending w → IsPending rules treated w) → AllByRecursion (IsAmbiguity rules) (ambiguities_of (take count pending))
+taken_are rules treated zero pending each = tt
+taken_are rules treated (suc n) [] each = tt
+taken_are rules treated (suc n) (w ∷ pending) each = ((each w (zero, omega arith, refl)).is, taken_are rules treated n pending (λ v at. each v (suc at.0, omega (arith, at.1), at.2)))
+
+-- ---- rounds
+module _ (q : Quiver) (play : ℕ → Bool) (letters : ℕ) (rank : List ℕ → List ℕ) (setting : Setting) (laws : IsAdmissible letters setting.compare rank) (each : All (IsGenerator q play letters) setting.generators)
+    (in_range : All (λ k. (1 ≤ k) × (k ≤ length setting.generators)) setting.in_turn) where
+  abbrev Now : Recorded → List ℕ → List Ambiguity → Type 0
+  Now = KeptNow q play letters setting.compare rank laws setting.generators each setting.budget.steps
+
+  abbrev IsKeptAfter : List ℕ → RunState → Type 0
+  IsKeptAfter = IsKeptState q play letters setting
+
+  at_start : IsKeptAfter [] start
+  at_start = record { kept = start_is_kept letters setting.compare setting.generators; typed = All-nil (λ (g : Rule). IsTypedInPlay q play g.poly.terms) }
+
+  kept_state : (done : List ℕ) (treated : List Ambiguity) (r : Recorded) (s : RunState) → s ≡ record { rules = r.rules; made = r.made; treated = treated } → Now r done treated → IsKeptAfter done s
+  kept_state done treated r s is now = subst (IsKeptAfter done) (sym is) (record { kept = now.0; typed = now.1 })
+
+  round_zero : (before s : RunState) → IsKeptAfter [] before → IsRound setting 0 before (went s) → IsKeptAfter setting.in_turn s
+  round_zero before s now round =
+      let end = ended 0 None before.treated round.result s round.ends in
+      kept_state setting.in_turn before.treated end.value s end.state
+      (generators_in_turn q play letters setting.compare rank laws setting.generators each setting.budget.steps setting.in_turn (recursion_from_All (λ k. (1 ≤ k) × (k ≤ length setting.generators)) setting.in_turn in_range)
+      (recorded before) end.value [] before.treated (now.kept, now.typed)
+      (subst (λ r. InTurn setting.compare (map (generator_work setting.compare setting.budget.steps setting.generators) setting.in_turn) (recorded before) r) end.given round.generators))
+
+  treated_round : (number : ℕ) (before s : RunState) (done : List ℕ) (least : List ℕ) (taken : List Ambiguity) → AllByRecursion (IsAmbiguity before.rules) taken → IsKeptAfter done before → IsTreated setting number before least taken (went s) → IsKeptAfter done s
+  treated_round number before s done least taken are now round =
+      let end = ended number (Some least) (before.treated ++ taken) round.result s round.ends in
+      kept_state done (before.treated ++ taken) end.value s end.state
+      (passes (each_in_turn (first_of setting.compare setting.budget.steps before.rules) taken) refl end.value (subst (λ r. InTwoPasses setting.compare setting.budget.steps (each_in_turn (first_of setting.compare setting.budget.steps before.rules) taken) (recorded before) r) end.given round.passes))
+    where
+      passes : (r : Result (List First) ReduceFault) → each_in_turn (first_of setting.compare setting.budget.steps before.rules) taken ≡ r → (value : Recorded) → InTwoPasses setting.compare setting.budget.steps r (recorded before) (Ok value) → Now value done (before.treated ++ taken)
+      passes (Err e) given value two = absurd (no_value e value (sym two))
+      passes (Ok firsts) given value two =
+          ambiguities_in_turn q play letters setting.compare rank laws setting.generators each setting.budget.steps before.rules now.kept.are_rules now.typed taken are firsts given
+          (recorded before) value done before.treated (record { more = []; is = sym (append-nil before.rules) }) (now.kept, now.typed) two
+
+  later_round : (n : ℕ) (before s : RunState) (done : List ℕ) → IsKeptAfter done before → IsRound setting (suc n) before (went s) → IsKeptAfter done s
+  later_round n before s done now round = go round.pending (λ w at. (round.all_pending.members w).0 at) round.treats
+    where
+      not_closed : went s ≡ closed → ⊥
+      not_closed e = cc
+
+      not_stopped : {h : Halt} → went s ≡ stopped h → ⊥
+      not_stopped e = cc
+
+      by_pairs : (w : Waiting) (ws : List Waiting) → ((v : Waiting) → Contains (w ∷ ws) v → IsPending before.rules before.treated v) → (b : Bool) → TreatsFirst setting (suc n) before w.word (w ∷ ws) b (went s) → IsKeptAfter done s
+      by_pairs w ws pending true treats = absurd (not_stopped treats)
+      by_pairs w ws pending false treats =
+          treated_round (suc n) before s done w.word (ambiguities_of (take (taken_count setting.budget before (w ∷ ws)) (w ∷ ws))) (taken_are before.rules before.treated (taken_count setting.budget before (w ∷ ws)) (w ∷ ws) pending) now treats
+
+      go : (ws : List Waiting) → ((v : Waiting) → Contains ws v → IsPending before.rules before.treated v) → TreatsPending setting (suc n) before ws (went s) → IsKeptAfter done s
+      go [] pending treats = absurd (not_closed treats)
+      go (w ∷ ws) pending treats = by_pairs w ws pending (nat_le setting.budget.pairs (length before.treated)) treats
+
+  run : (n : ℕ) (s : RunState) → IsRunState setting n s → IsKeptAfter (done_after setting n) s
+  run zero s is = subst (IsKeptAfter []) (sym is) at_start
+  run (suc zero) s is = round_zero is.before s (run zero is.before is.is_before) is.round
+  run (suc (suc n)) s is = later_round n is.before s setting.in_turn (run (suc n) is.before is.is_before) is.round
+
+pub runs_are_kept : RunsAreKept
+runs_are_kept q play letters rank setting n s laws each in_range is = run q play letters rank setting laws each in_range n s is
+
+-- ---- what is pending
+pub closed_is_nothing_pending : ClosedIsNothingPending
+closed_is_nothing_pending setting n s round = go round.pending (λ w is. (round.all_pending.members w).1 is) round.treats
+  where
+    not_stopped : {h : Halt} → closed ≡ stopped h → ⊥
+    not_stopped e = cc
+
+    not_went : {t : RunState} → closed ≡ went t → ⊥
+    not_went e = cc
+
+    not_ended : (number : ℕ) (least : Option (List ℕ)) (treated : List Ambiguity) (r : Result Recorded ReduceFault) → Ends number least treated r closed → ⊥
+    not_ended number least treated (Ok r) ends = not_went ends
+    not_ended number least treated (Err e) ends = not_stopped ends.stops
+
+    by_pairs : (w : Waiting) (ws : List Waiting) (b : Bool) → TreatsFirst setting (suc n) s w.word (w ∷ ws) b closed → ⊥
+    by_pairs w ws true treats = not_stopped treats
+    by_pairs w ws false treats = not_ended (suc n) (Some w.word) (s.treated ++ ambiguities_of (take (taken_count setting.budget s (w ∷ ws)) (w ∷ ws))) treats.result treats.ends
+
+    go : (ws : List Waiting) → ((v : Waiting) → IsPending s.rules s.treated v → Contains ws v) → TreatsPending setting (suc n) s ws closed → NothingPending s.rules s.treated
+    go (w ∷ ws) pending treats = absurd (by_pairs w ws (nat_le setting.budget.pairs (length s.treated)) treats)
+    go [] pending treats = λ a is untreated. none (pending (record { which = a; word = overlap_word_of s.rules a }) (record { is = is; untreated = untreated; overlap = refl }))
+      where
+        none : {v : Waiting} → Contains [] v → ⊥
+        none at = omega (arith, at.1)
+
+pub first_is_least_pending : FirstIsLeastPending
+first_is_least_pending letters compare rank rules treated w ws laws all a is untreated below = go ((all.members waiting).1 (record { is = is; untreated = untreated; overlap = refl }))
+  where
+    waiting : Waiting
+    waiting = record { which = a; word = overlap_word_of rules a }
+
+    not_itself : (u : List ℕ) → compare u u ≡ Less → ⊥
+    not_itself u less = clash (sym (tied_itself laws.total u) ∙ less)
+      where
+        clash : Equal ≡ Less → ⊥
+        clash e = cc
+
+    not_above : IsBeforeInStore compare w waiting → ⊥
+    not_above (inl less) = not_itself w.word (laws.total.trans w.word (overlap_word_of rules a) w.word less below.less)
+    not_above (inr (same, later)) = not_itself w.word (subst (λ u. compare u w.word ≡ Less) (sym same) below.less)
+
+    go : Contains (w ∷ ws) waiting → ⊥
+    go (zero, inside, here) = not_itself w.word (subst (λ u. compare u w.word ≡ Less) (sym (ap (λ (v : Waiting). v.word) here)) below.less)
+    go (suc k, inside, here) = not_above (subst (IsBeforeInStore compare w) here (all.ascending 0 (suc k) waiting (omega arith) inside))

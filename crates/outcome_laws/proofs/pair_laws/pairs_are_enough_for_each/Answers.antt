@@ -1,0 +1,5 @@
+use Rattle.outcome_laws.proofs.Outcomes.{pairs_are_enough_for_each}
+use Rattle.outcome_laws.proofs.pair_laws.pairs_are_enough_for_each.Goals as goal
+
+pub returns : goal.returns
+returns c = pairs_are_enough_for_each

@@ -1,0 +1,7 @@
+pub mod KeptRuns
+pub mod Meanings
+pub mod OutcomeLetters
+pub mod EvidenceLimits
+pub mod Existence
+pub mod Counts
+pub mod Enough

@@ -1,5 +1,0 @@
-use Rattle.outcome_limits.proofs.OutcomeLetters.{last_rules_have_letters}
-use Rattle.outcome_limits.proofs.laws.last_rules_have_letters.Goals as goal
-
-pub returns : goal.returns
-returns c = last_rules_have_letters

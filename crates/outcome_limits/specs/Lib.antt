@@ -1,2 +1,0 @@
-pub mod OutcomeLetters
-pub mod EvidenceLimits

@@ -1,5 +1,0 @@
-use Rattle.outcome_meanings.proofs.Meanings.{closed_claims_are_outside}
-use Rattle.outcome_meanings.proofs.laws.closed_claims_are_outside.Goals as goal
-
-pub returns : goal.returns
-returns c = closed_claims_are_outside

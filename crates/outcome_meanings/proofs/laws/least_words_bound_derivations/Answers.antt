@@ -1,5 +1,0 @@
-use Rattle.outcome_meanings.proofs.Meanings.{least_words_bound_derivations}
-use Rattle.outcome_meanings.proofs.laws.least_words_bound_derivations.Goals as goal
-
-pub returns : goal.returns
-returns c = least_words_bound_derivations

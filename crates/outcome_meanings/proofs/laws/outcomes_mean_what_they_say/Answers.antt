@@ -1,5 +1,0 @@
-use Rattle.outcome_meanings.proofs.Meanings.{outcomes_mean_what_they_say}
-use Rattle.outcome_meanings.proofs.laws.outcomes_mean_what_they_say.Goals as goal
-
-pub returns : goal.returns
-returns c = outcomes_mean_what_they_say

@@ -1,0 +1,96 @@
+-- Each declaration of a text has the name of a token.
+use Rattle.std.proofs.Common.{◌≡◌, true, List, [], ◌∷◌, ◌++◌, refl, sym, ap, subst, ◌∙◌}
+use Rattle.std.specs.Prelude.{map}
+use Rattle.std.specs.List.{flat_map, list_all}
+use Rattle.std.specs.Str.{chars}
+use Rattle.std.proofs.lemmas.List.Folds.{list_all-append}
+use Rattle.std.proofs.lemmas.Str.{scalars-chars}
+use Rattle.quiver.specs.Declarations.{Declaration, name_of, object, arrow}
+use Rattle.statement_tokens.specs.declared.token.Token.{Token}
+use Rattle.statement_syntax.specs.declared.tree.Name.{Name}
+use Rattle.statement_syntax.specs.declared.tree.Statement.{Statement}
+use Rattle.statement_syntax.specs.declared.tree.StatementKind.{StatementKind}
+use Rattle.statement_syntax.specs.declared.line.ListWord.TheVariants.{Object, Solve}
+use Rattle.statement_syntax.specs.declared.line.SidesWord.TheVariants.{Assume, Claim}
+use Rattle.statement_syntax.specs.declared.line.PairWord.TheVariants.{Pinv, Inverse, Inner}
+use Rattle.statement_syntax.specs.Grammar.{names_tokens, Stated, listed, mapped, sides, paired, projected, by_degree, by_weight, modelled, stated_tokens, StatedLine, file_tokens}
+use Rattle.statement_syntax.specs.Tree.{is_self, stated_kind, file_tree}
+use Rattle.statement_syntax.specs.Places.{bare_names, bare_stated}
+use Rattle.statement_tokens.proofs.Scanning.{spot}
+use Rattle.statement_syntax.proofs.Spelled.{IsToken, AllKinds, AllKinds-split, tokens_are}
+use Rattle.statement_syntax.proofs.Moved.{kinds}
+use Rattle.statement_syntax.proofs.StatedKinds.{kinds-append}
+use Rattle.statement_syntax.proofs.BareTokens.{AreTokens, AllSpelled, file_are}
+use Rattle.statement_names.specs.Numbered.{objects_in, maps_in, declared_objects, declarations_of}
+use Rattle.expressions.specs.Names.{object_of}
+use Rattle.certificate_text.specs.Back.{is_named}
+use Rattle.report_readback.specs.Names.{DeclaredNamesAreNames}
+use Rattle.report_readback.proofs.Spellings.{spelled_is_name}
+
+abbrev AreNamed : List Declaration → Type 0
+AreNamed ds = list_all is_named ds ≡ true
+
+join : (ds es : List Declaration) → AreNamed ds → AreNamed es → AreNamed (ds ++ es)
+join ds es front back = rw (list_all-append is_named ds es, front, back) refl
+
+-- ---- a statement
+
+names_named : (declare : Name → Declaration) → ((n : Name) → name_of (declare n) ≡ n.text) → (ns : List Name) → AreTokens (names_tokens (bare_names ns)) → AreNamed (map declare ns)
+names_named declare same [] spelled = refl
+names_named declare same (n ∷ ns) spelled = rw (same n, spelled_is_name n.text spelled.0, names_named declare same ns spelled.1) refl
+
+first_tokens : (ts us : List Token) → AreTokens (ts ++ us) → AreTokens ts
+first_tokens ts us spelled = (AllKinds-split IsToken (kinds ts) (kinds us) (subst (AllKinds IsToken) (kinds-append ts us) spelled)).0
+
+-- what some statements declare is named where it is named for each
+abbrev NamesStated : (StatementKind → List Declaration) → Type 0
+NamesStated declares = (s : Stated) → AreTokens (stated_tokens (bare_stated s)) → AreNamed (declares (stated_kind s))
+
+stated_objects : NamesStated objects_in
+stated_objects (listed Object at n ns) spelled = names_named (λ n. object n.text) (λ n. refl) (n ∷ ns) spelled.1
+stated_objects (listed Solve at n ns) spelled = refl
+stated_objects (mapped at n ns colon s to t end) spelled = refl
+stated_objects (sides Assume at d equals e) spelled = refl
+stated_objects (sides Claim at d equals e) spelled = refl
+stated_objects (paired Pinv at m n) spelled = refl
+stated_objects (paired Inverse at m n) spelled = refl
+stated_objects (paired Inner at m n) spelled = refl
+stated_objects (projected at n) spelled = refl
+stated_objects (by_degree at word) spelled = refl
+stated_objects (by_weight at word p ps) spelled = refl
+stated_objects (modelled at m ps) spelled = refl
+
+stated_maps : (objects : List Declaration) → NamesStated (maps_in objects)
+stated_maps objects (listed Object at n ns) spelled = refl
+stated_maps objects (listed Solve at n ns) spelled = refl
+stated_maps objects (mapped at n ns colon s to t end) spelled =
+    names_named (λ n. arrow n.text (object_of objects s) (object_of objects t) (is_self end)) (λ n. refl) (n ∷ ns) (first_tokens (names_tokens (bare_names (n ∷ ns))) _ spelled.1)
+stated_maps objects (sides Assume at d equals e) spelled = refl
+stated_maps objects (sides Claim at d equals e) spelled = refl
+stated_maps objects (paired Pinv at m n) spelled = refl
+stated_maps objects (paired Inverse at m n) spelled = refl
+stated_maps objects (paired Inner at m n) spelled = refl
+stated_maps objects (projected at n) spelled = refl
+stated_maps objects (by_degree at word) spelled = refl
+stated_maps objects (by_weight at word p ps) spelled = refl
+stated_maps objects (modelled at m ps) spelled = refl
+
+-- ---- a file
+
+each_named : (declares : StatementKind → List Declaration) → NamesStated declares → (ls : List StatedLine) → AllSpelled ls → AreNamed (flat_map (λ (s : Statement). declares s.kind) (file_tree ls))
+each_named declares named [] spelled = refl
+each_named declares named (l ∷ ls) spelled =
+    join (declares (stated_kind l.stated)) (flat_map (λ s. declares s.kind) (file_tree ls)) (named l.stated spelled.0) (each_named declares named ls spelled.1)
+
+declarations_named : (ls : List StatedLine) → AllSpelled ls → AreNamed (declarations_of (file_tree ls))
+declarations_named ls spelled =
+    let objects = declared_objects (file_tree ls) in
+    join objects (flat_map (λ s. maps_in objects s.kind) (file_tree ls)) (each_named objects_in stated_objects ls spelled) (each_named (maps_in objects) (stated_maps objects) ls spelled)
+
+pub declared_names_are_names : DeclaredNamesAreNames
+declared_names_are_names bytes statements problem tree is =
+    let ls = tree.0 in
+    let text = tree.1 in
+    let spelled = file_are ls (tokens_are (chars bytes) 0 (spot 1 1) 0 (file_tokens ls) (scalars-chars bytes text.utf8) text.tokens) in
+    let declared : problem.parts.quiver ≡ declarations_of (file_tree ls) = is.parts.quiver ∙ ap declarations_of tree.2 in
+    subst AreNamed (sym declared) (declarations_named ls spelled)
