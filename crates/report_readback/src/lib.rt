@@ -1,4 +1,5 @@
-//! What a statement declares has names of the language, so reports are read back as the evidence and the models that they give, and the evidence is accepted unless a limit is passed.
+//! Reports are read back as the evidence and the models that they give, since what a statement declares has names of the language;
+//! and the evidence is accepted unless a limit is passed.
 #![tactic(auto)]
 
 mod laws;
