@@ -13,8 +13,8 @@ use Rattle.std.specs.declared.cmp.Ordering.TheVariants.{Less, Equal, Greater}
 use Rattle.word_core.specs.Canonical.{word_cmp, word_cmp_total}
 use Rattle.word_core.specs.Letters.{IsOver}
 use Rattle.word_core.proofs.Order.{word_cmp-same, word_cmp-shorter}
-use Rattle.word_orders.specs.Admissible.{IsAdmissible}
-use Rattle.word_orders.specs.Rank.{number_of, rank_of}
+use Rattle.word_core.specs.Admissible.{IsAdmissible}
+use Rattle.word_core.specs.Rank.{number_of, rank_of}
 
 -- the same letters on either side change nothing, where the words are equally long
 slice_cmp-front : (l u v : List ℕ) → slice_cmp nat_cmp (l ++ u) (l ++ v) ≡ slice_cmp nat_cmp u v
