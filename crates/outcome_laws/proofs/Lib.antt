@@ -5,7 +5,6 @@ pub mod WholeRuns
 pub mod Turns
 pub mod RangedReductions
 pub mod RangedRuns
-pub mod AskedOrders
 pub mod ProblemPolynomials
 pub mod OpenRuns
 pub mod Derivations

@@ -5,6 +5,6 @@ use Rattle.std.specs.Prelude.{◌^◌, ℕ}
 abbrev pub weight_limit : ℕ
 weight_limit = 1000
 
--- the letters of a word whose measure is asked for: with weights up to the limit it is below 2^32
+-- the letters of a word that is measured: with weights up to the limit its measure is below 2^32
 abbrev pub measured_letters : ℕ
 measured_letters = 2 ^ 22

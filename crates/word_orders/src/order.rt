@@ -10,6 +10,9 @@ ghost use Rattle.word_orders.specs.Measured.{measured_cmp};
 use std::cmp::Ordering;
 use word_core::Word;
 
+/// The most letters of a word that is measured.
+pub const MEASURED_LETTERS: usize = 4_194_304;
+
 /// An admissible order of words.
 pub trait WordOrder {
     // How two words compare.
