@@ -3,11 +3,13 @@
 
 mod adjoint;
 mod laws;
+mod limits;
 mod parts;
 mod problem;
 mod units;
 
 pub use adjoint::{adjoint_poly, adjoint_word};
 pub use laws::{adjoints_are_an_involution, generators_are_unique, problem_is_typed};
+pub use limits::{ASSUMPTION_LIMIT, CLAIM_LIMIT, SHAPE_LIMIT};
 pub use parts::{Parts, Shape};
 pub use problem::{Problem, close_problem};
