@@ -9,3 +9,7 @@ claim_limit = 100
 
 abbrev pub shape_limit : ℕ
 shape_limit = 16
+
+-- the side of an object of a shape
+abbrev pub shape_side_limit : ℕ
+shape_side_limit = 6

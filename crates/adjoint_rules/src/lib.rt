@@ -5,9 +5,11 @@ mod adjoint;
 mod laws;
 mod parts;
 mod problem;
+mod shapes;
 mod units;
 
 pub use adjoint::{adjoint_poly, adjoint_word};
 pub use laws::{adjoints_are_an_involution, generators_are_unique, problem_is_typed};
 pub use parts::{Parts, Shape};
 pub use problem::{Problem, close_problem};
+pub use shapes::{SHAPE_SIDE_LIMIT, is_field_modulus};
