@@ -8,3 +8,6 @@ pub const CLAIM_LIMIT: u32 = 100;
 
 /// The greatest number of shapes.
 pub const SHAPE_LIMIT: u32 = 16;
+
+/// The greatest side of an object of a shape.
+pub const SHAPE_SIDE_LIMIT: u32 = 6;
