@@ -4,6 +4,8 @@
 mod call;
 mod read;
 mod set;
+mod usage;
 
 pub use call::{BenchCall, Call, PairCall, ProveCall, RefuteCall};
 pub use read::{Refusal, read_words};
+pub use usage::usage_text;

@@ -1,0 +1,13 @@
+use Rattle.std.proofs.Common.{◌≡◌, ◌∙◌, codes, refl}
+use Rattle.std.proofs.lemmas.Result.{IfOk-weaker}
+use Rattle.command_words.specs.CommandSet.{command_set}
+use Rattle.command_words.specs.Usage.{usage_text}
+use Rattle.command_words.proofs.usage.usage_text.Goals as goal
+
+-- the line that is written is that of the command set
+as_written : codes "# usage: opprove prove|check|refute|model|bench" ≡ usage_text
+unfolding command_set
+as_written = refl
+
+pub returns : goal.returns
+returns c = IfOk-weaker c.to_vec.result _ _ (λ x h. h ∙ as_written) c.to_vec.ensures
