@@ -1,4 +1,4 @@
-use Rattle.std.proofs.Common.{◌≡◌, ◌∙◌, codes, refl}
+use Rattle.std.proofs.Common.{◌≡◌, ◌∙◌, IfOk, codes, refl, rules}
 use Rattle.std.proofs.lemmas.Result.{IfOk-weaker}
 use Rattle.command_words.specs.CommandSet.{command_set}
 use Rattle.command_words.specs.Usage.{usage_text}
@@ -10,4 +10,6 @@ unfolding command_set
 as_written = refl
 
 pub returns : goal.returns
-returns c = IfOk-weaker c.to_vec.result _ _ (λ x h. h ∙ as_written) c.to_vec.ensures
+returns c =
+    let written : IfOk c.to_vec.result (λ text. text.items ≡ codes "# usage: opprove prove|check|refute|model|bench") = search rules in
+    IfOk-weaker c.to_vec.result (λ text. text.items ≡ codes "# usage: opprove prove|check|refute|model|bench") (λ text. text.items ≡ usage_text) (λ x h. h ∙ as_written) written
