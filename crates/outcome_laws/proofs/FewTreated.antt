@@ -34,7 +34,7 @@ use Rattle.claim_decider.specs.Decided.{claim_at}
 use Rattle.outcome_laws.specs.KeptRuns.{done_after, IsKeptState}
 use Rattle.outcome_laws.proofs.LaterRounds.{BeginsWith}
 use Rattle.outcome_laws.proofs.WholeRuns.{runs_are_kept, first_is_least_pending}
-use Rattle.outcome_laws.proofs.AskedOrders.{asked_rank}
+use Rattle.word_orders.proofs.AskedOrders.{asked_rank}
 use Rattle.outcome_laws.proofs.OpenRuns.{order_laws, open_run, open_not_below}
 use Rattle.outcome_laws.proofs.ProblemPolynomials.{turns_in_range}
 use Rattle.outcome_laws.specs.Enough.{letters_in_play, enough_pairs, IsShownBelow, OpenRunsTreatFew}
