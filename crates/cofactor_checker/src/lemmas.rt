@@ -11,7 +11,8 @@ use lists::Listing;
 use nc_polynomial::Poly;
 use std::alloc::Global;
 
-const KEPT_LIMIT: usize = 1_000_000;
+/// The greatest number of terms that the polynomials of all lemmas have together.
+pub const KEPT_LIMIT: usize = 1_000_000;
 
 /// The polynomials of lemmas, and how many rows these have together.
 #[derive(Drop)]

@@ -23,4 +23,6 @@ pub use laws::{
     accepted_evidence_adds_up, accepted_evidence_is_not_refused, each_certificate_is_judged,
     evidence_is_judged, evidence_refusal_is_unique, refusal_is_unique,
 };
+pub use lemmas::KEPT_LIMIT;
 pub use refusal::Refusal;
+pub use rows::SUM_LIMIT;

@@ -17,7 +17,7 @@ use std::collections::BTreeMap;
 use word_core::Word;
 
 /// The greatest number of terms of a sum of rows.
-pub(crate) const SUM_LIMIT: usize = 200_000;
+pub const SUM_LIMIT: usize = 200_000;
 
 /// The item with this number, counted from 1.
 pub(crate) fn numbered<T>(items: &[T], number: u32) -> Option<&T>

@@ -1,6 +1,7 @@
 //! Linear equations modulo a prime, and which of their solutions is given.
 ghost use Rattle.std.specs.Prelude.{◌<◌, All, IsTrue};
-ghost use Rattle.matrix_models.specs.Systems.{IsFieldModulus, IsEquation, IsSystem, AreValues};
+ghost use Rattle.definitions.specs.Moduli.{IsFieldModulus};
+ghost use Rattle.matrix_models.specs.Systems.{IsEquation, IsSystem, AreValues};
 
 use crate::texts::same;
 use lists::Listing;
@@ -28,13 +29,6 @@ const ROWS: &[Row] = &[
     (3, 0, &[(&[], 0)], &[], ""),
     (3, 0, &[(&[], 2)], &[], "none"),
 ];
-
-// Whether models have this modulus.
-fn is_field_modulus(modulus: u32) -> bool
-    ensures { IsTrue result → IsFieldModulus modulus }
-{
-    matches!(modulus, 2 | 3 | 5 | 7 | 101 | 32003 | 65537)
-}
 
 // Whether all values are below the modulus.
 fn are_below(modulus: u32, values: &[u32]) -> bool

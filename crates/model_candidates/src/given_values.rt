@@ -157,8 +157,8 @@ fn value_kept(
 
 // The place of an entry among those of its map.
 fn place_in_map(selfmade: bool, columns: u32, row: u32, column: u32) -> u32
-    requires columns_side { columns ≤ 6 }
-    requires row_in_range { row < 6 }
+    requires columns_side { columns ≤ shape_side_limit }
+    requires row_in_range { row < shape_side_limit }
     requires column_in_range { column < columns }
     requires kept { is_kept selfmade row column ≡ true }
     ensures { (a : ℕ) → result ≡ place_within a selfmade columns row column }

@@ -36,6 +36,7 @@ use Rattle.traced_completion.proofs.UnitCounts.{few_units}
 use Rattle.claim_decider.specs.declared.outcome.Outcome.TheVariants as outcome
 use Rattle.claim_decider.specs.Outcomes.{evidence_of_zero, record_of, certificate_of}
 use Rattle.claim_decider.specs.Decided.{claim_at}
+use Rattle.nc_polynomial.specs.Limits.{word_limit}
 use Rattle.outcome_laws.specs.EvidenceLimits.{IsRowWithin, IsLemmaRowWithin, IsLemmaWithin, IsWithinLimits, EvidenceFits}
 use Rattle.outcome_laws.proofs.EvidenceRanges.{expansion_ranged, gathered_positive}
 use Rattle.outcome_laws.proofs.EvidenceWords.{gathered_words}
@@ -46,7 +47,7 @@ use Rattle.outcome_laws.proofs.ReducedWithin.{Fits, IsShortRow, reduced_within}
 use Rattle.outcome_laws.proofs.Results.{split_last}
 
 abbrev IsShort : List ℕ → Type 0
-IsShort w = length w ≤ 500
+IsShort w = length w ≤ word_limit
 
 short_words : (rows : List Row) → AllByRecursion IsShortRow rows → AllByRecursion (λ r. IsShort r.left × IsShort r.right) rows
 short_words [] each = tt

@@ -23,6 +23,7 @@ use Rattle.completion_laws.specs.Kept.{AreApart}
 use Rattle.completion_laws.specs.Conclusions.{NothingPendingBelow}
 use Rattle.completion_laws.proofs.MoreAmbiguities.{ambiguity_more, overlap_word-more}
 use Rattle.completion_laws.proofs.TypedLaws.{overlap_in_play}
+use Rattle.traced_completion.specs.Limits.{round_limit}
 use Rattle.traced_completion.specs.declared.budget.Budget.{Budget}
 use Rattle.traced_completion.specs.declared.pending.waiting.Waiting.{Waiting}
 use Rattle.traced_completion.specs.Pending.{AreAllPending, ambiguities_of}
@@ -145,10 +146,10 @@ module _ (problem : Problem) (budget : Budget) (number : ℕ) (word : List ℕ) 
             })))
 
   -- ---- rounds
-  small : (pairs treated pending : ℕ) → min 32 (min (pairs - treated) pending) ≤ 32
+  small : (pairs treated pending : ℕ) → min round_limit (min (pairs - treated) pending) ≤ round_limit
   small pairs treated pending = omega arith
 
-  some_taken : (pairs treated pending : ℕ) → treated < pairs → 0 < min 32 (min (pairs - treated) (suc pending))
+  some_taken : (pairs treated pending : ℕ) → treated < pairs → 0 < min round_limit (min (pairs - treated) (suc pending))
   some_taken pairs treated pending left = omega (arith, left)
 
   takes : (count : ℕ) (w : Waiting) (ws : List Waiting) → 0 < count → Contains (ambiguities_of (take count (w ∷ ws))) w.which

@@ -19,6 +19,7 @@ use Rattle.traced_completion.proofs.Ascending.{contains-first, contains-rest}
 use Rattle.traced_completion.proofs.RunStates.{states_bounded}
 use Rattle.claim_decider.specs.declared.outcome.Outcome.{Outcome}
 use Rattle.claim_decider.specs.Decided.{claim_at, claim_numbers, AreOutcomesOf, GetsOutcomeBy, OneGetsOutcomeAt, polynomials_in}
+use Rattle.nc_polynomial.specs.Limits.{word_limit}
 use Rattle.outcome_laws.specs.Existence.{EachStateHasARound, EachClaimHasAnOutcome, EachProblemHasOutcomes}
 use Rattle.outcome_laws.proofs.Rounds.{has_round}
 use Rattle.outcome_laws.proofs.Claims.{Got, got, run_of}
@@ -31,7 +32,7 @@ zero_is_canonical = record {
     nonzero = All-nil (λ (t : Term). t.0 ≢ pos 0);
     in_range = All-nil (λ (t : Term). IsCoefficient t.0);
   };
-  short = All-nil (λ (t : Term). length t.1 ≤ 500);
+  short = All-nil (λ (t : Term). length t.1 ≤ word_limit);
   few = omega arith;
 }
 

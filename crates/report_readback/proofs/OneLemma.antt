@@ -34,6 +34,7 @@ use Rattle.evidence_checker.specs.Acceptance.{IsMemory}
 use Rattle.evidence_checker.proofs.Evidence.{sums_agree}
 use Rattle.evidence_checker.proofs.Places.{place-generator, place-lemma}
 use Rattle.evidence_checker.proofs.Terms.{quotient_back}
+use Rattle.nc_polynomial.specs.Limits.{word_limit, term_limit}
 use Rattle.report_readback.specs.Answered.{PassesLimit}
 use Rattle.report_readback.proofs.PlainAnswers.{Polys, none_lacks}
 
@@ -92,14 +93,14 @@ none_indivisible s (t ∷ p) word got each (inr here) = here.1.0 (All-head (λ u
 
 -- ---- sizes
 
-none_long : (s : ℤ) (p : List Term) → AllByRecursion (λ t. length t.1 ≤ 500) p → has_long_word (poly_multiple s p) ≡ false
+none_long : (s : ℤ) (p : List Term) → AllByRecursion (λ t. length t.1 ≤ word_limit) p → has_long_word (poly_multiple s p) ≡ false
 none_long s [] short = refl
-none_long s (t ∷ p) short = let here : nat_lt 500 (length t.1) ≡ false = grind (arith, nat_tests, short.0) in rw (here, none_long s p short.1) refl
+none_long s (t ∷ p) short = let here : nat_lt word_limit (length t.1) ≡ false = grind (arith, nat_tests, short.0) in rw (here, none_long s p short.1) refl
 
 multiple_fits : (s : ℤ) (p : List Term) (limit : SizeFault) → IsCanonical p → sized (poly_multiple s p) ≡ Err (fault.Size limit) → ⊥
 multiple_fits s p limit canonical =
-    let few : nat_lt 20000 (length (poly_multiple s p)) ≡ false = grind (arith, nat_tests, length-map {B = Term} p (λ (t : Term). (s *ℤ t.0, t.1)), canonical.few) in
-    rw (none_long s p (recursion_from_All (λ t. length t.1 ≤ 500) p canonical.short), few) (λ same. cc)
+    let few : nat_lt term_limit (length (poly_multiple s p)) ≡ false = grind (arith, nat_tests, length-map {B = Term} p (λ (t : Term). (s *ℤ t.0, t.1)), canonical.few) in
+    rw (none_long s p (recursion_from_All (λ t. length t.1 ≤ word_limit) p canonical.short), few) (λ same. cc)
 
 -- ---- the lemma
 

@@ -6,12 +6,13 @@ use Rattle.std.proofs.lemmas.Bool.{ltb-false}
 use Rattle.std.proofs.lemmas.Grind.{flat_map-append}
 use Rattle.std.proofs.lemmas.List.{append-nil}
 use Rattle.std.proofs.lemmas.List.Sums.{sum_by_push}
+use Rattle.definitions.specs.Moduli.{is_field_modulus}
 use Rattle.statement_names.specs.declared.fault.NameFault.{NameFault}
 use Rattle.statement_names.specs.declared.fault.NameFault.TheVariants.{Double, TooMany}
 use Rattle.statement_names.specs.declared.kinds.Kind.{Kind}
 use Rattle.statement_names.specs.declared.kinds.Kind.TheVariants.{Object, Map}
 use Rattle.statement_names.specs.Occurrences.{Occurrence, declares_object, declares_map, uses, lists, counts, modulus, begins_order, begins_assumptions, begins_claim, begins_shape}
-use Rattle.statement_names.specs.Faults.{declared_by, objects_by, maps_by, assumptions_by, claims_by, shapes_by, declared_in, kind_in, is_kind, are_two_objects, is_among, is_between, is_modulus, value_of, fault_behind, first_fault}
+use Rattle.statement_names.specs.Faults.{declared_by, objects_by, maps_by, assumptions_by, claims_by, shapes_by, declared_in, kind_in, is_kind, are_two_objects, is_among, is_between, value_of, fault_behind, first_fault}
 use Rattle.statement_names.proofs.Apart.{Apart, Apart-push}
 use Rattle.statement_names.proofs.Each.{Each}
 
@@ -53,7 +54,7 @@ IsGood kind (declares_map n u v selfmade) = (selfmade && are_two_objects kind u 
 IsGood kind (uses u) = is_kind (kind u.name.text) u.kind ≡ true
 IsGood kind (lists front u) = (is_kind (kind u.name.text) u.kind ≡ true) × (is_among front u.name.text ≡ false)
 IsGood kind (counts most n) = is_between 1 most (value_of n.value) ≡ true
-IsGood kind (modulus n) = is_modulus (value_of n.value) ≡ true
+IsGood kind (modulus n) = is_field_modulus (value_of n.value) ≡ true
 IsGood kind o = Unit {0}
 
 module _ (kind : List ℕ → Option Kind) where
@@ -73,7 +74,7 @@ module _ (kind : List ℕ → Option Kind) where
     test_false (is_among front u.name.text) _ None (test_rest (not (is_kind (kind u.name.text) u.kind)) _ _ clean),
   )
   good before (counts most n) clean = test_true (is_between 1 most (value_of n.value)) _ clean
-  good before (modulus n) clean = test_true (is_modulus (value_of n.value)) _ clean
+  good before (modulus n) clean = test_true (is_field_modulus (value_of n.value)) _ clean
   good before (declares_object n) clean = tt
   good before (begins_order at) clean = tt
   good before (begins_assumptions count at) clean = tt

@@ -14,6 +14,7 @@ use Rattle.statement_syntax.specs.declared.tree.Number.{Number}
 use Rattle.statement_syntax.specs.declared.tree.Statement.{Statement}
 use Rattle.statement_syntax.specs.declared.tree.StatementKind.{StatementKind}
 use Rattle.statement_syntax.specs.declared.tree.StatementKind.TheVariants as statement
+use Rattle.adjoint_rules.specs.Limits.{shape_side_limit}
 use Rattle.statement_names.specs.declared.kinds.Kind.{Kind}
 use Rattle.statement_names.specs.declared.kinds.Kind.TheVariants.{Object}
 use Rattle.statement_names.specs.Faults.{kind_in, declared_in, value_of, name_fault_of}
@@ -33,7 +34,7 @@ one_side = record { least = omega arith; most = omega arith }
 two_side : IsSide 2
 two_side = record { least = omega arith; most = omega arith }
 
-side_is : (kind : List ℕ → Option Kind) (pairs : List (Name × Number)) → Each (IsPair kind Object 6) pairs → (q : List ℕ) → IsSide (side_in pairs q)
+side_is : (kind : List ℕ → Option Kind) (pairs : List (Name × Number)) → Each (IsPair kind Object shape_side_limit) pairs → (q : List ℕ) → IsSide (side_in pairs q)
 side_is kind [] good q = one_side
 side_is kind (p ∷ pairs) good q = go (bytes_eq q p.0.text) (side_is kind pairs good.1 q)
   where
@@ -68,7 +69,7 @@ module _ (statements : List Statement) (clean : name_fault_of statements ≡ Non
       sides =
           Each-at IsSide (sides_of all sides)
           (Each-map IsSide (λ v. side_in sides (object_name all v)) (range_with_len 0 (object_count all))
-          (Each-range (λ v. IsSide (side_in sides (object_name all v))) 0 (object_count all) (λ v. side_is kind sides (pairs_are kind Object 6 [] sides good.1.1) (object_name all v))));
+          (Each-range (λ v. IsSide (side_in sides (object_name all v))) 0 (object_count all) (λ v. side_is kind sides (pairs_are kind Object shape_side_limit [] sides good.1.1) (object_name all v))));
     },
     tt,
   )

@@ -1,6 +1,7 @@
 //! Rounds as far as they go, and how they are given up.
 ghost use Rattle.std.specs.Prelude.{◌≡◌, ◌<◌, ◌≤◌, ◌+◌, ◌++◌, ◌^◌, [], length, map, take, IfOk, IfErr, OnOk, OnErr, Ok};
 ghost use Rattle.std.specs.List.{All};
+ghost use Rattle.in_order_parallel.specs.Limits.{worker_limit};
 ghost use Rattle.word_core.specs.Letters.{IsOver};
 ghost use Rattle.word_orders.specs.Specified.{made_cmp, letters_of};
 ghost use Rattle.ambiguities.specs.Ambiguities.{IsAmbiguity};
@@ -111,7 +112,7 @@ impl Completion {
         requires records { HasRecords (recorded (state_of self.old)) }
         requires few { length self.old.rules.rules + count < 2 ^ 32 }
         requires some_worker { 0 < workers }
-        requires at_most_64 { workers ≤ 64 }
+        requires few_workers { workers ≤ worker_limit }
         ensures budget { self.new.budget ≡ self.old.budget }
         ensures rounds { self.new.rounds ≡ self.old.rounds }
         ensures order { self.new.rules.order ≡ self.old.rules.order }

@@ -8,5 +8,5 @@ use Rattle.model_candidates.proofs.candidate_count.all_candidates.Given as goal
 abbrev pub invariant-loop-shape : goal.invariant-loop-shape
 invariant-loop-shape l = record {
   exact : l.total ≡ sum_by (candidate_count (quiver_of l.problem.parts.quiver)) (take l.shape-index l.problem.parts.shapes);
-  few : l.total ≤ 65536 * l.shape-index;
+  few : l.total ≤ exhaustive_limit * l.shape-index;
 }
