@@ -23,7 +23,7 @@ use Rattle.model_command.proofs.Answered.{model_owes}
 use Rattle.command_answers.specs.CallFiles.{files_of, AreContents, statement_of, evidence_of}
 use Rattle.command_answers.specs.Answers.{AnswersOver, Answers}
 use Rattle.command_answers.specs.Says.{SaysOver, Says}
-use Rattle.command_answers.specs.Laws.{AnswersOnce, EachCallHasAnEnding}
+use Rattle.check_command.specs.Laws.{AnswersOnce, EachCallHasAnEnding}
 
 -- one line a command
 call_owes : (call : Call) (statement evidence : List ℕ) → OwesEnding (OverStatement statement (AnswersOver call evidence)) (λ Object Arrow s ending. SaysOver s call statement evidence ending)

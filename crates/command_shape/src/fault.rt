@@ -1,11 +1,11 @@
 //! The lines that say why a statement or an evidence text is refused.
-ghost use Rattle.std.specs.Prelude.{◌≡◌, ◌++◌, IfOk, OnOk};
+ghost use Rattle.std.specs.Prelude.{◌≡◌, ◌++◌, IfOk, OnOk, codes, decimal};
 ghost use Rattle.command_shape.specs.Ending.{refused_statement, refused_evidence};
 ghost use Rattle.command_shape.specs.Texts.{limit_text, place_text, ends_text, statement_fault, line_text, evidence_fault};
 
 use crate::ending::Ending;
 use crate::write::put_labelled;
-use certificate_text::put;
+use certificate_text::{put, put_number};
 use lists::Text;
 use std::alloc::{AllocError, Global};
 
@@ -24,6 +24,7 @@ pub fn refused_statement(
     ensures { IfOk result (λ ending. ending ≡ refused_statement (statement_fault code place.0 place.1 limit left.now right.now)) }
 {
     let mut text = Vec::new(alloc);
+    put(&mut text, "# refused S")?;
     put_statement_fault(&mut text, code, place, limit, left, right)?;
     Ending::refused_statement(text)
 }
@@ -38,10 +39,12 @@ pub fn refused_evidence(
     ensures { IfOk result (λ ending. ending ≡ refused_evidence (evidence_fault code line limit)) }
 {
     let mut text = Vec::new(alloc);
+    put(&mut text, "# refused K")?;
     put_evidence_fault(&mut text, code, line, limit)?;
     Ending::refused_evidence(text)
 }
 
+// What is said of a fault of a statement: its code, its place, its limit, and signatures that don't fit.
 fn put_statement_fault(
     out: &mut Vec<u8>,
     code: u32,
@@ -50,24 +53,20 @@ fn put_statement_fault(
     left: &Ends,
     right: &Ends,
 ) -> Result<(), AllocError>
-    ensures { OnOk result (out.new.items ≡ out.old.items ++ statement_fault code place.0 place.1 limit left.now right.now) }
+    ensures { OnOk result (out.new.items ≡ out.old.items ++ (decimal code ++ (place_text code place.0 place.1 ++ (limit_text limit ++ (ends_text (codes " left ") left.now ++ ends_text (codes " right ") right.now))))) }
 {
-    put_labelled(out, "# refused S", u128::from(code))?;
+    put_number(out, u128::from(code))?;
     put_place(out, code, place)?;
     put_limit(out, limit)?;
     put_ends(out, " left ", left)?;
     put_ends(out, " right ", right)
 }
 
-fn put_evidence_fault(
-    out: &mut Vec<u8>,
-    code: u32,
-    line: u32,
-    limit: u32,
-) -> Result<(), AllocError>
-    ensures { OnOk result (out.new.items ≡ out.old.items ++ evidence_fault code line limit) }
+// What is said of a fault of an evidence text: its code, its line and its limit.
+fn put_evidence_fault(out: &mut Vec<u8>, code: u32, line: u32, limit: u32) -> Result<(), AllocError>
+    ensures { OnOk result (out.new.items ≡ out.old.items ++ (decimal code ++ (line_text line ++ limit_text limit))) }
 {
-    put_labelled(out, "# refused K", u128::from(code))?;
+    put_number(out, u128::from(code))?;
     put_line_number(out, line)?;
     put_limit(out, limit)
 }
