@@ -1,9 +1,9 @@
 //! Linear equations modulo a prime, and which of their solutions is given.
 ghost use Rattle.std.specs.Prelude.{◌<◌, All, IsTrue};
-ghost use Rattle.definitions.specs.Moduli.{IsFieldModulus};
 ghost use Rattle.matrix_models.specs.Systems.{IsEquation, IsSystem, AreValues};
 
 use crate::texts::same;
+use adjoint_rules::is_field_modulus;
 use lists::Listing;
 use matrix_models::{LinearRow, System, solve};
 use std::alloc::{AllocError, Global};
@@ -57,7 +57,7 @@ fn are_equations(modulus: u32, unknowns: u32, rows: &[LinearRow]) -> bool
 fn is_system(system: &System) -> bool
     ensures { IsTrue result → IsSystem system.now }
 {
-    is_field_modulus(system.modulus)
+    is_field_modulus(u128::from(system.modulus))
         && are_equations(system.modulus, system.unknowns, system.rows.as_slice())
 }
 

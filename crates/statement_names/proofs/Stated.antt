@@ -15,6 +15,7 @@ use Rattle.statement_syntax.specs.declared.tree.Statement.{Statement}
 use Rattle.statement_syntax.specs.declared.tree.StatementKind.{StatementKind}
 use Rattle.statement_syntax.specs.declared.tree.StatementKind.TheVariants as statement
 use Rattle.adjoint_rules.specs.Limits.{shape_side_limit}
+use Rattle.word_orders.specs.Limits.{weight_limit}
 use Rattle.statement_names.specs.declared.kinds.Kind.{Kind}
 use Rattle.statement_names.specs.declared.kinds.Kind.TheVariants.{Object, Map}
 use Rattle.statement_names.specs.Faults.{kind_in, is_kind, is_among, is_between, value_of, declared_in, name_fault_of}
@@ -114,20 +115,20 @@ module _ (statements : List Statement) (clean : name_fault_of statements ≡ Non
 
   module _ (i : ℕ) (s : Statement) (below : i < length statements) (at : s ≡ get_or statements i s) where
     -- the weights of an order
-    pub weights_are : (pairs : List (Name × Number)) → s.kind ≡ statement.Weight pairs → Each (IsPair (kind_in (declared_in (occurrences_of statements))) Map 1000) pairs
-    weights_are pairs is = pairs_are kind Map 1000 [] pairs (kind_good i s (statement.Weight pairs) below at is).1
+    pub weights_are : (pairs : List (Name × Number)) → s.kind ≡ statement.Weight pairs → Each (IsPair (kind_in (declared_in (occurrences_of statements))) Map weight_limit) pairs
+    weights_are pairs is = pairs_are kind Map weight_limit [] pairs (kind_good i s (statement.Weight pairs) below at is).1
 
     pub weights_named : (pairs : List (Name × Number)) → s.kind ≡ statement.Weight pairs → All (λ p. IsTrue (is_map (named_in (declarations_of statements) p.0.text))) pairs
     weights_named pairs is =
         Each-at (λ p. IsTrue (is_map (named_in (declarations_of statements) p.0.text))) pairs
-        (Each-weaker (IsPair kind Map 1000) (λ p. IsTrue (is_map (named_in (declarations_of statements) p.0.text))) pairs (λ p pair. map_named statements clean p.0.text pair.of_kind) (weights_are pairs is))
+        (Each-weaker (IsPair kind Map weight_limit) (λ p. IsTrue (is_map (named_in (declarations_of statements) p.0.text))) pairs (λ p pair. map_named statements clean p.0.text pair.of_kind) (weights_are pairs is))
 
-    pub weights_small : (pairs : List (Name × Number)) → s.kind ≡ statement.Weight pairs → All (λ p. value_of p.1.value ≤ 1000) pairs
+    pub weights_small : (pairs : List (Name × Number)) → s.kind ≡ statement.Weight pairs → All (λ p. value_of p.1.value ≤ weight_limit) pairs
     weights_small pairs is =
-        Each-at (λ p. value_of p.1.value ≤ 1000) pairs (Each-weaker (IsPair kind Map 1000) (λ p. value_of p.1.value ≤ 1000) pairs (λ p pair. pair.most_) (weights_are pairs is))
+        Each-at (λ p. value_of p.1.value ≤ weight_limit) pairs (Each-weaker (IsPair kind Map weight_limit) (λ p. value_of p.1.value ≤ weight_limit) pairs (λ p pair. pair.most_) (weights_are pairs is))
 
     pub weights_once : (pairs : List (Name × Number)) → s.kind ≡ statement.Weight pairs → Once pairs
-    weights_once pairs is = pairs_apart kind Map 1000 [] pairs (kind_good i s (statement.Weight pairs) below at is).1
+    weights_once pairs is = pairs_apart kind Map weight_limit [] pairs (kind_good i s (statement.Weight pairs) below at is).1
 
     -- the modulus and the sides of a shape
     pub modulus_is : (m : Number) (sides : List (Name × Number)) → s.kind ≡ statement.Shape m sides → is_field_modulus (value_of m.value) ≡ true
