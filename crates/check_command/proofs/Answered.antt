@@ -109,7 +109,8 @@ says_checked {s} laws sound with_lemmas statement evidence ending answers = reco
 
 -- ---- what is owed
 
-pub check_owes : (statement evidence : List ℕ) → OwesEnding (AnswersCheck statement evidence) (λ Object Arrow s ending. SaysChecked s statement evidence ending.report)
+pub check_owes : (statement evidence : List ℕ)
+    → OwesEnding (AnswersCheck statement evidence) (λ Object Arrow s ending. SaysChecked s statement evidence ending.report)
 check_owes statement evidence = owed_over statement (AnswersEvidence evidence) (λ Object Arrow s ending. SaysChecked s statement evidence ending.report)
     (record {
       one = λ problem. text_answered (certificates_are_judged problem evidence);

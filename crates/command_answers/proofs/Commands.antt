@@ -26,7 +26,8 @@ use Rattle.command_answers.specs.Says.{SaysOver, Says}
 use Rattle.check_command.specs.Laws.{AnswersOnce, EachCallHasAnEnding}
 
 -- one line a command
-call_owes : (call : Call) (statement evidence : List ℕ) → OwesEnding (OverStatement statement (AnswersOver call evidence)) (λ Object Arrow s ending. SaysOver s call statement evidence ending)
+call_owes : (call : Call) (statement evidence : List ℕ)
+    → OwesEnding (OverStatement statement (AnswersOver call evidence)) (λ Object Arrow s ending. SaysOver s call statement evidence ending)
 call_owes (Prove p) statement evidence = claims_owe report_of (asked_by p) statement
 call_owes (Check p) statement evidence = check_owes statement evidence
 call_owes (Refute p) statement evidence = search_owes p.seed statement
@@ -55,11 +56,13 @@ each_call_has_an_ending call contents as_many = let one = (owed call contents).o
 -- ---- contents within their limits
 
 -- there are as many as files
-pub are_contents : (call : Call) (contents : List (List ℕ)) → AllZip (λ file bytes. length bytes ≤ file.limit) (files_of call) contents → AreContents call contents
+pub are_contents : (call : Call) (contents : List (List ℕ))
+    → AllZip (λ file bytes. length bytes ≤ file.limit) (files_of call) contents → AreContents call contents
 are_contents call contents fit = sym (AllZip-long (λ file bytes. length bytes ≤ file.limit) (files_of call) contents fit)
 
 -- what is answered over the statement and the text of evidence
-pub answered : (call : Call) (contents : List (List ℕ)) (statement evidence : List ℕ) (result : Result Ending Stop) → AreContents call contents → statement_of call contents ≡ statement → evidence_of contents ≡ evidence
+pub answered : (call : Call) (contents : List (List ℕ)) (statement evidence : List ℕ) (result : Result Ending Stop)
+    → AreContents call contents → statement_of call contents ≡ statement → evidence_of contents ≡ evidence
     → EndsAs (OverStatement statement (AnswersOver call evidence)) result → EndsAs (Answers call contents) result
 answered call contents statement evidence result as_many same_statement same_evidence ends =
     ends_weaker (OverStatement statement (AnswersOver call evidence)) (Answers call contents)
