@@ -14,7 +14,7 @@ use adjoint_rules::Problem;
 use certificate_text::{CertFault, put, put_integer, read_evidence};
 use cofactor_checker::{Accepted, check_evidence};
 use cofactor_trace::Evidence;
-use command_shape::{Block, Ending, Judged, Stop, judge_blocks, put_labelled, refused_evidence};
+use command_shape::{Ending, Judge, Judged, Stop, judge_blocks, put_labelled, refused_evidence};
 use lists::Listing;
 use quiver::Quiver;
 use std::alloc::{AllocError, Global};
@@ -25,7 +25,7 @@ pub fn judge_evidence(alloc: Global, problem: &Problem, evidence: &[u8]) -> Resu
     ensures { EndsAs (AnswersEvidence evidence.now problem.now) result }
 {
     let certificates = certificates_of(alloc, evidence, &problem.parts.quiver)?;
-    judge_blocks(alloc, problem, certificates.as_slice())
+    judge_blocks(alloc, &CertificateChecker, problem, certificates.as_slice())
 }
 
 // The certificates of the text, or the ending that tells its first fault.
@@ -49,15 +49,25 @@ fn certificates_of(
     }
 }
 
-impl Block for Evidence {
+// The tests of certificates.
+struct CertificateChecker;
+
+impl Judge for CertificateChecker {
+    type Block = Evidence;
+
     ghost can_judge = { λ problem e. IsCheckableEvidence problem.parts.quiver e };
 
     ghost accepts = { AcceptsCertificate };
 
     ghost refuses = { RefusesCertificate };
 
-    fn judge(&self, alloc: Global, problem: &Problem) -> Result<Judged, AllocError> {
-        match check_evidence(alloc, problem, self) {
+    fn judge(
+        &self,
+        alloc: Global,
+        problem: &Problem,
+        block: &Evidence,
+    ) -> Result<Judged, AllocError> {
+        match check_evidence(alloc, problem, block) {
             Ok(accepted) => Ok(Judged::Accepted(claim_text(alloc, &accepted)?)),
             Err(refusal) => {
                 let cause = cause_text(alloc, &problem.parts.quiver, &refusal)?;
