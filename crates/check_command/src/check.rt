@@ -50,6 +50,7 @@ fn certificates_of(
 }
 
 // The tests of certificates.
+#[derive(Clone, Copy)]
 struct CertificateChecker;
 
 impl Judge for CertificateChecker {

@@ -45,6 +45,7 @@ fn models_of(alloc: Global, text: &[u8], quiver: &Quiver) -> Result<Listing<Mode
 }
 
 // The tests of models.
+#[derive(Clone, Copy)]
 struct ModelChecker;
 
 impl Judge for ModelChecker {
