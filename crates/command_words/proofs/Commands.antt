@@ -5,7 +5,8 @@ use Rattle.clap.specs.Simple.{App, subcommand_of}
 use Rattle.clap.specs.Faults.{check_fault, turn_fault, walk_fault}
 use Rattle.clap.proofs.OnLiterals.{clap_on_literals}
 use Rattle.clap.specs.declared.builder.value_parser.ValueParser.TheVariants as parser
-use Rattle.command_words.specs.Limits.{size_limit, default_pairs_word, default_steps_word, default_workers_word, default_seed_word, default_format_word, default_pairs, default_steps}
+use Rattle.command_words.specs.Limits.{size_limit}
+use Rattle.command_words.specs.Limits.{default_pairs_word, default_steps_word, default_workers_word, default_seed_word, default_format_word, default_pairs, default_steps}
 use Rattle.command_words.specs.CommandSet.{command_set, IsTaken, prove_command, refute_command, bench_command, pair_command}
 use Rattle.command_words.specs.Accepted.{IsFileWord}
 use Rattle.command_words.specs.Calls.{GivesPair, MatchesGive, Names, NamesProve, NamesRefute, NamesBench, NamesPair, prove_spans, refute_spans, bench_spans}

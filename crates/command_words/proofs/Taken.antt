@@ -24,7 +24,8 @@ use Rattle.clap.specs.declared.builder.value_parser.ValueParser.TheVariants as p
 use Rattle.clap.specs.declared.builder.value_parser.Reading.{Reading}
 use Rattle.clap.specs.declared.builder.value_parser.Reading.TheVariants.{AsWritten}
 use Rattle.in_order_parallel.specs.Limits.{worker_limit}
-use Rattle.command_words.specs.Limits.{pair_limit, step_limit, seed_limit, format_limit, size_limit, default_pairs_word, default_steps_word, default_workers_word, default_seed_word, default_format_word}
+use Rattle.command_words.specs.Limits.{pair_limit, step_limit, seed_limit, format_limit, size_limit}
+use Rattle.command_words.specs.Limits.{default_pairs_word, default_steps_word, default_workers_word, default_seed_word, default_format_word}
 use Rattle.command_words.specs.CommandSet.{command_set, IsTaken, prove_command, refute_command, bench_command, pair_command, number_option, flag_option}
 use Rattle.command_words.specs.Present.{HasText, HasNumber, HasFlag, HasProve, HasRefute, HasBench, HasPair, HasCommand, MatchesHave}
 use Rattle.command_words.proofs.Found.{found}

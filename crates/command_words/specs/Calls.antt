@@ -4,7 +4,8 @@ use Rattle.std.specs.Str.{bytes_eq}
 use Rattle.std.specs.Str.Parse.{digits_value, without_leading_plus}
 use Rattle.clap.specs.Words.{Row, Text, first_of, one_of}
 use Rattle.in_order_parallel.specs.Limits.{worker_limit}
-use Rattle.command_words.specs.Limits.{pair_limit, step_limit, seed_limit, format_limit, size_limit, default_pairs, default_steps, default_workers, default_seed, default_format}
+use Rattle.command_words.specs.Limits.{pair_limit, step_limit, seed_limit, format_limit, size_limit}
+use Rattle.command_words.specs.Limits.{default_pairs, default_steps, default_workers, default_seed, default_format}
 use Rattle.command_words.specs.Accepted.{Given, given_words, IsFileWord, Span, AreOptions, option_of, number_or, is_flag}
 use Rattle.command_words.specs.declared.call.Call.{Call}
 use Rattle.command_words.specs.declared.call.Call.TheVariants.{Prove, Check, Refute, Model, Bench}
@@ -62,7 +63,9 @@ abbrev pub IsWithin : ℕ → ℕ → ℕ → Type 0
 IsWithin least most n = (least ≤ n) × (n ≤ most)
 
 abbrev pub IsInRange : Call → Type 0
-IsInRange (Prove p) = IsWithin 1 pair_limit p.pairs × IsWithin 1 step_limit p.steps × IsWithin 1 worker_limit p.workers × IsWithin 0 seed_limit p.seed × IsWithin 1 format_limit p.format
+IsInRange (Prove p) =
+    IsWithin 1 pair_limit p.pairs × IsWithin 1 step_limit p.steps × IsWithin 1 worker_limit p.workers × IsWithin 0 seed_limit p.seed
+    × IsWithin 1 format_limit p.format
 IsInRange (Refute r) = IsWithin 1 worker_limit r.workers × IsWithin 0 seed_limit r.seed
 IsInRange (Bench b) = IsWithin 1 size_limit b.size × IsWithin 1 worker_limit b.workers
 IsInRange (Check p) = ⊤

@@ -4,7 +4,8 @@ use Rattle.clap.specs.Words.{App, Rule, Text, new_app, new_rule, with_rule, with
 use Rattle.clap.specs.declared.builder.ArgAction.TheVariants.{Set, SetTrue}
 use Rattle.clap.specs.declared.builder.value_parser.ValueParser.TheVariants as parser
 use Rattle.in_order_parallel.specs.Limits.{worker_limit}
-use Rattle.command_words.specs.Limits.{pair_limit, step_limit, seed_limit, format_limit, size_limit, default_pairs_word, default_steps_word, default_workers_word, default_seed_word, default_format_word}
+use Rattle.command_words.specs.Limits.{pair_limit, step_limit, seed_limit, format_limit, size_limit}
+use Rattle.command_words.specs.Limits.{default_pairs_word, default_steps_word, default_workers_word, default_seed_word, default_format_word}
 
 -- a word that has to be given, by its place
 abbrev pub required_word : Text → Rule

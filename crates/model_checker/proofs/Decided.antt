@@ -56,7 +56,8 @@ matrix_decided a b =
     (both_decided (cases_eq a.modulus b.modulus) (both_decided (cases_eq a.rows b.rows) (both_decided (cases_eq a.columns b.columns) (list_decided a.entries b.entries))))
 
 side_decided : (n : ℕ) → IsDecided (IsSide n)
-side_decided n = decided_by (λ h. record { positive = h.0; at_most = h.1 }) (λ side. (side.positive, side.at_most)) (both_decided (le_decided 1 n) (le_decided n side_limit))
+side_decided n =
+    decided_by (λ h. record { positive = h.0; at_most = h.1 }) (λ side. (side.positive, side.at_most)) (both_decided (le_decided 1 n) (le_decided n side_limit))
 
 -- entries below the modulus, with their number and the sides
 pub is_matrix_decided : (m : ℕ) (a : Matrix) → IsDecided (IsMatrix m a)
@@ -67,7 +68,8 @@ is_matrix_decided m a =
     (both_decided modulus (both_decided (cases_eq a.modulus m) (both_decided shape (all_decided (λ entry. entry < m) (λ entry. lt_decided entry m) a.entries))))
   where
     modulus : IsDecided (IsModulus m)
-    modulus = decided_by (λ h. record { at_least = h.0; at_most = h.1 }) (λ is. (is.at_least, is.at_most)) (both_decided (le_decided 2 m) (le_decided m modulus_limit))
+    modulus =
+        decided_by (λ h. record { at_least = h.0; at_most = h.1 }) (λ is. (is.at_least, is.at_most)) (both_decided (le_decided 2 m) (le_decided m modulus_limit))
 
     shape : IsDecided (HasShape a.rows a.columns (length a.entries))
     shape =

@@ -35,7 +35,12 @@ asked_by p = record { budget = record { pairs = p.pairs; steps = p.steps }; form
 
 -- what `bench` asks for: what `prove` does where no option is given but `--no-models`
 abbrev pub asked_by_bench : Asked
-asked_by_bench = record { budget = record { pairs = default_pairs; steps = default_steps }; form = format_of default_format; seed = default_seed; models = false }
+asked_by_bench = record {
+  budget = record { pairs = default_pairs; steps = default_steps };
+  form = format_of default_format;
+  seed = default_seed;
+  models = false;
+}
 
 -- ---- verdicts
 

@@ -6,6 +6,7 @@ use Rattle.std.specs.Str.{bytes_eq}
 use Rattle.std.proofs.lemmas.List.{length-replicate}
 use Rattle.std.proofs.lemmas.List.FromFn.{length-map-range_with_len}
 use Rattle.quiver.specs.Declarations.{Declaration, object_count, object_name}
+use Rattle.adjoint_rules.specs.Limits.{shape_limit}
 use Rattle.adjoint_rules.specs.Problem.{IsShape, IsSide}
 use Rattle.adjoint_rules.specs.declared.parts.Shape.{Shape}
 use Rattle.statement_tokens.specs.declared.place.Spot.{Spot}
@@ -83,10 +84,10 @@ module _ (statements : List Statement) (clean : name_fault_of statements ≡ Non
   -- what holds of the shapes that are given and of the default ones
   pub record AreShapes (shapes : List Shape) : Type 0 where
     pub some : 1 ≤ length shapes
-    pub few : length shapes ≤ 16
+    pub few : length shapes ≤ shape_limit
     pub each_shape : All (IsShape (object_count (declarations_of statements))) shapes
 
-  or_default : (given : List Shape) → Each (IsShape (object_count all)) given → length given ≤ 16 → AreShapes (or_shapes given (default_shapes all))
+  or_default : (given : List Shape) → Each (IsShape (object_count all)) given → length given ≤ shape_limit → AreShapes (or_shapes given (default_shapes all))
   or_default [] good few =
       record {
         some = omega arith;
@@ -98,4 +99,4 @@ module _ (statements : List Statement) (clean : name_fault_of statements ≡ Non
   pub shapes_sound : AreShapes (shapes_of (declarations_of statements) statements)
   shapes_sound =
       or_default (flat_map (λ s. shapes_in all s.kind) statements) file_shapes
-      (subst (λ n. n ≤ 16) (sym (length-shapes all statements)) (few_shapes kind (occurrences_of statements) clean))
+      (subst (λ n. n ≤ shape_limit) (sym (length-shapes all statements)) (few_shapes kind (occurrences_of statements) clean))

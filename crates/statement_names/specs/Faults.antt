@@ -13,8 +13,9 @@ use Rattle.statement_names.specs.declared.fault.NameStop.TheVariants as stop
 use Rattle.statement_names.specs.declared.kinds.Kind.{Kind}
 use Rattle.statement_names.specs.declared.kinds.Kind.TheVariants.{Object, Map}
 use Rattle.statement_names.specs.Occurrences.{Occurrence, declares_object, declares_map, uses, lists, counts, modulus, begins_order, begins_assumptions, begins_claim, begins_shape, occurrences_of}
-use Rattle.quiver.specs.Limits.{object_limit, map_limit}
+use Rattle.quiver.specs.Limits.{object_limit}
 use Rattle.adjoint_rules.specs.Limits.{assumption_limit, claim_limit, shape_limit}
+use Rattle.statement_names.specs.Limits.{file_map_limit}
 
 -- ---- what occurrences declare, and how much they begin
 
@@ -86,7 +87,7 @@ fault_behind kind before (declares_object name) =
     else None
 fault_behind kind before (declares_map name source target selfmade) =
     if is_some (kind_in (declared_in before) name.text) then Some (Double name.at)
-    else if nat_lt map_limit (sum_by maps_by before + 1) then Some (TooMany name.at map_limit)
+    else if nat_lt file_map_limit (sum_by maps_by before + 1) then Some (TooMany name.at file_map_limit)
     else if selfmade && are_two_objects kind source target then Some (NotSquare name.at)
     else None
 fault_behind kind before (uses u) =

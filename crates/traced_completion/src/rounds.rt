@@ -21,7 +21,6 @@ ghost use Rattle.traced_completion.specs.Completions.{IsGivingUp, state_of};
 use crate::first_reductions::reduce_all;
 use crate::generators::reduce_generators;
 use crate::passes::treat_all;
-use crate::units::count_units;
 use crate::{Completion, Step, Waiting};
 use adjoint_rules::Problem;
 use ambiguities::Ambiguity;
@@ -81,13 +80,12 @@ impl Completion {
             (recorded (state_of self.old)))) }
         ensures waiting_back { OnErr result (self.new.waiting ≡ self.old.waiting) }
     {
-        let units = count_units(problem);
         let generators = problem.generators.as_slice();
         match reduce_generators(
             &mut self.rules,
             &mut self.made,
             generators,
-            units,
+            problem.unit_count,
             self.budget.steps,
         ) {
             Ok(()) => {}

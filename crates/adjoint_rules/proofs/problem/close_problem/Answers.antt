@@ -18,10 +18,11 @@ closed c =
     subst (λ gs. AllZip SamePolynomial (polynomials gs) ps) (sym c.in_ok-generators.ensures.same) (each_same ps) in
     let whole : AllZip SamePolynomial (adjoint ++ units_in p) ((ps ++ adjoints_in p) ++ units_in p) =
     AllZip-append SamePolynomial adjoint (units_in p) (ps ++ adjoints_in p) (units_in p) (c.in_ok-push_adjoints.ensures ps start) (each_same (units_in p)) in
-    record {
-      same = subst (λ gs. AllZip SamePolynomial gs (generators_in p)) (sym c.in_ok-push_all_units.ensures) (subst (AllZip SamePolynomial (adjoint ++ units_in p)) (append_assoc ps (adjoints_in p) (units_in p)) whole);
-    }
+    let in_order : AllZip SamePolynomial (adjoint ++ units_in p) (generators_in p) =
+    subst (AllZip SamePolynomial (adjoint ++ units_in p)) (append_assoc ps (adjoints_in p) (units_in p)) whole in
+    record { same = subst (λ gs. AllZip SamePolynomial gs (generators_in p)) (sym c.in_ok-push_all_units.ensures) in_order }
 
+-- the relations of identities are what is appended last
 longer : (c : After-len) → length c.push_all_units.new.generators ≡ length c.push_adjoints.new.generators + length (units_in c.args.parts)
 longer c =
     omega (
@@ -34,4 +35,9 @@ longer c =
 
 pub invariant_of-result : goal.invariant_of-result
 invariant_of-result c =
-    record { posed = c.requires; closed = closed c; few = few_closed c.args.parts c.push_all_units.new.generators c.requires (closed c); counted = omega (arith, longer c, c.len-others.ensures, c.len.ensures) }
+    record {
+      posed = c.requires;
+      closed = closed c;
+      few = few_closed c.args.parts c.push_all_units.new.generators c.requires (closed c);
+      counted = omega (arith, longer c, c.len-others.ensures, c.len.ensures);
+    }
