@@ -57,12 +57,7 @@ impl Judge for ModelChecker {
 
     ghost refuses = { RefusesModelBlock };
 
-    fn judge(
-        &self,
-        alloc: Global,
-        problem: &Problem,
-        block: &Model,
-    ) -> Result<Judged, AllocError> {
+    fn judge(&self, alloc: Global, problem: &Problem, block: &Model) -> Result<Judged, AllocError> {
         match confirm_model(alloc, problem, block) {
             Ok(()) => Ok(Judged::Accepted(confirmed_text(alloc, block.claim)?)),
             Err(refusal) => {
