@@ -11,10 +11,12 @@ ghost use Rattle.command_shape.specs.Stop.{StopsBy, EndsAs};
 
 use crate::refusal::cause_text;
 use adjoint_rules::Problem;
-use certificate_text::{CertFault, put, put_integer, read_evidence};
+use certificate_text::{CertFault, read_evidence};
 use cofactor_checker::{Accepted, check_evidence};
 use cofactor_trace::Evidence;
-use command_shape::{Ending, Judge, Judged, Stop, judge_blocks, put_labelled, refused_evidence};
+use command_shape::{
+    Ending, Judge, Judged, Stop, judge_blocks, put_labelled, put_signed, refused_evidence,
+};
 use lists::Listing;
 use quiver::Quiver;
 use std::alloc::{AllocError, Global};
@@ -91,6 +93,5 @@ fn put_claim(out: &mut Vec<u8>, accepted: &Accepted) -> Result<(), AllocError>
     ensures { OnOk result (out.new.items ≡ out.old.items ++ claim_text accepted.now.claim accepted.now.denominator) }
 {
     put_labelled(out, "accepted claim ", u128::from(accepted.claim))?;
-    put(out, " denominator ")?;
-    put_integer(out, accepted.denominator)
+    put_signed(out, " denominator ", accepted.denominator)
 }

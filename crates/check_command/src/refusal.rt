@@ -11,7 +11,7 @@ ghost use Rattle.check_command.specs.Refusals.{operation_text, cause_text};
 use certificate_text::{put, put_integer, put_word};
 use coef_int::Overflow;
 use cofactor_checker::{KEPT_LIMIT, Refusal, SUM_LIMIT};
-use command_shape::put_labelled;
+use command_shape::{put_labelled, put_signed};
 use quiver::Quiver;
 use std::alloc::{AllocError, Global};
 use word_core::Word;
@@ -64,17 +64,19 @@ fn put_overflow(out: &mut Vec<u8>, row: u32, overflow: &Overflow) -> Result<(), 
     ensures { OnOk result (out.new.items ≡ out.old.items ++ (codes "C4 row " ++ (decimal row ++ (codes " " ++ (signed_decimal overflow.now.left ++ (operation_text overflow.now.product ++ signed_decimal overflow.now.right)))))) }
 {
     put_labelled(out, "C4 row ", u128::from(row))?;
-    put(out, " ")?;
-    put_integer(out, overflow.left)?;
-    put(
-        out,
-        if overflow.product {
-            " times "
-        } else {
-            " plus "
-        },
-    )?;
+    put_signed(out, " ", overflow.left)?;
+    put_operation(out, overflow.product)?;
     put_integer(out, overflow.right)
+}
+
+fn put_operation(out: &mut Vec<u8>, product: bool) -> Result<(), AllocError>
+    ensures { OnOk result (out.new.items ≡ out.old.items ++ operation_text product) }
+{
+    if product {
+        put(out, " times ")
+    } else {
+        put(out, " plus ")
+    }
 }
 
 fn put_difference(
@@ -89,10 +91,8 @@ fn put_difference(
 {
     put(out, "C6 word ")?;
     put_word(out, quiver, word)?;
-    put(out, " want ")?;
-    put_integer(out, want)?;
-    put(out, " got ")?;
-    put_integer(out, got)
+    put_signed(out, " want ", want)?;
+    put_signed(out, " got ", got)
 }
 
 fn put_indivisible(
@@ -108,6 +108,5 @@ fn put_indivisible(
     put_labelled(out, "C8 lemma ", u128::from(lemma))?;
     put(out, " word ")?;
     put_word(out, quiver, word)?;
-    put(out, " got ")?;
-    put_integer(out, got)
+    put_signed(out, " got ", got)
 }
