@@ -1,5 +1,5 @@
 -- What all commands owe.
-use Rattle.std.proofs.Common.{◌≡◌, ◌≤◌, ◌∙◌, ℕ, List, [], ◌∷◌, Result, length, sym, subst, arith}
+use Rattle.std.proofs.Common.{◌≡◌, ◌≤◌, ◌<◌, ℕ, zero, suc, List, [], ◌∷◌, Result, length, get_or, refl, sym, subst, arith}
 use Rattle.std.specs.List.{AllZip}
 use Rattle.std.proofs.lemmas.Slice.Zip.{AllZip-long}
 use Rattle.definitions.specs.Category.{Structure, PreadditiveLaws}
@@ -9,7 +9,8 @@ use Rattle.report_text.specs.Report.{report_of, heads_of}
 use Rattle.command_words.specs.declared.call.Call.{Call}
 use Rattle.command_words.specs.declared.call.Call.TheVariants.{Prove, Check, Refute, Model, Bench}
 use Rattle.command_shape.specs.declared.stop.Stop.{Stop}
-use Rattle.command_shape.specs.FileWords.{statement_limit, evidence_limit}
+use Rattle.command_shape.specs.declared.files.FileWord.{FileWord}
+use Rattle.command_shape.specs.FileWords.{statement_limit, evidence_limit, statement_file, pair_files}
 use Rattle.command_shape.specs.Ending.{Ending}
 use Rattle.command_shape.specs.Stop.{EndsAs}
 use Rattle.command_shape.specs.Statement.{OverStatement}
@@ -54,6 +55,48 @@ pub each_call_has_an_ending : EachCallHasAnEnding
 each_call_has_an_ending call contents as_many = let one = (owed call contents).one in (one.0, (as_many, one.1))
 
 -- ---- contents within their limits
+
+-- a statement and a text of evidence within their limits
+pub record AreShort (contents : List (List ℕ)) : Type 0 where
+  pub statement : length (get_or contents 0 []) ≤ statement_limit
+  pub evidence : length (get_or contents 1 []) ≤ evidence_limit
+
+abbrev AreWithin : List FileWord → List (List ℕ) → Type 0
+AreWithin files contents = AllZip (λ file bytes. length bytes ≤ file.limit) files contents
+
+none_short : (contents : List (List ℕ)) → AreWithin [] contents → AreShort contents
+none_short [] fit = record { statement = omega arith; evidence = omega arith }
+none_short (bytes ∷ contents) fit = absurd fit
+
+one_short : (name : List ℕ) (contents : List (List ℕ)) → AreWithin (statement_file name) contents → AreShort contents
+one_short name [] fit = absurd fit
+one_short name (statement ∷ []) fit = record { statement = fit.0; evidence = omega arith }
+one_short name (statement ∷ second ∷ more) fit = absurd fit.1
+
+two_short : (name other : List ℕ) (contents : List (List ℕ)) → AreWithin (pair_files name other) contents → AreShort contents
+two_short name other [] fit = absurd fit
+two_short name other (statement ∷ []) fit = absurd fit.1
+two_short name other (statement ∷ evidence ∷ []) fit = record { statement = fit.0; evidence = fit.1.0 }
+two_short name other (statement ∷ evidence ∷ third ∷ more) fit = absurd fit.1.1
+
+pub are_short : (call : Call) (contents : List (List ℕ)) → AreWithin (files_of call) contents → AreShort contents
+are_short (Prove p) contents fit = one_short p.file contents fit
+are_short (Check p) contents fit = two_short p.statement p.evidence contents fit
+are_short (Refute p) contents fit = one_short p.file contents fit
+are_short (Model p) contents fit = two_short p.statement p.evidence contents fit
+are_short (Bench b) contents fit = none_short contents fit
+
+-- an item that is there needs no other in its place
+pub other_default : {Item : Type 0} (xs : List Item) (place : ℕ) (one other : Item) → place < length xs → get_or xs place one ≡ get_or xs place other
+other_default [] place one other inside = absurd (omega arith)
+other_default (x ∷ xs) zero one other inside = refl
+other_default (x ∷ xs) (suc place) one other inside = other_default xs place one other (omega arith)
+
+-- one that isn't there is what stands in its place
+pub no_item : {Item : Type 0} (xs : List Item) (place : ℕ) (other : Item) → length xs ≤ place → get_or xs place other ≡ other
+no_item [] place other past = refl
+no_item (x ∷ xs) zero other past = absurd (omega arith)
+no_item (x ∷ xs) (suc place) other past = no_item xs place other (omega arith)
 
 -- there are as many as files
 pub are_contents : (call : Call) (contents : List (List ℕ))

@@ -1,6 +1,6 @@
 use Rattle.std.proofs.Common.{[], rules}
 use Rattle.command_shape.specs.Judged.{Puts}
-use Rattle.command_shape.proofs.Owed.{told_alone}
+use Rattle.command_shape.proofs.Told.{told_alone}
 use Rattle.check_command.specs.Refusals.{cause_text}
 use Rattle.check_command.proofs.refusal.cause_text.Goals as goal
 
