@@ -17,11 +17,7 @@ use std::alloc::{AllocError, Global};
 use word_core::Word;
 
 /// Why a certificate is refused. Want of memory has no text.
-pub fn cause_text(
-    alloc: Global,
-    quiver: &Quiver,
-    refusal: &Refusal,
-) -> Result<Vec<u8>, AllocError>
+pub fn cause_text(alloc: Global, quiver: &Quiver, refusal: &Refusal) -> Result<Vec<u8>, AllocError>
     requires { HasLetters quiver.now refusal.now }
     ensures { IfOk result (λ text. cause_text quiver.now refusal.now ≡ Some text.items) }
 {

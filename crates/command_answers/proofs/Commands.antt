@@ -109,6 +109,9 @@ pub answered : (call : Call) (contents : List (List ℕ)) (statement evidence : 
     → EndsAs (OverStatement statement (AnswersOver call evidence)) result → EndsAs (Answers call contents) result
 answered call contents statement evidence result as_many same_statement same_evidence ends =
     ends_weaker (OverStatement statement (AnswersOver call evidence)) (Answers call contents)
-    (λ ending over. (as_many, subst (λ (t : List ℕ). OverStatement t (AnswersOver call (evidence_of contents)) ending) (sym same_statement)
-      (subst (λ (e : List ℕ). OverStatement statement (AnswersOver call e) ending) (sym same_evidence) over)))
+    (λ ending over. (
+      as_many,
+      subst (λ (t : List ℕ). OverStatement t (AnswersOver call (evidence_of contents)) ending) (sym same_statement)
+          (subst (λ (e : List ℕ). OverStatement statement (AnswersOver call e) ending) (sym same_evidence) over),
+    ))
     result ends

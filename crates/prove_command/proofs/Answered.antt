@@ -135,4 +135,4 @@ claims_owe print asked statement = owed_over statement (AnswersClaims print aske
       own = λ problem ending answer. verdicts_status ending.status answer.verdicts (ap (λ (e : Ending). e.status) answer.says);
     })
     (λ Object Arrow s laws sound with_lemmas ending answers.
-      over_statement statement (AnswersClaims print asked) (PrintsMeant s print) ending (prints_meant laws sound with_lemmas print asked ending) answers)
+    over_statement statement (AnswersClaims print asked) (PrintsMeant s print) ending (prints_meant laws sound with_lemmas print asked ending) answers)

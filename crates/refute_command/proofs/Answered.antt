@@ -79,4 +79,4 @@ search_owes seed statement = owed_over statement (AnswersSearch seed) (λ Object
       own = λ problem ending answer. verdicts_status ending.status answer.verdicts (ap (λ (e : Ending). e.status) answer.says);
     })
     (λ Object Arrow s laws sound with_lemmas ending answers.
-      over_statement statement (AnswersSearch seed) PrintsSearched ending (search_meant seed ending) answers)
+    over_statement statement (AnswersSearch seed) PrintsSearched ending (search_meant seed ending) answers)
