@@ -3,21 +3,18 @@ use Rattle.std.proofs.Common.{◌≡◌, ℕ, List, ◌++◌, Some, get_or, code
 use Rattle.std.specs.List.{AllByRecursion}
 use Rattle.cofactor_trace.specs.declared.evidence.Evidence.{Evidence}
 use Rattle.cofactor_trace.specs.declared.evidence.Format.TheVariants as format
-use Rattle.cofactor_checker.specs.declared.Refusal.{Refusal}
-use Rattle.cofactor_checker.specs.declared.Refusal.TheVariants as certificate
-use Rattle.cofactor_checker.specs.Acceptance as plain
-use Rattle.evidence_checker.specs.declared.refusal.EvidenceRefusal.{EvidenceRefusal}
-use Rattle.evidence_checker.specs.declared.refusal.EvidenceRefusal.TheVariants as refusal
-use Rattle.evidence_checker.specs.Acceptance.{IsMemory}
-use Rattle.evidence_checker.proofs.Unique.{evidence_refusal_is_unique, accepted_evidence_is_not_refused}
-use Rattle.evidence_checker.proofs.Judged.{evidence_is_judged}
+use Rattle.cofactor_checker.specs.declared.refusal.Refusal.{Refusal}
+use Rattle.cofactor_checker.specs.declared.refusal.Refusal.TheVariants as refusal
+use Rattle.cofactor_checker.specs.Acceptance.{IsMemory}
+use Rattle.cofactor_checker.proofs.EvidenceUnique.{evidence_refusal_is_unique, accepted_evidence_is_not_refused}
+use Rattle.cofactor_checker.proofs.EvidenceJudged.{evidence_is_judged}
 use Rattle.quiver.specs.Declarations.{Declaration}
 use Rattle.adjoint_rules.specs.declared.problem.Problem.{Problem}
 use Rattle.adjoint_rules.specs.Problem.{polynomials}
 use Rattle.certificate_text.specs.Evidence.{IsEvidence, IsFirstFault}
 use Rattle.certificate_text.proofs.EachText.{each_text_is_read, evidence_is_unique, first_fault_is_unique, evidence_has_no_fault}
 use Rattle.command_answers.specs.Ending.{Ending}
-use Rattle.command_answers.specs.Refusals.{certificate_cause, cause_text}
+use Rattle.command_answers.specs.Refusals.{cause_text}
 use Rattle.command_answers.specs.Statement.{IsStated}
 use Rattle.command_answers.specs.Check.{IsAccepted, IsRefused, named_text, AnswersEvidence, AnswersCheck, accepted_lines}
 use Rattle.command_answers.proofs.BlockTexts.{IsKind, text_answered, text_answered_once, text_status, first_answered}
@@ -26,54 +23,14 @@ use Rattle.command_answers.proofs.Statements.{statement_ends, statement_once, st
 -- ---- the tests of certificates
 
 -- a refusal that has a line is no want of memory
-told_plainly : (ds : List Declaration) (r : Refusal) (cause : List ℕ) → certificate_cause ds r ≡ Some cause → plain.IsMemory r → ⊥
-told_plainly ds (certificate.Memory failed) cause is memory = absurd cc
-told_plainly ds certificate.NoSuchClaim cause is memory = memory
-told_plainly ds (certificate.NoSuchGenerator row) cause is memory = memory
-told_plainly ds certificate.ZeroDenominator cause is memory = memory
-told_plainly ds (certificate.Overflow row o) cause is memory = memory
-told_plainly ds (certificate.Size row) cause is memory = memory
-told_plainly ds (certificate.Differs word want got) cause is memory = memory
-
-told : (ds : List Declaration) (r : EvidenceRefusal) (cause : List ℕ) → cause_text ds r ≡ Some cause → IsMemory r → ⊥
-told ds (refusal.Certificate e) cause is memory = told_plainly ds e cause is memory
+told : (ds : List Declaration) (r : Refusal) (cause : List ℕ) → cause_text ds r ≡ Some cause → IsMemory r → ⊥
 told ds (refusal.Memory failed) cause is memory = absurd cc
-told ds refusal.NoSuchClaim cause is memory = memory
-told ds refusal.ZeroDenominator cause is memory = memory
-told ds (refusal.LooseScale lemma) cause is memory = memory
-told ds (refusal.Overflow row o) cause is memory = memory
-told ds (refusal.NoSuchGenerator row) cause is memory = memory
-told ds (refusal.NoSuchLemma row) cause is memory = memory
-told ds (refusal.Size row) cause is memory = memory
-told ds (refusal.NotDivisible lemma word got) cause is memory = memory
-told ds (refusal.LemmaSize lemma) cause is memory = memory
-told ds (refusal.Kept row) cause is memory = memory
-told ds (refusal.Differs word want got) cause is memory = memory
+told ds other cause is memory = memory
 
 -- a refusal that isn't want of memory has a text
-plain_text : (ds : List Declaration) (r : Refusal) → (plain.IsMemory r → ⊥) → (cause : List ℕ) × (certificate_cause ds r ≡ Some cause)
-plain_text ds certificate.NoSuchClaim h = (_, refl)
-plain_text ds (certificate.NoSuchGenerator row) h = (_, refl)
-plain_text ds certificate.ZeroDenominator h = (_, refl)
-plain_text ds (certificate.Overflow row o) h = (_, refl)
-plain_text ds (certificate.Size row) h = (_, refl)
-plain_text ds (certificate.Differs word want got) h = (_, refl)
-plain_text ds (certificate.Memory failed) h = absurd (h tt)
-
-refusal_text : (ds : List Declaration) (r : EvidenceRefusal) → (IsMemory r → ⊥) → (cause : List ℕ) × (cause_text ds r ≡ Some cause)
-refusal_text ds (refusal.Certificate e) h = plain_text ds e h
-refusal_text ds refusal.NoSuchClaim h = (_, refl)
-refusal_text ds refusal.ZeroDenominator h = (_, refl)
-refusal_text ds (refusal.LooseScale lemma) h = (_, refl)
-refusal_text ds (refusal.Overflow row o) h = (_, refl)
-refusal_text ds (refusal.NoSuchGenerator row) h = (_, refl)
-refusal_text ds (refusal.NoSuchLemma row) h = (_, refl)
-refusal_text ds (refusal.Size row) h = (_, refl)
-refusal_text ds (refusal.NotDivisible lemma word got) h = (_, refl)
-refusal_text ds (refusal.LemmaSize lemma) h = (_, refl)
-refusal_text ds (refusal.Kept row) h = (_, refl)
-refusal_text ds (refusal.Differs word want got) h = (_, refl)
+refusal_text : (ds : List Declaration) (r : Refusal) → (IsMemory r → ⊥) → (cause : List ℕ) × (cause_text ds r ≡ Some cause)
 refusal_text ds (refusal.Memory failed) h = absurd (h tt)
+refusal_text ds other h = (_, refl)
 
 -- no cause begins as the text of an accepted certificate
 other_text : (e : Evidence) (cause more : List ℕ) → codes "refused " ++ cause ≡ named_text e ++ more → ⊥

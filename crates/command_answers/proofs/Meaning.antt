@@ -14,8 +14,9 @@ use Rattle.cofactor_trace.specs.declared.evidence.Evidence.{Evidence}
 use Rattle.cofactor_trace.specs.declared.evidence.Evidence.TheVariants.{Plain, Lemmas}
 use Rattle.cofactor_trace.specs.Rows.{rows_of}
 use Rattle.cofactor_checker.specs.Rows.{IsNumberUpTo}
-use Rattle.evidence_checker.specs.Acceptance.{all_polynomials, ShowsClaim}
-use Rattle.evidence_checker.proofs.Shown.{accepted_evidence_adds_up}
+use Rattle.cofactor_checker.specs.LemmaAcceptance.{all_polynomials}
+use Rattle.cofactor_checker.specs.Evidence.{ShowsClaim}
+use Rattle.cofactor_checker.proofs.Shown.{accepted_evidence_adds_up}
 use Rattle.adjoint_rules.specs.declared.problem.Problem.{Problem}
 use Rattle.adjoint_rules.specs.Problem.{polynomials, numbers, generators_in}
 use Rattle.adjoint_rules.proofs.Generators.{posed_quiver, claims_have_signatures, marked_are_objects, generators_have_signatures, generators_are_zero, makes_zero}

@@ -4,56 +4,21 @@ ghost use Rattle.std.specs.Fmt.{signed_decimal};
 ghost use Rattle.quiver.specs.Declarations.{letter_count};
 ghost use Rattle.word_core.specs.Letters.{IsOver};
 ghost use Rattle.certificate_text.specs.Written.{word_text};
-ghost use Rattle.command_answers.specs.Letters.{HasCertificateLetters, HasLetters};
-ghost use Rattle.command_answers.specs.Refusals.{operation_text, certificate_cause, cause_text};
+ghost use Rattle.command_answers.specs.Letters.{HasLetters};
+ghost use Rattle.command_answers.specs.Refusals.{operation_text, cause_text};
 
 use certificate_text::write_word;
 use coef_int::Overflow;
 use cofactor_checker::Refusal;
-use evidence_checker::EvidenceRefusal;
 use itoa::Buffer;
 use quiver::Quiver;
 use std::alloc::{AllocError, Global};
 use word_core::Word;
 
 /// Why a block is refused. Want of memory has no text.
-pub fn cause_text(
-    alloc: Global,
-    quiver: &Quiver,
-    refusal: &EvidenceRefusal,
-) -> Result<Vec<u8>, AllocError>
+pub fn cause_text(alloc: Global, quiver: &Quiver, refusal: &Refusal) -> Result<Vec<u8>, AllocError>
     requires { HasLetters quiver.now refusal.now }
     ensures { IfOk result (λ text. cause_text quiver.now refusal.now ≡ Some text.items) }
-{
-    match refusal {
-        EvidenceRefusal::Certificate(refusal) => certificate_cause(alloc, quiver, refusal),
-        EvidenceRefusal::NoSuchClaim => b"C1".to_vec(alloc),
-        EvidenceRefusal::NoSuchGenerator { row } => numbered(alloc, "C2 row ", *row),
-        EvidenceRefusal::ZeroDenominator => b"C3".to_vec(alloc),
-        EvidenceRefusal::Overflow { row, overflow } => overflow_text(alloc, *row, overflow),
-        EvidenceRefusal::Size { row } => limited(alloc, "C5 row ", *row, " limit 200000"),
-        EvidenceRefusal::Differs { word, want, got } => {
-            difference_text(alloc, quiver, word, *want, *got)
-        }
-        EvidenceRefusal::NoSuchLemma { row } => numbered(alloc, "C7 row ", *row),
-        EvidenceRefusal::NotDivisible { lemma, word, got } => {
-            indivisible_text(alloc, quiver, *lemma, word, *got)
-        }
-        EvidenceRefusal::LemmaSize { lemma } => numbered(alloc, "C9 lemma ", *lemma),
-        EvidenceRefusal::LooseScale { lemma } => numbered(alloc, "C10 lemma ", *lemma),
-        EvidenceRefusal::Kept { row } => limited(alloc, "C11 row ", *row, " limit 1000000"),
-        EvidenceRefusal::Memory(_) => Err(AllocError),
-    }
-}
-
-// Why a certificate of rows over generators alone is refused.
-fn certificate_cause(
-    alloc: Global,
-    quiver: &Quiver,
-    refusal: &Refusal,
-) -> Result<Vec<u8>, AllocError>
-    requires { HasCertificateLetters quiver.now refusal.now }
-    ensures { IfOk result (λ text. certificate_cause quiver.now refusal.now ≡ Some text.items) }
 {
     match refusal {
         Refusal::NoSuchClaim => b"C1".to_vec(alloc),
@@ -62,6 +27,13 @@ fn certificate_cause(
         Refusal::Overflow { row, overflow } => overflow_text(alloc, *row, overflow),
         Refusal::Size { row } => limited(alloc, "C5 row ", *row, " limit 200000"),
         Refusal::Differs { word, want, got } => difference_text(alloc, quiver, word, *want, *got),
+        Refusal::NoSuchLemma { row } => numbered(alloc, "C7 row ", *row),
+        Refusal::NotDivisible { lemma, word, got } => {
+            indivisible_text(alloc, quiver, *lemma, word, *got)
+        }
+        Refusal::LemmaSize { lemma } => numbered(alloc, "C9 lemma ", *lemma),
+        Refusal::LooseScale { lemma } => numbered(alloc, "C10 lemma ", *lemma),
+        Refusal::Kept { row } => limited(alloc, "C11 row ", *row, " limit 1000000"),
         Refusal::Memory(_) => Err(AllocError),
     }
 }
