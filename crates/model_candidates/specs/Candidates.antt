@@ -13,6 +13,7 @@ use Rattle.adjoint_rules.specs.declared.parts.Shape.{Shape}
 use Rattle.adjoint_rules.specs.declared.problem.Problem.{Problem}
 use Rattle.adjoint_rules.specs.Problem.{polynomials}
 use Rattle.model_checker.specs.Models.{IsZeroIn, Refutes}
+use Rattle.model_candidates.specs.Limits.{exhaustive_limit, drawn_count}
 
 -- ---- entries
 

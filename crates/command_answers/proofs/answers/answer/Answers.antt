@@ -3,8 +3,8 @@ use Rattle.command_words.specs.Calls.{IsInRange}
 use Rattle.command_words.specs.declared.call.BenchCall.{BenchCall}
 use Rattle.command_words.specs.declared.call.Call.TheVariants.{Bench}
 use Rattle.report_text.specs.Bench.{bench_statement}
-use Rattle.command_answers.specs.FileWords.{statement_limit}
-use Rattle.command_answers.proofs.BenchSize.{bench_fits}
+use Rattle.command_shape.specs.FileWords.{statement_limit}
+use Rattle.prove_command.proofs.BenchSize.{bench_fits}
 use Rattle.command_answers.proofs.answers.answer.Goals as goal
 
 -- the statement of `bench` is within its limit
