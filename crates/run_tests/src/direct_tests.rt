@@ -1,7 +1,4 @@
 //! Library calls that no run makes: what becomes of one claim, one candidate of a shape, and one model as text.
-ghost use Rattle.std.specs.Prelude.{◌<◌, ◌≤◌};
-ghost use Rattle.in_order_parallel.specs.Limits.{worker_limit};
-
 use crate::calls::equal;
 use crate::round_tests::{budget_of, write_halt};
 use adjoint_rules::Problem;

@@ -52,7 +52,7 @@ fn push_identity(text: &mut String, side: u32) -> Result<(), AllocError> {
 
 // Appends a last line up to so many bytes.
 fn pad(text: &mut String, bytes: usize) -> Result<(), AllocError> {
-    while text.len() < bytes {
+    for _ in text.len()..bytes {
         text.push('#')?;
     }
     Ok(())
