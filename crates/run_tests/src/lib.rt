@@ -14,9 +14,15 @@ mod gate_tests;
 #[cfg(test)]
 mod lemma_rows;
 #[cfg(test)]
+mod limit_rows;
+#[cfg(test)]
+mod limit_tests;
+#[cfg(test)]
 mod model_rows;
 #[cfg(test)]
 mod round_tests;
+#[cfg(test)]
+mod steady_tests;
 #[cfg(test)]
 mod test_rows;
 #[cfg(test)]

@@ -49,8 +49,8 @@ fn answer_to<R: Threads + Sync>(
     answer_over(rt, alloc, &words, shelf, &mut sink)
 }
 
-// The same over a statement and a text of evidence.
-fn answer<R: Threads + Sync>(
+/// The same over a statement and a text of evidence.
+pub fn answer<R: Threads + Sync>(
     rt: &R,
     alloc: Global,
     words: &[&str],
@@ -62,8 +62,8 @@ fn answer<R: Threads + Sync>(
     answer_to(rt, alloc, words, &mut shelf, failing)
 }
 
-// Asserts that the words are answered so over the texts.
-fn tell<R: Threads + Sync + Abort>(
+/// Asserts that the words are answered so over the texts.
+pub fn tell<R: Threads + Sync + Abort>(
     rt: &R,
     alloc: Global,
     words: &[&str],
