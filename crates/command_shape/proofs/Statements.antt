@@ -61,8 +61,10 @@ stated_leads bytes next ending problem is (faulty text refused ends) = absurd (s
 stated_leads bytes next ending problem is (stated problem' is' leads) = subst (λ (p : Problem). next p ending) (stated_once bytes problem' problem is' is) leads
 
 -- 0 is answered over a problem of it
-pub over_problem : (statement : List ℕ) (next : Problem → Ending → Type 0) (ending : Ending) → OverStatement statement next ending → ending.status ≡ 0 → (problem : Problem) × IsStated statement problem × next problem ending
-over_problem statement next ending (faulty text refused ends) is_zero = let three = ap (λ (e : Ending). e.status) ends in absurd (omega (arith, is_zero))
+pub over_problem : (statement : List ℕ) (next : Problem → Ending → Type 0) (ending : Ending) → OverStatement statement next ending → ending.status ≡ 0
+    → (problem : Problem) × IsStated statement problem × next problem ending
+over_problem statement next ending (faulty text refused ends) is_zero =
+    let three = ap (λ (e : Ending). e.status) ends in absurd (omega (arith, is_zero))
 over_problem statement next ending (stated problem is leads) is_zero = (problem, is, leads)
 
 -- ---- it leads to an ending

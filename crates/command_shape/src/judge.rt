@@ -23,35 +23,44 @@ pub enum Judged {
     Refused(Vec<u8>),
 }
 
-/// A block of an evidence text, which is judged over the problem of a statement.
-pub trait Block {
-    /// Whether it can be judged.
-    ghost can_judge: { Posed → Self → Type 0 };
+/// What judges blocks of an evidence text, each over the problem of a statement.
+pub trait Judge {
+    /// What is judged.
+    type Block;
 
-    /// What accepting it says.
-    ghost accepts: { Posed → Self → List ℕ → Type 0 };
+    /// Which blocks can be judged.
+    ghost can_judge: { Posed → Self.Block → Type 0 };
 
-    /// For which cause it is refused.
-    ghost refuses: { Posed → Self → List ℕ → Type 0 };
+    /// What accepting a block says.
+    ghost accepts: { Posed → Self.Block → List ℕ → Type 0 };
 
-    /// Judges the block.
-    fn judge(&self, alloc: Global, problem: &Problem) -> Result<Judged, AllocError>
-        requires { can_judge problem.now self.now }
-        ensures { IfOk result (Tells (accepts problem.now self.now) (refuses problem.now self.now)) };
+    /// For which cause a block is refused.
+    ghost refuses: { Posed → Self.Block → List ℕ → Type 0 };
+
+    /// Judges a block.
+    fn judge(
+        &self,
+        alloc: Global,
+        problem: &Problem,
+        block: &Self::Block,
+    ) -> Result<Judged, AllocError>
+        requires { can_judge problem.now block.now }
+        ensures { IfOk result (Tells (accepts problem.now block.now) (refuses problem.now block.now)) };
 }
 
 /// How a run ends over a problem and blocks: a line on each block, up to the first that is refused.
-pub fn judge_blocks<B: Block>(
+pub fn judge_blocks<J: Judge>(
     alloc: Global,
+    judge: &J,
     problem: &Problem,
-    blocks: &[B],
+    blocks: &[J::Block],
 ) -> Result<Ending, Stop>
-    requires { All (B.can_judge problem.now) blocks.now }
-    ensures { EndsAs (Judges (B.accepts problem.now) (B.refuses problem.now) blocks.now) result }
+    requires { All (J.can_judge problem.now) blocks.now }
+    ensures { EndsAs (Judges (J.accepts problem.now) (J.refuses problem.now) blocks.now) result }
 {
     let mut report = Vec::new(alloc);
     for (place, block) in blocks.iter().enumerate() {
-        match block.judge(alloc, problem)? {
+        match judge.judge(alloc, problem, block)? {
             Judged::Accepted(text) => put_block(&mut report, place + 1, " ", &text)?,
             Judged::Refused(cause) => {
                 put_block(&mut report, place + 1, " refused ", &cause)?;

@@ -12,7 +12,7 @@ mod write;
 pub use ending::Ending;
 pub use fault::refused_evidence;
 pub use files::{FileWord, pair_files, statement_file};
-pub use judge::{Block, Judged, judge_blocks};
+pub use judge::{Judge, Judged, judge_blocks};
 pub use statement::read_statement;
 pub use stop::Stop;
 pub use write::put_labelled;

@@ -8,8 +8,8 @@ use Rattle.command_shape.proofs.judge.judge_blocks.Goals as goal
 -- a block is refused
 pub returns-in-Refused : goal.returns-in-Refused
 returns-in-Refused g c =
-    let accepts = g.B.Block.accepts c.args.problem.now in
-    let refuses = g.B.Block.refuses c.args.problem.now in
+    let accepts = g.J.Judge.accepts c.args.problem.now in
+    let refuses = g.J.Judge.refuses c.args.problem.now in
     let b = c.index-blocks-place.result in
     let cause : List ℕ = c.in-Refused.cause.items in
     let because : refuses b cause = subst (Tells (accepts b) (refuses b)) c.in-Refused.is c.in_ok-text.ensures in
@@ -19,8 +19,8 @@ returns-in-Refused g c =
 -- a block is accepted
 pub loop-place-preserved : goal.loop-place-preserved
 loop-place-preserved g c =
-    let accepts = g.B.Block.accepts c.args.problem.now in
-    let refuses = g.B.Block.refuses c.args.problem.now in
+    let accepts = g.J.Judge.accepts c.args.problem.now in
+    let refuses = g.J.Judge.refuses c.args.problem.now in
     let b = c.index-blocks-place.result in
     let before = c.loop-place.report.items in
     let next = c.loop-place.place + 1 in
@@ -33,5 +33,5 @@ loop-place-preserved g c =
 -- no block is left
 pub returns : goal.returns
 returns g c =
-    let judged = all_judged (g.B.Block.accepts c.args.problem.now) (g.B.Block.refuses c.args.problem.now) c.args.blocks.now c.loop-place.place c.loop-place.report.items (search rules) c.loop-place.invariant in
+    let judged = all_judged (g.J.Judge.accepts c.args.problem.now) (g.J.Judge.refuses c.args.problem.now) c.args.blocks.now c.loop-place.place c.loop-place.report.items (search rules) c.loop-place.invariant in
     search rules
