@@ -15,6 +15,7 @@ use Rattle.nc_polynomial.specs.declared.poly.Poly.{Poly}
 use Rattle.quiver.specs.Declarations.{object_count, quiver_of}
 use Rattle.quiver.proofs.Counts.{letters-quiver_of, few_letters}
 use Rattle.adjoint_rules.specs.declared.parts.Parts.{Parts}
+use Rattle.adjoint_rules.specs.Limits.{generator_limit}
 use Rattle.adjoint_rules.specs.Problem.{polynomials, numbers, IsPosed, IsClosed, generators_in}
 use Rattle.adjoint_rules.specs.Parts.{adjoints_in, units_in}
 
@@ -132,7 +133,7 @@ module _ (q : Quiver) (starred : Bool) where
       one true = omega arith
       one false = omega arith
 
-few_generators : (p : Parts) → IsPosed p → length (generators_in p) ≤ 1864
+few_generators : (p : Parts) → IsPosed p → length (generators_in p) ≤ generator_limit
 few_generators p posed =
     let q = quiver_of p.quiver in
     let ps = polynomials p.assumptions in
@@ -166,6 +167,17 @@ few_generators p posed =
     below_all [] h = tt
     below_all (w ∷ ws) h = (h.0, below_all ws h.1)
 
-pub few_closed : (p : Parts) (generators : List Poly) → IsPosed p → IsClosed p generators → length generators ≤ 1864
+pub few_closed : (p : Parts) (generators : List Poly) → IsPosed p → IsClosed p generators → length generators ≤ generator_limit
 few_closed p generators posed closed =
     omega (arith, few_generators p posed, length_all_zip SamePolynomial (polynomials generators) (generators_in p) closed.same, length-map generators (λ f. f.terms))
+
+-- the relations of identities are among the generators
+pub few_units_closed : (p : Parts) (generators : List Poly) → IsClosed p generators → length (units_in p) ≤ length generators
+few_units_closed p generators closed =
+    omega (
+      arith,
+      length-append (polynomials p.assumptions) (adjoints_in p ++ units_in p),
+      length-append (adjoints_in p) (units_in p),
+      length_all_zip SamePolynomial (polynomials generators) (generators_in p) closed.same,
+      length-map generators (λ f. f.terms),
+    )

@@ -1,5 +1,6 @@
 -- The limits of a statement.
-use Rattle.std.specs.Prelude.{ℕ}
+use Rattle.std.specs.Prelude.{ℕ, ◌+◌, ◌-◌, ◌*◌}
+use Rattle.quiver.specs.Limits.{object_limit, letter_limit}
 
 abbrev pub assumption_limit : ℕ
 assumption_limit = 500
@@ -9,3 +10,11 @@ claim_limit = 100
 
 abbrev pub shape_limit : ℕ
 shape_limit = 16
+
+-- An assumption has one adjoint at most. The relations of identities: one of each identity with itself, and two at most with each other letter.
+abbrev pub generator_limit : ℕ
+generator_limit = 2 * assumption_limit + (object_limit + 2 * (letter_limit - object_limit))
+
+-- the side of an object of a shape
+abbrev pub shape_side_limit : ℕ
+shape_side_limit = 6

@@ -4,6 +4,7 @@ use Rattle.std.specs.List.{All, AllZip, list_any}
 use Rattle.definitions.specs.Poly.{Term, SamePolynomial}
 use Rattle.definitions.specs.Quiver.{IsTyped, star}
 use Rattle.definitions.specs.Generators.{generators_of}
+use Rattle.definitions.specs.Moduli.{IsFieldModulus}
 use Rattle.word_core.specs.declared.letter.Object.{Object}
 use Rattle.word_core.specs.declared.letter.Letter.{Letter}
 use Rattle.word_orders.specs.Specified.{IsSound}
@@ -12,7 +13,7 @@ use Rattle.quiver.specs.declared.named.Sig.{Sig}
 use Rattle.quiver.specs.Declarations.{Declaration, object_count, letter_count, quiver_of, IsDeclared, ObjectsFirst}
 use Rattle.adjoint_rules.specs.declared.parts.Shape.{Shape}
 use Rattle.adjoint_rules.specs.declared.parts.Parts.{Parts}
-use Rattle.adjoint_rules.specs.Limits.{assumption_limit, claim_limit, shape_limit}
+use Rattle.adjoint_rules.specs.Limits.{assumption_limit, claim_limit, shape_limit, shape_side_limit}
 
 -- the lists of terms
 abbrev pub polynomials : List Poly → List (List Term)
@@ -50,18 +51,14 @@ pub record HasObjects (ds : List Declaration) (s : Sig) : Type 0 where
 abbrev pub IsTypedOf : List Declaration → Poly → Sig → Type 0
 IsTypedOf ds p s = IsTyped (quiver_of ds) s.source.0 s.target.0 p.terms
 
--- the moduli of shapes
-abbrev pub moduli : List ℕ
-moduli = 2 ∷ 3 ∷ 5 ∷ 7 ∷ 101 ∷ 32003 ∷ 65537 ∷ []
-
 -- the side of an object
 pub record IsSide (side : ℕ) : Type 0 where
   pub least : 1 ≤ side
-  pub most : side ≤ 6
+  pub most : side ≤ shape_side_limit
 
 -- a shape for this number of objects
 pub record IsShape (objects : ℕ) (s : Shape) : Type 0 where
-  pub modulus : IsTrue (list_any (nat_eq s.modulus) moduli)
+  pub modulus : IsFieldModulus s.modulus
   pub side_of_each : length s.sides ≡ objects
   pub sides : All IsSide s.sides
 

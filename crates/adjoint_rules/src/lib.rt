@@ -3,11 +3,15 @@
 
 mod adjoint;
 mod laws;
+mod limits;
 mod parts;
 mod problem;
+mod shapes;
 mod units;
 
 pub use adjoint::{adjoint_poly, adjoint_word};
 pub use laws::{adjoints_are_an_involution, generators_are_unique, problem_is_typed};
+pub use limits::{ASSUMPTION_LIMIT, CLAIM_LIMIT, SHAPE_LIMIT, SHAPE_SIDE_LIMIT};
 pub use parts::{Parts, Shape};
 pub use problem::{Problem, close_problem};
+pub use shapes::is_field_modulus;

@@ -1,6 +1,8 @@
 //! Problems: what a statement says, with its generators.
 
 ghost use Rattle.std.specs.Prelude.{◌≡◌, ◌≤◌, length, IfOk};
+ghost use Rattle.adjoint_rules.specs.Limits.{generator_limit};
+ghost use Rattle.adjoint_rules.specs.Parts.{units_in};
 ghost use Rattle.adjoint_rules.specs.Problem.{IsPosed, IsClosed};
 ghost use Rattle.adjoint_rules.specs.Props.{props};
 
@@ -19,9 +21,12 @@ pub struct Problem {
     pub parts: Parts,
     /// The generators, which the claims are to follow from. They are numbered from 1.
     pub generators: Listing<Poly>,
+    /// How many of them are relations of identities, which are the last ones.
+    pub unit_count: usize,
     pub ghost posed: { IsPosed parts } by { Prim.hlevel props },
     pub ghost closed: { IsClosed parts generators } by { Prim.hlevel props },
-    pub ghost few: { length generators ≤ 1864 },
+    pub ghost few: { length generators ≤ generator_limit },
+    pub ghost counted: { unit_count ≡ length (units_in parts) },
 }
 
 /// The problem of the parts.
@@ -29,19 +34,17 @@ pub fn close_problem(alloc: Global, parts: Parts) -> Result<Problem, AllocError>
     requires { IsPosed parts }
     ensures parts { IfOk result (λ problem. problem.parts ≡ parts) }
     ensures closed { IfOk result (λ problem. IsClosed problem.parts problem.generators) }
-    ensures few { IfOk result (λ problem. length problem.generators ≤ 1864) }
-{
-    let generators = closed_generators(alloc, &parts)?;
-    Ok(Problem { parts, generators })
-}
-
-// The generators of the problem of the parts.
-fn closed_generators(alloc: Global, parts: &Parts) -> Result<Listing<Poly>, AllocError>
-    requires { IsPosed parts.now }
-    ensures { IfOk result (IsClosed parts.now) }
+    ensures few { IfOk result (λ problem. length problem.generators ≤ generator_limit) }
+    ensures counted { IfOk result (λ problem. problem.unit_count ≡ length (units_in problem.parts)) }
 {
     let mut generators = parts.assumptions.duplicate()?;
-    push_adjoints(alloc, &mut generators, parts)?;
-    push_all_units(alloc, &mut generators, parts)?;
-    Ok(generators)
+    push_adjoints(alloc, &mut generators, &parts)?;
+    let others = generators.len();
+    push_all_units(alloc, &mut generators, &parts)?;
+    let unit_count = generators.len() - others;
+    Ok(Problem {
+        parts,
+        generators,
+        unit_count,
+    })
 }

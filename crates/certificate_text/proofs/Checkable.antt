@@ -21,6 +21,7 @@ use Rattle.cofactor_trace.specs.declared.evidence.Evidence.{Evidence}
 use Rattle.cofactor_trace.specs.declared.evidence.Evidence.TheVariants as block
 use Rattle.cofactor_trace.specs.declared.evidence.Format.{Format}
 use Rattle.cofactor_trace.specs.declared.evidence.Format.TheVariants as format
+use Rattle.cofactor_trace.specs.Limits.{row_limit}
 use Rattle.certificate_text.specs.declared.fault.Flaw.TheVariants.{BadLine, UnknownName, NumberTooLarge}
 use Rattle.certificate_text.specs.declared.place.Size.{Size}
 use Rattle.certificate_text.specs.declared.place.Opened.{Opened}
@@ -68,7 +69,7 @@ goal_scale_in_range line s read = bind_ok (asked BadLine (goal_digits line)) _ s
 
 -- the scale of a lemma, before which there was room for one more
 record IsLemmaScale (before : ℕ) (s : ℤ) : Type 0 where
-  room : before < 200000
+  room : before < row_limit
   scale : IsCoefficient s
 
 lemma_scale_in_range : (before : ℕ) (line : List (List ℕ)) (s : ℤ) → lemma_scale_of before line ≡ Ok s → IsLemmaScale before s
@@ -142,7 +143,7 @@ lemma_row_is_good ds line row read =
 -- one row more, within the limit
 record HasGrown (size next : Size) : Type 0 where
   more : next.rows ≡ size.rows + 1
-  few : next.rows ≤ 200000
+  few : next.rows ≤ row_limit
 
 has_grown : (size : Size) (left right : List ℕ) (next : Size) → grown size left right ≡ Ok next → HasGrown size next
 has_grown size left right next read =
@@ -182,8 +183,8 @@ rows_in-push lemmas l = ap length (flat_map-append (λ l. l.rows) lemmas (l ∷ 
 
 -- what was read of one, whose rows that are not those of its lemmas are as many as this
 record IsGoodOpened (ds : List Declaration) (o : Opened) (rows : ℕ) : Type 0 where
-  few_lemmas : length o.lemmas ≤ 200000
-  few_rows : o.size.rows ≤ 200000
+  few_lemmas : length o.lemmas ≤ row_limit
+  few_rows : o.size.rows ≤ row_limit
   counted : rows_in o.lemmas + rows ≡ o.size.rows
   denominator : IsCoefficient o.denominator
   lemmas : All (IsCheckableLemma ds) o.lemmas
@@ -196,7 +197,7 @@ record IsGoodAt (ds : List Declaration) (o : Opened) (l : Lemma) : Type 0 where
 -- the same of a lemma for which there is room
 record IsGoodLemma (ds : List Declaration) (o : Opened) (l : Lemma) : Type 0 where
   here : IsGoodAt ds o l
-  room : length o.lemmas < 200000
+  room : length o.lemmas < row_limit
 
 without_rows : (ds : List Declaration) (s : ℤ) → IsCoefficient s → IsCheckableLemma ds (lemma_of s [])
 without_rows ds s scale = record { scale = scale; coefficients = All-nil (λ r. IsCoefficient r.coef); letters = All-nil (IsLemmaRowOver ds) }
@@ -321,7 +322,7 @@ module _ (ds : List Declaration) (done : List Evidence) (good : All (IsCheckable
       (λ row row_read.
       bind_ok (lemma_row ds o l line) _ q row_read (λ next next_is made.
       let good_next = lemma_row_good ds o l line next here.here next_is in
-      ok_has (IsGood ds) _ q made (good_at (at.Lemma next.0 next.1) (record { here = good_next.here; room = subst (λ (ls : List Lemma). length ls < 200000) (sym good_next.lemmas) here.room }))))
+      ok_has (IsGood ds) _ q made (good_at (at.Lemma next.0 next.1) (record { here = good_next.here; room = subst (λ (ls : List Lemma). length ls < row_limit) (sym good_next.lemmas) here.room }))))
       (λ other closed. scaled_good (closed_by o l) line q (closed_good ds o l here) closed)
 
   in_goal_good : (o : Opened) (goal : Lemma) (line : List (List ℕ)) (q : Progress) → IsGoodAt ds o goal → in_goal ds done o goal line ≡ Ok q → IsGood ds q

@@ -9,6 +9,7 @@ use Rattle.std.proofs.lemmas.Str.{IsUtf8-append, IsUtf8-from_is_utf8, is_utf8-fr
 use Rattle.quiver.specs.Declarations.{Declaration}
 use Rattle.cofactor_trace.specs.declared.evidence.Evidence.{Evidence}
 use Rattle.cofactor_trace.specs.declared.evidence.Format.{Format}
+use Rattle.certificate_text.specs.Lines.{block_limit}
 use Rattle.certificate_text.specs.Blocks.{Line, BlockTokens, block_lines, IsBlock, AreBlocks}
 use Rattle.certificate_text.specs.Bounds.{Bound, is_certificate, certificates_in, IsCertificateOf, AreCertificatesOf, KeepsOne, Keeps}
 use Rattle.certificate_text.specs.Evidence.{content, HasCertificates}
@@ -41,7 +42,7 @@ blocks-append most ls ms xs ys left right = record {
 certificates-append : (xs ys : List BlockTokens) → certificates_in (xs ++ ys) ≡ certificates_in xs ++ certificates_in ys
 certificates-append xs ys = filter-append is_certificate xs ys
 
-keeps-append : (ds : List Declaration) (xs ys : List BlockTokens) (bound : Bound) → Keeps ds xs bound → Keeps ds ys bound → length (certificates_in xs) + length (certificates_in ys) ≤ 100 → Keeps ds (xs ++ ys) bound
+keeps-append : (ds : List Declaration) (xs ys : List BlockTokens) (bound : Bound) → Keeps ds xs bound → Keeps ds ys bound → length (certificates_in xs) + length (certificates_in ys) ≤ block_limit → Keeps ds (xs ++ ys) bound
 keeps-append ds xs ys bound left right few = record {
   each = All-append (KeepsOne ds bound) xs ys left.each right.each;
   few = λ last. omega (arith, few, ap length (certificates-append xs ys), length-append (certificates_in xs) (certificates_in ys));
@@ -49,7 +50,7 @@ keeps-append ds xs ys bound left right few = record {
 
 -- Texts of which the first is whole lines may stand one behind the other, where they have few certificates.
 pub joined : (most : Format) (ds : List Declaration) (before after : List ℕ) (first last : List Evidence) → IsTrue (is_whole before)
-    → HasCertificates most ds before first → HasCertificates most ds after last → length first + length last ≤ 100 → HasCertificates most ds (before ++ after) (first ++ last)
+    → HasCertificates most ds before first → HasCertificates most ds after last → length first + length last ≤ block_limit → HasCertificates most ds (before ++ after) (first ++ last)
 joined most ds before after first last whole left right few =
     let split : content (lines (before ++ after)) ≡ content (lines before) ++ content (lines after) = ap content (lines_append before after whole) ∙ content-append (lines before) (lines after) in
     let count = zips-length (IsCertificateOf ds) (certificates_in left.blocks) first left.certificates in
@@ -76,7 +77,7 @@ text_without_blocks most ds text is = record {
 }
 
 pub text_of_block : (most : Format) (ds : List Declaration) (text : List ℕ) (b : BlockTokens) (es : List Evidence) → IsTextOf text (block_lines b) → IsBlock most b → ((bound : Bound) → KeepsOne ds bound b)
-    → AreCertificatesOf ds (b ∷ []) es → length es ≤ 100 → HasCertificates most ds text es
+    → AreCertificatesOf ds (b ∷ []) es → length es ≤ block_limit → HasCertificates most ds text es
 text_of_block most ds text b es is block keeps certificates few =
     let count = zips-length (IsCertificateOf ds) (certificates_in (b ∷ [])) es certificates in
     record {

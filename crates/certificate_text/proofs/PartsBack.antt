@@ -11,6 +11,7 @@ use Rattle.std.proofs.lemmas.Slice.Eq.{bytes_eq-Decides}
 use Rattle.std.proofs.lemmas.Str.{IsUtf8-append}
 use Rattle.quiver.specs.Declarations.{Declaration, IsDeclared}
 use Rattle.cofactor_trace.specs.declared.evidence.Format.{Format}
+use Rattle.certificate_text.specs.Lines.{block_limit}
 use Rattle.certificate_text.specs.Tokens.{is_line_end, goes_on, begins_comment, tokens_of, is_skipped}
 use Rattle.certificate_text.specs.Lines.{is, is_other_head, is_end}
 use Rattle.certificate_text.specs.Blocks.{Line, OtherTokens, other as other_block, block_lines}
@@ -146,7 +147,7 @@ module _ (most : Format) (ds : List Declaration) (declared : IsDeclared ds) (kno
   evidence-first (comment text) parts = refl
   evidence-first (other head lines) parts = refl
 
-  parts_have : (parts : List Part) → All (IsPart most ds) parts → length (evidence_in parts) ≤ 100 → HasCertificates most ds (flat_map (part_text ds) parts) (evidence_in parts)
+  parts_have : (parts : List Part) → All (IsPart most ds) parts → length (evidence_in parts) ≤ block_limit → HasCertificates most ds (flat_map (part_text ds) parts) (evidence_in parts)
   parts_have [] each few = text_without_blocks most ds [] no_text
   parts_have (p ∷ parts) each few =
       let count : length (evidence_in (p ∷ [])) + length (evidence_in parts) ≡ length (evidence_in (p ∷ parts)) = sym (length-append (evidence_in (p ∷ [])) (evidence_in parts)) ∙ ap length (evidence-first p parts) in

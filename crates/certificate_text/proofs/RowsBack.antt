@@ -11,6 +11,7 @@ use Rattle.cofactor_trace.specs.declared.CertRow.{CertRow}
 use Rattle.cofactor_trace.specs.declared.evidence.CertFrom.{CertFrom}
 use Rattle.cofactor_trace.specs.declared.evidence.CertFrom.TheVariants.{Generator, Lemma}
 use Rattle.cofactor_trace.specs.declared.evidence.LemmaRow.{LemmaRow}
+use Rattle.nc_polynomial.specs.Limits.{word_limit}
 use Rattle.certificate_text.specs.Tokens.{goes_on, tokens_of}
 use Rattle.certificate_text.specs.Lines.{RowTokens, is_row, row_values, from, number_limit}
 use Rattle.certificate_text.specs.Blocks.{origin_tokens, row_line}
@@ -47,8 +48,8 @@ pub record IsWrittenRow (ds : List Declaration) (row : LemmaRow) : Type 0 where
   pub number : number_of row.from < 2 ^ 32
   pub left : IsWrittenWord ds row.left
   pub right : IsWrittenWord ds row.right
-  pub short_left : length row.left ≤ 500
-  pub short_right : length row.right ≤ 500
+  pub short_left : length row.left ≤ word_limit
+  pub short_right : length row.right ≤ word_limit
 
 -- ---- its text
 

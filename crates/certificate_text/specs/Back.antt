@@ -108,7 +108,7 @@ is_named d = is_name (name_of d)
 abbrev pub IsReadBack : Type 0
 IsReadBack = (most : Format) (ds : List Declaration) (e : Evidence) (before after : List ℕ) (first last : List Evidence)
     → IsDeclared ds → IsTrue (list_all is_named ds) → IsOfFormat most e → IsWritableEvidence ds e
-    → IsTrue (is_whole before) → HasCertificates most ds before first → HasCertificates most ds after last → length first + length last < 100
+    → IsTrue (is_whole before) → HasCertificates most ds before first → HasCertificates most ds after last → length first + length last < block_limit
     → HasCertificates most ds (before ++ evidence_text ds e ++ after) (first ++ e ∷ last)
 
 -- ---- texts of several parts

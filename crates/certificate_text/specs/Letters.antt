@@ -7,6 +7,7 @@ use Rattle.std.specs.Str.{chars, is_utf8}
 use Rattle.std.specs.Str.Parse.{digits_value}
 use Rattle.unicode_ident.specs.Ident.{is_xid_start, is_xid_continue}
 use Rattle.definitions.specs.Quiver.{star}
+use Rattle.statement_tokens.specs.Limits.{name_limit}
 use Rattle.quiver.specs.declared.named.Named.{Named}
 use Rattle.quiver.specs.declared.named.Named.TheVariants.{Object, Map}
 use Rattle.quiver.specs.Declarations.{Declaration, named_in, identity_in, quiver_of}
@@ -21,9 +22,9 @@ abbrev pub begins_name : List ℕ → Bool
 begins_name [] = false
 begins_name (c ∷ cs) = starts_name c
 
--- at most 32 bytes, of a character that starts a name and characters that go on with it
+-- no more bytes than the limit, of a character that starts a name and characters that go on with it
 abbrev pub is_name : List ℕ → Bool
-is_name token = nat_le (length token) 32 && (is_utf8 token && (begins_name (chars token) && list_all is_xid_continue (drop 1 (chars token))))
+is_name token = nat_le (length token) name_limit && (is_utf8 token && (begins_name (chars token) && list_all is_xid_continue (drop 1 (chars token))))
 
 -- the token, if it is a name
 abbrev pub name_in : List ℕ → Option (List ℕ)

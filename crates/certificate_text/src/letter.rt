@@ -10,9 +10,8 @@ ghost use Rattle.certificate_text.specs.Letters.{starts_name, begins_name, name_
 ghost use Rattle.certificate_text.specs.Views.{spelled};
 
 use quiver::{Named, Quiver};
+use statement_tokens::NAME_LIMIT;
 use word_core::Letter;
-
-const NAME_LIMIT: usize = 32;
 
 // A name, whether it stands in square brackets, and whether a ' stands behind it.
 #[derive(Drop)]

@@ -7,23 +7,22 @@ use Rattle.representations.specs.Evidence.{IsEvidenceSound}
 use Rattle.cofactor_trace.specs.declared.evidence.Evidence.{Evidence}
 use Rattle.cofactor_trace.specs.declared.evidence.Evidence.TheVariants.{Plain, Lemmas}
 use Rattle.cofactor_trace.specs.declared.evidence.Format.TheVariants as format
-use Rattle.cofactor_checker.specs.declared.Refusal.{Refusal}
-use Rattle.cofactor_checker.specs.declared.Refusal.TheVariants as certificate
-use Rattle.cofactor_checker.specs.Acceptance as plain
-use Rattle.evidence_checker.specs.declared.refusal.EvidenceRefusal.{EvidenceRefusal}
-use Rattle.evidence_checker.specs.declared.refusal.EvidenceRefusal.TheVariants as refusal
+use Rattle.cofactor_checker.specs.declared.refusal.Refusal.{Refusal}
+use Rattle.cofactor_checker.specs.declared.refusal.Refusal.TheVariants as refusal
+use Rattle.cofactor_checker.specs.Acceptance.{IsMemory}
 use Rattle.cofactor_checker.specs.Rows.{IsNumberUpTo}
-use Rattle.evidence_checker.specs.Acceptance.{IsMemory, all_polynomials, ShowsClaim}
-use Rattle.evidence_checker.proofs.Shown.{accepted_evidence_adds_up}
-use Rattle.evidence_checker.proofs.Unique.{evidence_refusal_is_unique, accepted_evidence_is_not_refused}
-use Rattle.evidence_checker.proofs.Judged.{evidence_is_judged}
+use Rattle.cofactor_checker.specs.LemmaAcceptance.{all_polynomials}
+use Rattle.cofactor_checker.specs.Evidence.{ShowsClaim}
+use Rattle.cofactor_checker.proofs.Shown.{accepted_evidence_adds_up}
+use Rattle.cofactor_checker.proofs.EvidenceUnique.{evidence_refusal_is_unique, accepted_evidence_is_not_refused}
+use Rattle.cofactor_checker.proofs.EvidenceJudged.{evidence_is_judged}
 use Rattle.quiver.specs.Declarations.{Declaration}
 use Rattle.adjoint_rules.specs.declared.problem.Problem.{Problem}
 use Rattle.adjoint_rules.specs.Problem.{polynomials}
 use Rattle.certificate_text.specs.Evidence.{IsEvidence, IsFirstFault}
 use Rattle.certificate_text.proofs.EachText.{each_text_is_read, evidence_is_unique, first_fault_is_unique, evidence_has_no_fault}
 use Rattle.command_shape.specs.Ending.{Ending}
-use Rattle.check_command.specs.Refusals.{certificate_cause, cause_text}
+use Rattle.check_command.specs.Refusals.{cause_text}
 use Rattle.command_shape.specs.Statement.{IsStated}
 use Rattle.outcome_laws.specs.Meanings.{EvidenceAddsUp}
 use Rattle.outcome_laws.proofs.ProvedMeans.{proved_means}
@@ -36,54 +35,14 @@ use Rattle.command_shape.proofs.Owed.{OwesEnding, owed_over, zero_or_past}
 -- ---- the tests of certificates
 
 -- a refusal that has a line is no want of memory
-told_plainly : (ds : List Declaration) (r : Refusal) (cause : List ℕ) → certificate_cause ds r ≡ Some cause → plain.IsMemory r → ⊥
-told_plainly ds (certificate.Memory failed) cause is memory = absurd cc
-told_plainly ds certificate.NoSuchClaim cause is memory = memory
-told_plainly ds (certificate.NoSuchGenerator row) cause is memory = memory
-told_plainly ds certificate.ZeroDenominator cause is memory = memory
-told_plainly ds (certificate.Overflow row o) cause is memory = memory
-told_plainly ds (certificate.Size row) cause is memory = memory
-told_plainly ds (certificate.Differs word want got) cause is memory = memory
-
-told : (ds : List Declaration) (r : EvidenceRefusal) (cause : List ℕ) → cause_text ds r ≡ Some cause → IsMemory r → ⊥
-told ds (refusal.Certificate e) cause is memory = told_plainly ds e cause is memory
+told : (ds : List Declaration) (r : Refusal) (cause : List ℕ) → cause_text ds r ≡ Some cause → IsMemory r → ⊥
 told ds (refusal.Memory failed) cause is memory = absurd cc
-told ds refusal.NoSuchClaim cause is memory = memory
-told ds refusal.ZeroDenominator cause is memory = memory
-told ds (refusal.LooseScale lemma) cause is memory = memory
-told ds (refusal.Overflow row o) cause is memory = memory
-told ds (refusal.NoSuchGenerator row) cause is memory = memory
-told ds (refusal.NoSuchLemma row) cause is memory = memory
-told ds (refusal.Size row) cause is memory = memory
-told ds (refusal.NotDivisible lemma word got) cause is memory = memory
-told ds (refusal.LemmaSize lemma) cause is memory = memory
-told ds (refusal.Kept row) cause is memory = memory
-told ds (refusal.Differs word want got) cause is memory = memory
+told ds other cause is memory = memory
 
 -- a refusal that isn't want of memory has a text
-plain_text : (ds : List Declaration) (r : Refusal) → (plain.IsMemory r → ⊥) → (cause : List ℕ) × (certificate_cause ds r ≡ Some cause)
-plain_text ds certificate.NoSuchClaim h = (_, refl)
-plain_text ds (certificate.NoSuchGenerator row) h = (_, refl)
-plain_text ds certificate.ZeroDenominator h = (_, refl)
-plain_text ds (certificate.Overflow row o) h = (_, refl)
-plain_text ds (certificate.Size row) h = (_, refl)
-plain_text ds (certificate.Differs word want got) h = (_, refl)
-plain_text ds (certificate.Memory failed) h = absurd (h tt)
-
-refusal_text : (ds : List Declaration) (r : EvidenceRefusal) → (IsMemory r → ⊥) → (cause : List ℕ) × (cause_text ds r ≡ Some cause)
-refusal_text ds (refusal.Certificate e) h = plain_text ds e h
-refusal_text ds refusal.NoSuchClaim h = (_, refl)
-refusal_text ds refusal.ZeroDenominator h = (_, refl)
-refusal_text ds (refusal.LooseScale lemma) h = (_, refl)
-refusal_text ds (refusal.Overflow row o) h = (_, refl)
-refusal_text ds (refusal.NoSuchGenerator row) h = (_, refl)
-refusal_text ds (refusal.NoSuchLemma row) h = (_, refl)
-refusal_text ds (refusal.Size row) h = (_, refl)
-refusal_text ds (refusal.NotDivisible lemma word got) h = (_, refl)
-refusal_text ds (refusal.LemmaSize lemma) h = (_, refl)
-refusal_text ds (refusal.Kept row) h = (_, refl)
-refusal_text ds (refusal.Differs word want got) h = (_, refl)
+refusal_text : (ds : List Declaration) (r : Refusal) → (IsMemory r → ⊥) → (cause : List ℕ) × (cause_text ds r ≡ Some cause)
 refusal_text ds (refusal.Memory failed) h = absurd (h tt)
+refusal_text ds other h = (_, refl)
 
 -- no cause begins as the text of an accepted certificate
 other_text : (e : Evidence) (cause more : List ℕ) → codes "refused " ++ cause ≡ named_text e ++ more → ⊥
@@ -150,7 +109,8 @@ says_checked {s} laws sound with_lemmas statement evidence ending answers = reco
 
 -- ---- what is owed
 
-pub check_owes : (statement evidence : List ℕ) → OwesEnding (AnswersCheck statement evidence) (λ Object Arrow s ending. SaysChecked s statement evidence ending.report)
+pub check_owes : (statement evidence : List ℕ)
+    → OwesEnding (AnswersCheck statement evidence) (λ Object Arrow s ending. SaysChecked s statement evidence ending.report)
 check_owes statement evidence = owed_over statement (AnswersEvidence evidence) (λ Object Arrow s ending. SaysChecked s statement evidence ending.report)
     (record {
       one = λ problem. text_answered (certificates_are_judged problem evidence);

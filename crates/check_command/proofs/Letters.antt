@@ -30,19 +30,18 @@ use Rattle.cofactor_trace.specs.declared.evidence.LemmaCertificate.{LemmaCertifi
 use Rattle.cofactor_trace.specs.declared.evidence.Evidence.{Evidence}
 use Rattle.cofactor_trace.specs.declared.evidence.Evidence.TheVariants.{Plain, Lemmas}
 use Rattle.cofactor_trace.specs.Rows.{rows_of}
-use Rattle.cofactor_checker.specs.declared.Refusal.{Refusal}
-use Rattle.cofactor_checker.specs.declared.Refusal.TheVariants as certificate
+use Rattle.cofactor_checker.specs.declared.refusal.Refusal.{Refusal}
 use Rattle.cofactor_checker.specs.Acceptance.{Refuses}
-use Rattle.evidence_checker.specs.declared.refusal.EvidenceRefusal.{EvidenceRefusal}
-use Rattle.evidence_checker.specs.declared.refusal.EvidenceRefusal.TheVariants as refusal
-use Rattle.evidence_checker.specs.Rows.{plain_rows, plain_sum}
-use Rattle.evidence_checker.specs.Lemmas.{lemma_polynomial, lemma_polynomials, IsLeastIndivisible, RefusesLemmas}
-use Rattle.evidence_checker.specs.Acceptance.{all_polynomials, RefusesBlock, RefusesLemmaCertificate, RefusesEvidence}
+use Rattle.cofactor_checker.specs.declared.refusal.Refusal.TheVariants as refusal
+use Rattle.cofactor_checker.specs.PlainRows.{plain_rows, plain_sum}
+use Rattle.cofactor_checker.specs.Lemmas.{lemma_polynomial, lemma_polynomials, IsLeastIndivisible, RefusesLemmas}
+use Rattle.cofactor_checker.specs.LemmaAcceptance.{all_polynomials, RefusesBlock, RefusesLemmaCertificate}
+use Rattle.cofactor_checker.specs.Evidence.{RefusesEvidence}
 use Rattle.adjoint_rules.specs.declared.problem.Problem.{Problem}
 use Rattle.adjoint_rules.specs.Problem.{polynomials}
 use Rattle.adjoint_rules.proofs.Generators.{claims_have_signatures, generators_have_signatures}
 use Rattle.certificate_text.specs.Evidence.{IsRowOver, IsLemmaRowOver, IsCheckable, IsCheckableLemma, IsCheckableByLemmas, IsCheckableEvidence}
-use Rattle.check_command.specs.Letters.{HasCertificateLetters, HasLetters}
+use Rattle.check_command.specs.Letters.{HasLetters}
 
 module _ (q : Quiver) where
   -- whether all letters are letters of the quiver
@@ -236,19 +235,15 @@ module _ (problem : Problem) where
   rows_over (r ∷ rows) all = ((word_over r.left all.0.left, word_over r.right all.0.right), rows_over rows all.1)
 
   module _ (c : Certificate) (checkable : IsCheckable problem.parts.quiver c) where
-    certificate_letters : (r : Refusal) → Refuses (polynomials problem.parts.claims) (polynomials problem.generators) c r → HasCertificateLetters problem.parts.quiver r
-    certificate_letters certificate.NoSuchClaim because = tt
-    certificate_letters (certificate.NoSuchGenerator row) because = tt
-    certificate_letters certificate.ZeroDenominator because = tt
-    certificate_letters (certificate.Overflow row o) because = tt
-    certificate_letters (certificate.Size row) because = tt
-    certificate_letters (certificate.Differs word want got) because =
+    certificate_letters : (r : Refusal) → Refuses (polynomials problem.parts.claims) (polynomials problem.generators) c r → HasLetters problem.parts.quiver r
+    certificate_letters (refusal.Differs word want got) because =
         let rows : AreOver drawn (rows_of c.rows) = rows_over c.rows (recursion_from_All (IsRowOver problem.parts.quiver) c.rows checkable.letters) in
         let sum : List (ℤ × List ℕ) = row_sum (polynomials problem.generators) (rows_of c.rows) in
         over_word word
         (difference_is_over drawn c.denominator (generator_at (polynomials problem.parts.claims) c.claim) sum word want got (claim_stays c.claim) (sum_stays drawn (polynomials problem.generators) (rows_of c.rows) generators_stay rows)
         because.difference.wanted_there because.difference.found_there because.difference.differ)
-    certificate_letters (certificate.Memory failed) because = tt
+    certificate_letters (refusal.NotDivisible lemma word got) because = absurd because
+    certificate_letters other because = tt
 
   -- ---- of a certificate with lemmas
 
@@ -278,37 +273,15 @@ module _ (problem : Problem) where
         over_word word (indivisible_is_over drawn (polynomials problem.generators) generators_stay [] 0 c.lemmas lemma word got tt over of_lemma.1)
     not_divided lemma word got (inr of_goal) = absurd of_goal.1
 
-    lemma_letters : (r : EvidenceRefusal) → RefusesLemmaCertificate (polynomials problem.parts.claims) (polynomials problem.generators) c r → HasLetters problem.parts.quiver r
-    lemma_letters refusal.NoSuchClaim because = tt
-    lemma_letters refusal.ZeroDenominator because = tt
-    lemma_letters (refusal.LooseScale lemma) because = tt
-    lemma_letters (refusal.Overflow row o) because = tt
-    lemma_letters (refusal.NoSuchGenerator row) because = tt
-    lemma_letters (refusal.NoSuchLemma row) because = tt
-    lemma_letters (refusal.Size row) because = tt
+    lemma_letters : (r : Refusal) → RefusesLemmaCertificate (polynomials problem.parts.claims) (polynomials problem.generators) c r → HasLetters problem.parts.quiver r
     lemma_letters (refusal.NotDivisible lemma word got) because = not_divided lemma word got because
-    lemma_letters (refusal.LemmaSize lemma) because = tt
-    lemma_letters (refusal.Kept row) because = tt
     lemma_letters (refusal.Differs word want got) because =
         over_word word
         (difference_is_over drawn c.goal.scale (generator_at (polynomials problem.parts.claims) c.claim) (plain_sum (polynomials problem.generators) (all_polynomials (polynomials problem.generators) c) c.goal.rows)
         word want got (claim_stays c.claim) goal_stays because.difference.wanted_there because.difference.found_there because.difference.differ)
-    lemma_letters (refusal.Memory failed) because = tt
-    lemma_letters (refusal.Certificate e) because = absurd because
+    lemma_letters other because = tt
 
   -- each refusal names letters of the quiver alone
-  pub refused_letters : (e : Evidence) → IsCheckableEvidence problem.parts.quiver e → (r : EvidenceRefusal) → RefusesEvidence (polynomials problem.parts.claims) (polynomials problem.generators) e r → HasLetters problem.parts.quiver r
-  refused_letters (Plain c) checkable (refusal.Certificate e) because = certificate_letters c checkable e because
-  refused_letters (Plain c) checkable refusal.NoSuchClaim because = tt
-  refused_letters (Plain c) checkable refusal.ZeroDenominator because = tt
-  refused_letters (Plain c) checkable (refusal.LooseScale lemma) because = tt
-  refused_letters (Plain c) checkable (refusal.Overflow row o) because = tt
-  refused_letters (Plain c) checkable (refusal.NoSuchGenerator row) because = tt
-  refused_letters (Plain c) checkable (refusal.NoSuchLemma row) because = tt
-  refused_letters (Plain c) checkable (refusal.Size row) because = tt
-  refused_letters (Plain c) checkable (refusal.NotDivisible lemma word got) because = absurd because
-  refused_letters (Plain c) checkable (refusal.LemmaSize lemma) because = tt
-  refused_letters (Plain c) checkable (refusal.Kept row) because = tt
-  refused_letters (Plain c) checkable (refusal.Differs word want got) because = absurd because
-  refused_letters (Plain c) checkable (refusal.Memory failed) because = tt
+  pub refused_letters : (e : Evidence) → IsCheckableEvidence problem.parts.quiver e → (r : Refusal) → RefusesEvidence (polynomials problem.parts.claims) (polynomials problem.generators) e r → HasLetters problem.parts.quiver r
+  refused_letters (Plain c) checkable r because = certificate_letters c checkable r because
   refused_letters (Lemmas c) checkable r because = lemma_letters c checkable r because

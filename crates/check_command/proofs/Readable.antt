@@ -7,9 +7,10 @@ use Rattle.cofactor_trace.specs.declared.evidence.Lemma.{Lemma}
 use Rattle.cofactor_trace.specs.declared.evidence.LemmaRow.{LemmaRow}
 use Rattle.cofactor_trace.specs.declared.evidence.Evidence.{Evidence}
 use Rattle.cofactor_trace.specs.declared.evidence.Evidence.TheVariants.{Plain, Lemmas}
-use Rattle.cofactor_checker.specs.declared.Accepted.{Accepted}
-use Rattle.evidence_checker.specs.Lemmas.{row_count}
-use Rattle.evidence_checker.specs.Acceptance.{IsRanged, IsReadableEvidence, NamesClaim}
+use Rattle.cofactor_checker.specs.declared.accepted.Accepted.{Accepted}
+use Rattle.cofactor_checker.specs.Lemmas.{row_count}
+use Rattle.cofactor_checker.specs.LemmaAcceptance.{IsRanged}
+use Rattle.cofactor_checker.specs.Evidence.{IsReadableEvidence, NamesClaim}
 use Rattle.certificate_text.specs.Evidence.{IsCheckableLemma, IsCheckableEvidence}
 use Rattle.check_command.specs.Refusals.{claim_text}
 use Rattle.check_command.specs.Answers.{named_text}

@@ -5,8 +5,8 @@ use Rattle.adjoint_rules.specs.Problem.{polynomials}
 use Rattle.cofactor_trace.specs.declared.evidence.Evidence.{Evidence}
 use Rattle.cofactor_trace.specs.declared.evidence.Evidence.TheVariants.{Plain, Lemmas}
 use Rattle.cofactor_trace.specs.declared.evidence.Format.TheVariants as format
-use Rattle.evidence_checker.specs.declared.refusal.EvidenceRefusal.{EvidenceRefusal}
-use Rattle.evidence_checker.specs.Acceptance.{AcceptsEvidence, RefusesEvidence}
+use Rattle.cofactor_checker.specs.declared.refusal.Refusal.{Refusal}
+use Rattle.cofactor_checker.specs.Evidence.{AcceptsEvidence, RefusesEvidence}
 use Rattle.certificate_text.specs.Evidence.{IsEvidence, IsFirstFault}
 use Rattle.report_text.specs.Heads.{denominator_of}
 use Rattle.command_shape.specs.Ending.{Ending}
@@ -28,7 +28,7 @@ abbrev pub IsAccepted : Problem → Evidence → Type 0
 IsAccepted problem e = AcceptsEvidence (polynomials problem.parts.claims) (polynomials problem.generators) e
 
 -- this one is the first that fails
-abbrev pub IsRefused : Problem → Evidence → EvidenceRefusal → Type 0
+abbrev pub IsRefused : Problem → Evidence → Refusal → Type 0
 IsRefused problem e refusal = RefusesEvidence (polynomials problem.parts.claims) (polynomials problem.generators) e refusal
 
 -- a certificate is accepted, with its claim and its denominator, or refused with its cause

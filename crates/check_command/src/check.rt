@@ -11,11 +11,12 @@ ghost use Rattle.command_shape.specs.Stop.{StopsBy, EndsAs};
 
 use crate::refusal::cause_text;
 use adjoint_rules::Problem;
-use certificate_text::{CertFault, put, put_integer, read_evidence};
-use cofactor_checker::Accepted;
+use certificate_text::{CertFault, read_evidence};
+use cofactor_checker::{Accepted, check_evidence};
 use cofactor_trace::Evidence;
-use command_shape::{Block, Ending, Judged, Stop, judge_blocks, put_labelled, refused_evidence};
-use evidence_checker::check_evidence;
+use command_shape::{
+    Ending, Judge, Judged, Stop, judge_blocks, put_labelled, put_signed, refused_evidence,
+};
 use lists::Listing;
 use quiver::Quiver;
 use std::alloc::{AllocError, Global};
@@ -26,7 +27,7 @@ pub fn judge_evidence(alloc: Global, problem: &Problem, evidence: &[u8]) -> Resu
     ensures { EndsAs (AnswersEvidence evidence.now problem.now) result }
 {
     let certificates = certificates_of(alloc, evidence, &problem.parts.quiver)?;
-    judge_blocks(alloc, problem, certificates.as_slice())
+    judge_blocks(alloc, &CertificateChecker, problem, certificates.as_slice())
 }
 
 // The certificates of the text, or the ending that tells its first fault.
@@ -50,15 +51,26 @@ fn certificates_of(
     }
 }
 
-impl Block for Evidence {
+// The tests of certificates.
+#[derive(Clone, Copy)]
+struct CertificateChecker;
+
+impl Judge for CertificateChecker {
+    type Block = Evidence;
+
     ghost can_judge = { λ problem e. IsCheckableEvidence problem.parts.quiver e };
 
     ghost accepts = { AcceptsCertificate };
 
     ghost refuses = { RefusesCertificate };
 
-    fn judge(&self, alloc: Global, problem: &Problem) -> Result<Judged, AllocError> {
-        match check_evidence(alloc, problem, self) {
+    fn judge(
+        &self,
+        alloc: Global,
+        problem: &Problem,
+        block: &Evidence,
+    ) -> Result<Judged, AllocError> {
+        match check_evidence(alloc, problem, block) {
             Ok(accepted) => Ok(Judged::Accepted(claim_text(alloc, &accepted)?)),
             Err(refusal) => {
                 let cause = cause_text(alloc, &problem.parts.quiver, &refusal)?;
@@ -81,6 +93,5 @@ fn put_claim(out: &mut Vec<u8>, accepted: &Accepted) -> Result<(), AllocError>
     ensures { OnOk result (out.new.items ≡ out.old.items ++ claim_text accepted.now.claim accepted.now.denominator) }
 {
     put_labelled(out, "accepted claim ", u128::from(accepted.claim))?;
-    put(out, " denominator ")?;
-    put_integer(out, accepted.denominator)
+    put_signed(out, " denominator ", accepted.denominator)
 }

@@ -1,147 +1,108 @@
-//! Why a block is refused.
-ghost use Rattle.std.specs.Prelude.{◌≡◌, ◌++◌, Some, IfOk, codes, decimal, string_bytes};
+//! Why a certificate is refused.
+ghost use Rattle.std.specs.Prelude.{◌≡◌, ◌++◌, Some, IfOk, OnOk, codes, decimal};
 ghost use Rattle.std.specs.Fmt.{signed_decimal};
 ghost use Rattle.quiver.specs.Declarations.{letter_count};
 ghost use Rattle.word_core.specs.Letters.{IsOver};
 ghost use Rattle.certificate_text.specs.Written.{word_text};
-ghost use Rattle.check_command.specs.Letters.{HasCertificateLetters, HasLetters};
-ghost use Rattle.check_command.specs.Refusals.{operation_text, certificate_cause, cause_text};
+ghost use Rattle.command_shape.specs.Judged.{Puts};
+ghost use Rattle.check_command.specs.Letters.{HasLetters};
+ghost use Rattle.check_command.specs.Refusals.{operation_text, cause_text};
 
-use certificate_text::write_word;
+use certificate_text::{put, put_integer, put_word};
 use coef_int::Overflow;
-use cofactor_checker::Refusal;
-use evidence_checker::EvidenceRefusal;
-use itoa::Buffer;
+use cofactor_checker::{KEPT_LIMIT, Refusal, SUM_LIMIT};
+use command_shape::{put_labelled, put_signed};
 use quiver::Quiver;
 use std::alloc::{AllocError, Global};
 use word_core::Word;
 
-/// Why a block is refused. Want of memory has no text.
-pub fn cause_text(
-    alloc: Global,
-    quiver: &Quiver,
-    refusal: &EvidenceRefusal,
-) -> Result<Vec<u8>, AllocError>
+/// Why a certificate is refused. Want of memory has no text.
+pub fn cause_text(alloc: Global, quiver: &Quiver, refusal: &Refusal) -> Result<Vec<u8>, AllocError>
     requires { HasLetters quiver.now refusal.now }
     ensures { IfOk result (λ text. cause_text quiver.now refusal.now ≡ Some text.items) }
 {
-    match refusal {
-        EvidenceRefusal::Certificate(refusal) => certificate_cause(alloc, quiver, refusal),
-        EvidenceRefusal::NoSuchClaim => b"C1".to_vec(alloc),
-        EvidenceRefusal::NoSuchGenerator { row } => numbered(alloc, "C2 row ", *row),
-        EvidenceRefusal::ZeroDenominator => b"C3".to_vec(alloc),
-        EvidenceRefusal::Overflow { row, overflow } => overflow_text(alloc, *row, overflow),
-        EvidenceRefusal::Size { row } => limited(alloc, "C5 row ", *row, " limit 200000"),
-        EvidenceRefusal::Differs { word, want, got } => {
-            difference_text(alloc, quiver, word, *want, *got)
-        }
-        EvidenceRefusal::NoSuchLemma { row } => numbered(alloc, "C7 row ", *row),
-        EvidenceRefusal::NotDivisible { lemma, word, got } => {
-            indivisible_text(alloc, quiver, *lemma, word, *got)
-        }
-        EvidenceRefusal::LemmaSize { lemma } => numbered(alloc, "C9 lemma ", *lemma),
-        EvidenceRefusal::LooseScale { lemma } => numbered(alloc, "C10 lemma ", *lemma),
-        EvidenceRefusal::Kept { row } => limited(alloc, "C11 row ", *row, " limit 1000000"),
-        EvidenceRefusal::Memory(_) => Err(AllocError),
-    }
+    let mut text = Vec::new(alloc);
+    put_cause(&mut text, quiver, refusal)?;
+    Ok(text)
 }
 
-// Why a certificate of rows over generators alone is refused.
-fn certificate_cause(
-    alloc: Global,
-    quiver: &Quiver,
-    refusal: &Refusal,
-) -> Result<Vec<u8>, AllocError>
-    requires { HasCertificateLetters quiver.now refusal.now }
-    ensures { IfOk result (λ text. certificate_cause quiver.now refusal.now ≡ Some text.items) }
+fn put_cause(out: &mut Vec<u8>, quiver: &Quiver, refusal: &Refusal) -> Result<(), AllocError>
+    requires { HasLetters quiver.now refusal.now }
+    ensures { OnOk result (Puts (cause_text quiver.now refusal.now) out.old.items out.new.items) }
 {
     match refusal {
-        Refusal::NoSuchClaim => b"C1".to_vec(alloc),
-        Refusal::NoSuchGenerator { row } => numbered(alloc, "C2 row ", *row),
-        Refusal::ZeroDenominator => b"C3".to_vec(alloc),
-        Refusal::Overflow { row, overflow } => overflow_text(alloc, *row, overflow),
-        Refusal::Size { row } => limited(alloc, "C5 row ", *row, " limit 200000"),
-        Refusal::Differs { word, want, got } => difference_text(alloc, quiver, word, *want, *got),
+        Refusal::NoSuchClaim => put(out, "C1"),
+        Refusal::NoSuchGenerator { row } => put_labelled(out, "C2 row ", u128::from(*row)),
+        Refusal::ZeroDenominator => put(out, "C3"),
+        Refusal::Overflow { row, overflow } => put_overflow(out, *row, overflow),
+        Refusal::Size { row } => put_past(out, "C5 row ", *row, SUM_LIMIT),
+        Refusal::Differs { word, want, got } => put_difference(out, quiver, word, *want, *got),
+        Refusal::NoSuchLemma { row } => put_labelled(out, "C7 row ", u128::from(*row)),
+        Refusal::NotDivisible { lemma, word, got } => {
+            put_indivisible(out, quiver, *lemma, word, *got)
+        }
+        Refusal::LemmaSize { lemma } => put_labelled(out, "C9 lemma ", u128::from(*lemma)),
+        Refusal::LooseScale { lemma } => put_labelled(out, "C10 lemma ", u128::from(*lemma)),
+        Refusal::Kept { row } => put_past(out, "C11 row ", *row, KEPT_LIMIT),
         Refusal::Memory(_) => Err(AllocError),
     }
 }
 
-fn numbered(alloc: Global, cause: &str, number: u32) -> Result<Vec<u8>, AllocError>
-    ensures { IfOk result (λ text. text.items ≡ cause.now ++ decimal number) }
+// A place, and the limit that is passed there.
+fn put_past(out: &mut Vec<u8>, place: &str, number: u32, limit: usize) -> Result<(), AllocError>
+    ensures { OnOk result (out.new.items ≡ out.old.items ++ (place.now ++ (decimal number ++ (codes " limit " ++ decimal limit)))) }
 {
-    let mut digits = Buffer::new();
-    Ok(format!(in alloc; "{cause}{}", digits.format(number))?.into_bytes())
+    put_labelled(out, place, u128::from(number))?;
+    put_labelled(out, " limit ", limit as u128)
 }
 
-fn limited(alloc: Global, cause: &str, number: u32, limit: &str) -> Result<Vec<u8>, AllocError>
-    ensures { IfOk result (λ text. text.items ≡ cause.now ++ (decimal number ++ limit.now)) }
+fn put_overflow(out: &mut Vec<u8>, row: u32, overflow: &Overflow) -> Result<(), AllocError>
+    ensures { OnOk result (out.new.items ≡ out.old.items ++ (codes "C4 row " ++ (decimal row ++ (codes " " ++ (signed_decimal overflow.now.left ++ (operation_text overflow.now.product ++ signed_decimal overflow.now.right)))))) }
 {
-    let mut digits = Buffer::new();
-    Ok(format!(in alloc; "{cause}{}{limit}", digits.format(number))?.into_bytes())
+    put_labelled(out, "C4 row ", u128::from(row))?;
+    put_signed(out, " ", overflow.left)?;
+    put_operation(out, overflow.product)?;
+    put_integer(out, overflow.right)
 }
 
-fn overflow_text(alloc: Global, row: u32, overflow: &Overflow) -> Result<Vec<u8>, AllocError>
-    ensures { IfOk result (λ text. text.items ≡ codes "C4 row " ++ (decimal row ++ (codes " " ++ (signed_decimal overflow.now.left ++ (operation_text overflow.now.product ++ signed_decimal overflow.now.right))))) }
+fn put_operation(out: &mut Vec<u8>, product: bool) -> Result<(), AllocError>
+    ensures { OnOk result (out.new.items ≡ out.old.items ++ operation_text product) }
 {
-    let mut digits = Buffer::new();
-    let mut left = Buffer::new();
-    let mut right = Buffer::new();
-    let sign = if overflow.product {
-        " times "
+    if product {
+        put(out, " times ")
     } else {
-        " plus "
-    };
-    let text = format!(in alloc;
-        "C4 row {} {}{}{}",
-        digits.format(row),
-        left.format(overflow.left),
-        sign,
-        right.format(overflow.right)
-    )?;
-    Ok(text.into_bytes())
+        put(out, " plus ")
+    }
 }
 
-// Three texts behind one another.
-fn joined(alloc: Global, front: &[u8], middle: &[u8], back: &[u8]) -> Result<Vec<u8>, AllocError>
-    ensures { IfOk result (λ text. text.items ≡ front.now ++ (middle.now ++ back.now)) }
-{
-    let mut text = front.to_vec(alloc)?;
-    text.extend_from_slice(middle)?;
-    text.extend_from_slice(back)?;
-    Ok(text)
-}
-
-fn difference_text(
-    alloc: Global,
+fn put_difference(
+    out: &mut Vec<u8>,
     quiver: &Quiver,
     word: &Word,
     want: i128,
     got: i128,
-) -> Result<Vec<u8>, AllocError>
+) -> Result<(), AllocError>
     requires { IsOver (letter_count quiver.now) word.now }
-    ensures { IfOk result (λ text. text.items ≡ codes "C6 word " ++ (word_text quiver.now word.now ++ (codes " want " ++ (signed_decimal want ++ (codes " got " ++ signed_decimal got))))) }
+    ensures { OnOk result (out.new.items ≡ out.old.items ++ (codes "C6 word " ++ (word_text quiver.now word.now ++ (codes " want " ++ (signed_decimal want ++ (codes " got " ++ signed_decimal got)))))) }
 {
-    let mut wanted = Buffer::new();
-    let mut found = Buffer::new();
-    let letters = write_word(alloc, quiver, word)?;
-    let numbers = format!(in alloc; " want {} got {}", wanted.format(want), found.format(got))?;
-    joined(alloc, b"C6 word ", &letters, numbers.as_bytes())
+    put(out, "C6 word ")?;
+    put_word(out, quiver, word)?;
+    put_signed(out, " want ", want)?;
+    put_signed(out, " got ", got)
 }
 
-fn indivisible_text(
-    alloc: Global,
+fn put_indivisible(
+    out: &mut Vec<u8>,
     quiver: &Quiver,
     lemma: u32,
     word: &Word,
     got: i128,
-) -> Result<Vec<u8>, AllocError>
+) -> Result<(), AllocError>
     requires { IsOver (letter_count quiver.now) word.now }
-    ensures { IfOk result (λ text. text.items ≡ codes "C8 lemma " ++ (decimal lemma ++ (codes " word " ++ (word_text quiver.now word.now ++ (codes " got " ++ signed_decimal got))))) }
+    ensures { OnOk result (out.new.items ≡ out.old.items ++ (codes "C8 lemma " ++ (decimal lemma ++ (codes " word " ++ (word_text quiver.now word.now ++ (codes " got " ++ signed_decimal got)))))) }
 {
-    let mut number = Buffer::new();
-    let mut found = Buffer::new();
-    let letters = write_word(alloc, quiver, word)?;
-    let front = format!(in alloc; "C8 lemma {} word ", number.format(lemma))?;
-    let end = format!(in alloc; " got {}", found.format(got))?;
-    joined(alloc, front.as_bytes(), &letters, end.as_bytes())
+    put_labelled(out, "C8 lemma ", u128::from(lemma))?;
+    put(out, " word ")?;
+    put_word(out, quiver, word)?;
+    put_signed(out, " got ", got)
 }

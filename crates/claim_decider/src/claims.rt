@@ -1,6 +1,7 @@
 //! The outcomes of claims, which share one run.
 ghost use Rattle.std.specs.Prelude.{◌≡◌, ◌≢◌, ◌<◌, ◌≤◌, ◌↔◌, [], ◌∷◌, length, IsTrue, IfOk, OnOk};
 ghost use Rattle.std.specs.List.{All, AllZip};
+ghost use Rattle.in_order_parallel.specs.Limits.{worker_limit};
 ghost use Rattle.traced_completion.specs.declared.budget.Budget.{Budget as Asked};
 ghost use Rattle.traced_completion.specs.PlainRun.{start, setting_of};
 ghost use Rattle.traced_completion.specs.Completions.{IsBudget, IsCompletionOf, state_of};
@@ -33,7 +34,7 @@ pub fn decide_all<R: Threads + Sync, G: Gate + Sync>(
 ) -> Result<Decided, AllocError>
     requires budget { IsBudget budget }
     requires some_worker { 0 < workers }
-    requires at_most_64 { workers ≤ 64 }
+    requires few_workers { workers ≤ worker_limit }
     ensures outcomes { IfOk result (λ d. AreOutcomesOf (setting_of problem.now budget) format problem.now (claim_numbers problem.now) d.outcomes) }
     ensures rules { IfOk result (λ d. AreLastRules (setting_of problem.now budget) format problem.now (claim_numbers problem.now) d.rules) }
 {
@@ -55,7 +56,7 @@ pub fn decide<R: Threads + Sync, G: Gate + Sync>(
     requires claim { IsNumber problem.now claim }
     requires budget { IsBudget budget }
     requires some_worker { 0 < workers }
-    requires at_most_64 { workers ≤ 64 }
+    requires few_workers { workers ≤ worker_limit }
     ensures outcome { IfOk result (λ d. AreOutcomesOf (setting_of problem.now budget) format problem.now (claim ∷ []) d.outcomes) }
     ensures rules { IfOk result (λ d. AreLastRules (setting_of problem.now budget) format problem.now (claim ∷ []) d.rules) }
 {
@@ -90,7 +91,7 @@ fn run<R: Threads + Sync, G: Gate + Sync>(
 ) -> Result<Decided, AllocError>
     requires budget { IsBudget budget }
     requires some_worker { 0 < workers }
-    requires at_most_64 { workers ≤ 64 }
+    requires few_workers { workers ≤ worker_limit }
     requires numbers { All (IsOfProblem problem.now) cases.items }
     requires cases { All (IsCase (setting_of problem.now budget) format problem.now 0 start) cases.items }
     ensures outcomes { IfOk result (λ d. AreOutcomesOf (setting_of problem.now budget) format problem.now (case_numbers cases.items) d.outcomes) }
@@ -121,7 +122,7 @@ fn decide_cases<R: Threads + Sync, G: Gate + Sync>(
     mut cases: Vec<Case>,
 ) -> Result<Decided, AllocError>
     requires some_worker { 0 < workers }
-    requires at_most_64 { workers ≤ 64 }
+    requires few_workers { workers ≤ worker_limit }
     requires of_problem { IsCompletionOf problem.now completion.old }
     requires no_round { completion.old.rounds ≡ 0 }
     requires numbers { All (IsOfProblem problem.now) cases.items }
@@ -149,7 +150,7 @@ fn settle<R: Threads + Sync, G: Gate + Sync>(
     cases: &mut Vec<Case>,
 ) -> Result<(), AllocError>
     requires some_worker { 0 < workers }
-    requires at_most_64 { workers ≤ 64 }
+    requires few_workers { workers ≤ worker_limit }
     requires of_problem { IsCompletionOf problem.now completion.old }
     requires no_round { completion.old.rounds ≡ 0 }
     requires numbers { All (IsOfProblem problem.now) cases.old.items }

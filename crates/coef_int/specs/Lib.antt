@@ -1,3 +1,4 @@
 pub mod Range
 pub mod Operations
 pub mod Divisor
+pub mod Laws

@@ -6,8 +6,10 @@ ghost use Rattle.std.specs.Int.RustNames.{unsigned_abs};
 ghost use Rattle.std.specs.Int.{IsGcd, IsNonNegative};
 ghost use Rattle.coef_int.specs.Range.{IsCoefficient};
 
+mod laws;
 mod quotients;
 
+pub use laws::divisors_are_greatest;
 pub use quotients::{divisor, quotient};
 use thiserror::Error;
 

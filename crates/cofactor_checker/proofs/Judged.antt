@@ -21,8 +21,8 @@ use Rattle.cofactor_checker.specs.Operations.{row_operations}
 use Rattle.cofactor_checker.specs.Rows.{term_count, IsNumberUpTo, RowPasses, RowsPass, Reaches}
 use Rattle.cofactor_checker.specs.Difference.{IsLeastDifference}
 use Rattle.cofactor_checker.specs.Acceptance.{claim_of, IsPosed, Begins, AddsUp, Accepts, Refuses, IsMemory}
-use Rattle.cofactor_checker.specs.declared.Refusal.{Refusal}
-use Rattle.cofactor_checker.specs.declared.Refusal.TheVariants as refusal
+use Rattle.cofactor_checker.specs.declared.refusal.Refusal.{Refusal}
+use Rattle.cofactor_checker.specs.declared.refusal.Refusal.TheVariants as refusal
 use Rattle.cofactor_checker.specs.Laws.{EachCertificateIsJudged}
 
 -- ---- where two polynomials differ first
@@ -108,6 +108,15 @@ compared wanted found = by (search_terms (coefficient_of wanted) (coefficient_of
       least = both_zero (AgreesBelow (coefficient_of wanted) (coefficient_of found) least) wanted found (λ v agrees under. agrees) below;
     })
 
+-- a number is one of so many, or none
+pub numbered_or : (count number : ℕ) → IsNumberUpTo count number ⊎ (IsNumberUpTo count number → ⊥)
+numbered_or count number = by (cases_lt 0 number) (cases_lt count number)
+  where
+    by : (0 < number) ⊎ (number ≤ 0) → (count < number) ⊎ (number ≤ count) → IsNumberUpTo count number ⊎ (IsNumberUpTo count number → ⊥)
+    by (inr none) other = inr (λ is. let least = is.least in omega arith)
+    by (inl some) (inl past) = inr (λ is. let most = is.most in omega arith)
+    by (inl some) (inr within) = inl (record { least = omega arith; most = within })
+
 -- ---- the tests one after another
 
 module _ (claims generators : List (List (ℤ × List ℕ))) (c : Certificate) where
@@ -116,15 +125,6 @@ module _ (claims generators : List (List (ℤ × List ℕ))) (c : Certificate) w
 
   abbrev rows : List Row
   rows = rows_of c.rows
-
-  -- a number is one of so many, or none
-  numbered : (count number : ℕ) → IsNumberUpTo count number ⊎ (IsNumberUpTo count number → ⊥)
-  numbered count number = by (cases_lt 0 number) (cases_lt count number)
-    where
-      by : (0 < number) ⊎ (number ≤ 0) → (count < number) ⊎ (number ≤ count) → IsNumberUpTo count number ⊎ (IsNumberUpTo count number → ⊥)
-      by (inr none) other = inr (λ is. let least = is.least in omega arith)
-      by (inl some) (inl past) = inr (λ is. let most = is.most in omega arith)
-      by (inl some) (inr within) = inl (record { least = omega arith; most = within })
 
   -- the first rows pass, or one is the first that doesn't
   data Tested (n : ℕ) : Type 0 where
@@ -176,7 +176,7 @@ module _ (claims generators : List (List (ℤ × List ℕ))) (c : Certificate) w
     where
       by : (o : Option Row) → slice_get rows n ≡ o → Tested (suc n)
       by None is = all_pass (none_more n passed is)
-      by (Some row) is = by_generator n row passed is (numbered (length generators) row.generator)
+      by (Some row) is = by_generator n row passed is (numbered_or (length generators) row.generator)
 
   tested : (n : ℕ) → Tested n
   tested zero = all_pass (record { at = λ i r below got. absurd (omega arith) })
@@ -209,4 +209,4 @@ module _ (claims generators : List (List (ℤ × List ℕ))) (c : Certificate) w
   by_claim (inr lacks) = inr (refusal.NoSuchClaim, lacks, λ none. none)
 
 pub each_certificate_is_judged : EachCertificateIsJudged
-each_certificate_is_judged claims generators c = by_claim claims generators c (numbered claims generators c (length claims) c.claim)
+each_certificate_is_judged claims generators c = by_claim claims generators c (numbered_or (length claims) c.claim)

@@ -9,4 +9,16 @@ pub mod Outcomes
 pub mod Tests
 pub mod Unique
 pub mod Judged
+pub mod Places
+pub mod Each
+pub mod RowSteps
+pub mod Terms
+pub mod LemmaSteps
+pub mod LemmaSums
+pub mod LemmaOutcomes
+pub mod Short
+pub mod Shown
+pub mod Blocks
+pub mod EvidenceUnique
+pub mod EvidenceJudged
 mod Examples

@@ -19,8 +19,8 @@ use Rattle.cofactor_checker.specs.Rows.{RowPasses, RowsPass}
 use Rattle.cofactor_checker.specs.RowRefusals.{RefusesRow}
 use Rattle.cofactor_checker.specs.Running.{IsSumOf}
 use Rattle.cofactor_checker.proofs.RowSums.{Names}
-use Rattle.cofactor_checker.specs.declared.Refusal.{Refusal}
-use Rattle.cofactor_checker.specs.declared.Refusal.TheVariants as refusal
+use Rattle.cofactor_checker.specs.declared.refusal.Refusal.{Refusal}
+use Rattle.cofactor_checker.specs.declared.refusal.Refusal.TheVariants as refusal
 
 -- a row that is there passes, where all do
 pub passes_there : {generators : List (List (ℤ × List ℕ))} (rows : List Row) → RowsPass generators rows (length rows) → (i : ℕ) (r : Row) → slice_get rows i ≡ Some r → RowPasses generators rows i r
@@ -40,9 +40,7 @@ refuses_from_row generators begins (refusal.NoSuchGenerator row) lacks = (begins
 refuses_from_row generators begins (refusal.Overflow row overflow) overflows = inr (begins, overflows)
 refuses_from_row generators begins (refusal.Size row) outgrows = (begins, outgrows)
 refuses_from_row generators begins (refusal.Memory failed) free = tt
-refuses_from_row generators begins refusal.NoSuchClaim never = absurd never
-refuses_from_row generators begins refusal.ZeroDenominator never = absurd never
-refuses_from_row generators begins (refusal.Differs word want got) never = absurd never
+refuses_from_row generators begins other never = absurd never
 
 -- the map is a sum, and the terms are the claim: what holds of the map and a multiple of the terms holds of the sum and that of the claim
 module _ {m : BTreeMap (List ℕ) ℤ} {p terms claim : List (ℤ × List ℕ)} (d : ℤ) (sum : IsSumOf m p) (is : terms ≡ claim) where
@@ -79,3 +77,4 @@ accepted_is_not_refused {c = c} accepted (refusal.Size row) outgrows =
 accepted_is_not_refused accepted (refusal.Differs word want got) differs =
     differs.difference.differ (sym differs.difference.wanted_there ∙ sym (accepted.sum.at word) ∙ differs.difference.found_there)
 accepted_is_not_refused accepted (refusal.Memory failed) free = tt
+accepted_is_not_refused accepted other never = absurd never

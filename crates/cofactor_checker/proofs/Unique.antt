@@ -13,12 +13,13 @@ use Rattle.definitions.specs.Poly.{coefficient_of, poly_multiple, SamePolynomial
 use Rattle.nc_polynomial.specs.Terms.{products}
 use Rattle.cofactor_trace.specs.declared.Certificate.{Certificate}
 use Rattle.cofactor_trace.specs.Rows.{rows_of}
-use Rattle.cofactor_checker.specs.Acceptance.{claim_of, Begins, SumDiffers, Refuses, IsMemory, RefusalIsUnique}
+use Rattle.cofactor_checker.specs.Acceptance.{claim_of, Begins, SumDiffers, Refuses, IsMemory}
+use Rattle.cofactor_checker.specs.Laws.{RefusalIsUnique}
 use Rattle.cofactor_checker.specs.Operations.{row_operations}
 use Rattle.cofactor_checker.specs.RowRefusals.{RefusesRow}
 use Rattle.cofactor_checker.specs.Rows.{term_count, IsNumberUpTo, RowPasses, RowsPass}
-use Rattle.cofactor_checker.specs.declared.Refusal.{Refusal}
-use Rattle.cofactor_checker.specs.declared.Refusal.TheVariants as refusal
+use Rattle.cofactor_checker.specs.declared.refusal.Refusal.{Refusal}
+use Rattle.cofactor_checker.specs.declared.refusal.Refusal.TheVariants as refusal
 use Rattle.cofactor_checker.proofs.Tests.{Before, Fails, told_is_one}
 
 -- ---- the tests of a row
@@ -69,9 +70,7 @@ module _ (generators : List (List (ℤ × List ℕ))) (rows : List Row) where
     failed = record { number = 2; before = ((tt, h.generator), h.operations); fails = λ small. let large = h.size in omega arith; told = ap refusal.Size h.reached.numbered };
   }
   fails_in_row (refusal.Memory failed) h no_memory = absurd (no_memory tt)
-  fails_in_row refusal.NoSuchClaim h no_memory = absurd h
-  fails_in_row refusal.ZeroDenominator h no_memory = absurd h
-  fails_in_row (refusal.Differs word want got) h no_memory = absurd h
+  fails_in_row other h no_memory = absurd h
 
   -- a row that passes fails no test
   passes_all : (i : ℕ) (r : Row) → RowPasses generators rows i r → (s : ℕ) → RowTest generators rows i r s
@@ -151,6 +150,7 @@ module _ (claims generators : List (List (ℤ × List ℕ))) (c : Certificate) w
     told = record { word = word; want = want; got = got; is = refl; differs = h };
   }
   fails_first (refusal.Memory failed) h no_memory = absurd (no_memory tt)
+  fails_first other h no_memory = absurd h
 
   -- the least word is one, and has one coefficient in each
   difference_is_one : (e f : Refusal) → Difference e → Difference f → e ≡ f

@@ -1,4 +1,4 @@
--- When a certificate is accepted, and else the first test that fails.
+-- When a certificate of rows over generators alone is accepted, and else the first test that fails.
 use Rattle.std.specs.Prelude.{◌≡◌, ◌⊎◌, ℕ, ℤ, pos, ◌≤ℤ◌, ◌<ℤ◌, List, length, Some, None, ⊤}
 use Rattle.coef_int.specs.declared.Overflow.{Overflow}
 use Rattle.coef_int.specs.Operations.{first_overflow}
@@ -9,8 +9,8 @@ use Rattle.definitions.specs.Poly.{Poly, coefficient_of, poly_multiple, SamePoly
 use Rattle.definitions.specs.Combination.{generator_at, row_sum}
 use Rattle.cofactor_checker.specs.Rows.{IsNumberUpTo, RowsPass, LacksGenerator, Overflows, Outgrows}
 use Rattle.cofactor_checker.specs.Difference.{IsLeastDifference}
-use Rattle.cofactor_checker.specs.declared.Refusal.{Refusal}
-use Rattle.cofactor_checker.specs.declared.Refusal.TheVariants as refusal
+use Rattle.cofactor_checker.specs.declared.refusal.Refusal.{Refusal}
+use Rattle.cofactor_checker.specs.declared.refusal.Refusal.TheVariants as refusal
 
 -- the claim that the certificate names, counted from 1 like the generators
 abbrev pub claim_of : List Poly → Certificate → Poly
@@ -53,6 +53,7 @@ pub record SumDiffers (claims generators : List Poly) (c : Certificate) (word : 
   pub difference : IsLeastDifference (coefficient_of (poly_multiple c.denominator (claim_of claims c))) (coefficient_of (row_sum generators (rows_of c.rows))) word want got
 
 -- Each refusal comes where its test is the first that fails, and want of memory can come at any time.
+-- What is told of lemmas, and of scales that do not divide, is never told of this certificate.
 abbrev pub Refuses : List Poly → List Poly → Certificate → Refusal → Type 0
 Refuses claims generators c refusal.NoSuchClaim = IsNumberUpTo (length claims) c.claim → ⊥
 Refuses claims generators c refusal.ZeroDenominator = LacksDenominator claims c
@@ -61,17 +62,9 @@ Refuses claims generators c (refusal.NoSuchGenerator row) = Begins claims c × L
 Refuses claims generators c (refusal.Size row) = Begins claims c × Outgrows generators (rows_of c.rows) row
 Refuses claims generators c (refusal.Differs word want got) = SumDiffers claims generators c word want got
 Refuses claims generators c (refusal.Memory failed) = ⊤
+Refuses claims generators c other = ⊥
 
 -- the refusal is want of memory
 abbrev pub IsMemory : Refusal → Type 0
-IsMemory refusal.NoSuchClaim = ⊥
-IsMemory refusal.ZeroDenominator = ⊥
-IsMemory (refusal.Overflow row overflow) = ⊥
-IsMemory (refusal.NoSuchGenerator row) = ⊥
-IsMemory (refusal.Size row) = ⊥
-IsMemory (refusal.Differs word want got) = ⊥
 IsMemory (refusal.Memory failed) = ⊤
-
--- Of one certificate there is one refusal at most, apart from want of memory.
-abbrev pub RefusalIsUnique : Type 0
-RefusalIsUnique = (claims generators : List Poly) (c : Certificate) (e f : Refusal) → Refuses claims generators c e → Refuses claims generators c f → (IsMemory e → ⊥) → (IsMemory f → ⊥) → e ≡ f
+IsMemory other = ⊥

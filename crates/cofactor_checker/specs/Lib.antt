@@ -4,4 +4,8 @@ pub mod RowRefusals
 pub mod Acceptance
 pub mod Running
 pub mod Difference
+pub mod PlainRows
+pub mod Lemmas
+pub mod LemmaAcceptance
+pub mod Evidence
 pub mod Laws

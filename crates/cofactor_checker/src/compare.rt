@@ -17,7 +17,7 @@ use std::collections::BTreeMap;
 use word_core::Word;
 
 /// The first product of the denominator with a coefficient that leaves the range.
-pub fn overflow_of_multiple(denominator: i128, claim: &[(i128, Word)]) -> Option<Overflow>
+pub(crate) fn overflow_of_multiple(denominator: i128, claim: &[(i128, Word)]) -> Option<Overflow>
     requires denominator { IsCoefficient denominator }
     requires coefficients { All (λ t. IsCoefficient t.0) claim.now }
     ensures { result ≡ first_overflow (products denominator claim.now) }
@@ -32,14 +32,14 @@ pub fn overflow_of_multiple(denominator: i128, claim: &[(i128, Word)]) -> Option
 
 /// A word with one coefficient where another is wanted.
 #[derive(Drop)]
-pub struct Difference {
+pub(crate) struct Difference {
     pub word: Word,
     pub want: i128,
     pub got: i128,
 }
 
 /// The least word at which the sum isn't the denominator times the claim.
-pub fn least_difference(
+pub(crate) fn least_difference(
     sum: &BTreeMap<Word, i128>,
     denominator: i128,
     claim: &[(i128, Word)],

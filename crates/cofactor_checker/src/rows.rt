@@ -20,7 +20,7 @@ use word_core::Word;
 pub const SUM_LIMIT: usize = 200_000;
 
 /// The item with this number, counted from 1.
-pub fn numbered<T>(items: &[T], number: u32) -> Option<&T>
+pub(crate) fn numbered<T>(items: &[T], number: u32) -> Option<&T>
     ensures found { IfSome result (λ item. slice_get items.now (number - 1) ≡ Some item.now) }
     ensures in_range { IfSome result (λ _. IsNumberUpTo (length items.now) number) }
     ensures absent { IfNone result (IsNumberUpTo (length items.now) number → ⊥) }
@@ -30,7 +30,7 @@ pub fn numbered<T>(items: &[T], number: u32) -> Option<&T>
 }
 
 /// The sum of the rows, or the first refusal among them.
-pub fn add_rows(
+pub(crate) fn add_rows(
     alloc: Global,
     generators: &[Poly],
     rows: &[CertRow],

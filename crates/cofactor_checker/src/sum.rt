@@ -17,7 +17,7 @@ use std::collections::BTreeMap;
 use word_core::Word;
 
 /// Adds the row c l G r to the sum, where G has these terms.
-pub fn add_row(
+pub(crate) fn add_row(
     sum: &mut BTreeMap<Word, i128>,
     coefficient: i128,
     left: &Word,

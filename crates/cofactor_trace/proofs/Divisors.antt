@@ -1,16 +1,18 @@
 -- Quotients, products and least common multiples of positive integers are positive; common divisors divide, and least common
 -- multiples are divided by, each number.
-use Rattle.std.proofs.Common.{◌≡◌, ℕ, zero, suc, List, [], ◌∷◌, ◌/◌, ℤ, pos, negsuc, ◌<ℤ◌, ◌*ℤ◌, ◌*◌, sym, ap, subst, subst₂, ◌∙◌, arith}
+use Rattle.std.proofs.Common.{◌≡◌, ◌<◌, ℕ, zero, suc, List, [], ◌∷◌, ◌/◌, ℤ, pos, negsuc, ◌<ℤ◌, ◌*ℤ◌, ◌*◌, refl, sym, ap, subst, subst₂, ◌∙◌, arith}
 use Rattle.std.proofs.Math.IntN.{*ℤ-zero}
 use Rattle.std.specs.List.{AllByRecursion, fold}
 use Rattle.std.specs.Int.{◌∣◌}
 use Rattle.std.specs.Int.RustNames.{unsigned_abs, int_div}
 use Rattle.std.proofs.lemmas.Int.{ints, unsigned_abs-mul}
-use Rattle.std.proofs.lemmas.Nat.Gcd.{dvd_refl, dvd_trans}
-use Rattle.std.proofs.Math.Nat.{dvd-mul_right, mul-dvd-mul_right}
+use Rattle.std.proofs.lemmas.Nat.Gcd.{dvd_refl, dvd_trans, dvd-zero}
+use Rattle.std.proofs.lemmas.List.Elements.{All-from_recursion, recursion_from_All}
+use Rattle.std.proofs.Math.Nat.{dvd-mul_right, dvd_of_mul-dvd-mul_right, eq-zero_of_zero-dvd, mul-dvd-mul_right, mul_assoc, mul_comm}
 use Rattle.nc_polynomial.proofs.Divisors.{quotient_times}
 use Rattle.coef_int.specs.Divisor.{gcd_of}
-use Rattle.coef_int.proofs.Divisors.{gcd_of-IsGcd, gcd_of-positive}
+use Rattle.coef_int.proofs.Divisors.{gcd_of-IsGcd, gcd_of-positive, gcd_of-scaled}
+use Rattle.cofactor_trace.specs.CommonMultiples.{MultiplesAreLeast}
 use Rattle.cofactor_trace.specs.Expansion.{lcm_of, common_multiple}
 
 -- a quotient by a divisor of a positive integer is positive
@@ -54,12 +56,45 @@ lcm_of-left x y =
     let q = int_div y (gcd_of x y) in
     subst (λ n. unsigned_abs x ∣ n) (sym (unsigned_abs-mul x q)) (dvd-mul_right (unsigned_abs x) (unsigned_abs q))
 
+divisor_times : (x y : ℤ) → unsigned_abs (gcd_of x y) * unsigned_abs (int_div y (gcd_of x y)) ≡ unsigned_abs y
+divisor_times x y =
+    let g = gcd_of x y in
+    sym (unsigned_abs-mul g (int_div y g)) ∙ ap unsigned_abs (quotient_times y g (gcd_of-IsGcd x y).1)
+
 lcm_of-right : (x y : ℤ) → unsigned_abs y ∣ unsigned_abs (lcm_of x y)
 lcm_of-right x y =
     let g = gcd_of x y in
     let q = int_div y g in
-    let whole : unsigned_abs g * unsigned_abs q ≡ unsigned_abs y = sym (unsigned_abs-mul g q) ∙ ap unsigned_abs (quotient_times y g (gcd_of-IsGcd x y).1) in
-    subst₂ (λ m n. m ∣ n) whole (sym (unsigned_abs-mul x q)) (mul-dvd-mul_right (unsigned_abs g) (gcd_of-IsGcd x y).0 (unsigned_abs q))
+    subst₂ (λ m n. m ∣ n) (divisor_times x y) (sym (unsigned_abs-mul x q)) (mul-dvd-mul_right (unsigned_abs g) (gcd_of-IsGcd x y).0 (unsigned_abs q))
+
+-- and it divides each multiple of both: times the greatest common divisor it is their product
+lcm_of-times : (x y : ℤ) → unsigned_abs (lcm_of x y) * unsigned_abs (gcd_of x y) ≡ unsigned_abs x * unsigned_abs y
+lcm_of-times x y =
+    let g = unsigned_abs (gcd_of x y) in
+    let q = unsigned_abs (int_div y (gcd_of x y)) in
+    ap (λ n. n * g) (unsigned_abs-mul x (int_div y (gcd_of x y)))
+    ∙ mul_assoc (unsigned_abs x) q g
+    ∙ ap (λ n. unsigned_abs x * n) (mul_comm q g ∙ divisor_times x y)
+
+lcm_of-least : (x y : ℤ) (m : ℕ) → unsigned_abs x ∣ m → unsigned_abs y ∣ m → unsigned_abs (lcm_of x y) ∣ m
+lcm_of-least x y m of_x of_y = go (unsigned_abs (gcd_of x y)) refl
+  where
+    behind_x : unsigned_abs x * unsigned_abs y ∣ m * unsigned_abs x
+    behind_x = subst (λ n. n ∣ m * unsigned_abs x) (mul_comm (unsigned_abs y) (unsigned_abs x)) (mul-dvd-mul_right (unsigned_abs y) of_y (unsigned_abs x))
+
+    product : unsigned_abs (lcm_of x y) * unsigned_abs (gcd_of x y) ∣ m * unsigned_abs (gcd_of x y)
+    product =
+        subst (λ n. n ∣ m * unsigned_abs (gcd_of x y)) (sym (lcm_of-times x y))
+        (gcd_of-scaled x y m (unsigned_abs x * unsigned_abs y) behind_x (mul-dvd-mul_right (unsigned_abs x) of_x (unsigned_abs y)))
+
+    go : (g : ℕ) → g ≡ unsigned_abs (gcd_of x y) → unsigned_abs (lcm_of x y) ∣ m
+    go zero none =
+        let x_none : unsigned_abs x ≡ zero = eq-zero_of_zero-dvd (subst (λ n. n ∣ unsigned_abs x) (sym none) (gcd_of-IsGcd x y).0) in
+        let m_none : m ≡ zero = eq-zero_of_zero-dvd (subst (λ n. n ∣ m) x_none of_x) in
+        subst (λ n. unsigned_abs (lcm_of x y) ∣ n) (sym m_none) (dvd-zero (unsigned_abs (lcm_of x y)))
+    go (suc g) some =
+        let above : zero < unsigned_abs (gcd_of x y) = omega (arith, some) in
+        dvd_of_mul-dvd-mul_right (unsigned_abs (lcm_of x y)) above product
 
 common_multiple-first : (x : ℤ) (ys : List ℤ) → unsigned_abs x ∣ unsigned_abs (common_multiple x ys)
 common_multiple-first x [] = dvd_refl (unsigned_abs x)
@@ -72,3 +107,15 @@ common_multiple-each x (y ∷ ys) = (dvd_trans (unsigned_abs y) (lcm_of-right x 
 pub common_multiple-positive : (x : ℤ) (ys : List ℤ) → pos 0 <ℤ x → AllByRecursion (λ y. pos 0 <ℤ y) ys → pos 0 <ℤ common_multiple x ys
 common_multiple-positive x [] h each = h
 common_multiple-positive x (y ∷ ys) h each = common_multiple-positive (lcm_of x y) ys (lcm_of-positive x y h each.0) each.1
+
+common_multiple-least : (x : ℤ) (ys : List ℤ) (m : ℕ) → unsigned_abs x ∣ m → AllByRecursion (λ y. unsigned_abs y ∣ m) ys
+    → unsigned_abs (common_multiple x ys) ∣ m
+common_multiple-least x [] m of_x each = of_x
+common_multiple-least x (y ∷ ys) m of_x each = common_multiple-least (lcm_of x y) ys m (lcm_of-least x y m of_x each.0) each.1
+
+pub multiples_are_least : MultiplesAreLeast
+multiples_are_least x ys = record {
+  each = All-from_recursion (λ z. unsigned_abs z ∣ unsigned_abs (common_multiple x ys)) (x ∷ ys) (common_multiple-first x ys, common_multiple-each x ys);
+  least = λ m divides. let each = recursion_from_All (λ z. unsigned_abs z ∣ m) (x ∷ ys) divides in common_multiple-least x ys m each.0 each.1;
+  positive = λ above. let each = recursion_from_All (λ z. pos 0 <ℤ z) (x ∷ ys) above in common_multiple-positive x ys each.0 each.1;
+}

@@ -1,4 +1,5 @@
-//! What an expansion and a gathered certificate add up to, and how large they are, as laws over the definitions.
+//! What an expansion and a gathered certificate add up to, how large they are, and what their common multiples are, as laws over the definitions.
+ghost use Rattle.cofactor_trace.specs.CommonMultiples.{MultiplesAreLeast};
 ghost use Rattle.cofactor_trace.specs.GatheringLaws.{GatheringsAddUp, GatheringsAreRanged, GatheringsFit, LemmasAreNamed, LemmasHaveRows, WordsAreKept};
 ghost use Rattle.cofactor_trace.specs.Laws.{ExpansionsBalance, ExpansionsFit, GeneratorsAreNamed};
 
@@ -49,4 +50,10 @@ pub fn words_are_kept()
 /// lemma names lemmas before it alone, and the goal lemmas that there are.
 pub fn lemmas_are_named()
     ensures { LemmasAreNamed }
+{}
+
+/// Each of several integers divides their common multiple, which divides each number that all of them divide, and is positive
+/// where they are.
+pub fn multiples_are_least()
+    ensures { MultiplesAreLeast }
 {}

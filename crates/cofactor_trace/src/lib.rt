@@ -21,7 +21,7 @@ pub use fault::{ExpandFault, GatherFault};
 pub use halt::{Cause, Halt, Place};
 pub use laws::{
     expansions_balance, expansions_fit, gatherings_add_up, gatherings_are_ranged, gatherings_fit,
-    generators_are_named, lemmas_are_named, lemmas_have_rows, words_are_kept,
+    generators_are_named, lemmas_are_named, lemmas_have_rows, multiples_are_least, words_are_kept,
 };
 pub use lemmas::gather;
 use lists::{Duplicate, Listing};

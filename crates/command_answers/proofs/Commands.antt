@@ -1,15 +1,17 @@
 -- What all commands owe.
-use Rattle.std.proofs.Common.{◌≡◌, ◌≤◌, ◌∙◌, ℕ, List, [], ◌∷◌, Result, length, sym, subst, arith}
+use Rattle.std.proofs.Common.{◌≡◌, ◌≤◌, ◌<◌, ℕ, zero, suc, List, [], ◌∷◌, Result, length, get_or, refl, sym, subst, arith}
 use Rattle.std.specs.List.{AllZip}
 use Rattle.std.proofs.lemmas.Slice.Zip.{AllZip-long}
 use Rattle.definitions.specs.Category.{Structure, PreadditiveLaws}
 use Rattle.definitions.specs.Soundness.{IsSound}
 use Rattle.representations.specs.Evidence.{IsEvidenceSound}
 use Rattle.report_text.specs.Report.{report_of, heads_of}
+use Rattle.command_words.specs.declared.call.BenchCall.{BenchCall}
 use Rattle.command_words.specs.declared.call.Call.{Call}
 use Rattle.command_words.specs.declared.call.Call.TheVariants.{Prove, Check, Refute, Model, Bench}
 use Rattle.command_shape.specs.declared.stop.Stop.{Stop}
-use Rattle.command_shape.specs.FileWords.{statement_limit, evidence_limit}
+use Rattle.command_shape.specs.declared.files.FileWord.{FileWord}
+use Rattle.command_shape.specs.FileWords.{statement_limit, evidence_limit, statement_file, pair_files}
 use Rattle.command_shape.specs.Ending.{Ending}
 use Rattle.command_shape.specs.Stop.{EndsAs}
 use Rattle.command_shape.specs.Statement.{OverStatement}
@@ -20,13 +22,14 @@ use Rattle.prove_command.proofs.Answered.{claims_owe}
 use Rattle.check_command.proofs.Answered.{check_owes}
 use Rattle.refute_command.proofs.Answered.{search_owes}
 use Rattle.model_command.proofs.Answered.{model_owes}
-use Rattle.command_answers.specs.CallFiles.{files_of, AreContents, statement_of, evidence_of}
+use Rattle.command_answers.specs.CallFiles.{files_of, AreContents, written_by, statement_of, evidence_of}
 use Rattle.command_answers.specs.Answers.{AnswersOver, Answers}
 use Rattle.command_answers.specs.Says.{SaysOver, Says}
 use Rattle.check_command.specs.Laws.{AnswersOnce, EachCallHasAnEnding}
 
 -- one line a command
-call_owes : (call : Call) (statement evidence : List ℕ) → OwesEnding (OverStatement statement (AnswersOver call evidence)) (λ Object Arrow s ending. SaysOver s call statement evidence ending)
+call_owes : (call : Call) (statement evidence : List ℕ)
+    → OwesEnding (OverStatement statement (AnswersOver call evidence)) (λ Object Arrow s ending. SaysOver s call statement evidence ending)
 call_owes (Prove p) statement evidence = claims_owe report_of (asked_by p) statement
 call_owes (Check p) statement evidence = check_owes statement evidence
 call_owes (Refute p) statement evidence = search_owes p.seed statement
@@ -54,15 +57,70 @@ each_call_has_an_ending call contents as_many = let one = (owed call contents).o
 
 -- ---- contents within their limits
 
+-- a statement and a text of evidence within their limits
+pub record AreShort (contents : List (List ℕ)) : Type 0 where
+  pub statement : length (get_or contents 0 []) ≤ statement_limit
+  pub evidence : length (get_or contents 1 []) ≤ evidence_limit
+
+abbrev AreWithin : List FileWord → List (List ℕ) → Type 0
+AreWithin files contents = AllZip (λ file bytes. length bytes ≤ file.limit) files contents
+
+none_short : (contents : List (List ℕ)) → AreWithin [] contents → AreShort contents
+none_short [] fit = record { statement = omega arith; evidence = omega arith }
+none_short (bytes ∷ contents) fit = absurd fit
+
+one_short : (name : List ℕ) (contents : List (List ℕ)) → AreWithin (statement_file name) contents → AreShort contents
+one_short name [] fit = absurd fit
+one_short name (statement ∷ []) fit = record { statement = fit.0; evidence = omega arith }
+one_short name (statement ∷ second ∷ more) fit = absurd fit.1
+
+two_short : (name other : List ℕ) (contents : List (List ℕ)) → AreWithin (pair_files name other) contents → AreShort contents
+two_short name other [] fit = absurd fit
+two_short name other (statement ∷ []) fit = absurd fit.1
+two_short name other (statement ∷ evidence ∷ []) fit = record { statement = fit.0; evidence = fit.1.0 }
+two_short name other (statement ∷ evidence ∷ third ∷ more) fit = absurd fit.1.1
+
+pub are_short : (call : Call) (contents : List (List ℕ)) → AreWithin (files_of call) contents → AreShort contents
+are_short (Prove p) contents fit = one_short p.file contents fit
+are_short (Check p) contents fit = two_short p.statement p.evidence contents fit
+are_short (Refute p) contents fit = one_short p.file contents fit
+are_short (Model p) contents fit = two_short p.statement p.evidence contents fit
+are_short (Bench b) contents fit = none_short contents fit
+
+-- a call with files writes no statement
+pub no_file_written : (call : Call) → ((b : BenchCall) → call ≡ Bench b → ⊥) → written_by call ≡ []
+no_file_written (Prove p) other = refl
+no_file_written (Check p) other = refl
+no_file_written (Refute p) other = refl
+no_file_written (Model p) other = refl
+no_file_written (Bench b) other = absurd (other b refl)
+
+-- an item that is there needs no other in its place
+pub other_default : {Item : Type 0} (xs : List Item) (place : ℕ) (one other : Item) → place < length xs → get_or xs place one ≡ get_or xs place other
+other_default [] place one other inside = absurd (omega arith)
+other_default (x ∷ xs) zero one other inside = refl
+other_default (x ∷ xs) (suc place) one other inside = other_default xs place one other (omega arith)
+
+-- one that isn't there is what stands in its place
+pub no_item : {Item : Type 0} (xs : List Item) (place : ℕ) (other : Item) → length xs ≤ place → get_or xs place other ≡ other
+no_item [] place other past = refl
+no_item (x ∷ xs) zero other past = absurd (omega arith)
+no_item (x ∷ xs) (suc place) other past = no_item xs place other (omega arith)
+
 -- there are as many as files
-pub are_contents : (call : Call) (contents : List (List ℕ)) → AllZip (λ file bytes. length bytes ≤ file.limit) (files_of call) contents → AreContents call contents
+pub are_contents : (call : Call) (contents : List (List ℕ))
+    → AllZip (λ file bytes. length bytes ≤ file.limit) (files_of call) contents → AreContents call contents
 are_contents call contents fit = sym (AllZip-long (λ file bytes. length bytes ≤ file.limit) (files_of call) contents fit)
 
 -- what is answered over the statement and the text of evidence
-pub answered : (call : Call) (contents : List (List ℕ)) (statement evidence : List ℕ) (result : Result Ending Stop) → AreContents call contents → statement_of call contents ≡ statement → evidence_of contents ≡ evidence
+pub answered : (call : Call) (contents : List (List ℕ)) (statement evidence : List ℕ) (result : Result Ending Stop)
+    → AreContents call contents → statement_of call contents ≡ statement → evidence_of contents ≡ evidence
     → EndsAs (OverStatement statement (AnswersOver call evidence)) result → EndsAs (Answers call contents) result
 answered call contents statement evidence result as_many same_statement same_evidence ends =
     ends_weaker (OverStatement statement (AnswersOver call evidence)) (Answers call contents)
-    (λ ending over. (as_many, subst (λ (t : List ℕ). OverStatement t (AnswersOver call (evidence_of contents)) ending) (sym same_statement)
-      (subst (λ (e : List ℕ). OverStatement statement (AnswersOver call e) ending) (sym same_evidence) over)))
+    (λ ending over. (
+      as_many,
+      subst (λ (t : List ℕ). OverStatement t (AnswersOver call (evidence_of contents)) ending) (sym same_statement)
+          (subst (λ (e : List ℕ). OverStatement statement (AnswersOver call e) ending) (sym same_evidence) over),
+    ))
     result ends

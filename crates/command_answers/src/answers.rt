@@ -102,7 +102,15 @@ fn answer_problem<R: Threads + Sync, G: Gate + Sync>(
         Call::Model(_) => judge_models(alloc, problem, evidence),
         Call::Bench(call) => {
             let workers = call.workers as u32;
-            report_claims(rt, alloc, problem, ASKED_BY_BENCH, Extent::Heads, workers, gate)
+            report_claims(
+                rt,
+                alloc,
+                problem,
+                ASKED_BY_BENCH,
+                Extent::Heads,
+                workers,
+                gate,
+            )
         }
     }
 }

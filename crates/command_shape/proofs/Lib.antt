@@ -7,3 +7,4 @@ pub mod Problems
 pub mod Syntax
 pub mod Statements
 pub mod Owed
+pub mod Told

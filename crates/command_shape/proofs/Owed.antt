@@ -1,11 +1,10 @@
 -- What a command owes: one ending for each contents of its files, a status of its own, and the sentence that its ending says.
-use Rattle.std.proofs.Common.{◌≡◌, ◌≢◌, ◌≤◌, ◌⊎◌, inl, inr, ℕ, List, [], Option, Some, None, ap, sym, arith}
+use Rattle.std.proofs.Common.{◌≡◌, ◌≢◌, ◌≤◌, ◌⊎◌, inl, inr, ℕ, List, ap, arith}
 use Rattle.definitions.specs.Category.{Structure, PreadditiveLaws}
 use Rattle.definitions.specs.Soundness.{IsSound}
 use Rattle.representations.specs.Evidence.{IsEvidenceSound}
 use Rattle.adjoint_rules.specs.declared.problem.Problem.{Problem}
 use Rattle.command_shape.specs.Ending.{Ending}
-use Rattle.command_shape.specs.Judged.{Puts}
 use Rattle.command_shape.specs.Statement.{OverStatement, faulty, stated}
 use Rattle.command_shape.proofs.Statements.{statement_ends, statement_once}
 
@@ -70,10 +69,3 @@ owed_over statement answers says owes sentence = record {
   own = λ ending. own_statement statement answers ending (λ problem. owes.own problem ending);
   sentence = sentence;
 }
-
--- ---- what is told
-
--- a text that is put behind nothing is what is told
-pub told_alone : (told : Option (List ℕ)) (text : List ℕ) → Puts told [] text → told ≡ Some text
-told_alone (Some cause) text put = ap (λ (t : List ℕ). Some t) (sym put)
-told_alone None text put = absurd put

@@ -1,11 +1,13 @@
 -- Problems that say the same are one.
-use Rattle.std.proofs.Common.{◌≡◌, ◌≤◌, List, [], ◌∷◌, length, refl, subst}
+use Rattle.std.proofs.Common.{◌≡◌, ◌≤◌, ℕ, List, [], ◌∷◌, length, refl, sym, ap, subst, ◌∙◌}
 use Rattle.std.proofs.Props as std
 use Rattle.definitions.specs.Poly.{Term}
 use Rattle.nc_polynomial.specs.Shape.{IsCanonical}
 use Rattle.nc_polynomial.specs.declared.poly.Poly.{Poly}
 use Rattle.adjoint_rules.specs.declared.parts.Parts.{Parts}
 use Rattle.adjoint_rules.specs.declared.problem.Problem.{Problem}
+use Rattle.adjoint_rules.specs.Limits.{generator_limit}
+use Rattle.adjoint_rules.specs.Parts.{units_in}
 use Rattle.adjoint_rules.specs.Problem.{polynomials, IsPosed, IsClosed}
 use Rattle.adjoint_rules.specs.Props.{props}
 use Rattle.signature_typing.specs.Unique.{AreSame}
@@ -21,8 +23,11 @@ posed-prop parts = Prim.hlevel props
 closed-prop : (parts : Parts) (generators : List Poly) → IsProp (IsClosed parts generators)
 closed-prop parts generators = Prim.hlevel props
 
-few-prop : (generators : List Poly) → IsProp (length generators ≤ 1864)
+few-prop : (generators : List Poly) → IsProp (length generators ≤ generator_limit)
 few-prop generators = Prim.hlevel std.props
+
+counted-prop : (count : ℕ) (parts : Parts) → IsProp (count ≡ length (units_in parts))
+counted-prop count parts = Prim.hlevel std.props
 
 -- ---- so what has them is what it says
 
@@ -42,6 +47,24 @@ same_polynomials (p ∷ ps) (q ∷ qs) same =
     let more = same_polynomials ps qs tail in
     λ i. one i ∷ more i
 
+-- a problem is any with its parts, its generators and its count, whatever the proofs of its facts are
+abbrev IsThe : Problem → Parts → List Poly → ℕ → Type 0
+IsThe p parts generators count =
+    (posed : IsPosed parts) (closed : IsClosed parts generators) (few : length generators ≤ generator_limit) (counted : count ≡ length (units_in parts))
+    → ◌≡◌ {A = Problem} p (record { parts = parts; generators = generators; unit_count = count; posed = posed; closed = closed; few = few; counted = counted })
+
+itself : (p : Problem) → IsThe p p.parts p.generators p.unit_count
+itself p posed closed few counted =
+    λ i. record {
+      parts = p.parts;
+      generators = p.generators;
+      unit_count = p.unit_count;
+      posed = posed-prop p.parts p.posed posed i;
+      closed = closed-prop p.parts p.generators p.closed closed i;
+      few = few-prop p.generators p.few few i;
+      counted = counted-prop p.unit_count p.parts p.counted counted i;
+    }
+
 module _ (p q : Problem) (same : AreSame p q) where
   same_parts : p.parts ≡ q.parts
   same_parts =
@@ -60,21 +83,12 @@ module _ (p q : Problem) (same : AreSame p q) where
         solved = same.solved i;
       }
 
-  by_generators : (generators : List Poly) → p.generators ≡ generators → (posed : IsPosed p.parts) (closed : IsClosed p.parts generators) (few : length generators ≤ 1864)
-      → ◌≡◌ {A = Problem} p (record { parts = p.parts; generators = generators; posed = posed; closed = closed; few = few })
-  by_generators generators are =
-      subst
-      (λ (gs : List Poly). (posed : IsPosed p.parts) (closed : IsClosed p.parts gs) (few : length gs ≤ 1864) → ◌≡◌ {A = Problem} p (record { parts = p.parts; generators = gs; posed = posed; closed = closed; few = few })) are
-      (λ posed closed few. λ i. record {
-        parts = p.parts;
-        generators = p.generators;
-        posed = posed-prop p.parts p.posed posed i;
-        closed = closed-prop p.parts p.generators p.closed closed i;
-        few = few-prop p.generators p.few few i;
-      })
+  same_count : p.unit_count ≡ q.unit_count
+  same_count = p.counted ∙ ap (λ parts. length (units_in parts)) same_parts ∙ sym q.counted
 
   pub one_problem : p ≡ q
   one_problem =
-      subst
-      (λ (parts : Parts). (posed : IsPosed parts) (closed : IsClosed parts q.generators) → ◌≡◌ {A = Problem} p (record { parts = parts; generators = q.generators; posed = posed; closed = closed; few = q.few })) same_parts
-      (λ posed closed. by_generators q.generators (same_polynomials p.generators q.generators same.generators) posed closed q.few) q.posed q.closed
+      let by_count : IsThe p p.parts p.generators q.unit_count = subst (IsThe p p.parts p.generators) same_count (itself p) in
+      let generators = same_polynomials p.generators q.generators same.generators in
+      let by_generators : IsThe p p.parts q.generators q.unit_count = subst (λ gs. IsThe p p.parts gs q.unit_count) generators by_count in
+      subst (λ parts. IsThe p parts q.generators q.unit_count) same_parts by_generators q.posed q.closed q.few q.counted

@@ -15,4 +15,4 @@ pub use files::{FileWord, pair_files, statement_file};
 pub use judge::{Judge, Judged, judge_blocks};
 pub use statement::read_statement;
 pub use stop::Stop;
-pub use write::put_labelled;
+pub use write::{put_labelled, put_signed};

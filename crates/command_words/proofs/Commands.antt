@@ -5,6 +5,8 @@ use Rattle.clap.specs.Simple.{App, subcommand_of}
 use Rattle.clap.specs.Faults.{check_fault, turn_fault, walk_fault}
 use Rattle.clap.proofs.OnLiterals.{clap_on_literals}
 use Rattle.clap.specs.declared.builder.value_parser.ValueParser.TheVariants as parser
+use Rattle.command_words.specs.Limits.{size_limit}
+use Rattle.command_words.specs.Limits.{default_pairs_word, default_steps_word, default_workers_word, default_seed_word, default_format_word, default_pairs, default_steps}
 use Rattle.command_words.specs.CommandSet.{command_set, IsTaken, prove_command, refute_command, bench_command, pair_command}
 use Rattle.command_words.specs.Accepted.{IsFileWord}
 use Rattle.command_words.specs.Calls.{GivesPair, MatchesGive, Names, NamesProve, NamesRefute, NamesBench, NamesPair, prove_spans, refute_spans, bench_spans}
@@ -47,12 +49,12 @@ prove_options = record {
   never = refl;
   place = record { by_index = refl; by_id = refl; reading = refl };
   each_span = (
-    span_known (codes "5000") refl (omega arith) refl,
+    span_known default_pairs_word refl (omega arith) refl,
     (
-      span_known (codes "20000") refl (omega arith) refl,
+      span_known default_steps_word refl (omega arith) refl,
       (
-        span_known (codes "4") refl (omega arith) refl,
-        (span_known (codes "1") refl (omega arith) refl, (span_known (codes "2") refl (omega arith) refl, tt)),
+        span_known default_workers_word refl (omega arith) refl,
+        (span_known default_seed_word refl (omega arith) refl, (span_known default_format_word refl (omega arith) refl, tt)),
       ),
     ),
   );
@@ -68,8 +70,8 @@ prove_accepted words x n =
       refl,
       record {
         file = ap text_in (first_kept prove_options x.file n.given n.options);
-        pairs = read (codes "pairs") refl 5000 refl (refl, tt) x.pairs n.pairs;
-        steps = read (codes "steps") refl 20000 refl (refl, tt) x.steps n.steps;
+        pairs = read (codes "pairs") refl default_pairs refl (refl, tt) x.pairs n.pairs;
+        steps = read (codes "steps") refl default_steps refl (refl, tt) x.steps n.steps;
         workers = read (codes "workers") refl 4 refl (refl, tt) x.workers n.workers;
         seed = read (codes "seed") refl 1 refl (refl, tt) x.seed n.seed;
         format = read (codes "format") refl 2 refl (refl, tt) x.format n.format;
@@ -82,7 +84,7 @@ unfolding clap_on_literals
 refute_options = record {
   never = refl;
   place = record { by_index = refl; by_id = refl; reading = refl };
-  each_span = (span_known (codes "4") refl (omega arith) refl, (span_known (codes "1") refl (omega arith) refl, tt));
+  each_span = (span_known default_workers_word refl (omega arith) refl, (span_known default_seed_word refl (omega arith) refl, tt));
   each_flag = tt;
   clean = (refl, (refl, (refl, tt)));
   check = λ rows v e. rw e refl;
@@ -100,12 +102,12 @@ refute_accepted words x n =
       },
     )
 
-bench_options : IsOptionCommand (leaf bench_command) (codes "size") (parser.Unsigned 1 60) bench_spans []
+bench_options : IsOptionCommand (leaf bench_command) (codes "size") (parser.Unsigned 1 size_limit) bench_spans []
 unfolding clap_on_literals
 bench_options = record {
   never = refl;
   place = record { by_index = refl; by_id = refl; reading = refl };
-  each_span = (span_known (codes "4") refl (omega arith) refl, tt);
+  each_span = (span_known default_workers_word refl (omega arith) refl, tt);
   each_flag = tt;
   clean = (refl, (refl, tt));
   check = λ rows v e. rw e refl;
@@ -115,7 +117,7 @@ bench_accepted : (words : List Text) (x : BenchCall) → NamesBench words x → 
 bench_accepted words x n =
     let v : Text = decimal x.size in
     let fits : x.size < 2 ^ 64 = omega (arith, n.most) in
-    let l = option_level bench_options v n.given n.options (decimal_word x.size fits) (decimal_passes 1 60 x.size fits n.least n.most) in
+    let l = option_level bench_options v n.given n.options (decimal_word x.size fits) (decimal_passes 1 size_limit x.size fits n.least n.most) in
     accepted_as (codes "bench") bench_command (Bench x) named.4 n.words_are l (
       refl,
       record {

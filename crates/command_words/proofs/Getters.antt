@@ -9,6 +9,8 @@ use Rattle.std.specs.Str.Parse.{ParsesUnsigned, digits_value, without_leading_pl
 use Rattle.clap.specs.Values.{IsUnsignedIn}
 use Rattle.clap.specs.Matches.{ReadsOne}
 use Rattle.clap.specs.Words.{Row}
+use Rattle.in_order_parallel.specs.Limits.{worker_limit}
+use Rattle.command_words.specs.Limits.{pair_limit, step_limit, seed_limit, format_limit, size_limit}
 use Rattle.command_words.specs.Present.{HasNumber, HasProve, HasRefute, HasBench, HasCommand, MatchesHave}
 use Rattle.command_words.specs.Calls.{number_of, IsWithin, IsInRange, GivesCall, MatchesGive}
 use Rattle.command_words.specs.declared.call.Call.{Call}
@@ -63,18 +65,18 @@ within id low high n rows h e =
 in_range : (name : List ℕ) (rows : List Row) (call : Call) → HasCommand name rows → GivesCall name rows call → IsInRange call
 in_range name rows (Prove p) has g =
     let h = is_prove name rows has g.0 in (
-      within (codes "pairs") 1 1000000 p.pairs rows h.pairs g.1.pairs,
-      within (codes "steps") 1 1000000 p.steps rows h.steps g.1.steps,
-      within (codes "workers") 1 64 p.workers rows h.workers g.1.workers,
-      within (codes "seed") 0 18446744073709551615 p.seed rows h.seed g.1.seed,
-      within (codes "format") 1 2 p.format rows h.format g.1.format,
+      within (codes "pairs") 1 pair_limit p.pairs rows h.pairs g.1.pairs,
+      within (codes "steps") 1 step_limit p.steps rows h.steps g.1.steps,
+      within (codes "workers") 1 worker_limit p.workers rows h.workers g.1.workers,
+      within (codes "seed") 0 seed_limit p.seed rows h.seed g.1.seed,
+      within (codes "format") 1 format_limit p.format rows h.format g.1.format,
     )
 in_range name rows (Refute r) has g =
     let h = is_refute name rows has g.0 in
-    (within (codes "workers") 1 64 r.workers rows h.workers g.1.workers, within (codes "seed") 0 18446744073709551615 r.seed rows h.seed g.1.seed)
+    (within (codes "workers") 1 worker_limit r.workers rows h.workers g.1.workers, within (codes "seed") 0 seed_limit r.seed rows h.seed g.1.seed)
 in_range name rows (Bench b) has g =
     let h = is_bench name rows has g.0 in
-    (within (codes "size") 1 60 b.size rows h.size g.1.size, within (codes "workers") 1 64 b.workers rows h.workers g.1.workers)
+    (within (codes "size") 1 size_limit b.size rows h.size g.1.size, within (codes "workers") 1 worker_limit b.workers rows h.workers g.1.workers)
 in_range name rows (Check p) has g = tt
 in_range name rows (Model p) has g = tt
 

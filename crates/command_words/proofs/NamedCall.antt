@@ -5,6 +5,8 @@ use Rattle.std.specs.Str.{bytes_eq}
 use Rattle.std.specs.Str.Parse.{digits_value, without_leading_plus}
 use Rattle.clap.specs.Walk.{Row, Text}
 use Rattle.clap.specs.Simple.{subcommand_of}
+use Rattle.in_order_parallel.specs.Limits.{worker_limit}
+use Rattle.command_words.specs.Limits.{pair_limit, step_limit, seed_limit, format_limit, size_limit}
 use Rattle.command_words.specs.CommandSet.{command_set, IsTaken}
 use Rattle.command_words.specs.Present.{HasNumber, HasFlag, HasProve, HasRefute, HasBench, HasPair, HasCommand, MatchesHave}
 use Rattle.command_words.specs.Calls.{number_of, flag_of, GivesProve, GivesRefute, GivesBench, GivesPair, GivesCall, MatchesGive}
@@ -30,25 +32,25 @@ twice false = refl
 prove_call : (rows : List Row) → HasProve rows → (p : ProveCall) × GivesProve rows p
 prove_call rows h =
     let flag = flag_given (codes "no-models") rows h.models in
-    let pairs = number_given (codes "pairs") 1 1000000 rows h.pairs in
-    let steps = number_given (codes "steps") 1 1000000 rows h.steps in
-    let workers = number_given (codes "workers") 1 64 rows h.workers in
-    let seed = number_given (codes "seed") 0 18446744073709551615 rows h.seed in
-    let format = number_given (codes "format") 1 2 rows h.format in (
+    let pairs = number_given (codes "pairs") 1 pair_limit rows h.pairs in
+    let steps = number_given (codes "steps") 1 step_limit rows h.steps in
+    let workers = number_given (codes "workers") 1 worker_limit rows h.workers in
+    let seed = number_given (codes "seed") 0 seed_limit rows h.seed in
+    let format = number_given (codes "format") 1 format_limit rows h.format in (
       record { file = h.file.0; pairs = pairs.0; steps = steps.0; workers = workers.0; seed = seed.0; format = format.0; models = not flag.0 },
       record { file = h.file.1; pairs = pairs.1; steps = steps.1; workers = workers.1; seed = seed.1; format = format.1; models = flag.1 ∙ ap Some (twice flag.0) },
     )
 
 refute_call : (rows : List Row) → HasRefute rows → (r : RefuteCall) × GivesRefute rows r
 refute_call rows h =
-    let workers = number_given (codes "workers") 1 64 rows h.workers in
-    let seed = number_given (codes "seed") 0 18446744073709551615 rows h.seed in
+    let workers = number_given (codes "workers") 1 worker_limit rows h.workers in
+    let seed = number_given (codes "seed") 0 seed_limit rows h.seed in
     (record { file = h.file.0; workers = workers.0; seed = seed.0 }, record { file = h.file.1; workers = workers.1; seed = seed.1 })
 
 bench_call : (rows : List Row) → HasBench rows → (b : BenchCall) × GivesBench rows b
 bench_call rows h =
-    let size = number_given (codes "size") 1 60 rows h.size in
-    let workers = number_given (codes "workers") 1 64 rows h.workers in
+    let size = number_given (codes "size") 1 size_limit rows h.size in
+    let workers = number_given (codes "workers") 1 worker_limit rows h.workers in
     (record { size = size.0; workers = workers.0 }, record { size = size.1; workers = workers.1 })
 
 pair_call : (rows : List Row) → HasPair rows → (p : PairCall) × GivesPair rows p

@@ -23,6 +23,9 @@ use Rattle.clap.specs.declared.builder.value_parser.ValueParser.{ValueParser}
 use Rattle.clap.specs.declared.builder.value_parser.ValueParser.TheVariants as parser
 use Rattle.clap.specs.declared.builder.value_parser.Reading.{Reading}
 use Rattle.clap.specs.declared.builder.value_parser.Reading.TheVariants.{AsWritten}
+use Rattle.in_order_parallel.specs.Limits.{worker_limit}
+use Rattle.command_words.specs.Limits.{pair_limit, step_limit, seed_limit, format_limit, size_limit}
+use Rattle.command_words.specs.Limits.{default_pairs_word, default_steps_word, default_workers_word, default_seed_word, default_format_word}
 use Rattle.command_words.specs.CommandSet.{command_set, IsTaken, prove_command, refute_command, bench_command, pair_command, number_option, flag_option}
 use Rattle.command_words.specs.Present.{HasText, HasNumber, HasFlag, HasProve, HasRefute, HasBench, HasPair, HasCommand, MatchesHave}
 use Rattle.command_words.proofs.Found.{found}
@@ -206,11 +209,11 @@ prove_has words e =
     let g = good_level (leaf prove_command) plain refl words e in
     record {
       file = text_read g (codes "file") 1 parser.String refl refl;
-      pairs = number_read g (codes "pairs") 1 1000000 (codes "5000") refl refl refl;
-      steps = number_read g (codes "steps") 1 1000000 (codes "20000") refl refl refl;
-      workers = number_read g (codes "workers") 1 64 (codes "4") refl refl refl;
-      seed = number_read g (codes "seed") 0 18446744073709551615 (codes "1") refl refl refl;
-      format = number_read g (codes "format") 1 2 (codes "2") refl refl refl;
+      pairs = number_read g (codes "pairs") 1 pair_limit default_pairs_word refl refl refl;
+      steps = number_read g (codes "steps") 1 step_limit default_steps_word refl refl refl;
+      workers = number_read g (codes "workers") 1 worker_limit default_workers_word refl refl refl;
+      seed = number_read g (codes "seed") 0 seed_limit default_seed_word refl refl refl;
+      format = number_read g (codes "format") 1 format_limit default_format_word refl refl refl;
       models = flag_read g (codes "no-models") refl refl;
     }
 
@@ -219,14 +222,14 @@ refute_has words e =
     let g = good_level (leaf refute_command) (takes_one refl, (takes_one refl, (takes_one refl, tt))) refl words e in
     record {
       file = text_read g (codes "file") 1 parser.String refl refl;
-      workers = number_read g (codes "workers") 1 64 (codes "4") refl refl refl;
-      seed = number_read g (codes "seed") 0 18446744073709551615 (codes "1") refl refl refl;
+      workers = number_read g (codes "workers") 1 worker_limit default_workers_word refl refl refl;
+      seed = number_read g (codes "seed") 0 seed_limit default_seed_word refl refl refl;
     }
 
 bench_has : (words : List Text) → level_fault (leaf bench_command) [] nothing_held words false [] ≡ [] → HasBench (rows_after (leaf bench_command).rules [] words)
 bench_has words e =
     let g = good_level (leaf bench_command) (takes_one refl, (takes_one refl, tt)) refl words e in
-    record { size = value_read g (codes "size") 1 1 60 refl refl; workers = number_read g (codes "workers") 1 64 (codes "4") refl refl refl }
+    record { size = value_read g (codes "size") 1 1 size_limit refl refl; workers = number_read g (codes "workers") 1 worker_limit default_workers_word refl refl refl }
 
 pair_has : (name : Text) (words : List Text) → level_fault (leaf (pair_command name)) [] nothing_held words false [] ≡ [] → HasPair (rows_after (leaf (pair_command name)).rules [] words)
 pair_has name words e =

@@ -3,6 +3,9 @@ use Rattle.std.specs.Prelude.{◌≡◌, ◌≤◌, ⊤, Bool, ℕ, List, [], �
 use Rattle.std.specs.Str.{bytes_eq}
 use Rattle.std.specs.Str.Parse.{digits_value, without_leading_plus}
 use Rattle.clap.specs.Words.{Row, Text, first_of, one_of}
+use Rattle.in_order_parallel.specs.Limits.{worker_limit}
+use Rattle.command_words.specs.Limits.{pair_limit, step_limit, seed_limit, format_limit, size_limit}
+use Rattle.command_words.specs.Limits.{default_pairs, default_steps, default_workers, default_seed, default_format}
 use Rattle.command_words.specs.Accepted.{Given, given_words, IsFileWord, Span, AreOptions, option_of, number_or, is_flag}
 use Rattle.command_words.specs.declared.call.Call.{Call}
 use Rattle.command_words.specs.declared.call.Call.TheVariants.{Prove, Check, Refute, Model, Bench}
@@ -60,27 +63,29 @@ abbrev pub IsWithin : ℕ → ℕ → ℕ → Type 0
 IsWithin least most n = (least ≤ n) × (n ≤ most)
 
 abbrev pub IsInRange : Call → Type 0
-IsInRange (Prove p) = IsWithin 1 1000000 p.pairs × IsWithin 1 1000000 p.steps × IsWithin 1 64 p.workers × IsWithin 0 18446744073709551615 p.seed × IsWithin 1 2 p.format
-IsInRange (Refute r) = IsWithin 1 64 r.workers × IsWithin 0 18446744073709551615 r.seed
-IsInRange (Bench b) = IsWithin 1 60 b.size × IsWithin 1 64 b.workers
+IsInRange (Prove p) =
+    IsWithin 1 pair_limit p.pairs × IsWithin 1 step_limit p.steps × IsWithin 1 worker_limit p.workers × IsWithin 0 seed_limit p.seed
+    × IsWithin 1 format_limit p.format
+IsInRange (Refute r) = IsWithin 1 worker_limit r.workers × IsWithin 0 seed_limit r.seed
+IsInRange (Bench b) = IsWithin 1 size_limit b.size × IsWithin 1 worker_limit b.workers
 IsInRange (Check p) = ⊤
 IsInRange (Model p) = ⊤
 
 -- ---- of an accepted list
 
 abbrev pub prove_spans : List Span
-prove_spans = record { id = codes "pairs"; least = 1; most = 1000000 }
-    ∷ record { id = codes "steps"; least = 1; most = 1000000 }
-    ∷ record { id = codes "workers"; least = 1; most = 64 }
-    ∷ record { id = codes "seed"; least = 0; most = 18446744073709551615 }
-    ∷ record { id = codes "format"; least = 1; most = 2 } ∷ []
+prove_spans = record { id = codes "pairs"; least = 1; most = pair_limit }
+    ∷ record { id = codes "steps"; least = 1; most = step_limit }
+    ∷ record { id = codes "workers"; least = 1; most = worker_limit }
+    ∷ record { id = codes "seed"; least = 0; most = seed_limit }
+    ∷ record { id = codes "format"; least = 1; most = format_limit } ∷ []
 
 abbrev pub refute_spans : List Span
-refute_spans = record { id = codes "workers"; least = 1; most = 64 }
-    ∷ record { id = codes "seed"; least = 0; most = 18446744073709551615 } ∷ []
+refute_spans = record { id = codes "workers"; least = 1; most = worker_limit }
+    ∷ record { id = codes "seed"; least = 0; most = seed_limit } ∷ []
 
 abbrev pub bench_spans : List Span
-bench_spans = record { id = codes "workers"; least = 1; most = 64 } ∷ []
+bench_spans = record { id = codes "workers"; least = 1; most = worker_limit } ∷ []
 
 -- the command first, then its file, then its options
 pub record NamesProve (words : List Text) (p : ProveCall) : Type 0 where
@@ -88,11 +93,11 @@ pub record NamesProve (words : List Text) (p : ProveCall) : Type 0 where
   pub words_are : words ≡ codes "prove" ∷ p.file ∷ flat_map given_words given
   pub file : IsFileWord p.file
   pub options : AreOptions prove_spans (codes "no-models" ∷ []) given
-  pub pairs : p.pairs ≡ number_or 5000 (option_of (codes "pairs") given)
-  pub steps : p.steps ≡ number_or 20000 (option_of (codes "steps") given)
-  pub workers : p.workers ≡ number_or 4 (option_of (codes "workers") given)
-  pub seed : p.seed ≡ number_or 1 (option_of (codes "seed") given)
-  pub format : p.format ≡ number_or 2 (option_of (codes "format") given)
+  pub pairs : p.pairs ≡ number_or default_pairs (option_of (codes "pairs") given)
+  pub steps : p.steps ≡ number_or default_steps (option_of (codes "steps") given)
+  pub workers : p.workers ≡ number_or default_workers (option_of (codes "workers") given)
+  pub seed : p.seed ≡ number_or default_seed (option_of (codes "seed") given)
+  pub format : p.format ≡ number_or default_format (option_of (codes "format") given)
   pub models : p.models ≡ not (is_flag (option_of (codes "no-models") given))
 
 pub record NamesRefute (words : List Text) (r : RefuteCall) : Type 0 where
@@ -100,16 +105,16 @@ pub record NamesRefute (words : List Text) (r : RefuteCall) : Type 0 where
   pub words_are : words ≡ codes "refute" ∷ r.file ∷ flat_map given_words given
   pub file : IsFileWord r.file
   pub options : AreOptions refute_spans [] given
-  pub workers : r.workers ≡ number_or 4 (option_of (codes "workers") given)
-  pub seed : r.seed ≡ number_or 1 (option_of (codes "seed") given)
+  pub workers : r.workers ≡ number_or default_workers (option_of (codes "workers") given)
+  pub seed : r.seed ≡ number_or default_seed (option_of (codes "seed") given)
 
 pub record NamesBench (words : List Text) (b : BenchCall) : Type 0 where
   pub given : List Given
   pub words_are : words ≡ codes "bench" ∷ decimal b.size ∷ flat_map given_words given
   pub least : 1 ≤ b.size
-  pub most : b.size ≤ 60
+  pub most : b.size ≤ size_limit
   pub options : AreOptions bench_spans [] given
-  pub workers : b.workers ≡ number_or 4 (option_of (codes "workers") given)
+  pub workers : b.workers ≡ number_or default_workers (option_of (codes "workers") given)
 
 pub record NamesPair (name : Text) (words : List Text) (p : PairCall) : Type 0 where
   pub words_are : words ≡ name ∷ p.statement ∷ p.evidence ∷ []

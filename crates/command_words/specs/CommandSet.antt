@@ -3,6 +3,9 @@ use Rattle.std.specs.Prelude.{◌≡◌, ℕ, true, List, [], ◌∷◌, Some, c
 use Rattle.clap.specs.Words.{App, Rule, Text, new_app, new_rule, with_rule, with_subcommand, fault_of}
 use Rattle.clap.specs.declared.builder.ArgAction.TheVariants.{Set, SetTrue}
 use Rattle.clap.specs.declared.builder.value_parser.ValueParser.TheVariants as parser
+use Rattle.in_order_parallel.specs.Limits.{worker_limit}
+use Rattle.command_words.specs.Limits.{pair_limit, step_limit, seed_limit, format_limit, size_limit}
+use Rattle.command_words.specs.Limits.{default_pairs_word, default_steps_word, default_workers_word, default_seed_word, default_format_word}
 
 -- a word that has to be given, by its place
 abbrev pub required_word : Text → Rule
@@ -26,10 +29,10 @@ flag_option id = record (new_rule id) { long = Some id; action = Some SetTrue }
 
 -- the options that more than one command has
 abbrev pub workers_option : Rule
-workers_option = number_option (codes "workers") 1 64 (codes "4")
+workers_option = number_option (codes "workers") 1 worker_limit default_workers_word
 
 abbrev pub seed_option : Rule
-seed_option = number_option (codes "seed") 0 18446744073709551615 (codes "1")
+seed_option = number_option (codes "seed") 0 seed_limit default_seed_word
 
 -- the command with these arguments behind those that it has
 abbrev pub with_rules : App → List Rule → App
@@ -39,18 +42,18 @@ with_rules a (r ∷ rs) = with_rules (with_rule a r) rs
 abbrev pub prove_command : App
 prove_command = with_rule (with_rule (with_rule (with_rule (with_rule (with_rule (with_rule (new_app (codes "prove"))
     (required_word (codes "file")))
-    (number_option (codes "pairs") 1 1000000 (codes "5000")))
-    (number_option (codes "steps") 1 1000000 (codes "20000")))
+    (number_option (codes "pairs") 1 pair_limit default_pairs_word))
+    (number_option (codes "steps") 1 step_limit default_steps_word))
     workers_option)
     seed_option)
-    (number_option (codes "format") 1 2 (codes "2")))
+    (number_option (codes "format") 1 format_limit default_format_word))
     (flag_option (codes "no-models"))
 
 abbrev pub refute_command : App
 refute_command = with_rule (with_rule (with_rule (new_app (codes "refute")) (required_word (codes "file"))) workers_option) seed_option
 
 abbrev pub bench_command : App
-bench_command = with_rule (with_rule (new_app (codes "bench")) (required_number (codes "size") 1 60)) workers_option
+bench_command = with_rule (with_rule (new_app (codes "bench")) (required_number (codes "size") 1 size_limit)) workers_option
 
 -- a command of a statement and a second file
 abbrev pub pair_command : Text → App

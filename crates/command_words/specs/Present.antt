@@ -2,6 +2,8 @@
 use Rattle.std.specs.Prelude.{◌≡◌, ◌⊎◌, ℕ, List, Option, Some, None, codes}
 use Rattle.clap.specs.Values.{IsUnsignedIn}
 use Rattle.clap.specs.Words.{Row, Text, first_of, one_of}
+use Rattle.in_order_parallel.specs.Limits.{worker_limit}
+use Rattle.command_words.specs.Limits.{pair_limit, step_limit, seed_limit, format_limit, size_limit}
 
 abbrev pub HasText : Text → List Row → Type 0
 HasText id rows = (t : Text) × (first_of id rows ≡ Some t)
@@ -15,21 +17,21 @@ HasFlag id rows = (one_of id rows ≡ Some (codes "true")) ⊎ (one_of id rows �
 
 pub record HasProve (rows : List Row) : Type 0 where
   pub file : HasText (codes "file") rows
-  pub pairs : HasNumber (codes "pairs") 1 1000000 rows
-  pub steps : HasNumber (codes "steps") 1 1000000 rows
-  pub workers : HasNumber (codes "workers") 1 64 rows
-  pub seed : HasNumber (codes "seed") 0 18446744073709551615 rows
-  pub format : HasNumber (codes "format") 1 2 rows
+  pub pairs : HasNumber (codes "pairs") 1 pair_limit rows
+  pub steps : HasNumber (codes "steps") 1 step_limit rows
+  pub workers : HasNumber (codes "workers") 1 worker_limit rows
+  pub seed : HasNumber (codes "seed") 0 seed_limit rows
+  pub format : HasNumber (codes "format") 1 format_limit rows
   pub models : HasFlag (codes "no-models") rows
 
 pub record HasRefute (rows : List Row) : Type 0 where
   pub file : HasText (codes "file") rows
-  pub workers : HasNumber (codes "workers") 1 64 rows
-  pub seed : HasNumber (codes "seed") 0 18446744073709551615 rows
+  pub workers : HasNumber (codes "workers") 1 worker_limit rows
+  pub seed : HasNumber (codes "seed") 0 seed_limit rows
 
 pub record HasBench (rows : List Row) : Type 0 where
-  pub size : HasNumber (codes "size") 1 60 rows
-  pub workers : HasNumber (codes "workers") 1 64 rows
+  pub size : HasNumber (codes "size") 1 size_limit rows
+  pub workers : HasNumber (codes "workers") 1 worker_limit rows
 
 pub record HasPair (rows : List Row) : Type 0 where
   pub statement : HasText (codes "statement") rows

@@ -6,8 +6,13 @@ ghost use Rattle.clap.specs.Words.{app_of, rule_of, with_subcommand};
 ghost use Rattle.clap.specs.declared.builder.command.Command.TheViews.{out-Command as fields_of};
 ghost use Rattle.command_words.specs.CommandSet.{command_set, with_rules, bare_command, prove_command, refute_command, bench_command, pair_command, required_word, required_number, number_option, workers_option, seed_option, flag_option};
 
+use crate::limits::{
+    DEFAULT_FORMAT_WORD, DEFAULT_PAIRS_WORD, DEFAULT_SEED_WORD, DEFAULT_STEPS_WORD,
+    DEFAULT_WORKERS_WORD, FORMAT_LIMIT, PAIR_LIMIT, SIZE_LIMIT, STEP_LIMIT,
+};
 use clap::builder::ValueParser;
 use clap::{Arg, ArgAction, Command};
+use in_order_parallel::WORKER_LIMIT;
 use std::alloc::{AllocError, Global};
 
 fn required_word<'a>(alloc: Global, id: &'a str) -> Arg<'a>
@@ -41,14 +46,20 @@ fn workers_option<'a>(alloc: Global) -> Arg<'a>
     ensures rule { rule_of result ≡ workers_option }
     ensures local { result.global ≡ false }
 {
-    number_option(alloc, "workers", 1, 64, "4")
+    number_option(
+        alloc,
+        "workers",
+        1,
+        u64::from(WORKER_LIMIT),
+        DEFAULT_WORKERS_WORD,
+    )
 }
 
 fn seed_option<'a>(alloc: Global) -> Arg<'a>
     ensures rule { rule_of result ≡ seed_option }
     ensures local { result.global ≡ false }
 {
-    number_option(alloc, "seed", 0, u64::MAX, "1")
+    number_option(alloc, "seed", 0, u64::MAX, DEFAULT_SEED_WORD)
 }
 
 fn flag_option<'a>(alloc: Global, id: &'a str) -> Arg<'a>
@@ -73,11 +84,11 @@ fn prove_command<'a>(alloc: Global) -> Result<Command<'a>, AllocError>
 {
     let args = vec![in alloc;
         required_word(alloc, "file"),
-        number_option(alloc, "pairs", 1, 1000000, "5000"),
-        number_option(alloc, "steps", 1, 1000000, "20000"),
+        number_option(alloc, "pairs", 1, PAIR_LIMIT, DEFAULT_PAIRS_WORD),
+        number_option(alloc, "steps", 1, STEP_LIMIT, DEFAULT_STEPS_WORD),
         workers_option(alloc),
         seed_option(alloc),
-        number_option(alloc, "format", 1, 2, "2"),
+        number_option(alloc, "format", 1, FORMAT_LIMIT, DEFAULT_FORMAT_WORD),
         flag_option(alloc, "no-models"),
     ]?;
     with_args(Command::new(alloc, "prove"), args)
@@ -100,7 +111,7 @@ fn bench_command<'a>(alloc: Global) -> Result<Command<'a>, AllocError>
     ensures local { IfOk result (λ c. (fields_of c).has_globals ≡ false) }
 {
     let args = vec![in alloc;
-        required_number(alloc, "size", 1, 60),
+        required_number(alloc, "size", 1, SIZE_LIMIT),
         workers_option(alloc),
     ]?;
     with_args(Command::new(alloc, "bench"), args)

@@ -10,7 +10,7 @@ use Rattle.word_core.specs.Canonical.{word_cmp}
 use Rattle.word_core.specs.Letters.{IsOver}
 use Rattle.word_orders.specs.Admissible.{IsAdmissible}
 use Rattle.word_orders.specs.Rank.{rank_of}
-use Rattle.word_orders.specs.CanonicalLaws.{word_cmp-admissible}
+use Rattle.word_core.proofs.CanonicalLaws.{word_cmp-admissible}
 use Rattle.nc_polynomial.specs.Shape.{IsShaped, IsCanonical}
 use Rattle.cofactor_trace.specs.declared.Made.{Made}
 use Rattle.rule_reduce.specs.declared.rule.Rule.{Rule}

@@ -18,7 +18,7 @@ use adjoint_rules::adjoint_word;
 use coef_int::Overflow;
 use lists::Listing;
 use nc_polynomial::{Poly, PolyFault, RunningSum, WORD_LIMIT, negate_terms};
-use quiver::Quiver;
+use quiver::{OBJECT_LIMIT, Quiver};
 use statement_syntax::{Factor, Mark, Number, Primary, Sum, Term};
 use std::alloc::{AllocError, Global};
 use word_core::{Letter, Word};
@@ -40,7 +40,7 @@ pub fn equation_poly(
     ensures exact { MatchResult result (λ p. equation_poly quiver.now left.now right.now ≡ Ok p.terms) (Explains (equation_poly quiver.now left.now right.now)) }
 {
     // A quiver is made of declarations, so the adjoints of its letters are letters.
-    prove!(quiver.objects() <= 64);
+    prove!(quiver.objects() <= OBJECT_LIMIT);
     let minuend = sum_poly(alloc, quiver, left)?;
     let subtrahend = sum_poly(alloc, quiver, right)?;
     add_summand(alloc, minuend, true, subtrahend)

@@ -7,4 +7,4 @@ mod spread;
 
 pub use gate::{Gate, OpenGate};
 pub use job::Job;
-pub use spread::map_in_order;
+pub use spread::{WORKER_LIMIT, map_in_order};

@@ -3,10 +3,14 @@
 ghost use Rattle.std.specs.Prelude.{◌≡◌, ◌<◌, ◌≤◌, ◌+◌, ◌-◌, ◌*◌, ◌/◌, ◌%◌, ◌^◌, min, length, IfOk};
 ghost use Rattle.std.specs.List.{All, AllZip};
 ghost use Rattle.std.specs.Thread.{IsSync};
+ghost use Rattle.in_order_parallel.specs.Limits.{worker_limit};
 
 use crate::{Gate, Job};
 use std::alloc::{AllocError, Global};
 use std::thread::{Threads, join};
+
+/// The greatest number of workers.
+pub const WORKER_LIMIT: u32 = 64;
 
 // The answers to a part of the items, of which the first has the place `first`, on this thread.
 fn in_turn<J: Job, G: Gate>(
@@ -103,7 +107,7 @@ where
     J::In: Sync,
     J::Out: Drop + Send,
     requires some_worker { 0 < workers }
-    requires at_most_64 { workers ≤ 64 }
+    requires few_workers { workers ≤ worker_limit }
     requires can_go { All (J.can_go job.now) items.now }
     ensures answers { IfOk result (λ answers. AllZip (J.gives job.now) items.now answers.items) }
 {

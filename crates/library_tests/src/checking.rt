@@ -106,7 +106,12 @@ const OVER_MAPS: &[Row] = &[
     (1, "1", "", "a: want 1 got 0"),
     (0, "0", "", "the certificate names no claim"),
     (2, "1", "", "the certificate names no claim"),
-    (1, "0", "1 () g9 ()", "the denominator is below 1"),
+    (
+        1,
+        "0",
+        "1 () g9 ()",
+        "the denominator or a scale is below 1",
+    ),
     (
         1,
         "1",

@@ -3,6 +3,7 @@ ghost use Rattle.std.specs.Prelude.{◌≡◌, ◌≢◌, ◌≤◌, ◌^◌, �
 ghost use Rattle.std.specs.Ordering.{nat_cmp, ordering_reverse};
 ghost use Rattle.std.specs.Cmp.Lexicographic.{slice_cmp};
 ghost use Rattle.std.specs.declared.cmp.Ordering.TheVariants.{Less, Equal};
+ghost use Rattle.word_orders.specs.Measured.{measured_cmp};
 ghost use Rattle.word_orders.specs.Specified.{letters_of};
 
 use crate::notation::word;
@@ -13,7 +14,9 @@ use std::cmp::Ordering;
 use std::process::Abort;
 use std::test::Fail;
 use word_core::{Letter, Word};
-use word_orders::{AnyOrder, BlockLex, DegLex, OrderFault, OrderSpec, WeightLex, WordOrder};
+use word_orders::{
+    AnyOrder, BlockLex, DegLex, MEASURED_LETTERS, OrderFault, OrderSpec, WeightLex, WordOrder,
+};
 
 // As many letters as a word can tell apart.
 const LETTERS: u32 = 65536;
@@ -134,6 +137,7 @@ fn compared<O: WordOrder>(order: &O, left: &Word, right: &Word) -> Ordering
     ensures exact { result ≡ O.compare order.now left.now right.now }
     ensures same { result ≡ Equal ↔ (left.now ≡ right.now) }
     ensures turned { O.compare order.now right.now left.now ≡ ordering_reverse result }
+    ensures measured { result ≡ measured_cmp (O.measure_of order.now) left.now right.now }
     ensures ranked { result ≡ slice_cmp nat_cmp (O.rank order.now left.now) (O.rank order.now right.now) }
     ensures rank_length { length (O.rank order.now left.now) ≡ length (O.rank order.now right.now) }
     ensures rank_short { length (O.rank order.now left.now) ≤ 3 }
@@ -301,11 +305,53 @@ fn compare_rows(
     Ok(())
 }
 
+// The number of a word that an order compares first.
+fn measured<O: WordOrder>(order: &O, word: &Word) -> Result<u32, Fail>
+    ensures { IfOk result (λ number. number ≡ O.measure_of order.now word.now) }
+{
+    if word.len() > MEASURED_LETTERS {
+        return Err(Fail::new("a word is too long to be measured"));
+    }
+    Ok(order.measure(word))
+}
+
+// A word, and what is compared first in the canonical order, by the weights and by the block.
+type Measured = (&'static str, [u32; 3]);
+
+const MEASURED: &[Measured] = &[
+    ("", [0, 0, 0]),
+    ("bab", [0, 1006, 1]),
+    ("hhh", [0, 3, 0]),
+    ("abcdc", [0, 1014, 3]),
+    ("cb^2", [0, 16, 2]),
+    ("a^65535", [0, 65_535_000, 65535]),
+];
+
+fn measure_rows(
+    rt: &impl Abort,
+    alloc: Global,
+    degree: &AnyOrder,
+    by_weight: &AnyOrder,
+    by_block: &AnyOrder,
+) -> Result<(), Fail> {
+    for row in MEASURED {
+        let letters = word(alloc, row.0)?;
+        let got = [
+            measured(degree, &letters)?,
+            measured(shared(by_weight), &letters)?,
+            measured(by_block, &letters)?,
+        ];
+        equal(rt, &got, &row.1, row.0);
+    }
+    Ok(())
+}
+
 #[test]
 fn orders_compare_what_they_are_named_for(rt: HostRuntime) -> Result<(), Fail> {
     let alloc = rt.alloc();
     let by_weight = by_weights(alloc, HEAVY, LETTERS)?;
     let by_block = by_block(alloc, BLOCK, LETTERS)?;
     let degree = AnyOrder::new(alloc, &OrderSpec::Degree, LETTERS)?;
-    compare_rows(&rt, alloc, &degree, &by_weight, &by_block)
+    compare_rows(&rt, alloc, &degree, &by_weight, &by_block)?;
+    measure_rows(&rt, alloc, &degree, &by_weight, &by_block)
 }

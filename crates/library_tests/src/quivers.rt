@@ -144,8 +144,11 @@ const REFUSALS: &[Refusals] = &[
     ),
     (
         0,
-        198,
-        &[("m7", false, DOUBLE), ("n", false, "there are 200 already")],
+        998,
+        &[
+            ("m7", false, DOUBLE),
+            ("n", false, "there are 1000 already"),
+        ],
     ),
 ];
 
@@ -197,7 +200,7 @@ fn refuse(
 #[test]
 fn the_last_names_are_found(rt: HostRuntime) -> Result<(), Fail> {
     let mut quiver = small(rt.alloc())?;
-    declare(rt.alloc(), &mut quiver, 62, 198)?;
+    declare(rt.alloc(), &mut quiver, 62, 998)?;
     find_last_names(&rt, &quiver);
     Ok(())
 }
@@ -205,8 +208,8 @@ fn the_last_names_are_found(rt: HostRuntime) -> Result<(), Fail> {
 fn find_last_names(rt: &impl Abort, quiver: &Quiver) {
     let object = Some(Named::Object(Object(63)));
     equal(rt, &quiver.find("V61"), &object, "V61");
-    let map = Some(Named::Map(Letter(461)));
-    equal(rt, &quiver.find("m197"), &map, "m197");
+    let map = Some(Named::Map(Letter(2061)));
+    equal(rt, &quiver.find("m997"), &map, "m997");
 }
 
 // A polynomial as its words, and its signature.

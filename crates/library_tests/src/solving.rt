@@ -1,8 +1,9 @@
 //! Linear equations modulo a prime, and which of their solutions is given.
 ghost use Rattle.std.specs.Prelude.{◌<◌, All, IsTrue};
-ghost use Rattle.matrix_models.specs.Systems.{IsFieldModulus, IsEquation, IsSystem, AreValues};
+ghost use Rattle.matrix_models.specs.Systems.{IsEquation, IsSystem, AreValues};
 
 use crate::texts::same;
+use adjoint_rules::is_field_modulus;
 use lists::Listing;
 use matrix_models::{LinearRow, System, solve};
 use std::alloc::{AllocError, Global};
@@ -28,13 +29,6 @@ const ROWS: &[Row] = &[
     (3, 0, &[(&[], 0)], &[], ""),
     (3, 0, &[(&[], 2)], &[], "none"),
 ];
-
-// Whether models have this modulus.
-fn is_field_modulus(modulus: u32) -> bool
-    ensures { IsTrue result → IsFieldModulus modulus }
-{
-    matches!(modulus, 2 | 3 | 5 | 7 | 101 | 32003 | 65537)
-}
 
 // Whether all values are below the modulus.
 fn are_below(modulus: u32, values: &[u32]) -> bool
@@ -63,7 +57,7 @@ fn are_equations(modulus: u32, unknowns: u32, rows: &[LinearRow]) -> bool
 fn is_system(system: &System) -> bool
     ensures { IsTrue result → IsSystem system.now }
 {
-    is_field_modulus(system.modulus)
+    is_field_modulus(u128::from(system.modulus))
         && are_equations(system.modulus, system.unknowns, system.rows.as_slice())
 }
 

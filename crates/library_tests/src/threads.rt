@@ -1,5 +1,6 @@
 //! A job at each item of a slice: that threads are started, what the gate sees, and that the calls succeed.
 ghost use Rattle.std.specs.Prelude.{◌≡◌, ◌<◌, ◌≤◌, ◌*◌, IfOk, map};
+ghost use Rattle.in_order_parallel.specs.Limits.{worker_limit};
 
 use crate::texts::{equal, holds};
 use in_order_parallel::{Gate, Job, OpenGate, map_in_order};
@@ -34,7 +35,7 @@ fn doubled<R: Threads + Sync, G: Gate + Sync>(
     gate: &G,
 ) -> Result<Vec<u64>, AllocError>
     requires some_worker { 0 < workers }
-    requires at_most_64 { workers ≤ 64 }
+    requires few_workers { workers ≤ worker_limit }
     ensures { IfOk result (λ answers. answers.items ≡ map (λ number. 2 * number) numbers.now) }
 {
     map_in_order(rt, alloc, numbers, &Doubling, workers, gate)

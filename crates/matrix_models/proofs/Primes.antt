@@ -5,7 +5,7 @@ use Rattle.std.proofs.lemmas.Nat.{mul-le, mul-mod_first, mul-mod_second}
 use Rattle.std.proofs.Math.Nat.{mul-mod_left, mul-mod_right, mod-add-div, mod_self, mod-eq_of_lt, div-le_self}
 use Rattle.std.specs.List.{list_any, AllByRecursion}
 use Rattle.matrix_models.proofs.Congruences.{add_cancel}
-use Rattle.matrix_models.specs.Systems.{field_moduli, IsFieldModulus}
+use Rattle.definitions.specs.Moduli.{field_moduli, IsFieldModulus}
 
 -- no number from 2 on below m divides it
 abbrev IsPrime : ℕ → Type 0

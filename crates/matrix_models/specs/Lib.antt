@@ -1,3 +1,4 @@
+pub mod Limits
 pub mod Matrix
 pub mod Matrices
 pub mod Totals

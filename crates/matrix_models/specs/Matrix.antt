@@ -1,6 +1,7 @@
 -- Matrices over the integers modulo a number.
 use Rattle.std.specs.Prelude.{◌≡◌, ℕ, ◌+◌, ◌*◌, ◌/◌, ◌%◌, ◌^◌, ◌<◌, ◌≤◌, List, length, get_or, map, nat_le, Option, position, All}
 use Rattle.std.specs.List.{range_with_len}
+use Rattle.matrix_models.specs.Limits.{side_limit, modulus_limit}
 
 -- the entries stand row by row
 pub record Matrix : Type 0 where
@@ -24,11 +25,11 @@ matrix_of modulus rows columns entry = record {
 
 pub record IsModulus (m : ℕ) : Type 0 where
   pub at_least : 2 ≤ m
-  pub below : m < 2 ^ 31
+  pub at_most : m ≤ modulus_limit
 
 pub record IsSide (n : ℕ) : Type 0 where
   pub positive : 1 ≤ n
-  pub at_most : n ≤ 64
+  pub at_most : n ≤ side_limit
 
 -- A matrix with these sides has so many entries.
 pub record HasShape (rows columns count : ℕ) : Type 0 where

@@ -1,17 +1,9 @@
 -- Systems of linear equations over the integers modulo a prime, and what solves them.
-use Rattle.std.specs.Prelude.{◌≡◌, ℕ, ◌*◌, ◌%◌, ◌<◌, List, [], ◌∷◌, length, get_or, nat_eq, All, IsTrue}
-use Rattle.std.specs.List.{list_any}
+use Rattle.std.specs.Prelude.{◌≡◌, ℕ, ◌*◌, ◌%◌, ◌<◌, List, length, get_or, All}
+use Rattle.definitions.specs.Moduli.{IsFieldModulus}
 use Rattle.matrix_models.specs.Matrices.{total}
 use Rattle.matrix_models.specs.declared.system.LinearRow.{LinearRow}
 use Rattle.matrix_models.specs.declared.system.System.{System}
-
--- the moduli of models: each number from 1 to the modulus less 1 has an inverse
-abbrev pub field_moduli : List ℕ
-field_moduli = 2 ∷ 3 ∷ 5 ∷ 7 ∷ 101 ∷ 32003 ∷ 65537 ∷ []
-
--- one of them
-abbrev pub IsFieldModulus : ℕ → Type 0
-IsFieldModulus m = IsTrue (list_any (nat_eq m) field_moduli)
 
 -- An equation has one factor for each unknown, and numbers below the modulus.
 pub record IsEquation (m unknowns : ℕ) (row : LinearRow) : Type 0 where

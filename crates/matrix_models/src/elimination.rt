@@ -1,7 +1,7 @@
 //! Elimination: an equation is added to pivots, or is found to be against them.
 
 ghost use Rattle.std.specs.Prelude.{◌≡◌, ◌≢◌, ℕ, ◌+◌, ◌*◌, ◌%◌, ◌<◌, length, get_or, All, IfSome, IfNone, IsTrue, IsFalse};
-ghost use Rattle.matrix_models.specs.Systems.{IsFieldModulus};
+ghost use Rattle.definitions.specs.Moduli.{IsFieldModulus};
 ghost use Rattle.matrix_models.specs.Elimination.{ArePivots, IsPivot, IsFree, HasLast, HasNoFactor, MeetsAlike, IsAdded, IsAgainst};
 
 use lists::Listing;

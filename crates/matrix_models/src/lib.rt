@@ -15,6 +15,6 @@ pub use fault::MatrixFault;
 pub use greedy::solve;
 pub use laws::{greedy_solution_is_unique, solvable_systems_have_a_greedy_solution};
 pub use matrices::Matrices;
-pub use matrix::Matrix;
+pub use matrix::{MODULUS_LIMIT, Matrix, SIDE_LIMIT};
 pub use model::Model;
 pub use system::{LinearRow, System};

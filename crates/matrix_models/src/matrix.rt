@@ -10,6 +10,12 @@ use lists::Duplicate;
 use std::alloc::{AllocError, Global};
 use std::marker::Model;
 
+/// The greatest modulus.
+pub const MODULUS_LIMIT: u32 = 2_147_483_647;
+
+/// The greatest side.
+pub const SIDE_LIMIT: u32 = 64;
+
 /// A matrix over the integers modulo a number from 2 to 2^31 - 1, with sides from 1 to 64. Its entries are below the modulus.
 #[derive(Drop)]
 pub struct Matrix {
@@ -153,8 +159,8 @@ impl Duplicate for Matrix {
 fn has_shape(rows: u32, columns: u32, count: usize) -> bool
     ensures { IsTrue result ↔ HasShape rows columns count }
 {
-    (1..=64).contains(&rows)
-        && (1..=64).contains(&columns)
+    (1..=SIDE_LIMIT).contains(&rows)
+        && (1..=SIDE_LIMIT).contains(&columns)
         && count == rows as usize * columns as usize
 }
 

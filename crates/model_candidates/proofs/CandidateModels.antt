@@ -5,9 +5,10 @@ use Rattle.std.proofs.lemmas.Bool.{cases_order, le-leb}
 use Rattle.std.proofs.lemmas.List.Elements.{All-get_or, All-weaker}
 use Rattle.std.proofs.lemmas.List.FromFn.{get_or-map-range_with_len, length-map-range_with_len}
 use Rattle.std.proofs.lemmas.List.Quantifiers.{position-Some}
+use Rattle.definitions.specs.Moduli.{field_moduli}
 use Rattle.definitions.specs.Quiver.{Quiver, IsQuiver, letters, source, target, star}
 use Rattle.adjoint_rules.specs.declared.parts.Shape.{Shape}
-use Rattle.adjoint_rules.specs.Problem.{moduli, IsShape}
+use Rattle.adjoint_rules.specs.Problem.{IsShape}
 use Rattle.adjoint_rules.specs.Problem as problem
 use Rattle.matrix_models.specs.Matrix.{IsModulus, IsSide, IsMatrix, entry_at}
 use Rattle.matrix_models.specs.Matrices.{transpose, IsObject}
@@ -20,9 +21,9 @@ use Rattle.model_candidates.proofs.EntryPlaces.{shown_mirrored, shown_behind}
 
 -- ---- the modulus
 within : (m : ℕ) → 2 ≤ m → m ≤ 65537 → IsModulus m
-within m least most = record { at_least = least; below = omega arith }
+within m least most = record { at_least = least; at_most = omega arith }
 
-each_is_modulus : AllByRecursion IsModulus moduli
+each_is_modulus : AllByRecursion IsModulus field_moduli
 each_is_modulus =
     let large : AllByRecursion IsModulus (101 ∷ 32003 ∷ 65537 ∷ []) =
     (within 101 (omega arith) (omega arith), (within 32003 (omega arith) (omega arith), (within 65537 (omega arith) (omega arith), tt))) in
@@ -50,7 +51,7 @@ map_at-model_by q s claim values a is =
 
 module _ (q : Quiver) (s : Shape) (quiver : IsQuiver q) (shape : IsShape q.objects s) where
   pub modulus_of_shape : IsModulus s.modulus
-  modulus_of_shape = any_of IsModulus s.modulus moduli each_is_modulus shape.modulus
+  modulus_of_shape = any_of IsModulus s.modulus field_moduli each_is_modulus shape.modulus
 
   each_side : All IsSide s.sides
   each_side =

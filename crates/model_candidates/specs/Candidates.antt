@@ -13,6 +13,7 @@ use Rattle.adjoint_rules.specs.declared.parts.Shape.{Shape}
 use Rattle.adjoint_rules.specs.declared.problem.Problem.{Problem}
 use Rattle.adjoint_rules.specs.Problem.{polynomials}
 use Rattle.model_checker.specs.Models.{IsZeroIn, Refutes}
+use Rattle.model_candidates.specs.Limits.{exhaustive_limit, drawn_count}
 
 -- ---- entries
 
@@ -95,10 +96,10 @@ value_lists q s = s.modulus ^ length (entries_of q s)
 
 -- whether all of them are tried
 abbrev pub is_exhaustive : Quiver → Shape → Bool
-is_exhaustive q s = nat_le (value_lists q s) 65536
+is_exhaustive q s = nat_le (value_lists q s) exhaustive_limit
 
 abbrev pub candidate_count : Quiver → Shape → ℕ
-candidate_count q s = if is_exhaustive q s then value_lists q s else 4096
+candidate_count q s = if is_exhaustive q s then value_lists q s else drawn_count
 
 -- those of all shapes of the problem
 abbrev pub all_candidate_count : Problem → ℕ

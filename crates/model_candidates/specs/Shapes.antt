@@ -1,16 +1,17 @@
 -- What is wrong with a shape, for callers that make one.
-use Rattle.std.specs.Prelude.{◌<◌, ℕ, length, take, get_or, nat_eq, IsTrue}
-use Rattle.std.specs.List.{All, list_any}
+use Rattle.std.specs.Prelude.{◌<◌, ℕ, length, take, get_or}
+use Rattle.std.specs.List.{All}
+use Rattle.definitions.specs.Moduli.{IsFieldModulus}
 use Rattle.adjoint_rules.specs.declared.parts.Shape.{Shape}
-use Rattle.adjoint_rules.specs.Problem.{moduli, IsSide}
+use Rattle.adjoint_rules.specs.Problem.{IsSide}
 use Rattle.model_candidates.specs.declared.shape_fault.ShapeFault.{ShapeFault}
 use Rattle.model_candidates.specs.declared.shape_fault.ShapeFault.TheVariants as fault
 
 -- its modulus is one of those of shapes
 abbrev pub HasModulus : Shape → Type 0
-HasModulus s = IsTrue (list_any (nat_eq s.modulus) moduli)
+HasModulus s = IsFieldModulus s.modulus
 
--- Its modulus is one, and the object with this number is the first whose side isn't from 1 to 6.
+-- Its modulus is one, and the object with this number is the first whose side isn't from 1 to the limit.
 pub record IsFirstBadSide (s : Shape) (object : ℕ) : Type 0 where
   pub modulus : HasModulus s
   pub inside : object < length s.sides

@@ -4,6 +4,7 @@ ghost use Rattle.definitions.specs.Quiver.{IsQuiver};
 ghost use Rattle.quiver.specs.Declarations.{object_count, quiver_of};
 ghost use Rattle.adjoint_rules.specs.declared.parts.Shape.{Shape as ShapeValue};
 ghost use Rattle.adjoint_rules.specs.Problem.{IsShape};
+ghost use Rattle.model_candidates.specs.Limits.{exhaustive_limit};
 ghost use Rattle.model_candidates.specs.Candidates.{IsShapeOf, candidate_count, all_candidate_count};
 
 use crate::entries::entry_count;
@@ -22,7 +23,7 @@ pub fn candidates(problem: &Problem, shape: u32) -> u32
     requires least { 1 ≤ shape }
     requires most { shape ≤ length problem.now.parts.shapes }
     ensures exact { (s : ShapeValue) → IsShapeOf problem.now shape s → result ≡ candidate_count (quiver_of problem.now.parts.quiver) s }
-    ensures few { result ≤ 65536 }
+    ensures few { result ≤ exhaustive_limit }
 {
     let place = shape as usize - 1;
     count_for(&problem.parts.quiver, problem.parts.shapes.at(place))
@@ -44,7 +45,7 @@ fn count_for(quiver: &Quiver, shape: &Shape) -> u32
     requires quiver { IsQuiver (quiver_of quiver.now) }
     requires shape { IsShape (object_count quiver.now) shape.now }
     ensures exact { result ≡ candidate_count (quiver_of quiver.now) shape.now }
-    ensures few { result ≤ 65536 }
+    ensures few { result ≤ exhaustive_limit }
 {
     match shape.modulus.checked_pow(entry_count(quiver, shape)) {
         Some(count) if count <= EXHAUSTIVE_LIMIT => count,
@@ -54,7 +55,7 @@ fn count_for(quiver: &Quiver, shape: &Shape) -> u32
 
 /// Whether there are so few lists of values of the entries that all are tried.
 pub(crate) fn is_exhaustive(modulus: u32, entries: u32) -> bool
-    ensures { result ≡ nat_le (modulus ^ entries) 65536 }
+    ensures { result ≡ nat_le (modulus ^ entries) exhaustive_limit }
 {
     match modulus.checked_pow(entries) {
         Some(count) => count <= EXHAUSTIVE_LIMIT,

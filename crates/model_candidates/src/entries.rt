@@ -3,8 +3,10 @@ ghost use Rattle.std.specs.Prelude.{◌≡◌, ◌<◌, ◌≤◌, length};
 ghost use Rattle.std.specs.List.{All};
 ghost use Rattle.definitions.specs.Quiver.{IsQuiver};
 ghost use Rattle.quiver.specs.Declarations.{letter_count, object_count, quiver_of};
+ghost use Rattle.adjoint_rules.specs.Limits.{shape_side_limit};
 ghost use Rattle.adjoint_rules.specs.Problem.{IsShape, IsSide};
 ghost use Rattle.model_candidates.specs.Candidates.{is_declared_map, map_entries, entries_of, side_in};
+ghost use Rattle.model_candidates.specs.Limits.{entry_limit};
 
 use adjoint_rules::Shape;
 use quiver::Quiver;
@@ -15,7 +17,7 @@ pub(crate) fn entry_count(quiver: &Quiver, shape: &Shape) -> u32
     requires quiver { IsQuiver (quiver_of quiver.now) }
     requires shape { IsShape (object_count quiver.now) shape.now }
     ensures count { result ≡ length (entries_of (quiver_of quiver.now) shape.now) }
-    ensures few { result ≤ 16704 }
+    ensures few { result ≤ entry_limit }
 {
     let mut count = 0;
     for number in 0..quiver.letters() {
@@ -59,7 +61,7 @@ pub(crate) fn side_at(shape: &Shape, object: Object) -> u32
     requires sides { All IsSide shape.now.sides }
     ensures value { result ≡ side_in shape.now object.0 }
     ensures least { 1 ≤ result }
-    ensures most { result ≤ 6 }
+    ensures most { result ≤ shape_side_limit }
 {
     *shape.sides.at(usize::from(object.0))
 }

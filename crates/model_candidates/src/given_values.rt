@@ -7,6 +7,7 @@ ghost use Rattle.matrix_models.specs.Matrix.{IsModulus, HasShape};
 ghost use Rattle.adjoint_rules.specs.Problem.{IsShape};
 ghost use Rattle.model_candidates.specs.Candidates.{digits, entries_of, entry, entry_shown, is_declared_map, is_self, matrix_by, model_by, side_in, value_of_entry};
 ghost use Rattle.model_candidates.specs.EntryPlaces.{entries_before, is_kept, place_within};
+ghost use Rattle.adjoint_rules.specs.Limits.{shape_side_limit};
 
 use crate::drawn_values::digits_of;
 use crate::entries::{is_declared, map_entry_count, side_at};
@@ -157,8 +158,8 @@ fn value_kept(
 
 // The place of an entry among those of its map.
 fn place_in_map(selfmade: bool, columns: u32, row: u32, column: u32) -> u32
-    requires columns_side { columns ≤ 6 }
-    requires row_in_range { row < 6 }
+    requires columns_side { columns ≤ shape_side_limit }
+    requires row_in_range { row < shape_side_limit }
     requires column_in_range { column < columns }
     requires kept { is_kept selfmade row column ≡ true }
     ensures { (a : ℕ) → result ≡ place_within a selfmade columns row column }

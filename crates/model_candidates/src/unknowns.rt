@@ -1,5 +1,6 @@
 //! The entries that are solved for, and values of them.
 ghost use Rattle.std.specs.Prelude.{◌≡◌, ◌≤◌, length, IfOk};
+ghost use Rattle.model_candidates.specs.Limits.{entry_limit};
 ghost use Rattle.model_candidates.specs.Unknowns.{set_count, filled, picked, unit_values};
 
 use lists::Listing;
@@ -7,7 +8,7 @@ use std::alloc::{AllocError, Global};
 
 /// How many entries are solved for.
 pub(crate) fn unknown_count(solved: &[bool]) -> u32
-    requires { length solved.now ≤ 16704 }
+    requires { length solved.now ≤ entry_limit }
     ensures { result ≡ set_count solved.now }
 {
     let mut count = 0;

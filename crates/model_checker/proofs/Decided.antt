@@ -1,8 +1,9 @@
 -- Whether a matrix is another, and whether it is one of a modulus, can be told.
-use Rattle.std.proofs.Common.{◌≡◌, ℕ, ◌*◌, ◌^◌, ◌<◌, ◌≤◌, List, [], ◌∷◌, length, ◌⊎◌, inl, inr, refl, ap, arith}
+use Rattle.std.proofs.Common.{◌≡◌, ℕ, ◌*◌, ◌<◌, ◌≤◌, List, [], ◌∷◌, length, ◌⊎◌, inl, inr, refl, ap, arith}
 use Rattle.std.specs.List.{AllByRecursion}
 use Rattle.std.proofs.lemmas.Bool.{cases_eq, cases_lt}
 use Rattle.std.proofs.lemmas.List.Elements.{All-from_recursion, recursion_from_All}
+use Rattle.matrix_models.specs.Limits.{modulus_limit, side_limit}
 use Rattle.matrix_models.specs.Matrix.{Matrix, IsModulus, IsSide, HasShape, IsMatrix}
 
 -- it holds, or it doesn't
@@ -55,7 +56,8 @@ matrix_decided a b =
     (both_decided (cases_eq a.modulus b.modulus) (both_decided (cases_eq a.rows b.rows) (both_decided (cases_eq a.columns b.columns) (list_decided a.entries b.entries))))
 
 side_decided : (n : ℕ) → IsDecided (IsSide n)
-side_decided n = decided_by (λ h. record { positive = h.0; at_most = h.1 }) (λ side. (side.positive, side.at_most)) (both_decided (le_decided 1 n) (le_decided n 64))
+side_decided n =
+    decided_by (λ h. record { positive = h.0; at_most = h.1 }) (λ side. (side.positive, side.at_most)) (both_decided (le_decided 1 n) (le_decided n side_limit))
 
 -- entries below the modulus, with their number and the sides
 pub is_matrix_decided : (m : ℕ) (a : Matrix) → IsDecided (IsMatrix m a)
@@ -66,7 +68,8 @@ is_matrix_decided m a =
     (both_decided modulus (both_decided (cases_eq a.modulus m) (both_decided shape (all_decided (λ entry. entry < m) (λ entry. lt_decided entry m) a.entries))))
   where
     modulus : IsDecided (IsModulus m)
-    modulus = decided_by (λ h. record { at_least = h.0; below = h.1 }) (λ is. (is.at_least, is.below)) (both_decided (le_decided 2 m) (lt_decided m (2 ^ 31)))
+    modulus =
+        decided_by (λ h. record { at_least = h.0; at_most = h.1 }) (λ is. (is.at_least, is.at_most)) (both_decided (le_decided 2 m) (le_decided m modulus_limit))
 
     shape : IsDecided (HasShape a.rows a.columns (length a.entries))
     shape =

@@ -13,7 +13,8 @@ use Rattle.model_checker.specs.RefutedMeans.{RefutedMeans}
 use Rattle.model_checker.proofs.Counterexamples.{refuting_models_are_counterexamples}
 
 -- it is a counterexample to the claim, in which all generators of the statement are zero
-pub refuted_means : (problem : Problem) (number : ℕ) (m : Model) → IsModel (quiver_of problem.parts.quiver) m → m.claim ≡ number → Refutes problem m → RefutedMeans problem number m
+pub refuted_means : (problem : Problem) (number : ℕ) (m : Model) → IsModel (quiver_of problem.parts.quiver) m → m.claim ≡ number → Refutes problem m
+    → RefutedMeans problem number m
 refuted_means problem number m is names refutes =
     let q = quiver_of problem.parts.quiver in
     let shown = refuting_models_are_counterexamples problem m is refutes in

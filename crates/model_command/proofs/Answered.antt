@@ -106,7 +106,8 @@ says_confirmed statement models ending answers = record {
 
 -- ---- what is owed
 
-pub model_owes : (statement models : List ℕ) → OwesEnding (AnswersModel statement models) (λ Object Arrow s ending. SaysConfirmed statement models ending.report)
+pub model_owes : (statement models : List ℕ)
+    → OwesEnding (AnswersModel statement models) (λ Object Arrow s ending. SaysConfirmed statement models ending.report)
 model_owes statement models = owed_over statement (AnswersModelText models) (λ Object Arrow s ending. SaysConfirmed statement models ending.report)
     (record {
       one = λ problem. text_answered (models_are_judged problem models);

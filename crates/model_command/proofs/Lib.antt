@@ -1,2 +1,2 @@
 pub mod Answered
-mod Laws
+mod Corollaries

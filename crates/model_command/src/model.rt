@@ -10,7 +10,7 @@ ghost use Rattle.model_command.specs.Answers.{ConfirmsModel, RefusesModelBlock, 
 use crate::text::{confirmed_text, model_cause};
 use adjoint_rules::Problem;
 use certificate_text::CertFault;
-use command_shape::{Block, Ending, Judged, Stop, judge_blocks, refused_evidence};
+use command_shape::{Ending, Judge, Judged, Stop, judge_blocks, refused_evidence};
 use lists::Listing;
 use matrix_models::Model;
 use model_checker::confirm_model;
@@ -24,7 +24,7 @@ pub fn judge_models(alloc: Global, problem: &Problem, text: &[u8]) -> Result<End
     ensures { EndsAs (AnswersModelText text.now problem.now) result }
 {
     let models = models_of(alloc, text, &problem.parts.quiver)?;
-    judge_blocks(alloc, problem, models.as_slice())
+    judge_blocks(alloc, &ModelChecker, problem, models.as_slice())
 }
 
 // The models of the text, or the ending that tells its first fault.
@@ -44,16 +44,22 @@ fn models_of(alloc: Global, text: &[u8], quiver: &Quiver) -> Result<Listing<Mode
     }
 }
 
-impl Block for Model {
+// The tests of models.
+#[derive(Clone, Copy)]
+struct ModelChecker;
+
+impl Judge for ModelChecker {
+    type Block = Model;
+
     ghost can_judge = { λ problem m. IsModel problem.parts.quiver m };
 
     ghost accepts = { ConfirmsModel };
 
     ghost refuses = { RefusesModelBlock };
 
-    fn judge(&self, alloc: Global, problem: &Problem) -> Result<Judged, AllocError> {
-        match confirm_model(alloc, problem, self) {
-            Ok(()) => Ok(Judged::Accepted(confirmed_text(alloc, self.claim)?)),
+    fn judge(&self, alloc: Global, problem: &Problem, block: &Model) -> Result<Judged, AllocError> {
+        match confirm_model(alloc, problem, block) {
+            Ok(()) => Ok(Judged::Accepted(confirmed_text(alloc, block.claim)?)),
             Err(refusal) => {
                 let cause = model_cause(alloc, &problem.parts.quiver, &refusal)?;
                 Ok(Judged::Refused(cause))

@@ -34,11 +34,7 @@ pub fn model_cause(
     Ok(text)
 }
 
-fn put_cause(
-    out: &mut Vec<u8>,
-    quiver: &Quiver,
-    refusal: &ModelRefusal,
-) -> Result<(), AllocError>
+fn put_cause(out: &mut Vec<u8>, quiver: &Quiver, refusal: &ModelRefusal) -> Result<(), AllocError>
     requires { HasModelLetter quiver.now refusal.now }
     ensures { OnOk result (Puts (model_cause quiver.now refusal.now) out.old.items out.new.items) }
 {

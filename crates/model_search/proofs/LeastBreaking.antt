@@ -22,7 +22,8 @@ module _ (problem : Problem) (claim seed : ℕ) where
   pub least_or_none : ((m : Model) × LeastBreaks problem claim seed m) ⊎ NoneBreaks problem claim seed
   least_or_none = by (each_search_has_an_answer problem claim seed)
     where
-      by : HasLeastBreaking problem claim seed ⊎ NoneBreaks problem claim seed → ((m : Model) × LeastBreaks problem claim seed m) ⊎ NoneBreaks problem claim seed
+      by : HasLeastBreaking problem claim seed ⊎ NoneBreaks problem claim seed
+          → ((m : Model) × LeastBreaks problem claim seed m) ⊎ NoneBreaks problem claim seed
       by (inl found) = inl (found.model, (found.number, found.k, found.least))
       by (inr none) = inr none
 

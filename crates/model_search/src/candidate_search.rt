@@ -1,6 +1,7 @@
 //! The search for a candidate that breaks a claim, on several threads.
 ghost use Rattle.std.specs.Prelude.{◌≡◌, ◌<◌, ◌≤◌, ◌+◌, ◌^◌, ℕ, length, slice_get, Some, Ok, None, MatchOption, IfSome, IfNone, IfOk};
 ghost use Rattle.std.specs.List.{All, range_with_len};
+ghost use Rattle.in_order_parallel.specs.Limits.{worker_limit};
 ghost use Rattle.quiver.specs.Declarations.{quiver_of};
 ghost use Rattle.adjoint_rules.specs.declared.parts.Shape.{Shape as ShapeValue};
 ghost use Rattle.model_checker.specs.Models.{IsClaimNumber};
@@ -96,7 +97,7 @@ fn search_block<R: Threads + Sync, G: Gate + Sync>(
     requires fits { first + count < 2 ^ 32 }
     requires inside { (k : ℕ) → k < first + count → CanBeTested tester.now.problem.now tester.now.claim tester.now.plan.now k }
     requires some_worker { 0 < workers }
-    requires at_most_64 { workers ≤ 64 }
+    requires few_workers { workers ≤ worker_limit }
     ensures { IfOk result (λ found. MatchOption found
         ((k : ℕ) → first ≤ k → k < first + count
         → NoneBreaksAt tester.now.problem.now tester.now.claim tester.now.seed tester.now.plan.now.number k)
@@ -117,7 +118,7 @@ fn search_shape<R: Threads + Sync, G: Gate + Sync>(
     requires claim { IsClaimNumber tester.now.problem.now tester.now.claim }
     requires plan { IsPlan tester.now.problem.now tester.now.plan.now }
     requires some_worker { 0 < workers }
-    requires at_most_64 { workers ≤ 64 }
+    requires few_workers { workers ≤ worker_limit }
     ensures { IfOk result (λ found. MatchOption found
         ((k : ℕ) → NoneBreaksAt tester.now.problem.now tester.now.claim tester.now.seed tester.now.plan.now.number k)
         (IsFirstFrom tester.now.problem.now tester.now.claim tester.now.seed tester.now.plan.now.number 0)) }
@@ -150,7 +151,7 @@ pub fn search<R: Threads + Sync, G: Gate + Sync>(
 ) -> Result<Option<Found>, AllocError>
     requires claim { IsClaimNumber problem.now claim }
     requires some_worker { 0 < workers }
-    requires at_most_64 { workers ≤ 64 }
+    requires few_workers { workers ≤ worker_limit }
     ensures found { IfOk result (λ found. IfSome found (λ f. IsLeastBreaking problem.now claim seed f.shape f.candidate f.model)) }
     ensures none { IfOk result (λ found. IfNone found (NoneBreaks problem.now claim seed)) }
 {

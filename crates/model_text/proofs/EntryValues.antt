@@ -16,7 +16,8 @@ use Rattle.model_text.specs.declared.place.Begun.{Begun}
 use Rattle.model_text.specs.declared.place.Entry.{Entry}
 use Rattle.model_text.specs.declared.place.Entry.TheVariants as entry
 use Rattle.model_text.specs.ModelBlocks.{EntryTokens, side, matrix, ModelTokens}
-use Rattle.model_text.specs.ModelBounds.{Bound, names, numbers, sizes, blocks, flaw_of, before, side_limit, value_of, matrix_value, side_of, matrix_of, model_value, HasName, IsBelow, IsSmall}
+use Rattle.matrix_models.specs.Limits.{side_limit}
+use Rattle.model_text.specs.ModelBounds.{Bound, names, numbers, sizes, blocks, flaw_of, before, value_of, matrix_value, side_of, matrix_of, model_value, HasName, IsBelow, IsSmall}
 use Rattle.model_text.specs.Reading.{values_below, matrix_made, side_value, map_value, entry_value, side_in, matrix_in, sides_in, maps_in, model_of}
 use Rattle.certificate_text.proofs.Results.{by_test, bind_ok, asked_ok}
 use Rattle.model_text.proofs.Values.{are_values}

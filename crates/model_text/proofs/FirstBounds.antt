@@ -8,7 +8,8 @@ use Rattle.certificate_text.specs.declared.fault.Flaw.TheVariants as flaw
 use Rattle.certificate_text.specs.Blocks.{Line}
 use Rattle.certificate_text.proofs.BoundOrder as order
 use Rattle.certificate_text.proofs.BoundOrder.{IsPlaced}
-use Rattle.model_text.specs.ModelBounds.{Bound, names, numbers, sizes, blocks, side_limit, flaw_of, before, bounds, Keeps}
+use Rattle.matrix_models.specs.Limits.{side_limit}
+use Rattle.model_text.specs.ModelBounds.{Bound, names, numbers, sizes, blocks, flaw_of, before, bounds, Keeps}
 use Rattle.model_text.specs.Models.{GoesOn, IsFlawed, misfit, passes}
 
 -- ---- flaws

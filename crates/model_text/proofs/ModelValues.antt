@@ -15,7 +15,8 @@ use Rattle.certificate_text.specs.Blocks.{Line}
 use Rattle.certificate_text.specs.Fault.{ReadsText}
 use Rattle.certificate_text.specs.Letters.{is_name, is_number}
 use Rattle.model_text.specs.ModelBlocks.{EntryTokens, side, matrix, ModelTokens, BlockTokens, model, other, is_row, is_row_of, is_entry, IsModelBlock, IsBlock}
-use Rattle.model_text.specs.ModelBounds.{Bound, names, numbers, sizes, side_limit, value_of, is_map_named, is_object_named, side_of, matrix_value, matrix_of, model_value, values_in, HasName, IsBelow, IsSmall, KeepsOne, Keeps}
+use Rattle.matrix_models.specs.Limits.{side_limit}
+use Rattle.model_text.specs.ModelBounds.{Bound, names, numbers, sizes, value_of, is_map_named, is_object_named, side_of, matrix_value, matrix_of, model_value, values_in, HasName, IsBelow, IsSmall, KeepsOne, Keeps}
 use Rattle.model_text.specs.Models.{HasMap, IsPlaced, IsModel, IsModels}
 use Rattle.model_text.specs.Reading.{all_models}
 use Rattle.model_text.proofs.EntryValues.{flat_from}
@@ -98,7 +99,7 @@ module _ (ds : List Declaration) where
   value_is_model b block keeps =
       let m : ℕ = value_of b.modulus in
       let at_least = and_parts (is_number b.modulus) (nat_le 2 m) block.modulus in
-      let is_mod : IsModulus m = record { at_least = grind (arith, nat_tests, at_least.1); below = omega (arith, (keeps numbers).modulus) } in
+      let is_mod : IsModulus m = record { at_least = grind (arith, nat_tests, at_least.1); at_most = omega (arith, (keeps numbers).modulus) } in
       record {
         modulus = is_mod;
         objects = length-map-range_with_len (side_of ds b.entries) 0 (object_count ds);

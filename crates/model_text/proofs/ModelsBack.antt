@@ -76,7 +76,7 @@ module _ (modulus : ℕ) (x : Matrix) (is : IsMatrix modulus x) where
   entry_below row column = entries_at modulus x.entries (row * x.columns + column) (omega (arith, is.is_modulus.at_least)) is.entries_below
 
   entry_small : (row column : ℕ) → entry_at x row column < 10 ^ 64
-  entry_small row column = omega (arith, entry_below row column, is.is_modulus.below)
+  entry_small row column = omega (arith, entry_below row column, is.is_modulus.at_most)
 
   wide : 0 < x.columns
   wide = omega (arith, is.shape.columns_side.positive)
@@ -293,7 +293,7 @@ module _ (ds : List Declaration) (declared : IsDeclared ds) (known : IsTrue (lis
   claim_small = omega (arith, writable.claim)
 
   modulus_small : m.modulus < 10 ^ 64
-  modulus_small = omega (arith, writable.model.modulus.below)
+  modulus_small = omega (arith, writable.model.modulus.at_most)
 
   model_back : model_value ds (model_tree ds m) ≡ m
   model_back =
@@ -332,7 +332,7 @@ module _ (ds : List Declaration) (declared : IsDeclared ds) (known : IsTrue (lis
       let modulus = value_back m.modulus modulus_small in
       record {
         claim = omega (arith, value_back m.claim claim_small, writable.claim);
-        modulus = omega (arith, modulus, writable.model.modulus.below);
+        modulus = omega (arith, modulus, writable.model.modulus.at_most);
         entries = subst (λ (n : ℕ). All (IsBelow n) (model_tree ds m).entries) (sym modulus) (All-weaker Written (IsBelow m.modulus) (λ e written. written.below) (model_tree ds m).entries entries_written);
       }
   keeps sizes = All-weaker Written IsSmall (λ e written. written.small) (model_tree ds m).entries entries_written

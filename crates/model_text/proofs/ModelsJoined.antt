@@ -12,6 +12,7 @@ use Rattle.certificate_text.specs.Evidence.{content}
 use Rattle.certificate_text.specs.Back.{is_whole}
 use Rattle.certificate_text.proofs.ContentBack.{IsTextOf, content-append}
 use Rattle.certificate_text.proofs.LinesBack.{lines_append}
+use Rattle.certificate_text.specs.Lines.{block_limit}
 use Rattle.model_text.specs.ModelBlocks.{ModelTokens, BlockTokens, model, other, block_lines, IsModelBlock, IsBlock, AreBlocks}
 use Rattle.model_text.specs.ModelBounds.{Bound, is_model, models_in, model_value, values_in, KeepsOne, Keeps}
 use Rattle.model_text.specs.Models.{HasModels}
@@ -24,7 +25,7 @@ blocks-append ls ms xs ys left right = record {
   each = All-append IsBlock xs ys left.each right.each;
 }
 
-keeps-append : (ds : List Declaration) (xs ys : List BlockTokens) (bound : Bound) → Keeps ds xs bound → Keeps ds ys bound → length (models_in xs) + length (models_in ys) ≤ 100 → Keeps ds (xs ++ ys) bound
+keeps-append : (ds : List Declaration) (xs ys : List BlockTokens) (bound : Bound) → Keeps ds xs bound → Keeps ds ys bound → length (models_in xs) + length (models_in ys) ≤ block_limit → Keeps ds (xs ++ ys) bound
 keeps-append ds xs ys bound left right few = record {
   each = All-append (KeepsOne ds bound) xs ys left.each right.each;
   few = λ last. omega (arith, few, ap length (filter-append is_model xs ys), length-append (models_in xs) (models_in ys));
@@ -42,7 +43,7 @@ values-count ds (other b ∷ xs) = values-count ds xs
 
 -- Texts of which the first is whole lines may stand one behind the other, where they have few models.
 pub joined : (ds : List Declaration) (before after : List ℕ) (first last : List Model) → IsTrue (is_whole before)
-    → HasModels ds before first → HasModels ds after last → length first + length last ≤ 100 → HasModels ds (before ++ after) (first ++ last)
+    → HasModels ds before first → HasModels ds after last → length first + length last ≤ block_limit → HasModels ds (before ++ after) (first ++ last)
 joined ds before after first last whole left right few =
     let split : content (lines (before ++ after)) ≡ content (lines before) ++ content (lines after) = ap content (lines_append before after whole) ∙ content-append (lines before) (lines after) in
     let count = ap length left.models ∙ values-count ds left.blocks in

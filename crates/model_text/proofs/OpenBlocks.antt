@@ -22,7 +22,8 @@ use Rattle.model_text.specs.declared.place.Entry.{Entry}
 use Rattle.model_text.specs.declared.place.Place.{Place}
 use Rattle.model_text.specs.declared.place.Place.TheVariants as at
 use Rattle.model_text.specs.ModelBlocks.{EntryTokens, ModelTokens, model, head_line, modulus_line, entry_line, model_front, name_of, is_entry, is_modulus, IsModelBlock, IsOtherBlock}
-use Rattle.model_text.specs.ModelBounds.{Bound, names, numbers, sizes, blocks, modulus_limit, value_of, HasName, IsBelow, IsSmall, flaw_of, before, KeepsOne}
+use Rattle.matrix_models.specs.Limits.{modulus_limit}
+use Rattle.model_text.specs.ModelBounds.{Bound, names, numbers, sizes, blocks, value_of, HasName, IsBelow, IsSmall, flaw_of, before, KeepsOne}
 use Rattle.model_text.specs.Reading.{entry_tokens, entry_value, begun_of, modulus_digits, modulus_of, grown, inside}
 use Rattle.model_text.proofs.BlockTrees.{everywhere, Begin}
 use Rattle.model_text.proofs.EntryLines.{entry_is}

@@ -18,7 +18,8 @@ use Rattle.model_text.specs.declared.place.Entry.{Entry}
 use Rattle.model_text.specs.declared.place.Place.TheVariants as at
 use Rattle.model_text.specs.declared.place.Progress.{Progress}
 use Rattle.model_text.specs.ModelBlocks.{EntryTokens, ModelTokens, BlockTokens, model, other, head_line, modulus_line, entry_line, block_lines, name_of, is_entry, is_modulus, is_other_head, IsModelBlock, IsOtherBlock, IsBlock, AreBlocks}
-use Rattle.model_text.specs.ModelBounds.{Bound, flaw_of, names, numbers, sizes, blocks, modulus_limit, value_of, is_model, models_in, model_value, values_in, KeepsOne, Keeps}
+use Rattle.matrix_models.specs.Limits.{modulus_limit}
+use Rattle.model_text.specs.ModelBounds.{Bound, flaw_of, names, numbers, sizes, blocks, value_of, is_model, models_in, model_value, values_in, KeepsOne, Keeps}
 use Rattle.model_text.specs.Reading.{progress, beginning, begun_of, step, is_head, entry_value, grown, model_of}
 use Rattle.model_text.proofs.BlockTrees.{models_in-length, values_in-append}
 use Rattle.model_text.proofs.EntryLines.{entry_read, entry_goes_on}

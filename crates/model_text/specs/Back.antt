@@ -4,6 +4,7 @@ use Rattle.std.specs.List.{list_all}
 use Rattle.quiver.specs.Declarations.{Declaration, IsDeclared}
 use Rattle.matrix_models.specs.declared.model.Model.{Model}
 use Rattle.certificate_text.specs.Back.{is_whole, is_named}
+use Rattle.certificate_text.specs.Lines.{block_limit}
 use Rattle.model_text.specs.Models.{HasModels, IsModel}
 use Rattle.model_text.specs.Written.{model_text}
 
@@ -17,5 +18,5 @@ pub record IsWritableModel (ds : List Declaration) (m : Model) : Type 0 where
 abbrev pub ModelsAreReadBack : Type 0
 ModelsAreReadBack = (ds : List Declaration) (m : Model) (before after : List ℕ) (first last : List Model)
     → IsDeclared ds → IsTrue (list_all is_named ds) → IsWritableModel ds m
-    → IsTrue (is_whole before) → HasModels ds before first → HasModels ds after last → length first + length last < 100
+    → IsTrue (is_whole before) → HasModels ds before first → HasModels ds after last → length first + length last < block_limit
     → HasModels ds (before ++ model_text ds m ++ after) (first ++ m ∷ last)

@@ -5,22 +5,13 @@ use Rattle.std.specs.Str.Parse.{digits_value}
 use Rattle.quiver.specs.declared.named.Named.{Named}
 use Rattle.quiver.specs.declared.named.Named.TheVariants.{Object, Map}
 use Rattle.quiver.specs.Declarations.{Declaration, object_count, letter_count, named_in}
+use Rattle.matrix_models.specs.Limits.{modulus_limit, side_limit}
 use Rattle.matrix_models.specs.Matrix.{Matrix}
 use Rattle.matrix_models.specs.declared.model.Model.{Model}
 use Rattle.certificate_text.specs.declared.fault.Flaw.{Flaw}
 use Rattle.certificate_text.specs.declared.fault.Flaw.TheVariants.{UnknownName, NumberTooLarge, TooMany}
 use Rattle.certificate_text.specs.Lines.{number_limit, block_limit}
 use Rattle.model_text.specs.ModelBlocks.{EntryTokens, side, matrix, ModelTokens, BlockTokens, model, other}
-
--- ---- limits
-
--- of a modulus
-abbrev pub modulus_limit : ℕ
-modulus_limit = 2 ^ 31 - 1
-
--- of a side, and of the rows and the columns of a matrix
-abbrev pub side_limit : ℕ
-side_limit = 64
 
 -- ---- what a text has
 

@@ -17,7 +17,8 @@ use Rattle.certificate_text.specs.Letters.{number_within}
 use Rattle.certificate_text.specs.Lines.{block_limit, is, begins, is_pair, is_end, claim_of}
 use Rattle.certificate_text.specs.Blocks.{Line}
 use Rattle.model_text.specs.ModelBlocks.{EntryTokens, side, matrix, name_of, is_row, is_row_of, is_entry, is_modulus, is_other_head}
-use Rattle.model_text.specs.ModelBounds.{modulus_limit, side_limit, value_of}
+use Rattle.matrix_models.specs.Limits.{modulus_limit, side_limit}
+use Rattle.model_text.specs.ModelBounds.{value_of}
 use Rattle.model_text.specs.declared.place.Entry.{Entry}
 use Rattle.model_text.specs.declared.place.Entry.TheVariants as entry
 use Rattle.model_text.specs.declared.place.Begun.{Begun}

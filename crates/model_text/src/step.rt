@@ -19,11 +19,9 @@ use certificate_text::{
     BLOCK_LIMIT, Flaw, LineFault, begins, claim_of, is, is_end, number_within, two_tokens,
 };
 use lists::{Listing, Text};
-use matrix_models::Model;
+use matrix_models::{MODULUS_LIMIT, Model};
 use quiver::Quiver;
 use std::alloc::Global;
-
-const MODULUS_LIMIT: u128 = 2147483647;
 
 fn is_head(line: &[u8]) -> bool
     ensures { result ≡ is_head (tokens_of line.now) }
@@ -88,7 +86,7 @@ fn modulus_of(line: &[u8]) -> Result<u32, Flaw>
     if !is("modulus", word) || !is_modulus(digits) {
         return Err(Flaw::BadLine);
     }
-    match number_within(MODULUS_LIMIT, digits) {
+    match number_within(u128::from(MODULUS_LIMIT), digits) {
         Some(modulus) => Ok(modulus as u32),
         None => Err(Flaw::NumberTooLarge),
     }

@@ -16,11 +16,9 @@ ghost use Rattle.model_text.specs.Views.{line_in, tokens_in};
 use crate::entry::{EntryTokens, first_row, row_length};
 use crate::place::Entry;
 use certificate_text::{Flaw, LineFault, first_token, name_in, number_within};
-use matrix_models::{Matrix, MatrixFault};
+use matrix_models::{Matrix, MatrixFault, SIDE_LIMIT};
 use quiver::{Named, Quiver};
 use std::alloc::Global;
-
-const SIDE_LIMIT: u32 = 64;
 
 /// The text of a token that is a name.
 pub fn name_text(token: &[u8]) -> &str

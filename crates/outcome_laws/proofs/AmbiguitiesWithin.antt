@@ -28,6 +28,7 @@ use Rattle.ambiguities.specs.Ambiguities.{MeetsAs, IsAmbiguity, lead_at, joined_
 use Rattle.ambiguities.specs.SPolynomials.{leading_at, shared_divisor, first_row, second_row, s_rows_of, row_multiple, s_polynomial_of}
 use Rattle.ambiguities.proofs.Joined.{lead_at-is, leading_at-is}
 use Rattle.ambiguities.proofs.Multiples.{passed}
+use Rattle.nc_polynomial.specs.Limits.{word_limit}
 use Rattle.outcome_laws.proofs.Results.{none_append}
 use Rattle.outcome_laws.proofs.EvidenceRanges.{quotient_in_range}
 use Rattle.outcome_laws.proofs.ReducedWithin.{Fits, sized_short, IsShortRow}
@@ -61,9 +62,9 @@ s_polynomial_fits rules a p ends =
 -- what stands behind the first word, before the second one and behind that
 abbrev AreShortParts : Kind → ℕ → List ℕ → List ℕ → Type 0
 AreShortParts kind place p q =
-    (length (drop (length p) (joined_word kind p q place)) ≤ 500) × (length (take place (joined_word kind p q place)) ≤ 500) × (length (drop (place + length q) (joined_word kind p q place)) ≤ 500)
+    (length (drop (length p) (joined_word kind p q place)) ≤ word_limit) × (length (take place (joined_word kind p q place)) ≤ word_limit) × (length (drop (place + length q) (joined_word kind p q place)) ≤ word_limit)
 
-short_parts : (kind : Kind) (i j : ℕ) (p q : List ℕ) (place : ℕ) → MeetsAs kind i j p q place → length p ≤ 500 → length q ≤ 500 → AreShortParts kind place p q
+short_parts : (kind : Kind) (i j : ℕ) (p q : List ℕ) (place : ℕ) → MeetsAs kind i j p q place → length p ≤ word_limit → length q ≤ word_limit → AreShortParts kind place p q
 short_parts Overlap i j p q place meets p_short q_short =
     let place_in : place ≤ length p = omega (arith, ap length meets.left_splits, length-append meets.before meets.shared, meets.at_place) in
     let front = length-take place p in
@@ -88,8 +89,8 @@ module _ (letters : ℕ) (compare : Compare) (rules : List Rule) (are : All (IsR
   second_is : IsRule letters compare is.second
   second_is = rule_at-all (IsRule letters compare) rules a.j is.second is.second_numbered are
 
-  lead_short : (g : Rule) → IsRule letters compare g → length g.lead ≤ 500
-  lead_short g is_rule = leading-all (λ (t : Term). length t.1 ≤ 500) compare g.poly.terms (g.leading, g.lead) is_rule.leading (recursion_from_All (λ (t : Term). length t.1 ≤ 500) g.poly.terms g.poly.canonical.short)
+  lead_short : (g : Rule) → IsRule letters compare g → length g.lead ≤ word_limit
+  lead_short g is_rule = leading-all (λ (t : Term). length t.1 ≤ word_limit) compare g.poly.terms (g.leading, g.lead) is_rule.leading (recursion_from_All (λ (t : Term). length t.1 ≤ word_limit) g.poly.terms g.poly.canonical.short)
 
   parts_short : AreShortParts a.kind a.place (lead_at rules a.i) (lead_at rules a.j)
   parts_short =

@@ -3,16 +3,17 @@ use Rattle.std.proofs.Common.{◌≡◌, ◌*◌, ◌≤◌, ◌⊎◌, inl, inr
 use Rattle.std.proofs.lemmas.List.{length-append}
 use Rattle.std.proofs.lemmas.List.Elements.{Contains-append_left, Contains-append_right}
 use Rattle.std.specs.List.{Contains}
+use Rattle.traced_completion.specs.Limits.{round_limit}
 use Rattle.outcome_laws.proofs.Pigeons.{Member, Distinct, no_member, member_which}
 
 module _ {A : Type 0} where
-  -- distinct ones that were taken, each as asked, of at most 32 each time one
+  -- distinct ones that were taken, each as asked, of no more than the limit of a round each time one
   pub record HasFirsts (Asked : A → Type 0) (taken : List A) : Type 0 where
     pub firsts : List A
     pub distinct : Distinct firsts
     pub members : (x : A) → Member x firsts → Contains taken x
     pub asked : (x : A) → Member x firsts → Asked x
-    pub many : length taken ≤ 32 * length firsts
+    pub many : length taken ≤ round_limit * length firsts
 
   pub none_taken : (Asked : A → Type 0) → HasFirsts Asked []
   none_taken Asked = record { firsts = []; distinct = tt; members = λ x m. absurd (no_member x m); asked = λ x m. absurd (no_member x m); many = omega arith }
@@ -32,7 +33,7 @@ module _ {A : Type 0} where
         go (inl e) = subst Asked (sym e) is
         go (inr k) = f.asked y k
 
-    pub firsts_more : (taken : List A) → Contains taken x → length taken ≤ 32 → HasFirsts Asked (before ++ taken)
+    pub firsts_more : (taken : List A) → Contains taken x → length taken ≤ round_limit → HasFirsts Asked (before ++ taken)
     firsts_more taken among few = record {
       firsts = x ∷ f.firsts;
       distinct = distinct_more;

@@ -19,6 +19,7 @@ use Rattle.cofactor_trace.specs.Lemmas.{lemma_of, naming_of, lemma_records, gath
 use Rattle.cofactor_trace.specs.Lemmas as gathering
 use Rattle.cofactor_trace.specs.Faults as expanding
 use Rattle.cofactor_trace.specs.GatherFaults as failing
+use Rattle.cofactor_trace.specs.Limits.{row_limit, letter_limit}
 
 -- ---- results, by what want of memory is
 abbrev pub IsExact : {A E : Type 0} → (E → Type 0) → Result A E → Type 0
@@ -40,7 +41,7 @@ overflow_no_memory None = tt
 overflow_no_memory (Some o) = λ memory. memory
 
 limit_no_memory : (rows : List CertRow) → IsNoMemory expanding.IsMemory (limit_fault rows)
-limit_no_memory rows = go (has_long_word rows) (nat_lt 200000 (length rows)) (nat_lt 1000000 (letter_count rows))
+limit_no_memory rows = go (has_long_word rows) (nat_lt row_limit (length rows)) (nat_lt letter_limit (letter_count rows))
   where
     go : (long many lettered : Bool) → IsNoMemory expanding.IsMemory (cond long (Some expand.Size) (cond many (Some (expand.Rows false)) (cond lettered (Some (expand.Rows true)) None)))
     go true many lettered = λ memory. memory
@@ -72,7 +73,7 @@ expansion_exact made target = expansion_exact_from [] (needed_rules made target)
 
 -- ---- gathering
 lemmas_no_memory : (lemmas : List Lemma) → IsNoMemory failing.IsMemory (gathering.limit_fault lemmas)
-lemmas_no_memory lemmas = go (nat_lt 200000 (gathering.row_count lemmas)) (nat_lt 1000000 (gathering.letter_count lemmas))
+lemmas_no_memory lemmas = go (nat_lt row_limit (gathering.row_count lemmas)) (nat_lt letter_limit (gathering.letter_count lemmas))
   where
     go : (many lettered : Bool) → IsNoMemory failing.IsMemory (cond many (Some (gather.Rows false)) (cond lettered (Some (gather.Rows true)) None))
     go true lettered = λ memory. memory

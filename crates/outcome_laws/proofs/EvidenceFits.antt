@@ -32,10 +32,11 @@ use Rattle.adjoint_rules.specs.Parts.{units_in}
 use Rattle.quiver.specs.Declarations.{letter_count}
 use Rattle.traced_completion.specs.declared.budget.Budget.{Budget}
 use Rattle.traced_completion.specs.PlainRun.{Setting, setting_of}
-use Rattle.traced_completion.proofs.UnitCounts.{few_units}
+use Rattle.adjoint_rules.proofs.Counted.{few_units_closed}
 use Rattle.claim_decider.specs.declared.outcome.Outcome.TheVariants as outcome
 use Rattle.claim_decider.specs.Outcomes.{evidence_of_zero, record_of, certificate_of}
 use Rattle.claim_decider.specs.Decided.{claim_at}
+use Rattle.nc_polynomial.specs.Limits.{word_limit}
 use Rattle.outcome_laws.specs.EvidenceLimits.{IsRowWithin, IsLemmaRowWithin, IsLemmaWithin, IsWithinLimits, EvidenceFits}
 use Rattle.outcome_laws.proofs.EvidenceRanges.{expansion_ranged, gathered_positive}
 use Rattle.outcome_laws.proofs.EvidenceWords.{gathered_words}
@@ -46,7 +47,7 @@ use Rattle.outcome_laws.proofs.ReducedWithin.{Fits, IsShortRow, reduced_within}
 use Rattle.outcome_laws.proofs.Results.{split_last}
 
 abbrev IsShort : List ℕ → Type 0
-IsShort w = length w ≤ 500
+IsShort w = length w ≤ word_limit
 
 short_words : (rows : List Row) → AllByRecursion IsShortRow rows → AllByRecursion (λ r. IsShort r.left × IsShort r.right) rows
 short_words [] each = tt
@@ -78,7 +79,7 @@ module _ (problem : Problem) (budget : Budget) (number : ℕ) where
   counted = length-map problem.generators (λ (p : Poly). p.terms)
 
   in_range : All (λ n. (1 ≤ n) × (n ≤ length setting_in.generators)) setting_in.in_turn
-  in_range = subst (λ k. All (λ n. (1 ≤ n) × (n ≤ k)) setting_in.in_turn) (sym counted) (turns_in_range (length (units_in problem.parts)) count (few_units problem))
+  in_range = subst (λ k. All (λ n. (1 ≤ n) × (n ≤ k)) setting_in.in_turn) (sym counted) (turns_in_range (length (units_in problem.parts)) count (few_units_closed problem.parts problem.generators problem.closed))
 
   -- ---- without terms
   zero_within : (f : Format) → IsWithinLimits problem number (evidence_of_zero f number)

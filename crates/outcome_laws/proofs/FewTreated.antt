@@ -23,6 +23,7 @@ use Rattle.completion_laws.specs.Kept.{AreApart}
 use Rattle.completion_laws.specs.Conclusions.{NothingPendingBelow}
 use Rattle.completion_laws.proofs.MoreAmbiguities.{ambiguity_more, overlap_word-more}
 use Rattle.completion_laws.proofs.TypedLaws.{overlap_in_play}
+use Rattle.traced_completion.specs.Limits.{round_limit}
 use Rattle.traced_completion.specs.declared.budget.Budget.{Budget}
 use Rattle.traced_completion.specs.declared.pending.waiting.Waiting.{Waiting}
 use Rattle.traced_completion.specs.Pending.{AreAllPending, ambiguities_of}
@@ -34,7 +35,7 @@ use Rattle.claim_decider.specs.Decided.{claim_at}
 use Rattle.outcome_laws.specs.KeptRuns.{done_after, IsKeptState}
 use Rattle.outcome_laws.proofs.LaterRounds.{BeginsWith}
 use Rattle.outcome_laws.proofs.WholeRuns.{runs_are_kept, first_is_least_pending}
-use Rattle.outcome_laws.proofs.AskedOrders.{asked_rank}
+use Rattle.word_orders.proofs.AskedOrders.{asked_rank}
 use Rattle.outcome_laws.proofs.OpenRuns.{order_laws, open_run, open_not_below}
 use Rattle.outcome_laws.proofs.ProblemPolynomials.{turns_in_range}
 use Rattle.outcome_laws.specs.Enough.{letters_in_play, enough_pairs, IsShownBelow, OpenRunsTreatFew}
@@ -145,10 +146,10 @@ module _ (problem : Problem) (budget : Budget) (number : ℕ) (word : List ℕ) 
             })))
 
   -- ---- rounds
-  small : (pairs treated pending : ℕ) → min 32 (min (pairs - treated) pending) ≤ 32
+  small : (pairs treated pending : ℕ) → min round_limit (min (pairs - treated) pending) ≤ round_limit
   small pairs treated pending = omega arith
 
-  some_taken : (pairs treated pending : ℕ) → treated < pairs → 0 < min 32 (min (pairs - treated) (suc pending))
+  some_taken : (pairs treated pending : ℕ) → treated < pairs → 0 < min round_limit (min (pairs - treated) (suc pending))
   some_taken pairs treated pending left = omega (arith, left)
 
   takes : (count : ℕ) (w : Waiting) (ws : List Waiting) → 0 < count → Contains (ambiguities_of (take count (w ∷ ws))) w.which

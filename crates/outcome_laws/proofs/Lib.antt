@@ -1,3 +1,4 @@
+pub use Rattle.word_orders.proofs.AskedOrders
 pub mod Adding
 pub mod RunsKept
 pub mod LaterRounds
@@ -5,7 +6,6 @@ pub mod WholeRuns
 pub mod Turns
 pub mod RangedReductions
 pub mod RangedRuns
-pub mod AskedOrders
 pub mod ProblemPolynomials
 pub mod OpenRuns
 pub mod Derivations

@@ -37,6 +37,7 @@ use Rattle.rule_making.specs.Making.{Rest, leads_negative, IsMadeFrom}
 use Rattle.traced_completion.specs.RunLaws.{HasWords}
 use Rattle.traced_completion.specs.PlainRun.{Setting, RunState, IsRunState}
 use Rattle.traced_completion.proofs.RunRules.{AreWords, normal_words, s_words}
+use Rattle.nc_polynomial.specs.Limits.{word_limit}
 use Rattle.outcome_laws.proofs.AmbiguitiesWithin.{s_polynomial_fits, s_rows_short}
 use Rattle.outcome_laws.proofs.ReducedWithin.{Fits, IsShortRow, reduced_within}
 use Rattle.outcome_laws.proofs.RowsOfRuns.{generator_words, IsKeptGenerator, IsKept, MadeFrom, states_held}
@@ -251,7 +252,7 @@ turns_in_range units count most =
 -- ---- polynomials of the program
 pub poly_fits : (p : Poly) → Fits p.terms
 poly_fits p = record {
-  short = recursion_from_All (λ (t : Term). length t.1 ≤ 500) p.terms p.canonical.short;
+  short = recursion_from_All (λ (t : Term). length t.1 ≤ word_limit) p.terms p.canonical.short;
   in_range = recursion_from_All (λ (t : Term). IsCoefficient t.0) p.terms p.canonical.shaped.in_range;
 }
 

@@ -35,7 +35,7 @@ use Rattle.claim_decider.specs.Decided.{claim_at}
 use Rattle.outcome_laws.specs.KeptRuns.{done_after, IsKeptState}
 use Rattle.outcome_laws.proofs.RunsKept.{letters_below}
 use Rattle.outcome_laws.proofs.WholeRuns.{runs_are_kept, closed_is_nothing_pending, first_is_least_pending}
-use Rattle.outcome_laws.proofs.AskedOrders.{asked_rank, asked_cmp-admissible}
+use Rattle.word_orders.proofs.AskedOrders.{asked_rank, asked_cmp-admissible}
 use Rattle.outcome_laws.proofs.ProblemPolynomials.{any_letter, generators_are, claim_is, claim_letters, turns_in_range, all_have_turns}
 
 -- ---- runs

@@ -23,7 +23,7 @@ use Rattle.adjoint_rules.proofs.Generators.{claims_have_signatures, generators_h
 use Rattle.confluence.specs.Reductions.{HasLettersBelow}
 use Rattle.completion_laws.specs.Conclusions.{AreAllDone}
 use Rattle.traced_completion.specs.UnitsFirst.{units_first}
-use Rattle.traced_completion.proofs.UnitCounts.{few_units}
+use Rattle.adjoint_rules.proofs.Counted.{few_units_closed}
 use Rattle.rule_reduce.proofs.WordsKept.{words_with_coefficients}
 use Rattle.claim_decider.specs.Decided.{claim_at}
 use Rattle.outcome_laws.specs.KeptRuns.{IsGenerator}
@@ -114,7 +114,7 @@ module _ (problem : Problem) where
   pub turns_in_range : All (λ k. (1 ≤ k) × (k ≤ length (polynomials problem.generators))) (units_first (length (units_in problem.parts)) (length problem.generators))
   turns_in_range =
       subst (λ c. All (λ k. (1 ≤ k) × (k ≤ c)) (units_first (length (units_in problem.parts)) (length problem.generators))) (sym counted)
-      (each_generator_has_its_turn (length (units_in problem.parts)) (length problem.generators) (few_units problem)).0
+      (each_generator_has_its_turn (length (units_in problem.parts)) (length problem.generators) (few_units_closed problem.parts problem.generators problem.closed)).0
 
   pub all_have_turns : AreAllDone (polynomials problem.generators) (units_first (length (units_in problem.parts)) (length problem.generators))
-  all_have_turns n first last = (each_generator_has_its_turn (length (units_in problem.parts)) (length problem.generators) (few_units problem)).1 n first (omega (arith, last, counted))
+  all_have_turns n first last = (each_generator_has_its_turn (length (units_in problem.parts)) (length problem.generators) (few_units_closed problem.parts problem.generators problem.closed)).1 n first (omega (arith, last, counted))

@@ -6,15 +6,7 @@ use Rattle.std.proofs.lemmas.List.Elements.{All-nil, All-cons, All-weaker}
 use Rattle.coef_int.specs.Range.{IsCoefficient}
 use Rattle.definitions.specs.Poly.{Term}
 use Rattle.definitions.specs.Combination.{generator_at}
-use Rattle.word_orders.specs.declared.any.OrderSpec.{OrderSpec}
-use Rattle.word_orders.specs.declared.any.OrderSpec.TheVariants as asked
-use Rattle.word_orders.specs.Admissible.{IsAdmissible}
-use Rattle.word_orders.specs.CanonicalLaws.{word_cmp-admissible}
-use Rattle.word_orders.specs.Lists.{is_listed, weight_of}
-use Rattle.word_orders.specs.Measured.{weight_rank, block_rank}
-use Rattle.word_orders.specs.MeasuredLaws.{weight_cmp-admissible, block_cmp-admissible}
-use Rattle.word_orders.specs.Rank.{rank_of}
-use Rattle.word_orders.specs.Specified.{asked_cmp}
+use Rattle.word_orders.proofs.AskedOrders.{asked_rank, asked_cmp-admissible}
 use Rattle.nc_polynomial.specs.Shape.{IsCanonical}
 use Rattle.nc_polynomial.specs.declared.poly.Poly.{Poly}
 use Rattle.nc_polynomial.proofs.Shapes.{IsDescending-from_recursion}
@@ -27,6 +19,7 @@ use Rattle.traced_completion.proofs.Ascending.{contains-first, contains-rest}
 use Rattle.traced_completion.proofs.RunStates.{states_bounded}
 use Rattle.claim_decider.specs.declared.outcome.Outcome.{Outcome}
 use Rattle.claim_decider.specs.Decided.{claim_at, claim_numbers, AreOutcomesOf, GetsOutcomeBy, OneGetsOutcomeAt, polynomials_in}
+use Rattle.nc_polynomial.specs.Limits.{word_limit}
 use Rattle.outcome_laws.specs.Existence.{EachStateHasARound, EachClaimHasAnOutcome, EachProblemHasOutcomes}
 use Rattle.outcome_laws.proofs.Rounds.{has_round}
 use Rattle.outcome_laws.proofs.Claims.{Got, got, run_of}
@@ -39,7 +32,7 @@ zero_is_canonical = record {
     nonzero = All-nil (λ (t : Term). t.0 ≢ pos 0);
     in_range = All-nil (λ (t : Term). IsCoefficient t.0);
   };
-  short = All-nil (λ (t : Term). length t.1 ≤ 500);
+  short = All-nil (λ (t : Term). length t.1 ≤ word_limit);
   few = omega arith;
 }
 
@@ -53,21 +46,10 @@ canonical_at [] (suc n) = subst IsCanonical (sym (past n)) zero_is_canonical
 canonical_at (p ∷ ps) (suc zero) = p.canonical
 canonical_at (p ∷ ps) (suc (suc n)) = canonical_at ps (suc n)
 
--- ---- each order that can be asked for is admissible
-asked_rank : OrderSpec → List ℕ → List ℕ
-asked_rank asked.Degree = rank_of 0
-asked_rank (asked.Weight weights) = weight_rank (weight_of weights) 0
-asked_rank (asked.Block block) = block_rank (is_listed block) 0
-
-asked-admissible : (order : OrderSpec) → IsAdmissible 0 (asked_cmp order) (asked_rank order)
-unfolding asked_rank
-asked-admissible asked.Degree = word_cmp-admissible 0
-asked-admissible (asked.Weight weights) = weight_cmp-admissible (weight_of weights) 0
-asked-admissible (asked.Block block) = block_cmp-admissible (is_listed block) 0
-
 pub each_state_has_a_round : EachStateHasARound
 each_state_has_a_round problem budget number s =
-    has_round (setting_of problem budget) (canonical_at problem.generators) 0 (asked_rank problem.parts.order) (asked-admissible problem.parts.order) number s
+    let order = problem.parts.order in
+    has_round (setting_of problem budget) (canonical_at problem.generators) 0 (asked_rank 0 order) (asked_cmp-admissible 0 order) number s
 
 -- ---- claims
 module _ (problem : Problem) (budget : Budget) (form : Format) where
@@ -76,7 +58,9 @@ module _ (problem : Problem) (budget : Budget) (form : Format) where
 
   got_of : (number : ℕ) → Got setting (claim_at problem number) (canonical_at problem.parts.claims number) form number
   got_of number =
-      got setting (claim_at problem number) (canonical_at problem.parts.claims number) form number (canonical_at problem.generators) 0 (asked_rank problem.parts.order) (asked-admissible problem.parts.order)
+      let order = problem.parts.order in
+      got setting (claim_at problem number) (canonical_at problem.parts.claims number) form number (canonical_at problem.generators) 0
+      (asked_rank 0 order) (asked_cmp-admissible 0 order)
 
   outcomes_of : (numbers : List ℕ) → (outcomes : List Outcome) × AreOutcomesOf setting form problem numbers outcomes
   outcomes_of [] = ([], tt)

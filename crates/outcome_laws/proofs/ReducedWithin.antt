@@ -30,30 +30,31 @@ use Rattle.rule_reduce.specs.NormalForms.{halt_of, then_next, at_limit, one_step
 use Rattle.rule_reduce.proofs.Chosen.{found}
 use Rattle.rule_reduce.proofs.Numbers.{rule_at-all}
 use Rattle.rule_reduce.proofs.Runs.{move_result-value}
+use Rattle.nc_polynomial.specs.Limits.{word_limit, term_limit}
 use Rattle.outcome_laws.proofs.Results.{same_ok, fits_first, none_append}
 use Rattle.outcome_laws.proofs.EvidenceRanges.{quotient_in_range}
 
 -- ---- polynomials within the limits
--- no word has more than 500 letters, and the integers are coefficients
+-- no word has more letters than the limit, and the integers are coefficients
 pub record Fits (p : List Term) : Type 0 where
-  pub short : AllByRecursion (λ t. length t.1 ≤ 500) p
+  pub short : AllByRecursion (λ t. length t.1 ≤ word_limit) p
   pub in_range : AllByRecursion (λ t. IsCoefficient t.0) p
 
-none_long : (p : List Term) → has_long_word p ≡ false → AllByRecursion (λ t. length t.1 ≤ 500) p
+none_long : (p : List Term) → has_long_word p ≡ false → AllByRecursion (λ t. length t.1 ≤ word_limit) p
 none_long [] none = tt
-none_long (t ∷ p) none = let both = or_false (nat_lt 500 (length t.1)) (has_long_word p) none in (at_most (length t.1) both.0, none_long p both.1)
+none_long (t ∷ p) none = let both = or_false (nat_lt word_limit (length t.1)) (has_long_word p) none in (at_most (length t.1) both.0, none_long p both.1)
   where
     or_false : (a b : Bool) → a || b ≡ false → (a ≡ false) × (b ≡ false)
     or_false true b e = absurd (cc)
     or_false false b e = (refl, e)
 
-    at_most : (n : ℕ) → nat_lt 500 n ≡ false → n ≤ 500
+    at_most : (n : ℕ) → nat_lt word_limit n ≡ false → n ≤ word_limit
     at_most n e = grind (arith, nat_tests)
 
-pub sized_short : (p v : List Term) → sized p ≡ Ok v → AllByRecursion (λ t. length t.1 ≤ 500) p
-sized_short p v ends = go (has_long_word p) refl (nat_lt 20000 (length p)) ends
+pub sized_short : (p v : List Term) → sized p ≡ Ok v → AllByRecursion (λ t. length t.1 ≤ word_limit) p
+sized_short p v ends = go (has_long_word p) refl (nat_lt term_limit (length p)) ends
   where
-    go : (long : Bool) → has_long_word p ≡ long → (many : Bool) → cond long (Err (size_fault true)) (cond many (Err (size_fault false)) (Ok p)) ≡ Ok v → AllByRecursion (λ t. length t.1 ≤ 500) p
+    go : (long : Bool) → has_long_word p ≡ long → (many : Bool) → cond long (Err (size_fault true)) (cond many (Err (size_fault false)) (Ok p)) ≡ Ok v → AllByRecursion (λ t. length t.1 ≤ word_limit) p
     go true is many k = absurd (no_error v (size_fault true) (sym k))
     go false is many k = none_long p is
 
@@ -66,7 +67,7 @@ pub record StepFits (m : Move) (s : State) : Type 0 where
 pub step_fits : (m : Move) (s t : State) → move_result m s ≡ Ok t → StepFits m s
 step_fits m s t ends = go (first_overflow (move_operations m s)) refl ends
   where
-    size : (r : Result (List Term) PolyFault) → sized (moved m s).rest ≡ r → if_sized r (moved m s) ≡ Ok t → AllByRecursion (λ u. length u.1 ≤ 500) (moved m s).rest
+    size : (r : Result (List Term) PolyFault) → sized (moved m s).rest ≡ r → if_sized r (moved m s) ≡ Ok t → AllByRecursion (λ u. length u.1 ≤ word_limit) (moved m s).rest
     size (Ok p) is k = sized_short (moved m s).rest p is
     size (Err e) is k = absurd (no_error t e (sym k))
 
@@ -114,11 +115,11 @@ module _ (P : State → Type 0) (compare : Compare) (rules : List Rule)
           stepped (Some g) has (Err e) went j = absurd (halts t (halt_of e) j)
 
 -- ---- reductions
--- a coefficient, and words of at most 500 letters
+-- a coefficient, and words of no more letters than the limit
 pub record IsShortRow (r : Row) : Type 0 where
   pub coefficient : IsCoefficient r.coef
-  pub left : length r.left ≤ 500
-  pub right : length r.right ≤ 500
+  pub left : length r.left ≤ word_limit
+  pub right : length r.right ≤ word_limit
 
 pub record FitsState (s : State) : Type 0 where
   pub multiplier : IsCoefficient s.multiplier
@@ -139,7 +140,7 @@ module _ (letters : ℕ) (compare : Compare) (rules : List Rule) (are : All (IsR
   state_keeps : (c : Choice) (g : Rule) (s : State) → choice_of compare (entries_of rules) s.rest ≡ Some c → rule_at rules c.number ≡ Some g → StepFits (move_of c g) s → FitsState s → FitsState (moved (move_of c g) s)
   state_keeps c g s chosen has step before =
       let term = (found compare rules s.rest c chosen).term in
-      let word : length c.word ≤ 500 = All-contains (λ (t : Term). length t.1 ≤ 500) s.rest (c.coefficient, c.word) (All-from_recursion (λ (t : Term). length t.1 ≤ 500) s.rest before.rest.short) term in
+      let word : length c.word ≤ word_limit = All-contains (λ (t : Term). length t.1 ≤ word_limit) s.rest (c.coefficient, c.word) (All-from_recursion (λ (t : Term). length t.1 ≤ word_limit) s.rest before.rest.short) term in
       let coefficient : IsCoefficient c.coefficient = All-contains (λ (t : Term). IsCoefficient t.0) s.rest (c.coefficient, c.word) (All-from_recursion (λ (t : Term). IsCoefficient t.0) s.rest before.rest.in_range) term in
       let leading = (rule_at-all (IsRule letters compare) rules c.number g has are).positive in
       record {

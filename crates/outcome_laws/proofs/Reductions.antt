@@ -25,6 +25,7 @@ use Rattle.rule_reduce.specs.NormalForms as reduce
 use Rattle.ambiguities.specs.declared.ambiguity.Ambiguity.{Ambiguity}
 use Rattle.ambiguities.specs.SPolynomials.{first_row, second_row, row_multiple, s_polynomial_of}
 use Rattle.completion_laws.proofs.ShapeLaws.{normal_forms_are_shaped, s_polynomials_are_shaped}
+use Rattle.nc_polynomial.specs.Limits.{term_limit}
 
 -- ---- a value with a property, or a fault that isn't want of memory
 abbrev pub Makes : {A : Type 0} → (A → Type 0) → Result A PolyFault → Type 0
@@ -48,7 +49,7 @@ abbrev IsSized : List Term → Type 0
 IsSized p = sized p ≡ Ok p
 
 sized_or_not : (p : List Term) → IsSized p ⊎ ((letters : Bool) × (sized p ≡ Err (size_fault letters)))
-sized_or_not p = go (has_long_word p) (nat_lt 20000 (length p))
+sized_or_not p = go (has_long_word p) (nat_lt term_limit (length p))
   where
     go : (long many : Bool) → (cond long (Err (size_fault true)) (cond many (Err (size_fault false)) (Ok p)) ≡ Ok p)
         ⊎ ((letters : Bool) × (cond long (Err (size_fault true)) (cond many (Err (size_fault false)) (Ok p)) ≡ Err (size_fault letters)))

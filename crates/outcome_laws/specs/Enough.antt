@@ -7,6 +7,7 @@ use Rattle.cofactor_trace.specs.declared.evidence.Format.{Format}
 use Rattle.cofactor_trace.specs.declared.halt.Cause.TheVariants as cause
 use Rattle.adjoint_rules.specs.declared.problem.Problem.{Problem}
 use Rattle.adjoint_rules.specs.Problem.{numbers, is_in_play}
+use Rattle.traced_completion.specs.Limits.{round_limit}
 use Rattle.traced_completion.specs.declared.budget.Budget.{Budget}
 use Rattle.traced_completion.specs.PlainRun.{RunState, setting_of}
 use Rattle.claim_decider.specs.declared.outcome.Outcome.{Outcome}
@@ -21,10 +22,10 @@ use Rattle.outcome_laws.specs.Counts.{short_ambiguities}
 abbrev pub letters_in_play : Problem → List ℕ
 letters_in_play problem = filter (is_in_play problem.parts.quiver problem.parts.starred (numbers problem.parts.marked)) (range_with_len 0 (letter_count problem.parts.quiver))
 
--- A round treats at most 32 ambiguities, and while a claim that follows below the word is open, one of them at least has an
+-- A round treats no more ambiguities than its limit, and while a claim that follows below the word is open, one of them at least has an
 -- overlap word below it. In the canonical order that has no more letters than the word.
 abbrev pub enough_pairs : Problem → List ℕ → ℕ
-enough_pairs problem word = 32 * short_ambiguities (length (letters_in_play problem)) (length word)
+enough_pairs problem word = round_limit * short_ambiguities (length (letters_in_play problem)) (length word)
 
 -- The order is the canonical one, and some positive multiple of the claim with this number is a combination of the
 -- generators in which all words are below the word.

@@ -90,7 +90,8 @@ module _ {Object Arrow : Type 0} {s : Structure Object Arrow} (laws : Preadditiv
     outcome_means : (number : ℕ) (o : Outcome) (v : Verdict) → IsClaimNumber problem number → OutcomeMeans problem number o → OnOutcome problem asked number o v → VerdictMeans s problem number v
     outcome_means number (outcome.Derived e) v is adds says =
         let count : length problem.parts.claims ≡ length (polynomials problem.parts.claims) = sym (length-map problem.parts.claims (λ (x : Poly). x.terms)) in
-        subst (VerdictMeans s problem number) (sym says) (proved_means laws sound with_lemmas problem number e is.least (subst (λ (n : ℕ). number ≤ n) count is.most) adds)
+        subst (VerdictMeans s problem number) (sym says)
+        (proved_means laws sound with_lemmas problem number e is.least (subst (λ (n : ℕ). number ≤ n) count is.most) adds)
     outcome_means number (outcome.Closed rest) v is outside says = subst (VerdictMeans s problem number) (sym says) outside
     outcome_means number (outcome.Halted halt) v is bounded on = halted_means number halt v bounded on
 
@@ -125,7 +126,8 @@ prints_meant {s} laws sound with_lemmas print asked ending problem answer = reco
 
 -- ---- what is owed
 
-pub claims_owe : (print : Print) (asked : Asked) (statement : List ℕ) → OwesEnding (OverStatement statement (AnswersClaims print asked)) (λ Object Arrow s ending. SaysDecided s print statement ending)
+pub claims_owe : (print : Print) (asked : Asked) (statement : List ℕ)
+    → OwesEnding (OverStatement statement (AnswersClaims print asked)) (λ Object Arrow s ending. SaysDecided s print statement ending)
 claims_owe print asked statement = owed_over statement (AnswersClaims print asked) (λ Object Arrow s ending. SaysDecided s print statement ending)
     (record {
       one = claims_end print asked;
@@ -133,4 +135,4 @@ claims_owe print asked statement = owed_over statement (AnswersClaims print aske
       own = λ problem ending answer. verdicts_status ending.status answer.verdicts (ap (λ (e : Ending). e.status) answer.says);
     })
     (λ Object Arrow s laws sound with_lemmas ending answers.
-      over_statement statement (AnswersClaims print asked) (PrintsMeant s print) ending (prints_meant laws sound with_lemmas print asked ending) answers)
+    over_statement statement (AnswersClaims print asked) (PrintsMeant s print) ending (prints_meant laws sound with_lemmas print asked ending) answers)

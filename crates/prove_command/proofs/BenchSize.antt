@@ -4,6 +4,8 @@ use Rattle.std.specs.List.{flat_map, range_with_len}
 use Rattle.std.proofs.lemmas.List.{length-append}
 use Rattle.std.proofs.lemmas.Fmt.{length-decimal-le}
 use Rattle.report_text.specs.Bench.{numbered, maps_of_step, assumption_of_step, there_and_back, bench_statement}
+use Rattle.command_words.specs.Limits.{size_limit}
+use Rattle.command_shape.specs.FileWords.{statement_limit}
 
 -- at most so many bytes
 record IsShort (most : ℕ) (bytes : List ℕ) : Type 0 where
@@ -46,13 +48,13 @@ assumption_short i below =
     let product = then (then (name (codes "assume a") i below) (codes " r") i below) (codes " = [O") (i - 1) (omega arith) in
     wider 100 (omega arith) (joined product (text (codes "]\n")))
 
-there_short : (n : ℕ) → n ≤ 60 → IsShort 12000 (there_and_back n)
+there_short : (n : ℕ) → n ≤ size_limit → IsShort 12000 (there_and_back n)
 there_short n most =
     let there = pieces (numbered (codes " a")) 1 n (λ k least up. wider 100 (omega arith) (name (codes " a") k (omega arith))) in
     let back = pieces (λ place. numbered (codes " r") (n - place)) 0 n (λ k least up. wider 100 (omega arith) (name (codes " r") (n - k) (omega arith))) in
     wider 12000 (omega arith) (joined there back)
 
-statement_short : (n : ℕ) → n ≤ 60 → IsShort 100000 (bench_statement n)
+statement_short : (n : ℕ) → n ≤ size_limit → IsShort 100000 (bench_statement n)
 statement_short n most =
     let objects = pieces (numbered (codes " O")) 0 (n + 1) (λ k least up. wider 100 (omega arith) (name (codes " O") k (omega arith))) in
     let maps = pieces maps_of_step 1 n (λ k least up. maps_short k (omega arith)) in
@@ -62,5 +64,5 @@ statement_short n most =
     let named = then (then (then claimed (codes " = [O0]\nclaim r") n (omega arith)) (codes " a") n (omega arith)) (codes " = [O") n (omega arith) in
     wider 100000 (omega arith) (joined named (text (codes "]\n")))
 
-pub bench_fits : (n : ℕ) → n ≤ 60 → length (bench_statement n) ≤ 1048576
+pub bench_fits : (n : ℕ) → n ≤ size_limit → length (bench_statement n) ≤ statement_limit
 bench_fits n most = let short = (statement_short n most).few in omega (arith, short)

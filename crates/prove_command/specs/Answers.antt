@@ -17,6 +17,7 @@ use Rattle.model_search.specs.LeastBreaking.{LeastBreaks}
 use Rattle.report_text.specs.declared.verdict.Verdict.{Verdict}
 use Rattle.report_text.specs.declared.verdict.Verdict.TheVariants as verdict
 use Rattle.report_text.specs.Report.{report_of, heads_of, status_of}
+use Rattle.command_words.specs.Limits.{default_pairs, default_steps, default_seed, default_format}
 use Rattle.command_words.specs.declared.call.ProveCall.{ProveCall}
 use Rattle.prove_command.specs.declared.prove.Asked.{Asked}
 use Rattle.prove_command.specs.declared.prove.Extent.{Extent}
@@ -34,7 +35,12 @@ asked_by p = record { budget = record { pairs = p.pairs; steps = p.steps }; form
 
 -- what `bench` asks for: what `prove` does where no option is given but `--no-models`
 abbrev pub asked_by_bench : Asked
-asked_by_bench = record { budget = record { pairs = 5000; steps = 20000 }; form = format.Lemmas; seed = 1; models = false }
+asked_by_bench = record {
+  budget = record { pairs = default_pairs; steps = default_steps };
+  form = format_of default_format;
+  seed = default_seed;
+  models = false;
+}
 
 -- ---- verdicts
 

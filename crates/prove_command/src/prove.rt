@@ -1,6 +1,7 @@
 //! What `prove` and `bench` answer.
 ghost use Rattle.std.specs.Prelude.{◌≡◌, ◌<◌, ◌≤◌, true, IfOk, IfSome, IfNone, length};
 ghost use Rattle.std.specs.List.{All};
+ghost use Rattle.in_order_parallel.specs.Limits.{worker_limit};
 ghost use Rattle.command_words.specs.Calls.{IsInRange};
 ghost use Rattle.command_words.specs.declared.call.Call.TheVariants.{Prove};
 ghost use Rattle.claim_decider.specs.Decided.{claim_numbers};
@@ -16,7 +17,7 @@ use adjoint_rules::Problem;
 use claim_decider::{Outcome, decide_all};
 use cofactor_trace::Format;
 use command_shape::{Ending, Stop};
-use command_words::ProveCall;
+use command_words::{DEFAULT_PAIRS, DEFAULT_SEED, DEFAULT_STEPS, ProveCall};
 use in_order_parallel::Gate;
 use lists::Listing;
 use matrix_models::Model;
@@ -53,11 +54,11 @@ pub enum Extent {
 /// How `bench` has its claims decided.
 pub const ASKED_BY_BENCH: Asked = Asked {
     budget: Budget {
-        pairs: 5000,
-        steps: 20_000,
+        pairs: DEFAULT_PAIRS,
+        steps: DEFAULT_STEPS,
     },
     form: Format::Lemmas,
-    seed: 1,
+    seed: DEFAULT_SEED,
     models: false,
 };
 
@@ -106,7 +107,7 @@ fn model_against<R: Threads + Sync, G: Gate + Sync>(
 ) -> Result<Option<Model>, AllocError>
     requires claim { IsClaimNumber problem.now claim }
     requires some_worker { 0 < workers }
-    requires at_most_64 { workers ≤ 64 }
+    requires few_workers { workers ≤ worker_limit }
     ensures found { IfOk result (λ found. IfSome found (λ model. (asked.models ≡ true) × LeastBreaks problem.now claim asked.seed model)) }
     ensures none { IfOk result (λ found. IfNone found (asked.models ≡ true → NoneBreaks problem.now claim asked.seed)) }
 {
@@ -132,7 +133,7 @@ fn verdict_of<R: Threads + Sync, G: Gate + Sync>(
 ) -> Result<Verdict, AllocError>
     requires claim { IsClaimNumber problem.now claim }
     requires some_worker { 0 < workers }
-    requires at_most_64 { workers ≤ 64 }
+    requires few_workers { workers ≤ worker_limit }
     ensures { IfOk result (IsVerdictOn problem.now asked claim outcome) }
 {
     match outcome {
@@ -159,7 +160,7 @@ fn verdicts_of<R: Threads + Sync, G: Gate + Sync>(
 ) -> Result<Listing<Verdict>, AllocError>
     requires one_each { length outcomes ≡ length problem.now.parts.claims }
     requires some_worker { 0 < workers }
-    requires at_most_64 { workers ≤ 64 }
+    requires few_workers { workers ≤ worker_limit }
     ensures { IfOk result (AreVerdictsOn problem.now asked (claim_numbers problem.now) outcomes) }
 {
     let mut verdicts = Listing::new(alloc);
@@ -182,7 +183,7 @@ fn decide<R: Threads + Sync, G: Gate + Sync>(
 ) -> Result<Said, AllocError>
     requires budget { IsBudget asked.budget }
     requires some_worker { 0 < workers }
-    requires at_most_64 { workers ≤ 64 }
+    requires few_workers { workers ≤ worker_limit }
     ensures decides { IfOk result (λ said. Decides problem.now asked said.verdicts said.rules) }
     ensures verdicts { IfOk result (λ said. All (IsVerdictOver problem.now.parts.quiver) said.verdicts) }
     ensures rules { IfOk result (λ said. All (IsPolyOver problem.now.parts.quiver) said.rules) }
@@ -225,7 +226,7 @@ pub fn report_claims<R: Threads + Sync, G: Gate + Sync>(
 ) -> Result<Ending, Stop>
     requires budget { IsBudget asked.budget }
     requires some_worker { 0 < workers }
-    requires at_most_64 { workers ≤ 64 }
+    requires few_workers { workers ≤ worker_limit }
     ensures { EndsAs (AnswersClaims (print_of extent) asked problem.now) result }
 {
     let said = decide(rt, alloc, problem, asked, workers, gate)?;

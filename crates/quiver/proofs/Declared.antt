@@ -12,6 +12,7 @@ use Rattle.quiver.specs.declared.named.Named.{Named}
 use Rattle.quiver.specs.declared.fault.QuiverFault.{QuiverFault}
 use Rattle.quiver.specs.declared.fault.QuiverFault.TheVariants.{DoubleName, TooMany, NotSquare}
 use Rattle.quiver.specs.Declarations.{Declaration, object, arrow, name_of, objects_of, letters_of, object_count, map_count, turns_from, named_by, naming_table, named_in, has_ends, IsDeclared}
+use Rattle.quiver.specs.Limits.{object_limit, map_limit}
 use Rattle.quiver.specs.Refusals.{is_named, object_fault, map_fault}
 use Rattle.quiver.proofs.Counts.{object_count-append, map_count-append}
 use Rattle.quiver.proofs.Letters.{ends_of}
@@ -32,15 +33,15 @@ unnamed (Some x) h = absurd (cc)
 
 module _ (ds : List Declaration) (name : List ℕ) where
   pub fresh_object : object_fault ds name ≡ None → named_in ds name ≡ None
-  fresh_object h = unnamed (named_in ds name) (fits (is_named ds name) (nat_le 64 (object_count ds)) DoubleName (TooMany 64) None h).fresh
+  fresh_object h = unnamed (named_in ds name) (fits (is_named ds name) (nat_le object_limit (object_count ds)) DoubleName (TooMany object_limit) None h).fresh
 
   pub fresh_map : (u v : ℕ) (selfmade : Bool) → map_fault ds name u v selfmade ≡ None → named_in ds name ≡ None
-  fresh_map u v selfmade h = unnamed (named_in ds name) (fits (is_named ds name) (nat_le 200 (map_count ds)) DoubleName (TooMany 200) _ h).fresh
+  fresh_map u v selfmade h = unnamed (named_in ds name) (fits (is_named ds name) (nat_le map_limit (map_count ds)) DoubleName (TooMany map_limit) _ h).fresh
 
   square : (u v : ℕ) (selfmade : Bool) → map_fault ds name u v selfmade ≡ None → (not selfmade || nat_eq u v) ≡ true
-  square u v selfmade h = go (is_named ds name) (nat_le 200 (map_count ds)) selfmade (nat_eq u v) h
+  square u v selfmade h = go (is_named ds name) (nat_le map_limit (map_count ds)) selfmade (nat_eq u v) h
     where
-      go : (named full self same : Bool) → cond {A = Option QuiverFault} named (Some DoubleName) (cond full (Some (TooMany 200)) (cond (self && not same) (Some NotSquare) None)) ≡ None → (not self || same) ≡ true
+      go : (named full self same : Bool) → cond {A = Option QuiverFault} named (Some DoubleName) (cond full (Some (TooMany map_limit)) (cond (self && not same) (Some NotSquare) None)) ≡ None → (not self || same) ≡ true
       go true full self same k = absurd (cc)
       go false true self same k = absurd (cc)
       go false false true true k = refl
@@ -89,7 +90,7 @@ ends_with n m ds d le all last = list_all-append (has_ends m) ds (d ∷ []) ∙ 
 module _ (ds : List Declaration) (name : List ℕ) (declared : IsDeclared ds) where
   pub declared_object : object_fault ds name ≡ None → IsDeclared (ds ++ object name ∷ [])
   declared_object h =
-      let room = leb-false 64 (object_count ds) (fits (is_named ds name) (nat_le 64 (object_count ds)) DoubleName (TooMany 64) None h).room in
+      let room = leb-false object_limit (object_count ds) (fits (is_named ds name) (nat_le object_limit (object_count ds)) DoubleName (TooMany object_limit) None h).room in
       let objects = object_count-append ds (object name ∷ []) in
       record {
         distinct = distinct_more ds (object name) declared (fresh_object ds name h);
@@ -100,7 +101,7 @@ module _ (ds : List Declaration) (name : List ℕ) (declared : IsDeclared ds) wh
 
   pub declared_map : (u v : ℕ) (selfmade : Bool) → u < object_count ds → v < object_count ds → map_fault ds name u v selfmade ≡ None → IsDeclared (ds ++ arrow name u v selfmade ∷ [])
   declared_map u v selfmade source target h =
-      let room = leb-false 200 (map_count ds) (fits (is_named ds name) (nat_le 200 (map_count ds)) DoubleName (TooMany 200) _ h).room in
+      let room = leb-false map_limit (map_count ds) (fits (is_named ds name) (nat_le map_limit (map_count ds)) DoubleName (TooMany map_limit) _ h).room in
       let objects = object_count-append ds (arrow name u v selfmade ∷ []) in
       record {
         distinct = distinct_more ds (arrow name u v selfmade) declared (fresh_map ds name u v selfmade h);

@@ -3,6 +3,7 @@
 ghost use Rattle.std.specs.Prelude.{◌≡◌, ◌<◌, ◌≤◌, ◌++◌, ◌∷◌, [], IfOk, IfErr, IfSome, OnOk, OnErr, None, Some};
 ghost use Rattle.definitions.specs.Quiver.{IsQuiver, star, source, target};
 ghost use Rattle.quiver.specs.Declarations.{object, arrow, object_count, map_count, letter_count, named_in, name_at, object_at, letter_at, object_name, letter_name, identity_in, quiver_of, IsNamed, IsDeclared, ObjectsFirst};
+ghost use Rattle.quiver.specs.Limits.{letter_limit};
 ghost use Rattle.quiver.specs.Tables.{object_entry, letter_entry};
 ghost use Rattle.quiver.specs.Refusals.{object_fault, map_fault, Explains};
 
@@ -16,7 +17,7 @@ use word_core::{Letter, Object};
 pub const OBJECT_LIMIT: u32 = 64;
 
 /// The greatest number of maps.
-pub const MAP_LIMIT: u32 = 200;
+pub const MAP_LIMIT: u32 = 1000;
 
 // An object: the letter that is its identity, and the place of its declaration.
 #[derive(Clone, Copy)]
@@ -69,7 +70,7 @@ impl Quiver {
     }
 
     /// Declares an object and its identity, which take the next free numbers of an object and a letter.
-    /// `DoubleName` exactly where the name is declared, and else `TooMany` exactly where there are 64 objects.
+    /// `DoubleName` exactly where the name is declared, and else `TooMany` exactly where there are `OBJECT_LIMIT` objects.
     /// A refusal leaves the quiver as it was.
     pub fn add_object(&mut self, name: &str) -> Result<Object, QuiverStop>
         ensures declared { OnOk result (self.new ≡ self.old ++ object name.now ∷ []) }
@@ -104,7 +105,7 @@ impl Quiver {
 
     /// Declares a map from the source to the target. It takes the next free letter, and its adjoint the one after that,
     /// unless the map is `selfmade`, its own adjoint.
-    /// `DoubleName` exactly where the name is declared, else `TooMany` exactly where there are 200 maps, and else `NotSquare`
+    /// `DoubleName` exactly where the name is declared, else `TooMany` exactly where there are `MAP_LIMIT` maps, and else `NotSquare`
     /// exactly where a map that is its own adjoint has two different ends. A refusal leaves the quiver as it was.
     pub fn add_map(
         &mut self,
@@ -219,7 +220,7 @@ impl Quiver {
     /// The number of letters.
     pub fn letters(&self) -> u32
         ensures count { result ≡ letter_count self.now }
-        ensures few { result ≤ 464 }
+        ensures few { result ≤ letter_limit }
     {
         self.letters.len() as u32
     }
@@ -234,7 +235,7 @@ impl Quiver {
     // The next free letter.
     fn next_letter(&self) -> Letter
         ensures number { result.0 ≡ letter_count self.now }
-        ensures few { result.0 ≤ 464 }
+        ensures few { result.0 ≤ letter_limit }
     {
         Letter(self.letters() as u16)
     }

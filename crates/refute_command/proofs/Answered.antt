@@ -70,11 +70,13 @@ search_meant seed ending problem answer = record {
 
 -- ---- what is owed
 
-pub search_owes : (seed : ℕ) (statement : List ℕ) → OwesEnding (OverStatement statement (AnswersSearch seed)) (λ Object Arrow s ending. SaysSearched statement ending)
+pub search_owes : (seed : ℕ) (statement : List ℕ)
+    → OwesEnding (OverStatement statement (AnswersSearch seed)) (λ Object Arrow s ending. SaysSearched statement ending)
 search_owes seed statement = owed_over statement (AnswersSearch seed) (λ Object Arrow s ending. SaysSearched statement ending)
     (record {
       one = search_ends seed;
       no_other = λ problem ending ending'. search_once seed ending ending' problem;
       own = λ problem ending answer. verdicts_status ending.status answer.verdicts (ap (λ (e : Ending). e.status) answer.says);
     })
-    (λ Object Arrow s laws sound with_lemmas ending answers. over_statement statement (AnswersSearch seed) PrintsSearched ending (search_meant seed ending) answers)
+    (λ Object Arrow s laws sound with_lemmas ending answers.
+    over_statement statement (AnswersSearch seed) PrintsSearched ending (search_meant seed ending) answers)

@@ -1,6 +1,7 @@
 //! What `refute` answers over a statement.
 ghost use Rattle.std.specs.Prelude.{◌<◌, ◌≤◌, IfOk, length};
 ghost use Rattle.std.specs.List.{All, AllZip};
+ghost use Rattle.in_order_parallel.specs.Limits.{worker_limit};
 ghost use Rattle.claim_decider.specs.Decided.{claim_numbers};
 ghost use Rattle.model_checker.specs.Models.{IsClaimNumber};
 ghost use Rattle.report_text.specs.Report.{IsVerdictOver};
@@ -27,7 +28,7 @@ pub fn report_search<R: Threads + Sync, G: Gate + Sync>(
     gate: &G,
 ) -> Result<Ending, Stop>
     requires some_worker { 0 < workers }
-    requires at_most_64 { workers ≤ 64 }
+    requires few_workers { workers ≤ worker_limit }
     ensures { EndsAs (AnswersSearch seed problem.now) result }
 {
     let verdicts = search_all(rt, alloc, problem, seed, workers, gate)?;
@@ -46,7 +47,7 @@ fn search_all<R: Threads + Sync, G: Gate + Sync>(
     gate: &G,
 ) -> Result<Listing<Verdict>, AllocError>
     requires some_worker { 0 < workers }
-    requires at_most_64 { workers ≤ 64 }
+    requires few_workers { workers ≤ worker_limit }
     ensures each { IfOk result (AllZip (IsSearchedOn problem.now seed) (claim_numbers problem.now)) }
     ensures over { IfOk result (All (IsVerdictOver problem.now.parts.quiver)) }
 {
@@ -70,7 +71,7 @@ fn search_one<R: Threads + Sync, G: Gate + Sync>(
 ) -> Result<Verdict, AllocError>
     requires claim { IsClaimNumber problem.now claim }
     requires some_worker { 0 < workers }
-    requires at_most_64 { workers ≤ 64 }
+    requires few_workers { workers ≤ worker_limit }
     ensures { IfOk result (IsSearchedOn problem.now seed claim) }
 {
     match search(rt, alloc, problem, claim, seed, workers, gate)? {

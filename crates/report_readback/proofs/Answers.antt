@@ -8,10 +8,9 @@ use Rattle.cofactor_trace.specs.declared.evidence.Format.{Format}
 use Rattle.cofactor_trace.specs.LemmaRows.{IsEvidenceOf}
 use Rattle.cofactor_checker.specs.Rows.{IsNumberUpTo}
 use Rattle.cofactor_checker.proofs.RowSums.{length-polynomials}
-use Rattle.evidence_checker.specs.declared.refusal.EvidenceRefusal.{EvidenceRefusal}
-use Rattle.evidence_checker.specs.declared.refusal.EvidenceRefusal.TheVariants as refusal
-use Rattle.evidence_checker.specs.Acceptance.{IsMemory}
-use Rattle.evidence_checker.proofs.Judged.{evidence_is_judged}
+use Rattle.cofactor_checker.specs.declared.refusal.Refusal.{Refusal}
+use Rattle.cofactor_checker.specs.Acceptance.{IsMemory}
+use Rattle.cofactor_checker.proofs.EvidenceJudged.{evidence_is_judged}
 use Rattle.adjoint_rules.specs.declared.problem.Problem.{Problem}
 use Rattle.adjoint_rules.specs.Problem.{polynomials}
 use Rattle.traced_completion.specs.declared.budget.Budget.{Budget}
@@ -45,23 +44,11 @@ module _ (problem : Problem) (budget : Budget) (form : Format) (number : ℕ) (t
   named_there n is = rw (length-polynomials problem.parts.claims, is) there
 
   no_other : (e : Evidence) → IsOutcomeAt problem budget form number (outcome.Derived e) → IsWithinLimits problem number e
-      → (r : EvidenceRefusal) → RefusesOf problem e r → PassesLimit r ⊎ IsMemory r
-  no_other (evidence.Plain c) is within (refusal.Certificate r) refused =
+      → (r : Refusal) → RefusesOf problem e r → PassesLimit r ⊎ IsMemory r
+  no_other (evidence.Plain c) is within r refused =
       plain_answer claims generators c (named_there c.claim within.claim)
       (subst (λ count. IsCertificateWithin count c.claim c) (sym counted) (subst (λ n. IsCertificateWithin (length problem.generators) n c) (sym within.claim) within))
       (certificate_adds_up problem budget form number c is) r refused
-  no_other (evidence.Plain c) is within refusal.NoSuchClaim refused = absurd refused
-  no_other (evidence.Plain c) is within refusal.ZeroDenominator refused = absurd refused
-  no_other (evidence.Plain c) is within (refusal.LooseScale lemma) refused = absurd refused
-  no_other (evidence.Plain c) is within (refusal.Overflow row overflow) refused = absurd refused
-  no_other (evidence.Plain c) is within (refusal.NoSuchGenerator row) refused = absurd refused
-  no_other (evidence.Plain c) is within (refusal.NoSuchLemma row) refused = absurd refused
-  no_other (evidence.Plain c) is within (refusal.Size row) refused = absurd refused
-  no_other (evidence.Plain c) is within (refusal.NotDivisible lemma word got) refused = absurd refused
-  no_other (evidence.Plain c) is within (refusal.LemmaSize lemma) refused = absurd refused
-  no_other (evidence.Plain c) is within (refusal.Kept row) refused = absurd refused
-  no_other (evidence.Plain c) is within (refusal.Differs word want got) refused = absurd refused
-  no_other (evidence.Plain c) is within (refusal.Memory failed) refused = absurd refused
   no_other (evidence.Lemmas c) is within r refused =
       let found = lemmas_of problem budget form number c is in
       lemmas_certificate_answer claims generators c found.lemmas (named_there c.claim within.claim)
@@ -71,15 +58,15 @@ module _ (problem : Problem) (budget : Budget) (form : Format) (number : ℕ) (t
   answered : (e : Evidence) → IsOutcomeAt problem budget form number (outcome.Derived e) → IsAnsweredWithinLimits problem e
   answered e is = record { judged = judge (evidence_is_judged claims generators e); no_other = only }
     where
-      only : (r : EvidenceRefusal) → RefusesOf problem e r → PassesLimit r ⊎ IsMemory r
+      only : (r : Refusal) → RefusesOf problem e r → PassesLimit r ⊎ IsMemory r
       only = no_other e is (evidence_fits problem budget form number e is)
 
-      limit : (r : EvidenceRefusal) → PassesLimit r ⊎ IsMemory r → (IsMemory r → ⊥) → PassesLimit r
+      limit : (r : Refusal) → PassesLimit r ⊎ IsMemory r → (IsMemory r → ⊥) → PassesLimit r
       limit r (inl passes) not = passes
       limit r (inr memory) not = absurd (not memory)
 
-      judge : AcceptsOf problem e ⊎ ((r : EvidenceRefusal) × RefusesOf problem e r × (IsMemory r → ⊥))
-          → AcceptsOf problem e ⊎ ((r : EvidenceRefusal) × RefusesOf problem e r × PassesLimit r)
+      judge : AcceptsOf problem e ⊎ ((r : Refusal) × RefusesOf problem e r × (IsMemory r → ⊥))
+          → AcceptsOf problem e ⊎ ((r : Refusal) × RefusesOf problem e r × PassesLimit r)
       judge (inl accepts) = inl accepts
       judge (inr refused) = inr (refused.0, refused.1, limit refused.0 (only refused.0 refused.1) refused.2)
 

@@ -4,6 +4,8 @@ use Rattle.std.specs.Prelude.{decimal}
 use Rattle.std.specs.Fmt.{signed_decimal}
 use Rattle.std.specs.List.{list_all}
 use Rattle.coef_int.specs.declared.Overflow.{Overflow}
+use Rattle.nc_polynomial.specs.Limits.{word_limit, term_limit}
+use Rattle.cofactor_trace.specs.Limits.{row_limit, letter_limit}
 use Rattle.quiver.specs.Declarations.{Declaration, IsDeclared}
 use Rattle.cofactor_trace.specs.declared.evidence.Evidence.{Evidence}
 use Rattle.cofactor_trace.specs.declared.halt.Halt.{Halt}
@@ -39,8 +41,12 @@ overflow_is_line o =
 cause_is_line : (c : Cause) → IsLineText (cause_text c)
 cause_is_line (cause.Pairs spent) = labelled_is_line (codes "pairs ") spent (literal (codes "pairs ") refl refl)
 cause_is_line (cause.Steps limit) = labelled_is_line (codes "steps ") limit (literal (codes "steps ") refl refl)
-cause_is_line (cause.Size letters) = either IsLineText letters (codes "size letters 500") (codes "size terms 20000") (literal (codes "size letters 500") refl refl) (literal (codes "size terms 20000") refl refl)
-cause_is_line (cause.Rows letters) = either IsLineText letters (codes "rows letters 1000000") (codes "rows 200000") (literal (codes "rows letters 1000000") refl refl) (literal (codes "rows 200000") refl refl)
+cause_is_line (cause.Size letters) = either IsLineText letters (codes "size letters " ++ decimal word_limit) (codes "size terms " ++ decimal term_limit)
+    (labelled_is_line (codes "size letters ") word_limit (literal (codes "size letters ") refl refl))
+    (labelled_is_line (codes "size terms ") term_limit (literal (codes "size terms ") refl refl))
+cause_is_line (cause.Rows letters) = either IsLineText letters (codes "rows letters " ++ decimal letter_limit) (codes "rows " ++ decimal row_limit)
+    (labelled_is_line (codes "rows letters ") letter_limit (literal (codes "rows letters ") refl refl))
+    (labelled_is_line (codes "rows ") row_limit (literal (codes "rows ") refl refl))
 cause_is_line (cause.Overflow o) = line_text-append (codes "overflow ") (overflow_text o) (literal (codes "overflow ") refl refl) (overflow_is_line o)
 
 place_is_line : (p : Place) → IsLineText (place_text p)

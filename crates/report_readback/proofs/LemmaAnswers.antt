@@ -12,12 +12,12 @@ use Rattle.cofactor_trace.specs.declared.evidence.LemmaCertificate.{LemmaCertifi
 use Rattle.cofactor_trace.specs.GatheringLaws.{NamesWithin, NameEarlier}
 use Rattle.cofactor_trace.specs.LemmaRows.{AreOfLemmas, IsShareOf, IsEvidenceOf}
 use Rattle.cofactor_checker.specs.Rows.{IsNumberUpTo}
-use Rattle.evidence_checker.specs.declared.refusal.EvidenceRefusal.{EvidenceRefusal}
-use Rattle.evidence_checker.specs.declared.refusal.EvidenceRefusal.TheVariants as refusal
-use Rattle.evidence_checker.specs.Rows.{plain_sum}
-use Rattle.evidence_checker.specs.Lemmas.{lemma_polynomials, RefusesLemmas, row_count}
-use Rattle.evidence_checker.specs.Acceptance.{goal_claim, all_polynomials, IsPositive, IsFirstLoose, HasLooseGoal, RefusesBlock, RefusesLemmaCertificate}
-use Rattle.evidence_checker.proofs.Evidence.{sums_agree}
+use Rattle.cofactor_checker.specs.declared.refusal.Refusal.{Refusal}
+use Rattle.cofactor_checker.specs.declared.refusal.Refusal.TheVariants as refusal
+use Rattle.cofactor_checker.specs.PlainRows.{plain_sum}
+use Rattle.cofactor_checker.specs.Lemmas.{lemma_polynomials, RefusesLemmas, row_count}
+use Rattle.cofactor_checker.specs.LemmaAcceptance.{goal_claim, all_polynomials, IsPositive, IsFirstLoose, HasLooseGoal, RefusesBlock, RefusesLemmaCertificate}
+use Rattle.cofactor_checker.proofs.LemmaSums.{sums_agree}
 use Rattle.outcome_laws.specs.EvidenceLimits.{IsLemmaWithin, IsLemmaCertificateWithin}
 use Rattle.outcome_laws.proofs.Results.{split_last}
 use Rattle.report_readback.proofs.PlainAnswers.{Polys, item, none_differs}
@@ -30,7 +30,7 @@ one_more before p = omega (arith, length-append before (p ∷ []))
 
 module _ (gs : Polys) where
   lemmas_answer : (before : Polys) (number : ℕ) (lemmas : List Lemma) (ps : Polys) → All IsLemmaWithin lemmas → AreOfLemmas gs before lemmas ps → All IsCanonical ps
-      → NameEarlier (length gs) (length before) lemmas → (r : EvidenceRefusal) → RefusesLemmas gs before number lemmas r → Answers r
+      → NameEarlier (length gs) (length before) lemmas → (r : Refusal) → RefusesLemmas gs before number lemmas r → Answers r
   lemmas_answer before number [] ps within add_up canonical names r refused = absurd refused
   lemmas_answer before number (l ∷ lemmas) [] within add_up canonical names r refused = absurd add_up
   lemmas_answer before number (l ∷ lemmas) (p ∷ ps) within add_up canonical names r (inl here) =
@@ -72,7 +72,7 @@ module _ (claims gs : Polys) (c : LemmaCertificate) (ps : Polys) (claim : IsNumb
   goal_names : NamesWithin (length gs) (length (all_polynomials gs c)) c.goal
   goal_names = subst (λ n. NamesWithin (length gs) n c.goal) (one_each gs [] c.lemmas ps evidence.lemmas_add_up ∙ ap length (sym polynomials)) within.goal_names
 
-  block_answer : (r : EvidenceRefusal) → RefusesBlock claims gs c r → Answers r
+  block_answer : (r : Refusal) → RefusesBlock claims gs c r → Answers r
   block_answer r (inl in_lemma) = lemmas_answer gs [] 0 c.lemmas ps within.lemmas evidence.lemmas_add_up canonical within.earlier r in_lemma.1
   block_answer r (inr in_goal) = rows_answer gs (all_polynomials gs c) (row_count c.lemmas) c.goal goal_names r in_goal.1
 
@@ -88,17 +88,13 @@ module _ (claims gs : Polys) (c : LemmaCertificate) (ps : Polys) (claim : IsNumb
   loose_answer lemma (inl first) = first.loose (item (IsShareOf c.denominator) c.lemmas first.before first.lemma (All-from_recursion (IsShareOf c.denominator) c.lemmas shares.0) first.there).1
   loose_answer lemma (inr goal) = goal.loose shares.1.1
 
-  pub lemmas_certificate_answer : (r : EvidenceRefusal) → RefusesLemmaCertificate claims gs c r → Answers r
+  pub lemmas_certificate_answer : (r : Refusal) → RefusesLemmaCertificate claims gs c r → Answers r
   lemmas_certificate_answer refusal.NoSuchClaim refused = absurd (refused claim)
   lemmas_certificate_answer refusal.ZeroDenominator refused = absurd (refused.positive positive)
   lemmas_certificate_answer (refusal.LooseScale lemma) refused = absurd (loose_answer lemma refused.1)
   lemmas_certificate_answer (refusal.Overflow row overflow) refused = inl tt
-  lemmas_certificate_answer (refusal.NoSuchGenerator row) refused = block_answer (refusal.NoSuchGenerator row) refused
-  lemmas_certificate_answer (refusal.NoSuchLemma row) refused = block_answer (refusal.NoSuchLemma row) refused
   lemmas_certificate_answer (refusal.Size row) refused = inl tt
-  lemmas_certificate_answer (refusal.NotDivisible lemma word got) refused = block_answer (refusal.NotDivisible lemma word got) refused
-  lemmas_certificate_answer (refusal.LemmaSize lemma) refused = block_answer (refusal.LemmaSize lemma) refused
   lemmas_certificate_answer (refusal.Kept row) refused = inl tt
   lemmas_certificate_answer (refusal.Differs word want got) refused = absurd (none_differs _ _ word want got sum_is refused.difference)
   lemmas_certificate_answer (refusal.Memory failed) refused = inr tt
-  lemmas_certificate_answer (refusal.Certificate e) refused = absurd refused
+  lemmas_certificate_answer other refused = block_answer other refused

@@ -24,6 +24,7 @@ use Rattle.report_text.specs.declared.verdict.Verdict.{Verdict}
 use Rattle.report_text.specs.declared.verdict.Verdict.TheVariants as verdict
 use Rattle.report_text.specs.Heads.{head_line}
 use Rattle.report_text.specs.Report.{basis_text, block_text, report_from, report_of, IsPolyOver}
+use Rattle.certificate_text.specs.Lines.{block_limit}
 use Rattle.report_readback.specs.ReadBack.{IsWritableVerdict}
 use Rattle.report_readback.specs.ModelsReadBack.{IsReadAsModels, refuted_in, ReportsReadBackAsModels}
 use Rattle.report_readback.proofs.Heads.{told_of, told_is_line}
@@ -49,7 +50,7 @@ text_without_blocks ds text is = record {
 skipped : (ds : List Declaration) (text : List ℕ) → IsSkipped text → IsTextWith ds text []
 skipped ds text is = record { whole = is.is.whole; has = skipped_has_none ds text is }
 
-with-append : (ds : List Declaration) (xs ys : List ℕ) (first last : List Model) → IsTextWith ds xs first → IsTextWith ds ys last → length first + length last ≤ 100 → IsTextWith ds (xs ++ ys) (first ++ last)
+with-append : (ds : List Declaration) (xs ys : List ℕ) (first last : List Model) → IsTextWith ds xs first → IsTextWith ds ys last → length first + length last ≤ block_limit → IsTextWith ds (xs ++ ys) (first ++ last)
 with-append ds xs ys first last left right few = record { whole = whole_append xs ys left.whole right.whole; has = joined ds xs ys first last left.whole left.has right.has few }
 
 -- ---- one claim
@@ -114,7 +115,7 @@ module _ (ds : List Declaration) (rules : List Poly) (declared : IsDeclared ds) 
   block_has claim (verdict.Undecided h) writable each = record { whole = refl; has = text_without_blocks ds [] no_text }
   block_has claim (verdict.NotRefuted candidates) writable each = record { whole = refl; has = text_without_blocks ds [] no_text }
 
-  report_has : (claim : ℕ) (verdicts : List Verdict) → All (IsWritableVerdict ds) verdicts → All (IsWritableModel ds) (refuted_in verdicts) → length (refuted_in verdicts) ≤ 100
+  report_has : (claim : ℕ) (verdicts : List Verdict) → All (IsWritableVerdict ds) verdicts → All (IsWritableModel ds) (refuted_in verdicts) → length (refuted_in verdicts) ≤ block_limit
       → IsTextWith ds (report_from ds rules claim verdicts) (refuted_in verdicts)
   report_has claim [] writable each few = record { whole = refl; has = text_without_blocks ds [] no_text }
   report_has claim (v ∷ verdicts) writable each few =

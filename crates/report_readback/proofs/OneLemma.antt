@@ -7,7 +7,7 @@ use Rattle.std.proofs.Math.Nat.{dvd-mul_right}
 use Rattle.std.proofs.lemmas.Bool.Decides.{nat_tests}
 use Rattle.std.proofs.lemmas.Int.{ints, unsigned_abs-mul}
 use Rattle.std.proofs.lemmas.List.{length-append, length-map}
-use Rattle.std.proofs.lemmas.List.Elements.{All-head, All-tail, All-map, recursion_from_All}
+use Rattle.std.proofs.lemmas.List.Elements.{All-map, recursion_from_All}
 use Rattle.definitions.specs.Poly.{Term, coefficient_of, poly_multiple}
 use Rattle.definitions.specs.Combination.{Row}
 use Rattle.nc_polynomial.specs.declared.fault.SizeFault.{SizeFault}
@@ -26,14 +26,16 @@ use Rattle.cofactor_trace.specs.declared.evidence.Lemma.{Lemma}
 use Rattle.cofactor_trace.specs.GatheringLaws.{IsWithin, NamesWithin}
 use Rattle.cofactor_trace.specs.LemmaRows.{AddsUpTo}
 use Rattle.cofactor_checker.specs.Rows.{IsNumberUpTo}
-use Rattle.evidence_checker.specs.declared.refusal.EvidenceRefusal.{EvidenceRefusal}
-use Rattle.evidence_checker.specs.declared.refusal.EvidenceRefusal.TheVariants as refusal
-use Rattle.evidence_checker.specs.Rows.{place_of, plain_row, plain_rows, plain_sum}
-use Rattle.evidence_checker.specs.Lemmas.{lemma_polynomial, IsLeastIndivisible, RefusesRows, RefusesLemma}
-use Rattle.evidence_checker.specs.Acceptance.{IsMemory}
-use Rattle.evidence_checker.proofs.Evidence.{sums_agree}
-use Rattle.evidence_checker.proofs.Places.{place-generator, place-lemma}
-use Rattle.evidence_checker.proofs.Terms.{quotient_back}
+use Rattle.cofactor_checker.specs.declared.refusal.Refusal.{Refusal}
+use Rattle.cofactor_checker.specs.declared.refusal.Refusal.TheVariants as refusal
+use Rattle.cofactor_checker.specs.PlainRows.{place_of, plain_row, plain_rows, plain_sum}
+use Rattle.cofactor_checker.specs.Lemmas.{lemma_polynomial, IsLeastIndivisible, RefusesLemmaRows, RefusesLemma}
+use Rattle.cofactor_checker.specs.Acceptance.{IsMemory}
+use Rattle.cofactor_checker.proofs.LemmaSums.{sums_agree}
+use Rattle.cofactor_checker.proofs.Short.{no_rest}
+use Rattle.cofactor_checker.proofs.Places.{place-generator, place-lemma}
+use Rattle.cofactor_checker.proofs.Terms.{quotient_back}
+use Rattle.nc_polynomial.specs.Limits.{word_limit, term_limit}
 use Rattle.report_readback.specs.Answered.{PassesLimit}
 use Rattle.report_readback.proofs.PlainAnswers.{Polys, none_lacks}
 
@@ -52,23 +54,16 @@ rows_there gs before l names =
     (λ k row below. subst (λ count. IsNumberUpTo count (place_of (length gs) (length before) (get_or l.rows k row).from)) (sym (length-append gs before))
     (place_there (length gs) (length before) (get_or l.rows k row).from (names k row below)))
 
-abbrev pub Answers : EvidenceRefusal → Type 0
+abbrev pub Answers : Refusal → Type 0
 Answers r = PassesLimit r ⊎ IsMemory r
 
-pub rows_answer : (gs before : Polys) (number : ℕ) (l : Lemma) → NamesWithin (length gs) (length before) l → (r : EvidenceRefusal) → RefusesRows gs before number l.rows r → Answers r
+pub rows_answer : (gs before : Polys) (number : ℕ) (l : Lemma) → NamesWithin (length gs) (length before) l → (r : Refusal) → RefusesLemmaRows gs before number l.rows r → Answers r
 rows_answer gs before number l names (refusal.NoSuchGenerator row) refused = absurd (none_lacks (gs ++ before) (plain_rows gs before l.rows) refused.in_lemma (rows_there gs before l names) refused.lacks)
 rows_answer gs before number l names (refusal.NoSuchLemma row) refused = absurd (none_lacks (gs ++ before) (plain_rows gs before l.rows) refused.in_lemma (rows_there gs before l names) refused.lacks)
 rows_answer gs before number l names (refusal.Overflow row overflow) refused = inl tt
 rows_answer gs before number l names (refusal.Size row) refused = inl tt
 rows_answer gs before number l names (refusal.Memory failed) refused = inr tt
-rows_answer gs before number l names refusal.NoSuchClaim refused = absurd refused
-rows_answer gs before number l names refusal.ZeroDenominator refused = absurd refused
-rows_answer gs before number l names (refusal.LooseScale lemma) refused = absurd refused
-rows_answer gs before number l names (refusal.NotDivisible lemma word got) refused = absurd refused
-rows_answer gs before number l names (refusal.LemmaSize lemma) refused = absurd refused
-rows_answer gs before number l names (refusal.Kept row) refused = absurd refused
-rows_answer gs before number l names (refusal.Differs word want got) refused = absurd refused
-rows_answer gs before number l names (refusal.Certificate e) refused = absurd refused
+rows_answer gs before number l names other refused = absurd refused
 
 -- ---- sums
 
@@ -85,21 +80,16 @@ divides_multiple s p =
     All-map (λ (t : Term). unsigned_abs s ∣ unsigned_abs t.0) (λ t. (s *ℤ t.0, t.1)) p
     (λ k t below. subst (λ n. unsigned_abs s ∣ n) (sym (unsigned_abs-mul s (get_or p k t).0)) (dvd-mul_right (unsigned_abs s) (unsigned_abs (get_or p k t).0)))
 
-none_indivisible : (s : ℤ) (p : List Term) (word : List ℕ) (got : ℤ) → DividesEach (unsigned_abs s) p → IsLeastIndivisible s p word got → ⊥
-none_indivisible s [] word got each least = least
-none_indivisible s (t ∷ p) word got each (inl later) = none_indivisible s p word got (All-tail (λ u. unsigned_abs s ∣ unsigned_abs u.0) t p each) later
-none_indivisible s (t ∷ p) word got each (inr here) = here.1.0 (All-head (λ u. unsigned_abs s ∣ unsigned_abs u.0) t p each)
-
 -- ---- sizes
 
-none_long : (s : ℤ) (p : List Term) → AllByRecursion (λ t. length t.1 ≤ 500) p → has_long_word (poly_multiple s p) ≡ false
+none_long : (s : ℤ) (p : List Term) → AllByRecursion (λ t. length t.1 ≤ word_limit) p → has_long_word (poly_multiple s p) ≡ false
 none_long s [] short = refl
-none_long s (t ∷ p) short = let here : nat_lt 500 (length t.1) ≡ false = grind (arith, nat_tests, short.0) in rw (here, none_long s p short.1) refl
+none_long s (t ∷ p) short = let here : nat_lt word_limit (length t.1) ≡ false = grind (arith, nat_tests, short.0) in rw (here, none_long s p short.1) refl
 
 multiple_fits : (s : ℤ) (p : List Term) (limit : SizeFault) → IsCanonical p → sized (poly_multiple s p) ≡ Err (fault.Size limit) → ⊥
 multiple_fits s p limit canonical =
-    let few : nat_lt 20000 (length (poly_multiple s p)) ≡ false = grind (arith, nat_tests, length-map {B = Term} p (λ (t : Term). (s *ℤ t.0, t.1)), canonical.few) in
-    rw (none_long s p (recursion_from_All (λ t. length t.1 ≤ 500) p canonical.short), few) (λ same. cc)
+    let few : nat_lt term_limit (length (poly_multiple s p)) ≡ false = grind (arith, nat_tests, length-map {B = Term} p (λ (t : Term). (s *ℤ t.0, t.1)), canonical.few) in
+    rw (none_long s p (recursion_from_All (λ t. length t.1 ≤ word_limit) p canonical.short), few) (λ same. cc)
 
 -- ---- the lemma
 
@@ -114,9 +104,9 @@ module _ (gs before : Polys) (l : Lemma) (p : List Term) (positive : pos 0 <ℤ 
   pub polynomial_is : lemma_polynomial gs before l ≡ p
   polynomial_is = ap (map (λ (t : Term). (int_div t.0 l.scale, t.1))) sum_is ∙ quotient_back l.scale p (omega (arith, ints, positive))
 
-  pub lemma_answer : (number : ℕ) → NamesWithin (length gs) (length before) l → (r : EvidenceRefusal) → RefusesLemma gs before number l r → Answers r
+  pub lemma_answer : (number : ℕ) → NamesWithin (length gs) (length before) l → (r : Refusal) → RefusesLemma gs before number l r → Answers r
   lemma_answer number names (refusal.NotDivisible lemma word got) refused =
-      absurd (none_indivisible l.scale (poly_multiple l.scale p) word got (divides_multiple l.scale p) (subst (λ q. IsLeastIndivisible l.scale q word got) sum_is refused.least.least))
+      absurd (no_rest l.scale (poly_multiple l.scale p) word got (divides_multiple l.scale p) (subst (λ q. IsLeastIndivisible l.scale q word got) sum_is refused.least.least))
   lemma_answer number names (refusal.LemmaSize lemma) refused = absurd (multiple_fits l.scale p refused.limit canonical (ap sized (sym sum_is) ∙ refused.size))
   lemma_answer number names (refusal.Kept row) refused = inl tt
   lemma_answer number names (refusal.NoSuchGenerator row) refused = rows_answer gs before number l names (refusal.NoSuchGenerator row) refused
@@ -124,8 +114,4 @@ module _ (gs before : Polys) (l : Lemma) (p : List Term) (positive : pos 0 <ℤ 
   lemma_answer number names (refusal.Overflow row overflow) refused = inl tt
   lemma_answer number names (refusal.Size row) refused = inl tt
   lemma_answer number names (refusal.Memory failed) refused = inr tt
-  lemma_answer number names refusal.NoSuchClaim refused = absurd refused
-  lemma_answer number names refusal.ZeroDenominator refused = absurd refused
-  lemma_answer number names (refusal.LooseScale lemma) refused = absurd refused
-  lemma_answer number names (refusal.Differs word want got) refused = absurd refused
-  lemma_answer number names (refusal.Certificate e) refused = absurd refused
+  lemma_answer number names other refused = absurd refused

@@ -8,13 +8,13 @@ use Rattle.definitions.specs.Poly.{coefficient_of, SamePolynomial}
 use Rattle.definitions.specs.Combination.{Row, IsCombination}
 use Rattle.cofactor_trace.specs.declared.Certificate.{Certificate}
 use Rattle.cofactor_trace.specs.Rows.{row_of, rows_of}
-use Rattle.cofactor_checker.specs.declared.Refusal.{Refusal}
-use Rattle.cofactor_checker.specs.declared.Refusal.TheVariants as refusal
+use Rattle.cofactor_checker.specs.declared.refusal.Refusal.{Refusal}
+use Rattle.cofactor_checker.specs.declared.refusal.Refusal.TheVariants as refusal
 use Rattle.cofactor_checker.specs.Rows.{IsNumberUpTo, LacksGenerator}
 use Rattle.cofactor_checker.specs.Difference.{IsLeastDifference}
 use Rattle.cofactor_checker.specs.Acceptance.{claim_of, Refuses, IsMemory}
 use Rattle.outcome_laws.specs.EvidenceLimits.{IsCertificateWithin}
-use Rattle.report_readback.specs.Answered.{PassesLimitOfRows}
+use Rattle.report_readback.specs.Answered.{PassesLimit}
 
 abbrev pub Polys : Type 0
 Polys = List (List (ℤ × List ℕ))
@@ -37,7 +37,7 @@ module _ (claims gs : Polys) (c : Certificate) (claim : IsNumberUpTo (length cla
   generators_there =
       All-map (λ (r : Row). IsNumberUpTo (length gs) r.generator) row_of c.rows (λ k row below. let is = within.rows k row below in record { least = is.first; most = is.last })
 
-  pub plain_answer : (r : Refusal) → Refuses claims gs c r → PassesLimitOfRows r ⊎ IsMemory r
+  pub plain_answer : (r : Refusal) → Refuses claims gs c r → PassesLimit r ⊎ IsMemory r
   plain_answer refusal.NoSuchClaim refused = absurd (refused claim)
   plain_answer refusal.ZeroDenominator refused = absurd (omega (arith, ints, within.positive, refused.denominator))
   plain_answer (refusal.Overflow row overflow) refused = inl tt
@@ -45,3 +45,4 @@ module _ (claims gs : Polys) (c : Certificate) (claim : IsNumberUpTo (length cla
   plain_answer (refusal.Size row) refused = inl tt
   plain_answer (refusal.Differs word want got) refused = absurd (none_differs _ _ word want got sum.sum refused.difference)
   plain_answer (refusal.Memory failed) refused = inr tt
+  plain_answer other refused = absurd refused

@@ -8,6 +8,7 @@ use Rattle.std.proofs.lemmas.Str.{chars-encodes, IsUtf8-from_is_utf8, is_utf8-fr
 use Rattle.unicode_ident.specs.Ident.{is_xid_continue}
 use Rattle.certificate_text.specs.Letters.{begins_name, is_name}
 use Rattle.statement_syntax.proofs.Spelled.{EachIs, SpellsName}
+use Rattle.statement_tokens.specs.Limits.{name_limit}
 
 each_passes : (p : ℕ → Bool) (cs : List ℕ) → EachIs p cs → list_all p cs ≡ true
 each_passes p [] each = refl
@@ -23,7 +24,7 @@ spelled_is_name text s =
     let utf8 : is_utf8 text ≡ true = is_utf8-from_IsUtf8 text (s.first ∷ s.more, (s.scalar, sym s.is)) in
     rw (le-leb _ _ s.short, utf8, characters, s.starts, each_passes is_xid_continue s.more s.goes_on) refl
 
-spelled_by : (cs text : List ℕ) → encode_utf8_all cs ≡ text → scalars cs ≡ true → length text ≤ 32 → (begins_name cs && list_all is_xid_continue (drop 1 cs)) ≡ true → SpellsName text
+spelled_by : (cs text : List ℕ) → encode_utf8_all cs ≡ text → scalars cs ≡ true → length text ≤ name_limit → (begins_name cs && list_all is_xid_continue (drop 1 cs)) ≡ true → SpellsName text
 spelled_by [] text spells scalar short known = absurd cc
 spelled_by (c ∷ cs) text spells scalar short known =
     let parts = and_parts _ _ known in

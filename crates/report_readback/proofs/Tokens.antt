@@ -16,6 +16,7 @@ use Rattle.statement_syntax.proofs.Moved.{kinds}
 use Rattle.statement_syntax.proofs.Spelled.{SpellsName, IsFileToken, AllKinds, AllKinds-split, tokens_are}
 use Rattle.statement_syntax.proofs.StatedKinds.{kinds-append}
 use Rattle.statement_syntax.proofs.Rescan.{one_token, name_back}
+use Rattle.statement_tokens.specs.Limits.{name_limit}
 use Rattle.report_readback.specs.Names.{IsNameToken, NamesAreNameTokens}
 use Rattle.report_readback.proofs.Spellings.{spelled_is_name, name_is_spelled}
 
@@ -29,7 +30,7 @@ item_read : (text : List ℕ) (s : SpellsName text) → item_at s.first (s.more 
 item_read text s =
     name_back s.first s.more [] s.starts s.goes_on tt
     ∙ ap (λ y. name_of y (length s.more)) (sym s.is)
-    ∙ ap (λ b. cond b (Ok (item.Token (kind.Name text) (length s.more))) (Err BadToken)) (le-leb (length text) 32 s.short)
+    ∙ ap (λ b. cond b (Ok (item.Token (kind.Name text) (length s.more))) (Err BadToken)) (le-leb (length text) name_limit s.short)
 
 spelled_is_token : (text : List ℕ) → SpellsName text → IsNameToken text
 spelled_is_token text s =

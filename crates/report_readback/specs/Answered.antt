@@ -3,12 +3,11 @@ use Rattle.std.specs.Prelude.{◌⊎◌, ⊤, ℕ, List, length}
 use Rattle.std.specs.List.{All}
 use Rattle.cofactor_trace.specs.declared.evidence.Evidence.{Evidence}
 use Rattle.cofactor_trace.specs.declared.evidence.Format.{Format}
-use Rattle.cofactor_checker.specs.declared.Refusal.{Refusal}
-use Rattle.cofactor_checker.specs.declared.Refusal.TheVariants as of_rows
+use Rattle.cofactor_checker.specs.declared.refusal.Refusal.{Refusal}
 use Rattle.cofactor_checker.specs.Rows.{IsNumberUpTo}
-use Rattle.evidence_checker.specs.declared.refusal.EvidenceRefusal.{EvidenceRefusal}
-use Rattle.evidence_checker.specs.declared.refusal.EvidenceRefusal.TheVariants as refusal
-use Rattle.evidence_checker.specs.Acceptance.{AcceptsEvidence, RefusesEvidence, IsMemory}
+use Rattle.cofactor_checker.specs.declared.refusal.Refusal.TheVariants as refusal
+use Rattle.cofactor_checker.specs.Acceptance.{IsMemory}
+use Rattle.cofactor_checker.specs.Evidence.{AcceptsEvidence, RefusesEvidence}
 use Rattle.adjoint_rules.specs.declared.problem.Problem.{Problem}
 use Rattle.adjoint_rules.specs.Problem.{polynomials}
 use Rattle.traced_completion.specs.declared.budget.Budget.{Budget}
@@ -21,44 +20,25 @@ use Rattle.report_readback.specs.ReadBack.{derived_in}
 
 -- ---- limits
 
--- a product or a sum leaves the range of coefficients, or a sum has too many terms
-abbrev pub PassesLimitOfRows : Refusal → Type 0
-PassesLimitOfRows (of_rows.Overflow row overflow) = ⊤
-PassesLimitOfRows (of_rows.Size row) = ⊤
-PassesLimitOfRows of_rows.NoSuchClaim = ⊥
-PassesLimitOfRows (of_rows.NoSuchGenerator row) = ⊥
-PassesLimitOfRows of_rows.ZeroDenominator = ⊥
-PassesLimitOfRows (of_rows.Differs word want got) = ⊥
-PassesLimitOfRows (of_rows.Memory failed) = ⊥
-
--- the same of evidence of either format, or the lemmas have too many terms together
-abbrev pub PassesLimit : EvidenceRefusal → Type 0
-PassesLimit (refusal.Certificate e) = PassesLimitOfRows e
+-- a product or a sum leaves the range of coefficients, a sum has too many terms, or the lemmas have too many together
+abbrev pub PassesLimit : Refusal → Type 0
 PassesLimit (refusal.Overflow row overflow) = ⊤
 PassesLimit (refusal.Size row) = ⊤
 PassesLimit (refusal.Kept row) = ⊤
-PassesLimit refusal.NoSuchClaim = ⊥
-PassesLimit refusal.ZeroDenominator = ⊥
-PassesLimit (refusal.LooseScale lemma) = ⊥
-PassesLimit (refusal.NoSuchGenerator row) = ⊥
-PassesLimit (refusal.NoSuchLemma row) = ⊥
-PassesLimit (refusal.NotDivisible lemma word got) = ⊥
-PassesLimit (refusal.LemmaSize lemma) = ⊥
-PassesLimit (refusal.Differs word want got) = ⊥
-PassesLimit (refusal.Memory failed) = ⊥
+PassesLimit other = ⊥
 
 -- ---- answers
 
 abbrev pub AcceptsOf : Problem → Evidence → Type 0
 AcceptsOf problem e = AcceptsEvidence (polynomials problem.parts.claims) (polynomials problem.generators) e
 
-abbrev pub RefusesOf : Problem → Evidence → EvidenceRefusal → Type 0
+abbrev pub RefusesOf : Problem → Evidence → Refusal → Type 0
 RefusesOf problem e r = RefusesEvidence (polynomials problem.parts.claims) (polynomials problem.generators) e r
 
 -- The evidence is accepted, or it is refused since a limit is passed; it is refused for nothing else but want of memory.
 pub record IsAnsweredWithinLimits (problem : Problem) (e : Evidence) : Type 0 where
-  pub judged : AcceptsOf problem e ⊎ ((r : EvidenceRefusal) × RefusesOf problem e r × PassesLimit r)
-  pub no_other : (r : EvidenceRefusal) → RefusesOf problem e r → PassesLimit r ⊎ IsMemory r
+  pub judged : AcceptsOf problem e ⊎ ((r : Refusal) × RefusesOf problem e r × PassesLimit r)
+  pub no_other : (r : Refusal) → RefusesOf problem e r → PassesLimit r ⊎ IsMemory r
 
 -- So it is with the evidence of each claim that is derived.
 abbrev pub DerivedEvidenceIsAnswered : Type 0

@@ -5,7 +5,8 @@ use Rattle.report_text.specs.declared.verdict.Verdict.{Verdict}
 use Rattle.report_text.specs.Report.{status_of, is_proved, is_refuted, is_undecided, is_not_refuted}
 
 by_tests : (status : ℕ) (some_undecided some_not_refuted some_refuted all_proved : Bool)
-    → status ≡ (if some_undecided then 12 else (if some_not_refuted then 13 else (if some_refuted then 11 else (if all_proved then 0 else 10)))) → (status ≡ 0) ⊎ (7 ≤ status)
+    → status ≡ (if some_undecided then 12 else (if some_not_refuted then 13 else (if some_refuted then 11 else (if all_proved then 0 else 10))))
+    → (status ≡ 0) ⊎ (7 ≤ status)
 by_tests status true some_not_refuted some_refuted all_proved is = inr (omega (arith, is))
 by_tests status false true some_refuted all_proved is = inr (omega (arith, is))
 by_tests status false false true all_proved is = inr (omega (arith, is))

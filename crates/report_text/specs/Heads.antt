@@ -3,6 +3,8 @@ use Rattle.std.specs.Prelude.{ℕ, ◌+◌, ℤ, List, [], ◌++◌, length, dec
 use Rattle.std.specs.Fmt.{signed_decimal}
 use Rattle.std.specs.List.{flat_map}
 use Rattle.coef_int.specs.declared.Overflow.{Overflow}
+use Rattle.nc_polynomial.specs.Limits.{word_limit, term_limit}
+use Rattle.cofactor_trace.specs.Limits.{row_limit, letter_limit}
 use Rattle.quiver.specs.Declarations.{Declaration}
 use Rattle.cofactor_trace.specs.declared.evidence.Evidence.{Evidence}
 use Rattle.cofactor_trace.specs.declared.evidence.Evidence.TheVariants as format
@@ -45,8 +47,8 @@ overflow_text o = signed_decimal o.left ++ (if o.product then codes " times " el
 abbrev pub cause_text : Cause → List ℕ
 cause_text (cause.Pairs spent) = codes "pairs " ++ decimal spent
 cause_text (cause.Steps limit) = codes "steps " ++ decimal limit
-cause_text (cause.Size letters) = if letters then codes "size letters 500" else codes "size terms 20000"
-cause_text (cause.Rows letters) = if letters then codes "rows letters 1000000" else codes "rows 200000"
+cause_text (cause.Size letters) = if letters then codes "size letters " ++ decimal word_limit else codes "size terms " ++ decimal term_limit
+cause_text (cause.Rows letters) = if letters then codes "rows letters " ++ decimal letter_limit else codes "rows " ++ decimal row_limit
 cause_text (cause.Overflow o) = codes "overflow " ++ overflow_text o
 
 abbrev pub place_text : Place → List ℕ

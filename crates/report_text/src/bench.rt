@@ -1,6 +1,6 @@
 //! The statement of `bench`.
 
-ghost use Rattle.std.specs.Prelude.{◌≡◌, ◌<◌, ◌≤◌, ◌+◌, ◌-◌, ◌++◌, IfOk, OnOk, codes, decimal};
+ghost use Rattle.std.specs.Prelude.{◌≡◌, ◌<◌, ◌≤◌, ◌+◌, ◌-◌, ◌^◌, ◌++◌, IfOk, OnOk, codes, decimal};
 ghost use Rattle.std.specs.List.{flat_map, range_with_len};
 ghost use Rattle.report_text.specs.Bench.{numbered, maps_of_step, assumption_of_step, objects_text, there_and_back, bench_statement};
 
@@ -38,7 +38,7 @@ fn put_assumption(out: &mut Vec<u8>, step: u32) -> Result<(), AllocError>
 }
 
 fn put_objects(out: &mut Vec<u8>, size: u32) -> Result<(), AllocError>
-    requires { size ≤ 60 }
+    requires { size + 1 < 2 ^ 32 }
     ensures { OnOk result (out.new.items ≡ out.old.items ++ objects_text size) }
 {
     for object in 0..size + 1 {
@@ -48,7 +48,6 @@ fn put_objects(out: &mut Vec<u8>, size: u32) -> Result<(), AllocError>
 }
 
 fn put_all_maps(out: &mut Vec<u8>, size: u32) -> Result<(), AllocError>
-    requires { size ≤ 60 }
     ensures { OnOk result (out.new.items ≡ out.old.items ++ flat_map maps_of_step (range_with_len 1 size)) }
 {
     for step in 0..size {
@@ -58,7 +57,6 @@ fn put_all_maps(out: &mut Vec<u8>, size: u32) -> Result<(), AllocError>
 }
 
 fn put_assumptions(out: &mut Vec<u8>, size: u32) -> Result<(), AllocError>
-    requires { size ≤ 60 }
     ensures { OnOk result (out.new.items ≡ out.old.items ++ flat_map assumption_of_step (range_with_len 1 size)) }
 {
     for step in 0..size {
@@ -68,7 +66,6 @@ fn put_assumptions(out: &mut Vec<u8>, size: u32) -> Result<(), AllocError>
 }
 
 fn put_there(out: &mut Vec<u8>, size: u32) -> Result<(), AllocError>
-    requires { size ≤ 60 }
     ensures { OnOk result (out.new.items ≡ out.old.items ++ flat_map (numbered (codes " a")) (range_with_len 1 size)) }
 {
     for step in 0..size {
@@ -78,7 +75,6 @@ fn put_there(out: &mut Vec<u8>, size: u32) -> Result<(), AllocError>
 }
 
 fn put_back(out: &mut Vec<u8>, size: u32) -> Result<(), AllocError>
-    requires { size ≤ 60 }
     ensures { OnOk result (out.new.items ≡ out.old.items ++ flat_map (λ place. numbered (codes " r") (size - place)) (range_with_len 0 size)) }
 {
     for place in 0..size {
@@ -88,7 +84,6 @@ fn put_back(out: &mut Vec<u8>, size: u32) -> Result<(), AllocError>
 }
 
 fn put_claims(out: &mut Vec<u8>, size: u32) -> Result<(), AllocError>
-    requires { size ≤ 60 }
     ensures { OnOk result (out.new.items ≡ out.old.items ++ (codes "claim" ++ there_and_back size ++ codes " = [O0]\nclaim r" ++ decimal size ++ codes " a" ++ decimal size ++ codes " = [O" ++ decimal size ++ codes "]\n")) }
 {
     put(out, "claim")?;
@@ -100,9 +95,9 @@ fn put_claims(out: &mut Vec<u8>, size: u32) -> Result<(), AllocError>
     put(out, "]\n")
 }
 
-/// The statement of a bench of this size, from 1 to 60: a chain of so many maps with right inverses, and two claims.
+/// The statement of a bench of this size: a chain of so many maps with right inverses, and two claims.
 pub fn write_bench(alloc: Global, size: u32) -> Result<Vec<u8>, AllocError>
-    requires { size ≤ 60 }
+    requires { size + 1 < 2 ^ 32 }
     ensures { IfOk result (λ text. text.items ≡ bench_statement size) }
 {
     let mut out = Vec::new(alloc);

@@ -8,7 +8,8 @@ ghost use Rattle.report_text.specs.Report.{IsLeastOver, IsVerdictOver};
 use crate::Verdict;
 use certificate_text::{put, put_integer, put_number, put_word};
 use coef_int::Overflow;
-use cofactor_trace::{Cause, Evidence, Halt, LemmaCertificate, Place};
+use cofactor_trace::{Cause, Evidence, Halt, LETTER_LIMIT, LemmaCertificate, Place, ROW_LIMIT};
+use nc_polynomial::{TERM_LIMIT, WORD_LIMIT};
 use quiver::Quiver;
 use std::alloc::AllocError;
 use word_core::Word;
@@ -101,18 +102,12 @@ fn put_cause(out: &mut Vec<u8>, cause: &Cause) -> Result<(), AllocError>
     ensures { OnOk result (out.new.items ≡ out.old.items ++ cause_text cause.now) }
 {
     match cause {
-        Cause::Pairs { spent } => {
-            put(out, "pairs ")?;
-            put_number(out, u128::from(*spent))
-        }
-        Cause::Steps { limit } => {
-            put(out, "steps ")?;
-            put_number(out, u128::from(*limit))
-        }
-        Cause::Size { letters: true } => put(out, "size letters 500"),
-        Cause::Size { letters: false } => put(out, "size terms 20000"),
-        Cause::Rows { letters: true } => put(out, "rows letters 1000000"),
-        Cause::Rows { letters: false } => put(out, "rows 200000"),
+        Cause::Pairs { spent } => put_labelled(out, "pairs ", u128::from(*spent)),
+        Cause::Steps { limit } => put_labelled(out, "steps ", u128::from(*limit)),
+        Cause::Size { letters: true } => put_labelled(out, "size letters ", WORD_LIMIT as u128),
+        Cause::Size { letters: false } => put_labelled(out, "size terms ", TERM_LIMIT as u128),
+        Cause::Rows { letters: true } => put_labelled(out, "rows letters ", LETTER_LIMIT as u128),
+        Cause::Rows { letters: false } => put_labelled(out, "rows ", ROW_LIMIT as u128),
         Cause::Overflow(overflow) => {
             put(out, "overflow ")?;
             put_overflow(out, overflow)

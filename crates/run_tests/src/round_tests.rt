@@ -1,5 +1,6 @@
 //! Rounds of completions, told call by call, and the rules that they make: worked out by hand.
 ghost use Rattle.std.specs.Prelude.{◌<◌, ◌≤◌, IfOk};
+ghost use Rattle.in_order_parallel.specs.Limits.{worker_limit};
 ghost use Rattle.traced_completion.specs.Completions.{IsBudget, IsCompletionOf};
 
 use adjoint_rules::Problem;
@@ -212,7 +213,7 @@ fn rounds_text<R: Threads + Sync>(
 ) -> Result<String, Fail>
     requires started { IsCompletionOf problem.now completion.old }
     requires some_worker { 0 < workers }
-    requires at_most_64 { workers ≤ 64 }
+    requires few_workers { workers ≤ worker_limit }
 {
     let quiver = &problem.parts.quiver;
     let mut text = String::new(alloc);
@@ -250,7 +251,7 @@ fn story_from<R: Threads + Sync>(
 ) -> Result<String, Fail>
     requires started { IsCompletionOf problem.now completion.old }
     requires some_worker { 0 < workers }
-    requires at_most_64 { workers ≤ 64 }
+    requires few_workers { workers ≤ worker_limit }
 {
     let mut text = rounds_text(rt, alloc, problem, completion, workers, calls)?;
     write_rules(&mut text, &problem.parts.quiver, completion)?;
@@ -268,7 +269,7 @@ fn story<R: Threads + Sync>(
 ) -> Result<String, Fail>
     requires budget { IsBudget budget }
     requires some_worker { 0 < workers }
-    requires at_most_64 { workers ≤ 64 }
+    requires few_workers { workers ≤ worker_limit }
 {
     let mut completion = Completion::start(alloc, problem, budget)?;
     story_from(rt, alloc, problem, &mut completion, workers, calls)
@@ -297,7 +298,7 @@ fn story_of<R: Threads + Sync>(
 ) -> Result<String, Fail>
     requires budget { IsBudget budget }
     requires some_worker { 0 < workers }
-    requires at_most_64 { workers ≤ 64 }
+    requires few_workers { workers ≤ worker_limit }
 {
     match made {
         Ok(problem) => story(rt, alloc, problem, budget, workers, calls),
@@ -316,7 +317,7 @@ fn told<R: Threads + Sync>(
 ) -> Result<String, Fail>
     requires budget { IsBudget budget }
     requires some_worker { 0 < workers }
-    requires at_most_64 { workers ≤ 64 }
+    requires few_workers { workers ≤ worker_limit }
 {
     if statement.len() > 1000 {
         return Err(Fail::new("the statement is too long for a test"));

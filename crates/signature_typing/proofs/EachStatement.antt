@@ -1,5 +1,5 @@
 -- Each statement has a problem or a fault.
-use Rattle.std.proofs.Common.{◌≡◌, ◌⊎◌, inl, inr, List, [], ◌∷◌, Option, Some, None, Result, Ok, Err, refl, ap}
+use Rattle.std.proofs.Common.{◌≡◌, ◌⊎◌, inl, inr, List, [], ◌∷◌, length, Option, Some, None, Result, Ok, Err, refl, ap}
 use Rattle.std.specs.Prelude.{⊤}
 use Rattle.std.specs.List.{AllByRecursion}
 use Rattle.std.specs.Option.{option_or, option_map}
@@ -32,6 +32,7 @@ use Rattle.expressions.proofs.Typed.{equations_are_typed}
 use Rattle.expressions.proofs.Written.{letters_are_written}
 use Rattle.adjoint_rules.specs.declared.parts.Parts.{Parts}
 use Rattle.adjoint_rules.specs.declared.problem.Problem.{Problem}
+use Rattle.adjoint_rules.specs.Parts.{units_in}
 use Rattle.adjoint_rules.proofs.Counted.{few_closed}
 use Rattle.signature_typing.specs.declared.fault.TypeFault.{TypeFault}
 use Rattle.signature_typing.specs.First.{first_among}
@@ -173,8 +174,18 @@ module _ (statements : List Statement) (clean : name_fault_of statements ≡ Non
     unfolding parts
     problem =
         let is_posed = posed equations_are_typed letters_are_written statements parts are_parts ready none_wrong.0 none_wrong.1 in
-        let g = generators_exist parts is_posed in
-        (record { parts = parts; generators = g.list; posed = is_posed; closed = g.closed; few = few_closed parts g.list is_posed g.closed }, record { no_fault = fine; parts = are_parts })
+        let g = generators_exist parts is_posed in (
+          record {
+            parts = parts;
+            generators = g.list;
+            unit_count = length (units_in parts);
+            posed = is_posed;
+            closed = g.closed;
+            few = few_closed parts g.list is_posed g.closed;
+            counted = refl;
+          },
+          record { no_fault = fine; parts = are_parts },
+        )
 
   by_fault : (o : Option TypeFault) → fault_of statements ≡ o → IsTold o → ((fault : TypeFault) × (fault_of statements ≡ Some fault) × (IsMemory fault → ⊥)) ⊎ ((p : Problem) × IsProblemOf statements p)
   by_fault None fine h = inr (problem fine)

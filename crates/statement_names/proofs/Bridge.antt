@@ -8,6 +8,9 @@ use Rattle.std.proofs.lemmas.Bool.Decides.{nat_tests}
 use Rattle.std.proofs.lemmas.Grind.{flat_map-append}
 use Rattle.std.proofs.lemmas.List.{append-nil}
 use Rattle.std.proofs.lemmas.List.Sums.{sum_by_push}
+use Rattle.quiver.specs.Limits.{object_limit}
+use Rattle.adjoint_rules.specs.Limits.{assumption_limit, claim_limit, shape_limit}
+use Rattle.statement_names.specs.Limits.{file_map_limit}
 use Rattle.statement_names.specs.declared.fault.NameFault.{NameFault}
 use Rattle.statement_names.specs.declared.fault.NameFault.TheVariants.{Unknown, Double, TooMany, NotSquare}
 use Rattle.statement_names.specs.declared.kinds.Kind.{Kind}
@@ -57,12 +60,12 @@ new_then_room false x rest e = e
 pub record Agrees (kind : List ℕ → Option Kind) (before : List Occurrence) (s : Survey) : Type 0 where
   pub kinds : (name : List ℕ) → kind_in s.kinds name ≡ kind name
   pub declared : s.declared ≡ declared_in before
-  pub objects : s.objects + sum_by objects_by before ≡ 64
-  pub maps : s.maps + sum_by maps_by before ≡ 200
+  pub objects : s.objects + sum_by objects_by before ≡ object_limit
+  pub maps : s.maps + sum_by maps_by before ≡ file_map_limit
   pub orders : s.orders + sum_by orders_by before ≡ 1
-  pub assumptions : s.assumptions + sum_by assumptions_by before ≡ 500
-  pub claims : s.claims + sum_by claims_by before ≡ 100
-  pub shapes : s.shapes + sum_by shapes_by before ≡ 16
+  pub assumptions : s.assumptions + sum_by assumptions_by before ≡ assumption_limit
+  pub claims : s.claims + sum_by claims_by before ≡ claim_limit
+  pub shapes : s.shapes + sum_by shapes_by before ≡ shape_limit
 
 module _ (kind : List ℕ → Option Kind) (before : List Occurrence) (s : Survey) (agrees : Agrees kind before s) where
   two_same : (u v : List ℕ) → are_two_objects (kind_in s.kinds) u v ≡ are_two_objects kind u v
@@ -73,12 +76,12 @@ module _ (kind : List ℕ → Option Kind) (before : List Occurrence) (s : Surve
 
   fault_same : (o : Occurrence) → fault_at s o ≡ fault_behind kind before o
   fault_same (declares_object n) =
-      ap₂ (λ b rest. if b then Some (Double n.at) else rest) (is_declared_same n.text) (short_same s.objects (sum_by objects_by before) 1 64 (TooMany n.at 64) agrees.objects)
+      ap₂ (λ b rest. if b then Some (Double n.at) else rest) (is_declared_same n.text) (short_same s.objects (sum_by objects_by before) 1 object_limit (TooMany n.at object_limit) agrees.objects)
   fault_same (declares_map n u v selfmade) =
-      first_of_three (is_some (kind_in s.declared n.text)) (nat_lt s.maps 1) (selfmade && are_two_objects (kind_in s.kinds) u v) (Double n.at) (TooMany n.at 200) (NotSquare n.at)
-      ∙ ap (λ b. if b then Some (Double n.at) else if nat_lt s.maps 1 then Some (TooMany n.at 200) else if selfmade && are_two_objects (kind_in s.kinds) u v then Some (NotSquare n.at) else None) (is_declared_same n.text)
-      ∙ ap₂ (λ b c. if is_some (kind_in (declared_in before) n.text) then Some (Double n.at) else if b then Some (TooMany n.at 200) else if selfmade && c then Some (NotSquare n.at) else None)
-      (below_room s.maps (sum_by maps_by before) 1 200 agrees.maps) (two_same u v)
+      first_of_three (is_some (kind_in s.declared n.text)) (nat_lt s.maps 1) (selfmade && are_two_objects (kind_in s.kinds) u v) (Double n.at) (TooMany n.at file_map_limit) (NotSquare n.at)
+      ∙ ap (λ b. if b then Some (Double n.at) else if nat_lt s.maps 1 then Some (TooMany n.at file_map_limit) else if selfmade && are_two_objects (kind_in s.kinds) u v then Some (NotSquare n.at) else None) (is_declared_same n.text)
+      ∙ ap₂ (λ b c. if is_some (kind_in (declared_in before) n.text) then Some (Double n.at) else if b then Some (TooMany n.at file_map_limit) else if selfmade && c then Some (NotSquare n.at) else None)
+      (below_room s.maps (sum_by maps_by before) 1 file_map_limit agrees.maps) (two_same u v)
   fault_same (uses u) = ap (λ found. if is_kind found u.kind then None else Some (Unknown u.name.at)) (agrees.kinds u.name.text)
   fault_same (lists front u) =
       first_of_two (is_kind (kind_in s.kinds u.name.text) u.kind) (is_among front u.name.text) (Unknown u.name.at) (Double u.name.at)
@@ -86,9 +89,9 @@ module _ (kind : List ℕ → Option Kind) (before : List Occurrence) (s : Surve
   fault_same (counts most n) = refl
   fault_same (modulus n) = refl
   fault_same (begins_order at) = short_same s.orders (sum_by orders_by before) 1 1 (Double at) agrees.orders
-  fault_same (begins_assumptions count at) = short_same s.assumptions (sum_by assumptions_by before) count 500 (TooMany at 500) agrees.assumptions
-  fault_same (begins_claim at) = short_same s.claims (sum_by claims_by before) 1 100 (TooMany at 100) agrees.claims
-  fault_same (begins_shape at) = short_same s.shapes (sum_by shapes_by before) 1 16 (TooMany at 16) agrees.shapes
+  fault_same (begins_assumptions count at) = short_same s.assumptions (sum_by assumptions_by before) count assumption_limit (TooMany at assumption_limit) agrees.assumptions
+  fault_same (begins_claim at) = short_same s.claims (sum_by claims_by before) 1 claim_limit (TooMany at claim_limit) agrees.claims
+  fault_same (begins_shape at) = short_same s.shapes (sum_by shapes_by before) 1 shape_limit (TooMany at shape_limit) agrees.shapes
 
   -- ---- one occurrence further
   same_count : (by : Occurrence → ℕ) (o : Occurrence) (room limit : ℕ) → by o ≡ 0 → room + sum_by by before ≡ limit → room + sum_by by (before ++ o ∷ []) ≡ limit
@@ -105,12 +108,12 @@ module _ (kind : List ℕ → Option Kind) (before : List Occurrence) (s : Surve
   still o d no_object no_map no_order no_assumption no_claim no_shape = record {
     kinds = agrees.kinds;
     declared = agrees.declared ∙ sym (declared_push o ∙ ap (λ ds. declared_in before ++ ds) d ∙ append-nil (declared_in before));
-    objects = same_count objects_by o s.objects 64 no_object agrees.objects;
-    maps = same_count maps_by o s.maps 200 no_map agrees.maps;
+    objects = same_count objects_by o s.objects object_limit no_object agrees.objects;
+    maps = same_count maps_by o s.maps file_map_limit no_map agrees.maps;
     orders = same_count orders_by o s.orders 1 no_order agrees.orders;
-    assumptions = same_count assumptions_by o s.assumptions 500 no_assumption agrees.assumptions;
-    claims = same_count claims_by o s.claims 100 no_claim agrees.claims;
-    shapes = same_count shapes_by o s.shapes 16 no_shape agrees.shapes;
+    assumptions = same_count assumptions_by o s.assumptions assumption_limit no_assumption agrees.assumptions;
+    claims = same_count claims_by o s.claims claim_limit no_claim agrees.claims;
+    shapes = same_count shapes_by o s.shapes shape_limit no_shape agrees.shapes;
   }
 
   -- and one that begins something, but declares nothing
@@ -120,31 +123,31 @@ module _ (kind : List ℕ → Option Kind) (before : List Occurrence) (s : Surve
   behind_agrees : (o : Occurrence) → fault_at s o ≡ None → Agrees kind (before ++ o ∷ []) (behind s o)
   behind_agrees (declares_object n) good =
       let o = declares_object n in
-      let room : nat_lt s.objects 1 ≡ false = not_short s.objects 1 (TooMany n.at 64) (new_then_room (is_some (kind_in s.declared n.text)) (Double n.at) _ good) in
+      let room : nat_lt s.objects 1 ≡ false = not_short s.objects 1 (TooMany n.at object_limit) (new_then_room (is_some (kind_in s.declared n.text)) (Double n.at) _ good) in
       record {
         kinds = agrees.kinds;
         declared = ap (λ ds. ds ++ (n.text, Object) ∷ []) agrees.declared ∙ sym (declared_push o);
-        objects = less_room objects_by o s.objects 64 agrees.objects room;
-        maps = same_count maps_by o s.maps 200 refl agrees.maps;
+        objects = less_room objects_by o s.objects object_limit agrees.objects room;
+        maps = same_count maps_by o s.maps file_map_limit refl agrees.maps;
         orders = same_count orders_by o s.orders 1 refl agrees.orders;
-        assumptions = same_count assumptions_by o s.assumptions 500 refl agrees.assumptions;
-        claims = same_count claims_by o s.claims 100 refl agrees.claims;
-        shapes = same_count shapes_by o s.shapes 16 refl agrees.shapes;
+        assumptions = same_count assumptions_by o s.assumptions assumption_limit refl agrees.assumptions;
+        claims = same_count claims_by o s.claims claim_limit refl agrees.claims;
+        shapes = same_count shapes_by o s.shapes shape_limit refl agrees.shapes;
       }
   behind_agrees (declares_map n u v selfmade) good =
       let o = declares_map n u v selfmade in
       let room : nat_lt s.maps 1 ≡ false =
-      not_short s.maps 1 (TooMany n.at 200) (new_then_room (is_some (kind_in s.declared n.text)) (Double n.at) _
-      (or_else_none (declared_fault s.declared s.maps 200 n) (selfmade && are_two_objects (kind_in s.kinds) u v) (NotSquare n.at) good)) in
+      not_short s.maps 1 (TooMany n.at file_map_limit) (new_then_room (is_some (kind_in s.declared n.text)) (Double n.at) _
+      (or_else_none (declared_fault s.declared s.maps file_map_limit n) (selfmade && are_two_objects (kind_in s.kinds) u v) (NotSquare n.at) good)) in
       record {
         kinds = agrees.kinds;
         declared = ap (λ ds. ds ++ (n.text, Map) ∷ []) agrees.declared ∙ sym (declared_push o);
-        objects = same_count objects_by o s.objects 64 refl agrees.objects;
-        maps = less_room maps_by o s.maps 200 agrees.maps room;
+        objects = same_count objects_by o s.objects object_limit refl agrees.objects;
+        maps = less_room maps_by o s.maps file_map_limit agrees.maps room;
         orders = same_count orders_by o s.orders 1 refl agrees.orders;
-        assumptions = same_count assumptions_by o s.assumptions 500 refl agrees.assumptions;
-        claims = same_count claims_by o s.claims 100 refl agrees.claims;
-        shapes = same_count shapes_by o s.shapes 16 refl agrees.shapes;
+        assumptions = same_count assumptions_by o s.assumptions assumption_limit refl agrees.assumptions;
+        claims = same_count claims_by o s.claims claim_limit refl agrees.claims;
+        shapes = same_count shapes_by o s.shapes shape_limit refl agrees.shapes;
       }
   behind_agrees (uses u) good = still (uses u) refl refl refl refl refl refl refl
   behind_agrees (lists front u) good = still (lists front u) refl refl refl refl refl refl refl
@@ -155,48 +158,48 @@ module _ (kind : List ℕ → Option Kind) (before : List Occurrence) (s : Surve
       record {
         kinds = agrees.kinds;
         declared = declared_still o refl;
-        objects = same_count objects_by o s.objects 64 refl agrees.objects;
-        maps = same_count maps_by o s.maps 200 refl agrees.maps;
+        objects = same_count objects_by o s.objects object_limit refl agrees.objects;
+        maps = same_count maps_by o s.maps file_map_limit refl agrees.maps;
         orders = less_room orders_by o s.orders 1 agrees.orders (not_short s.orders 1 (Double at) good);
-        assumptions = same_count assumptions_by o s.assumptions 500 refl agrees.assumptions;
-        claims = same_count claims_by o s.claims 100 refl agrees.claims;
-        shapes = same_count shapes_by o s.shapes 16 refl agrees.shapes;
+        assumptions = same_count assumptions_by o s.assumptions assumption_limit refl agrees.assumptions;
+        claims = same_count claims_by o s.claims claim_limit refl agrees.claims;
+        shapes = same_count shapes_by o s.shapes shape_limit refl agrees.shapes;
       }
   behind_agrees (begins_assumptions count at) good =
       let o = begins_assumptions count at in
       record {
         kinds = agrees.kinds;
         declared = declared_still o refl;
-        objects = same_count objects_by o s.objects 64 refl agrees.objects;
-        maps = same_count maps_by o s.maps 200 refl agrees.maps;
+        objects = same_count objects_by o s.objects object_limit refl agrees.objects;
+        maps = same_count maps_by o s.maps file_map_limit refl agrees.maps;
         orders = same_count orders_by o s.orders 1 refl agrees.orders;
-        assumptions = less_room assumptions_by o s.assumptions 500 agrees.assumptions (not_short s.assumptions count (TooMany at 500) good);
-        claims = same_count claims_by o s.claims 100 refl agrees.claims;
-        shapes = same_count shapes_by o s.shapes 16 refl agrees.shapes;
+        assumptions = less_room assumptions_by o s.assumptions assumption_limit agrees.assumptions (not_short s.assumptions count (TooMany at assumption_limit) good);
+        claims = same_count claims_by o s.claims claim_limit refl agrees.claims;
+        shapes = same_count shapes_by o s.shapes shape_limit refl agrees.shapes;
       }
   behind_agrees (begins_claim at) good =
       let o = begins_claim at in
       record {
         kinds = agrees.kinds;
         declared = declared_still o refl;
-        objects = same_count objects_by o s.objects 64 refl agrees.objects;
-        maps = same_count maps_by o s.maps 200 refl agrees.maps;
+        objects = same_count objects_by o s.objects object_limit refl agrees.objects;
+        maps = same_count maps_by o s.maps file_map_limit refl agrees.maps;
         orders = same_count orders_by o s.orders 1 refl agrees.orders;
-        assumptions = same_count assumptions_by o s.assumptions 500 refl agrees.assumptions;
-        claims = less_room claims_by o s.claims 100 agrees.claims (not_short s.claims 1 (TooMany at 100) good);
-        shapes = same_count shapes_by o s.shapes 16 refl agrees.shapes;
+        assumptions = same_count assumptions_by o s.assumptions assumption_limit refl agrees.assumptions;
+        claims = less_room claims_by o s.claims claim_limit agrees.claims (not_short s.claims 1 (TooMany at claim_limit) good);
+        shapes = same_count shapes_by o s.shapes shape_limit refl agrees.shapes;
       }
   behind_agrees (begins_shape at) good =
       let o = begins_shape at in
       record {
         kinds = agrees.kinds;
         declared = declared_still o refl;
-        objects = same_count objects_by o s.objects 64 refl agrees.objects;
-        maps = same_count maps_by o s.maps 200 refl agrees.maps;
+        objects = same_count objects_by o s.objects object_limit refl agrees.objects;
+        maps = same_count maps_by o s.maps file_map_limit refl agrees.maps;
         orders = same_count orders_by o s.orders 1 refl agrees.orders;
-        assumptions = same_count assumptions_by o s.assumptions 500 refl agrees.assumptions;
-        claims = same_count claims_by o s.claims 100 refl agrees.claims;
-        shapes = less_room shapes_by o s.shapes 16 agrees.shapes (not_short s.shapes 1 (TooMany at 16) good);
+        assumptions = same_count assumptions_by o s.assumptions assumption_limit refl agrees.assumptions;
+        claims = same_count claims_by o s.claims claim_limit refl agrees.claims;
+        shapes = less_room shapes_by o s.shapes shape_limit agrees.shapes (not_short s.shapes 1 (TooMany at shape_limit) good);
       }
 
 -- the first fault is the one that the search finds

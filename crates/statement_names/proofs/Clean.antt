@@ -6,12 +6,16 @@ use Rattle.std.proofs.lemmas.Bool.{ltb-false}
 use Rattle.std.proofs.lemmas.Grind.{flat_map-append}
 use Rattle.std.proofs.lemmas.List.{append-nil}
 use Rattle.std.proofs.lemmas.List.Sums.{sum_by_push}
+use Rattle.definitions.specs.Moduli.{is_field_modulus}
+use Rattle.quiver.specs.Limits.{object_limit}
+use Rattle.adjoint_rules.specs.Limits.{assumption_limit, claim_limit, shape_limit}
+use Rattle.statement_names.specs.Limits.{file_map_limit}
 use Rattle.statement_names.specs.declared.fault.NameFault.{NameFault}
 use Rattle.statement_names.specs.declared.fault.NameFault.TheVariants.{Double, TooMany}
 use Rattle.statement_names.specs.declared.kinds.Kind.{Kind}
 use Rattle.statement_names.specs.declared.kinds.Kind.TheVariants.{Object, Map}
 use Rattle.statement_names.specs.Occurrences.{Occurrence, declares_object, declares_map, uses, lists, counts, modulus, begins_order, begins_assumptions, begins_claim, begins_shape}
-use Rattle.statement_names.specs.Faults.{declared_by, objects_by, maps_by, assumptions_by, claims_by, shapes_by, declared_in, kind_in, is_kind, are_two_objects, is_among, is_between, is_modulus, value_of, fault_behind, first_fault}
+use Rattle.statement_names.specs.Faults.{declared_by, objects_by, maps_by, assumptions_by, claims_by, shapes_by, declared_in, kind_in, is_kind, are_two_objects, is_among, is_between, value_of, fault_behind, first_fault}
 use Rattle.statement_names.proofs.Apart.{Apart, Apart-push}
 use Rattle.statement_names.proofs.Each.{Each}
 
@@ -53,7 +57,7 @@ IsGood kind (declares_map n u v selfmade) = (selfmade && are_two_objects kind u 
 IsGood kind (uses u) = is_kind (kind u.name.text) u.kind ≡ true
 IsGood kind (lists front u) = (is_kind (kind u.name.text) u.kind ≡ true) × (is_among front u.name.text ≡ false)
 IsGood kind (counts most n) = is_between 1 most (value_of n.value) ≡ true
-IsGood kind (modulus n) = is_modulus (value_of n.value) ≡ true
+IsGood kind (modulus n) = is_field_modulus (value_of n.value) ≡ true
 IsGood kind o = Unit {0}
 
 module _ (kind : List ℕ → Option Kind) where
@@ -66,14 +70,14 @@ module _ (kind : List ℕ → Option Kind) where
   good : (before : List Occurrence) (o : Occurrence) → fault_behind kind before o ≡ None → IsGood kind o
   good before (declares_map n u v selfmade) clean =
       let room = test_rest (is_some (kind_in (declared_in before) n.text)) _ _ clean in
-      test_false (selfmade && are_two_objects kind u v) _ None (test_rest (nat_lt 200 (sum_by maps_by before + 1)) _ _ room)
+      test_false (selfmade && are_two_objects kind u v) _ None (test_rest (nat_lt file_map_limit (sum_by maps_by before + 1)) _ _ room)
   good before (uses u) clean = test_true (is_kind (kind u.name.text) u.kind) _ clean
   good before (lists front u) clean = (
     not_not (is_kind (kind u.name.text) u.kind) (test_false (not (is_kind (kind u.name.text) u.kind)) _ _ clean),
     test_false (is_among front u.name.text) _ None (test_rest (not (is_kind (kind u.name.text) u.kind)) _ _ clean),
   )
   good before (counts most n) clean = test_true (is_between 1 most (value_of n.value)) _ clean
-  good before (modulus n) clean = test_true (is_modulus (value_of n.value)) _ clean
+  good before (modulus n) clean = test_true (is_field_modulus (value_of n.value)) _ clean
   good before (declares_object n) clean = tt
   good before (begins_order at) clean = tt
   good before (begins_assumptions count at) clean = tt
@@ -113,39 +117,39 @@ module _ (kind : List ℕ → Option Kind) where
       (subst (λ n. n ≤ limit) (sym (sum_by_push by before o)) (step before o (head_clean before o os clean) few))
       (tail_clean before o os clean))
 
-  objects_step : (before : List Occurrence) (o : Occurrence) → fault_behind kind before o ≡ None → sum_by objects_by before ≤ 64 → sum_by objects_by before + objects_by o ≤ 64
-  objects_step before (declares_object n) clean few = at_most _ 64 (TooMany n.at 64) (test_rest (is_some (kind_in (declared_in before) n.text)) (Double n.at) _ clean)
+  objects_step : (before : List Occurrence) (o : Occurrence) → fault_behind kind before o ≡ None → sum_by objects_by before ≤ object_limit → sum_by objects_by before + objects_by o ≤ object_limit
+  objects_step before (declares_object n) clean few = at_most _ object_limit (TooMany n.at object_limit) (test_rest (is_some (kind_in (declared_in before) n.text)) (Double n.at) _ clean)
   objects_step before o clean few = omega arith
 
-  maps_step : (before : List Occurrence) (o : Occurrence) → fault_behind kind before o ≡ None → sum_by maps_by before ≤ 200 → sum_by maps_by before + maps_by o ≤ 200
+  maps_step : (before : List Occurrence) (o : Occurrence) → fault_behind kind before o ≡ None → sum_by maps_by before ≤ file_map_limit → sum_by maps_by before + maps_by o ≤ file_map_limit
   maps_step before (declares_map n u v selfmade) clean few =
-      ltb-false 200 _ (test_false (nat_lt 200 (sum_by maps_by before + 1)) (TooMany n.at 200) _ (test_rest (is_some (kind_in (declared_in before) n.text)) (Double n.at) _ clean))
+      ltb-false file_map_limit _ (test_false (nat_lt file_map_limit (sum_by maps_by before + 1)) (TooMany n.at file_map_limit) _ (test_rest (is_some (kind_in (declared_in before) n.text)) (Double n.at) _ clean))
   maps_step before o clean few = omega arith
 
-  assumptions_step : (before : List Occurrence) (o : Occurrence) → fault_behind kind before o ≡ None → sum_by assumptions_by before ≤ 500 → sum_by assumptions_by before + assumptions_by o ≤ 500
-  assumptions_step before (begins_assumptions count at) clean few = at_most _ 500 (TooMany at 500) clean
+  assumptions_step : (before : List Occurrence) (o : Occurrence) → fault_behind kind before o ≡ None → sum_by assumptions_by before ≤ assumption_limit → sum_by assumptions_by before + assumptions_by o ≤ assumption_limit
+  assumptions_step before (begins_assumptions count at) clean few = at_most _ assumption_limit (TooMany at assumption_limit) clean
   assumptions_step before o clean few = omega arith
 
-  claims_step : (before : List Occurrence) (o : Occurrence) → fault_behind kind before o ≡ None → sum_by claims_by before ≤ 100 → sum_by claims_by before + claims_by o ≤ 100
-  claims_step before (begins_claim at) clean few = at_most _ 100 (TooMany at 100) clean
+  claims_step : (before : List Occurrence) (o : Occurrence) → fault_behind kind before o ≡ None → sum_by claims_by before ≤ claim_limit → sum_by claims_by before + claims_by o ≤ claim_limit
+  claims_step before (begins_claim at) clean few = at_most _ claim_limit (TooMany at claim_limit) clean
   claims_step before o clean few = omega arith
 
-  shapes_step : (before : List Occurrence) (o : Occurrence) → fault_behind kind before o ≡ None → sum_by shapes_by before ≤ 16 → sum_by shapes_by before + shapes_by o ≤ 16
-  shapes_step before (begins_shape at) clean few = at_most _ 16 (TooMany at 16) clean
+  shapes_step : (before : List Occurrence) (o : Occurrence) → fault_behind kind before o ≡ None → sum_by shapes_by before ≤ shape_limit → sum_by shapes_by before + shapes_by o ≤ shape_limit
+  shapes_step before (begins_shape at) clean few = at_most _ shape_limit (TooMany at shape_limit) clean
   shapes_step before o clean few = omega arith
 
   module _ (os : List Occurrence) (clean : first_fault kind [] os ≡ None) where
-    pub few_objects : sum_by objects_by os ≤ 64
-    few_objects = counted objects_by 64 objects_step [] os (omega arith) clean
+    pub few_objects : sum_by objects_by os ≤ object_limit
+    few_objects = counted objects_by object_limit objects_step [] os (omega arith) clean
 
-    pub few_maps : sum_by maps_by os ≤ 200
-    few_maps = counted maps_by 200 maps_step [] os (omega arith) clean
+    pub few_maps : sum_by maps_by os ≤ file_map_limit
+    few_maps = counted maps_by file_map_limit maps_step [] os (omega arith) clean
 
-    pub few_assumptions : sum_by assumptions_by os ≤ 500
-    few_assumptions = counted assumptions_by 500 assumptions_step [] os (omega arith) clean
+    pub few_assumptions : sum_by assumptions_by os ≤ assumption_limit
+    few_assumptions = counted assumptions_by assumption_limit assumptions_step [] os (omega arith) clean
 
-    pub few_claims : sum_by claims_by os ≤ 100
-    few_claims = counted claims_by 100 claims_step [] os (omega arith) clean
+    pub few_claims : sum_by claims_by os ≤ claim_limit
+    few_claims = counted claims_by claim_limit claims_step [] os (omega arith) clean
 
-    pub few_shapes : sum_by shapes_by os ≤ 16
-    few_shapes = counted shapes_by 16 shapes_step [] os (omega arith) clean
+    pub few_shapes : sum_by shapes_by os ≤ shape_limit
+    few_shapes = counted shapes_by shape_limit shapes_step [] os (omega arith) clean

@@ -10,6 +10,7 @@ use Rattle.statement_names.specs.Ordered.{letter}
 use Rattle.statement_names.specs.Ready.{HasNames, IsReady}
 use Rattle.statement_names.specs.Solved.{is_solved, solved_names}
 use Rattle.statement_names.specs.Written.{assumptions_of, claims_of}
+use Rattle.adjoint_rules.specs.Limits.{assumption_limit, claim_limit}
 use Rattle.adjoint_rules.specs.Problem.{IsDeclaredMap}
 use Rattle.statement_names.proofs.Ascending.{numbers_ascend, numbers_hold}
 use Rattle.statement_names.proofs.Clean.{few_assumptions, few_claims}
@@ -31,9 +32,9 @@ file_ready statements clean =
       declared = file_declared statements clean;
       objects_first = first;
       order = order_sound statements clean;
-      few_assumptions = subst (λ n. n ≤ 500) (sym (length-assumptions ds statements)) (few_assumptions kind (occurrences_of statements) clean);
+      few_assumptions = subst (λ n. n ≤ assumption_limit) (sym (length-assumptions ds statements)) (few_assumptions kind (occurrences_of statements) clean);
       assumptions = Each-at (HasNames ds) (assumptions_of ds statements) (assumptions_named statements clean);
-      few_claims = subst (λ n. n ≤ 100) (sym (length-claims statements)) (few_claims kind (occurrences_of statements) clean);
+      few_claims = subst (λ n. n ≤ claim_limit) (sym (length-claims statements)) (few_claims kind (occurrences_of statements) clean);
       claims = Each-at (HasNames ds) (claims_of statements) (all_claims_named statements clean);
       marked_objects = numbers_hold an_object (λ v. v.0) (λ k. refl) (object_count ds) (is_marked ds statements) (λ v. v.0 < object_count ds) (λ k below is. below);
       marked_ascending = numbers_ascend an_object (λ v. v.0) (λ k. refl) (object_count ds) (is_marked ds statements);

@@ -10,6 +10,7 @@ use Rattle.quiver.specs.declared.fault.QuiverFault.TheVariants.{DoubleName, TooM
 use Rattle.quiver.specs.declared.fault.QuiverStop.{QuiverStop}
 use Rattle.quiver.specs.declared.fault.QuiverStop.TheVariants as stop
 use Rattle.quiver.specs.Declarations.{Declaration, object, arrow, name_of, object_count, map_count, named_in, has_ends, IsDeclared}
+use Rattle.quiver.specs.Limits.{object_limit, map_limit}
 use Rattle.quiver.specs.Refusals.{object_fault, map_fault, Explains, IsMemory}
 use Rattle.quiver.proofs.Letters.{ends_of}
 use Rattle.quiver.proofs.Counts.{object_count-append, map_count-append}
@@ -63,9 +64,9 @@ fresh_name xs d ys apart = nothing_named xs (kind_of d).0 (fresh_before (kinds x
 pub no_object_fault : (xs : List Declaration) (name : List ℕ) (ys : List Declaration) → IsDeclared (xs ++ object name ∷ ys) → object_fault xs name ≡ None
 no_object_fault xs name ys declared =
     let fresh : named_in xs name ≡ None = fresh_name xs (object name) ys (apart_of (xs ++ object name ∷ ys) declared.distinct) in
-    let room : object_count xs + (1 + object_count ys) ≤ 64 = subst (λ n. n ≤ 64) (object_count-append xs (object name ∷ ys)) declared.few_objects in
-    let free : nat_le 64 (object_count xs) ≡ false = grind (arith, nat_tests) in
-    ap₂ (λ b c. if b then Some DoubleName else if c then Some (TooMany 64) else None) (ap is_some fresh) free
+    let room : object_count xs + (1 + object_count ys) ≤ object_limit = subst (λ n. n ≤ object_limit) (object_count-append xs (object name ∷ ys)) declared.few_objects in
+    let free : nat_le object_limit (object_count xs) ≡ false = grind (arith, nat_tests) in
+    ap₂ (λ b c. if b then Some DoubleName else if c then Some (TooMany object_limit) else None) (ap is_some fresh) free
 
 pub all_right : {A : Type 0} (test : A → Bool) (xs ys : List A) → list_all test (xs ++ ys) ≡ true → list_all test ys ≡ true
 all_right test [] ys h = h
@@ -87,12 +88,12 @@ square_of false same e = refl
 pub no_map_fault : (xs : List Declaration) (name : List ℕ) (u v : ℕ) (selfmade : Bool) (ys : List Declaration) → IsDeclared (xs ++ arrow name u v selfmade ∷ ys) → map_fault xs name u v selfmade ≡ None
 no_map_fault xs name u v selfmade ys declared =
     let fresh : named_in xs name ≡ None = fresh_name xs (arrow name u v selfmade) ys (apart_of (xs ++ arrow name u v selfmade ∷ ys) declared.distinct) in
-    let room : map_count xs + (1 + map_count ys) ≤ 200 = subst (λ n. n ≤ 200) (map_count-append xs (arrow name u v selfmade ∷ ys)) declared.few_maps in
-    let free : nat_le 200 (map_count xs) ≡ false = grind (arith, nat_tests) in
+    let room : map_count xs + (1 + map_count ys) ≤ map_limit = subst (λ n. n ≤ map_limit) (map_count-append xs (arrow name u v selfmade ∷ ys)) declared.few_maps in
+    let free : nat_le map_limit (map_count xs) ≡ false = grind (arith, nat_tests) in
     let n = object_count (xs ++ arrow name u v selfmade ∷ ys) in
     let ends = both_left (has_ends n (arrow name u v selfmade)) (list_all (has_ends n) ys) (all_right (has_ends n) xs (arrow name u v selfmade ∷ ys) declared.ends) in
     let square : (selfmade && not (nat_eq u v)) ≡ false = square_of selfmade (nat_eq u v) (ends_of n name u v selfmade ends).square in
-    ap₂ (λ b c. if b then Some DoubleName else if c then Some (TooMany 200) else if selfmade && not (nat_eq u v) then Some NotSquare else None) (ap is_some fresh) free
+    ap₂ (λ b c. if b then Some DoubleName else if c then Some (TooMany map_limit) else if selfmade && not (nat_eq u v) then Some NotSquare else None) (ap is_some fresh) free
     ∙ ap (λ b. if b then Some NotSquare else None) square
 
 -- only memory is left

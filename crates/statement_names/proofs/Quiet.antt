@@ -10,6 +10,8 @@ use Rattle.statement_syntax.specs.declared.tree.Statement.{Statement}
 use Rattle.statement_syntax.specs.declared.tree.StatementKind.{StatementKind}
 use Rattle.statement_syntax.specs.declared.tree.StatementKind.TheVariants as statement
 use Rattle.statement_syntax.specs.declared.tree.Sum.{Sum}
+use Rattle.adjoint_rules.specs.Limits.{shape_side_limit}
+use Rattle.word_orders.specs.Limits.{weight_limit}
 use Rattle.statement_names.specs.declared.kinds.Kind.{Kind}
 use Rattle.statement_names.specs.declared.kinds.Kind.TheVariants.{Object, Map}
 use Rattle.statement_names.specs.Uses.{Use, sum_uses}
@@ -108,9 +110,9 @@ declared-statement at (statement.Inverse a x) = refl
 declared-statement at (statement.Inner a x) = refl
 declared-statement at (statement.Projection p) = refl
 declared-statement at statement.Degree = refl
-declared-statement at (statement.Weight pairs) = declared-quiet (pairs_behind Map 1000 [] pairs) (pairs_behind-quiet Map 1000 [] pairs)
+declared-statement at (statement.Weight pairs) = declared-quiet (pairs_behind Map weight_limit [] pairs) (pairs_behind-quiet Map weight_limit [] pairs)
 declared-statement at (statement.Solve names) = declared-quiet (names_behind Map [] names) (names_behind-quiet Map [] names)
-declared-statement at (statement.Shape m sides) = declared-quiet (pairs_behind Object 6 [] sides) (pairs_behind-quiet Object 6 [] sides)
+declared-statement at (statement.Shape m sides) = declared-quiet (pairs_behind Object shape_side_limit [] sides) (pairs_behind-quiet Object shape_side_limit [] sides)
 
 pub declared-statements : (statements : List Statement) → declared_in (occurrences_of statements) ≡ flat_map (λ s. kinds_by s.kind) statements
 declared-statements [] = refl

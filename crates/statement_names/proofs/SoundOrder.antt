@@ -20,6 +20,7 @@ use Rattle.statement_syntax.specs.declared.tree.Number.{Number}
 use Rattle.statement_syntax.specs.declared.tree.Statement.{Statement}
 use Rattle.statement_syntax.specs.declared.tree.StatementKind.{StatementKind}
 use Rattle.statement_syntax.specs.declared.tree.StatementKind.TheVariants as statement
+use Rattle.word_orders.specs.Limits.{weight_limit}
 use Rattle.statement_names.specs.declared.kinds.Kind.{Kind}
 use Rattle.statement_names.specs.declared.kinds.Kind.TheVariants.{Map}
 use Rattle.statement_names.specs.Faults.{kind_in, declared_in, value_of, name_fault_of}
@@ -62,12 +63,12 @@ not_listed (x ∷ xs) a h = ap₂ (λ b c. b || c) (go (nat_eq x.0.0 a) refl) (n
 record IsEntry (letters : ℕ) (e : Letter × ℕ) : Type 0 where
   in_range : e.0.0 < letters
   least : 1 ≤ e.1
-  most : e.1 ≤ 1000
+  most : e.1 ≤ weight_limit
 
 entry_good : (letters : ℕ) (before : List (Letter × ℕ)) (e : Letter × ℕ) → IsEntry letters e → is_listed (map (λ x. x.0) before) e.0.0 ≡ false → entry_fault letters before e ≡ None
 entry_good letters before e entry new =
     let in_range : nat_lt e.0.0 letters ≡ true = lt-ltb e.0.0 letters entry.in_range in
-    let weight : is_weight e.1 ≡ true = ap₂ (λ b c. b && c) (le-leb 1 e.1 entry.least) (le-leb e.1 1000 entry.most) in
+    let weight : is_weight e.1 ≡ true = ap₂ (λ b c. b && c) (le-leb 1 e.1 entry.least) (le-leb e.1 weight_limit entry.most) in
     ap₂ option_or
     (ap₂ (λ b c. if b then (if c then Some (RepeatedLetter e.0) else None) else Some (NoSuchLetter e.0)) in_range new)
     (ap (λ b. if b then None else Some (BadWeight e.0)) weight)
@@ -90,14 +91,14 @@ map_is None e = absurd (cc)
 pub record IsWeighed (ds : List Declaration) (p : Name × Number) : Type 0 where
   pub named : IsTrue (is_map (named_in ds p.0.text))
   pub least : 1 ≤ value_of p.1.value
-  pub most : value_of p.1.value ≤ 1000
+  pub most : value_of p.1.value ≤ weight_limit
 
 -- the letters that a pair lists are those of its map
 record IsOf (ds : List Declaration) (q : List ℕ) (e : Letter × ℕ) : Type 0 where
   in_range : e.0.0 < letter_count ds
   named : letter_name ds e.0.0 ≡ q
   least : 1 ≤ e.1
-  most : e.1 ≤ 1000
+  most : e.1 ≤ weight_limit
 
 module _ (ds : List Declaration) where
   letters_of_pair : (p : Name × Number) → IsTrue (is_map (named_in ds p.0.text)) → HasLetters ds p.0.text (letter_of ds p.0)
@@ -159,8 +160,8 @@ module _ (statements : List Statement) (clean : name_fault_of statements ≡ Non
   kind_sound at statement.Degree later good sound = tt
   kind_sound at (statement.Weight pairs) later good sound =
       weights_sound all pairs
-      (Each-weaker (IsPair kind Map 1000) (IsWeighed all) pairs (λ p pair. record { named = map_named statements clean p.0.text pair.of_kind; least = pair.least; most = pair.most_ }) (pairs_are kind Map 1000 [] pairs good.1))
-      (pairs_apart kind Map 1000 [] pairs good.1)
+      (Each-weaker (IsPair kind Map weight_limit) (IsWeighed all) pairs (λ p pair. record { named = map_named statements clean p.0.text pair.of_kind; least = pair.least; most = pair.most_ }) (pairs_are kind Map weight_limit [] pairs good.1))
+      (pairs_apart kind Map weight_limit [] pairs good.1)
   kind_sound at k later good sound = sound
 
   each_sound : (ss : List Statement) → Each (λ s. Each (IsGood kind) (statement_occurrences s)) ss → IsSound (letter_count all) (order_of all ss)

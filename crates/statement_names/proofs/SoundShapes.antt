@@ -6,6 +6,7 @@ use Rattle.std.specs.Str.{bytes_eq}
 use Rattle.std.proofs.lemmas.List.{length-replicate}
 use Rattle.std.proofs.lemmas.List.FromFn.{length-map-range_with_len}
 use Rattle.quiver.specs.Declarations.{Declaration, object_count, object_name}
+use Rattle.adjoint_rules.specs.Limits.{shape_limit}
 use Rattle.adjoint_rules.specs.Problem.{IsShape, IsSide}
 use Rattle.adjoint_rules.specs.declared.parts.Shape.{Shape}
 use Rattle.statement_tokens.specs.declared.place.Spot.{Spot}
@@ -14,6 +15,7 @@ use Rattle.statement_syntax.specs.declared.tree.Number.{Number}
 use Rattle.statement_syntax.specs.declared.tree.Statement.{Statement}
 use Rattle.statement_syntax.specs.declared.tree.StatementKind.{StatementKind}
 use Rattle.statement_syntax.specs.declared.tree.StatementKind.TheVariants as statement
+use Rattle.adjoint_rules.specs.Limits.{shape_side_limit}
 use Rattle.statement_names.specs.declared.kinds.Kind.{Kind}
 use Rattle.statement_names.specs.declared.kinds.Kind.TheVariants.{Object}
 use Rattle.statement_names.specs.Faults.{kind_in, declared_in, value_of, name_fault_of}
@@ -33,7 +35,7 @@ one_side = record { least = omega arith; most = omega arith }
 two_side : IsSide 2
 two_side = record { least = omega arith; most = omega arith }
 
-side_is : (kind : List ℕ → Option Kind) (pairs : List (Name × Number)) → Each (IsPair kind Object 6) pairs → (q : List ℕ) → IsSide (side_in pairs q)
+side_is : (kind : List ℕ → Option Kind) (pairs : List (Name × Number)) → Each (IsPair kind Object shape_side_limit) pairs → (q : List ℕ) → IsSide (side_in pairs q)
 side_is kind [] good q = one_side
 side_is kind (p ∷ pairs) good q = go (bytes_eq q p.0.text) (side_is kind pairs good.1 q)
   where
@@ -68,7 +70,7 @@ module _ (statements : List Statement) (clean : name_fault_of statements ≡ Non
       sides =
           Each-at IsSide (sides_of all sides)
           (Each-map IsSide (λ v. side_in sides (object_name all v)) (range_with_len 0 (object_count all))
-          (Each-range (λ v. IsSide (side_in sides (object_name all v))) 0 (object_count all) (λ v. side_is kind sides (pairs_are kind Object 6 [] sides good.1.1) (object_name all v))));
+          (Each-range (λ v. IsSide (side_in sides (object_name all v))) 0 (object_count all) (λ v. side_is kind sides (pairs_are kind Object shape_side_limit [] sides good.1.1) (object_name all v))));
     },
     tt,
   )
@@ -82,10 +84,10 @@ module _ (statements : List Statement) (clean : name_fault_of statements ≡ Non
   -- what holds of the shapes that are given and of the default ones
   pub record AreShapes (shapes : List Shape) : Type 0 where
     pub some : 1 ≤ length shapes
-    pub few : length shapes ≤ 16
+    pub few : length shapes ≤ shape_limit
     pub each_shape : All (IsShape (object_count (declarations_of statements))) shapes
 
-  or_default : (given : List Shape) → Each (IsShape (object_count all)) given → length given ≤ 16 → AreShapes (or_shapes given (default_shapes all))
+  or_default : (given : List Shape) → Each (IsShape (object_count all)) given → length given ≤ shape_limit → AreShapes (or_shapes given (default_shapes all))
   or_default [] good few =
       record {
         some = omega arith;
@@ -97,4 +99,4 @@ module _ (statements : List Statement) (clean : name_fault_of statements ≡ Non
   pub shapes_sound : AreShapes (shapes_of (declarations_of statements) statements)
   shapes_sound =
       or_default (flat_map (λ s. shapes_in all s.kind) statements) file_shapes
-      (subst (λ n. n ≤ 16) (sym (length-shapes all statements)) (few_shapes kind (occurrences_of statements) clean))
+      (subst (λ n. n ≤ shape_limit) (sym (length-shapes all statements)) (few_shapes kind (occurrences_of statements) clean))

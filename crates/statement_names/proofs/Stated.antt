@@ -6,7 +6,7 @@ use Rattle.std.proofs.lemmas.Bool.{leb-true}
 use Rattle.std.proofs.lemmas.Bool.Decides.{Decides-eqb}
 use Rattle.std.proofs.lemmas.List.Folds.{list_any-append}
 use Rattle.std.proofs.lemmas.List.Kept.{AllPairs-cons}
-use Rattle.adjoint_rules.specs.Problem.{moduli}
+use Rattle.definitions.specs.Moduli.{field_moduli, is_field_modulus}
 use Rattle.quiver.specs.Declarations.{named_in}
 use Rattle.expressions.specs.Names.{is_map, is_object}
 use Rattle.statement_syntax.specs.declared.tree.Name.{Name}
@@ -14,9 +14,11 @@ use Rattle.statement_syntax.specs.declared.tree.Number.{Number}
 use Rattle.statement_syntax.specs.declared.tree.Statement.{Statement}
 use Rattle.statement_syntax.specs.declared.tree.StatementKind.{StatementKind}
 use Rattle.statement_syntax.specs.declared.tree.StatementKind.TheVariants as statement
+use Rattle.adjoint_rules.specs.Limits.{shape_side_limit}
+use Rattle.word_orders.specs.Limits.{weight_limit}
 use Rattle.statement_names.specs.declared.kinds.Kind.{Kind}
 use Rattle.statement_names.specs.declared.kinds.Kind.TheVariants.{Object, Map}
-use Rattle.statement_names.specs.Faults.{kind_in, is_kind, is_among, is_between, is_modulus, value_of, declared_in, name_fault_of}
+use Rattle.statement_names.specs.Faults.{kind_in, is_kind, is_among, is_between, value_of, declared_in, name_fault_of}
 use Rattle.statement_names.specs.Occurrences.{pairs_behind, kind_occurrences, statement_occurrences, occurrences_of}
 use Rattle.statement_names.specs.Numbered.{declarations_of}
 use Rattle.statement_names.proofs.Apart.{own_bytes}
@@ -44,8 +46,8 @@ any_small n limit (m ∷ ms) e k =
     go true is e small rest = let same : n ≡ m = (Decides-eqb n m).0 is in omega arith
     go false is e small rest = rest e
 
-pub modulus_small : (n : ℕ) → is_modulus n ≡ true → n ≤ 65537
-modulus_small n is = any_small n 65537 moduli is refl
+pub modulus_small : (n : ℕ) → is_field_modulus n ≡ true → n ≤ 65537
+modulus_small n is = any_small n 65537 field_moduli is refl
 
 -- ---- names with literals
 -- each name once
@@ -113,35 +115,35 @@ module _ (statements : List Statement) (clean : name_fault_of statements ≡ Non
 
   module _ (i : ℕ) (s : Statement) (below : i < length statements) (at : s ≡ get_or statements i s) where
     -- the weights of an order
-    pub weights_are : (pairs : List (Name × Number)) → s.kind ≡ statement.Weight pairs → Each (IsPair (kind_in (declared_in (occurrences_of statements))) Map 1000) pairs
-    weights_are pairs is = pairs_are kind Map 1000 [] pairs (kind_good i s (statement.Weight pairs) below at is).1
+    pub weights_are : (pairs : List (Name × Number)) → s.kind ≡ statement.Weight pairs → Each (IsPair (kind_in (declared_in (occurrences_of statements))) Map weight_limit) pairs
+    weights_are pairs is = pairs_are kind Map weight_limit [] pairs (kind_good i s (statement.Weight pairs) below at is).1
 
     pub weights_named : (pairs : List (Name × Number)) → s.kind ≡ statement.Weight pairs → All (λ p. IsTrue (is_map (named_in (declarations_of statements) p.0.text))) pairs
     weights_named pairs is =
         Each-at (λ p. IsTrue (is_map (named_in (declarations_of statements) p.0.text))) pairs
-        (Each-weaker (IsPair kind Map 1000) (λ p. IsTrue (is_map (named_in (declarations_of statements) p.0.text))) pairs (λ p pair. map_named statements clean p.0.text pair.of_kind) (weights_are pairs is))
+        (Each-weaker (IsPair kind Map weight_limit) (λ p. IsTrue (is_map (named_in (declarations_of statements) p.0.text))) pairs (λ p pair. map_named statements clean p.0.text pair.of_kind) (weights_are pairs is))
 
-    pub weights_small : (pairs : List (Name × Number)) → s.kind ≡ statement.Weight pairs → All (λ p. value_of p.1.value ≤ 1000) pairs
+    pub weights_small : (pairs : List (Name × Number)) → s.kind ≡ statement.Weight pairs → All (λ p. value_of p.1.value ≤ weight_limit) pairs
     weights_small pairs is =
-        Each-at (λ p. value_of p.1.value ≤ 1000) pairs (Each-weaker (IsPair kind Map 1000) (λ p. value_of p.1.value ≤ 1000) pairs (λ p pair. pair.most_) (weights_are pairs is))
+        Each-at (λ p. value_of p.1.value ≤ weight_limit) pairs (Each-weaker (IsPair kind Map weight_limit) (λ p. value_of p.1.value ≤ weight_limit) pairs (λ p pair. pair.most_) (weights_are pairs is))
 
     pub weights_once : (pairs : List (Name × Number)) → s.kind ≡ statement.Weight pairs → Once pairs
-    weights_once pairs is = pairs_apart kind Map 1000 [] pairs (kind_good i s (statement.Weight pairs) below at is).1
+    weights_once pairs is = pairs_apart kind Map weight_limit [] pairs (kind_good i s (statement.Weight pairs) below at is).1
 
     -- the modulus and the sides of a shape
-    pub modulus_is : (m : Number) (sides : List (Name × Number)) → s.kind ≡ statement.Shape m sides → is_modulus (value_of m.value) ≡ true
+    pub modulus_is : (m : Number) (sides : List (Name × Number)) → s.kind ≡ statement.Shape m sides → is_field_modulus (value_of m.value) ≡ true
     modulus_is m sides is = (kind_good i s (statement.Shape m sides) below at is).1.0
 
-    pub sides_are : (m : Number) (sides : List (Name × Number)) → s.kind ≡ statement.Shape m sides → Each (IsPair (kind_in (declared_in (occurrences_of statements))) Object 6) sides
-    sides_are m sides is = pairs_are kind Object 6 [] sides (kind_good i s (statement.Shape m sides) below at is).1.1
+    pub sides_are : (m : Number) (sides : List (Name × Number)) → s.kind ≡ statement.Shape m sides → Each (IsPair (kind_in (declared_in (occurrences_of statements))) Object shape_side_limit) sides
+    sides_are m sides is = pairs_are kind Object shape_side_limit [] sides (kind_good i s (statement.Shape m sides) below at is).1.1
 
     pub sides_named : (m : Number) (sides : List (Name × Number)) → s.kind ≡ statement.Shape m sides → All (λ p. IsTrue (is_object (named_in (declarations_of statements) p.0.text))) sides
     sides_named m sides is =
         Each-at (λ p. IsTrue (is_object (named_in (declarations_of statements) p.0.text))) sides
-        (Each-weaker (IsPair kind Object 6) (λ p. IsTrue (is_object (named_in (declarations_of statements) p.0.text))) sides (λ p pair. object_named statements clean p.0.text pair.of_kind) (sides_are m sides is))
+        (Each-weaker (IsPair kind Object shape_side_limit) (λ p. IsTrue (is_object (named_in (declarations_of statements) p.0.text))) sides (λ p pair. object_named statements clean p.0.text pair.of_kind) (sides_are m sides is))
 
-    pub sides_small : (m : Number) (sides : List (Name × Number)) → s.kind ≡ statement.Shape m sides → All (λ p. value_of p.1.value ≤ 6) sides
-    sides_small m sides is = Each-at (λ p. value_of p.1.value ≤ 6) sides (Each-weaker (IsPair kind Object 6) (λ p. value_of p.1.value ≤ 6) sides (λ p pair. pair.most_) (sides_are m sides is))
+    pub sides_small : (m : Number) (sides : List (Name × Number)) → s.kind ≡ statement.Shape m sides → All (λ p. value_of p.1.value ≤ shape_side_limit) sides
+    sides_small m sides is = Each-at (λ p. value_of p.1.value ≤ shape_side_limit) sides (Each-weaker (IsPair kind Object shape_side_limit) (λ p. value_of p.1.value ≤ shape_side_limit) sides (λ p pair. pair.most_) (sides_are m sides is))
 
     pub sides_once : (m : Number) (sides : List (Name × Number)) → s.kind ≡ statement.Shape m sides → AllPairs (λ p q. p.0.text ≢ q.0.text) sides
-    sides_once m sides is = pairs_once sides (pairs_apart kind Object 6 [] sides (kind_good i s (statement.Shape m sides) below at is).1.1)
+    sides_once m sides is = pairs_once sides (pairs_apart kind Object shape_side_limit [] sides (kind_good i s (statement.Shape m sides) below at is).1.1)

@@ -11,6 +11,8 @@ use Rattle.statement_syntax.specs.declared.tree.Number.{Number}
 use Rattle.statement_syntax.specs.declared.tree.Statement.{Statement}
 use Rattle.statement_syntax.specs.declared.tree.StatementKind.{StatementKind}
 use Rattle.statement_syntax.specs.declared.tree.StatementKind.TheVariants as statement
+use Rattle.adjoint_rules.specs.Limits.{shape_side_limit}
+use Rattle.word_orders.specs.Limits.{weight_limit}
 use Rattle.statement_names.specs.declared.kinds.Kind.TheVariants.{Object, Map}
 use Rattle.statement_names.specs.Uses.{Use, object_use, map_use}
 use Rattle.statement_names.specs.Occurrences.{Occurrence, declares_object, declares_map, uses, lists, counts, modulus, begins_order, begins_assumptions, begins_claim, begins_shape, names_behind, pairs_behind, used_names, sides_occurrences, kind_occurrences, statement_occurrences, occurrences_of}
@@ -72,9 +74,9 @@ module _ (by : Occurrence → ℕ) (out : LeavesOut by) where
   tally-statement at (statement.Inner a x) = begins (begins_assumptions 1 at) (used_names (map_use a ∷ map_use x ∷ [])) tt
   tally-statement at (statement.Projection p) = begins (begins_assumptions 2 at) (used_names (map_use p ∷ [])) tt
   tally-statement at statement.Degree = begins (begins_order at) [] tt
-  tally-statement at (statement.Weight pairs) = begins (begins_order at) (pairs_behind Map 1000 [] pairs) (pairs_behind-quiet Map 1000 [] pairs)
+  tally-statement at (statement.Weight pairs) = begins (begins_order at) (pairs_behind Map weight_limit [] pairs) (pairs_behind-quiet Map weight_limit [] pairs)
   tally-statement at (statement.Solve names) = quiet (names_behind Map [] names) (names_behind-quiet Map [] names)
-  tally-statement at (statement.Shape m sides) = begins (begins_shape at) (modulus m ∷ pairs_behind Object 6 [] sides) (pairs_behind-quiet Object 6 [] sides)
+  tally-statement at (statement.Shape m sides) = begins (begins_shape at) (modulus m ∷ pairs_behind Object shape_side_limit [] sides) (pairs_behind-quiet Object shape_side_limit [] sides)
 
   -- a measure of statements that agrees with it
   pub tally-statements : (measure : Spot → StatementKind → ℕ) → ((at : Spot) (k : StatementKind) → measure at k ≡ tally by at k)

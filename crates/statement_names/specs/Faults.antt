@@ -4,8 +4,8 @@ use Rattle.std.specs.List.{flat_map, list_any}
 use Rattle.std.specs.Map.{lookup}
 use Rattle.std.specs.Option.{option_or}
 use Rattle.std.specs.Str.{bytes_eq}
+use Rattle.definitions.specs.Moduli.{is_field_modulus}
 use Rattle.statement_syntax.specs.declared.tree.Statement.{Statement}
-use Rattle.adjoint_rules.specs.Problem.{moduli}
 use Rattle.statement_names.specs.declared.fault.NameFault.{NameFault}
 use Rattle.statement_names.specs.declared.fault.NameFault.TheVariants.{Unknown, Double, TooMany, NotSquare, BadNumber}
 use Rattle.statement_names.specs.declared.fault.NameStop.{NameStop}
@@ -13,8 +13,9 @@ use Rattle.statement_names.specs.declared.fault.NameStop.TheVariants as stop
 use Rattle.statement_names.specs.declared.kinds.Kind.{Kind}
 use Rattle.statement_names.specs.declared.kinds.Kind.TheVariants.{Object, Map}
 use Rattle.statement_names.specs.Occurrences.{Occurrence, declares_object, declares_map, uses, lists, counts, modulus, begins_order, begins_assumptions, begins_claim, begins_shape, occurrences_of}
-use Rattle.quiver.specs.Limits.{object_limit, map_limit}
+use Rattle.quiver.specs.Limits.{object_limit}
 use Rattle.adjoint_rules.specs.Limits.{assumption_limit, claim_limit, shape_limit}
+use Rattle.statement_names.specs.Limits.{file_map_limit}
 
 -- ---- what occurrences declare, and how much they begin
 
@@ -76,9 +77,6 @@ value_of (negsuc n) = 0
 abbrev pub is_between : ℕ → ℕ → ℕ → Bool
 is_between least most n = nat_le least n && nat_le n most
 
-abbrev pub is_modulus : ℕ → Bool
-is_modulus n = list_any (nat_eq n) moduli
-
 -- ---- the faults
 
 -- what is wrong with an occurrence behind those before it, where it is known what each name of the file is declared as
@@ -89,7 +87,7 @@ fault_behind kind before (declares_object name) =
     else None
 fault_behind kind before (declares_map name source target selfmade) =
     if is_some (kind_in (declared_in before) name.text) then Some (Double name.at)
-    else if nat_lt map_limit (sum_by maps_by before + 1) then Some (TooMany name.at map_limit)
+    else if nat_lt file_map_limit (sum_by maps_by before + 1) then Some (TooMany name.at file_map_limit)
     else if selfmade && are_two_objects kind source target then Some (NotSquare name.at)
     else None
 fault_behind kind before (uses u) =
@@ -99,7 +97,7 @@ fault_behind kind before (lists front u) =
     else if is_among front u.name.text then Some (Double u.name.at)
     else None
 fault_behind kind before (counts most n) = if is_between 1 most (value_of n.value) then None else Some (BadNumber n.at)
-fault_behind kind before (modulus n) = if is_modulus (value_of n.value) then None else Some (BadNumber n.at)
+fault_behind kind before (modulus n) = if is_field_modulus (value_of n.value) then None else Some (BadNumber n.at)
 fault_behind kind before (begins_order at) = if nat_lt 1 (sum_by orders_by before + 1) then Some (Double at) else None
 fault_behind kind before (begins_assumptions count at) = if nat_lt assumption_limit (sum_by assumptions_by before + count) then Some (TooMany at assumption_limit) else None
 fault_behind kind before (begins_claim at) = if nat_lt claim_limit (sum_by claims_by before + 1) then Some (TooMany at claim_limit) else None

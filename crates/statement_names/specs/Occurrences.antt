@@ -8,6 +8,8 @@ use Rattle.statement_syntax.specs.declared.tree.Statement.{Statement}
 use Rattle.statement_syntax.specs.declared.tree.StatementKind.{StatementKind}
 use Rattle.statement_syntax.specs.declared.tree.StatementKind.TheVariants as statement
 use Rattle.statement_syntax.specs.declared.tree.Sum.{Sum}
+use Rattle.adjoint_rules.specs.Limits.{shape_side_limit}
+use Rattle.word_orders.specs.Limits.{weight_limit}
 use Rattle.statement_names.specs.declared.kinds.Kind.{Kind}
 use Rattle.statement_names.specs.declared.kinds.Kind.TheVariants.{Object, Map}
 use Rattle.statement_names.specs.Uses.{Use, object_use, map_use, sum_uses}
@@ -61,9 +63,9 @@ kind_occurrences at (statement.Inverse first second) = begins_assumptions 2 at �
 kind_occurrences at (statement.Inner first second) = begins_assumptions 1 at ∷ uses (map_use first) ∷ uses (map_use second) ∷ []
 kind_occurrences at (statement.Projection name) = begins_assumptions 2 at ∷ uses (map_use name) ∷ []
 kind_occurrences at statement.Degree = begins_order at ∷ []
-kind_occurrences at (statement.Weight weights) = begins_order at ∷ pairs_behind Map 1000 [] weights
+kind_occurrences at (statement.Weight weights) = begins_order at ∷ pairs_behind Map weight_limit [] weights
 kind_occurrences at (statement.Solve names) = names_behind Map [] names
-kind_occurrences at (statement.Shape m sides) = begins_shape at ∷ modulus m ∷ pairs_behind Object 6 [] sides
+kind_occurrences at (statement.Shape m sides) = begins_shape at ∷ modulus m ∷ pairs_behind Object shape_side_limit [] sides
 
 -- it has no list of names
 abbrev pub IsListless : StatementKind → Type 0

@@ -1,5 +1,6 @@
 -- How the program looks for the first fault: occurrence by occurrence, with how much more of each there may be.
 use Rattle.std.specs.Prelude.{◌≡◌, ℕ, ◌-◌, Bool, ◌&&◌, nat_lt, if◌then◌else◌, is_some, List, [], ◌∷◌, ◌++◌, map, Option, Some, None, Result, Ok, Err}
+use Rattle.definitions.specs.Moduli.{is_field_modulus}
 use Rattle.statement_names.specs.declared.fault.NameFault.{NameFault}
 use Rattle.statement_names.specs.declared.fault.NameFault.TheVariants.{Unknown, Double, TooMany, NotSquare, BadNumber}
 use Rattle.statement_names.specs.declared.kinds.Kind.{Kind}
@@ -10,9 +11,10 @@ use Rattle.statement_syntax.specs.declared.tree.Name.{Name}
 use Rattle.statement_syntax.specs.declared.tree.StatementKind.{StatementKind}
 use Rattle.statement_syntax.specs.declared.tree.StatementKind.TheVariants as statement
 use Rattle.statement_names.specs.Uses.{Use}
-use Rattle.statement_names.specs.Faults.{kind_in, is_kind, are_two_objects, is_among, value_of, is_between, is_modulus}
-use Rattle.quiver.specs.Limits.{object_limit, map_limit}
+use Rattle.statement_names.specs.Faults.{kind_in, is_kind, are_two_objects, is_among, value_of, is_between}
+use Rattle.quiver.specs.Limits.{object_limit}
 use Rattle.adjoint_rules.specs.Limits.{assumption_limit, claim_limit, shape_limit}
+use Rattle.statement_names.specs.Limits.{file_map_limit}
 
 -- what a statement declares
 abbrev pub kinded : Kind → List Name → List (List ℕ × Kind)
@@ -56,12 +58,12 @@ number_fault good fault = if good then None else Some fault
 abbrev pub fault_at : Survey → Occurrence → Option NameFault
 fault_at s (declares_object name) = declared_fault s.declared s.objects object_limit name
 fault_at s (declares_map name source target selfmade) =
-    or_else (declared_fault s.declared s.maps map_limit name)
+    or_else (declared_fault s.declared s.maps file_map_limit name)
     (selfmade && are_two_objects (kind_in s.kinds) source target) (NotSquare name.at)
 fault_at s (uses u) = used_fault s.kinds u
 fault_at s (lists front u) = or_else (used_fault s.kinds u) (is_among front u.name.text) (Double u.name.at)
 fault_at s (counts most n) = number_fault (is_between 1 most (value_of n.value)) (BadNumber n.at)
-fault_at s (modulus n) = number_fault (is_modulus (value_of n.value)) (BadNumber n.at)
+fault_at s (modulus n) = number_fault (is_field_modulus (value_of n.value)) (BadNumber n.at)
 fault_at s (begins_order at) = short_of s.orders 1 (Double at)
 fault_at s (begins_assumptions count at) = short_of s.assumptions count (TooMany at assumption_limit)
 fault_at s (begins_claim at) = short_of s.claims 1 (TooMany at claim_limit)

@@ -9,13 +9,11 @@ use crate::fault::{NameFault, NameStop};
 use crate::kinds::Kind;
 use crate::literal::check_modulus;
 use crate::survey::Survey;
+use adjoint_rules::SHAPE_SIDE_LIMIT;
 use statement_syntax::{Name, Number, Statement, StatementKind, Sum};
 use statement_tokens::Spot;
 use std::alloc::Global;
 use word_orders::WEIGHT_LIMIT;
-
-// The greatest side of an object in a shape.
-const SIDE_LIMIT: u32 = 6;
 
 impl Survey {
     // All names, literals and first words of a statement.
@@ -145,6 +143,6 @@ impl Survey {
     {
         self.shape(at)?;
         check_modulus(modulus)?;
-        self.pairs(alloc, sides, Kind::Object, SIDE_LIMIT)
+        self.pairs(alloc, sides, Kind::Object, SHAPE_SIDE_LIMIT)
     }
 }

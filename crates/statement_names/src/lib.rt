@@ -19,4 +19,5 @@ mod written;
 
 pub use fault::{NameFault, NameStop};
 pub use names::{Names, read_names};
+pub use survey::FILE_MAP_LIMIT;
 pub use written::{Equation, abbreviation};

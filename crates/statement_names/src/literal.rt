@@ -1,10 +1,12 @@
 //! The values of literals, and which values may stand where.
 
 ghost use Rattle.std.specs.Prelude.{◌≡◌, None, Some, OnOk, IfErr};
-ghost use Rattle.statement_names.specs.Faults.{is_between, is_modulus, value_of};
+ghost use Rattle.definitions.specs.Moduli.{is_field_modulus};
+ghost use Rattle.statement_names.specs.Faults.{is_between, value_of};
 ghost use Rattle.statement_names.specs.Survey.{number_fault};
 
 use crate::fault::NameFault;
+use adjoint_rules::is_field_modulus;
 use statement_syntax::Number;
 
 /// The value of a literal, which has no sign.
@@ -29,11 +31,11 @@ pub fn check_count(most: u32, number: &Number) -> Result<(), NameFault>
 
 /// Refuses a literal that is no modulus of shapes.
 pub fn check_modulus(number: &Number) -> Result<(), NameFault>
-    ensures ok { OnOk result (number_fault (is_modulus (value_of number.now.value)) (NameFault.BadNumber number.now.at) ≡ None) }
-    ensures err { IfErr result (λ e. number_fault (is_modulus (value_of number.now.value)) (NameFault.BadNumber number.now.at) ≡ Some e) }
+    ensures ok { OnOk result (number_fault (is_field_modulus (value_of number.now.value)) (NameFault.BadNumber number.now.at) ≡ None) }
+    ensures err { IfErr result (λ e. number_fault (is_field_modulus (value_of number.now.value)) (NameFault.BadNumber number.now.at) ≡ Some e) }
 {
-    match value_of(number) {
-        2 | 3 | 5 | 7 | 101 | 32003 | 65537 => Ok(()),
-        _ => Err(NameFault::BadNumber { at: number.at }),
+    if is_field_modulus(value_of(number)) {
+        return Ok(());
     }
+    Err(NameFault::BadNumber { at: number.at })
 }

@@ -2,6 +2,7 @@
 
 ghost use Rattle.std.specs.Prelude.{◌≡◌, ◌≤◌, None, IfOk, IsTrue};
 ghost use Rattle.std.specs.List.{All, flat_map};
+ghost use Rattle.word_orders.specs.Limits.{weight_limit};
 ghost use Rattle.quiver.specs.Declarations.{named_in};
 ghost use Rattle.expressions.specs.Names.{is_map};
 ghost use Rattle.statement_names.specs.Faults.{name_fault_of, value_of};
@@ -47,7 +48,7 @@ fn weights_of(
     pairs: &[(Name, Number)],
 ) -> Result<Listing<(Letter, u32)>, AllocError>
     requires maps { All (λ pair. IsTrue (is_map (named_in quiver.now pair.0.text))) pairs.now }
-    requires small { All (λ pair. value_of pair.1.value ≤ 1000) pairs.now }
+    requires small { All (λ pair. value_of pair.1.value ≤ weight_limit) pairs.now }
     ensures { IfOk result (λ weights. weights ≡ flat_map (weights_of quiver.now) pairs.now) }
 {
     let mut weights = Listing::new(alloc);

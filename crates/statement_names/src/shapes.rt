@@ -4,6 +4,7 @@ ghost use Rattle.std.specs.Prelude.{◌≡◌, ◌≢◌, ◌≤◌, ◌<◌, �
 ghost use Rattle.std.specs.List.{All};
 ghost use Rattle.quiver.specs.Declarations.{named_in, object_count};
 ghost use Rattle.expressions.specs.Names.{is_object};
+ghost use Rattle.adjoint_rules.specs.Limits.{shape_side_limit};
 ghost use Rattle.statement_names.specs.Faults.{name_fault_of, value_of};
 ghost use Rattle.statement_names.specs.Numbered.{declarations_of};
 ghost use Rattle.statement_names.specs.Shapes.{shape, sides_of, shapes_of};
@@ -59,7 +60,7 @@ fn sides_of(
     pairs: &[(Name, Number)],
 ) -> Result<Listing<u32>, AllocError>
     requires objects { All (λ pair. IsTrue (is_object (named_in quiver.now pair.0.text))) pairs.now }
-    requires small { All (λ pair. value_of pair.1.value ≤ 6) pairs.now }
+    requires small { All (λ pair. value_of pair.1.value ≤ shape_side_limit) pairs.now }
     requires once { AllPairs (λ first second. first.0.text ≢ second.0.text) pairs.now }
     ensures { IfOk result (λ sides. sides ≡ sides_of quiver.now pairs.now) }
 {

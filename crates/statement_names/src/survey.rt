@@ -7,19 +7,14 @@ ghost use Rattle.statement_names.specs.Survey.{fault_at, behind, short_of};
 
 use crate::fault::{NameFault, NameStop};
 use crate::kinds::{Kinds, kinds_of};
-use quiver::{MAP_LIMIT, OBJECT_LIMIT};
+use adjoint_rules::{ASSUMPTION_LIMIT, CLAIM_LIMIT, SHAPE_LIMIT};
+use quiver::OBJECT_LIMIT;
 use statement_syntax::Statement;
 use statement_tokens::Spot;
 use std::alloc::Global;
 
-// The greatest number of assumptions.
-const ASSUMPTION_LIMIT: u32 = 500;
-
-// The greatest number of claims.
-const CLAIM_LIMIT: u32 = 100;
-
-// The greatest number of shapes.
-const SHAPE_LIMIT: u32 = 16;
+/// The greatest number of maps of a file.
+pub const FILE_MAP_LIMIT: u32 = 200;
 
 /// What all of a file declares, what is declared so far, and how many more of each may come.
 #[derive(Drop)]
@@ -43,7 +38,7 @@ pub fn check_names(alloc: Global, statements: &[Statement]) -> Result<(), NameSt
         kinds: kinds_of(alloc, statements)?,
         declared: Kinds::new(alloc),
         objects: OBJECT_LIMIT,
-        maps: MAP_LIMIT,
+        maps: FILE_MAP_LIMIT,
         orders: 1,
         assumptions: ASSUMPTION_LIMIT,
         claims: CLAIM_LIMIT,

@@ -7,6 +7,7 @@ use Rattle.std.proofs.lemmas.List.{append-nil}
 use Rattle.statement_tokens.specs.declared.place.Spot.{Spot}
 use Rattle.statement_tokens.specs.declared.token.TokenKind.{TokenKind}
 use Rattle.statement_tokens.specs.declared.token.TokenKind.TheVariants as kind
+use Rattle.statement_syntax.specs.Limits.{bracket_limit}
 use Rattle.statement_syntax.specs.declared.tree.Name.{Name}
 use Rattle.statement_syntax.specs.declared.tree.Number.{Number}
 use Rattle.statement_syntax.specs.declared.tree.Statement.{Statement}
@@ -38,13 +39,13 @@ literal_first levels head part focus n nothing is =
     ap (λ p. literal_step levels head p n) nothing
     ∙ ap (λ f. Ok (record { levels = levels; head = head; part = Scaled n; focus = f })) (sym is)
 
-bracket_opens : (levels : List Level) (head : Head) (part : Part) (at : Spot) → length levels < 64
+bracket_opens : (levels : List Level) (head : Head) (part : Part) (at : Spot) → length levels < bracket_limit
     → open_step levels head part at ≡ Ok (outside (record { head = head; part = part; at = at } ∷ levels) empty_head Nothing)
 bracket_opens levels head part at few =
-    ap (λ b. if b then Ok (outside (record { head = head; part = part; at = at } ∷ levels) empty_head Nothing) else Err TooDeep) (lt-ltb (length levels) 64 few)
+    ap (λ b. if b then Ok (outside (record { head = head; part = part; at = at } ∷ levels) empty_head Nothing) else Err TooDeep) (lt-ltb (length levels) bracket_limit few)
 
 -- the state that is put together where a bracket opens
-pub bracket_opened : (levels : List Level) (head : Head) (part : Part) (at : Spot) (now : Reading) (outer : Head) (under : Part) → length levels < 64
+pub bracket_opened : (levels : List Level) (head : Head) (part : Part) (at : Spot) (now : Reading) (outer : Head) (under : Part) → length levels < bracket_limit
     → now.levels ≡ record { head = outer; part = under; at = at } ∷ levels → outer ≡ head → under ≡ part
     → now.head ≡ empty_head → now.part ≡ Nothing → now.focus ≡ Outside → open_step levels head part at ≡ Ok now
 bracket_opened levels head part at now outer under few levels_is outer_is under_is head_is part_is focus_is =

@@ -7,6 +7,7 @@ use Rattle.statement_tokens.specs.declared.place.Spot.{Spot}
 use Rattle.statement_tokens.specs.declared.token.Token.{Token}
 use Rattle.statement_tokens.specs.declared.token.TokenKind.{TokenKind}
 use Rattle.statement_tokens.specs.declared.token.TokenKind.TheVariants as kind
+use Rattle.statement_syntax.specs.Limits.{bracket_limit}
 use Rattle.statement_syntax.specs.declared.tree.Name.{Name}
 use Rattle.statement_syntax.specs.declared.tree.Number.{Number}
 use Rattle.statement_syntax.specs.declared.tree.Sum.{Sum}
@@ -72,7 +73,7 @@ pub record FirstSide (w : SidesWord) (at : Spot) (r : Reading) (ts : List Token)
 
 pub record SecondSide (w : SidesWord) (at : Spot) (left : Sum) (r : Reading) (ts : List Token) : Type 0 where
   pub expr : Expr
-  pub fits : ExprFits expr 64
+  pub fits : ExprFits expr bracket_limit
   pub left_is : left ≡ expr_tree expr
   pub equals : Spot
   pub side : List Token
@@ -250,7 +251,7 @@ reading_grows r next ts k t read goes =
     }
 
 -- where it may end, it is an expression
-pub reading_ends : (r : Reading) (s : Sum) (ts : List Token) → ExprReads r ts → whole_sum r ≡ Ok s → (e : Expr) × ExprFits e 64 × (s ≡ expr_tree e) × (ts ≡ expr_tokens e)
+pub reading_ends : (r : Reading) (s : Sum) (ts : List Token) → ExprReads r ts → whole_sum r ≡ Ok s → (e : Expr) × ExprFits e bracket_limit × (s ≡ expr_tree e) × (ts ≡ expr_tokens e)
 reading_ends r s ts read goes =
     let e = tree_ok (machine.whole read.state) s (sym (whole-seen read.state) ∙ ap whole_sum (sym read.seen) ∙ goes) in
     (e.0, within ts read.state e.0 read.ran e.1, e.2, found ts read.state e.0 read.ran e.1)

@@ -5,6 +5,7 @@ use Rattle.std.proofs.lemmas.List.{append-nil}
 use Rattle.statement_tokens.specs.declared.place.Spot.{Spot}
 use Rattle.statement_tokens.specs.declared.token.Token.{Token}
 use Rattle.statement_tokens.specs.declared.token.TokenKind.TheVariants as kind
+use Rattle.statement_syntax.specs.Limits.{bracket_limit}
 use Rattle.statement_syntax.specs.declared.tree.Name.{Name}
 use Rattle.statement_syntax.specs.declared.tree.Number.{Number}
 use Rattle.statement_syntax.specs.declared.tree.Sum.{Sum}
@@ -97,7 +98,7 @@ sides_start Assume at rest = refl
 sides_start Claim at rest = refl
 
 sides_run : (w : SidesWord) (at : Spot) (d : Expr) (equals : Spot) (e : Expr)
-    → Upto (ExprFits d 64 × ExprFits e 64) (run by_token line.Start (stated_tokens (sides w at d equals e))) (Ok (line.Sides w at (Some (expr_tree d)) (reading_of (end_state [] e))))
+    → Upto (ExprFits d bracket_limit × ExprFits e bracket_limit) (run by_token line.Start (stated_tokens (sides w at d equals e))) (Ok (line.Sides w at (Some (expr_tree d)) (reading_of (end_state [] e))))
 sides_run w at d equals e =
     before_it (sides_start w at (expr_tokens d ++ sign_token kind.Equals equals ∷ expr_tokens e))
     (then_on

@@ -4,6 +4,7 @@ use Rattle.statement_tokens.specs.declared.place.Spot.{Spot}
 use Rattle.statement_tokens.specs.declared.token.Token.{Token}
 use Rattle.statement_tokens.specs.declared.token.TokenKind.{TokenKind}
 use Rattle.statement_tokens.specs.declared.token.TokenKind.TheVariants as kind
+use Rattle.statement_syntax.specs.Limits.{bracket_limit}
 use Rattle.statement_syntax.specs.declared.tree.Name.{Name}
 use Rattle.statement_syntax.specs.declared.tree.Number.{Number}
 use Rattle.statement_syntax.specs.declared.expression.Misfit.{Misfit}
@@ -105,7 +106,7 @@ close_after (level ∷ levels) head (Some t) at =
 
 abbrev pub step_open : List Level → Head → Part → Spot → Stepped
 step_open levels head part at =
-    if nat_lt (length levels) 64 then Ok (fresh (record { head = head; part = part; at = at } ∷ levels)) else Err TooDeep
+    if nat_lt (length levels) bracket_limit then Ok (fresh (record { head = head; part = part; at = at } ∷ levels)) else Err TooDeep
 
 abbrev pub step_outside : List Level → Head → Part → TokenKind → Spot → Stepped
 step_outside levels head part (kind.Name x) at = Ok (record { levels = levels; head = head; part = add part (name (record { text = x; at = at })); focus = outside })

@@ -6,6 +6,7 @@ use Rattle.statement_tokens.specs.declared.place.Spot.{Spot}
 use Rattle.statement_tokens.specs.declared.token.Token.{Token}
 use Rattle.statement_tokens.specs.declared.token.TokenKind.{TokenKind}
 use Rattle.statement_tokens.specs.declared.token.TokenKind.TheVariants as kind
+use Rattle.statement_syntax.specs.Limits.{bracket_limit}
 use Rattle.statement_syntax.specs.declared.tree.Name.{Name}
 use Rattle.statement_syntax.specs.declared.tree.Number.{Number}
 use Rattle.statement_syntax.specs.Grammar.{no_sign, lead_plus, lead_minus, Sign, plus, minus, Expr, first, joined, Product, zero_alone, factors, Factors, one, beside, Marked, plain, marked, Prime, name, identity, bracket, sign_token, name_token, number_token, zero_at, signed_token, literal_tokens, expr_tokens, product_tokens, factors_tokens, marked_tokens, prime_tokens, ExprFits, ProductFits, FactorsFit, MarkedFits, PrimeFits, list_text, sides_text, pair_text, Ending, no_word, self_word, ending_tokens, word_token, names_tokens, pairs_tokens, Stated, listed, mapped, sides, paired, projected, by_degree, by_weight, modelled, stated_tokens, StatedFits, StatedLine, line_tokens, file_tokens, FileFits}
@@ -261,7 +262,7 @@ stated_moved (sides w at d equals e) ts alike =
       moved = sides w l.at left.moved q.at right.moved;
       are = l.are ∙ ap (λ x. word_token (sides_text w) l.at ∷ x) (parts.are ∙ ap₂ (λ x y. x ++ y) left.are (q.are ∙ ap (λ x. sign_token kind.Equals q.at ∷ x) right.are));
       same = ap₂ (λ x y. sides w somewhere x somewhere y) left.same right.same;
-      fits = λ f. (left.fits 64 f.0, right.fits 64 f.1);
+      fits = λ f. (left.fits bracket_limit f.0, right.fits bracket_limit f.1);
     }
 stated_moved (paired w at m n) ts alike =
     let l = led_by ts (kind.Name (pair_text w)) (kinds (name_token (bare_name m) ∷ name_token (bare_name n) ∷ [])) alike in

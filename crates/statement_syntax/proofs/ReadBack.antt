@@ -13,6 +13,7 @@ use Rattle.statement_tokens.specs.declared.scan.Item.TheVariants as item
 use Rattle.statement_tokens.specs.declared.scan.ScanFault.TheVariants.{BadToken}
 use Rattle.statement_tokens.specs.declared.scan.Placed.{Placed}
 use Rattle.statement_tokens.specs.Token.{◌>>=◌, item_at, tokens_from, placed, with_front, is_digit, value_from, name_of}
+use Rattle.statement_tokens.specs.Limits.{name_limit}
 use Rattle.statement_syntax.specs.Written.{opens, closes, kind_text, gap, text_from}
 use Rattle.statement_tokens.proofs.Scanning.{spot}
 use Rattle.statement_syntax.proofs.Moved.{kinds}
@@ -102,7 +103,7 @@ word_back : (x : List ℕ) (t : SpellsName x) (rest : List ℕ) → EndsBefore r
 word_back x t rest given =
     name_back t.first t.more rest t.starts t.goes_on (stops_name rest given)
     ∙ ap (λ y. name_of y (length t.more)) (sym t.is)
-    ∙ ap (λ b. cond b (Ok (item.Token (kind.Name x) (length t.more))) (Err BadToken)) (le-leb (length x) 32 t.short)
+    ∙ ap (λ b. cond b (Ok (item.Token (kind.Name x) (length t.more))) (Err BadToken)) (le-leb (length x) name_limit t.short)
 
 read_back : (k : TokenKind) (t : IsToken k) (rest : List ℕ) → Behind k rest → item_at (first_of k t) (more_of k t ++ rest) ≡ Ok (item.Token k (length (more_of k t)))
 read_back (kind.Name x) t rest given = word_back x t rest given

@@ -4,6 +4,7 @@ use Rattle.std.proofs.lemmas.Bool.{lt-ltb, le-ltb}
 use Rattle.statement_tokens.specs.declared.place.Spot.{Spot}
 use Rattle.statement_tokens.specs.declared.token.Token.{Token}
 use Rattle.statement_tokens.specs.declared.token.TokenKind.TheVariants as kind
+use Rattle.statement_syntax.specs.Limits.{bracket_limit}
 use Rattle.statement_syntax.specs.declared.tree.Name.{Name}
 use Rattle.statement_syntax.specs.declared.tree.Number.{Number}
 use Rattle.statement_syntax.specs.declared.expression.Misfit.TheVariants.{TooDeep}
@@ -55,10 +56,10 @@ close_step levels head part left (first l (factors n fs)) right = refl
 close_step levels head part left (joined e s (zero_alone at)) right = refl
 close_step levels head part left (joined e s (factors n fs)) right = refl
 
-open_step : (levels : List Level) (head : Head) (part : Part) (left : Spot) → length levels < 64
+open_step : (levels : List Level) (head : Head) (part : Part) (left : Spot) → length levels < bracket_limit
     → step (at_outside levels head part) (sign_token kind.Open left) ≡ Ok (fresh (record { head = head; part = part; at = left } ∷ levels))
 unfolding step
-open_step levels head part left room = ap (λ b. cond b (Ok (fresh (record { head = head; part = part; at = left } ∷ levels))) (Err TooDeep)) (lt-ltb (length levels) 64 room)
+open_step levels head part left room = ap (λ b. cond b (Ok (fresh (record { head = head; part = part; at = left } ∷ levels))) (Err TooDeep)) (lt-ltb (length levels) bracket_limit room)
 
 quote_step : (levels : List Level) (head : Head) (part : Part) (f : Marked) (at : Spot)
     → step (at_outside levels head (add_marked part f)) (sign_token kind.Quote at) ≡ Ok (at_outside levels head (add_marked part (marked f at)))
@@ -100,15 +101,15 @@ identity_run levels head part left n right rest = refl
 
 -- ---- whole parts
 
-open_fails : (levels : List Level) (head : Head) (part : Part) (left : Spot) (rest : List Token) → length levels + 0 ≡ 64
+open_fails : (levels : List Level) (head : Head) (part : Part) (left : Spot) (rest : List Token) → length levels + 0 ≡ bracket_limit
     → run step (at_outside levels head part) (sign_token kind.Open left ∷ rest) ≡ Err TooDeep
 unfolding step run
 open_fails levels head part left rest room =
     ap (λ b. cond b (Ok (fresh (record { head = head; part = part; at = left } ∷ levels))) (Err TooDeep) >>= λ s. run step s rest)
-    (le-ltb (length levels) 64 (omega (arith, room)))
+    (le-ltb (length levels) bracket_limit (omega (arith, room)))
 
 mutual
-  pub expr_run : (levels : List Level) (e : Expr) (d : ℕ) (rest : List Token) → length levels + d ≡ 64
+  pub expr_run : (levels : List Level) (e : Expr) (d : ℕ) (rest : List Token) → length levels + d ≡ bracket_limit
       → Upto (ExprFits e d) (run step (fresh levels) (expr_tokens e ++ rest)) (run step (end_state levels e) rest)
   expr_run levels (first l t) d rest room =
       before_it (ap (run step (fresh levels)) (append_assoc (lead_tokens l) (product_tokens t) rest)
@@ -120,7 +121,7 @@ mutual
       (before_it (one_step step (end_state levels e) (at_outside levels (after e s) nothing) (signed_token s) (product_tokens t ++ rest) (sign_step levels e s))
       (product_run levels (after e s) t d rest room)))
 
-  product_run : (levels : List Level) (head : Head) (t : Product) (d : ℕ) (rest : List Token) → length levels + d ≡ 64
+  product_run : (levels : List Level) (head : Head) (t : Product) (d : ℕ) (rest : List Token) → length levels + d ≡ bracket_limit
       → Upto (ProductFits t d) (run step (at_outside levels head nothing) (product_tokens t ++ rest)) (run step (at_outside levels head (part_of t)) rest)
   product_run levels head (zero_alone at) d rest room = inl (tt, literal_run levels head (Some (zero_at at)) rest)
   product_run levels head (factors l fs) d rest room =
@@ -128,7 +129,7 @@ mutual
       ∙ literal_run levels head l (factors_tokens fs ++ rest))
       (factors_run levels head l fs d rest room)
 
-  factors_run : (levels : List Level) (head : Head) (l : Option Number) (fs : Factors) (d : ℕ) (rest : List Token) → length levels + d ≡ 64
+  factors_run : (levels : List Level) (head : Head) (l : Option Number) (fs : Factors) (d : ℕ) (rest : List Token) → length levels + d ≡ bracket_limit
       → Upto (FactorsFit fs d) (run step (at_outside levels head (after_literal l)) (factors_tokens fs ++ rest)) (run step (at_outside levels head (product l fs)) rest)
   factors_run levels head l (one f) d rest room =
       after_it (marked_run levels head (after_literal l) f d rest room) (ap (λ p. run step (at_outside levels head p) rest) (literal_is l f))
@@ -137,7 +138,7 @@ mutual
       (then_on (factors_run levels head l fs d (marked_tokens f ++ rest) room)
       (marked_run levels head (product l fs) f d rest room))
 
-  marked_run : (levels : List Level) (head : Head) (part : Part) (f : Marked) (d : ℕ) (rest : List Token) → length levels + d ≡ 64
+  marked_run : (levels : List Level) (head : Head) (part : Part) (f : Marked) (d : ℕ) (rest : List Token) → length levels + d ≡ bracket_limit
       → Upto (MarkedFits f d) (run step (at_outside levels head part) (marked_tokens f ++ rest)) (run step (at_outside levels head (add_marked part f)) rest)
   marked_run levels head part (plain p) d rest room = after_it (prime_run levels head part p d rest room) (ap (λ q. run step (at_outside levels head q) rest) (plain_is part p))
   marked_run levels head part (marked f at) d rest room =
@@ -145,7 +146,7 @@ mutual
       (after_it (marked_run levels head part f d (sign_token kind.Quote at ∷ rest) room)
       (one_step step (at_outside levels head (add_marked part f)) (at_outside levels head (add_marked part (marked f at))) (sign_token kind.Quote at) rest (quote_step levels head part f at)))
 
-  prime_run : (levels : List Level) (head : Head) (part : Part) (p : Prime) (d : ℕ) (rest : List Token) → length levels + d ≡ 64
+  prime_run : (levels : List Level) (head : Head) (part : Part) (p : Prime) (d : ℕ) (rest : List Token) → length levels + d ≡ bracket_limit
       → Upto (PrimeFits p d) (run step (at_outside levels head part) (prime_tokens p ++ rest)) (run step (at_outside levels head (add part p)) rest)
   prime_run levels head part (name n) d rest room = inl (tt, name_run levels head part n rest)
   prime_run levels head part (identity left n right) d rest room = inl (tt, identity_run levels head part left n right rest)

@@ -5,6 +5,7 @@ use Rattle.statement_tokens.specs.declared.place.Spot.{Spot}
 use Rattle.statement_tokens.specs.declared.token.Token.{Token}
 use Rattle.statement_tokens.specs.declared.token.TokenKind.{TokenKind}
 use Rattle.statement_tokens.specs.declared.token.TokenKind.TheVariants as kind
+use Rattle.statement_syntax.specs.Limits.{bracket_limit}
 use Rattle.statement_syntax.specs.declared.tree.Name.{Name}
 use Rattle.statement_syntax.specs.declared.tree.Number.{Number}
 use Rattle.statement_syntax.specs.declared.tree.Term.{Term, out-Term, out-roll-Term}
@@ -120,8 +121,8 @@ open_made levels head part at false = refl
 open-seen : (levels : List Level) (head : Head) (part : Part) (at : Spot)
     → steps.open_step (levels_of levels) (head_of head) (part_of part) at ≡ seen (step_open levels head part at)
 open-seen levels head part at =
-    ap (λ n. cond (ltb n 64) (Ok (steps.outside (record { head = head_of head; part = part_of part; at = at } ∷ levels_of levels) steps.empty_head (part_of nothing))) (Err TooDeep)) (levels-length levels)
-    ∙ open_made levels head part at (ltb (length levels) 64)
+    ap (λ n. cond (ltb n bracket_limit) (Ok (steps.outside (record { head = head_of head; part = part_of part; at = at } ∷ levels_of levels) steps.empty_head (part_of nothing))) (Err TooDeep)) (levels-length levels)
+    ∙ open_made levels head part at (ltb (length levels) bracket_limit)
 
 outside-seen : (levels : List Level) (head : Head) (part : Part) (k : TokenKind) (at : Spot)
     → steps.outside_step (levels_of levels) (head_of head) (part_of part) k at ≡ seen (step_outside levels head part k at)

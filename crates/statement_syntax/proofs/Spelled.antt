@@ -16,6 +16,7 @@ use Rattle.statement_tokens.specs.declared.scan.ScanFault.{ScanFault}
 use Rattle.statement_tokens.specs.declared.scan.ScanFault.TheVariants.{BadToken, LiteralTooLarge}
 use Rattle.statement_tokens.specs.declared.scan.Placed.{Placed}
 use Rattle.statement_tokens.specs.Token.{item_at, sign_at, starts_name, is_digit, begins_with, name_of, literal_of, tokens_from, placed, end_of, right_of, below}
+use Rattle.statement_tokens.specs.Limits.{name_limit}
 use Rattle.statement_syntax.proofs.LastToken.{scan_ok, tokens_is}
 use Rattle.statement_syntax.proofs.Moved.{kinds}
 
@@ -32,7 +33,7 @@ pub record SpellsName (text : List ℕ) : Type 0 where
   pub starts : starts_name first ≡ true
   pub goes_on : EachIs is_xid_continue more
   pub scalar : scalars (first ∷ more) ≡ true
-  pub short : length text ≤ 32
+  pub short : length text ≤ name_limit
 
 pub record SpellsNumber (value : ℤ) : Type 0 where
   pub size : ℕ
@@ -115,7 +116,7 @@ this_token k n t l more given = let same : k ≡ l = cc in subst IsToken same t
 
 name_makes : (c : ℕ) (rest : List ℕ) → scalars (c ∷ rest) ≡ true → starts_name c ≡ true → Makes (name_of (encode_utf8_all (c ∷ take_while is_xid_continue rest)) (prefix_len is_xid_continue rest))
 name_makes c rest scalar starts =
-    by_test (nat_le (length (encode_utf8_all (c ∷ take_while is_xid_continue rest))) 32) _ _
+    by_test (nat_le (length (encode_utf8_all (c ∷ take_while is_xid_continue rest))) name_limit) _ _
     (λ short. this_token _ _ (record {
       first = c;
       more = take_while is_xid_continue rest;

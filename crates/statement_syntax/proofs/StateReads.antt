@@ -6,6 +6,7 @@ use Rattle.statement_tokens.specs.declared.place.Spot.{Spot}
 use Rattle.statement_tokens.specs.declared.token.Token.{Token}
 use Rattle.statement_tokens.specs.declared.token.TokenKind.{TokenKind}
 use Rattle.statement_tokens.specs.declared.token.TokenKind.TheVariants as kind
+use Rattle.statement_syntax.specs.Limits.{bracket_limit}
 use Rattle.statement_syntax.specs.declared.tree.Name.{Name}
 use Rattle.statement_syntax.specs.declared.tree.Number.{Number}
 use Rattle.statement_syntax.specs.declared.expression.Misfit.TheVariants.{TooDeep}
@@ -124,7 +125,7 @@ outside_reads levels head part kind.Arrow at = tt
 outside_reads levels head part kind.Equals at = tt
 outside_reads levels head part kind.Plus at = sign_reads levels head part (plus at)
 outside_reads levels head part kind.Minus at = sign_reads levels head part (minus at)
-outside_reads levels head part kind.Open at = open_by levels head part at (nat_lt (length levels) 64)
+outside_reads levels head part kind.Open at = open_by levels head part at (nat_lt (length levels) bracket_limit)
 outside_reads levels head part kind.Close at = close_reads levels head part at (whole_term part) refl
 outside_reads levels head part kind.OpenSquare at = simp (append-nil) refl
 outside_reads levels head part kind.CloseSquare at = tt

@@ -5,6 +5,7 @@ use Rattle.statement_tokens.specs.declared.place.Spot.{Spot}
 use Rattle.statement_tokens.specs.declared.token.Token.{Token}
 use Rattle.statement_tokens.specs.declared.token.TokenKind.{TokenKind}
 use Rattle.statement_tokens.specs.declared.token.TokenKind.TheVariants as kind
+use Rattle.statement_syntax.specs.Limits.{bracket_limit}
 use Rattle.statement_syntax.specs.declared.tree.Number.{Number}
 use Rattle.statement_syntax.specs.declared.tree.Name.{Name}
 use Rattle.statement_syntax.specs.declared.expression.Misfit.TheVariants.{TooDeep}
@@ -83,17 +84,17 @@ pub found : (ts : List Token) (st : State) (e : Expr) → run step (fresh []) ts
 found ts st e ran ends = sym (run_reads (fresh []) ts st ran) ∙ whole-tokens st e ends
 
 -- only: the tokens of an expression end as that expression, where it is within the limit, and else at a bracket that is too deep
-pub only : (e : Expr) → Upto (ExprFits e 64) (run step (fresh []) (expr_tokens e)) (Ok (end_state [] e))
+pub only : (e : Expr) → Upto (ExprFits e bracket_limit) (run step (fresh []) (expr_tokens e)) (Ok (end_state [] e))
 unfolding run
-only e = before_it (ap (run step (fresh [])) (sym (append-nil (expr_tokens e)))) (expr_run [] e 64 [] (omega arith))
+only e = before_it (ap (run step (fresh [])) (sym (append-nil (expr_tokens e)))) (expr_run [] e bracket_limit [] (omega arith))
 
 -- what is read is within the limit
-pub within : (ts : List Token) (st : State) (e : Expr) → run step (fresh []) ts ≡ Ok st → whole st ≡ Some e → ExprFits e 64
+pub within : (ts : List Token) (st : State) (e : Expr) → run step (fresh []) ts ≡ Ok st → whole st ≡ Some e → ExprFits e bracket_limit
 within ts st e ran ends =
     (upto_ok _ (end_state [] e) st (only e) (ap (run step (fresh [])) (sym (found ts st e ran ends)) ∙ ran)).0
 
 -- what was read can go on to an expression
-pub viable : (front : List Token) (st : State) → run step (fresh []) front ≡ Ok st → (more : List Token) × (e : Expr) × ExprFits e 64 × (front ++ more ≡ expr_tokens e)
+pub viable : (front : List Token) (st : State) → run step (fresh []) front ≡ Ok st → (more : List Token) × (e : Expr) × ExprFits e bracket_limit × (front ++ more ≡ expr_tokens e)
 viable front st ran =
     let on = ends st.levels st.head st.part st.focus in
     let all = run_front step (fresh []) front st on.0 ran ∙ on.3 in

@@ -2,6 +2,7 @@
 use Rattle.std.specs.Prelude.{ℕ, zero, suc, List, [], ◌∷◌, ◌++◌, map, Option, Some, None, pos, codes}
 use Rattle.std.specs.List.{flat_map}
 use Rattle.statement_tokens.specs.declared.place.Spot.{Spot}
+use Rattle.statement_syntax.specs.Limits.{bracket_limit}
 use Rattle.statement_syntax.specs.declared.line.ListWord.{ListWord}
 use Rattle.statement_syntax.specs.declared.line.ListWord.TheVariants.{Object, Solve}
 use Rattle.statement_syntax.specs.declared.line.SidesWord.{SidesWord}
@@ -188,11 +189,11 @@ stated_tokens (by_degree at word) = word_token (codes "order") at ∷ word_token
 stated_tokens (by_weight at word p ps) = word_token (codes "order") at ∷ word_token (codes "weight") word ∷ pairs_tokens (p ∷ ps)
 stated_tokens (modelled at m ps) = word_token (codes "model") at ∷ number_token m ∷ pairs_tokens ps
 
--- at most 64 round brackets stand in one another
+-- no more round brackets than the limit stand in one another
 abbrev pub StatedFits : Stated → Type 0
 StatedFits (listed w at n ns) = Unit {0}
 StatedFits (mapped at n ns colon s arrow t end) = Unit {0}
-StatedFits (sides w at d equals e) = ExprFits d 64 × ExprFits e 64
+StatedFits (sides w at d equals e) = ExprFits d bracket_limit × ExprFits e bracket_limit
 StatedFits (paired w at m n) = Unit {0}
 StatedFits (projected at n) = Unit {0}
 StatedFits (by_degree at word) = Unit {0}

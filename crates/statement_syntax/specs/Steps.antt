@@ -4,6 +4,7 @@ use Rattle.statement_tokens.specs.declared.place.Spot.{Spot}
 use Rattle.statement_tokens.specs.declared.token.Token.{Token}
 use Rattle.statement_tokens.specs.declared.token.TokenKind.{TokenKind}
 use Rattle.statement_tokens.specs.declared.token.TokenKind.TheVariants as kind
+use Rattle.statement_syntax.specs.Limits.{bracket_limit}
 use Rattle.statement_syntax.specs.declared.tree.Name.{Name}
 use Rattle.statement_syntax.specs.declared.tree.Number.{Number}
 use Rattle.statement_syntax.specs.declared.tree.Primary.{Primary, Letter, Identity, Bracket}
@@ -109,7 +110,7 @@ empty_head = record { at = None; terms = []; negative = false }
 
 abbrev pub open_step : List Level → Head → Part → Spot → Result Reading Misfit
 open_step levels head part at =
-    if nat_lt (length levels) 64 then Ok (outside (record { head = head; part = part; at = at } ∷ levels) empty_head Nothing) else Err TooDeep
+    if nat_lt (length levels) bracket_limit then Ok (outside (record { head = head; part = part; at = at } ∷ levels) empty_head Nothing) else Err TooDeep
 
 abbrev pub literal_step : List Level → Head → Part → Number → Result Reading Misfit
 literal_step levels head Nothing n = Ok (outside levels head (Scaled n))

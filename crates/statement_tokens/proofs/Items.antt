@@ -6,6 +6,7 @@ use Rattle.std.specs.List.{prefix_len, take_while}
 use Rattle.std.specs.Str.{encode_utf8_all}
 use Rattle.unicode_ident.specs.Ident.{is_xid_continue}
 use Rattle.std.proofs.lemmas.Bool.{le-leb}
+use Rattle.statement_tokens.specs.Limits.{name_limit}
 use Rattle.statement_tokens.specs.declared.token.TokenKind.{TokenKind}
 use Rattle.statement_tokens.specs.declared.token.TokenKind.TheVariants as kind
 use Rattle.statement_tokens.specs.declared.scan.Item.{Item}
@@ -17,10 +18,10 @@ use Rattle.statement_tokens.specs.Token.{name_of, literal_of, sign_at, more_of, 
 
 -- ---- names
 
-name_fits : (text : List ℕ) (more : ℕ) → length text ≤ 32 → name_of text more ≡ Ok (item.Token (kind.Name text) more)
-name_fits text more short = ap (λ b. if b then Ok (item.Token (kind.Name text) more) else Err BadToken) (le-leb (length text) 32 short)
+name_fits : (text : List ℕ) (more : ℕ) → length text ≤ name_limit → name_of text more ≡ Ok (item.Token (kind.Name text) more)
+name_fits text more short = ap (λ b. if b then Ok (item.Token (kind.Name text) more) else Err BadToken) (le-leb (length text) name_limit short)
 
-pub name_read : (first : ℕ) (rest text : List ℕ) (more : ℕ) → more ≡ prefix_len is_xid_continue rest → text ≡ encode_utf8_all (first ∷ take more rest) → length text ≤ 32
+pub name_read : (first : ℕ) (rest text : List ℕ) (more : ℕ) → more ≡ prefix_len is_xid_continue rest → text ≡ encode_utf8_all (first ∷ take more rest) → length text ≤ name_limit
     → name_of (encode_utf8_all (first ∷ take_while is_xid_continue rest)) (prefix_len is_xid_continue rest) ≡ Ok (item.Token (kind.Name text) more)
 name_read first rest text more count is short =
     let whole : text ≡ encode_utf8_all (first ∷ take_while is_xid_continue rest) = is ∙ ap (λ n. encode_utf8_all (first ∷ take n rest)) count in
@@ -37,7 +38,7 @@ given_short n (Ok i) read gives short = subst (λ x. IfOk x (λ i. more_of i ≤
 given_short n (Err e) read gives short = tt
 
 pub name_short : (n : ℕ) (text : List ℕ) (more : ℕ) → more ≤ n → IfOk (name_of text more) (λ i. more_of i ≤ n)
-name_short n text more short = chosen (λ i. more_of i ≤ n) (nat_le (length text) 32) (Ok (item.Token (kind.Name text) more)) (Err BadToken) short tt
+name_short n text more short = chosen (λ i. more_of i ≤ n) (nat_le (length text) name_limit) (Ok (item.Token (kind.Name text) more)) (Err BadToken) short tt
 
 pub literal_short : (n value more : ℕ) → more ≤ n → IfOk (literal_of value more) (λ i. more_of i ≤ n)
 literal_short n value more short = chosen (λ i. more_of i ≤ n) (nat_lt value (2 ^ 127)) (Ok (item.Token (kind.Literal (pos value)) more)) (Err LiteralTooLarge) short tt

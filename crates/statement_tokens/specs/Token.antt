@@ -3,6 +3,7 @@ use Rattle.std.specs.Prelude.{◌≡◌, ℕ, zero, suc, ◌+◌, ◌-◌, ◌*�
 use Rattle.std.specs.List.{take_while, prefix_len}
 use Rattle.std.specs.Str.{encode_utf8_all}
 use Rattle.unicode_ident.specs.Ident.{is_xid_start, is_xid_continue}
+use Rattle.statement_tokens.specs.Limits.{name_limit}
 use Rattle.statement_tokens.specs.declared.place.Spot.{Spot}
 use Rattle.statement_tokens.specs.declared.token.Token.{Token}
 use Rattle.statement_tokens.specs.declared.token.TokenKind.TheVariants as kind
@@ -46,7 +47,7 @@ value_from n [] = n
 value_from n (d ∷ ds) = value_from (n * 10 + (d - 48)) ds
 
 abbrev pub name_of : List ℕ → ℕ → Result Item ScanFault
-name_of text more = if nat_le (length text) 32 then Ok (item.Token (kind.Name text) more) else Err BadToken
+name_of text more = if nat_le (length text) name_limit then Ok (item.Token (kind.Name text) more) else Err BadToken
 
 abbrev pub literal_of : ℕ → ℕ → Result Item ScanFault
 literal_of value more = if nat_lt value (2 ^ 127) then Ok (item.Token (kind.Literal (pos value)) more) else Err LiteralTooLarge

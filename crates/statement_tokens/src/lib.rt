@@ -6,5 +6,5 @@ mod scan;
 mod token;
 
 pub use place::Spot;
-pub use scan::{Placed, ScanError, ScanFault, characters, tokens};
+pub use scan::{NAME_LIMIT, Placed, ScanError, ScanFault, characters, tokens};
 pub use token::{Token, TokenKind};

@@ -167,8 +167,8 @@ fn value_of(first: char, more: &[char]) -> Option<u128>
     Some(value)
 }
 
-// The greatest number of bytes of a name.
-const NAME_LIMIT: usize = 32;
+/// The greatest number of bytes of a name.
+pub const NAME_LIMIT: usize = 32;
 
 fn name_at(alloc: Global, first: char, rest: &[char]) -> Result<Item, ItemError>
     ensures { GivesItem result (name_of (encode_utf8_all (first ∷ take_while is_xid_continue rest.now)) (prefix_len is_xid_continue rest.now)) }

@@ -14,7 +14,6 @@ pub mod RowChains
 pub mod SecondWorks
 pub mod Records
 pub mod Turns
-pub mod UnitCounts
 pub mod GeneratorWorks
 pub mod ReducibleGenerators
 pub mod Transitions

@@ -1,6 +1,5 @@
 -- Rows of records name what is there before.
 use Rattle.std.proofs.Common.{◌≤◌, ℕ, ℤ, List, [], ◌∷◌, map, arith}
-use Rattle.std.specs.List.{All}
 use Rattle.std.proofs.lemmas.List.Elements.{All-weaker, All-map, All-append, All-from_recursion}
 use Rattle.cofactor_trace.specs.declared.Origin.{Origin}
 use Rattle.cofactor_trace.specs.declared.Origin.TheVariants as origin

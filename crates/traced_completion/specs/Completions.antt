@@ -8,6 +8,7 @@ use Rattle.cofactor_trace.specs.declared.halt.Place.TheVariants as place
 use Rattle.rule_reduce.specs.declared.fault.ReduceFault.{ReduceFault}
 use Rattle.ambiguities.specs.Ambiguities.{IsAmbiguity}
 use Rattle.adjoint_rules.specs.declared.problem.Problem.{Problem}
+use Rattle.traced_completion.specs.Limits.{budget_limit}
 use Rattle.traced_completion.specs.declared.completion.Completion.{Completion}
 use Rattle.traced_completion.specs.declared.completion.Step.{Step}
 use Rattle.traced_completion.specs.declared.completion.Step.TheVariants.{Went, Closed, Stopped}
@@ -17,9 +18,6 @@ use Rattle.traced_completion.specs.declared.budget.Budget.{Budget}
 use Rattle.traced_completion.specs.Pending.{AreAllPending}
 use Rattle.traced_completion.specs.PlainRun.{RunState, Outcome, went, closed, stopped, IsCauseOf, recorded, IsRunState, setting_of}
 use Rattle.rule_making.specs.Records.{HasRecords}
-
-abbrev pub budget_limit : ℕ
-budget_limit = 1000000
 
 -- both numbers are from 1 to the limit
 pub record IsBudget (b : Budget) : Type 0 where

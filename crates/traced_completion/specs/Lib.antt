@@ -13,6 +13,7 @@ pub use Rattle.ambiguities.specs.Ambiguities
 pub use Rattle.ambiguities.specs.Listed
 pub use Rattle.ambiguities.specs.SPolynomials
 pub use Rattle.adjoint_rules.specs.Problem
+pub mod Limits
 pub mod Results
 pub mod Works
 pub mod Reductions

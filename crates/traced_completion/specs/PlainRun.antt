@@ -15,6 +15,7 @@ use Rattle.ambiguities.specs.declared.ambiguity.Ambiguity.{Ambiguity}
 use Rattle.adjoint_rules.specs.declared.problem.Problem.{Problem}
 use Rattle.adjoint_rules.specs.Problem.{polynomials}
 use Rattle.adjoint_rules.specs.Parts.{units_in}
+use Rattle.traced_completion.specs.Limits.{round_limit}
 use Rattle.traced_completion.specs.declared.budget.Budget.{Budget}
 use Rattle.traced_completion.specs.declared.pending.waiting.Waiting.{Waiting}
 use Rattle.traced_completion.specs.UnitsFirst.{units_first}
@@ -75,9 +76,9 @@ pub record IsRoundZero (setting : Setting) (s : RunState) (outcome : Outcome) : 
   pub ends : Ends 0 None s.treated result outcome
 
 -- ---- a later round
--- the least of 32, the pairs left and the number pending
+-- the least of the limit of a round, the pairs left and the number pending
 abbrev pub taken_count : Budget → RunState → List Waiting → ℕ
-taken_count budget s pending = min 32 (min (budget.pairs - length s.treated) (length pending))
+taken_count budget s pending = min round_limit (min (budget.pairs - length s.treated) (length pending))
 
 -- The S-polynomials of these ambiguities with their first reductions by the rules from before, then the second reductions;
 -- all of them count as treated.

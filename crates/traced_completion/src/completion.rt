@@ -41,6 +41,7 @@ pub struct Completion {
 
 impl Completion {
     ghost use Rattle.std.specs.Prelude.{◌≡◌, ◌<◌, ◌≤◌, length, IfOk, OnErr, Some, slice_get};
+    ghost use Rattle.in_order_parallel.specs.Limits.{worker_limit};
     ghost use Rattle.traced_completion.specs.PlainRun.{IsRound, setting_of};
     ghost use Rattle.traced_completion.specs.Completions.{IsBudget, IsCompletionOf, state_of, outcome_of, rounds_after, IsUnchanged, IsUnchangedAfter};
 
@@ -86,7 +87,7 @@ impl Completion {
     ) -> Result<Step, AllocError>
         requires of_problem { IsCompletionOf problem.now self.old }
         requires some_worker { 0 < workers }
-        requires at_most_64 { workers ≤ 64 }
+        requires few_workers { workers ≤ worker_limit }
         ensures exact { IfOk result (λ step. IsRound (setting_of problem.now self.old.budget) self.old.rounds (state_of self.old) (outcome_of step (state_of self.new))) }
         ensures of_problem { IsCompletionOf problem.now self.new }
         ensures budget { self.new.budget ≡ self.old.budget }

@@ -1,6 +1,7 @@
 //! The first reductions of a round, on several threads.
 ghost use Rattle.std.specs.Prelude.{◌≡◌, ◌<◌, ◌≤◌, map, length, MatchResult, IfOk, Ok};
 ghost use Rattle.std.specs.List.{All};
+ghost use Rattle.in_order_parallel.specs.Limits.{worker_limit};
 ghost use Rattle.ambiguities.specs.Ambiguities.{IsAmbiguity};
 ghost use Rattle.traced_completion.specs.Results.{Explains, each_in_turn};
 ghost use Rattle.traced_completion.specs.Works.{first_of};
@@ -110,7 +111,7 @@ pub(crate) fn reduce_all<R: Threads + Sync, O: WordOrder + Drop + Sync, G: Gate 
 ) -> Result<Listing<First>, ReduceFault>
     requires ambiguities { All (λ w. IsAmbiguity rules.now.rules w.which) taken.now }
     requires some_worker { 0 < workers }
-    requires at_most_64 { workers ≤ 64 }
+    requires few_workers { workers ≤ worker_limit }
     ensures exact { MatchResult result (λ firsts. each_in_turn (first_of (O.compare rules.now.order) steps rules.now.rules) (ambiguities_of taken.now) ≡ Ok (map plain_first firsts))
         (Explains (each_in_turn (first_of (O.compare rules.now.order) steps rules.now.rules) (ambiguities_of taken.now))) }
     ensures kept { IfOk result (All (λ f. IsKeptFirst (O.letters rules.now.order) (length rules.now.rules) (plain_first f))) }

@@ -11,7 +11,6 @@ mod pending;
 mod reduction;
 mod rounds;
 mod second_reduction;
-mod units;
 
 pub use budget::Budget;
 pub use completion::{Completion, Step};

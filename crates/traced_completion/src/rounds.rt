@@ -1,6 +1,7 @@
 //! Rounds as far as they go, and how they are given up.
 ghost use Rattle.std.specs.Prelude.{◌≡◌, ◌<◌, ◌≤◌, ◌+◌, ◌++◌, ◌^◌, [], length, map, take, IfOk, IfErr, OnOk, OnErr, Ok};
 ghost use Rattle.std.specs.List.{All};
+ghost use Rattle.in_order_parallel.specs.Limits.{worker_limit};
 ghost use Rattle.word_core.specs.Letters.{IsOver};
 ghost use Rattle.word_orders.specs.Specified.{made_cmp, letters_of};
 ghost use Rattle.ambiguities.specs.Ambiguities.{IsAmbiguity};
@@ -20,7 +21,6 @@ ghost use Rattle.traced_completion.specs.Completions.{IsGivingUp, state_of};
 use crate::first_reductions::reduce_all;
 use crate::generators::reduce_generators;
 use crate::passes::treat_all;
-use crate::units::count_units;
 use crate::{Completion, Step, Waiting};
 use adjoint_rules::Problem;
 use ambiguities::Ambiguity;
@@ -80,13 +80,12 @@ impl Completion {
             (recorded (state_of self.old)))) }
         ensures waiting_back { OnErr result (self.new.waiting ≡ self.old.waiting) }
     {
-        let units = count_units(problem);
         let generators = problem.generators.as_slice();
         match reduce_generators(
             &mut self.rules,
             &mut self.made,
             generators,
-            units,
+            problem.unit_count,
             self.budget.steps,
         ) {
             Ok(()) => {}
@@ -111,7 +110,7 @@ impl Completion {
         requires records { HasRecords (recorded (state_of self.old)) }
         requires few { length self.old.rules.rules + count < 2 ^ 32 }
         requires some_worker { 0 < workers }
-        requires at_most_64 { workers ≤ 64 }
+        requires few_workers { workers ≤ worker_limit }
         ensures budget { self.new.budget ≡ self.old.budget }
         ensures rounds { self.new.rounds ≡ self.old.rounds }
         ensures order { self.new.rules.order ≡ self.old.rules.order }

@@ -1,3 +1,5 @@
+pub mod CanonicalLaws
+pub mod MeasuredLaws
 pub mod Order
 pub mod Overlaps
 pub mod Places

@@ -1,3 +1,4 @@
+pub mod AskedOrders
 pub mod BlockReading
 pub mod FirstFault
 pub mod Induction

@@ -4,11 +4,12 @@ use Rattle.std.specs.Option.{option_or}
 use Rattle.word_core.specs.declared.letter.Letter.{Letter}
 use Rattle.word_orders.specs.declared.fault.OrderFault.{OrderFault}
 use Rattle.word_orders.specs.declared.fault.OrderFault.TheVariants.{BadWeight, RepeatedLetter, NoSuchLetter, Memory}
+use Rattle.word_orders.specs.Limits.{weight_limit}
 use Rattle.word_orders.specs.Lists.{is_listed}
 
--- a weight is from 1 to 1,000
+-- a weight is from 1 to the limit
 abbrev pub is_weight : ℕ → Bool
-is_weight weight = nat_le 1 weight && nat_le weight 1000
+is_weight weight = nat_le 1 weight && nat_le weight weight_limit
 
 -- what is wrong with a letter, where it is known whether it is listed before
 abbrev pub letter_fault : ℕ → Bool → Letter → Option OrderFault

@@ -1,12 +1,11 @@
 pub use Rattle.word_core.specs.Canonical
 pub use Rattle.word_core.specs.Letters
-pub mod Admissible
-pub mod Rank
-pub mod Measured
+pub use Rattle.word_core.specs.Admissible
+pub use Rattle.word_core.specs.Rank
+pub use Rattle.word_core.specs.Measured
+pub mod Limits
 pub mod Lists
 pub mod Faults
 pub mod Tables
-pub mod CanonicalLaws
-pub mod MeasuredLaws
 pub mod Orders
 pub mod Specified

@@ -1,17 +1,16 @@
 -- The orders that can be asked for, and those that are made.
 use Rattle.std.specs.Prelude.{◌^◌, ℕ, List, length}
+use Rattle.std.specs.List.{sum_by, count_by}
 use Rattle.word_core.specs.Canonical.{word_cmp}
 use Rattle.word_orders.specs.declared.fault.OrderFault.{OrderFault}
 use Rattle.word_orders.specs.declared.any.OrderSpec.{OrderSpec}
 use Rattle.word_orders.specs.declared.any.OrderSpec.TheVariants as asked
 use Rattle.word_orders.specs.declared.any.AnyOrder.{AnyOrder}
 use Rattle.word_orders.specs.declared.any.AnyOrder.TheVariants as made
-use Rattle.word_orders.specs.Admissible.{Compare, IsAdmissible}
-use Rattle.word_orders.specs.CanonicalLaws.{word_cmp-admissible}
+use Rattle.word_orders.specs.Admissible.{Compare}
 use Rattle.word_orders.specs.Faults.{block_fault, entry_fault, HasNoFault, Explains}
 use Rattle.word_orders.specs.Lists.{is_listed, weight_of}
 use Rattle.word_orders.specs.Measured.{weight_cmp, weight_rank, block_cmp, block_rank}
-use Rattle.word_orders.specs.MeasuredLaws.{weight_cmp-admissible, block_cmp-admissible}
 use Rattle.word_orders.specs.Rank.{rank_of}
 use Rattle.word_orders.specs.Tables.{is_in, weight_in}
 
@@ -49,7 +48,8 @@ made_rank (made.Degree order) = rank_of (2 ^ 16)
 made_rank (made.Weight order) = weight_rank (weight_in order) (length order)
 made_rank (made.Block order) = block_rank (is_in order) (length order)
 
-pub made_cmp-admissible : (order : AnyOrder) → IsAdmissible (letters_of order) (made_cmp order) (made_rank order)
-made_cmp-admissible (made.Degree order) = word_cmp-admissible (2 ^ 16)
-made_cmp-admissible (made.Weight order) = weight_cmp-admissible (weight_in order) (length order)
-made_cmp-admissible (made.Block order) = block_cmp-admissible (is_in order) (length order)
+-- the number that it compares first
+abbrev pub made_measure : AnyOrder → List ℕ → ℕ
+made_measure (made.Degree order) word = 0
+made_measure (made.Weight order) word = sum_by (weight_in order) word
+made_measure (made.Block order) word = count_by (is_in order) word

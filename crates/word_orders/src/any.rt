@@ -1,7 +1,11 @@
 //! The order that a statement asks for, one of three.
 
-ghost use Rattle.std.specs.Prelude.{◌≡◌, ◌≤◌, ◌^◌, ℕ, List, IfOk, MatchResult};
-ghost use Rattle.word_orders.specs.Specified.{asked_cmp, IsSound, ExplainsSpec, made_cmp, letters_of, made_rank, made_cmp-admissible};
+ghost use Rattle.std.specs.Prelude.{◌≡◌, ◌≤◌, ◌^◌, ℕ, List, length, IfOk, MatchResult, refl};
+ghost use Rattle.word_orders.specs.Specified.{asked_cmp, IsSound, ExplainsSpec, made_cmp, letters_of, made_rank, made_measure};
+ghost use Rattle.word_core.proofs.CanonicalLaws.{word_cmp-admissible};
+ghost use Rattle.word_core.proofs.MeasuredLaws.{weight_cmp-admissible, block_cmp-admissible};
+ghost use Rattle.word_orders.specs.Tables.{is_in, weight_in};
+ghost use Rattle.word_orders.specs.declared.any.AnyOrder.TheVariants as made;
 
 use crate::{BlockLex, DegLex, OrderFault, WeightLex, WordOrder};
 use lists::Listing;
@@ -61,6 +65,8 @@ impl WordOrder for AnyOrder {
 
     ghost rank = { made_rank };
 
+    ghost measure_of = { made_measure };
+
     fn cmp(&self, left: &Word, right: &Word) -> Ordering {
         match self {
             AnyOrder::Degree(order) => order.cmp(left, right),
@@ -69,5 +75,23 @@ impl WordOrder for AnyOrder {
         }
     }
 
-    ghost admissible = { made_cmp-admissible };
+    fn measure(&self, word: &Word) -> u32 {
+        match self {
+            AnyOrder::Degree(order) => order.measure(word),
+            AnyOrder::Weight(order) => order.measure(word),
+            AnyOrder::Block(order) => order.measure(word),
+        }
+    }
+
+    ghost admissible = { elim [
+      | made.Degree order ↦ word_cmp-admissible (2 ^ 16)
+      | made.Weight order ↦ weight_cmp-admissible (weight_in order) (length order)
+      | made.Block order ↦ block_cmp-admissible (is_in order) (length order)
+    ] };
+
+    ghost by_measure = { elim [
+      | made.Degree order ↦ λ u v. refl
+      | made.Weight order ↦ λ u v. refl
+      | made.Block order ↦ λ u v. refl
+    ] };
 }

@@ -1,11 +1,11 @@
 //! The order of words by the numbers of letters of a block.
 
-ghost use Rattle.std.specs.Prelude.{◌≡◌, ℕ, length, replicate, set, count_by, MatchResult, IfOk, OnOk, OnErr, Some, None, true, false};
+ghost use Rattle.std.specs.Prelude.{◌≡◌, ℕ, length, replicate, set, count_by, MatchResult, IfOk, OnOk, OnErr, Some, None, true, false, refl};
 ghost use Rattle.word_orders.specs.Faults.{block_fault, Explains, HasNoFault};
 ghost use Rattle.word_orders.specs.Tables.{is_in, fault_in_block};
 ghost use Rattle.word_orders.specs.Lists.{is_listed};
 ghost use Rattle.word_orders.specs.Measured.{block_cmp, block_rank};
-ghost use Rattle.word_orders.specs.MeasuredLaws.{block_cmp-admissible};
+ghost use Rattle.word_core.proofs.MeasuredLaws.{block_cmp-admissible};
 
 use crate::{OrderFault, WordOrder};
 use std::alloc::{AllocError, Global};
@@ -102,10 +102,18 @@ impl WordOrder for BlockLex {
 
     ghost rank = { λ o. block_rank (is_in o) (length o) };
 
+    ghost measure_of = { λ o. count_by (is_in o) };
+
     fn cmp(&self, left: &Word, right: &Word) -> Ordering {
         let by_block = self.count(left).cmp(&self.count(right));
         by_block.then_with(|| left.cmp_degree(right))
     }
 
+    fn measure(&self, word: &Word) -> u32 {
+        self.count(word) as u32
+    }
+
     ghost admissible = { λ o. block_cmp-admissible (is_in o) (length o) };
+
+    ghost by_measure = { λ _ u v. refl };
 }

@@ -1,9 +1,9 @@
 //! The canonical order of words: shorter words first, and then letter by letter.
 
-ghost use Rattle.std.specs.Prelude.{◌^◌};
+ghost use Rattle.std.specs.Prelude.{◌^◌, refl};
 ghost use Rattle.word_core.specs.Canonical.{word_cmp};
 ghost use Rattle.word_orders.specs.Rank.{rank_of};
-ghost use Rattle.word_orders.specs.CanonicalLaws.{word_cmp-admissible};
+ghost use Rattle.word_core.proofs.CanonicalLaws.{word_cmp-admissible};
 
 use crate::WordOrder;
 use std::cmp::Ordering;
@@ -27,9 +27,17 @@ impl WordOrder for DegLex {
 
     ghost rank = { λ _. rank_of (2 ^ 16) };
 
+    ghost measure_of = { λ _ _. 0 };
+
     fn cmp(&self, left: &Word, right: &Word) -> Ordering {
         left.cmp_degree(right)
     }
 
+    fn measure(&self, _word: &Word) -> u32 {
+        0
+    }
+
     ghost admissible = { λ _. word_cmp-admissible (2 ^ 16) };
+
+    ghost by_measure = { λ _ u v. refl };
 }

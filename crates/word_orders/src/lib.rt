@@ -12,5 +12,5 @@ pub use any::{AnyOrder, OrderSpec};
 pub use block::BlockLex;
 pub use degree::DegLex;
 pub use fault::OrderFault;
-pub use order::WordOrder;
+pub use order::{MEASURED_LETTERS, WordOrder};
 pub use weight::{WEIGHT_LIMIT, WeightLex};

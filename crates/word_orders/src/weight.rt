@@ -1,11 +1,12 @@
 //! The order of words by the sums of their letters' weights.
 
-ghost use Rattle.std.specs.Prelude.{◌≡◌, ℕ, length, replicate, set, sum_by, MatchResult, IfOk, OnOk, OnErr, Some, None};
+ghost use Rattle.std.specs.Prelude.{◌≡◌, ◌≤◌, ◌*◌, ℕ, length, replicate, set, sum_by, MatchResult, IfOk, OnOk, OnErr, Some, None, refl};
 ghost use Rattle.word_orders.specs.Faults.{entry_fault, Explains, HasNoFault};
+ghost use Rattle.word_orders.specs.Limits.{weight_limit};
 ghost use Rattle.word_orders.specs.Tables.{weight_in, fault_in};
 ghost use Rattle.word_orders.specs.Lists.{weight_of};
 ghost use Rattle.word_orders.specs.Measured.{weight_cmp, weight_rank};
-ghost use Rattle.word_orders.specs.MeasuredLaws.{weight_cmp-admissible};
+ghost use Rattle.word_core.proofs.MeasuredLaws.{weight_cmp-admissible};
 
 use crate::{OrderFault, WordOrder};
 use std::alloc::{AllocError, Global};
@@ -25,10 +26,13 @@ pub struct WeightLex {
 
 impl Model for WeightLex {
     ghost use Rattle.std.specs.Prelude.{List, ℕ, Option};
+    ghost use Rattle.word_orders.specs.Tables.{IsWithinWeights};
 
     ghost Value = { List (Option ℕ) };
 
     ghost view = { λ o. o.weights.items };
+
+    ghost invariant = { λ o. IsWithinWeights o.weights.items };
 }
 
 impl WeightLex {
@@ -85,7 +89,8 @@ impl WeightLex {
 
     // The sum of the weights of the word's letters.
     fn sum(&self, word: &Word) -> u128
-        ensures { result ≡ sum_by (weight_in self.now) word.now }
+        ensures exact { result ≡ sum_by (weight_in self.now) word.now }
+        ensures within { result ≤ length word.now * weight_limit }
     {
         let mut sum = 0;
         for place in 0..word.len() {
@@ -96,7 +101,8 @@ impl WeightLex {
 
     // The weight of a letter.
     fn weight(&self, letter: Letter) -> u32
-        ensures { result ≡ weight_in self.now letter.0 }
+        ensures exact { result ≡ weight_in self.now letter.0 }
+        ensures within { result ≤ weight_limit }
     {
         match self.weights.get(usize::from(letter.0)) {
             Some(Some(weight)) => *weight,
@@ -112,10 +118,18 @@ impl WordOrder for WeightLex {
 
     ghost rank = { λ o. weight_rank (weight_in o) (length o) };
 
+    ghost measure_of = { λ o. sum_by (weight_in o) };
+
     fn cmp(&self, left: &Word, right: &Word) -> Ordering {
         let by_weight = self.sum(left).cmp(&self.sum(right));
         by_weight.then_with(|| left.cmp_degree(right))
     }
 
+    fn measure(&self, word: &Word) -> u32 {
+        self.sum(word) as u32
+    }
+
     ghost admissible = { λ o. weight_cmp-admissible (weight_in o) (length o) };
+
+    ghost by_measure = { λ _ u v. refl };
 }

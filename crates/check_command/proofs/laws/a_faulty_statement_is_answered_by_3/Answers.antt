@@ -1,4 +1,4 @@
-use Rattle.check_command.proofs.Laws as lemma
+use Rattle.check_command.proofs.Corollaries as lemma
 use Rattle.check_command.proofs.laws.a_faulty_statement_is_answered_by_3.Goals as goal
 
 pub returns-clause-answered : goal.returns-clause-answered

@@ -1,4 +1,4 @@
-use Rattle.check_command.proofs.Laws as lemma
+use Rattle.check_command.proofs.Corollaries as lemma
 use Rattle.check_command.proofs.laws.status_0_means_what_certificates_mean.Goals as goal
 
 pub returns : goal.returns

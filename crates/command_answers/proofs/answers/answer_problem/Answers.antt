@@ -20,4 +20,5 @@ returns-in-Refute g c = subst (λ (call : Call). EndsAs (AnswersOver call c.args
 
 pub returns-in-Bench : goal.returns-in-Bench
 returns-in-Bench g c =
-    subst (λ (call : Call). EndsAs (AnswersOver call c.args.evidence.now c.args.problem.now) c.report_claims-in-Bench.result) (sym c.in-Bench.is) c.report_claims-in-Bench.ensures
+    subst (λ (call : Call). EndsAs (AnswersOver call c.args.evidence.now c.args.problem.now) c.report_claims-in-Bench.result)
+    (sym c.in-Bench.is) c.report_claims-in-Bench.ensures

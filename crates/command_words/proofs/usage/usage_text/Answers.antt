@@ -12,4 +12,5 @@ as_written = refl
 pub returns : goal.returns
 returns c =
     let written : IfOk c.to_vec.result (λ text. text.items ≡ codes "# usage: opprove prove|check|refute|model|bench") = search rules in
-    IfOk-weaker c.to_vec.result (λ text. text.items ≡ codes "# usage: opprove prove|check|refute|model|bench") (λ text. text.items ≡ usage_text) (λ x h. h ∙ as_written) written
+    IfOk-weaker c.to_vec.result (λ text. text.items ≡ codes "# usage: opprove prove|check|refute|model|bench") (λ text. text.items ≡ usage_text)
+    (λ x h. h ∙ as_written) written

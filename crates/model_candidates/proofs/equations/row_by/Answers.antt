@@ -18,7 +18,7 @@ overflow_add-at c =
     let u = c.at_unit-item.result in
     let all = subst (All (λ entry. entry < m)) (sym c.at_unit-item.is) (c.requires.units_below c.loop-at_unit.at_unit-index u c.loop-at_unit-test.true) in
     let below : c.at.result.now < m = all_at (λ entry. entry < m) u c.args.place c.at.result.now all c.at.ensures in
-    omega (arith, below, c.requires.modulus.below)
+    omega (arith, below, c.requires.modulus.at_most)
 
 pub overflow_sub-at : goal.overflow_sub-at
 overflow_sub-at c = omega (arith, c.requires.zero_below c.args.place 0 c.requires.place)

@@ -1,4 +1,4 @@
-use Rattle.model_command.proofs.Laws as lemma
+use Rattle.model_command.proofs.Corollaries as lemma
 use Rattle.model_command.proofs.laws.confirmed_models_are_answered_by_0.Goals as goal
 
 pub returns-clause-answered : goal.returns-clause-answered

@@ -1,6 +1,6 @@
 use Rattle.std.proofs.Common.{[], rules}
 use Rattle.command_shape.specs.Judged.{Puts}
-use Rattle.command_shape.proofs.Owed.{told_alone}
+use Rattle.command_shape.proofs.Told.{told_alone}
 use Rattle.model_command.specs.Texts.{model_cause}
 use Rattle.model_command.proofs.text.model_cause.Goals as goal
 

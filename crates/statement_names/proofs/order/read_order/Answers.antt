@@ -1,6 +1,7 @@
 use Rattle.std.proofs.Common.{◌≤◌, IsTrue, All, sym, subst}
 use Rattle.quiver.specs.Declarations.{named_in}
 use Rattle.expressions.specs.Names.{is_map}
+use Rattle.word_orders.specs.Limits.{weight_limit}
 use Rattle.statement_names.specs.Faults.{value_of}
 use Rattle.statement_names.proofs.Stated.{weights_named, weights_small}
 use Rattle.statement_names.proofs.order.read_order.Goals as goal
@@ -13,5 +14,5 @@ weights_of-requires-clause-maps c =
 
 pub weights_of-requires-clause-small : goal.weights_of-requires-clause-small
 weights_of-requires-clause-small c =
-    subst (λ pairs. All (λ p. value_of p.1.value ≤ 1000) pairs) (sym c.as_slice.ensures)
+    subst (λ pairs. All (λ p. value_of p.1.value ≤ weight_limit) pairs) (sym c.as_slice.ensures)
     (weights_small c.args.statements.now c.requires.sound c.loop-statement.statement-index c.statement-item.result c.loop-statement-test.true c.statement-item.is c.in-Weight.weights c.in-Weight.is)

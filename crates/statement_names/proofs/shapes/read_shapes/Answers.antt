@@ -1,6 +1,7 @@
 use Rattle.std.proofs.Common.{◌≢◌, ◌≤◌, IsTrue, All, AllPairs, arith, sym, subst}
 use Rattle.quiver.specs.Declarations.{named_in}
 use Rattle.expressions.specs.Names.{is_object}
+use Rattle.adjoint_rules.specs.Limits.{shape_side_limit}
 use Rattle.statement_names.specs.Faults.{value_of}
 use Rattle.statement_names.proofs.Stated.{modulus_is, modulus_small, sides_named, sides_small, sides_once}
 use Rattle.statement_names.proofs.shapes.read_shapes.Goals as goal
@@ -13,7 +14,7 @@ sides_of-requires-clause-objects c =
 
 pub sides_of-requires-clause-small : goal.sides_of-requires-clause-small
 sides_of-requires-clause-small c =
-    subst (λ pairs. All (λ p. value_of p.1.value ≤ 6) pairs) (sym c.as_slice.ensures)
+    subst (λ pairs. All (λ p. value_of p.1.value ≤ shape_side_limit) pairs) (sym c.as_slice.ensures)
     (sides_small c.args.statements.now c.requires.sound c.loop-statement.statement-index c.statement-item.result c.loop-statement-test.true c.statement-item.is c.in-Shape.modulus c.in-Shape.sides c.in-Shape.is)
 
 pub sides_of-requires-clause-once : goal.sides_of-requires-clause-once

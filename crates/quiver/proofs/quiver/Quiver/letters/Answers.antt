@@ -1,5 +1,6 @@
 use Rattle.std.proofs.Common.{arith, ◌≡◌, ◌≤◌}
 use Rattle.quiver.specs.Declarations.{letter_count}
+use Rattle.quiver.specs.Limits.{letter_limit}
 use Rattle.quiver.proofs.Counts.{few_letters}
 use Rattle.quiver.proofs.Fields.{are_declared, letters_len}
 use Rattle.quiver.proofs.quiver.Quiver.letters.Goals as goal
@@ -7,8 +8,8 @@ use Rattle.quiver.proofs.quiver.Quiver.letters.Goals as goal
 count : (c : goal.After-len) → c.len.result ≡ letter_count c.args.self.now
 count c = omega (arith, c.len.ensures, letters_len c.self.inside c.args.self.now c.self.view_is c.self.invariant)
 
--- 64 identities, and two letters for each of 200 maps
-few : (c : goal.After-len) → c.len.result ≤ 464
+-- an identity for each object, and two letters for each map
+few : (c : goal.After-len) → c.len.result ≤ letter_limit
 few c =
     let declared = are_declared c.self.inside c.args.self.now c.self.view_is c.self.invariant in
     omega (arith, count c, declared.few_objects, declared.few_maps, few_letters c.args.self.now)

@@ -13,7 +13,7 @@ objects c = omega (arith, c.len-2.ensures, objects_len c.self.inside c.args.self
 pub overflow_sub-result : goal.overflow_sub-result
 overflow_sub-result c = omega (arith, declared c, objects c, objects_and_maps c.args.self.now)
 
--- 200 at most
+-- few enough for a u32
 pub overflow_cast-result : goal.overflow_cast-result
 overflow_cast-result c =
     let few = (are_declared c.self.inside c.args.self.now c.self.view_is c.self.invariant).few_maps in

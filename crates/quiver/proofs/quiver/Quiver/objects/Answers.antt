@@ -9,7 +9,7 @@ returns-clause-count c = omega (arith, c.len.ensures, objects_len c.self.inside 
 pub returns-clause-quiver : goal.returns-clause-quiver
 returns-clause-quiver c = is_quiver c.args.self.now (are_declared c.self.inside c.args.self.now c.self.view_is c.self.invariant)
 
--- 64 at most
+-- few enough for a u32
 pub overflow_cast-result : goal.overflow_cast-result
 overflow_cast-result c =
     let count = objects_len c.self.inside c.args.self.now c.self.view_is c.self.invariant in

@@ -1,4 +1,4 @@
-use Rattle.std.proofs.Common.{rules, ◌≡◌, length, map, Ok, Err, sym, subst, arith}
+use Rattle.std.proofs.Common.{rules, ◌≡◌, length, map, Ok, Err, sym, ap, subst, arith}
 use Rattle.std.specs.List.{All}
 use Rattle.word_core.specs.Letters.{IsOver}
 use Rattle.word_orders.specs.Specified.{made_cmp, letters_of}
@@ -6,7 +6,7 @@ use Rattle.rule_reduce.specs.declared.fault.ReduceFault.TheVariants.{Memory}
 use Rattle.rule_making.specs.Making.{Recorded}
 use Rattle.traced_completion.specs.declared.pending.waiting.Waiting.{Waiting}
 use Rattle.adjoint_rules.specs.Problem.{polynomials}
-use Rattle.adjoint_rules.specs.Parts.{units_in}
+use Rattle.adjoint_rules.proofs.Counted.{few_units_closed}
 use Rattle.traced_completion.specs.Works.{generator_work, InTurn, EndsWith}
 use Rattle.traced_completion.specs.UnitsFirst.{units_first}
 use Rattle.traced_completion.specs.PlainRun.{recorded}
@@ -14,16 +14,21 @@ use Rattle.traced_completion.specs.Completions.{state_of}
 use Rattle.traced_completion.specs.Pending.{IsNextStore}
 use Rattle.traced_completion.proofs.completion.Completion.try_round_zero.Goals as goal
 
+pub reduce_generators-requires-clause-units : goal.reduce_generators-requires-clause-units
+reduce_generators-requires-clause-units c =
+    let problem = c.args.problem.now in
+    let same : c.as_slice-generators.result.now ≡ problem.generators = search rules in
+    omega (arith, problem.counted, few_units_closed problem.parts problem.generators problem.closed, ap length same)
+
 pub returns-in-Err-clause-fault : goal.returns-in-Err-clause-fault
 returns-in-Err-clause-fault c =
     let old = c.args.self.now in
     let compare = made_cmp old.rules.order in
     let problem = c.args.problem.now in
     let same : c.as_slice-generators.result.now ≡ problem.generators = search rules in
-    let units : c.count_units-units.result ≡ length (units_in problem.parts) = search rules in
-    let fault : EndsWith (InTurn compare (map (generator_work compare old.budget.steps (polynomials c.as_slice-generators.result.now)) (units_first c.count_units-units.result (length c.as_slice-generators.result.now))) (recorded (state_of old))) c.in-Err.fault = search rules in
-    subst (λ n. EndsWith (InTurn compare (map (generator_work compare old.budget.steps (polynomials problem.generators)) (units_first n (length problem.generators))) (recorded (state_of old))) c.in-Err.fault) units
-    (subst (λ gs. EndsWith (InTurn compare (map (generator_work compare old.budget.steps (polynomials gs)) (units_first c.count_units-units.result (length gs))) (recorded (state_of old))) c.in-Err.fault) same fault)
+    let fault : EndsWith (InTurn compare (map (generator_work compare old.budget.steps (polynomials c.as_slice-generators.result.now)) (units_first problem.unit_count (length c.as_slice-generators.result.now))) (recorded (state_of old))) c.in-Err.fault = search rules in
+    subst (λ n. EndsWith (InTurn compare (map (generator_work compare old.budget.steps (polynomials problem.generators)) (units_first n (length problem.generators))) (recorded (state_of old))) c.in-Err.fault) problem.counted
+    (subst (λ gs. EndsWith (InTurn compare (map (generator_work compare old.budget.steps (polynomials gs)) (units_first problem.unit_count (length gs))) (recorded (state_of old))) c.in-Err.fault) same fault)
 
 pub returns-clause-next : goal.returns-clause-next
 returns-clause-next c =
@@ -39,8 +44,8 @@ returns-clause-exact c =
     let problem = c.args.problem.now in
     let after : Recorded = record { rules = c.reduce_generators.new.rules.rules; made = c.reduce_generators.new.made } in
     let same : c.as_slice-generators.result.now ≡ problem.generators = search rules in
-    subst (λ n. InTurn compare (map (generator_work compare old.budget.steps (polynomials problem.generators)) (units_first n (length problem.generators))) (recorded (state_of old)) (Ok after)) c.count_units-units.ensures.exact
-    (subst (λ gs. InTurn compare (map (generator_work compare old.budget.steps (polynomials gs)) (units_first c.count_units-units.result (length gs))) (recorded (state_of old)) (Ok after)) same c.in-Ok.ensures.exact)
+    subst (λ n. InTurn compare (map (generator_work compare old.budget.steps (polynomials problem.generators)) (units_first n (length problem.generators))) (recorded (state_of old)) (Ok after)) problem.counted
+    (subst (λ gs. InTurn compare (map (generator_work compare old.budget.steps (polynomials gs)) (units_first problem.unit_count (length gs))) (recorded (state_of old)) (Ok after)) same c.in-Ok.ensures.exact)
 
 pub returns-clause-records : goal.returns-clause-records
 returns-clause-records c = c.in-Ok.ensures.records

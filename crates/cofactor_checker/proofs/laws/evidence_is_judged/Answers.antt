@@ -1,0 +1,5 @@
+use Rattle.cofactor_checker.proofs.EvidenceJudged.{evidence_is_judged}
+use Rattle.cofactor_checker.proofs.laws.evidence_is_judged.Goals as goal
+
+pub returns : goal.returns
+returns c = evidence_is_judged

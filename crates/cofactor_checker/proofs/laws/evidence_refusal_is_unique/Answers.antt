@@ -1,0 +1,5 @@
+use Rattle.cofactor_checker.proofs.EvidenceUnique.{evidence_refusal_is_unique}
+use Rattle.cofactor_checker.proofs.laws.evidence_refusal_is_unique.Goals as goal
+
+pub returns : goal.returns
+returns c = evidence_refusal_is_unique

@@ -1,0 +1,36 @@
+//! The laws of certificates and of evidence.
+ghost use Rattle.cofactor_checker.specs.Laws.{EachCertificateIsJudged, RefusalIsUnique};
+ghost use Rattle.cofactor_checker.specs.Laws.{AcceptedEvidenceAddsUp, EvidenceRefusalIsUnique, AcceptedEvidenceIsNotRefused, EvidenceIsJudged};
+
+/// Of one certificate there is one refusal at most, apart from want of memory: so `check` answers with no
+/// other. It does nothing when it runs.
+#[tactic(auto, using(crate::proofs::Unique::refusal_is_unique))]
+pub fn refusal_is_unique()
+    ensures { RefusalIsUnique }
+{}
+
+/// Each certificate is accepted, or one of its tests is the first that fails. It does nothing when it runs.
+pub fn each_certificate_is_judged()
+    ensures { EachCertificateIsJudged }
+{}
+
+/// Evidence that passes each test adds up to the claim that it names. It does nothing when it runs.
+pub fn accepted_evidence_adds_up()
+    ensures { AcceptedEvidenceAddsUp }
+{}
+
+/// Of one evidence there is one refusal at most, apart from want of memory: so `check_evidence` answers with no
+/// other. It does nothing when it runs.
+pub fn evidence_refusal_is_unique()
+    ensures { EvidenceRefusalIsUnique }
+{}
+
+/// Evidence that passes each test is refused for want of memory alone. It does nothing when it runs.
+pub fn accepted_evidence_is_not_refused()
+    ensures { AcceptedEvidenceIsNotRefused }
+{}
+
+/// Each evidence is accepted, or one of its tests is the first that fails. It does nothing when it runs.
+pub fn evidence_is_judged()
+    ensures { EvidenceIsJudged }
+{}

@@ -1,5 +1,0 @@
-use Rattle.evidence_checker.proofs.Unique.{accepted_evidence_is_not_refused}
-use Rattle.evidence_checker.proofs.laws.accepted_evidence_is_not_refused.Goals as goal
-
-pub returns : goal.returns
-returns c = accepted_evidence_is_not_refused

@@ -1,4 +1,0 @@
-pub mod Rows
-pub mod Lemmas
-pub mod Acceptance
-pub mod Laws
