@@ -5,3 +5,4 @@ pub mod Sink
 pub mod Files
 pub mod MemoryShelf
 pub mod MemorySink
+pub mod Steady

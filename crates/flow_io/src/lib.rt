@@ -7,6 +7,8 @@ mod real_shelf;
 mod real_sink;
 mod shelf;
 mod sink;
+mod steady_shelf;
+mod steady_sink;
 
 pub use memory_shelf::MemoryShelf;
 pub use memory_sink::MemorySink;
@@ -14,3 +16,5 @@ pub use real_shelf::RealShelf;
 pub use real_sink::RealSink;
 pub use shelf::{Shelf, ShelfFault};
 pub use sink::{PutFault, Sink, SinkFault, put_all};
+pub use steady_shelf::SteadyShelf;
+pub use steady_sink::SteadySink;

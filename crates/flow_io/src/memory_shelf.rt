@@ -81,7 +81,7 @@ fn place_in(files: &[(Text, Listing<u8>)], name: &str) -> usize
 }
 
 // The bytes, or the fault that there are more than `most`.
-fn within(alloc: Global, bytes: &[u8], most: usize) -> Result<Vec<u8>, ShelfFault>
+pub(crate) fn within(alloc: Global, bytes: &[u8], most: usize) -> Result<Vec<u8>, ShelfFault>
     requires { most < usize.MAX }
     ensures { LoadAnswers (Holds bytes.now) most 0 0 result }
 {

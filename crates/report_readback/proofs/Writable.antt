@@ -14,6 +14,7 @@ use Rattle.cofactor_trace.specs.declared.evidence.Evidence.{Evidence}
 use Rattle.cofactor_trace.specs.declared.evidence.Evidence.TheVariants as evidence
 use Rattle.cofactor_trace.specs.GatheringLaws.{IsWithin, NamesWithin, NameEarlier}
 use Rattle.adjoint_rules.specs.declared.problem.Problem.{Problem}
+use Rattle.adjoint_rules.specs.Limits.{generator_limit}
 use Rattle.certificate_text.specs.Evidence.{IsRowOver}
 use Rattle.certificate_text.specs.Written.{IsLemmaOver, IsEvidenceOver}
 use Rattle.certificate_text.specs.Back.{IsWritableRow, IsWritable, number_of, IsWritableLemma, IsWritableByLemmas, IsWritableEvidence}
@@ -32,11 +33,11 @@ small (negsuc n) positive within = absurd (omega (arith, ints, positive))
 
 -- ---- names
 
-small_number : (generators lemmas : ℕ) (from : CertFrom) → IsWithin generators lemmas from → generators ≤ 1864 → lemmas ≤ 200000 → number_of from < 2 ^ 32
+small_number : (generators lemmas : ℕ) (from : CertFrom) → IsWithin generators lemmas from → generators ≤ generator_limit → lemmas ≤ 200000 → number_of from < 2 ^ 32
 small_number generators lemmas (cert.Generator n) names few few_lemmas = omega (arith, names.1, few)
 small_number generators lemmas (cert.Lemma n) names few few_lemmas = omega (arith, names.1, few_lemmas)
 
-module _ (ds : List Declaration) (generators : ℕ) (few : generators ≤ 1864) where
+module _ (ds : List Declaration) (generators : ℕ) (few : generators ≤ generator_limit) where
   -- ---- certificates of rows
 
   rows_writable : (c : Certificate) → All (IsRowWithin generators) c.rows → All (IsRowOver ds) c.rows → All (IsWritableRow ds) c.rows
