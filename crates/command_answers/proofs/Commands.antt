@@ -25,7 +25,7 @@ use Rattle.model_command.proofs.Answered.{model_owes}
 use Rattle.command_answers.specs.CallFiles.{files_of, AreContents, written_by, statement_of, evidence_of}
 use Rattle.command_answers.specs.Answers.{AnswersOver, Answers}
 use Rattle.command_answers.specs.Says.{SaysOver, Says}
-use Rattle.check_command.specs.Laws.{AnswersOnce, EachCallHasAnEnding}
+use Rattle.command_answers.specs.Laws.{AnswersOnce, EachCallHasAnEnding}
 
 -- one line a command
 call_owes : (call : Call) (statement evidence : List ℕ)
@@ -110,7 +110,7 @@ no_item (x ∷ xs) (suc place) other past = no_item xs place other (omega arith)
 -- there are as many as files
 pub are_contents : (call : Call) (contents : List (List ℕ))
     → AllZip (λ file bytes. length bytes ≤ file.limit) (files_of call) contents → AreContents call contents
-are_contents call contents fit = sym (AllZip-long (λ file bytes. length bytes ≤ file.limit) (files_of call) contents fit)
+are_contents call contents fit = AllZip-long (λ file bytes. length bytes ≤ file.limit) (files_of call) contents fit
 
 -- what is answered over the statement and the text of evidence
 pub answered : (call : Call) (contents : List (List ℕ)) (statement evidence : List ℕ) (result : Result Ending Stop)
