@@ -8,6 +8,8 @@ mod calls;
 #[cfg(test)]
 mod decided_rows;
 #[cfg(test)]
+mod direct_tests;
+#[cfg(test)]
 mod gallery_rows;
 #[cfg(test)]
 mod gate_tests;
