@@ -1,5 +1,5 @@
 #!/usr/bin/env python3
-"""The quiver of a statement as a picture: quiver.py STATEMENT [--svg | --tikz | --dot]
+"""The quiver of a statement as a picture: quiver.py STATEMENT [--tikz | --dot]
 
 Writes SVG, or a picture for a paper that loads tikz, or a graph for Graphviz, which places it anew. Objects stand on a grid,
 where a search finds their places that goes the same way each time: long arrows are dear, and those to the left or up, askew,
@@ -21,7 +21,7 @@ Cell = Tuple[int, int]  # column and row; rows go down
 Point = Tuple[float, float]
 Edge = Tuple[int, int]
 CELLS = 48  # of a grid on which crossings are looked at
-LABEL = 18  # characters in a line of names
+LABEL = 18  # characters in a line of names, unless these are very many
 
 
 class Arrow(NamedTuple):
@@ -200,9 +200,10 @@ def picture_of(problem: Problem) -> Picture:
 def label_lines(names: List[str]) -> List[str]:
     """The names with commas, in lines."""
     lines: List[str] = []
+    width = max(LABEL, 3 * isqrt(sum(map(len, names))))
     for place, name in enumerate(names):
         text = name + "," * (place + 1 < len(names))
-        if lines and len(lines[-1]) + len(text) < LABEL:
+        if lines and len(lines[-1]) + len(text) < width:
             lines[-1] += " " + text
         else:
             lines.append(text)
@@ -225,7 +226,10 @@ def longest(shown: Picture) -> int:
     return max(labels, default=0) + max(map(len, shown.objects))
 
 
-STYLE = "path{fill:none;stroke:#333}text{font:italic 14px serif;text-anchor:middle}.object{font-size:17px}"
+STYLE = (
+    ".quiver path{fill:none;stroke:#333}.quiver text{font:italic 14px serif;text-anchor:middle}"
+    ".quiver .object{font-size:17px}"
+)
 HEAD = (
     '<defs><marker id="head" viewBox="0 0 8 8" refX="7" refY="4" markerWidth="7" markerHeight="7" orient="auto">'
     '<path d="M0 0L8 4L0 8"/></marker></defs>'
@@ -302,7 +306,7 @@ def svg(shown: Picture) -> str:
     (left, right), (top, bottom) = ((min(found) - 8, max(found) + 8) for found in zip(*drawing.corners))
     box = f"{left:.0f} {top:.0f} {right - left:.0f} {bottom - top:.0f}"
     size = f'width="{right - left:.0f}" height="{bottom - top:.0f}"'
-    lines = [f'<svg xmlns="http://www.w3.org/2000/svg" viewBox="{box}" {size}>', HEAD, f"<style>{STYLE}</style>"]
+    lines = [f'<svg class="quiver" xmlns="http://www.w3.org/2000/svg" viewBox="{box}" {size}>', HEAD, f"<style>{STYLE}</style>"]
     return "\n".join([*lines, *drawing.parts, "</svg>"]) + "\n"
 
 
@@ -344,11 +348,12 @@ def main(words: List[str]) -> int:
     """Writes the picture, or one line on standard error, and gives the status."""
     paths = [word for word in words if word[:2] != "--"]
     options = [word for word in words if word[:2] == "--"]
-    writers: Dict[str, Callable[[Picture], str]] = {"--svg": svg, "--tikz": tikz, "--dot": dot}
+    writers: Dict[str, Callable[[Picture], str]] = {"--tikz": tikz, "--dot": dot}
     try:
         if len(paths) != 1 or len(options) > 1 or not writers.keys() >= {*options}:
             raise Refusal("# usage: quiver.py STATEMENT [--tikz | --dot]")
-        text = writers[(options or ["--svg"])[0]](picture_of(Problem(paths[0])))
+        write = writers[options[0]] if options else svg
+        text = write(picture_of(Problem(paths[0])))
     except (Refusal, MemoryError) as refusal:
         line = str(refusal) or "# no memory"
         sys.stderr.buffer.write(f"{line}\n".encode("utf-8", "surrogateescape"))
