@@ -35,18 +35,18 @@ Import ListNotations.
 Local Open Scope positive_scope.
 Local Open Scope hom_scope."""
 
-Said = NamedTuple("Said", [("ends", Optional[Signature]), ("text", str), ("level", int), ("term", str)])
 # An expression: how a theorem says it, at which level of Coq's grammar, and as the checker reads it.
+Said = NamedTuple("Said", [("ends", Optional[Signature]), ("text", str), ("level", int), ("term", str)])
 Equation = NamedTuple("Equation", [("ends", Signature), ("text", str), ("term", str)])
 Fitted = NamedTuple("Fitted", [("row", Row), ("middle", Signature)])  # the signature of what stands between the words
-Piece = Tuple[int, Signature]  # of a lemma, by its number: what has this signature
+Piece = Tuple[int, Signature]  # of a lemma, by its number: the part with this signature
 
 
 def is_read(name: str) -> bool:
     """Whether Coq surely reads a name: its letters are of Unicode 3.2, and still letters."""
+    categories = (unicodedata.category, unicodedata.ucd_3_2_0.category)
     signs = [sign for sign in name if not sign.isascii()]
-    tables = (unicodedata.ucd_3_2_0, unicodedata)
-    return all(sign < "\U0002f800" and table.category(sign) in ("Lu", "Ll", "Lo") for sign in signs for table in tables)
+    return all(sign < "\U0002f800" and all(of(sign) in ("Lu", "Ll", "Lo") for of in categories) for sign in signs)
 
 
 class Names:
@@ -223,14 +223,17 @@ class Rows:
     their adjoints, and then the lemmas."""
 
     def __init__(self, statement: Statement) -> None:
-        self.problem, self.names = statement.problem, statement.names
-        self.claims = statement.claims
+        self.problem, self.names, self.claims = statement.problem, statement.names, statement.claims
         problem, count = self.problem, len(self.problem.assumptions)
         self.generators = problem.generators()
         self.numbers = list(range(1, count + 1))  # of the first generators; the others are relations of identities
         for number, poly in enumerate(problem.assumptions if problem.is_starred else [], count + 1):
             self.numbers += [number] * (problem.star(poly) not in (poly, add({}, -1, poly)))
         self.first_lemma = (2 if problem.is_starred else 1) * count + 1
+        self.letters: Dict[int, int] = {}  # 2 n for the map n, counted from 1, and 2 n + 1 for its adjoint
+        for number, letter in enumerate(self.names.maps, 1):
+            self.letters[problem.stars[letter]] = 2 * number + 1
+            self.letters[letter] = 2 * number
 
     def ends_of(self, word: Word) -> Optional[Signature]:
         """The signature of a word that isn't empty, if it is a path."""
@@ -285,10 +288,8 @@ class Rows:
         return texts
 
     def word(self, word: Word) -> str:
-        """The letters but for identities: 2 n for the map n, counted from 1, and 2 n + 1 for its adjoint."""
-        stars, place, objects = self.problem.stars, self.names.place, set(self.names.objects)
-        maps = [letter for letter in word if letter not in objects]
-        return "[" + "; ".join(str(2 * place[a] + 2 if a in place else 2 * place[stars[a]] + 3) for a in maps) + "]"
+        """The letters but for identities."""
+        return "[" + "; ".join(str(self.letters[letter]) for letter in word if letter in self.letters) + "]"
 
     def definitions(self, tag: str, certificate: Certificate) -> Iterator[str]:
         pieces, goal = self.shares(certificate)
