@@ -73,7 +73,7 @@ def is_sum_of(statement: Path, evidence: Path) -> bool:
 def library(coq: Coq) -> str:
     answer, seconds = coq.compile("coq/Opprove.v")
     need(answer == Answer(0, "", "") and seconds < 30, (answer, seconds))
-    return f"Opprove.v is accepted in {seconds:.1f} s"
+    return f"Opprove.v is accepted by Coq {run('coqc', '-print-version').out.split()[0]} in {seconds:.1f} s"
 
 
 # ---- The examples
@@ -141,6 +141,25 @@ def changes(coq: Coq) -> str:
     need(count >= 60 and count - same - refused >= 60, (count, same, refused))
     others = count - same - refused
     return f"{count} changed certificates: {others} are answered by Coq as by check.py, {refused} not exported, {same} the same proof"
+
+
+OTHERS = [  # than what is proved of pseudoinverses
+    ("  x = y.", "  x = 0."), ("  x = y.", "  y = x."), ("(x y : V ⟶ U)", "(y x : V ⟶ U)"),
+    ("  (h4 : (x ∘ a)† = x ∘ a)\n", ""), ("(h2 : x ∘ a ∘ x", "(h2 : x ∘ a ∘ y"), ("(h7 : (a ∘ y)†", "(h7 : a ∘ y"),
+]  # fmt: skip
+
+
+def theorems(coq: Coq) -> str:
+    """A theorem that says something else than its certificate proves is refused, at its end."""
+    text = (CONTRIB / "examples" / "pseudoinverses.v").read_text(encoding="utf-8")
+    for old, new in OTHERS:
+        need(text.count(old) == 1, old)
+        path = coq.folder / "theorem.v"
+        path.write_text(text.replace(old, new), encoding="utf-8")
+        answer, _ = coq.compile(path.name)
+        ends = [number for number, line in enumerate(path.read_text(encoding="utf-8").split("\n"), 1) if line == "Qed."]
+        need(answer.status == 1 and f", line {ends[0]}, " in answer.error and "\nError:" in answer.error, (old, new, answer))
+    return f"{len(OTHERS)} changed theorems are refused"
 
 
 # ---- Statements of all kinds
@@ -355,7 +374,7 @@ def matrices(coq: Coq) -> str:
     return "Matrices.v and Uses.v are accepted, and the stored exports"
 
 
-CHECKS: List[Callable[[Coq], str]] = [library, examples, stored_exports, changes, kinds, proofs, many_rows, matrices]
+CHECKS: List[Callable[[Coq], str]] = [library, examples, stored_exports, changes, theorems, kinds, proofs, many_rows, matrices]
 
 
 def main() -> int:
