@@ -203,7 +203,7 @@ def bad_input(folder: Path) -> str:
 
 # ---- The other tools
 
-TRANSLATIONS = {"singular": ".sing", "sympy": "_sympy.py", "latex": ".tex"}
+TRANSLATIONS = {"singular": ".sing", "sympy": "_sympy.py", "latex": ".tex", "coq": ".v"}
 
 
 def translations() -> str:
