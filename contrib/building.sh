@@ -35,8 +35,10 @@ sources() {
 # those that stand on it; behind each the seconds that it takes by itself, and the crates that it stands on. The seconds are those of
 # the table in docs/ARCHITECTURE.md, on whose figures the lines of code were fitted; the program's go into compiling and linking.
 closure() {
-  (cd "$top" && awk 'FNR == 1 { split(FILENAME, parts, "/") } { lines[parts[2]]++ } END { for (crate in lines) print crate, lines[crate] }' \
-    crates/*/src/*.rt) | awk '
+  (cd "$top" && awk '
+    FNR == 1 { split(FILENAME, parts, "/") }
+    { lines[parts[2]]++ }
+    END { for (crate in lines) print crate, lines[crate] }' crates/*/src/*.rt) | awk '
     NR == FNR { lines[$1] = $2; next }
     /^[a-z]/ { split($0, halves, ":"); split(halves[1], front, " "); below[front[1]] = halves[2]; known[front[1]] = 1 }
     function visit(crate,  names, count, i, line) {
@@ -119,7 +121,9 @@ foretell() {
     END {
       for (;;) {
         for (i = 1; i <= NR && running < slots; i++)
-          if (state[name[i]] == "waiting" && is_ready(name[i])) { state[name[i]] = "running"; ends[name[i]] = now + left[name[i]]; running++ }
+          if (state[name[i]] == "waiting" && is_ready(name[i])) {
+            state[name[i]] = "running"; ends[name[i]] = now + left[name[i]]; running++
+          }
         first = ""
         for (i = 1; i <= NR; i++) if (state[name[i]] == "running" && (first == "" || ends[name[i]] < ends[first])) first = name[i]
         if (first == "") break
@@ -131,14 +135,16 @@ foretell() {
 
 # Says at once what will happen.
 announce() {
-  local kept=${#is_kept[@]}
+  local kept
+  read_crates
+  count_slots
+  kept=${#is_kept[@]}
   left=$(foretell)
   say "${#crates[@]} crates are proved and the program is built first, once for the present sources: about $(minutes "$left") here$(
     ((kept)) && echo " ($kept of them are proved already)" || echo ' (43 on a busy machine of 4 processors)')"
-  say "./unproved WORDS answers within a minute and a half, with nothing behind its answer but the code; Ctrl-C loses nothing that is proved"
-  if ((slots < wanted)); then
-    say "$slots crate$( ((slots == 1)) || echo s) $( ((slots == 1)) && echo is || echo are) proved side by side, and not $wanted: each may take 3 GB, and $free GB of memory are free"
-  fi
+  say "./unproved WORDS answers within a minute and a half, with nothing behind it but the code; Ctrl-C loses nothing that is proved"
+  ((slots == wanted)) ||
+    say "side by side are proved $slots at most, and not $wanted, for want of memory: each may take 3 GB, and ${free:-?} GB are free"
 }
 
 # How far it is: on a terminal a line that is rewritten, with a bar and with rt's own count of functions where its log has one; else a
@@ -177,7 +183,8 @@ furnish() {
   done
   mkdir -p "$room/crates/$1/out" &&
     (cd "$top" && "${copy[@]}" --parents "${parts[@]}" "$room") &&
-    awk -v names=" $1 ${!is_proved[*]} " '{ split($0, words, /[ :]/) } index(names, " " words[1] " ")' "$top/crates.txt" >"$room/crates.txt" &&
+    awk -v names=" $1 ${!is_proved[*]} " '{ split($0, words, /[ :]/) } index(names, " " words[1] " ")' \
+      "$top/crates.txt" >"$room/crates.txt" &&
     { [ ! -d "$top/crates/$1/out/incremental" ] || mv "$top/crates/$1/out/incremental" "$room/crates/$1/out"; }
 }
 
@@ -186,7 +193,8 @@ vacate() {
   local part
   [ -d "$rooms/$1" ] || return 0
   for part in rlib incremental; do
-    [ ! -d "$rooms/$1/crates/$1/out/$part" ] || { rm -rf "$top/crates/$1/out/$part" && mv "$rooms/$1/crates/$1/out/$part" "$top/crates/$1/out"; }
+    [ ! -d "$rooms/$1/crates/$1/out/$part" ] ||
+      { rm -rf "$top/crates/$1/out/$part" && mv "$rooms/$1/crates/$1/out/$part" "$top/crates/$1/out"; }
   done
   rm -rf "${rooms:?}/$1"
 }
@@ -198,7 +206,8 @@ start() {
   { mkdir -p "${log%/*}" && : >"$log"; } 2>/dev/null || return
   # A process group of its own, which is ended as one, and which an interrupt of the terminal doesn't reach.
   set -m
-  (trap - INT TERM HUP PIPE && { [ "$task" = run ] || furnish "$1"; } && cd "$folder" && exec rt "$task" --jobs "$2" </dev/null) >"$log" 2>&1 9>&- &
+  (trap - INT TERM HUP PIPE && { [ "$task" = run ] || furnish "$1"; } && cd "$folder" &&
+    exec rt "$task" --jobs "$2" </dev/null) >"$log" 2>&1 9>&- &
   process[$1]=$!
   set +m
   began[$1]=$SECONDS
@@ -225,10 +234,15 @@ interrupted() {
   exit 1
 }
 
+# Whether the disk takes some more.
+has_room() {
+  { printf '%65536s' '' >"$out/opprove.room" && rm -f "$out/opprove.room"; } 2>/dev/null || { rm -f "$out/opprove.room" && false; }
+}
+
 # Says in one line why something could not be written or proved, and what to do.
 fail() {
   local log=$top/crates/$1/out/opprove.log
-  if ! { : >"$out/opprove.room" && printf '%65536s' '' >"$out/opprove.room"; } 2>/dev/null || grep -qs 'No space left on device' "$log"; then
+  if ! has_room || grep -qs 'No space left on device' "$log"; then
     say "the disk of $(cd "$top" && pwd) is full, or may not be written: make room and call again, which goes on with what is proved"
   elif ! command -v rt >/dev/null; then
     say "rt isn't found any more: call again with the bin folder of a Rattle kit in PATH"
@@ -238,7 +252,6 @@ fail() {
     [ ! -s "$log" ] || tail -n 20 "$log" >&2
     say "$1 could not be proved; the whole log is $log"
   fi
-  rm -f "$out/opprove.room"
 }
 
 # Whether the program is there and whole: with no words it answers by its line of usage.
@@ -293,10 +306,7 @@ take_ended() {
 
 # Proves the crates as processors and memory allow, and links the program.
 prove() {
-  local name rooms slots wanted free load left=0 told_at=$SECONDS told_of=0 copy=(cp -al)
-  read_crates
-  count_slots
-  announce
+  local name rooms told_at=$SECONDS told_of=0 copy=(cp -al)
   rooms=$(cd "$top" && pwd)/.git/opprove-rooms
   [ -d "$top/.git" ] || rooms=$(mktemp -d) || return
   { rm -rf "$rooms" && mkdir -p "$rooms"; } 2>/dev/null || { fail opprove; return 1; }
@@ -315,24 +325,32 @@ prove() {
 # One run proves at a time, and others wait for what it builds.
 lock() {
   { mkdir -p "$out" && exec 9>"$out/opprove.lock"; } 2>/dev/null || { fail opprove; return 1; }
-  command -v flock >/dev/null || { say "flock isn't found, by which one run proves at a time: install util-linux, and call again"; return 1; }
+  command -v flock >/dev/null ||
+    { say "flock isn't found, by which one run proves at a time: install util-linux, and call again"; return 1; }
   flock -n 9 || { say "waiting for another run that proves the program" && flock 9; }
 }
 
 # Proves and builds the program for the present sources. A second round looks whether a source was changed meanwhile.
 build() {
-  local version present stamp
+  local version present stamp slots wanted free load left
   for _ in 1 2 3; do
     ! is_current || return 0
     if ! { version=$(kit_file) && [ -f "$version" ]; } 2>/dev/null; then
       say "rt isn't found, which proves and builds the program: put the bin folder of a Rattle kit in PATH, and call again"
       return 1
     fi
-    { : >"$out/opprove.started" && present=$(sources); } 2>/dev/null || { fail opprove; return 1; }
+    { : >"$out/opprove.started"; } 2>/dev/null || { fail opprove; return 1; }
+    # With no program it is said before the checksum is made, which takes a moment.
+    if [ ! -x "$program" ] || [ ! -f "$built_for" ]; then
+      rm -f "$program" "$built_for"
+      announce
+    fi
+    present=$(sources 2>/dev/null) || { say "the sources could not be read"; return 1; }
     stamp=$version$'\n'$(<"$version")$'\n'$present
-    if [ -x "$program" ] && [ "$(cat "$built_for" 2>/dev/null)" = "$stamp" ]; then
+    if [ -f "$built_for" ] && [ "$(<"$built_for")" = "$stamp" ]; then
       touch -r "$out/opprove.started" "$built_for"
     else
+      [ ! -f "$built_for" ] || announce
       rm -f "$program" "$built_for"
       prove || return
       { echo "$stamp" >"$built_for.new" && mv "$built_for.new" "$built_for"; } 2>/dev/null || { fail opprove; return 1; }

@@ -64,5 +64,8 @@ awk -v command="${1:-}" -v width="$((width < 120 ? width : 120))" '
     }
     text = ""
   }
-  END { if (inside && rows) write_table(); if (command == "") print "\n./opprove help COMMAND tells of one; docs/COMMANDS.md has all, with examples, and what each outcome means." }
+  END {
+    if (inside && rows) write_table()
+    if (command == "") print "\n./opprove help COMMAND tells of one; docs/COMMANDS.md has all, with examples and what each outcome means."
+  }
 ' "$page"

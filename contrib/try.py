@@ -19,6 +19,8 @@ from typing import Callable, Iterator, List, Tuple
 sys.dont_write_bytecode = True
 import measure
 import try_models
+import try_opprove
+import try_why
 from trying import CONTRIB, EXAMPLES, PROGRAM, Answer, Failed, Skipped, installed, need, run
 
 # ---- The two checkers
@@ -304,7 +306,7 @@ def gate_time() -> str:
 
 
 def main(words: List[str]) -> int:
-    """Tries the second checkers and the second search, and, but for the word `checker`, all other tools."""
+    """Tries all tools; with the word `checker` the second checkers and the second search alone, and with `words` why.py and ./opprove."""
     with tempfile.TemporaryDirectory() as name:
         folder = Path(name)
         checker: List[Callable[[], str]] = [
@@ -317,7 +319,8 @@ def main(words: List[str]) -> int:
             shell("bash", "opprove.bash"), shell("zsh", "_opprove"), shell("fish", "opprove.fish"),
             lambda: vim(folder), grammars, lambda: plain(folder), gate_time,
         ]  # fmt: skip
-        for check in checker if words == ["checker"] else checker + others:
+        told: List[Callable[[], str]] = [functools.partial(check, folder) for check in try_why.CHECKS + try_opprove.CHECKS]
+        for check in {"checker": checker, "words": told}.get("".join(words), checker + others + told):
             try:
                 print(f"contrib: {check()}", flush=True)
             except Skipped as what:

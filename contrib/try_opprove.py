@@ -111,9 +111,8 @@ class Checkout:
 
 def redirected(checkout: Checkout, *words: str, **more: str) -> Seen:
     start = time.monotonic()
-    done = subprocess.run(
-        checkout.command(*words), cwd=checkout.top, env=checkout.environment(more), stdin=subprocess.DEVNULL, capture_output=True, timeout=60
-    )
+    how = {"cwd": checkout.top, "env": checkout.environment(more), "stdin": subprocess.DEVNULL}
+    done = subprocess.run(checkout.command(*words), **how, capture_output=True, timeout=60)
     return Seen(done.returncode, done.stdout.decode(), done.stderr.decode(), time.monotonic() - start, 0)
 
 
@@ -180,8 +179,7 @@ def answers(folder: Path) -> str:
         need((seen.status, seen.out) == (3, REFUSED), seen)
         need("    claim b = a\n          ^\nS6: 'b' is not declared (did you mean 'a' or 'y'?)\n" in seen.terminal, seen)
         need("\033[" in on_terminal(checkout, "prove", "s.op").terminal, "colour")
-        for quiet in (on_terminal(checkout, "prove", "s.op", OPPROVE_QUIET="1"), on_terminal(checkout, "proved"), redirected(checkout, "prove", "s.op")):
-            need(quiet.terminal == "", quiet)
+        need(on_terminal(checkout, "proved").terminal == "", "words on a claim that is proved")
         failing = [('exec "$0" "$@" >&-', 5), ('exec "$0" "$@" >/dev/full', 5)]
         for shell, status in failing:
             seen = on_terminal(checkout, "prove", "s.op", shell=shell)
@@ -210,7 +208,8 @@ def help_of(folder: Path) -> str:
         for name in ("prove", "check", "refute", "model", "bench"):
             need(f"\n  {name} " in seen.out, (name, seen))
             one = redirected(checkout, "help", name)
-            need(one.status == 0 and one.out.startswith(f"./opprove {name} ") and len(one.out.split("\n")) <= 30 and "`" not in one.out, one)
+            need(one.status == 0 and one.out.startswith(f"./opprove {name} ") and "`" not in one.out, one)
+            need(one.out.count("\n") <= 24, one)
         other = redirected(checkout, "help", "prov")
         need(other.status == 2 and not other.out and other.terminal.count("\n") == 1, other)
         need(not (checkout.top / "crates" / "opprove" / "out").exists(), "help builds nothing")
@@ -233,7 +232,7 @@ def first_run(folder: Path) -> str:
     with checkout_in(folder) as checkout:
         seen = on_terminal(checkout, "proved", OPPROVE_JOBS="400", STEP="0.1")
         need(seen.status == 0 and seen.terminal.count("\r[") > 3 and seen.terminal.count("\n") <= 6, seen)
-        need("side by side, and not 400: each may take 3 GB" in seen.terminal, seen)
+        need("and not 400, for want of memory: each may take 3 GB" in seen.terminal, seen)
         need("#" in seen.terminal and "of 5 crates" in seen.terminal and "/10)" in seen.terminal, seen)
     return f"a first run foretells and tells how far it is, its first line after {seen.first:.1f} seconds"
 

@@ -18,7 +18,7 @@ sys.dont_write_bytecode = True
 import why
 import why_statement
 from check import Problem, Refusal
-from trying import CONTRIB, EXAMPLES, PROGRAM, Answer, Failed, Skipped, need, run
+from trying import CONTRIB, EXAMPLES, PROGRAM, TOP, Answer, Skipped, installed, need, run
 from why_parts import Screen, Told, on_screen
 
 CASES = CONTRIB / "examples" / "words.txt"
@@ -164,6 +164,54 @@ def need_caret(lines: List[str], text: str, column: int) -> None:
     need(lines[2].rstrip() == " " * want + "^", (lines, text, column))
 
 
+# ---- The line for editors
+
+FAULTY = "object U\nmap é a : U -> U\nclaim\té b = a\n"
+STAND_IN = "#!/bin/sh\necho '# refused S6 line 3 column 9'\nexit 3\n"
+SENTENCE = "S6: 'b' is not declared (did you mean 'a' or 'é'?)"
+
+
+def editor(folder: Path) -> str:
+    """The line counts characters, and with --bytes bytes; Vim, where it is installed, goes to that place."""
+    statement, program = folder / "faulty.op", folder / "stand-in.sh"
+    statement.write_text(FAULTY)
+    program.write_text(STAND_IN)
+    program.chmod(0o755)
+    with set_program(program):
+        for words, column in ((["--editor"], 9), (["--editor", "--bytes"], 10)):
+            answer = run(sys.executable, CONTRIB / "why.py", *words, statement)
+            need(answer == Answer(3, f"{statement}:3:{column}: error: {SENTENCE}\n", ""), answer)
+        try:
+            vim(folder, statement)
+        except Skipped as what:
+            return f"a fault is told to editors by its line and column; {what}"
+    return "a fault is told to editors by its line and column, and vim goes there"
+
+
+@contextlib.contextmanager
+def set_program(path: Path) -> Iterator[None]:
+    before = os.environ.get("OPPROVE_PROGRAM")
+    os.environ["OPPROVE_PROGRAM"] = str(path)
+    try:
+        yield
+    finally:
+        os.environ.pop("OPPROVE_PROGRAM")
+        os.environ.update({} if before is None else {"OPPROVE_PROGRAM": before})
+
+
+def vim(folder: Path, statement: Path) -> None:
+    """Runs it as README has it, and looks where the cursor is."""
+    steps = [
+        f"set makeprg={sys.executable}\\ {CONTRIB}/why.py\\ --editor\\ --bytes\\ %", "set errorformat=%f:%l:%c:\\ error:\\ %m",
+        f"edit {statement}", "silent make", "call writefile([line('.') . ' ' . col('.') . ' ' . getqflist()[0].text], 'cursor')",
+        "quitall!",
+    ]  # fmt: skip
+    words = [word for step in steps for word in ("-c", step)]
+    run(installed("vim"), "-u", "NONE", "-es", "--cmd", "set nocompatible", *words, folder=folder)
+    found = folder / "cursor"
+    need(found.exists() and found.read_text() == f"3 10 {SENTENCE}\n", found.exists() and found.read_text())
+
+
 # ---- Checks
 
 
@@ -177,11 +225,14 @@ def stored_words(folder: Path) -> str:
                 by_both += 1
             need(told(case) == case.told, (case.name, told(case)))
     codes = {match for case in found for match in re.findall("^([A-Z][0-9]+): ", case.told, re.MULTILINE)}
-    codes_of_docs = set(re.findall(r"^\|(?: [0-9] \|)? (?:`# block B refused )?([SKCM][0-9]+)\b", (CONTRIB.parent / "docs" / "FORMATS.md").read_text(), re.MULTILINE))
-    need(codes == codes_of_docs, (codes ^ codes_of_docs))
+    page = (TOP / "docs" / "FORMATS.md").read_text()
+    of_page = set(re.findall(r"^\|(?: [0-9] \|)? (?:`# block B refused )?([A-Z][0-9]+)\b", page, re.MULTILINE))
+    need(codes == of_page, codes ^ of_page)
     need({case.status for case in found} == {0, 2, 3, 4, 5, 6, 7, 10, 11, 12, 13}, "statuses")
     return f"{len(found)} answers are told in the words that are stored, {by_both} of them as opprove gives them"
 
+
+CHECKS: List[Callable[[Path], str]] = [stored_words, edits, editor]
 
 if __name__ == "__main__":
     import tempfile
@@ -189,5 +240,5 @@ if __name__ == "__main__":
     with tempfile.TemporaryDirectory() as name:
         if sys.argv[1:] == ["--write"]:
             write(Path(name))
-        print(stored_words(Path(name)))
-        print(edits(Path(name)))
+        for check in CHECKS:
+            print(check(Path(name)))

@@ -15,6 +15,7 @@ The program is that of this checkout, or the one that OPPROVE_PROGRAM names. NO_
 from __future__ import annotations
 
 import os
+import re
 import signal
 import subprocess
 import sys
@@ -22,7 +23,6 @@ from typing import List, NamedTuple, Optional, Tuple
 
 if __name__ == "__main__":
     signal.signal(signal.SIGINT, signal.SIG_DFL)  # an interrupt ends it with no word
-sys.dont_write_bytecode = True
 import why_calls
 import why_evidence
 import why_outcomes
@@ -76,9 +76,8 @@ def told_of_report(call: why_calls.Call, report: str) -> List[Told]:
     lines = report.split("\n")
     last = lines[-2] if len(lines) > 1 else ""
     statement = why_statement.Statement(*files[0]) if files else None
-    if statement and call.command in ("check", "model"):
-        kind = "certificate" if call.command == "check" else "model"
-        text = why_evidence.Text(files[1][0], files[1][1], kind)
+    if statement and call.command in why_evidence.READS:
+        text = why_evidence.Text(files[1][0], files[1][1], why_evidence.READS[call.command])
         refused = why_statement.told_of(*files[0], last) or why_evidence.told_of(statement, text, last)
         return why_outcomes.told_of_blocks(text, report) + ([refused] if refused else [])
     refused = why_statement.told_of(*files[0], last) if files else None
@@ -99,7 +98,7 @@ def content(name: str) -> bytes:
 def run_and_pass(words: List[str]) -> Answer:
     """Runs the program, and writes its report where its own would go. What fails there fails as it does for the program."""
     try:
-        program = subprocess.Popen([PROGRAM, *words], stdout=None if sys.stdout is None else subprocess.PIPE)
+        program = subprocess.Popen([PROGRAM, *words], stdout=None if sys.stdout is None else subprocess.PIPE, close_fds=False)
     except OSError as error:
         raise SystemExit(told_failure(error)) from None
     hand_on_signals(program)
@@ -155,7 +154,9 @@ def asked_again(words: List[str], status: int) -> Answer:
     if status in (2, 5, 6) or any(os.path.exists(name) and not os.path.isfile(name) and not os.path.isdir(name) for name in files):
         return Answer(status, None)
     try:
-        again = subprocess.run([PROGRAM, *words], stdout=subprocess.PIPE, stderr=subprocess.DEVNULL, timeout=2 * SECONDS)
+        again = subprocess.run(
+            [PROGRAM, *words], stdout=subprocess.PIPE, stderr=subprocess.DEVNULL, timeout=2 * SECONDS, close_fds=False
+        )
     except (OSError, subprocess.TimeoutExpired):
         return Answer(status, None)
     return Answer(status, again.stdout.decode(errors="surrogateescape") if again.returncode == status else None)
@@ -217,7 +218,7 @@ def editor(words: List[str]) -> int:
     if len(files) not in (1, 2):
         say("why.py: --editor takes a statement, and evidence where there is some")
         return 2
-    call = ["check", *files] if len(files) == 2 else ["prove", files[0], "--no-models", "--pairs", "1"]
+    call = [reader_of(files[1]), *files] if len(files) == 2 else ["prove", files[0], "--no-models", "--pairs", "1"]
     try:
         done = subprocess.run([PROGRAM, *call], stdout=subprocess.PIPE)
     except OSError as error:
@@ -230,6 +231,13 @@ def editor(words: List[str]) -> int:
     column = len(text[: column - 1].encode(errors="surrogateescape")) + 1 if in_bytes else column
     sys.stdout.buffer.write(f"{path}:{line}:{column}: error: {told.sentence}\n".encode(errors="surrogateescape"))
     return done.returncode
+
+
+def reader_of(evidence: str) -> str:
+    """The command that reads it: model where it has models alone."""
+    data = content(evidence)
+    has = [re.search(rb"^[ \t]*%s[ \t]" % kind, data, re.MULTILINE) for kind in (b"model", b"certificate")]
+    return "model" if has[0] and not has[1] else "check"
 
 
 def ended(status: int) -> int:

@@ -6,7 +6,7 @@ import re
 import shlex
 from typing import Dict, List, NamedTuple, Optional, Tuple
 
-from why_parts import Told, counted, did_you_mean, listed, near, quoted
+from why_parts import Told, counted, did_you_mean, is_are, listed, near, quoted
 
 Span = Tuple[int, int]
 OPTIONS: Dict[str, Span] = {
@@ -111,8 +111,8 @@ def operands_fault(call: Call) -> str:
     wanted, given = COMMANDS[call.command].operands, call.operands
     if len(given) != len(wanted):
         noun = "number" if call.command == "bench" else "file"
-        more = f": {listed(quoted(given))}" if given else ""
-        return f"{call.command} takes {counted(len(wanted), noun)}, and {counted(len(given), 'word').replace('0 words', 'none')} {'is' if len(given) < 2 else 'are'} given{more}"
+        told = f"{counted(len(given), 'word')} {is_are(len(given))} given: {listed(quoted(given))}" if given else "none is given"
+        return f"{call.command} takes {counted(len(wanted), noun)}, and {told}"
     return number_fault("bench", given[0], (1, 60)) if call.command == "bench" else ""
 
 
@@ -122,7 +122,8 @@ def operands_fault(call: Call) -> str:
 def words(call: Call) -> List[Told]:
     first = call.words[0] if call.words else ""
     if first in ("--help", "-h", "--version", "-V", "help"):
-        return [Told(f"'{first}' is answered by the line of usage; ./opprove help tells of the commands, and ./opprove help COMMAND of one")]
+        told = f"'{first}' is answered by the line of usage; ./opprove help tells of the commands, and ./opprove help COMMAND of one"
+        return [Told(told)]
     forms = [form(call.command)] if call.command else [form(name) for name in COMMANDS]
     wrong = call.wrong or "these words are no call"
     return [Told(f"status 2: {wrong}", None, ("  " + "\n  ".join(forms), "./opprove help tells more"))]
@@ -151,7 +152,8 @@ def why_not(name: str) -> str:
     if not os.path.isdir(folder or "."):
         return f"there is no folder '{folder}' in {os.getcwd()}"
     found = near_file(base, os.listdir(folder or "."))
-    return f"there is no file '{name}' in {os.getcwd()}" + (f" (did you mean {listed(quoted(os.path.join(folder, it) for it in found), 'or')}?)" if found else "")
+    others = listed(quoted(os.path.join(folder, other) for other in found), "or")
+    return f"there is no file '{name}' in {os.getcwd()}" + (f" (did you mean {others}?)" if found else "")
 
 
 def near_file(name: str, names: List[str]) -> List[str]:
@@ -167,7 +169,7 @@ def not_put(call: Optional[Call] = None) -> List[Told]:
 
 def no_memory(call: Optional[Call] = None) -> List[Told]:
     more = (
-        "More memory may do, or fewer runs side by side, or a higher `ulimit -v` where one is set. A short file can ask for much, since its expressions are multiplied"
-        " out: docs/COMMANDS.md, \"What a statement can cost\", has what they take."
+        "More memory may do, or fewer runs side by side, or a higher `ulimit -v` where one is set. A short file can ask for much,"
+        " since its expressions are multiplied out: docs/COMMANDS.md, \"What a statement can cost\", has what they take."
     )
     return [Told("status 6: there was no memory, and nothing was written", None, (more,))]

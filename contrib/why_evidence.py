@@ -13,6 +13,10 @@ LARGE = 400000  # bytes: sums of larger evidence are not made again
 ROW, LEMMA_ROW = "`row C (LETTERS) G (LETTERS)`", "`row C (LETTERS) lemma K (LETTERS)`"
 
 
+READS = {"check": "certificate", "model": "model"}  # the blocks that a command reads
+OTHERS = {"certificate": ("model", "basis"), "model": ("certificate", "basis")}  # those that are skipped then
+
+
 class Entry(NamedTuple):
     """A line of evidence that isn't skipped."""
 
@@ -32,7 +36,7 @@ class Text:
         self.entries = list(self.read())
 
     def read(self) -> Iterator[Entry]:
-        others = {"certificate": ("model", "basis"), "model": ("certificate", "basis")}[self.kind]
+        others = OTHERS[self.kind]
         blocks = begins = lemmas = 0
         may, is_second, is_goal, is_skipped = self.first(), False, False, False
         for line, text in enumerate(self.texts, 1):
@@ -114,7 +118,8 @@ def utf8(fault: Fault) -> Told:
     text = fault.text
     place = next(line for line, it in enumerate(text.texts, 1) if re.search("[\udc80-\udcff]", it))
     column = re.search("[\udc80-\udcff]", text.texts[place - 1]).start() + 1  # type: ignore[union-attr]
-    return Told("evidence is UTF-8, and here stands a byte that begins no character of it", Quote(text.path, place, text.texts[place - 1], column))
+    quote = Quote(text.path, place, text.texts[place - 1], column)
+    return Told("evidence is UTF-8, and here stands a byte that begins no character of it", quote)
 
 
 def grammar(fault: Fault) -> Told:
@@ -191,7 +196,8 @@ def bound(fault: Fault) -> Told:
     elif words[0] == "map":
         modulus = int(fault.text.of_block(entry.block, "modulus")[0].words[1])
         place = next(place for place, word in enumerate(words) if place > 2 and word.isdigit() and int(word) >= modulus)
-        return fault.told(f"the numbers of a matrix are below the modulus {modulus}, and here stands {short(words[place], 40)}", entry, place)
+        told = f"the numbers of a matrix are below the modulus {modulus}, and here stands {short(words[place], 40)}"
+        return fault.told(told, entry, place)
     else:
         places = [place for place, word in enumerate(words) if place and word.isdigit() and int(word) > most]
     size = f"this number is at most {'2^127 - 1' if most > 2**32 else f'{most:,}'}"
@@ -220,8 +226,8 @@ def unended(fault: Fault) -> Told:
 def none_there(fault: Fault) -> Told:
     kinds = [entry.words[0] for entry in fault.text.entries if entry.line == entry.begins]
     found = [counted(kinds.count(kind), f"`{kind}` block") for kind in ("certificate", "model", "basis") if kind in kinds]
-    other = {"certificate": "check", "model": "model"}.get(kinds[0] if kinds else "", "")
-    more = f", which `./opprove {other}` reads" if other and other != {"certificate": "check", "model": "model"}[fault.noun()] else ""
+    other = next((command for command, kind in READS.items() if kinds[:1] == [kind] and kind != fault.noun()), "")
+    more = f", which `./opprove {other}` reads" if other else ""
     size = "it is empty" if not fault.text.data.strip() else "it has no block"
     return Told(f"there is no {fault.noun()} in {fault.text.path}: {'it has ' + few(found) if found else size}{more}")
 
@@ -282,8 +288,8 @@ def sum_differs(fault: Fault) -> Told:
     entry = fault.text.of_block(fault.block, "claim")[0]
     scale = int((fault.text.of_block(fault.block, "goal") or fault.text.of_block(fault.block, "denominator"))[0].words[-1])
     times = "the claim" if scale == 1 else f"{scale} times the claim"
-    sentence = f"the rows don't add up to {times.replace('the claim', 'claim')} {entry.words[1]}: at the word {word} they have {got}, and {times} has {want}"
-    return fault.told(sentence, entry, more=both_sums(fault, word, times))
+    front = f"the rows don't add up to {times.replace('the claim', 'claim')} {entry.words[1]}"
+    return fault.told(f"{front}: at the word {word} they have {got}, and {times} has {want}", entry, more=both_sums(fault, word, times))
 
 
 def both_sums(fault: Fault, word: str, times: str) -> Tuple[str, ...]:
@@ -309,7 +315,7 @@ def lemma_number(fault: Fault) -> Told:
     before = sum(it.line < row.line for it in fault.text.of_block(fault.block, "lemma"))
     in_goal = any(it.line < row.line for it in fault.text.of_block(fault.block, "goal"))
     earlier = before if in_goal else before - 1
-    there = f"the lemmas before it are 1 to {earlier}" if earlier > 1 else "the only lemma before it is 1" if earlier == 1 else "there is no lemma before it"
+    there = {0: "there is no lemma before it", 1: "the only lemma before it is 1"}.get(earlier, f"the lemmas before it are 1 to {earlier}")
     return fault.told(f"row {fault.number('row')} names lemma {row.words[place]}, and {there}", row, place)
 
 
@@ -335,8 +341,8 @@ def lemma_scale(fault: Fault) -> Told:
 
 
 def lemma_terms(fault: Fault) -> Told:
-    row = fault.number("row")
-    return fault.told("the polynomials of the lemmas so far have more than 1,000,000 terms", fault.row() if row else fault.text.of_block(fault.block)[0])
+    entry = fault.row() if fault.number("row") else fault.text.of_block(fault.block)[0]
+    return fault.told("the polynomials of the lemmas so far have more than 1,000,000 terms", entry)
 
 
 # ---- M1 to M6: models
@@ -354,7 +360,8 @@ def map_entry(fault: Fault) -> Tuple[str, Entry]:
 def no_matrix(fault: Fault) -> Told:
     name = re.search("map ([^ ]+)", fault.rest).group(1)  # type: ignore[union-attr]
     ends = fault.statement.declared()[name].ends or ("?", "?")
-    return fault.told(f"'{name}', which goes {ends[0]} -> {ends[1]}, has no line `map {name} = ..` in this model", fault.text.of_block(fault.block)[0])
+    told = f"'{name}', which goes {ends[0]} -> {ends[1]}, has no line `map {name} = ..` in this model"
+    return fault.told(told, fault.text.of_block(fault.block)[0])
 
 
 def wrong_shape(fault: Fault) -> Told:
@@ -364,8 +371,9 @@ def wrong_shape(fault: Fault) -> Told:
     source, target = (problem.names[end][1:-1] for end in problem.ends[letter])
     rows, columns = check_model.sides_of(problem, model.sides, letter)
     matrix = model.maps[letter]
-    want = f"'{name}' goes {source} -> {target}, so its matrix has {counted(rows, 'row')} (the side of {target}) and {counted(columns, 'column')} (that of {source})"
-    return fault.told(f"{want}, and this one has {len(matrix)} and {len(matrix[0])}", entry)
+    want = f"{counted(rows, 'row')} (the side of {target}) and {counted(columns, 'column')} (that of {source})"
+    told = f"'{name}' goes {source} -> {target}, so its matrix has {want}, and this one has {len(matrix)} and {len(matrix[0])}"
+    return fault.told(told, entry)
 
 
 def unequal_transpose(fault: Fault) -> Told:
@@ -373,8 +381,8 @@ def unequal_transpose(fault: Fault) -> Told:
     name, entry = map_entry(fault)
     matrix = model.maps[problem.numbers[name]]
     row, column = next((i, j) for i, it in enumerate(matrix) for j in range(len(it)) if matrix[i][j] != matrix[j][i])
-    other = f"row {row + 1} has {matrix[row][column]} at column {column + 1}, and row {column + 1} has {matrix[column][row]} at column {row + 1}"
-    return fault.told(f"'{name}' is its own adjoint, so its matrix is its own transpose; {other}", entry)
+    one, other = (f"row {i + 1} has {matrix[i][j]} at column {j + 1}" for i, j in ((row, column), (column, row)))
+    return fault.told(f"'{name}' is its own adjoint, so its matrix is its own transpose; {one}, and {other}", entry)
 
 
 def broken_assumption(fault: Fault) -> Told:

@@ -77,9 +77,10 @@ def used_generators(block: Tuple[str, ...]) -> List[int]:
 def proved(asked: Asked, outcome: Outcome) -> Told:
     denominator, rows = outcome.number("denominator"), outcome.number("rows")
     told = f"claim {outcome.claim} is proved, by a certificate of {counted(rows, 'row')}: it is zero wherever the generators are"
-    more = [] if denominator == 1 else [
-        f"The denominator is {denominator}: it has to cancel, which says that {denominator} m = 0 for m = 0 only. Modulo a divisor of {denominator} other than 1 it does not."
-    ]  # fmt: skip
+    more = []
+    if denominator != 1:
+        more.append(f"The denominator is {denominator}: it has to cancel, which says that {denominator} m = 0 for m = 0 only.")
+        more.append(f"Modulo a divisor of {denominator} other than 1 it does not.")
     problem = asked.problem()
     if problem and asked.statement and outcome.block:
         more += assumptions(problem, used_generators(outcome.block))
@@ -110,8 +111,8 @@ def on_lines(numbers: List[str]) -> str:
 
 def refuted(asked: Asked, outcome: Outcome) -> Told:
     modulus = next((line.split()[1] for line in outcome.block if line.startswith("modulus ")), "")
-    told = f"claim {outcome.claim} is refuted: these matrices modulo {modulus}, with transposes for adjoints, make all assumptions zero, and the claim not"
-    return Told(told, asked.quote(outcome.claim), tuple(values(asked, outcome)))
+    told = f"claim {outcome.claim} is refuted: these matrices modulo {modulus}, with transposes for adjoints, make all assumptions zero"
+    return Told(told + ", and the claim not", asked.quote(outcome.claim), tuple(values(asked, outcome)))
 
 
 def values(asked: Asked, outcome: Outcome) -> Iterator[str]:
@@ -169,13 +170,14 @@ def value(problem: Problem, arrows: check_model.Arrows, poly: Poly, ends: Tuple[
 
 
 def not_refuted(asked: Asked, outcome: Outcome) -> Told:
-    told = f"claim {outcome.claim} is not refuted: none of {counted(outcome.number('candidates'), 'candidate')} makes all assumptions zero and the claim not; this says nothing of the claim"
+    tried = counted(outcome.number("candidates"), "candidate")
+    told = f"claim {outcome.claim} is not refuted: none of {tried} makes all assumptions zero and the claim not; this says nothing of it"
     shapes = "Other shapes may: a line such as `model 3"
     objects = asked.statement.named("object") if asked.statement else []
     shapes += "".join(f" {name} 2" for name in objects[:3]) + "` in the file names one"
     seed = int(asked.call.options.get("--seed", "1")) + 1
-    command = asked.call.with_option("--seed", str(seed))
-    return Told(told, asked.quote(outcome.claim), (f"{shapes}; and where a shape has too many candidates to try them all, so may other draws:", f"  {command}"))
+    draws = "and where a shape has too many candidates to try them all, so may other draws:"
+    return Told(told, asked.quote(outcome.claim), (f"{shapes}; {draws}", f"  {asked.call.with_option('--seed', str(seed))}"))
 
 
 # ---- not derivable
@@ -184,11 +186,12 @@ def not_refuted(asked: Asked, outcome: Outcome) -> Told:
 def not_derivable(asked: Asked, outcome: Outcome) -> Told:
     told = f"claim {outcome.claim} is not derivable: no positive multiple of it is a sum of rows over the generators, whatever their words"
     problem = asked.problem()
-    more = ["It may hold all the same: in all representations, as where the assumptions make an object zero, or by what no sum of rows says."]
+    more = ["It may hold in every representation all the same, as where the assumptions make an object zero."]
     if problem and asked.call.command == "prove":
         missing = ["that a map has an inverse on one side (`assume x a = [V]`), where one is to cancel it"]
         if not problem.is_starred:
-            missing.append("a law of adjoints: the file has no ', `self`, `pinv` or `projection`, so no assumption has its adjoint among the generators")
+            without = "the file has no ', `self`, `pinv` or `projection`, so no assumption has its adjoint among the generators"
+            missing.append(f"a law of adjoints: {without}")
         else:
             missing.append("positivity, which the language doesn't have: a' a = 0 does not give a = 0")
         more.append(f"What may be missing: {'; or '.join(missing)}.")
@@ -209,11 +212,13 @@ def undecided(asked: Asked, outcome: Outcome) -> Told:
     more = []
     least = re.search(" least (.*)$", cause)
     if least:
-        more.append(f"No positive multiple of the claim is a sum of rows over the generators in which all words are below {least.group(1)}.")
+        below = f"in which all words are below {least.group(1)}"
+        more.append(f"No positive multiple of the claim is a sum of rows over the generators {below}.")
     if " at certificate after round " in cause:
         more.append("Some positive multiple of the claim is a sum of rows over the generators.")
     if "--no-models" not in asked.call.options and asked.call.command == "prove":
-        more.append("None of the candidates for a model breaks the claim. A line `model MODULUS OBJECT SIDE ..` in the file names other shapes; --no-models leaves this search out, which is faster.")
+        shapes = "A line `model MODULUS OBJECT SIDE ..` in the file names other shapes"
+        more.append(f"None of the candidates for a model breaks the claim. {shapes}; --no-models leaves this search out, which is faster.")
     return Told(told, asked.quote(outcome.claim), tuple(more + helps(asked, cause)))
 
 
@@ -256,7 +261,7 @@ def helps(asked: Asked, cause: str) -> List[str]:
         lines.append(f"  {call.with_option('--format', '2')}")
     told = ["More may do:" if kind in ("pairs", "steps") else "Lemmas make a certificate shorter:"] + lines if lines else []
     if kind != "rows":
-        told.append("Another order may do, since it makes other words leading: a line `order weight NAME N ..` in the file gives maps a weight.")
+        told.append("Another order may do, since it makes other words leading: `order weight NAME N ..` in the file gives maps a weight.")
     if os.path.exists(HARDER):
         told.append("contrib/harder.py tries such changes by itself.")
     return told
@@ -298,11 +303,11 @@ def told_of_blocks(text: Text, report: str) -> List[Told]:
     if accepted:
         scales = sorted({int(it[2]) for it in accepted if it[2] != "1"})
         where = f"it is zero wherever the generators are{' and its denominator cancels' if scales else ''}"
-        told = f"{counted(len(accepted), 'certificate')} {is_are(len(accepted))} accepted, of {claims([it[1] for it in accepted])}: each adds up to its claim, so {where}"
-        return [Told(told, None, denominators(scales))]
+        told = f"{counted(len(accepted), 'certificate')} {is_are(len(accepted))} accepted, of {claims([it[1] for it in accepted])}"
+        return [Told(f"{told}: each adds up to its claim, so {where}", None, denominators(scales))]
     if confirmed:
-        told = f"{counted(len(confirmed), 'model')} {is_are(len(confirmed))} confirmed, of {claims([it[1] for it in confirmed])}: the matrices make all assumptions zero, and the claim not"
-        return [Told(told)]
+        told = f"{counted(len(confirmed), 'model')} {is_are(len(confirmed))} confirmed, of {claims([it[1] for it in confirmed])}"
+        return [Told(f"{told}: the matrices make all assumptions zero, and the claim not")]
     return []
 
 

@@ -224,7 +224,8 @@ def hint(tokens: List[Token], place: int, word: str, wanted: str) -> str:
     """What may be meant, in words behind the sentence."""
     before, token = tokens[place - 1], tokens[place]
     if before.kind == "literal" and word in ("assume", "claim") and wanted == "map":
-        return f": a number stands before a factor, and alone only where it is 0; {before.text} times the identity of V is {before.text} [V]"
+        times = f"{before.text} times the identity of V is {before.text} [V]"
+        return f": a number stands before a factor, and alone only where it is 0; {times}"
     if token.kind == "literal" and word in ("assume", "claim"):
         return ": a number stands in front of its term"
     if before.kind == "=" and token.kind == "=":
@@ -357,7 +358,8 @@ def abbreviated(fault: Fault) -> str:
     declared, word = fault.statement.declared(), fault.word()
     ends = [declared[it].ends or ("?", "?") for it in maps]
     if len(maps) == 1:
-        return f"{word} {maps[0]}: it asks for {maps[0]} {maps[0]} = {maps[0]}, so {maps[0]} has to end where it begins, and goes {leads(ends[0])}"
+        one = maps[0]
+        return f"{word} {one}: it asks for {one} {one} = {one}, so {one} has to end where it begins, and goes {leads(ends[0])}"
     want = leads((ends[0][1], ends[0][0]))
     return f"{word} {' '.join(maps)}: {maps[0]} goes {leads(ends[0])}, so {maps[1]} has to go {want}, and goes {leads(ends[1])}"
 
@@ -382,7 +384,8 @@ def open_zero(fault: Fault) -> str:
     tokens, place = fault.tokens(), fault.place()
     equals = next((at for at, token in enumerate(tokens) if token.kind == "="), 0)
     if place == 1 and tokens[factor_end_or(tokens, place)].kind not in ("name", "[", "("):
-        return f"one side of an equation has to say its source and target, and neither {fault.text(1, equals)} nor {fault.text(equals + 1, len(tokens) - 1)} does: 0 alone has none"
+        sides = f"neither {fault.text(1, equals)} nor {fault.text(equals + 1, len(tokens) - 1)} does"
+        return f"one side of an equation has to say its source and target, and {sides}: 0 alone has none"
     factor = fault.text(place, factor_end(tokens, place))
     return f"a factor of a product has a source and a target, and {factor} has none: a 0 alone takes those of what it is added to"
 
