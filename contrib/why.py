@@ -57,7 +57,7 @@ STATUSES = {  # where the report isn't known
 }
 
 
-def explanation(words: List[str], answer: Answer) -> List[Told]:
+def explanation(words: List[str], answer: Answer, briefly: bool = False) -> List[Told]:
     """What an answer means. Reads the files that the words name again."""
     call = why_calls.call_of(words)
     status, report = answer
@@ -67,21 +67,21 @@ def explanation(words: List[str], answer: Answer) -> List[Told]:
         return why_calls.not_loaded(report or "")
     if status in (5, 6):
         return why_calls.not_put() if status == 5 else why_calls.no_memory()
-    told = told_of_report(call, report) if report is not None else []
+    told = told_of_report(call, report, briefly) if report is not None else []
     return told or ([Told(STATUSES[status])] if status in STATUSES else [])
 
 
-def told_of_report(call: why_calls.Call, report: str) -> List[Told]:
+def told_of_report(call: why_calls.Call, report: str, briefly: bool) -> List[Told]:
     files = [(name, content(name)) for name in call.files()]
     lines = report.split("\n")
     last = lines[-2] if len(lines) > 1 else ""
     statement = why_statement.Statement(*files[0]) if files else None
     if statement and call.command in why_evidence.READS:
         text = why_evidence.Text(files[1][0], files[1][1], why_evidence.READS[call.command])
-        refused = why_statement.told_of(*files[0], last) or why_evidence.told_of(statement, text, last)
+        refused = why_statement.told_of(*files[0], last, briefly) or why_evidence.told_of(statement, text, last, briefly)
         return why_outcomes.told_of_blocks(text, report) + ([refused] if refused else [])
-    refused = why_statement.told_of(*files[0], last) if files else None
-    return [refused] if refused else why_outcomes.told_of(why_outcomes.Asked(call, statement), report)
+    refused = why_statement.told_of(*files[0], last, briefly) if files else None
+    return [refused] if refused else why_outcomes.told_of(why_outcomes.Asked(call, statement), report, briefly)
 
 
 def content(name: str) -> bytes:
@@ -194,21 +194,21 @@ def tell(words: List[str], answer: Answer) -> None:
 
 
 def in_time(words: List[str], answer: Answer) -> List[Told]:
-    """The explanation, or that of the status alone where it takes too long or a file is beyond what check.py reads."""
+    """The explanation, or a brief one where it takes too long or a file is beyond what check.py reads."""
 
     def stop(*_: object) -> None:
         raise TooLong
 
     signal.signal(signal.SIGALRM, stop)
-    signal.setitimer(signal.ITIMER_REAL, PATIENCE)
-    try:
-        return explanation(words, answer)
-    except (TooLong, MemoryError, RecursionError, OSError, ArithmeticError, LookupError, ValueError, TypeError, AttributeError):
-        if os.environ.get("OPPROVE_WHY_TRACE"):
-            raise
-        return explanation(words, Answer(answer.status, None))
-    finally:
-        signal.setitimer(signal.ITIMER_REAL, 0)
+    for briefly in (False, True):
+        signal.setitimer(signal.ITIMER_REAL, PATIENCE)
+        try:
+            return explanation(words, answer, briefly)
+        except (TooLong, MemoryError, RecursionError, OSError, ArithmeticError, LookupError, ValueError, TypeError, AttributeError):
+            continue
+        finally:
+            signal.setitimer(signal.ITIMER_REAL, 0)
+    return explanation(words, Answer(answer.status, None))
 
 
 def editor(words: List[str]) -> int:

@@ -1,6 +1,7 @@
 """What why.py tells of evidence that is refused: a function for each code, K1 to K7, C1 to C11 and M1 to M6, in one table."""
 from __future__ import annotations
 
+import functools
 import re
 from typing import Callable, Dict, Iterator, List, NamedTuple, Optional, Tuple
 
@@ -33,7 +34,10 @@ class Text:
     def __init__(self, path: str, data: bytes, kind: str) -> None:
         self.path, self.data, self.kind = path, data, kind
         self.texts = re.split("\r?\n", data.decode(errors="surrogateescape"))
-        self.entries = list(self.read())
+
+    @functools.cached_property
+    def entries(self) -> List[Entry]:
+        return list(self.read())
 
     def read(self) -> Iterator[Entry]:
         others = OTHERS[self.kind]
@@ -168,7 +172,7 @@ def is_letter(text: str) -> bool:
 
 
 def undeclared(fault: Fault) -> Told:
-    entry, declared = fault.entry(), fault.statement.declared()
+    entry, declared = fault.entry(), fault.statement.declared
     for place in letters_of(entry.words) if entry.words[0] == "row" else [1]:
         letter = entry.words[place]
         kind = "object" if letter[0] == "[" or entry.words[0] == "side" else "map"
@@ -359,7 +363,7 @@ def map_entry(fault: Fault) -> Tuple[str, Entry]:
 
 def no_matrix(fault: Fault) -> Told:
     name = re.search("map ([^ ]+)", fault.rest).group(1)  # type: ignore[union-attr]
-    ends = fault.statement.declared()[name].ends or ("?", "?")
+    ends = fault.statement.declared[name].ends or ("?", "?")
     told = f"'{name}', which goes {ends[0]} -> {ends[1]}, has no line `map {name} = ..` in this model"
     return fault.told(told, fault.text.of_block(fault.block)[0])
 
@@ -469,15 +473,15 @@ SENTENCES: Dict[str, Callable[[Fault], Told]] = {
 LINE = re.compile(r"# (?:block (?P<block>[0-9]+) )?refused (?P<code>[A-Z][0-9]+)(?: line (?P<line>[0-9]+))?(?P<rest>.*)")
 
 
-def told_of(statement: Statement, text: Text, report: str) -> Optional[Told]:
-    """What is told of the program's line on evidence; none where it is no such line."""
+def told_of(statement: Statement, text: Text, report: str, briefly: bool = False) -> Optional[Told]:
+    """What is told of the program's line on evidence, or briefly its place and the rule; none where it is no such line."""
     match = LINE.fullmatch(report)
     if not match or match["code"] not in RULES:
         return None
     code = match["code"]
     fault = Fault(statement, text, int(match["line"] or 0), int(match["block"] or 0), match["rest"].strip())
     try:
-        told = SENTENCES[code](fault)
+        told = Told(RULES[code], text.quote(fault.line)) if briefly else SENTENCES[code](fault)
     except (Refusal, LookupError, StopIteration, ValueError, AttributeError, TypeError, RecursionError):
         told = Told(RULES[code], text.quote(fault.line))
     where = f"block {fault.block}, " if fault.block else ""

@@ -50,7 +50,7 @@ class Asked(NamedTuple):
 
     def quote(self, claim: int) -> Optional[Quote]:
         """The line of a claim."""
-        lines = [line for line in self.statement.lines() if line.tokens[0].text == "claim"] if self.statement else []
+        lines = [line for line in self.statement.lines if line.tokens[0].text == "claim"] if self.statement else []
         return self.statement.quote(lines[claim - 1].tokens[0].line) if self.statement and claim <= len(lines) else None
 
 
@@ -278,8 +278,8 @@ KINDS: Dict[str, Tuple[Callable[[Asked, Outcome], Told], str]] = {
 }
 
 
-def told_of(asked: Asked, report: str) -> List[Told]:
-    """Of each kind of outcome the first claim, and the numbers of the others."""
+def told_of(asked: Asked, report: str, briefly: bool = False) -> List[Told]:
+    """Of each kind of outcome the first claim, or briefly its outcome alone, and the numbers of the others."""
     found = outcomes(report)
     told = []
     for kind, (tell, name) in KINDS.items():
@@ -287,7 +287,7 @@ def told_of(asked: Asked, report: str) -> List[Told]:
         if not of_kind:
             continue
         try:
-            told.append(tell(asked, of_kind[0]))
+            told.append(Told(f"claim {of_kind[0].claim} is {name}") if briefly else tell(asked, of_kind[0]))
         except (Refusal, LookupError, StopIteration, ValueError, AttributeError, RecursionError):
             told.append(Told(f"claim {of_kind[0].claim} is {name}"))
         others = [str(outcome.claim) for outcome in of_kind[1:]]

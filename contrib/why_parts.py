@@ -138,8 +138,9 @@ def painted(text: str, colour: int, screen: Screen) -> str:
 
 
 def paragraph(text: str, screen: Screen) -> List[str]:
-    if text.startswith(" "):
-        return [line.rstrip()[: screen.columns] for line in text.split("\n")]
+    if text.startswith(" "):  # matrices are cut, and commands to type are not
+        lines = [without_controls(line.rstrip()) for line in text.split("\n")]
+        return [line[: screen.columns] if line.startswith("    ") else line for line in lines]
     return textwrap.wrap(without_controls(text), screen.columns, break_long_words=True, break_on_hyphens=False) or [""]
 
 

@@ -1,9 +1,11 @@
 """What why.py tells of a statement that is refused: a function for each code, S1 to S16, in one table."""
 from __future__ import annotations
 
+import contextlib
+import functools
 import re
 import unicodedata
-from typing import Callable, Dict, Iterator, List, NamedTuple, Optional, Set, Tuple
+from typing import Callable, Dict, List, NamedTuple, Optional, Set, Tuple
 
 from check import SHAPES, Line, Problem, Refusal, Token, tokens_of
 from why_parts import LIMIT_OF_NUMBERS, Quote, Told, article, counted, did_you_mean, few, listed, ordinal, short
@@ -46,20 +48,21 @@ class Statement:
         except (Refusal, IndexError):
             return []
 
-    def lines(self) -> Iterator[Line]:
+    @functools.cached_property
+    def lines(self) -> List[Line]:
         """The lines that fit the grammar."""
+        found = []
         for line in range(1, len(self.texts) + 1):
             tokens = self.tokens(line)
-            if tokens:
-                try:
-                    yield Line(tokens).statement()
-                except Refusal:
-                    pass
+            with contextlib.suppress(Refusal):
+                found += [Line(tokens).statement()] if tokens else []
+        return found
 
+    @functools.cached_property
     def declared(self) -> Dict[str, Declared]:
         """The first declaration of each name."""
         names: Dict[str, Declared] = {}
-        for line in self.lines():
+        for line in self.lines:
             ends = line.with_role("object")
             for token, role in line.roles:
                 if role in ("new_object", "new_map"):
@@ -68,7 +71,7 @@ class Statement:
         return names
 
     def named(self, kind: str) -> List[str]:
-        return [name for name, declared in self.declared().items() if declared.kind == kind]
+        return [name for name, declared in self.declared.items() if declared.kind == kind]
 
     def problem(self) -> Optional[Problem]:
         """What check.py makes of the file; none where it makes nothing of it."""
@@ -105,7 +108,7 @@ class Fault(NamedTuple):
 
     def role(self) -> str:
         """What the token is in its line."""
-        roles = next(line.roles for line in self.statement.lines() if line.tokens[0].line == self.line)
+        roles = next(line.roles for line in self.statement.lines if line.tokens[0].line == self.line)
         return next(role for token, role in roles if token.column == self.column)
 
     def sides(self) -> Tuple[Ends, Ends]:
@@ -243,7 +246,7 @@ def brackets(fault: Fault) -> str:
 
 
 def name(fault: Fault) -> str:
-    token, role, declared = fault.token(), fault.role(), fault.statement.declared()
+    token, role, declared = fault.token(), fault.role(), fault.statement.declared
     known = [it for it in declared if declared[it].kind == role]
     if token.text in declared:
         other = declared[token.text]
@@ -272,12 +275,12 @@ def split_in(text: str, known: Set[str]) -> List[str]:
 def twice(fault: Fault) -> str:
     token, word, place = fault.token(), fault.word(), fault.place()
     if word == "order" and place == 0:
-        first = next(line.tokens[0].line for line in fault.statement.lines() if line.tokens[0].text == "order")
+        first = next(line.tokens[0].line for line in fault.statement.lines if line.tokens[0].text == "order")
         return f"a file has one line `order` at most, and there is one in line {first}"
     if word in ("order", "solve", "model"):
         first_column = next(other.column for other in fault.tokens()[1:] if other.text == token.text)
         return f"'{token.text}' stands twice in this line, first at column {first_column}"
-    other = fault.statement.declared()[token.text]
+    other = fault.statement.declared[token.text]
     return f"'{token.text}' is declared twice: first in line {other.token.line}, column {other.token.column}, as {article(other.kind)}"
 
 
@@ -292,7 +295,7 @@ def limit(fault: Fault) -> str:
 
 def own_adjoint(fault: Fault) -> str:
     token = fault.token()
-    ends = fault.statement.declared()[token.text].ends or ("?", "?")
+    ends = fault.statement.declared[token.text].ends or ("?", "?")
     return f"a map that is its own adjoint (`self`) has one object at both ends, and '{token.text}' goes {leads(ends)}"
 
 
@@ -355,7 +358,7 @@ def composed(fault: Fault) -> str:
 
 def abbreviated(fault: Fault) -> str:
     maps = [token.text for token in fault.tokens()[1:-1]]
-    declared, word = fault.statement.declared(), fault.word()
+    declared, word = fault.statement.declared, fault.word()
     ends = [declared[it].ends or ("?", "?") for it in maps]
     if len(maps) == 1:
         one = maps[0]
@@ -444,8 +447,8 @@ SENTENCES: Dict[str, Callable[[Fault], object]] = {
 LINE = re.compile(r"# refused (?P<code>[A-JL-Z][0-9]+)(?: line (?P<line>[0-9]+) column (?P<column>[0-9]+))?(?P<rest>.*)")
 
 
-def told_of(path: str, data: bytes, report: str) -> Optional[Told]:
-    """What is told of the program's line on a statement; none where it is no such line."""
+def told_of(path: str, data: bytes, report: str, briefly: bool = False) -> Optional[Told]:
+    """What is told of the program's line on a statement, or briefly its place and the rule; none where it is no such line."""
     match = LINE.fullmatch(report)
     if not match or match["code"] not in RULES:
         return None
@@ -453,7 +456,7 @@ def told_of(path: str, data: bytes, report: str) -> Optional[Told]:
     statement = Statement(path, data)
     fault = Fault(statement, int(match["line"] or 1), int(match["column"] or 1), match["rest"].strip())
     try:
-        told = SENTENCES[code](fault)
+        told = RULES[code] if briefly else SENTENCES[code](fault)
     except (Refusal, LookupError, StopIteration, ValueError, AttributeError):
         told = RULES[code]
     if isinstance(told, Told):
