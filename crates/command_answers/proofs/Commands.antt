@@ -6,6 +6,7 @@ use Rattle.definitions.specs.Category.{Structure, PreadditiveLaws}
 use Rattle.definitions.specs.Soundness.{IsSound}
 use Rattle.representations.specs.Evidence.{IsEvidenceSound}
 use Rattle.report_text.specs.Report.{report_of, heads_of}
+use Rattle.command_words.specs.declared.call.BenchCall.{BenchCall}
 use Rattle.command_words.specs.declared.call.Call.{Call}
 use Rattle.command_words.specs.declared.call.Call.TheVariants.{Prove, Check, Refute, Model, Bench}
 use Rattle.command_shape.specs.declared.stop.Stop.{Stop}
@@ -21,10 +22,10 @@ use Rattle.prove_command.proofs.Answered.{claims_owe}
 use Rattle.check_command.proofs.Answered.{check_owes}
 use Rattle.refute_command.proofs.Answered.{search_owes}
 use Rattle.model_command.proofs.Answered.{model_owes}
-use Rattle.command_answers.specs.CallFiles.{files_of, AreContents, statement_of, evidence_of}
+use Rattle.command_answers.specs.CallFiles.{files_of, AreContents, written_by, statement_of, evidence_of}
 use Rattle.command_answers.specs.Answers.{AnswersOver, Answers}
 use Rattle.command_answers.specs.Says.{SaysOver, Says}
-use Rattle.check_command.specs.Laws.{AnswersOnce, EachCallHasAnEnding}
+use Rattle.command_answers.specs.Laws.{AnswersOnce, EachCallHasAnEnding}
 
 -- one line a command
 call_owes : (call : Call) (statement evidence : List ℕ)
@@ -86,6 +87,14 @@ are_short (Refute p) contents fit = one_short p.file contents fit
 are_short (Model p) contents fit = two_short p.statement p.evidence contents fit
 are_short (Bench b) contents fit = none_short contents fit
 
+-- a call with files writes no statement
+pub no_file_written : (call : Call) → ((b : BenchCall) → call ≡ Bench b → ⊥) → written_by call ≡ []
+no_file_written (Prove p) other = refl
+no_file_written (Check p) other = refl
+no_file_written (Refute p) other = refl
+no_file_written (Model p) other = refl
+no_file_written (Bench b) other = absurd (other b refl)
+
 -- an item that is there needs no other in its place
 pub other_default : {Item : Type 0} (xs : List Item) (place : ℕ) (one other : Item) → place < length xs → get_or xs place one ≡ get_or xs place other
 other_default [] place one other inside = absurd (omega arith)
@@ -101,7 +110,7 @@ no_item (x ∷ xs) (suc place) other past = no_item xs place other (omega arith)
 -- there are as many as files
 pub are_contents : (call : Call) (contents : List (List ℕ))
     → AllZip (λ file bytes. length bytes ≤ file.limit) (files_of call) contents → AreContents call contents
-are_contents call contents fit = sym (AllZip-long (λ file bytes. length bytes ≤ file.limit) (files_of call) contents fit)
+are_contents call contents fit = AllZip-long (λ file bytes. length bytes ≤ file.limit) (files_of call) contents fit
 
 -- what is answered over the statement and the text of evidence
 pub answered : (call : Call) (contents : List (List ℕ)) (statement evidence : List ℕ) (result : Result Ending Stop)

@@ -1,5 +1,5 @@
 //! What users ask of all answers.
-ghost use Rattle.check_command.specs.Laws.{AnswersOnce, EachCallHasAnEnding};
+ghost use Rattle.command_answers.specs.Laws.{AnswersOnce, EachCallHasAnEnding};
 
 /// A call has one ending at most over the contents of its files: it depends on these alone.
 pub fn a_call_is_answered_once()
