@@ -26,7 +26,7 @@ import try_models
 import try_opprove
 import try_pictures
 import try_why
-from trying import CONTRIB, EXAMPLES, PROGRAM, Answer, Failed, Skipped, installed, need, run
+from trying import CONTRIB, EXAMPLES, PROGRAM, TOP, Answer, Failed, Skipped, installed, need, run
 
 # ---- The two checkers
 
@@ -319,6 +319,23 @@ def trusted_files() -> str:
     return answer.out.split(":")[0] + " are listed to be trusted"
 
 
+def costly_files() -> str:
+    sizes = {"overlaps 500": 496_540, "sorted 498": 287_613, "unending 100": 57_068, "rests 100": 429_121, "rows 10": 41_295}
+    for name, size in sizes.items():
+        answer = run(sys.executable, CONTRIB / "costly.py", *name.split())
+        need(answer.status == 0 and len(answer.out) == size and f"{size:,}" in (TOP / "docs" / "COMMANDS.md").read_text(), (name, size))
+    return f"{len(sizes)} costly files are as long as docs/COMMANDS.md says"
+
+
+def devices() -> str:
+    if not os.access(PROGRAM, os.X_OK):
+        raise Skipped("opprove is not built")
+    answer = run(sys.executable, CONTRIB / "try_devices.py", PROGRAM)
+    need(answer.status == 0 and not answer.error, answer)
+    lines = answer.out.splitlines()
+    return f"{sum(': skipped, ' not in line for line in lines)} of {len(lines)} trials of devices are as they should be"
+
+
 def groups(folder: Path) -> Dict[str, List[Callable[[], str]]]:
     """The checks by their words."""
     checks = {"chains": try_chains.CHECKS, "pictures": try_pictures.CHECKS, "bounds": try_bounds.CHECKS}
@@ -333,7 +350,7 @@ def groups(folder: Path) -> Dict[str, List[Callable[[], str]]]:
             lambda: try_models.example_searches(folder),
             lambda: singular(folder), lambda: sympy(folder), cofactors, lambda: latex(folder), manual,
             shell("bash", "opprove.bash"), shell("zsh", "_opprove"), shell("fish", "opprove.fish"),
-            lambda: vim(folder), grammars, lambda: plain(folder), gate_time,
+            lambda: vim(folder), grammars, lambda: plain(folder), gate_time, costly_files, devices,
         ],
     }  # fmt: skip
 
