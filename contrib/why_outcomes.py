@@ -3,6 +3,7 @@ from __future__ import annotations
 
 import os
 import re
+import shlex
 from typing import Callable, Dict, Iterator, List, NamedTuple, Optional, Tuple
 
 import check_model
@@ -263,7 +264,8 @@ def helps(asked: Asked, cause: str) -> List[str]:
     if kind != "rows":
         told.append("Another order may do, since it makes other words leading: `order weight NAME N ..` in the file gives maps a weight.")
     if os.path.exists(HARDER):
-        told.append("contrib/harder.py tries such changes by itself.")
+        told += ["Fewer assumptions, other orders, lemmas and larger budgets are tried by"]
+        told += [f"  contrib/harder.py {shlex.quote(call.operands[0])}"]
     return told
 
 
