@@ -187,7 +187,7 @@ def not_refuted(asked: Asked, outcome: Outcome) -> Told:
 def not_derivable(asked: Asked, outcome: Outcome) -> Told:
     told = f"claim {outcome.claim} is not derivable: no positive multiple of it is a sum of rows over the generators, whatever their words"
     problem = asked.problem()
-    more = ["It may hold in every representation all the same, as where the assumptions make an object zero."]
+    more = ["This says nothing of matrices of finite size, nor of star representations: the claim may hold in all of these all the same."]
     if problem and asked.call.command == "prove":
         missing = ["that a map has an inverse on one side (`assume x a = [V]`), where one is to cancel it"]
         if not problem.is_starred:
