@@ -6,7 +6,7 @@ makes all assumptions zero and not the claim, or that none does: the report of `
 13. For a fault of the statement it prints its line, with status 1.
 
 It is written from docs/FORMATS.md and shares nothing with opprove. Statements are read by check.py, with the limits that
-it doesn't look at, but for S16 in a `model` line, which comes behind all other faults.
+it doesn't look at.
 """
 from __future__ import annotations
 
@@ -15,10 +15,9 @@ import sys
 from collections import defaultdict
 from typing import DefaultDict, Dict, Iterator, List, NamedTuple, Optional, Set, Tuple
 
-from check import Poly, Problem, Refusal, Word, fault
+from check import Poly, Problem, Refusal, Word
 from check_model import Arrows, Matrix, Model, declared_maps, identity, sides_of
 
-MODULI = [2, 3, 5, 7, 101, 32003, 65537]
 Form = List[int]  # a coefficient for each unknown, and behind them a constant, all below a prime modulus
 
 
@@ -34,11 +33,7 @@ def shapes_of(problem: Problem) -> List[Shape]:
     shapes: List[Shape] = []
     for line in problem.lines:
         if line.tokens[0].text == "model":
-            literals = [token for token, role in line.roles if role == "literal"]
-            for place, token in enumerate(literals):
-                if int(token.text) not in (range(1, 7) if place else MODULI):
-                    raise fault("S16", token)
-            modulus, *numbers = (int(token.text) for token in literals)
+            modulus, *numbers = map(int, line.with_role("literal"))
             sides = dict(zip(line.with_role("object"), numbers))
             shapes.append(Shape(len(shapes) + 1, modulus, [sides.get(name, 1) for name in objects]))
     return shapes or [Shape(side, 2, [side for _ in objects]) for side in (1, 2)]

@@ -6,8 +6,7 @@ compares. It prints a line for each certificate: that it is accepted, with its d
 wrong, with its place, which ends the report. The status is 0 where all are accepted, and else 1.
 
 It is written from docs/FORMATS.md and shares nothing with opprove; codes and places are those of that page. Numbers and
-texts have any size: the limits S4, S8, S13, K4, K5, C4, C5, C9 and C11 are not looked at, and S14 only where a product
-passes it, at once; nor are S7 and S16 in order, solve and model lines. Names follow this Python's version of Unicode.
+sums of rows have any size: S4, S13, K4, C4, C5, C9 and C11 are not looked at. Names follow this Python's version of Unicode.
 """
 from __future__ import annotations
 
@@ -126,7 +125,7 @@ class Line:
             raise fault("S12", first)
         if left_ends and right_ends and left_ends != right_ends:
             raise fault("S11", second, self.problem.arrows(left_ends, right_ends))
-        return add(left, -1, right)
+        return self.sized(add(left, -1, right))
 
     def sum(self, depth: int = 0) -> Value:
         terms: List[Tuple[Token, Value]] = []
@@ -138,8 +137,24 @@ class Line:
         for first, (other, poly) in terms:
             if signature and other and signature != other:
                 raise fault("S11", first, self.problem.arrows(signature, other))
-            signature, total = signature or other, add(total, 1, poly)
+            signature, total = signature or other, self.sized(add(total, 1, poly))
         return signature, total
+
+    def product(self, left: Poly, right: Poly) -> Poly:
+        total: Poly = {}
+        for word in sorted(left, key=lambda word: (len(word), word), reverse=True):
+            add(total, left[word], right, left=word)
+            if len(total) > 20000 or len(word) + max(map(len, right), default=0) > 500:
+                return self.too_large()
+        return total
+
+    def sized(self, poly: Poly) -> Poly:
+        return self.too_large() if len(poly) > 20000 else poly
+
+    def too_large(self) -> Poly:
+        """Has the problem keep this fault, since those of signatures come before it, and gives 0 in its place."""
+        self.problem.too_large = self.problem.too_large or fault("S14", self.tokens[0])
+        return {}
 
     def term(self, scale: int, depth: int) -> Value:
         if self.is_at("literal"):
@@ -156,11 +171,7 @@ class Line:
             if signature and signature[0] != other[1]:
                 raise fault("S10", first, self.problem.arrows(signature, other))
             signature = (other[0], signature[1]) if signature else other
-            left, total = total, {}
-            for word, coefficient in left.items():
-                add(total, coefficient, poly, left=word)
-                if len(total) > 20000 or len(word) + max(map(len, poly), default=0) > 500:
-                    raise fault("S14", self.tokens[0])
+            total = self.product(total, poly)
         return signature, total
 
     def factor(self, depth: int) -> Value:
@@ -188,20 +199,41 @@ ABBREVIATIONS = {
 }  # fmt: skip
 
 
+LIMITS = {"new_object": 64, "new_map": 200, "assume": 500, "claim": 100, "model": 16}
+MODULI = (2, 3, 5, 7, 101, 32003, 65537)
+
+
 def check_names(lines: List[Line]) -> None:
-    """Raises the first fault of the names: they come in reading order, and the tests in the order of their codes."""
+    """Raises the first fault of names and literals: tokens come in reading order, and the tests in the order of their codes."""
     news = [(token.text, (token, role[4:])) for line in lines for token, role in line.roles if role[:4] == "new_"]
     firsts = dict(reversed(news))  # the first declaration of each name
     kinds = {name: kind for name, (_, kind) in firsts.items()}
+    counts = {"order": 0, **dict.fromkeys(LIMITS, 0)}
     for line in lines:
-        ends = line.with_role("object") if line.with_role("self") else []
-        for token, role in line.roles:
+        word, ends = line.tokens[0].text, line.with_role("object") if line.with_role("self") else []
+        named = []  # by this line, if a name may not stand in it twice
+        for place, (token, role) in enumerate(line.roles):
+            kind = role if role != "word" else "assume" if word in ABBREVIATIONS else word
+            if kind in counts:
+                counts[kind] += len(ABBREVIATIONS.get(word, [""])) if kind == "assume" else 1
             if role in ("object", "map") and kinds.get(token.text) != role:
                 raise fault("S6", token)
-            if role[:4] == "new_" and firsts[token.text][0] != token:
+            if (role[:4] == "new_" and firsts[token.text][0] != token) or token.text in named or (place == 0 and counts["order"] > 1):
                 raise fault("S7", token)
+            if kind in LIMITS and counts[kind] > LIMITS[kind]:
+                raise fault("S8", token, f" limit {LIMITS[kind]}")
             if role == "new_map" and len(set(ends)) == 2 and all(kinds.get(end) == "object" for end in ends):
                 raise fault("S9", token)
+            if role == "literal" and not is_in_range(word, place, int(token.text)):
+                raise fault("S16", token)
+            named += [token.text] if word in ("order", "solve", "model") and role in ("object", "map") else []
+
+
+def is_in_range(word: str, place: int, literal: int) -> bool:
+    """Of a literal at this place of a line that begins with the word."""
+    if word == "model":
+        return literal in (MODULI if place == 1 else range(1, 7))
+    return word != "order" or 1 <= literal <= 1000
 
 
 class Problem:
@@ -221,9 +253,12 @@ class Problem:
                 self.declare(name, ends, is_own)
         self.is_starred, self.marked = any(line.with_role("self") for line in lines), set()
         self.assumptions, self.claims = [], []
+        self.too_large: Optional[Refusal] = None
         for line in lines:
             polys = self.claims if line.tokens[0].text == "claim" else self.assumptions
             polys += [Line(tokens, self).equation() for tokens in self.equations(line)]
+        if self.too_large:
+            raise self.too_large
         if not self.claims:
             raise Refusal("# refused S15")
 
@@ -319,6 +354,10 @@ class Blocks:
     def take_number(self, words: str) -> int:
         return int(self.take(words + " ([0-9]+)")[0])
 
+    def limit(self, place: int, count: int, most: int) -> None:
+        if count > most:
+            raise Refusal(f"# refused K5 line {place} limit {most}")
+
 
 class Evidence(Blocks):
     """The certificates of an evidence text."""
@@ -336,11 +375,17 @@ class Evidence(Blocks):
             raise Refusal("# refused K7")
 
     def certificate(self) -> Certificate:
-        has_lemmas = self.take("certificate ([12])") == ("2",)
+        place, has_lemmas = self.number, self.take("certificate ([12])") == ("2",)
+        self.limit(place, len(self.certificates) + 1, 100)
+        self.read = [0, 0]  # rows and letters
         claim, denominator = self.take_number("claim"), self.take_number("denominator")
         shares: List[Share] = []
         while has_lemmas and self.line.startswith("lemma "):
-            shares.append(Share(self.take_number(f"lemma 0*{len(shares) + 1} scale"), self.rows(has_lemmas)))
+            place, (number, scale) = self.number, map(int, self.take("lemma ([0-9]+) scale ([0-9]+)"))
+            if number != len(shares) + 1:
+                raise Refusal(f"# refused K2 line {place}")
+            self.limit(place, number, 200000)
+            shares.append(Share(scale, self.rows(has_lemmas)))
         scale = self.take_number("goal scale") if has_lemmas else denominator
         shares.append(Share(scale, self.rows(has_lemmas)))
         self.take("end")
@@ -355,6 +400,9 @@ class Evidence(Blocks):
             for code, fits in (("K2", is_letter), ("K3", self.letters.__contains__)):
                 if not all(map(fits, words[0] + words[1])):
                     raise Refusal(f"# refused {code} line {place}")
+            self.read = [self.read[0] + 1, self.read[1] + len(words[0]) + len(words[1])]
+            for count, limit in zip((max(map(len, words)), *self.read), (500, 200000, 1000000)):
+                self.limit(place, count, limit)
             left_word, right_word = (tuple(self.letters[letter] for letter in word) for word in words)
             rows.append(Row(int(coefficient), left_word, lemma is not None, int(number), right_word))
         return rows

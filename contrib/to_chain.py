@@ -18,14 +18,16 @@ texts is told in one line on standard error, with status 1.
 from __future__ import annotations
 
 import sys
+from collections import Counter
 from heapq import heapify, heappop, heappush
 from random import Random
-from typing import Counter, Dict, Iterator, List, NamedTuple, Optional, Set, Tuple
+from typing import Dict, Iterator, List, NamedTuple, Optional, Set, Tuple
 
 from check import Certificate, Evidence, Line, Poly, Problem, Refusal, Row, Share, Signature, Token, Word, add, judge
 from to_latex import letter_in_latex, lines_of
 
-LETTERS_IN_A_WORD = 500  # of a row; a lemma whose rows would have longer ones in its place is a chain of its own
+# Limits of evidence text. A lemma whose rows would have longer words in its place is a chain of its own.
+LETTERS_IN_A_WORD, LETTERS, MOST = 500, 1000000, 2**127 - 1
 WIDTH = 96  # of a sum in text
 
 
@@ -182,7 +184,7 @@ class Reader:
 
     def shortened(self, proof: Proof) -> Certificate:
         """The rows of the steps, and those over relations of identities that they need; or what was read, where that has
-        fewer rows, or no words as long as in these."""
+        fewer rows, or these pass a limit."""
         shares: List[Share] = []
         lemmas: List[Poly] = []
         relations = {max(poly, key=len): number for number, poly in enumerate(self.exact, 1) if number > len(self.sources)}
@@ -197,9 +199,10 @@ class Reader:
             shares.append(Share(chain.scale, merged(chain.rows() + rows)))
             lemmas.append({word: value // chain.scale for word, value in rest.items()})
         assert not lemmas[-1], lemmas[-1]
-        count, limit = (sum(len(share.rows) for share in some) for some in (shares, proof.certificate.shares))
-        is_short = all(fits(row) for share in shares for row in share.rows)
-        return proof.certificate._replace(shares=shares) if count <= limit and is_short else proof.certificate
+        found, before = ([row for share in some for row in share.rows] for some in (shares, proof.certificate.shares))
+        is_within = all(fits(row) and abs(row.coefficient) <= MOST for row in found)
+        is_within &= len(found) <= len(before) and sum(len(row.left) + len(row.right) for row in found) <= LETTERS
+        return proof.certificate._replace(shares=shares) if is_within else proof.certificate
 
     def without_units(self, poly: Poly, relations: Dict[Word, int]) -> Tuple[List[Row], Poly]:
         """Rows over relations, and what the polynomial and they add up to: words that are an identity, or have none."""
@@ -251,7 +254,7 @@ def in_place(parts: List[Part]) -> List[Part]:
     return again
 
 
-def written_out(part: Part, parts: List[Part], uses: Counter[int]) -> Part:
+def written_out(part: Part, parts: List[Part], uses: Dict[int, int]) -> Part:
     rows, stack = [], part.rows[::-1]
     while stack:
         row = stack.pop()

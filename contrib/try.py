@@ -1,6 +1,8 @@
 #!/usr/bin/env python3
 """Tries the tools of contrib/, and compares check.py, check_model.py and candidates.py with opprove where that is built.
 
+try.py [checker | chains | pictures | bounds | others] ..: all of these where none is named; the gate names checker.
+
 Each check is a function that gives a line on what it found, and raises Failed where a tool does not do what it should.
 What is not installed is skipped with a line. The status is 0 where nothing failed, and else 1.
 """
@@ -14,11 +16,14 @@ import subprocess
 import sys
 import tempfile
 from pathlib import Path
-from typing import Callable, Iterator, List, Tuple
+from typing import Callable, Dict, Iterator, List, Tuple
 
 sys.dont_write_bytecode = True
 import measure
+import try_bounds
+import try_chains
 import try_models
+import try_pictures
 from trying import CONTRIB, EXAMPLES, PROGRAM, Answer, Failed, Skipped, installed, need, run
 
 # ---- The two checkers
@@ -156,6 +161,7 @@ FAULTY = [  # statement, evidence, the line
     (b"object U\nmap a : U -> U\nclaim a = a\n", b"certificate\n", "# refused K2 line 1"),
     (b"object U\nmap a : U -> U\nclaim a = a\n", b"certificate 1\nclaim 1\n", "# refused K6"),
     (b"object U\nmap a : U -> U\nclaim a = a\n", b"", "# refused K7"),
+    (b"object U\nclaim [U] = [U]\n", b"certificate 1\nclaim 1\ndenominator 1\nend\n" * 101, "# refused K5 line 401 limit 100"),
 ]
 GOAL = b"goal scale 1\nend\n"
 ROWS = [  # behind "certificate", for a statement with the assumption 2 a = 0 and the claim a = 0
@@ -182,12 +188,14 @@ def bad_input(folder: Path) -> str:
         found, is_asked = judged(statement, evidence)
         need(found == line, (text, rows, line, found))
         by_both += is_asked
-        if " C6 " not in line:
-            for name in TRANSLATIONS:
-                answer = run(sys.executable, CONTRIB / f"to_{name}.py", statement, evidence)
-                need(answer == Answer(1, "", line + "\n"), (name, text, rows, answer))
+        for name in ["chain", *(TRANSLATIONS if " C6 " not in line else [])]:
+            answer = run(sys.executable, CONTRIB / f"to_{name}.py", statement, evidence)
+            need(answer == Answer(1, "", line + "\n"), (name, text, rows, answer))
+        if line.startswith("# refused S"):
+            answer = run(sys.executable, CONTRIB / "quiver.py", statement)
+            need(answer == Answer(1, "", line + "\n"), (text, answer))
     missing = folder / "missing"
-    for name in ("check.py", "to_latex.py"):
+    for name in ("check.py", "to_latex.py", "to_chain.py"):
         answer = run(sys.executable, CONTRIB / name, missing, evidence)
         need((answer.status, answer.out + answer.error) == (1, f"# load failed {missing}\n"), (name, answer))
     return told(len(cases), by_both, "faulty inputs are answered by the same line")
@@ -303,21 +311,32 @@ def gate_time() -> str:
     return "the time of a process is counted by its crate"
 
 
-def main(words: List[str]) -> int:
-    """Tries the second checkers and the second search, and, but for the word `checker`, all other tools."""
-    with tempfile.TemporaryDirectory() as name:
-        folder = Path(name)
-        checker: List[Callable[[], str]] = [
+def groups(folder: Path) -> Dict[str, List[Callable[[], str]]]:
+    """The checks by their words."""
+    checks = {"chains": try_chains.CHECKS, "pictures": try_pictures.CHECKS, "bounds": try_bounds.CHECKS}
+    return {
+        "checker": [
             examples, lambda: reports(folder), lambda: changes(folder), lambda: bad_input(folder), translations,
             *(functools.partial(check, folder) for check in try_models.CHECKS),
-        ]  # fmt: skip
-        others: List[Callable[[], str]] = [
+        ],
+        **{word: [functools.partial(check, folder) for check in found] for word, found in checks.items()},
+        "others": [
             lambda: try_models.example_searches(folder),
             lambda: singular(folder), lambda: sympy(folder), cofactors, lambda: latex(folder), manual,
             shell("bash", "opprove.bash"), shell("zsh", "_opprove"), shell("fish", "opprove.fish"),
             lambda: vim(folder), grammars, lambda: plain(folder), gate_time,
-        ]  # fmt: skip
-        for check in checker if words == ["checker"] else checker + others:
+        ],
+    }  # fmt: skip
+
+
+def main(words: List[str]) -> int:
+    """Tries what the words name, or all."""
+    with tempfile.TemporaryDirectory() as name:
+        checks = groups(Path(name))
+        if not checks.keys() >= {*words}:
+            print(f"contrib: usage: try.py [{' | '.join(checks)}] ..", flush=True)
+            return 1
+        for check in [check for word in words or checks for check in checks[word]]:
             try:
                 print(f"contrib: {check()}", flush=True)
             except Skipped as what:

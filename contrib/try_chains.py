@@ -363,7 +363,7 @@ class Maker:
 ZEROS = {(0, 0): "0 [U]", (0, 1): "0 a", (1, 0): "0 c", (1, 1): "0 [V]"}
 
 
-def random_certificates(folder: Path, count: int = 150) -> str:
+def random_certificates(folder: Path, count: int = 80) -> str:
     statement, evidence, random = folder / "random.op", folder / "random.cert", Random(1)
     proofs = steps = 0
     for _ in range(count):
