@@ -36,11 +36,11 @@ sources() {
 }
 
 look_at_program() {
-  local stamp
-  [ -x "$built/opprove" ] && [ -f "$built/opprove.o" ] && [ -f "$built/opprove.sources" ] ||
+  local kept
+  { [ -x "$built/opprove" ] && [ -f "$built/opprove.o" ] && [ -f "$built/opprove.sources" ]; } ||
     stop "the program isn't built; ./opprove proves and builds it"
-  mapfile -t stamp <"$built/opprove.sources"
-  kit=$(dirname "${stamp[0]:-}") kit_name=${stamp[1]:-} sources=${stamp[2]:-}
+  mapfile -t kept <"$built/opprove.sources"
+  kit=$(dirname "${kept[0]:-}") kit_name=${kept[1]:-} sources=${kept[2]:-}
   git -C "$top" rev-parse -q --verify HEAD >/dev/null || stop "this is no checkout of git"
   [ -z "$(git -C "$top" status --porcelain)" ] || stop "the checkout has changes"
   [ "$(sources)" = "$sources" ] || stop "the program is that of other sources; ./opprove proves and builds it anew"
