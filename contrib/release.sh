@@ -52,12 +52,14 @@ look_at_program() {
 look_at_owner() {
   local missing=()
   licences=()
-  [ "$is_trial" ] || mapfile -t licences < <(cd "$top" && find . -maxdepth 1 \( -name 'LICENSE*' -o -name 'COPYING*' \) -type f -printf '%P\n' | sort)
-  authors=$(awk '/^authors:/ { is_list = 1; next } is_list && /^ *- / { count++ } /^[a-z]/ { is_list = 0 } END { print count + 0 }' "$top/CITATION.cff")
+  [ "$is_trial" ] ||
+    mapfile -t licences < <(cd "$top" && find . -maxdepth 1 \( -name 'LICENSE*' -o -name 'COPYING*' \) -type f -printf '%P\n' | sort)
+  authors=$(awk '/^[a-z]/ { is_list = /^authors:/ } is_list && /^ *- / { count++ } END { print count + 0 }' "$top/CITATION.cff")
   [ -z "$is_trial" ] || return 0
   ((${#licences[@]})) || missing+=("a licence (the file LICENSE)")
   ((authors)) || missing+=("the authors' names (in CITATION.cff)")
-  ((${#missing[@]} == 0)) || stop "missing, and the owner's to say: ${missing[0]}${missing[1]:+ and ${missing[1]}}; --no-licence makes a package for trial"
+  ((${#missing[@]} == 0)) ||
+    stop "missing, and the owner's to say: ${missing[0]}${missing[1]:+ and ${missing[1]}}; --no-licence makes a package for trial"
 }
 
 # ---- The files
@@ -73,7 +75,10 @@ look_at_needs() {
   local library
   needs=$(objdump -p "$built/opprove" | awk '$1 == "NEEDED" { print $2 }' | sort | tr '\n' ' ')
   for library in $needs; do
-    case $library in libc.so.* | libm.so.* | libpthread.so.* | ld-linux*) ;; *) stop "the program needs more than the C library: $library" ;; esac
+    case $library in
+      libc.so.* | libm.so.* | libpthread.so.* | ld-linux*) ;;
+      *) stop "the program needs more than the C library: $library" ;;
+    esac
   done
   glibc=$(objdump -T "$built/opprove" | grep -o 'GLIBC_[0-9.]*' | sort -Vu | tail -n 1)
   glibc=${glibc#GLIBC_}
@@ -86,7 +91,7 @@ put() {
 }
 
 fill() {
-  local source=$room/source
+  local source=$room/source tool
   mkdir -p "$source" "$tree/bin" "$tree/share/man/man1"
   git -C "$top" archive HEAD -- . ':!crates' | tar -xf - -C "$source"
   cp "$built/opprove" "$tree/bin/opprove"
@@ -101,8 +106,12 @@ fill() {
   put share/fish/vendor_completions.d completions/opprove.fish
   put share/vim/vimfiles vim/ftdetect vim/syntax
   put share/opprove textmate python ../VERSION
-  # All tools but those that try others, or that want a whole checkout.
-  find . -maxdepth 1 -name '*.py' ! -name 'try*.py' ! -name measure.py ! -name gate_time.py ! -name trusted.py -exec cp {} "$tree/share/opprove" \;
+  for tool in *.py; do
+    case $tool in
+      try*.py | measure.py | gate_time.py | trusted.py) ;; # they try others, or want a whole checkout
+      *) put share/opprove "$tool" ;;
+    esac
+  done
   [ ! -d coq ] || put share/opprove coq
   cd "$source"
   put share/doc/opprove README.md CHANGELOG.md CONTRIBUTING.md docs examples ${licences[@]+"${licences[@]}"}
@@ -139,7 +148,7 @@ third_party() {
   done < <({ kit_crates && printf '%s\n' core std; } | sort -u)
   [ ! -f /usr/share/doc/libc6-dev/copyright ] || cp /usr/share/doc/libc6-dev/copyright "$to/glibc"
   {
-    echo "The licences of what the programs are linked with: crates of $kit_name, and in opprove-static the C library of the system (glibc)."
+    echo "The licences of what the programs are linked with: crates of $kit_name, and in opprove-static the C library (glibc)."
     ((${#others[@]} == 0)) || echo "The kit has no licence text for: ${others[*]}"
   } >"$to/README"
 }
@@ -174,14 +183,15 @@ level() {
 
 archive() {
   level "$tree"
-  (cd "$room" && tar --format=gnu --sort=name --owner=0 --group=0 --numeric-owner --mtime="@$stamp" -cf - "$name") | gzip -9n >"$room/$name.tar.gz"
+  (cd "$room" && tar --format=gnu --sort=name --owner=0 --group=0 --numeric-owner --mtime="@$stamp" -cf - "$name") |
+    gzip -9n >"$room/$name.tar.gz"
 }
 
 debian() {
   local deb=$room/deb
   mkdir -p "$deb/DEBIAN" && cp -a "$tree" "$deb/usr"
   mv "$deb/usr/share/zsh/site-functions" "$deb/usr/share/zsh/vendor-completions"
-  echo "The licence of opprove is ${licences[*]:-not said yet}; those of what it is linked with are in the folder licences beside this file." \
+  echo "The licence of opprove: ${licences[*]:-not said yet}. Those of what it is linked with: the folder licences beside this file." \
     >"$deb/usr/share/doc/opprove/copyright"
   cat >"$deb/DEBIAN/control" <<END_OF_CONTROL
 Package: opprove
@@ -199,7 +209,8 @@ Description: proves identities of matrices and linear operators
 END_OF_CONTROL
   (cd "$deb" && find usr -type f -print0 | sort -z | xargs -0 md5sum >DEBIAN/md5sums)
   level "$deb"
-  SOURCE_DATE_EPOCH=$stamp dpkg-deb --root-owner-group -Zxz --build "$deb" "$room/$package" >"$room/said" 2>&1 || stop "dpkg-deb: $(head -n 1 "$room/said")"
+  SOURCE_DATE_EPOCH=$stamp dpkg-deb --root-owner-group -Zxz --build "$deb" "$room/$package" >"$room/said" 2>&1 ||
+    stop "dpkg-deb: $(head -n 1 "$room/said")"
 }
 
 main() {

@@ -32,21 +32,7 @@ def program() -> str:
     return NAMED
 
 
-# ---- The gallery, built from objects
-
-
-def adjoint_of_pseudoinverse(s: Statement) -> None:
-    U, V = s.objects("U V")
-    a, x = s.map("a", U, V), s.map("x", V, U)
-    s.pinv(a, x)
-    s.claim(a.H * x.H * a.H == a.H, x.H * a.H * x.H == x.H, (a.H * x.H).H == a.H * x.H, (x.H * a.H).H == x.H * a.H)
-
-
-def braid_relation(s: Statement) -> None:
-    V = s.object("V")
-    a, b = s.maps("a b", V, V)
-    s.assume(b * a * b == a * b * a)
-    s.claim(a == b)
+# ---- Statements, built from objects
 
 
 def commutator_square(s: Statement) -> None:
@@ -61,20 +47,6 @@ def evaluation_idempotent(s: Statement) -> None:
     d, i = s.maps("d i", V, V)
     s.assume(d * i == 1)
     s.claim((1 - i * d) ** 2 == 1 - i * d, d * (1 - i * d) == 0, (1 - i * d) * i == 0)
-
-
-def jacobson_lemma(s: Statement) -> None:
-    U, V = s.objects("U V")
-    a, b, c = s.map("a", V, U), s.map("b", U, V), s.map("c", U, U)
-    s.assume((1 - a * b) * c == 1, c * (1 - a * b) == 1)
-    s.claim((1 - b * a) * (1 + b * c * a) == 1, (1 + b * c * a) * (1 - b * a) == 1)
-
-
-def left_and_right_inverse(s: Statement) -> None:
-    U, V = s.objects("U V")
-    left, a, r = s.map("l", V, U), s.map("a", U, V), s.map("r", V, U)
-    s.assume(left * a == 1, a * r == 1)
-    s.claim(left == r)
 
 
 def moore_penrose_unique(s: Statement) -> None:
@@ -93,29 +65,6 @@ def one_sided_inverse(s: Statement) -> None:
     s.shape(2, (U, 2), (V, 1))
 
 
-def push_through(s: Statement) -> None:
-    U, V = s.objects("U V")
-    a, b, p, q = s.map("a", U, V), s.map("b", V, U), s.map("s", U, U), s.map("t", V, V)
-    s.assume((1 + b * a) * p == 1, q * (1 + a * b) == 1)
-    s.claim(a * p == q * a)
-
-
-def resolvent(s: Statement) -> None:
-    V = s.object("V")
-    a, b, r, q = s.maps("a b r s", V, V)
-    s.inverse(a, r)
-    s.inverse(b, q)
-    s.claim(r - q == r * (b - a) * q)
-
-
-def reverse_order_inverse(s: Statement) -> None:
-    U, V, W = s.objects("U V W")
-    a, b, x, y = s.map("a", V, W), s.map("b", U, V), s.map("x", W, V), s.map("y", V, U)
-    s.inverse(a, x)
-    s.inverse(b, y)
-    s.claim(a * b * y * x == 1, y * x * a * b == 1)
-
-
 def woodbury(s: Statement) -> None:
     U, V = s.objects("U V")
     a, x = s.maps("a x", U, U)
@@ -126,10 +75,78 @@ def woodbury(s: Statement) -> None:
     s.claim((a + u * c * v) * (x - x * u * m * v * x) == 1, (x - x * u * m * v * x) * (a + u * c * v) == 1)
 
 
-GALLERY: List[Callable[["Statement"], None]] = [
-    adjoint_of_pseudoinverse, braid_relation, commutator_square, evaluation_idempotent, jacobson_lemma, left_and_right_inverse,
-    moore_penrose_unique, one_sided_inverse, push_through, resolvent, reverse_order_inverse, woodbury,
+WRITTEN: List[Callable[["Statement"], None]] = [
+    commutator_square, evaluation_idempotent, moore_penrose_unique, one_sided_inverse, woodbury,
 ]  # fmt: skip
+
+
+class Builder:
+    """Builds a statement by the operators of Python, token by token of a text."""
+
+    def __init__(self, path: Path) -> None:
+        self.statement = Statement()
+        for text in path.read_text().split("\n"):
+            self.tokens = check.tokens_of(text, 1)
+            if self.tokens:
+                self.line([token.text for token in self.tokens[:-1]])
+
+    def line(self, words: List[str]) -> None:
+        s, word, names = self.statement, words[0], words[1:]
+        if word == "object":
+            s.objects(" ".join(names))
+        elif word == "map":
+            place = names.index(":")
+            source, target = s[names[place + 1]], s[names[place + 3]]
+            s.maps(" ".join(names[:place]), source, target, self_adjoint=names[-1] == "self" and len(names) > place + 4)
+        elif word in ("assume", "claim"):
+            getattr(s, word)(self.equation())
+        elif word in ("pinv", "inverse", "inner", "projection", "solve"):
+            getattr(s, word)(*(s[name] for name in names))
+        elif word == "model":
+            s.shape(int(names[0]), *((s[name], int(side)) for name, side in zip(names[1::2], names[2::2])))
+        elif names[:1] == ["weight"]:
+            s.weights(*((s[name], int(weight)) for name, weight in zip(names[1::2], names[2::2])))
+        else:
+            s.write(" ".join(words))
+
+    def take(self, *kinds: str) -> str:
+        """The next token, if it is of one of these kinds."""
+        return self.tokens.pop(0).text if self.tokens[0].kind in kinds else ""
+
+    def equation(self) -> Equation:
+        self.take("name")
+        left = self.sum()
+        need(self.take("="), self.tokens)
+        return left == self.sum()
+
+    def sum(self) -> Expression:
+        sign = self.take("+", "-")
+        total = -self.term() if sign == "-" else self.term()
+        while self.tokens[0].kind in ("+", "-"):
+            total = total + self.term() if self.take("+", "-") == "+" else total - self.term()
+        return total
+
+    def term(self) -> Expression:
+        number = self.take("literal")
+        value = None
+        while self.tokens[0].kind in ("name", "[", "("):
+            value = self.factor() if value is None else value * self.factor()
+        if value is None:
+            return int(number)
+        return int(number) * value if number else value
+
+    def factor(self) -> Expression:
+        if self.take("("):
+            value = self.sum()
+            self.take(")")
+        elif self.take("["):
+            value = self.statement[self.take("name")].id
+            self.take("]")
+        else:
+            value = self.statement[self.take("name")]
+        while self.take("'"):
+            value = value.H
+        return value
 
 
 def polys(problem: check.Problem) -> Tuple[object, ...]:
@@ -144,18 +161,19 @@ def problem_of(folder: Path, text: str) -> check.Problem:
 
 def gallery(folder: Path) -> str:
     """The statements from objects are those of the files, which are read and written back."""
-    names = sorted(path.stem for path in EXAMPLES.glob("gallery/*.op"))
-    need(sorted(build.__name__ for build in GALLERY) == names, names)
-    for build in GALLERY:
-        path = EXAMPLES / "gallery" / f"{build.__name__}.op"
+    for build in WRITTEN:
         build(built := Statement())
+        path = EXAMPLES / "gallery" / f"{build.__name__}.op"
         need(polys(problem_of(folder, str(built))) == polys(check.Problem(str(path))), (path, str(built)))
     paths = sorted(EXAMPLES.glob("**/*.op"))
     for path in paths:
-        read = Statement.read(path)
+        built, read, problem = Builder(path).statement, Statement.read(path), check.Problem(str(path))
+        need(polys(problem_of(folder, str(built))) == polys(problem), (path, str(built)))
         need(str(read) == path.read_text() and str(Statement.read(problem_file(folder, str(read)))) == str(read), path)
-        need(read._repr_svg_() is not None and len(read.claims) == len(check.Problem(str(path)).claims), path)
-    return f"{len(GALLERY)} statements of the gallery are built from objects, and {len(paths)} statements are read and written"
+        need(len(read.claims) == len(problem.claims) == len(built.claims), path)
+        lines = [[token.text for token in check.tokens_of(line, 1)] for line in str(built).split("\n")]
+        need({token for line in lines for token in line} >= {*built.names} and {*built.names} == {*read.names}, path)
+    return f"{len(paths)} statements are built from objects, {len(WRITTEN)} of them by hand, and read and written"
 
 
 def problem_file(folder: Path, text: str) -> Path:
@@ -168,18 +186,18 @@ def heads(folder: Path) -> str:
     rows = re.findall(r"^\| `(\w+)\.op`: [^|]* \| (.*) \|$", (EXAMPLES / "README.md").read_text(), re.MULTILINE)
     wanted = {name: (re.findall("`# ([^`]*)`", text), "".join(re.findall(r"\(`([^`]*)`\)", text))) for name, text in rows}
     count = 0
-    for build in GALLERY:
-        lines, options = wanted[build.__name__]
-        build(s := Statement())
+    paths = [path for path in sorted(EXAMPLES.glob("gallery/*.op")) if path.stem in wanted]
+    for path in paths:
+        lines, options = wanted[path.stem]
+        s = Builder(path).statement
         verdicts = s.prove(*options.split(), program=program())
         found = [f"claim {verdict.number} {verdict.kind} {verdict.detail}" for verdict in verdicts]
-        need(found == lines, (build.__name__, found, lines))
-        is_false = build in (braid_relation, one_sided_inverse)
-        more = s.refute(program=program()) if is_false else s.prove("--format", 1, program=program())
-        for verdict in verdicts + more:
-            count += confirmed(verdict)
-    need(count == 38, count)
-    return f"the gallery has the head lines of its page; {count} verdicts are confirmed, and not with a change"
+        need(found == lines, (path, found, lines))
+        is_false = path.stem in ("braid_relation", "one_sided_inverse")
+        more = s.refute(program=program()) if is_false else s.prove("--format", 1, *options.split(), program=program())
+        count += sum([confirmed(verdict) for verdict in verdicts + more])
+    need(count >= 38 and len(paths) >= 12, (count, paths))
+    return f"{len(paths)} statements of the gallery have the head lines of its page; {count} verdicts are confirmed, and not with a change"
 
 
 def confirmed(verdict: Verdict) -> bool:
@@ -439,7 +457,8 @@ def statuses(folder: Path) -> str:
             fake.write_text(f"#!/bin/sh\nkill -{-status} $$\n")
         for action in (lambda: s.prove(program=str(fake)), lambda: s.check("", program=str(fake))):
             raised(action, Refused, line, status)
-    raised(lambda: Statement().prove(program=str(folder / "none")), FileNotFoundError, f"[Errno 2] No such file or directory: '{folder / 'none'}'")
+    none = str(folder / "none")
+    raised(lambda: s.prove(program=none), FileNotFoundError, f"[Errno 2] No such file or directory: '{none}'")
     path = os.environ.pop("PATH")
     named = os.environ.pop("OPPROVE", None)
     try:
@@ -502,13 +521,15 @@ def in_venv(python: str, folder: Path) -> str:
     """Installs the package for this Python, and tries it there."""
     room = folder / "venv"
     need(run(python, "-m", "venv", room).status == 0, python)
-    answer = run(room / "bin" / "python", "-m", "pip", "install", "--no-index", "--quiet", "--disable-pip-version-check", CONTRIB / "python")
+    own = room / "bin" / "python"
+    options = ("--no-index", "--quiet", "--disable-pip-version-check")
+    answer = run(own, "-m", "pip", "install", *options, CONTRIB / "python")
     need(answer.status == 0, answer)
-    answer = run(room / "bin" / "python", "-I", "-c", ALONE, folder=folder)
+    answer = run(own, "-I", "-c", ALONE, folder=folder)
     need(answer.status == 0 and answer.out == "['opprove_py'] ['opprove_py', 'opprove_py']\n", answer)
-    done = subprocess.run([str(room / "bin" / "python"), str(HERE), "here"], timeout=600)
+    done = subprocess.run([str(own), str(HERE), "here"], timeout=1200)
     need(done.returncode == 0, f"{python} {done.returncode}")
-    version = run(room / "bin" / "python", "--version").out.strip()
+    version = run(own, "--version").out.strip()
     return f"{version} has the package from pip, with no network and no other name"
 
 

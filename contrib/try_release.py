@@ -42,13 +42,16 @@ KINDS += " preferred-citation references repository repository-artifact reposito
 FIELDS = {*KINDS.split()}  # of the Citation File Format 1.2.0
 
 
+OTHER_SOURCES = "the program is that of other sources; ./opprove proves and builds it anew"
+
+
 class Checkout:
     """A clone with a built program, in a folder with room for more."""
 
     def __init__(self, folder: Path) -> None:
         for name in ("git", "gcc", "strip", "objdump", "dpkg", "dpkg-deb", "gzip", "tar"):
             installed(name)
-        self.folder, self.top = folder, folder / "checkout"
+        self.folder, self.top, self.refusals = folder, folder / "checkout", 0
         self.git("clone", "--quiet", TOP, self.top)
         for name in run("git", "ls-files", "-z", "--modified", "--others", "--exclude-standard").out.split("\0"):
             if name and (TOP / name).is_file():
@@ -132,6 +135,7 @@ class Checkout:
         answer = self.release(*(words or ["--no-licence", self.folder / "none"]))
         need(answer == Answer(1, "", f"release: {message}\n"), (message, answer))
         need(not (self.folder / "none").exists(), "something was written")
+        self.refusals += 1
 
 
 def files(folder: Path) -> Dict[str, bytes]:
@@ -178,7 +182,10 @@ def archive(checkout: Checkout) -> str:
     missing = [name for name in wanted if name not in inside and not (checkout.is_real and "strsim" in name)]
     odd = [name for name in inside if re.search(r"__pycache__|/try|\.rt$|\.antt$", name)]
     need(not missing and not odd, (missing, odd))
-    return f"archive and package have the same {len(inside)} files"
+    links = re.findall(r"\]\(([^)#:]+)\)", inside["share/doc/opprove/README.md"].decode())
+    dead = [link for link in links if f"share/doc/opprove/{link}" not in inside]
+    need(not dead, dead)
+    return f"archive and package have the same {len(inside)} files, and no link of README is dead"
 
 
 def answers(checkout: Checkout) -> str:
@@ -201,6 +208,9 @@ def answers(checkout: Checkout) -> str:
     tool = checkout.tree / "usr" / "share" / "opprove" / "check.py"
     answer = run(sys.executable, tool, examples / "pasted_squares.op", examples / "pasted_squares.cert")
     need(answer == Answer(0, "# block 1 accepted claim 1 denominator 1\n", ""), answer)
+    wheel = "import backend; print(backend.build_wheel('.'))"
+    answer = run(sys.executable, "-c", wheel, folder=tool.parent / "python")
+    need(answer.out == f"opprove_py-{(TOP / 'VERSION').read_text().strip()}-py3-none-any.whl\n", answer)
     answer = run("ldd", checkout.tree / "usr" / "bin" / "opprove-static")
     need("not a dynamic executable" in answer.out + answer.error, answer)
     return f"{len(calls)} calls are answered by both packed programs as by the built one, and check.py runs"
@@ -264,6 +274,14 @@ def refusals(checkout: Checkout) -> str:
     usage = "usage: release.sh [--no-licence] [OUT]"
     checkout.refused(usage, "--help")
     checkout.refused(usage, "one", "two")
+    kept = checkout.out / "opprove.sources"
+    text = kept.read_text()
+    for line, message in ((2, OTHER_SOURCES), (1, "the kit that built the program isn't there: x")):
+        lines = text.split("\n")
+        lines[line] = "x"
+        kept.write_text("\n".join(lines))
+        checkout.refused(message)
+    kept.write_text(text)
     for name in ("opprove", "opprove.o", "opprove.sources"):
         (checkout.out / name).rename(checkout.out / "aside")
         checkout.refused("the program isn't built; ./opprove proves and builds it")
@@ -275,18 +293,19 @@ def refusals(checkout: Checkout) -> str:
     version = (checkout.top / "VERSION").read_text().strip()
     message = f"CITATION.cff has to have the line 'version: \"{version}\"'"
     changed(checkout, "CITATION.cff", lambda text: text.replace("\nversion", "\nversions"), message)
-    changed(checkout, "contrib/opprove.1", lambda text: text.replace("\n.Os", "\n.Os x"), f"contrib/opprove.1 has to have the line '.Os opprove {version}'")
+    message = f"contrib/opprove.1 has to have the line '.Os opprove {version}'"
+    changed(checkout, "contrib/opprove.1", lambda text: text.replace("\n.Os", "\n.Os x"), message)
     owner = "missing, and the owner's to say: a licence (the file LICENSE) and the authors' names (in CITATION.cff)"
     checkout.refused(f"{owner}; --no-licence makes a package for trial", checkout.folder / "none")
     checkout.refused("nothing can be written to /dev/null", "--no-licence", "/dev/null")
     source = checkout.top / "crates" / "lists" / "src" / "lib.rt"
     source.write_text(source.read_text() + "// more\n")
     checkout.commit("other sources")
-    checkout.refused("the program is that of other sources; ./opprove proves and builds it anew")
+    checkout.refused(OTHER_SOURCES)
     checkout.git("-C", checkout.top, "reset", "--quiet", "--hard", "HEAD~1")
     answer = checkout.release("--no-licence", checkout.folder / "none", GATE_LOG="missing")
     need(answer == Answer(1, "", "release: the gate's log can't be read: missing\n"), answer)
-    return "17 things that are wrong or missing end it with one line and status 1"
+    return f"{checkout.refusals} things that are wrong or missing end it with one line and status 1"
 
 
 def owners(checkout: Checkout) -> str:
@@ -329,7 +348,8 @@ def main() -> int:
     with tempfile.TemporaryDirectory() as name:
         try:
             checkout = Checkout(Path(name))
-            print(f"release: {'the program that is built here' if checkout.is_real else 'a stand-in, as the program of these sources is not built'}")
+            what = "the program that is built here" if checkout.is_real else "a stand-in, as the program of these sources is not built"
+            print(f"release: {what}", flush=True)
             for check in CHECKS:
                 try:
                     print(f"release: {check(checkout)}", flush=True)

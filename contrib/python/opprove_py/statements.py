@@ -141,6 +141,10 @@ class Statement:
             raise NotTyped(f"{p.typed()} doesn't compose with {p.typed()}")
         self.lines.append(f"projection {self.own_map(p)}")
 
+    def write(self, line: str) -> None:
+        """A line of the statement language as it is."""
+        self.lines.append(line)
+
     # ---- How opprove goes about it
 
     def weights(self, *pairs: Tuple[Expression, int]) -> None:
