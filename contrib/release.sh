@@ -108,7 +108,7 @@ fill() {
   put share/opprove textmate python ../VERSION
   for tool in *.py; do
     case $tool in
-      try*.py | measure.py | gate_time.py | trusted.py) ;; # they try others, or want a whole checkout
+      try.py | try_*.py | measure.py | gate_time.py | trusted.py) ;; # they try others, or want a whole checkout
       *) put share/opprove "$tool" ;;
     esac
   done

@@ -10,6 +10,7 @@ from __future__ import annotations
 import dataclasses
 import os
 import re
+import shutil
 import subprocess
 import sys
 import tempfile
@@ -20,7 +21,7 @@ from typing import Callable, Dict, List, NamedTuple, Tuple
 
 sys.dont_write_bytecode = True
 import check
-from trying import CONTRIB, EXAMPLES, PROGRAM, Failed, Skipped, installed, need, run
+from trying import CONTRIB, EXAMPLES, PROGRAM, Failed, Skipped, need, run
 
 HERE = Path(__file__).resolve()
 NAMED = os.environ.get("OPPROVE") or str(PROGRAM)
@@ -187,6 +188,7 @@ def heads(folder: Path) -> str:
     wanted = {name: (re.findall("`# ([^`]*)`", text), "".join(re.findall(r"\(`([^`]*)`\)", text))) for name, text in rows}
     count = 0
     paths = [path for path in sorted(EXAMPLES.glob("gallery/*.op")) if path.stem in wanted]
+    proofs: List[str] = []
     for path in paths:
         lines, options = wanted[path.stem]
         s = Builder(path).statement
@@ -196,7 +198,9 @@ def heads(folder: Path) -> str:
         is_false = path.stem in ("braid_relation", "one_sided_inverse")
         more = s.refute(program=program()) if is_false else s.prove("--format", 1, *options.split(), program=program())
         count += sum([confirmed(verdict) for verdict in verdicts + more])
+        proofs += [verdict._repr_latex_() for verdict in verdicts if verdict]
     need(count >= 38 and len(paths) >= 12, (count, paths))
+    typeset(folder, proofs)
     return f"{len(paths)} statements of the gallery have the head lines of its page; {count} verdicts are confirmed, and not with a change"
 
 
@@ -497,11 +501,19 @@ def notebook(folder: Path) -> str:
         if path.stem in ("pasted_squares", "one_sided_inverses", "pseudoinverses"):
             s = Statement.read(path.with_suffix(".op"))
             proofs.append(Verdict(1, s.claims[0], "proved", "denominator 1", path.read_text(), str(s))._repr_latex_())
+    by = "typeset by pdflatex" if typeset(folder, proofs) else "not typeset, as pdflatex is not installed"
+    return f"pictures are XML, and {len(proofs)} proofs are {by}"
+
+
+def typeset(folder: Path, proofs: List[str]) -> bool:
+    """Whether pdflatex is there to typeset them."""
     head = [r"\documentclass{article}", r"\usepackage{amsmath}", r"\begin{document}"]
     (folder / "proofs.tex").write_text("\n\n".join([*head, *proofs, r"\end{document}"]))
-    answer = run(installed("pdflatex"), "-interaction=nonstopmode", "-halt-on-error", "proofs.tex", folder=folder)
-    need(answer.status == 0, answer)
-    return f"pictures are XML, and {len(proofs)} proofs are typeset by pdflatex"
+    program = shutil.which("pdflatex")
+    if program:
+        answer = run(program, "-interaction=nonstopmode", "-halt-on-error", "proofs.tex", folder=folder)
+        need(answer.status == 0, answer)
+    return program is not None
 
 
 CHECKS: List[Callable[[Path], str]] = [gallery, expressions, refusals, stored, statuses, sympy, notebook, real_statuses, heads]

@@ -180,7 +180,7 @@ def archive(checkout: Checkout) -> str:
               "share/doc/opprove/docs/FORMATS.md", "share/doc/opprove/examples/gallery/woodbury.op",
               "share/doc/opprove/licences/clap/LICENSE-MIT", "share/doc/opprove/licences/strsim/LICENSE-MIT"]  # fmt: skip
     missing = [name for name in wanted if name not in inside and not (checkout.is_real and "strsim" in name)]
-    odd = [name for name in inside if re.search(r"__pycache__|/try|\.rt$|\.antt$", name)]
+    odd = [name for name in inside if re.search(r"__pycache__|/try(_\w+)?\.py|\.rt$|\.antt$", name)]
     need(not missing and not odd, (missing, odd))
     links = re.findall(r"\]\(([^)#:]+)\)", inside["share/doc/opprove/README.md"].decode())
     dead = [link for link in links if f"share/doc/opprove/{link}" not in inside]
@@ -192,28 +192,45 @@ def answers(checkout: Checkout) -> str:
     """Both packed programs answer as the built one, without the toolchain."""
     environment = {"PATH": "/usr/bin:/bin", "LC_ALL": "C"}
     examples = checkout.tree / "usr" / "share" / "doc" / "opprove" / "examples"
-    calls: List[List[str]] = [["--version"]]
-    for path in sorted(examples.glob("**/*.op")):
-        options = ["--pairs", "1", "--no-models"] if path.stem == "braid_relation" else []
-        calls += [["prove", str(path), "--format", number, *options] for number in "12"]
-    for path in sorted(examples.glob("*.cert")):
-        statement = next(other for other in examples.glob("*.op") if path.stem.startswith(other.stem))
-        calls.append(["check", str(statement), str(path)])
+    calls = calls_on(examples)
     for call in calls:
         found: List[Tuple[int, bytes]] = []
         for program in (checkout.out / "opprove", *(checkout.tree / "usr" / "bin" / name for name in ("opprove", "opprove-static"))):
             done = subprocess.run([str(program), *call], env=environment, capture_output=True, timeout=120)
             found.append((done.returncode, done.stdout))
         need(len({*found}) == 1 and found[0][1] != b"", (call, found))
-    tool = checkout.tree / "usr" / "share" / "opprove" / "check.py"
-    answer = run(sys.executable, tool, examples / "pasted_squares.op", examples / "pasted_squares.cert")
-    need(answer == Answer(0, "# block 1 accepted claim 1 denominator 1\n", ""), answer)
-    wheel = "import backend; print(backend.build_wheel('.'))"
-    answer = run(sys.executable, "-c", wheel, folder=tool.parent / "python")
-    need(answer.out == f"opprove_py-{(TOP / 'VERSION').read_text().strip()}-py3-none-any.whl\n", answer)
     answer = run("ldd", checkout.tree / "usr" / "bin" / "opprove-static")
     need("not a dynamic executable" in answer.out + answer.error, answer)
-    return f"{len(calls)} calls are answered by both packed programs as by the built one, and check.py runs"
+    return f"{len(calls)} calls are answered by both packed programs as by the built one"
+
+
+def calls_on(examples: Path) -> List[List[str]]:
+    """Words for the program: all statements and certificates of the examples."""
+    calls = [["--version"]]
+    for path in sorted(examples.glob("**/*.op")):
+        is_long = path.stem == "braid_relation" or path.parent.name == "harder"
+        options = ["--pairs", "20", "--no-models"] if is_long else []
+        calls += [["prove", str(path), "--format", number, *options] for number in "12"]
+    for path in sorted(examples.glob("*.cert")):
+        statement = next(other for other in examples.glob("*.op") if path.stem.startswith(other.stem))
+        calls.append(["check", str(statement), str(path)])
+    return calls
+
+
+def tools(checkout: Checkout) -> str:
+    """The tools start from where they are packed, check.py checks there, and the package for Python is built there."""
+    share = checkout.tree / "usr" / "share"
+    found = sorted(path for path in (share / "opprove").glob("*.py") if path.name != "trying.py")
+    for path in found:
+        answer = run(sys.executable, path, "missing", "missing", "missing", "missing")
+        need("Traceback" not in answer.error, (path, answer))
+    examples = share / "doc" / "opprove" / "examples"
+    answer = run(sys.executable, share / "opprove" / "check.py", examples / "pasted_squares.op", examples / "pasted_squares.cert")
+    need(answer == Answer(0, "# block 1 accepted claim 1 denominator 1\n", ""), answer)
+    wheel = "import backend; print(backend.build_wheel('.'))"
+    answer = run(sys.executable, "-c", wheel, folder=share / "opprove" / "python")
+    need(answer.out == f"opprove_py-{(TOP / 'VERSION').read_text().strip()}-py3-none-any.whl\n", answer)
+    return f"{len(found)} tools start from where they are packed, check.py checks there, and the package for Python is built"
 
 
 def manual(checkout: Checkout) -> str:
@@ -341,7 +358,7 @@ def citation(checkout: Checkout) -> str:
     return f"CITATION.cff is YAML with fields of format 1.2.0; {said}"
 
 
-CHECKS: List[Callable[[Checkout], str]] = [same_bytes, archive, answers, manual, record, control, citation, refusals, owners]
+CHECKS: List[Callable[[Checkout], str]] = [same_bytes, archive, answers, tools, manual, record, control, citation, refusals, owners]
 
 
 def main() -> int:

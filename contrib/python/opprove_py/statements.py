@@ -46,6 +46,9 @@ class Statement:
     def __str__(self) -> str:
         return "".join(f"{line}\n" for line in self.lines)
 
+    def __repr__(self) -> str:
+        return str(self).rstrip("\n")
+
     # ---- Declarations
 
     def declare(self, names: str) -> List[str]:
