@@ -23,8 +23,9 @@ look_at_version() {
   version=$(cat "$top/VERSION" 2>/dev/null) || stop "there is no file VERSION"
   [[ $version =~ ^(0|[1-9][0-9]*)(\.(0|[1-9][0-9]*))*$ ]] || stop "VERSION has to hold numbers with dots between them"
   [ "$(head -n 1 "$top/CHANGELOG.md" 2>/dev/null)" = "# $version" ] || stop "CHANGELOG.md has to begin with the version, '# $version'"
-  grep -qx "version: \"$version\"" "$top/CITATION.cff" || stop "CITATION.cff has to have the line 'version: \"$version\"'"
-  grep -qx "\.Os opprove $version" "$top/contrib/opprove.1" || stop "contrib/opprove.1 has to have the line '.Os opprove $version'"
+  grep -qsFx "version: \"$version\"" "$top/CITATION.cff" || stop "CITATION.cff has to have the line 'version: \"$version\"'"
+  grep -qsFx "This page is of version $version." "$top/contrib/opprove.1" ||
+    stop "contrib/opprove.1 has to have the line 'This page is of version $version.'"
 }
 
 # The checksum of all that the program is made of, as ./opprove keeps it.

@@ -237,7 +237,7 @@ def manual(checkout: Checkout) -> str:
     page = checkout.tree / "usr" / "share" / "man" / "man1" / "opprove.1.gz"
     answer = run(installed("man"), "--warnings", "-E", "UTF-8", "-l", "-Tutf8", page)
     version = (TOP / "VERSION").read_text().strip()
-    need(answer.status == 0 and not answer.error and f"opprove {version}" in answer.out, answer.error)
+    need(answer.status == 0 and not answer.error and f"version {version}" in answer.out, answer.error)
     return "the packed manual page has no warnings, and tells the version"
 
 
@@ -310,8 +310,8 @@ def refusals(checkout: Checkout) -> str:
     version = (checkout.top / "VERSION").read_text().strip()
     message = f"CITATION.cff has to have the line 'version: \"{version}\"'"
     changed(checkout, "CITATION.cff", lambda text: text.replace("\nversion", "\nversions"), message)
-    message = f"contrib/opprove.1 has to have the line '.Os opprove {version}'"
-    changed(checkout, "contrib/opprove.1", lambda text: text.replace("\n.Os", "\n.Os x"), message)
+    message = f"contrib/opprove.1 has to have the line 'This page is of version {version}.'"
+    changed(checkout, "contrib/opprove.1", lambda text: text.replace("\nThis page is of", "\nThis is"), message)
     owner = "missing, and the owner's to say: a licence (the file LICENSE) and the authors' names (in CITATION.cff)"
     checkout.refused(f"{owner}; --no-licence makes a package for trial", checkout.folder / "none")
     checkout.refused("nothing can be written to /dev/null", "--no-licence", "/dev/null")
