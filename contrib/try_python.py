@@ -532,17 +532,21 @@ print(sorted(names), sorted(name.split("-")[0] for name in top))
 def in_venv(python: str, folder: Path) -> str:
     """Installs the package for this Python, and tries it there."""
     room = folder / "venv"
-    need(run(python, "-m", "venv", room).status == 0, python)
     own = room / "bin" / "python"
     options = ("--no-index", "--quiet", "--disable-pip-version-check")
-    answer = run(own, "-m", "pip", "install", *options, CONTRIB / "python")
-    need(answer.status == 0, answer)
+    patiently(python, "-m", "venv", room)
+    patiently(own, "-m", "pip", "install", *options, CONTRIB / "python")
     answer = run(own, "-I", "-c", ALONE, folder=folder)
     need(answer.status == 0 and answer.out == "['opprove_py'] ['opprove_py', 'opprove_py']\n", answer)
-    done = subprocess.run([str(own), str(HERE), "here"], timeout=1200)
-    need(done.returncode == 0, f"{python} {done.returncode}")
+    patiently(own, HERE, "here")
     version = run(own, "--version").out.strip()
     return f"{version} has the package from pip, with no network and no other name"
+
+
+def patiently(*words: object) -> None:
+    """A command that may take longer than two minutes on a busy machine."""
+    done = subprocess.run([str(word) for word in words], timeout=1200)
+    need(done.returncode == 0, words)
 
 
 def tried(checks: List[Callable[[Path], str]]) -> int:
