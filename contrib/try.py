@@ -23,7 +23,9 @@ import measure
 import try_bounds
 import try_chains
 import try_models
+import try_opprove
 import try_pictures
+import try_why
 from trying import CONTRIB, EXAMPLES, PROGRAM, Answer, Failed, Skipped, installed, need, run
 
 # ---- The two checkers
@@ -203,7 +205,7 @@ def bad_input(folder: Path) -> str:
 
 # ---- The other tools
 
-TRANSLATIONS = {"singular": ".sing", "sympy": "_sympy.py", "latex": ".tex"}
+TRANSLATIONS = {"singular": ".sing", "sympy": "_sympy.py", "latex": ".tex", "coq": ".v"}
 
 
 def translations() -> str:
@@ -311,12 +313,19 @@ def gate_time() -> str:
     return "the time of a process is counted by its crate"
 
 
+def trusted_files() -> str:
+    answer = run(sys.executable, CONTRIB / "trusted.py")
+    need(answer.status == 0 and not answer.error, "docs/DEFINITIONS.md has other files to trust: contrib/trusted.py --write")
+    return answer.out.split(":")[0] + " are listed to be trusted"
+
+
 def groups(folder: Path) -> Dict[str, List[Callable[[], str]]]:
     """The checks by their words."""
     checks = {"chains": try_chains.CHECKS, "pictures": try_pictures.CHECKS, "bounds": try_bounds.CHECKS}
+    checks["words"] = try_why.CHECKS + try_opprove.CHECKS
     return {
         "checker": [
-            examples, lambda: reports(folder), lambda: changes(folder), lambda: bad_input(folder), translations,
+            examples, lambda: reports(folder), lambda: changes(folder), lambda: bad_input(folder), translations, trusted_files,
             *(functools.partial(check, folder) for check in try_models.CHECKS),
         ],
         **{word: [functools.partial(check, folder) for check in found] for word, found in checks.items()},

@@ -8,14 +8,14 @@ ghost use Rattle.claim_decider.specs.Decided.{claim_at};
 ghost use Rattle.claim_decider.specs.Cases.{IsJudged, StandingFollows, IsCase, IsNumber, HasRounds};
 
 use crate::Outcome;
-use crate::causes::{halted, reduction_cause};
+use crate::causes::halted;
 use crate::proof::{prove, prove_zero};
 use adjoint_rules::Problem;
 use cofactor_trace::{Format, Made, Place};
 use lists::Duplicate;
 use nc_polynomial::Poly;
 use std::alloc::{AllocError, Global};
-use traced_completion::{Completion, Step};
+use traced_completion::{Completion, Step, reduction_cause};
 
 /// How it stands with a claim.
 #[derive(Drop)]

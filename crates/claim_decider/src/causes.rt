@@ -1,26 +1,10 @@
 //! The causes of faults, and claims that halt.
 ghost use Rattle.std.specs.Prelude.{◌≡◌, IfOk};
-ghost use Rattle.traced_completion.specs.PlainRun.{IsCauseOf};
 ghost use Rattle.claim_decider.specs.Outcomes.{IsCauseOfExpansion, IsCauseOfGathering, halted_at};
 
 use crate::Outcome;
 use cofactor_trace::{Cause, ExpandFault, GatherFault, Halt, Place};
-use rule_reduce::ReduceFault;
 use std::alloc::AllocError;
-
-// The cause of a fault of a reduction, unless it is want of memory.
-pub(crate) fn reduction_cause(fault: ReduceFault) -> Result<Cause, AllocError>
-    ensures { IfOk result (IsCauseOf fault) }
-{
-    match fault {
-        ReduceFault::Steps { limit } => Ok(Cause::Steps { limit }),
-        ReduceFault::Overflow(overflow) => Ok(Cause::Overflow(overflow)),
-        ReduceFault::Size(size) => Ok(Cause::Size {
-            letters: size.letters,
-        }),
-        ReduceFault::Memory(failed) => Err(failed),
-    }
-}
 
 // The cause of a fault of expansion. A word that is too long is what its `Size` says.
 pub(crate) fn expansion_cause(fault: ExpandFault) -> Result<Cause, AllocError>

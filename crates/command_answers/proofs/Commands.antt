@@ -1,95 +1,126 @@
--- What each command owes: one ending for each contents, a status of its own, and the sentence of its ending.
-use Rattle.std.proofs.Common.{◌≡◌, ◌≢◌, ℕ, List, [], ◌∷◌, arith}
+-- What all commands owe.
+use Rattle.std.proofs.Common.{◌≡◌, ◌≤◌, ◌<◌, ℕ, zero, suc, List, [], ◌∷◌, Result, length, get_or, refl, sym, subst, arith}
+use Rattle.std.specs.List.{AllZip}
+use Rattle.std.proofs.lemmas.Slice.Zip.{AllZip-long}
 use Rattle.definitions.specs.Category.{Structure, PreadditiveLaws}
 use Rattle.definitions.specs.Soundness.{IsSound}
 use Rattle.representations.specs.Evidence.{IsEvidenceSound}
 use Rattle.report_text.specs.Report.{report_of, heads_of}
-use Rattle.report_text.specs.Bench.{bench_statement}
+use Rattle.command_words.specs.declared.call.BenchCall.{BenchCall}
 use Rattle.command_words.specs.declared.call.Call.{Call}
 use Rattle.command_words.specs.declared.call.Call.TheVariants.{Prove, Check, Refute, Model, Bench}
-use Rattle.command_answers.specs.Ending.{Ending}
-use Rattle.command_answers.specs.Answers.{Answers}
-use Rattle.command_answers.specs.Decide.{asked_by, asked_by_bench}
-use Rattle.command_answers.specs.Says.{Says}
-use Rattle.command_answers.proofs.Statements.{JudgedStatus, zero, three, seven}
-use Rattle.command_answers.proofs.Checking.{check_once, check_status}
-use Rattle.command_answers.proofs.Confirming.{model_once, model_status, says_confirmed}
-use Rattle.command_answers.proofs.Meaning.{says_checked}
-use Rattle.command_answers.proofs.Verdicts.{DecidedStatus, refused, proved, not_derivable, broken, undecided, not_broken}
-use Rattle.command_answers.proofs.Deciding.{decided_once, decided_status, says_decided}
-use Rattle.command_answers.proofs.Searching.{refute_once, refute_status, says_searched}
+use Rattle.command_shape.specs.declared.stop.Stop.{Stop}
+use Rattle.command_shape.specs.declared.files.FileWord.{FileWord}
+use Rattle.command_shape.specs.FileWords.{statement_limit, evidence_limit, statement_file, pair_files}
+use Rattle.command_shape.specs.Ending.{Ending}
+use Rattle.command_shape.specs.Stop.{EndsAs}
+use Rattle.command_shape.specs.Statement.{OverStatement}
+use Rattle.command_shape.proofs.Owed.{IsOwn, OwesEnding}
+use Rattle.command_shape.proofs.Stops.{ends_weaker}
+use Rattle.prove_command.specs.Answers.{asked_by, asked_by_bench}
+use Rattle.prove_command.proofs.Answered.{claims_owe}
+use Rattle.check_command.proofs.Answered.{check_owes}
+use Rattle.refute_command.proofs.Answered.{search_owes}
+use Rattle.model_command.proofs.Answered.{model_owes}
+use Rattle.command_answers.specs.CallFiles.{files_of, AreContents, written_by, statement_of, evidence_of}
+use Rattle.command_answers.specs.Answers.{AnswersOver, Answers}
+use Rattle.command_answers.specs.Says.{SaysOver, Says}
+use Rattle.command_answers.specs.Laws.{AnswersOnce, EachCallHasAnEnding}
 
--- no status that the run gives by itself
-pub record IsOwn (status : ℕ) : Type 0 where
-  pub not_usage : status ≢ 2
-  pub not_loading : status ≢ 4
-  pub not_cut : status ≢ 5
-  pub not_memory : status ≢ 6
+-- one line a command
+call_owes : (call : Call) (statement evidence : List ℕ)
+    → OwesEnding (OverStatement statement (AnswersOver call evidence)) (λ Object Arrow s ending. SaysOver s call statement evidence ending)
+call_owes (Prove p) statement evidence = claims_owe report_of (asked_by p) statement
+call_owes (Check p) statement evidence = check_owes statement evidence
+call_owes (Refute p) statement evidence = search_owes p.seed statement
+call_owes (Model p) statement evidence = model_owes statement evidence
+call_owes (Bench b) statement evidence = claims_owe heads_of asked_by_bench statement
 
-own_judged : {status : ℕ} → JudgedStatus status → IsOwn status
-own_judged (zero is) = record { not_usage = λ e. omega arith; not_loading = λ e. omega arith; not_cut = λ e. omega arith; not_memory = λ e. omega arith }
-own_judged (three is) = record { not_usage = λ e. omega arith; not_loading = λ e. omega arith; not_cut = λ e. omega arith; not_memory = λ e. omega arith }
-own_judged (seven is) = record { not_usage = λ e. omega arith; not_loading = λ e. omega arith; not_cut = λ e. omega arith; not_memory = λ e. omega arith }
+owed : (call : Call) (contents : List (List ℕ)) → OwesEnding (OverStatement (statement_of call contents) (AnswersOver call (evidence_of contents)))
+    (λ Object Arrow s ending. SaysOver s call (statement_of call contents) (evidence_of contents) ending)
+owed call contents = call_owes call (statement_of call contents) (evidence_of contents)
 
-own_decided : {status : ℕ} → DecidedStatus status → IsOwn status
-own_decided (refused is) = record { not_usage = λ e. omega arith; not_loading = λ e. omega arith; not_cut = λ e. omega arith; not_memory = λ e. omega arith }
-own_decided (proved is) = record { not_usage = λ e. omega arith; not_loading = λ e. omega arith; not_cut = λ e. omega arith; not_memory = λ e. omega arith }
-own_decided (not_derivable is) = record { not_usage = λ e. omega arith; not_loading = λ e. omega arith; not_cut = λ e. omega arith; not_memory = λ e. omega arith }
-own_decided (broken is) = record { not_usage = λ e. omega arith; not_loading = λ e. omega arith; not_cut = λ e. omega arith; not_memory = λ e. omega arith }
-own_decided (not_broken is) = record { not_usage = λ e. omega arith; not_loading = λ e. omega arith; not_cut = λ e. omega arith; not_memory = λ e. omega arith }
-own_decided (undecided is) = record { not_usage = λ e. omega arith; not_loading = λ e. omega arith; not_cut = λ e. omega arith; not_memory = λ e. omega arith }
+-- ---- what follows for all calls
 
-pub answers_once : (call : Call) (contents : List (List ℕ)) (ending ending' : Ending) → Answers call contents ending → Answers call contents ending' → ending ≡ ending'
-answers_once (Prove p) [] ending ending' one other = absurd one
-answers_once (Prove p) (statement ∷ []) ending ending' one other = decided_once report_of (asked_by p) statement ending ending' one other
-answers_once (Prove p) (statement ∷ second ∷ more) ending ending' one other = absurd one
-answers_once (Check p) [] ending ending' one other = absurd one
-answers_once (Check p) (statement ∷ []) ending ending' one other = absurd one
-answers_once (Check p) (statement ∷ evidence ∷ []) ending ending' one other = check_once statement evidence ending ending' one other
-answers_once (Check p) (statement ∷ evidence ∷ third ∷ more) ending ending' one other = absurd one
-answers_once (Refute p) [] ending ending' one other = absurd one
-answers_once (Refute p) (statement ∷ []) ending ending' one other = refute_once p.seed statement ending ending' one other
-answers_once (Refute p) (statement ∷ second ∷ more) ending ending' one other = absurd one
-answers_once (Model p) [] ending ending' one other = absurd one
-answers_once (Model p) (statement ∷ []) ending ending' one other = absurd one
-answers_once (Model p) (statement ∷ models ∷ []) ending ending' one other = model_once statement models ending ending' one other
-answers_once (Model p) (statement ∷ models ∷ third ∷ more) ending ending' one other = absurd one
-answers_once (Bench b) [] ending ending' one other = decided_once heads_of asked_by_bench (bench_statement b.size) ending ending' one other
-answers_once (Bench b) (first ∷ more) ending ending' one other = absurd one
+pub answers_once : AnswersOnce
+answers_once call contents ending ending' answer answer' = (owed call contents).no_other ending ending' answer.1 answer'.1
 
 pub answer_status : (call : Call) (contents : List (List ℕ)) (ending : Ending) → Answers call contents ending → IsOwn ending.status
-answer_status (Prove p) [] ending answer = absurd answer
-answer_status (Prove p) (statement ∷ []) ending answer = own_decided (decided_status report_of (asked_by p) statement ending answer)
-answer_status (Prove p) (statement ∷ second ∷ more) ending answer = absurd answer
-answer_status (Check p) [] ending answer = absurd answer
-answer_status (Check p) (statement ∷ []) ending answer = absurd answer
-answer_status (Check p) (statement ∷ evidence ∷ []) ending answer = own_judged (check_status statement evidence ending answer)
-answer_status (Check p) (statement ∷ evidence ∷ third ∷ more) ending answer = absurd answer
-answer_status (Refute p) [] ending answer = absurd answer
-answer_status (Refute p) (statement ∷ []) ending answer = own_decided (refute_status p.seed statement ending answer)
-answer_status (Refute p) (statement ∷ second ∷ more) ending answer = absurd answer
-answer_status (Model p) [] ending answer = absurd answer
-answer_status (Model p) (statement ∷ []) ending answer = absurd answer
-answer_status (Model p) (statement ∷ models ∷ []) ending answer = own_judged (model_status statement models ending answer)
-answer_status (Model p) (statement ∷ models ∷ third ∷ more) ending answer = absurd answer
-answer_status (Bench b) [] ending answer = own_decided (decided_status heads_of asked_by_bench (bench_statement b.size) ending answer)
-answer_status (Bench b) (first ∷ more) ending answer = absurd answer
+answer_status call contents ending answer = (owed call contents).own ending answer.1
 
 pub answers_say : {Object Arrow : Type 0} {s : Structure Object Arrow} → PreadditiveLaws s → IsSound s → IsEvidenceSound s → (call : Call) (contents : List (List ℕ)) (ending : Ending)
     → Answers call contents ending → Says s call contents ending
-answers_say laws sound with_lemmas (Prove p) [] ending answer = absurd answer
-answers_say laws sound with_lemmas (Prove p) (statement ∷ []) ending answer = says_decided laws sound with_lemmas report_of (asked_by p) statement ending answer
-answers_say laws sound with_lemmas (Prove p) (statement ∷ second ∷ more) ending answer = absurd answer
-answers_say laws sound with_lemmas (Check p) [] ending answer = absurd answer
-answers_say laws sound with_lemmas (Check p) (statement ∷ []) ending answer = absurd answer
-answers_say laws sound with_lemmas (Check p) (statement ∷ evidence ∷ []) ending answer = says_checked laws sound with_lemmas statement evidence ending answer
-answers_say laws sound with_lemmas (Check p) (statement ∷ evidence ∷ third ∷ more) ending answer = absurd answer
-answers_say laws sound with_lemmas (Refute p) [] ending answer = absurd answer
-answers_say {s} laws sound with_lemmas (Refute p) (statement ∷ []) ending answer = says_searched s p.seed statement ending answer
-answers_say laws sound with_lemmas (Refute p) (statement ∷ second ∷ more) ending answer = absurd answer
-answers_say laws sound with_lemmas (Model p) [] ending answer = absurd answer
-answers_say laws sound with_lemmas (Model p) (statement ∷ []) ending answer = absurd answer
-answers_say laws sound with_lemmas (Model p) (statement ∷ models ∷ []) ending answer = says_confirmed statement models ending answer
-answers_say laws sound with_lemmas (Model p) (statement ∷ models ∷ third ∷ more) ending answer = absurd answer
-answers_say laws sound with_lemmas (Bench b) [] ending answer = says_decided laws sound with_lemmas heads_of asked_by_bench (bench_statement b.size) ending answer
-answers_say laws sound with_lemmas (Bench b) (first ∷ more) ending answer = absurd answer
+answers_say {s} laws sound with_lemmas call contents ending answer = (answer.0, (owed call contents).sentence _ _ s laws sound with_lemmas ending answer.1)
+
+pub each_call_has_an_ending : EachCallHasAnEnding
+each_call_has_an_ending call contents as_many = let one = (owed call contents).one in (one.0, (as_many, one.1))
+
+-- ---- contents within their limits
+
+-- a statement and a text of evidence within their limits
+pub record AreShort (contents : List (List ℕ)) : Type 0 where
+  pub statement : length (get_or contents 0 []) ≤ statement_limit
+  pub evidence : length (get_or contents 1 []) ≤ evidence_limit
+
+abbrev AreWithin : List FileWord → List (List ℕ) → Type 0
+AreWithin files contents = AllZip (λ file bytes. length bytes ≤ file.limit) files contents
+
+none_short : (contents : List (List ℕ)) → AreWithin [] contents → AreShort contents
+none_short [] fit = record { statement = omega arith; evidence = omega arith }
+none_short (bytes ∷ contents) fit = absurd fit
+
+one_short : (name : List ℕ) (contents : List (List ℕ)) → AreWithin (statement_file name) contents → AreShort contents
+one_short name [] fit = absurd fit
+one_short name (statement ∷ []) fit = record { statement = fit.0; evidence = omega arith }
+one_short name (statement ∷ second ∷ more) fit = absurd fit.1
+
+two_short : (name other : List ℕ) (contents : List (List ℕ)) → AreWithin (pair_files name other) contents → AreShort contents
+two_short name other [] fit = absurd fit
+two_short name other (statement ∷ []) fit = absurd fit.1
+two_short name other (statement ∷ evidence ∷ []) fit = record { statement = fit.0; evidence = fit.1.0 }
+two_short name other (statement ∷ evidence ∷ third ∷ more) fit = absurd fit.1.1
+
+pub are_short : (call : Call) (contents : List (List ℕ)) → AreWithin (files_of call) contents → AreShort contents
+are_short (Prove p) contents fit = one_short p.file contents fit
+are_short (Check p) contents fit = two_short p.statement p.evidence contents fit
+are_short (Refute p) contents fit = one_short p.file contents fit
+are_short (Model p) contents fit = two_short p.statement p.evidence contents fit
+are_short (Bench b) contents fit = none_short contents fit
+
+-- a call with files writes no statement
+pub no_file_written : (call : Call) → ((b : BenchCall) → call ≡ Bench b → ⊥) → written_by call ≡ []
+no_file_written (Prove p) other = refl
+no_file_written (Check p) other = refl
+no_file_written (Refute p) other = refl
+no_file_written (Model p) other = refl
+no_file_written (Bench b) other = absurd (other b refl)
+
+-- an item that is there needs no other in its place
+pub other_default : {Item : Type 0} (xs : List Item) (place : ℕ) (one other : Item) → place < length xs → get_or xs place one ≡ get_or xs place other
+other_default [] place one other inside = absurd (omega arith)
+other_default (x ∷ xs) zero one other inside = refl
+other_default (x ∷ xs) (suc place) one other inside = other_default xs place one other (omega arith)
+
+-- one that isn't there is what stands in its place
+pub no_item : {Item : Type 0} (xs : List Item) (place : ℕ) (other : Item) → length xs ≤ place → get_or xs place other ≡ other
+no_item [] place other past = refl
+no_item (x ∷ xs) zero other past = absurd (omega arith)
+no_item (x ∷ xs) (suc place) other past = no_item xs place other (omega arith)
+
+-- there are as many as files
+pub are_contents : (call : Call) (contents : List (List ℕ))
+    → AllZip (λ file bytes. length bytes ≤ file.limit) (files_of call) contents → AreContents call contents
+are_contents call contents fit = AllZip-long (λ file bytes. length bytes ≤ file.limit) (files_of call) contents fit
+
+-- what is answered over the statement and the text of evidence
+pub answered : (call : Call) (contents : List (List ℕ)) (statement evidence : List ℕ) (result : Result Ending Stop)
+    → AreContents call contents → statement_of call contents ≡ statement → evidence_of contents ≡ evidence
+    → EndsAs (OverStatement statement (AnswersOver call evidence)) result → EndsAs (Answers call contents) result
+answered call contents statement evidence result as_many same_statement same_evidence ends =
+    ends_weaker (OverStatement statement (AnswersOver call evidence)) (Answers call contents)
+    (λ ending over. (
+      as_many,
+      subst (λ (t : List ℕ). OverStatement t (AnswersOver call (evidence_of contents)) ending) (sym same_statement)
+          (subst (λ (e : List ℕ). OverStatement statement (AnswersOver call e) ending) (sym same_evidence) over),
+    ))
+    result ends

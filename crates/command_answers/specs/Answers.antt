@@ -1,22 +1,25 @@
 -- What each command answers, from the contents of its files.
-use Rattle.std.specs.Prelude.{ℕ, List, [], ◌∷◌}
+use Rattle.std.specs.Prelude.{ℕ, List}
+use Rattle.adjoint_rules.specs.declared.problem.Problem.{Problem}
 use Rattle.command_words.specs.declared.call.Call.{Call}
 use Rattle.command_words.specs.declared.call.Call.TheVariants.{Prove, Check, Refute, Model, Bench}
-use Rattle.command_answers.specs.Ending.{Ending}
-use Rattle.command_answers.specs.Check.{AnswersCheck}
-use Rattle.command_answers.specs.Confirm.{AnswersModel}
-use Rattle.command_answers.specs.Decide.{AnswersProve, AnswersBench}
-use Rattle.command_answers.specs.Refute.{AnswersRefute}
+use Rattle.report_text.specs.Report.{report_of, heads_of}
+use Rattle.command_shape.specs.Ending.{Ending}
+use Rattle.command_shape.specs.Statement.{OverStatement}
+use Rattle.prove_command.specs.Answers.{asked_by, asked_by_bench, AnswersClaims}
+use Rattle.check_command.specs.Answers.{AnswersEvidence}
+use Rattle.refute_command.specs.Answers.{AnswersSearch}
+use Rattle.model_command.specs.Answers.{AnswersModelText}
+use Rattle.command_answers.specs.CallFiles.{AreContents, statement_of, evidence_of}
 
--- one line a command; a call has no answer over more or fewer contents than it has files
+-- over the problem of its statement, one line a command; the bytes are its text of evidence
+abbrev pub AnswersOver : Call → List ℕ → Problem → Ending → Type 0
+AnswersOver (Prove p) evidence = AnswersClaims report_of (asked_by p)
+AnswersOver (Check p) evidence = AnswersEvidence evidence
+AnswersOver (Refute p) evidence = AnswersSearch p.seed
+AnswersOver (Model p) evidence = AnswersModelText evidence
+AnswersOver (Bench b) evidence = AnswersClaims heads_of asked_by_bench
+
+-- a call has no answer over more or fewer contents than it has files
 abbrev pub Answers : Call → List (List ℕ) → Ending → Type 0
-Answers (Prove p) (statement ∷ []) ending = AnswersProve p statement ending
-Answers (Prove p) _ ending = ⊥
-Answers (Check p) (statement ∷ evidence ∷ []) ending = AnswersCheck statement evidence ending
-Answers (Check p) _ ending = ⊥
-Answers (Refute p) (statement ∷ []) ending = AnswersRefute p statement ending
-Answers (Refute p) _ ending = ⊥
-Answers (Model p) (statement ∷ models ∷ []) ending = AnswersModel statement models ending
-Answers (Model p) _ ending = ⊥
-Answers (Bench b) [] ending = AnswersBench b ending
-Answers (Bench b) _ ending = ⊥
+Answers call contents ending = AreContents call contents × OverStatement (statement_of call contents) (AnswersOver call (evidence_of contents)) ending

@@ -1,26 +1,24 @@
 //! What a call answers.
-ghost use Rattle.std.specs.Prelude.{◌≡◌, ◌≤◌, length};
+ghost use Rattle.std.specs.Prelude.{◌≡◌, ◌≤◌, IfOk, length};
 ghost use Rattle.std.specs.List.{AllZip};
 ghost use Rattle.command_words.specs.Calls.{IsInRange};
-ghost use Rattle.command_answers.specs.FileWords.{statement_limit, evidence_limit, files_of};
-ghost use Rattle.command_answers.specs.Answers.{Answers};
-ghost use Rattle.command_answers.specs.OverProblem.{AnswersOver};
-ghost use Rattle.command_answers.specs.Statement.{OverStatement};
-ghost use Rattle.command_answers.specs.Stop.{EndsAs};
+ghost use Rattle.command_shape.specs.FileWords.{statement_limit, evidence_limit};
+ghost use Rattle.command_shape.specs.Statement.{OverStatement};
+ghost use Rattle.command_shape.specs.Stop.{EndsAs};
+ghost use Rattle.command_answers.specs.CallFiles.{files_of, written_by};
+ghost use Rattle.command_answers.specs.Answers.{AnswersOver, Answers};
 
-use crate::check::judge_evidence;
-use crate::confirm::judge_models;
-use crate::decide::{ASKED_BY_BENCH, asked_by, head_claims, report_claims};
-use crate::ending::Ending;
-use crate::refute::report_search;
-use crate::statement::read_statement;
-use crate::stop::Stop;
 use adjoint_rules::Problem;
+use check_command::judge_evidence;
+use command_shape::{Ending, Stop, read_statement};
 use command_words::Call;
 use in_order_parallel::Gate;
 use lists::Listing;
+use model_command::judge_models;
+use prove_command::{ASKED_BY_BENCH, Extent, asked_by, report_claims};
+use refute_command::report_search;
 use report_text::write_bench;
-use std::alloc::Global;
+use std::alloc::{AllocError, Global};
 use std::thread::Threads;
 
 /// How a run of the call ends that has loaded the contents of its files. `bench` writes its statement itself.
@@ -35,19 +33,28 @@ pub fn answer<R: Threads + Sync, G: Gate + Sync>(
     requires contents_fit { AllZip (λ file bytes. length bytes ≤ file.limit) (files_of call.now) contents.now }
     ensures { EndsAs (Answers call.now contents.now) result }
 {
-    match (call, contents) {
-        (Call::Prove(_) | Call::Refute(_), [statement]) => {
-            answer_over(rt, alloc, call, statement.as_slice(), &[], gate)
+    match contents {
+        [] => {
+            let statement = write_statement(alloc, call)?;
+            answer_over(rt, alloc, call, &statement, &[], gate)
         }
-        (Call::Check(_) | Call::Model(_), [statement, evidence]) => {
+        [statement] => answer_over(rt, alloc, call, statement.as_slice(), &[], gate),
+        [statement, evidence, ..] => {
             let evidence = evidence.as_slice();
             answer_over(rt, alloc, call, statement.as_slice(), evidence, gate)
         }
-        (Call::Bench(bench), []) => {
-            let statement = write_bench(alloc, bench.size as u32)?;
-            answer_over(rt, alloc, call, &statement, &[], gate)
-        }
-        _ => unreachable!(),
+    }
+}
+
+// The statement that a call without files writes.
+fn write_statement(alloc: Global, call: &Call) -> Result<Vec<u8>, AllocError>
+    requires { IsInRange call.now }
+    ensures written { IfOk result (λ text. text.items ≡ written_by call.now) }
+    ensures fits { IfOk result (λ text. length text.items ≤ statement_limit) }
+{
+    match call {
+        Call::Bench(bench) => write_bench(alloc, bench.size as u32),
+        _ => Ok(Vec::new(alloc)),
     }
 }
 
@@ -85,7 +92,8 @@ fn answer_problem<R: Threads + Sync, G: Gate + Sync>(
     match call {
         Call::Prove(call) => {
             let asked = asked_by(call);
-            report_claims(rt, alloc, problem, asked, call.workers as u32, gate)
+            let workers = call.workers as u32;
+            report_claims(rt, alloc, problem, asked, Extent::Report, workers, gate)
         }
         Call::Check(_) => judge_evidence(alloc, problem, evidence),
         Call::Refute(call) => {
@@ -94,7 +102,15 @@ fn answer_problem<R: Threads + Sync, G: Gate + Sync>(
         Call::Model(_) => judge_models(alloc, problem, evidence),
         Call::Bench(call) => {
             let workers = call.workers as u32;
-            head_claims(rt, alloc, problem, ASKED_BY_BENCH, workers, gate)
+            report_claims(
+                rt,
+                alloc,
+                problem,
+                ASKED_BY_BENCH,
+                Extent::Heads,
+                workers,
+                gate,
+            )
         }
     }
 }

@@ -1,32 +1,5 @@
-//! What users ask of the answers.
-ghost use Rattle.command_answers.specs.Laws.{AcceptedAreAnswered, ZeroIsAccepted, ZeroMeans, ConfirmedAreAnswered, ZeroIsConfirmed, FaultsAreAnswered, ThreeIsFaulty, AnswersOnce, EachCallHasAnEnding};
-
-use category_laws::Preadditive;
-
-/// Certificates that are all accepted are answered by 0 and a line on each, by no other status and by no other lines.
-pub fn accepted_certificates_are_answered_by_0()
-    ensures answered { AcceptedAreAnswered }
-    ensures no_others { ZeroIsAccepted }
-{}
-
-/// Where the main theorem is said of an ending with status 0, each certificate of the evidence text has its meaning in the
-/// category that is handed in.
-pub fn status_0_means_what_certificates_mean<C: Preadditive>(category: &C)
-    ensures { ZeroMeans (C.structure category.now) }
-{}
-
-/// Models that all refute the claims that they name are answered by 0 and a line on each, by no other status and by no other lines,
-/// and each of them has the meaning of the main theorem.
-pub fn confirmed_models_are_answered_by_0()
-    ensures answered { ConfirmedAreAnswered }
-    ensures no_others { ZeroIsConfirmed }
-{}
-
-/// A statement with a fault is answered by 3 and the line on its first fault, and no other is.
-pub fn a_faulty_statement_is_answered_by_3()
-    ensures answered { FaultsAreAnswered }
-    ensures no_others { ThreeIsFaulty }
-{}
+//! What users ask of all answers.
+ghost use Rattle.command_answers.specs.Laws.{AnswersOnce, EachCallHasAnEnding};
 
 /// A call has one ending at most over the contents of its files: it depends on these alone.
 pub fn a_call_is_answered_once()

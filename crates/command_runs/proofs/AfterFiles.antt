@@ -3,8 +3,8 @@ use Rattle.std.proofs.Common.{◌≡◌, inl, inr, ℕ, List, [], ◌∷◌, ◌
 use Rattle.std.specs.List.{AllByRecursion}
 use Rattle.flow_io.specs.Causes.{Rose}
 use Rattle.flow_io.specs.Told.{Told, Absent, Holds, MayExceed}
-use Rattle.command_answers.specs.declared.call.FileWord.{FileWord}
-use Rattle.command_answers.specs.Ending.{Ending, load_failed, too_long}
+use Rattle.command_shape.specs.declared.files.FileWord.{FileWord}
+use Rattle.command_shape.specs.Ending.{Ending, load_failed, too_long}
 use Rattle.command_runs.specs.Files.{AreLoaded, EndsAtFile, AfterFiles, WereLoaded, AreHeld, IsReached, IsMissing, IsFirstTooLong}
 
 absent_loaded : (told : Told) (limit : ℕ) (bytes : List ℕ) → told ≡ Absent → AreLoaded told limit bytes → ⊥

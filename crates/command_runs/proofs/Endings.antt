@@ -5,12 +5,13 @@ use Rattle.definitions.specs.Soundness.{IsSound}
 use Rattle.representations.specs.Evidence.{IsEvidenceSound}
 use Rattle.clap.specs.Words.{subcommand_of}
 use Rattle.command_words.specs.CommandSet.{command_set}
+use Rattle.command_words.specs.Usage.{usage_text}
 use Rattle.command_words.proofs.Unique.{one_call}
-use Rattle.command_answers.specs.declared.call.FileWord.{FileWord}
+use Rattle.command_shape.specs.declared.files.FileWord.{FileWord}
 use Rattle.command_words.specs.declared.call.Call.{Call}
-use Rattle.command_answers.specs.FileWords.{files_of}
+use Rattle.command_answers.specs.CallFiles.{files_of}
 use Rattle.command_runs.specs.Call.{IsCalled, IsTaken}
-use Rattle.command_answers.specs.Ending.{Ending, usage, too_long}
+use Rattle.command_shape.specs.Ending.{Ending, usage, too_long}
 use Rattle.command_runs.specs.Files.{AfterFiles, AreHeld, IsMissing, IsFirstTooLong}
 use Rattle.command_answers.specs.Answers.{Answers}
 use Rattle.command_runs.specs.Ends.{EndsBy, MayEnd, other_words, called}
@@ -50,7 +51,7 @@ module _ (words : List (String Global)) (run : Run) (ending : Ending) (status : 
 
   -- how a run ends
   pub data Way : Type 0 where
-    by_words : (IsTaken words → ⊥) → ending ≡ usage → Way
+    by_words : (IsTaken words → ⊥) → ending ≡ usage usage_text → Way
     by_load : (call : Call) → IsCalled words call → Failed run.told run.rose (files_of call) ending → Way
     by_limit : (call : Call) → IsCalled words call → Long run.told run.rose (files_of call) ending → Way
     by_answer : (call : Call) → IsCalled words call → All run.told run.rose (files_of call) (Answers call) ending → Way
@@ -142,7 +143,7 @@ module _ (words : List (String Global)) (run : Run) (ending : Ending) (status : 
       other = λ e. omega arith
 
       by : Way → (call : Call) × IsCalled words call × (SaysLoadFailed run (files_of call) ⊎ SaysTooLong run (files_of call))
-      by (by_words _ is) = let two = (as_put usage is (λ e. omega arith)).0 in absurd (omega arith)
+      by (by_words _ is) = let two = (as_put (usage usage_text) is (λ e. omega arith)).0 in absurd (omega arith)
       by (by_load call is f) = (call, is, inl (says_load_failed call f (λ e. omega arith)))
       by (by_limit call is l) = (call, is, inr (record { file = l.file; reached = l.reached; long = l.long; printed = (as_put _ l.is (λ e. omega arith)).1 }))
       by (by_answer call is a) = absurd ((answer_status call a.contents ending a.leads).not_loading (sym (as_put ending refl (λ e. omega arith)).0 ∙ four))
@@ -175,7 +176,7 @@ module _ (words : List (String Global)) (run : Run) (ending : Ending) (status : 
   answered not_two not_four other = by way
     where
       by : Way → SaysAnswer words run status
-      by (by_words _ is) = absurd (not_two (as_put usage is other).0)
+      by (by_words _ is) = absurd (not_two (as_put (usage usage_text) is other).0)
       by (by_load call _ f) = absurd (not_four (as_put _ f.is other).0)
       by (by_limit call _ l) = absurd (not_four (as_put _ l.is other).0)
       by (by_answer call is a) =

@@ -3,8 +3,8 @@ use Rattle.std.specs.Prelude.{ℕ, ◌≡◌, ◌<◌, ◌≤◌, ◌⊎◌, Lis
 use Rattle.std.specs.List.{AllZip, AllByRecursion}
 use Rattle.flow_io.specs.Causes.{Rose}
 use Rattle.flow_io.specs.Told.{Told, Absent, Holds, AreWhole, MayExceed}
-use Rattle.command_answers.specs.declared.call.FileWord.{FileWord}
-use Rattle.command_answers.specs.Ending.{Ending, load_failed, too_long}
+use Rattle.command_shape.specs.declared.files.FileWord.{FileWord}
+use Rattle.command_shape.specs.Ending.{Ending, load_failed, too_long}
 
 -- the counts that rose between two states of a shelf
 abbrev pub RoseAt : (List ℕ → ℕ) → (List ℕ → ℕ) → List ℕ → Type 0

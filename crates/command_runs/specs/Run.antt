@@ -5,10 +5,10 @@ use Rattle.std.specs.Io.KnownBytes.{Appends}
 use Rattle.flow_io.specs.Causes.{Rose}
 use Rattle.flow_io.specs.Told.{Told, MayExceed}
 use Rattle.command_words.specs.declared.call.Call.{Call}
-use Rattle.command_answers.specs.declared.call.FileWord.{FileWord}
-use Rattle.command_answers.specs.FileWords.{files_of}
+use Rattle.command_shape.specs.declared.files.FileWord.{FileWord}
+use Rattle.command_answers.specs.CallFiles.{files_of}
 use Rattle.command_runs.specs.Call.{IsCalled, IsTaken}
-use Rattle.command_answers.specs.Ending.{Ending, load_failed, too_long}
+use Rattle.command_shape.specs.Ending.{Ending, load_failed, too_long}
 use Rattle.command_runs.specs.Files.{RoseAt, WereLoaded, AreHeld, IsReached, IsMissing, IsFirstTooLong}
 use Rattle.command_answers.specs.Answers.{Answers}
 use Rattle.command_runs.specs.Ends.{MayEnd}

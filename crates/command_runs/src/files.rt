@@ -1,10 +1,10 @@
 //! The files of a call.
 ghost use Rattle.std.specs.Prelude.{◌≡◌, ◌≤◌, ℕ, List, IfOk, IfErr, MatchResult};
-ghost use Rattle.command_answers.specs.declared.call.FileWord.{FileWord};
+ghost use Rattle.command_shape.specs.declared.files.FileWord.{FileWord};
 ghost use Rattle.command_runs.specs.Files.{RoseAt, AreLoaded, EndsAtFile, AfterFiles, WereLoaded};
-ghost use Rattle.command_answers.specs.Stop.{StopsBy};
+ghost use Rattle.command_shape.specs.Stop.{StopsBy};
 
-use command_answers::{Ending, FileWord, Stop};
+use command_shape::{Ending, FileWord, Stop};
 use flow_io::{Shelf, ShelfFault};
 use lists::Listing;
 use std::alloc::Global;

@@ -4,18 +4,19 @@ ghost use Rattle.std.specs.Io.KnownBytes.{Appends};
 ghost use Rattle.flow_io.specs.Causes.{Rose};
 ghost use Rattle.command_words.specs.Calls.{IsInRange};
 ghost use Rattle.command_answers.specs.Answers.{Answers};
-ghost use Rattle.command_answers.specs.FileWords.{files_of};
+ghost use Rattle.command_answers.specs.CallFiles.{files_of};
 ghost use Rattle.command_runs.specs.Ends.{MayEnd};
 ghost use Rattle.command_runs.specs.Files.{RoseAt, WereLoaded, AfterFiles};
 ghost use Rattle.command_runs.specs.Put.{IsPut};
-ghost use Rattle.command_answers.specs.Stop.{StopsBy, EndsAs};
+ghost use Rattle.command_shape.specs.Stop.{StopsBy, EndsAs};
 ghost use Rattle.command_runs.specs.Run.{seen, IsReported, IsSinkFailure, IsCutShort, IsUsage, TellsOtherWords, IsNotLoaded, TellsMissing, TellsTooLong, IsAnswered, IsComplete};
 ghost use Rattle.command_runs.specs.Headline.{MeansAsSaid};
 
 use crate::files::load_files;
 use category_laws::Preadditive;
-use command_answers::{Ending, Stop, answer, call_files};
-use command_words::{Call, Refusal, read_words};
+use command_answers::{answer, call_files};
+use command_shape::{Ending, Stop};
+use command_words::{Call, Refusal, read_words, usage_text};
 use flow_io::{Shelf, Sink, put_all};
 use in_order_parallel::Gate;
 use lists::Listing;
@@ -67,7 +68,7 @@ fn answer_words<R: Threads + Sync, L: Shelf, G: Gate + Sync>(
 {
     match read_words(alloc, words) {
         Ok(call) => answer_call(rt, alloc, &call, shelf, gate),
-        Err(Refusal::Words) => Ok(Ending::usage(alloc)?),
+        Err(Refusal::Words) => Ok(Ending::usage(usage_text(alloc)?)?),
         Err(Refusal::Memory) => Err(Stop::Memory(AllocError)),
     }
 }

@@ -5,9 +5,11 @@ mod call;
 mod limits;
 mod read;
 mod set;
+mod usage;
 
 pub use call::{BenchCall, Call, PairCall, ProveCall, RefuteCall};
 pub use limits::{
     DEFAULT_PAIRS, DEFAULT_SEED, DEFAULT_STEPS, FORMAT_LIMIT, PAIR_LIMIT, SIZE_LIMIT, STEP_LIMIT,
 };
 pub use read::{Refusal, read_words};
+pub use usage::usage_text;

@@ -1,9 +1,9 @@
 //! The names of statement files: what they stand for, and what abbreviations are written out as.
-use crate::texts::{same, tree_of};
+use crate::texts::{Map, quiver_of, same, tree_of};
 use adjoint_rules::Shape;
 use quiver::Quiver;
 use statement_names::{Equation, NameStop, Names, abbreviation, read_names};
-use statement_syntax::Tree;
+use statement_syntax::{Factor, Primary, Sum, Tree};
 use std::alloc::{AllocError, Global};
 use std::process::Abort;
 use std::test::Fail;
@@ -134,21 +134,68 @@ fn names_are_numbered_and_read(rt: HostRuntime) -> Result<(), Fail> {
     Ok(())
 }
 
-// Statements, and for each equation that they stand for the place of its left side and the number of terms on its right.
+const MAPS: &[Map] = &[("a", 0, 1, false), ("x", 1, 0, false), ("p", 0, 0, false)];
+
+// Statements over the maps a from U to V, x from V to U and p of U, the place of what they stand for, and its equations.
 const ABBREVIATIONS: &[Row] = &[
-    ("  pinv a x", "1.3.1 1.3.1 1.3.1 1.3.1 "),
-    ("inverse a x", "1.1.1 1.1.1 "),
-    ("inner a b", "1.1.1 "),
-    ("projection a", "1.1.1 1.1.1 "),
+    (
+        "  pinv a x",
+        "1.3 a x a = a 1.3 x a x = x 1.3 ( a x)' = a x 1.3 ( x a)' = x a",
+    ),
+    ("inverse a x", "1.1 a x = [V] 1.1 x a = [U]"),
+    ("inner a x", "1.1 a x a = a"),
+    ("projection p", "1.1 p p = p 1.1 p' = p"),
     ("assume a = x", ""),
     ("solve a", ""),
 ];
 
+// Writes a blank and a letter for each factor that is one.
+fn write_letters(text: &mut String, sum: &Sum) -> Result<(), AllocError> {
+    for term in sum.terms.as_slice() {
+        for factor in term.factors.as_slice() {
+            if let Primary::Letter(name) = &factor.primary {
+                write!(text, " {}", name.text.as_str())?;
+            }
+        }
+    }
+    Ok(())
+}
+
+// Writes a blank and the factor, of brackets the letters.
+fn write_factor(text: &mut String, factor: &Factor) -> Result<(), AllocError> {
+    match &factor.primary {
+        Primary::Letter(name) => write!(text, " {}", name.text.as_str())?,
+        Primary::Identity(name) => write!(text, " [{}]", name.text.as_str())?,
+        Primary::Bracket(sum) => {
+            text.push_str(" (")?;
+            write_letters(text, sum)?;
+            text.push(')')?;
+        }
+    }
+    for _ in factor.marks.as_slice() {
+        text.push('\'')?;
+    }
+    Ok(())
+}
+
+// Writes the factors of the terms.
+fn write_side(text: &mut String, sum: &Sum) -> Result<(), AllocError> {
+    for term in sum.terms.as_slice() {
+        for factor in term.factors.as_slice() {
+            write_factor(text, factor)?;
+        }
+    }
+    Ok(())
+}
+
 fn write_equations(text: &mut String, equations: &[Equation]) -> Result<(), AllocError> {
     for equation in equations {
         let at = equation.left.at;
-        let terms = equation.right.terms.len();
-        write!(text, "{}.{}.{terms} ", at.line, at.column)?;
+        let between = if text.is_empty() { "" } else { " " };
+        write!(text, "{between}{}.{}", at.line, at.column)?;
+        write_side(text, &equation.left)?;
+        text.push_str(" =")?;
+        write_side(text, &equation.right)?;
     }
     Ok(())
 }
@@ -175,7 +222,7 @@ fn equations_text(alloc: Global, quiver: &Quiver, text: &str) -> Result<String, 
 
 #[test]
 fn abbreviations_are_written_out(rt: HostRuntime) -> Result<(), Fail> {
-    let quiver = Quiver::new(rt.alloc())?;
+    let quiver = quiver_of(rt.alloc(), &["U", "V"], MAPS)?;
     tell_abbreviations(&rt, rt.alloc(), &quiver)
 }
 

@@ -8,6 +8,7 @@ ghost use Rattle.adjoint_rules.specs.Limits.{shape_side_limit};
 ghost use Rattle.adjoint_rules.specs.Problem.{IsShape};
 ghost use Rattle.model_candidates.specs.Candidates.{digits, entries_of, entry, entry_shown, is_declared_map, is_self, matrix_by, model_by, side_in, value_of_entry};
 ghost use Rattle.model_candidates.specs.EntryPlaces.{entries_before, is_kept, place_within};
+ghost use Rattle.adjoint_rules.specs.Limits.{shape_side_limit};
 
 use crate::drawn_values::digits_of;
 use crate::entries::{is_declared, map_entry_count, side_at};

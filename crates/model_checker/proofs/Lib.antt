@@ -5,3 +5,4 @@ pub mod Counterexamples
 pub mod Decided
 pub mod Judged
 pub mod UniqueRefusals
+pub mod RefutedMeans

@@ -3,3 +3,4 @@ pub mod Memory
 pub mod Refusals
 pub mod Laws
 pub mod Listed
+pub mod RefutedMeans

@@ -2,3 +2,4 @@ pub mod Breaking
 pub mod SearchAnswers
 pub mod Blocks
 pub mod SearchSteps
+pub mod LeastBreaking

@@ -45,3 +45,4 @@ pub mod FewTreated
 pub mod Stops
 pub mod Outcomes
 mod EnoughExamples
+pub mod ProvedMeans

@@ -5,3 +5,4 @@ pub mod EvidenceLimits
 pub mod Existence
 pub mod Counts
 pub mod Enough
+pub mod ProvedMeans

@@ -1,3 +1,4 @@
 pub mod Ranges
 pub mod Counts
 pub mod Verdicts
+pub mod Statuses

@@ -8,15 +8,23 @@ mod calls;
 #[cfg(test)]
 mod decided_rows;
 #[cfg(test)]
+mod direct_tests;
+#[cfg(test)]
 mod gallery_rows;
 #[cfg(test)]
 mod gate_tests;
 #[cfg(test)]
 mod lemma_rows;
 #[cfg(test)]
+mod limit_rows;
+#[cfg(test)]
+mod limit_tests;
+#[cfg(test)]
 mod model_rows;
 #[cfg(test)]
 mod round_tests;
+#[cfg(test)]
+mod steady_tests;
 #[cfg(test)]
 mod test_rows;
 #[cfg(test)]

@@ -158,7 +158,8 @@ fn write_cause(text: &mut String, cause: Cause) -> Result<(), AllocError> {
     }
 }
 
-fn write_halt(text: &mut String, quiver: &Quiver, halt: &Halt) -> Result<(), AllocError> {
+/// Writes why and where a run halted.
+pub fn write_halt(text: &mut String, quiver: &Quiver, halt: &Halt) -> Result<(), AllocError> {
     write_cause(text, halt.cause)?;
     if let Place::Round(number) = halt.place {
         write!(text, " at round {number}")?;
@@ -275,8 +276,8 @@ fn story<R: Threads + Sync>(
     story_from(rt, alloc, problem, &mut completion, workers, calls)
 }
 
-// A budget, which must be one.
-fn budget_of(pairs: u32, steps: u32) -> Result<Budget, Fail>
+/// A budget, which must be one.
+pub fn budget_of(pairs: u32, steps: u32) -> Result<Budget, Fail>
     ensures { IfOk result IsBudget }
 {
     let is_budget = 1 <= pairs && pairs <= 1_000_000 && 1 <= steps && steps <= 1_000_000;

@@ -6,8 +6,8 @@ pub type Row = (&'static [u8], &'static [u8], &'static str);
 const MAPS: &[u8] =
     b"object U V\nmap a b c z : U -> V\nassume a = b\nassume b = c\nassume a = c\nclaim a = c\n";
 
-// Two one-sided inverses of one map are equal.
-const INVERSES: &[u8] =
+/// Two one-sided inverses of one map are equal.
+pub const INVERSES: &[u8] =
     b"object U V\nmap l : V -> U\nmap a : U -> V\nmap r : V -> U\nassume l a = [U]\nassume a r = [V]\nclaim l = r\n";
 
 // Two Moore-Penrose inverses of one map are equal.

@@ -2,6 +2,7 @@
 #![tactic(auto)]
 
 mod budget;
+mod causes;
 mod completion;
 mod first_reductions;
 mod generators;
@@ -13,6 +14,7 @@ mod rounds;
 mod second_reduction;
 
 pub use budget::Budget;
+pub use causes::reduction_cause;
 pub use completion::{Completion, Step};
 pub use laws::{rounds_are_unique, states_are_bounded, states_are_unique, states_have_rules};
 pub use pending::{

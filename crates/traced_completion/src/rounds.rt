@@ -13,11 +13,12 @@ ghost use Rattle.traced_completion.specs.UnitsFirst.{units_first};
 ghost use Rattle.traced_completion.specs.Pending.{IsNextStore, ambiguities_of, first_word};
 ghost use Rattle.rule_making.specs.Records.{HasRecords};
 ghost use Rattle.traced_completion.specs.Reductions.{IsReducible};
-ghost use Rattle.traced_completion.specs.PlainRun.{IsCauseOf, recorded, taken_count};
+ghost use Rattle.traced_completion.specs.PlainRun.{recorded, taken_count};
 ghost use Rattle.cofactor_trace.specs.declared.halt.Cause.TheVariants as cause;
 ghost use Rattle.cofactor_trace.specs.declared.halt.Place.TheVariants as place;
 ghost use Rattle.traced_completion.specs.Completions.{IsGivingUp, state_of};
 
+use crate::causes::reduction_cause;
 use crate::first_reductions::reduce_all;
 use crate::generators::reduce_generators;
 use crate::passes::treat_all;
@@ -34,20 +35,6 @@ use word_core::Word;
 
 // The greatest number of ambiguities that a round takes.
 const ROUND_LIMIT: usize = 32;
-
-// The cause of a fault.
-fn cause_of(fault: ReduceFault) -> Result<Cause, AllocError>
-    ensures { IfOk result (IsCauseOf fault) }
-{
-    match fault {
-        ReduceFault::Steps { limit } => Ok(Cause::Steps { limit }),
-        ReduceFault::Overflow(overflow) => Ok(Cause::Overflow(overflow)),
-        ReduceFault::Size(size) => Ok(Cause::Size {
-            letters: size.letters,
-        }),
-        ReduceFault::Memory(failed) => Err(failed),
-    }
-}
 
 // Appends the ambiguities without their words.
 fn push_treated(treated: &mut Listing<Ambiguity>, taken: &[Waiting]) -> Result<(), AllocError>
@@ -208,7 +195,7 @@ impl Completion {
         ensures stops { IfOk result (IsGivingUp fault self.old.rounds (first_word self.old.waiting)) }
     {
         self.take_back(rules, treated);
-        let cause = cause_of(fault)?;
+        let cause = reduction_cause(fault)?;
         Ok(Step::Stopped(Halt {
             cause,
             place: Place::Round(self.rounds),

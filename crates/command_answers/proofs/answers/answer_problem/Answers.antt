@@ -2,10 +2,10 @@ use Rattle.std.proofs.Common.{sym, subst}
 use Rattle.adjoint_rules.specs.declared.problem.Problem.{Problem}
 use Rattle.command_words.specs.declared.call.Call.{Call}
 use Rattle.report_text.specs.Report.{report_of}
-use Rattle.command_answers.specs.declared.decide.Asked.{Asked}
-use Rattle.command_answers.specs.OverProblem.{AnswersOver}
-use Rattle.command_answers.specs.Decide.{asked_by, AnswersClaims}
-use Rattle.command_answers.specs.Stop.{EndsAs}
+use Rattle.prove_command.specs.declared.prove.Asked.{Asked}
+use Rattle.command_answers.specs.Answers.{AnswersOver}
+use Rattle.prove_command.specs.Answers.{asked_by, AnswersClaims}
+use Rattle.command_shape.specs.Stop.{EndsAs}
 use Rattle.command_answers.proofs.answers.answer_problem.Goals as goal
 
 pub returns-in-Prove : goal.returns-in-Prove
@@ -19,4 +19,6 @@ pub returns-in-Refute : goal.returns-in-Refute
 returns-in-Refute g c = subst (λ (call : Call). EndsAs (AnswersOver call c.args.evidence.now c.args.problem.now) c.report_search.result) (sym c.in-Refute.is) c.report_search.ensures
 
 pub returns-in-Bench : goal.returns-in-Bench
-returns-in-Bench g c = subst (λ (call : Call). EndsAs (AnswersOver call c.args.evidence.now c.args.problem.now) c.head_claims.result) (sym c.in-Bench.is) c.head_claims.ensures
+returns-in-Bench g c =
+    subst (λ (call : Call). EndsAs (AnswersOver call c.args.evidence.now c.args.problem.now) c.report_claims-in-Bench.result)
+    (sym c.in-Bench.is) c.report_claims-in-Bench.ensures

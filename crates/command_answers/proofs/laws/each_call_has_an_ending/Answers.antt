@@ -1,4 +1,4 @@
-use Rattle.command_answers.proofs.EachCall as lemma
+use Rattle.command_answers.proofs.Commands as lemma
 use Rattle.command_answers.proofs.laws.each_call_has_an_ending.Goals as goal
 
 pub returns : goal.returns

@@ -1,9 +1,9 @@
 use Rattle.std.proofs.Common.{◌≡◌, Err, rules}
-use Rattle.command_answers.specs.declared.stop.Stop.TheVariants.{Ended}
-use Rattle.command_answers.specs.Ending.{Ending}
+use Rattle.command_shape.specs.declared.stop.Stop.TheVariants.{Ended}
+use Rattle.command_shape.specs.Ending.{Ending}
 use Rattle.command_runs.specs.Files.{RoseAt}
 use Rattle.command_runs.specs.Ends.{MayEnd}
-use Rattle.command_answers.proofs.Stops.{ended_as}
+use Rattle.command_shape.proofs.Stops.{ended_as}
 use Rattle.command_runs.proofs.whole_run.ending_of.Goals as goal
 
 pub returns-in-Err-Ended : goal.returns-in-Err-Ended

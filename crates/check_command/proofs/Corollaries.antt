@@ -1,0 +1,48 @@
+-- What users ask of `check`.
+use Rattle.std.proofs.Common.{◌≡◌, ◌⊎◌, inl, inr, ℕ, List, [], refl, sym, ap, subst, ◌∙◌, arith}
+use Rattle.std.proofs.lemmas.List.{append-nil}
+use Rattle.definitions.specs.Category.{Structure}
+use Rattle.cofactor_trace.specs.declared.evidence.Evidence.{Evidence}
+use Rattle.cofactor_trace.specs.declared.evidence.Format.TheVariants as format
+use Rattle.certificate_text.specs.Evidence.{IsEvidence}
+use Rattle.command_shape.specs.Statement.{faulty, stated}
+use Rattle.command_shape.proofs.Statements.{over_problem}
+use Rattle.check_command.specs.Answers.{AnswersEvidence}
+use Rattle.check_command.specs.Laws.{AcceptedAreAnswered, ZeroIsAccepted, ZeroMeans, FaultsAreAnswered, ThreeIsFaulty}
+use Rattle.command_shape.proofs.BlockTexts.{passing_answered, zero_answered, text_status}
+use Rattle.check_command.proofs.Answered.{certificates_are_judged}
+
+-- ---- certificates
+
+pub accepted_are_answered : AcceptedAreAnswered
+accepted_are_answered statement evidence problem certificates is are all = stated problem is (passing_answered (certificates_are_judged problem evidence) certificates are all)
+
+pub zero_is_accepted : ZeroIsAccepted
+zero_is_accepted statement evidence ending answers is_zero =
+    let over = over_problem statement (AnswersEvidence evidence) ending answers is_zero in
+    let all = zero_answered (certificates_are_judged over.0 evidence) ending over.2 is_zero in
+    record { problem = over.0; certificates = all.all; stated = over.1; read = all.are; accepted = all.pass; report = all.says }
+
+pub zero_means : {Object Arrow : Type 0} (s : Structure Object Arrow) → ZeroMeans s
+zero_means s statement evidence ending answers says is_zero =
+    let all = zero_is_accepted statement evidence ending answers is_zero in
+    record {
+      problem = all.problem;
+      certificates = all.certificates;
+      stated = all.stated;
+      read = all.read;
+      each = says.each all.problem all.certificates [] [] all.stated (subst (λ (es : List Evidence). IsEvidence format.Lemmas all.problem.parts.quiver evidence es) (sym (append-nil all.certificates)) all.read) (all.report ∙ sym (append-nil _));
+    }
+
+-- ---- statements
+
+pub faults_are_answered : FaultsAreAnswered
+faults_are_answered statement evidence text refused = faulty text refused refl
+
+not_three : (n : ℕ) → (n ≡ 0) ⊎ (n ≡ 7) → n ≡ 3 → ⊥
+not_three n (inl is) three = omega arith
+not_three n (inr is) three = omega arith
+
+pub three_is_faulty : ThreeIsFaulty
+three_is_faulty statement evidence ending (faulty text refused ends) is_three = (text, refused, ends)
+three_is_faulty statement evidence ending (stated problem is leads) is_three = absurd (not_three ending.status (text_status (certificates_are_judged problem evidence) ending leads) is_three)

@@ -1,0 +1,4 @@
+mod Letters
+mod Readable
+pub mod Answered
+mod Corollaries

@@ -1,0 +1,108 @@
+//! Why a certificate is refused.
+ghost use Rattle.std.specs.Prelude.{◌≡◌, ◌++◌, Some, IfOk, OnOk, codes, decimal};
+ghost use Rattle.std.specs.Fmt.{signed_decimal};
+ghost use Rattle.quiver.specs.Declarations.{letter_count};
+ghost use Rattle.word_core.specs.Letters.{IsOver};
+ghost use Rattle.certificate_text.specs.Written.{word_text};
+ghost use Rattle.command_shape.specs.Judged.{Puts};
+ghost use Rattle.check_command.specs.Letters.{HasLetters};
+ghost use Rattle.check_command.specs.Refusals.{operation_text, cause_text};
+
+use certificate_text::{put, put_integer, put_word};
+use coef_int::Overflow;
+use cofactor_checker::{KEPT_LIMIT, Refusal, SUM_LIMIT};
+use command_shape::{put_labelled, put_signed};
+use quiver::Quiver;
+use std::alloc::{AllocError, Global};
+use word_core::Word;
+
+/// Why a certificate is refused. Want of memory has no text.
+pub fn cause_text(alloc: Global, quiver: &Quiver, refusal: &Refusal) -> Result<Vec<u8>, AllocError>
+    requires { HasLetters quiver.now refusal.now }
+    ensures { IfOk result (λ text. cause_text quiver.now refusal.now ≡ Some text.items) }
+{
+    let mut text = Vec::new(alloc);
+    put_cause(&mut text, quiver, refusal)?;
+    Ok(text)
+}
+
+fn put_cause(out: &mut Vec<u8>, quiver: &Quiver, refusal: &Refusal) -> Result<(), AllocError>
+    requires { HasLetters quiver.now refusal.now }
+    ensures { OnOk result (Puts (cause_text quiver.now refusal.now) out.old.items out.new.items) }
+{
+    match refusal {
+        Refusal::NoSuchClaim => put(out, "C1"),
+        Refusal::NoSuchGenerator { row } => put_labelled(out, "C2 row ", u128::from(*row)),
+        Refusal::ZeroDenominator => put(out, "C3"),
+        Refusal::Overflow { row, overflow } => put_overflow(out, *row, overflow),
+        Refusal::Size { row } => put_past(out, "C5 row ", *row, SUM_LIMIT),
+        Refusal::Differs { word, want, got } => put_difference(out, quiver, word, *want, *got),
+        Refusal::NoSuchLemma { row } => put_labelled(out, "C7 row ", u128::from(*row)),
+        Refusal::NotDivisible { lemma, word, got } => {
+            put_indivisible(out, quiver, *lemma, word, *got)
+        }
+        Refusal::LemmaSize { lemma } => put_labelled(out, "C9 lemma ", u128::from(*lemma)),
+        Refusal::LooseScale { lemma } => put_labelled(out, "C10 lemma ", u128::from(*lemma)),
+        Refusal::Kept { row } => put_past(out, "C11 row ", *row, KEPT_LIMIT),
+        Refusal::Memory(_) => Err(AllocError),
+    }
+}
+
+// A place, and the limit that is passed there.
+fn put_past(out: &mut Vec<u8>, place: &str, number: u32, limit: usize) -> Result<(), AllocError>
+    ensures { OnOk result (out.new.items ≡ out.old.items ++ (place.now ++ (decimal number ++ (codes " limit " ++ decimal limit)))) }
+{
+    put_labelled(out, place, u128::from(number))?;
+    put_labelled(out, " limit ", limit as u128)
+}
+
+fn put_overflow(out: &mut Vec<u8>, row: u32, overflow: &Overflow) -> Result<(), AllocError>
+    ensures { OnOk result (out.new.items ≡ out.old.items ++ (codes "C4 row " ++ (decimal row ++ (codes " " ++ (signed_decimal overflow.now.left ++ (operation_text overflow.now.product ++ signed_decimal overflow.now.right)))))) }
+{
+    put_labelled(out, "C4 row ", u128::from(row))?;
+    put_signed(out, " ", overflow.left)?;
+    put_operation(out, overflow.product)?;
+    put_integer(out, overflow.right)
+}
+
+fn put_operation(out: &mut Vec<u8>, product: bool) -> Result<(), AllocError>
+    ensures { OnOk result (out.new.items ≡ out.old.items ++ operation_text product) }
+{
+    if product {
+        put(out, " times ")
+    } else {
+        put(out, " plus ")
+    }
+}
+
+fn put_difference(
+    out: &mut Vec<u8>,
+    quiver: &Quiver,
+    word: &Word,
+    want: i128,
+    got: i128,
+) -> Result<(), AllocError>
+    requires { IsOver (letter_count quiver.now) word.now }
+    ensures { OnOk result (out.new.items ≡ out.old.items ++ (codes "C6 word " ++ (word_text quiver.now word.now ++ (codes " want " ++ (signed_decimal want ++ (codes " got " ++ signed_decimal got)))))) }
+{
+    put(out, "C6 word ")?;
+    put_word(out, quiver, word)?;
+    put_signed(out, " want ", want)?;
+    put_signed(out, " got ", got)
+}
+
+fn put_indivisible(
+    out: &mut Vec<u8>,
+    quiver: &Quiver,
+    lemma: u32,
+    word: &Word,
+    got: i128,
+) -> Result<(), AllocError>
+    requires { IsOver (letter_count quiver.now) word.now }
+    ensures { OnOk result (out.new.items ≡ out.old.items ++ (codes "C8 lemma " ++ (decimal lemma ++ (codes " word " ++ (word_text quiver.now word.now ++ (codes " got " ++ signed_decimal got)))))) }
+{
+    put_labelled(out, "C8 lemma ", u128::from(lemma))?;
+    put(out, " word ")?;
+    put_word(out, quiver, word)?;
+    put_signed(out, " got ", got)
+}

@@ -1,9 +1,0 @@
--- What judging a block comes to; for private functions.
-use Rattle.std.specs.Prelude.{ℕ, List}
-use Rattle.command_answers.specs.declared.judge.Judged.{Judged}
-use Rattle.command_answers.specs.declared.judge.Judged.TheVariants.{Accepted, Refused}
-
--- it is one of these texts, or one of these causes
-abbrev pub Tells : (List ℕ → Type 0) → (List ℕ → Type 0) → Judged → Type 0
-Tells accepts refuses (Accepted text) = accepts text.items
-Tells accepts refuses (Refused cause) = refuses cause.items

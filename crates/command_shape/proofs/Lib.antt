@@ -1,0 +1,10 @@
+pub mod Places
+pub mod Zips
+pub mod Stops
+pub mod Judging
+pub mod BlockTexts
+pub mod Problems
+pub mod Syntax
+pub mod Statements
+pub mod Owed
+pub mod Told

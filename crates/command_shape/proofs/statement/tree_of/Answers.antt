@@ -1,0 +1,17 @@
+use Rattle.std.proofs.Common.{◌≡◌, ◌∙◌, ap, None, refl, rules}
+use Rattle.statement_syntax.specs.declared.fault.SyntaxFault.TheVariants as syntax
+use Rattle.statement_syntax.specs.Fault.{TellsFirstFault}
+use Rattle.command_shape.specs.Ending.{refused_statement}
+use Rattle.command_shape.specs.Texts.{statement_fault}
+use Rattle.command_shape.specs.Statement.{no_tree, faulty}
+use Rattle.command_shape.proofs.statement.tree_of.Goals as goal
+
+-- the bytes have a fault
+pub returns-in_ok-ending-in-Err-Fault-clause-stopped : goal.returns-in_ok-ending-in-Err-Fault-clause-stopped
+returns-in_ok-ending-in-Err-Fault-clause-stopped c =
+    let f = c.in-Err-Fault in
+    let first : TellsFirstFault c.args.statement.now (syntax.Fault f.code f.line f.column) = search rules in
+    let is : c.in_ok-ending-in-Err-Fault.ending ≡ refused_statement (statement_fault f.code f.line f.column 0 None None) = search rules in
+    faulty _
+    (no_tree first.0 (record { line = f.line; column = f.column }) first.2 refl)
+    (is ∙ ap (λ n. refused_statement (statement_fault n f.line f.column 0 None None)) first.1)

@@ -1,0 +1,33 @@
+-- What the bytes of a statement lead to: its first fault ends the run, or its problem goes on.
+use Rattle.std.specs.Prelude.{ℕ, ◌≡◌, List, Option, Some, None}
+use Rattle.statement_tokens.specs.declared.place.Spot.{Spot}
+use Rattle.statement_syntax.specs.declared.fault.Fault.{Fault}
+use Rattle.statement_syntax.specs.declared.tree.Statement.{Statement}
+use Rattle.statement_syntax.specs.Fault.{IsTreeOf, IsFirstFault, code_of}
+use Rattle.adjoint_rules.specs.declared.problem.Problem.{Problem}
+use Rattle.signature_typing.specs.declared.fault.TypeFault.{TypeFault}
+use Rattle.signature_typing.specs.declared.fault.TypeFault.TheVariants as typing
+use Rattle.signature_typing.specs.Typing.{fault_of, IsProblemOf}
+use Rattle.command_shape.specs.Ending.{Ending, refused_statement}
+use Rattle.command_shape.specs.Texts.{statement_fault}
+
+-- The bytes are a statement, and this is its problem.
+pub record IsStated (bytes : List ℕ) (problem : Problem) : Type 0 where
+  pub statements : List Statement
+  pub tree : IsTreeOf bytes statements
+  pub elaborated : IsProblemOf statements problem
+
+-- what the line of a fault of names and types says; want of memory is told by no line
+abbrev pub typing_text : TypeFault → Option (List ℕ)
+typing_text (typing.Fault code line column left right limit) = Some (statement_fault code line column limit left right)
+typing_text (typing.Memory failed) = None
+
+-- The statement has a first fault, and the line says so.
+pub data IsRefusedStatement (bytes text : List ℕ) : Type 0 where
+  no_tree : (fault : Fault) (at : Spot) → IsFirstFault bytes fault at → text ≡ statement_fault (code_of fault) at.line at.column 0 None None → IsRefusedStatement bytes text
+  no_problem : (statements : List Statement) (fault : TypeFault) → IsTreeOf bytes statements → fault_of statements ≡ Some fault → typing_text fault ≡ Some text → IsRefusedStatement bytes text
+
+-- The statement is refused, for its first fault, or its problem leads to the ending.
+pub data OverStatement (bytes : List ℕ) (next : Problem → Ending → Type 0) (ending : Ending) : Type 0 where
+  faulty : (text : List ℕ) → IsRefusedStatement bytes text → ending ≡ refused_statement text → OverStatement bytes next ending
+  stated : (problem : Problem) → IsStated bytes problem → next problem ending → OverStatement bytes next ending

@@ -1,0 +1,80 @@
+-- Evidence of a claim that adds up means what is said of it.
+use Rattle.std.proofs.Common.{◌≡◌, ℕ, zero, suc, ◌<◌, ◌≤◌, ℤ, Bool, false, List, [], ◌∷◌, length, get_or, refl, sym, subst, arith}
+use Rattle.std.specs.List.{AllByRecursion}
+use Rattle.definitions.specs.Category.{Structure, PreadditiveLaws}
+use Rattle.definitions.specs.Combination.{generator_at}
+use Rattle.definitions.specs.Quiver.{Quiver}
+use Rattle.definitions.specs.Representation.{Representation, Represents}
+use Rattle.definitions.specs.Soundness.{HasSignature, HasValueZero, IsSound, MakesZero}
+use Rattle.definitions.specs.Generators.{generators_of}
+use Rattle.definitions.proofs.StarSound.{star_sound}
+use Rattle.definitions.proofs.UnitSound.{unit_sound}
+use Rattle.quiver.specs.Declarations.{quiver_of}
+use Rattle.cofactor_trace.specs.declared.evidence.Evidence.{Evidence}
+use Rattle.cofactor_trace.specs.declared.evidence.Evidence.TheVariants.{Plain, Lemmas}
+use Rattle.cofactor_trace.specs.Rows.{rows_of}
+use Rattle.adjoint_rules.specs.declared.problem.Problem.{Problem}
+use Rattle.adjoint_rules.specs.Problem.{polynomials, numbers, generators_in}
+use Rattle.adjoint_rules.proofs.Generators.{posed_quiver, claims_have_signatures, marked_are_objects, generators_have_signatures, generators_are_zero, makes_zero}
+use Rattle.claim_decider.specs.Decided.{claim_at}
+use Rattle.representations.specs.Evidence.{IsEvidenceSound}
+use Rattle.outcome_laws.specs.Meanings.{EvidenceAddsUp}
+use Rattle.report_text.specs.Heads.{denominator_of}
+use Rattle.outcome_laws.specs.ProvedMeans.{MakesZeroByStar, MeansZero, ProvedMeans}
+
+-- the polynomial with a number from 1 to the count has what each of them has
+get_one : (q : Quiver) (ps : List (List (ℤ × List ℕ))) (n : ℕ) → n < length ps → AllByRecursion (HasSignature q) ps → HasSignature q (get_or ps n [])
+get_one q [] n inside all = absurd (omega arith)
+get_one q (p ∷ ps) zero inside all = all.0
+get_one q (p ∷ ps) (suc n) inside all = get_one q ps n (omega arith) all.1
+
+numbered : (q : Quiver) (ps : List (List (ℤ × List ℕ))) (n : ℕ) → 1 ≤ n → n ≤ length ps → AllByRecursion (HasSignature q) ps → HasSignature q (generator_at ps n)
+numbered q ps zero least most all = absurd (omega arith)
+numbered q ps (suc n) least most all = get_one q ps n (omega arith) all
+
+-- what makes a claim zero over the generators makes it zero over what the statement says
+module _ {Object Arrow : Type 0} {s : Structure Object Arrow} (laws : PreadditiveLaws s) (problem : Problem) (d : ℤ) (claim : List (ℤ × List ℕ))
+    (makes : MakesZero s (quiver_of problem.parts.quiver) (polynomials problem.generators) d claim) where
+  zero_made : MakesZero s (quiver_of problem.parts.quiver) (generators_in problem.parts) d claim
+  zero_made = makes_zero laws problem.parts problem.generators problem.closed d claim makes
+
+  by_star_made : MakesZeroByStar s (quiver_of problem.parts.quiver) (polynomials problem.parts.assumptions) d claim
+  by_star_made = record {
+    zero = λ adjoint involution f rep cancels vanish. makes.zero f rep.represents cancels
+        (generators_are_zero laws problem.parts problem.generators problem.closed adjoint (star_sound laws involution) problem.posed f rep vanish);
+  }
+
+  -- in a statement that isn't starred
+  generators_vanish : problem.parts.starred ≡ false → (f : Representation Object Arrow) → Represents s (quiver_of problem.parts.quiver) f
+      → AllByRecursion (HasValueZero s (quiver_of problem.parts.quiver) f) (polynomials problem.parts.assumptions) → AllByRecursion (HasValueZero s (quiver_of problem.parts.quiver) f) (generators_in problem.parts)
+  generators_vanish not_starred f rep vanish =
+      let q = quiver_of problem.parts.quiver in
+      let P : Bool → Type 0 = λ b. AllByRecursion (HasValueZero s q f) (generators_of q b (numbers problem.parts.marked) (polynomials problem.parts.assumptions)) in
+      subst P (sym not_starred)
+      ((unit_sound laws).generators q (numbers problem.parts.marked) (polynomials problem.parts.assumptions) (posed_quiver problem.parts problem.posed) (marked_are_objects problem.parts problem.posed) f rep vanish)
+
+  means_zero : HasSignature (quiver_of problem.parts.quiver) claim → MeansZero s problem d claim
+  means_zero typed = record {
+    typed = typed;
+    zero = zero_made;
+    by_star = by_star_made;
+    plain = λ not_starred. record { zero = λ f rep cancels vanish. zero_made.zero f rep cancels (generators_vanish not_starred f rep vanish) };
+  }
+
+-- ---- evidence
+
+module _ {Object Arrow : Type 0} {s : Structure Object Arrow} (laws : PreadditiveLaws s) (sound : IsSound s) (with_lemmas : IsEvidenceSound s) (problem : Problem) where
+  -- evidence that adds up makes the claim zero
+  evidence_makes : (number : ℕ) (e : Evidence) → EvidenceAddsUp problem number e → MakesZero s (quiver_of problem.parts.quiver) (polynomials problem.generators) (denominator_of e) (claim_at problem number)
+  evidence_makes number (Plain c) adds = sound.certificate (quiver_of problem.parts.quiver) (polynomials problem.generators) (rows_of c.rows) c.denominator (claim_at problem number)
+      (posed_quiver problem.parts problem.posed) (generators_have_signatures problem.parts problem.posed problem.generators problem.closed) adds.combination
+  evidence_makes number (Lemmas c) adds = with_lemmas.evidence (quiver_of problem.parts.quiver) (polynomials problem.generators) adds.lemmas c (claim_at problem number)
+      (posed_quiver problem.parts problem.posed) (generators_have_signatures problem.parts problem.posed problem.generators problem.closed) adds.evidence
+
+  -- a claim of the problem with evidence that adds up is proved
+  pub proved_means : (number : ℕ) (e : Evidence) → 1 ≤ number → number ≤ length (polynomials problem.parts.claims) → EvidenceAddsUp problem number e → ProvedMeans s problem number e
+  proved_means number e least most adds = record {
+    sum = adds;
+    means = means_zero laws problem (denominator_of e) (claim_at problem number) (evidence_makes number e adds)
+        (numbered (quiver_of problem.parts.quiver) (polynomials problem.parts.claims) number least most (claims_have_signatures problem.parts problem.posed));
+  }

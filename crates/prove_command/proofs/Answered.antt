@@ -1,0 +1,138 @@
+-- What `prove` and `bench` owe: one ending, its status, and what its verdicts mean.
+use Rattle.std.proofs.Common.{◌≡◌, ◌≤◌, ℕ, zero, suc, ◌+◌, List, [], ◌∷◌, length, refl, sym, ap, subst, ◌∙◌, arith}
+use Rattle.std.specs.List.{AllZip, range_with_len}
+use Rattle.std.proofs.lemmas.List.{length-map}
+use Rattle.definitions.specs.Category.{Structure, PreadditiveLaws}
+use Rattle.definitions.specs.Soundness.{IsSound}
+use Rattle.nc_polynomial.specs.declared.poly.Poly.{Poly}
+use Rattle.cofactor_trace.specs.declared.halt.Halt.{Halt}
+use Rattle.adjoint_rules.specs.declared.problem.Problem.{Problem}
+use Rattle.adjoint_rules.specs.Problem.{polynomials}
+use Rattle.traced_completion.specs.PlainRun.{setting_of}
+use Rattle.claim_decider.specs.declared.outcome.Outcome.{Outcome}
+use Rattle.claim_decider.specs.declared.outcome.Outcome.TheVariants as outcome
+use Rattle.claim_decider.specs.Outcomes.{IsOutcomeOf}
+use Rattle.claim_decider.specs.Decided.{claim_at, claim_numbers, AreOutcomesOf, AreLastRules}
+use Rattle.claim_decider.proofs.UniqueOutcomes.{outcomes_unique}
+use Rattle.claim_decider.proofs.UniqueRules.{last_rules_unique}
+use Rattle.representations.specs.Evidence.{IsEvidenceSound}
+use Rattle.model_checker.specs.Models.{IsClaimNumber}
+use Rattle.model_search.proofs.LeastBreaking.{least_means}
+use Rattle.outcome_laws.specs.Meanings.{OutcomeMeans, HaltMeans}
+use Rattle.outcome_laws.proofs.AskedOrders.{asked_rank, asked_cmp-admissible}
+use Rattle.outcome_laws.proofs.Meanings.{outcomes_mean_what_they_say}
+use Rattle.outcome_laws.proofs.Problems.{each_problem_has_outcomes}
+use Rattle.outcome_laws.proofs.ProvedMeans.{proved_means}
+use Rattle.report_text.specs.declared.verdict.Verdict.{Verdict}
+use Rattle.report_text.specs.Report.{status_of}
+use Rattle.command_shape.specs.Ending.{Ending}
+use Rattle.command_shape.specs.Statement.{OverStatement}
+use Rattle.prove_command.specs.declared.prove.Asked.{Asked}
+use Rattle.prove_command.specs.Answers.{Print, AreVerdictsOn, AnswersClaims}
+use Rattle.prove_command.specs.Says.{VerdictMeans, PrintsMeant, SaysDecided}
+use Rattle.command_shape.proofs.Owed.{OwesEnding, owed_over}
+use Rattle.command_shape.proofs.Stops.{over_statement}
+use Rattle.report_text.proofs.Statuses.{verdicts_status}
+use Rattle.command_shape.proofs.Zips.{zip_once}
+use Rattle.prove_command.proofs.Outcomes.{OnHalted, broken, left, OnOutcome, by_outcome, verdicts_once, verdicts_end, verdicts_follow}
+
+-- ---- one ending
+
+module _ (problem : Problem) (asked : Asked) where
+  outcome_once : (n : ℕ) (o o' : Outcome) → IsOutcomeOf (setting_of problem asked.budget) asked.form n (claim_at problem n) o → IsOutcomeOf (setting_of problem asked.budget) asked.form n (claim_at problem n) o' → o ≡ o'
+  outcome_once n o o' one other =
+      let order = problem.parts.order in
+      outcomes_unique 0 (asked_rank 0 order) (setting_of problem asked.budget) asked.form n (claim_at problem n) o o' (asked_cmp-admissible 0 order) one other
+
+  outcomes_once : (one other : List Outcome) → AreOutcomesOf (setting_of problem asked.budget) asked.form problem (claim_numbers problem) one
+      → AreOutcomesOf (setting_of problem asked.budget) asked.form problem (claim_numbers problem) other → one ≡ other
+  outcomes_once one other first second =
+      zip_once (λ n o. IsOutcomeOf (setting_of problem asked.budget) asked.form n (claim_at problem n) o) outcome_once (claim_numbers problem) one other first second
+
+  rules_once : (one other : List Poly) → AreLastRules (setting_of problem asked.budget) asked.form problem (claim_numbers problem) one
+      → AreLastRules (setting_of problem asked.budget) asked.form problem (claim_numbers problem) other → one ≡ other
+  rules_once one other first second =
+      let order = problem.parts.order in
+      last_rules_unique 0 (asked_rank 0 order) (setting_of problem asked.budget) asked.form problem (claim_numbers problem) one other (asked_cmp-admissible 0 order) first second
+
+claims_once : (print : Print) (asked : Asked) (ending ending' : Ending) (problem : Problem) → AnswersClaims print asked problem ending → AnswersClaims print asked problem ending' → ending ≡ ending'
+claims_once print asked ending ending' problem one other =
+    let outcomes : one.decides.outcomes ≡ other.decides.outcomes = outcomes_once problem asked one.decides.outcomes other.decides.outcomes one.decides.are_outcomes other.decides.are_outcomes in
+    let over : AreVerdictsOn problem asked (claim_numbers problem) one.decides.outcomes other.verdicts =
+    subst (λ (os : List Outcome). AreVerdictsOn problem asked (claim_numbers problem) os other.verdicts) (sym outcomes) other.decides.are_verdicts in
+    let verdicts : one.verdicts ≡ other.verdicts = verdicts_once problem asked (claim_numbers problem) one.decides.outcomes one.verdicts other.verdicts one.decides.are_verdicts over in
+    let rules : one.rules ≡ other.rules = rules_once problem asked one.rules other.rules one.decides.are_rules other.decides.are_rules in
+    one.says ∙ (λ i. record { status = status_of (verdicts i); report = print problem.parts.quiver (rules i) (verdicts i) }) ∙ sym other.says
+
+-- and each problem has one
+claims_end : (print : Print) (asked : Asked) (problem : Problem) → (ending : Ending) × AnswersClaims print asked problem ending
+claims_end print asked problem =
+    let all = each_problem_has_outcomes problem asked.budget asked.form in
+    let said = verdicts_end problem asked (λ n o. IsOutcomeOf (setting_of problem asked.budget) asked.form n (claim_at problem n) o) (claim_numbers problem) all.outcomes all.are_outcomes in
+    let verdicts : List Verdict = said.0 in (
+      record { status = status_of verdicts; report = print problem.parts.quiver all.rules verdicts },
+      record {
+        verdicts = verdicts;
+        rules = all.rules;
+        decides = record { outcomes = all.outcomes; are_outcomes = all.are_outcomes; are_verdicts = said.1; are_rules = all.are_rules };
+        says = refl;
+      },
+    )
+
+-- ---- what verdicts mean
+
+module _ {Object Arrow : Type 0} {s : Structure Object Arrow} (laws : PreadditiveLaws s) (sound : IsSound s) (with_lemmas : IsEvidenceSound s) (problem : Problem) where
+  module _ (asked : Asked) where
+    halted_means : (number : ℕ) (halt : Halt) (v : Verdict) → HaltMeans problem number halt → OnHalted problem asked number halt v → VerdictMeans s problem number v
+    halted_means number halt v bounded (broken m on least is) = subst (VerdictMeans s problem number) (sym is) (least_means problem number asked.seed m least)
+    halted_means number halt v bounded (left none is) = subst (VerdictMeans s problem number) (sym is) bounded
+
+    outcome_means : (number : ℕ) (o : Outcome) (v : Verdict) → IsClaimNumber problem number → OutcomeMeans problem number o → OnOutcome problem asked number o v → VerdictMeans s problem number v
+    outcome_means number (outcome.Derived e) v is adds says =
+        let count : length problem.parts.claims ≡ length (polynomials problem.parts.claims) = sym (length-map problem.parts.claims (λ (x : Poly). x.terms)) in
+        subst (VerdictMeans s problem number) (sym says)
+        (proved_means laws sound with_lemmas problem number e is.least (subst (λ (n : ℕ). number ≤ n) count is.most) adds)
+    outcome_means number (outcome.Closed rest) v is outside says = subst (VerdictMeans s problem number) (sym says) outside
+    outcome_means number (outcome.Halted halt) v is bounded on = halted_means number halt v bounded on
+
+    -- the outcome of a claim of the problem, with its meaning
+    abbrev Meant : ℕ → Outcome → Type 0
+    Meant number o = IsClaimNumber problem number × OutcomeMeans problem number o
+
+    -- the claims from a number on
+    outcomes_meant : (first count : ℕ) (os : List Outcome) → 1 ≤ first → first + count ≤ length problem.parts.claims + 1
+        → AreOutcomesOf (setting_of problem asked.budget) asked.form problem (range_with_len first count) os → AllZip Meant (range_with_len first count) os
+    outcomes_meant first zero [] least most are = tt
+    outcomes_meant first zero (o ∷ os) least most are = absurd are
+    outcomes_meant first (suc count) [] least most are = absurd are
+    outcomes_meant first (suc count) (o ∷ os) least most are =
+        ((record { least = least; most = omega arith }, outcomes_mean_what_they_say problem asked.budget asked.form first o are.0), outcomes_meant (first + 1) count os (omega arith) (omega arith) are.1)
+
+    verdicts_mean : (os : List Outcome) (vs : List Verdict) → AreOutcomesOf (setting_of problem asked.budget) asked.form problem (claim_numbers problem) os
+        → AreVerdictsOn problem asked (claim_numbers problem) os vs → AllZip (VerdictMeans s problem) (claim_numbers problem) vs
+    verdicts_mean os vs outcomes verdicts =
+        verdicts_follow problem asked Meant (VerdictMeans s problem) (λ number o v meant is. outcome_means number o v meant.0 meant.1 (by_outcome problem asked number o v is)) (claim_numbers problem) os vs
+        (outcomes_meant 1 (length problem.parts.claims) os (omega arith) (omega arith) outcomes) verdicts
+
+prints_meant : {Object Arrow : Type 0} {s : Structure Object Arrow} → PreadditiveLaws s → IsSound s → IsEvidenceSound s → (print : Print) (asked : Asked) (ending : Ending) (problem : Problem)
+    → AnswersClaims print asked problem ending → PrintsMeant s print problem ending
+prints_meant {s} laws sound with_lemmas print asked ending problem answer = record {
+  verdicts = answer.verdicts;
+  rules = answer.rules;
+  printed = ap (λ (e : Ending). e.report) answer.says;
+  status = ap (λ (e : Ending). e.status) answer.says;
+  each = verdicts_mean laws sound with_lemmas problem asked answer.decides.outcomes answer.verdicts answer.decides.are_outcomes answer.decides.are_verdicts;
+}
+
+-- ---- what is owed
+
+pub claims_owe : (print : Print) (asked : Asked) (statement : List ℕ)
+    → OwesEnding (OverStatement statement (AnswersClaims print asked)) (λ Object Arrow s ending. SaysDecided s print statement ending)
+claims_owe print asked statement = owed_over statement (AnswersClaims print asked) (λ Object Arrow s ending. SaysDecided s print statement ending)
+    (record {
+      one = claims_end print asked;
+      no_other = λ problem ending ending'. claims_once print asked ending ending' problem;
+      own = λ problem ending answer. verdicts_status ending.status answer.verdicts (ap (λ (e : Ending). e.status) answer.says);
+    })
+    (λ Object Arrow s laws sound with_lemmas ending answers.
+    over_statement statement (AnswersClaims print asked) (PrintsMeant s print) ending (prints_meant laws sound with_lemmas print asked ending) answers)

@@ -1,0 +1,4 @@
+mod Outcomes
+mod Writing
+pub mod Answered
+pub mod BenchSize

@@ -1,0 +1,82 @@
+-- What `refute` owes: one ending, its status, and what its verdicts mean.
+use Rattle.std.proofs.Common.{◌≡◌, ◌⊎◌, inl, inr, ℕ, List, [], refl, sym, ap, subst, ◌∙◌}
+use Rattle.std.specs.List.{All, AllZip}
+use Rattle.matrix_models.specs.declared.model.Model.{Model}
+use Rattle.adjoint_rules.specs.declared.problem.Problem.{Problem}
+use Rattle.claim_decider.specs.Decided.{claim_numbers}
+use Rattle.model_candidates.specs.Candidates.{all_candidate_count, NoneBreaks}
+use Rattle.model_search.specs.LeastBreaking.{LeastBreaks}
+use Rattle.model_search.proofs.LeastBreaking.{least_once, none_least, least_or_none, least_refutes, least_means}
+use Rattle.report_text.specs.declared.verdict.Verdict.{Verdict}
+use Rattle.report_text.specs.declared.verdict.Verdict.TheVariants as verdict
+use Rattle.report_text.specs.Report.{report_of, status_of, IsVerdictOver}
+use Rattle.command_shape.specs.Ending.{Ending}
+use Rattle.command_shape.specs.Statement.{OverStatement}
+use Rattle.refute_command.specs.Answers.{IsSearchedOn, refuted, not_refuted, AnswersSearch}
+use Rattle.refute_command.specs.Says.{SearchMeans, PrintsSearched, SaysSearched}
+use Rattle.command_shape.proofs.Owed.{OwesEnding, owed_over}
+use Rattle.command_shape.proofs.Stops.{over_statement}
+use Rattle.report_text.proofs.Statuses.{verdicts_status}
+use Rattle.command_shape.proofs.Zips.{zip_once, zip_ends, zip_weaker, zip_all}
+
+-- ---- one verdict on each claim
+
+module _ (problem : Problem) (seed : ℕ) where
+  verdict_once : (claim : ℕ) (v v' : Verdict) → IsSearchedOn problem seed claim v → IsSearchedOn problem seed claim v' → v ≡ v'
+  verdict_once claim v v' (refuted m least is) (refuted m' least' is') = is ∙ ap (λ x. verdict.Refuted x) (least_once problem claim seed m m' least least') ∙ sym is'
+  verdict_once claim v v' (refuted m least is) (not_refuted none is') = absurd (none_least problem claim seed m none least)
+  verdict_once claim v v' (not_refuted none is) (refuted m least is') = absurd (none_least problem claim seed m none least)
+  verdict_once claim v v' (not_refuted none is) (not_refuted none' is') = is ∙ sym is'
+
+  verdict_ends : (claim : ℕ) → (v : Verdict) × IsSearchedOn problem seed claim v
+  verdict_ends claim = by (least_or_none problem claim seed)
+    where
+      by : ((m : Model) × LeastBreaks problem claim seed m) ⊎ NoneBreaks problem claim seed → (v : Verdict) × IsSearchedOn problem seed claim v
+      by (inl found) = (verdict.Refuted found.0, refuted found.0 found.1 refl)
+      by (inr none) = (verdict.NotRefuted (all_candidate_count problem), not_refuted none refl)
+
+  verdict_over : (claim : ℕ) (v : Verdict) → IsSearchedOn problem seed claim v → IsVerdictOver problem.parts.quiver v
+  verdict_over claim v (refuted m least is) =
+      let model = least_refutes problem claim seed m least in
+      subst (IsVerdictOver problem.parts.quiver) (sym is) (record { sides = model.sides; maps = model.maps })
+  verdict_over claim v (not_refuted none is) = subst (IsVerdictOver problem.parts.quiver) (sym is) tt
+
+  pub searched_over : (numbers : List ℕ) (vs : List Verdict) → AllZip (IsSearchedOn problem seed) numbers vs → All (IsVerdictOver problem.parts.quiver) vs
+  searched_over numbers vs zipped = zip_all (IsSearchedOn problem seed) (IsVerdictOver problem.parts.quiver) verdict_over numbers vs zipped
+
+  verdict_means : (claim : ℕ) (v : Verdict) → IsSearchedOn problem seed claim v → SearchMeans problem claim v
+  verdict_means claim v (refuted m least is) = subst (SearchMeans problem claim) (sym is) (least_means problem claim seed m least)
+  verdict_means claim v (not_refuted none is) = subst (SearchMeans problem claim) (sym is) tt
+
+-- ---- what is answered
+
+search_ends : (seed : ℕ) (problem : Problem) → (ending : Ending) × AnswersSearch seed problem ending
+search_ends seed problem =
+    let all = zip_ends (IsSearchedOn problem seed) (verdict_ends problem seed) (claim_numbers problem) in
+    (record { status = status_of all.0; report = report_of problem.parts.quiver [] all.0 }, record { verdicts = all.0; each = all.1; says = refl })
+
+search_once : (seed : ℕ) (ending ending' : Ending) (problem : Problem) → AnswersSearch seed problem ending → AnswersSearch seed problem ending' → ending ≡ ending'
+search_once seed ending ending' problem one other =
+    let same = zip_once (IsSearchedOn problem seed) (verdict_once problem seed) (claim_numbers problem) one.verdicts other.verdicts one.each other.each in
+    one.says ∙ (λ i. record { status = status_of (same i); report = report_of problem.parts.quiver [] (same i) }) ∙ sym other.says
+
+search_meant : (seed : ℕ) (ending : Ending) (problem : Problem) → AnswersSearch seed problem ending → PrintsSearched problem ending
+search_meant seed ending problem answer = record {
+  verdicts = answer.verdicts;
+  printed = ap (λ (e : Ending). e.report) answer.says;
+  status = ap (λ (e : Ending). e.status) answer.says;
+  each = zip_weaker (IsSearchedOn problem seed) (SearchMeans problem) (verdict_means problem seed) (claim_numbers problem) answer.verdicts answer.each;
+}
+
+-- ---- what is owed
+
+pub search_owes : (seed : ℕ) (statement : List ℕ)
+    → OwesEnding (OverStatement statement (AnswersSearch seed)) (λ Object Arrow s ending. SaysSearched statement ending)
+search_owes seed statement = owed_over statement (AnswersSearch seed) (λ Object Arrow s ending. SaysSearched statement ending)
+    (record {
+      one = search_ends seed;
+      no_other = λ problem ending ending'. search_once seed ending ending' problem;
+      own = λ problem ending answer. verdicts_status ending.status answer.verdicts (ap (λ (e : Ending). e.status) answer.says);
+    })
+    (λ Object Arrow s laws sound with_lemmas ending answers.
+    over_statement statement (AnswersSearch seed) PrintsSearched ending (search_meant seed ending) answers)

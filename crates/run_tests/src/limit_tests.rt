@@ -1,0 +1,114 @@
+//! Runs over files at each limit and one past it, which are put together from parts.
+use crate::limit_rows::{LIMITS, LimitRow, Part, SIZES};
+use crate::tests::answer;
+use std::alloc::{AllocError, Global};
+use std::process::Abort;
+use std::test::Fail;
+use std::thread::Threads;
+
+// Appends a text so many times.
+fn push_times(text: &mut String, piece: &str, count: u32) -> Result<(), AllocError> {
+    for _ in 0..count {
+        text.push_str(piece)?;
+    }
+    Ok(())
+}
+
+// Appends the numbers from one to another.
+fn push_numbers(
+    text: &mut String,
+    (first, last): (u32, u32),
+    (before, after, sign): (&str, &str, &str),
+) -> Result<(), AllocError> {
+    for number in first..=last {
+        let sign = if number > first { sign } else { "" };
+        write!(text, "{sign}{before}{number}{after}")?;
+    }
+    Ok(())
+}
+
+// Appends rows of a certificate with 500 letters on either side.
+fn push_long_rows(text: &mut String, count: u32) -> Result<(), AllocError> {
+    for _ in 0..count {
+        text.push_str("row 0 (")?;
+        push_times(text, "a ", 500)?;
+        text.push_str(") 1 (")?;
+        push_times(text, "b ", 500)?;
+        text.push_str(")\n")?;
+    }
+    Ok(())
+}
+
+// Appends the identity matrix.
+fn push_identity(text: &mut String, side: u32) -> Result<(), AllocError> {
+    for row in 0..side {
+        text.push_str(if row > 0 { " ; " } else { "" })?;
+        push_times(text, "0 ", row)?;
+        text.push('1')?;
+        push_times(text, " 0", side - 1 - row)?;
+    }
+    Ok(())
+}
+
+// Appends a last line up to so many bytes.
+fn pad(text: &mut String, bytes: usize) -> Result<(), AllocError> {
+    while text.len() < bytes {
+        text.push('#')?;
+    }
+    Ok(())
+}
+
+fn push_part(text: &mut String, part: &Part) -> Result<(), AllocError> {
+    match part {
+        Part::Plain(piece) => text.push_str(piece),
+        Part::Times(piece, count) => push_times(text, piece, *count),
+        Part::Numbers(before, first, last, after, sign) => {
+            push_numbers(text, (*first, *last), (before, after, sign))
+        }
+        Part::LongRows(count) => push_long_rows(text, *count),
+        Part::Identity(side) => push_identity(text, *side),
+        Part::Padding(bytes) => pad(text, *bytes),
+    }
+}
+
+// The text that is put together from the parts.
+fn text_of(alloc: Global, parts: &[Part]) -> Result<String, AllocError> {
+    let mut text = String::new(alloc);
+    for part in parts {
+        push_part(&mut text, part)?;
+    }
+    Ok(text)
+}
+
+// Asserts that the words of each row are answered so over its files.
+fn tell_limits<R: Threads + Sync + Abort>(
+    rt: &R,
+    alloc: Global,
+    rows: &[LimitRow],
+) -> Result<(), Fail> {
+    for (place, (words, statement, second, want)) in rows.iter().enumerate() {
+        let statement = text_of(alloc, statement)?;
+        let second = text_of(alloc, second)?;
+        let got = answer(
+            rt,
+            alloc,
+            words,
+            statement.as_bytes(),
+            second.as_bytes(),
+            &[],
+        )?;
+        let want = text_of(alloc, want)?;
+        assert_eq!(rt; got.as_str(), want.as_str(), "row {place}");
+    }
+    Ok(())
+}
+
+#[test]
+fn limits_are_where_they_are_said(rt: HostRuntime) -> Result<(), Fail> {
+    tell_limits(&rt, rt.alloc(), LIMITS)
+}
+
+#[test]
+fn files_are_read_up_to_their_limits(rt: HostRuntime) -> Result<(), Fail> {
+    tell_limits(&rt, rt.alloc(), SIZES)
+}

@@ -1,0 +1,71 @@
+//! Runs over devices that never fail: their status is never 5, and the output is finished unless memory ran out.
+ghost use Rattle.std.specs.Prelude.{◌≡◌, ◌≢◌, IsTrue};
+
+use crate::calls::{equal, owned};
+use category_laws::Parity;
+use command_runs::run;
+use flow_io::{SteadyShelf, SteadySink};
+use in_order_parallel::OpenGate;
+use lists::{Listing, Text};
+use std::alloc::{AllocError, Global};
+use std::test::Fail;
+use std::thread::Threads;
+
+const STATEMENT: &[u8] = b"object U\nmap a b : U -> U\nassume a = b\nclaim a = b\n";
+
+const EVIDENCE: &[u8] = b"certificate 1\nclaim 1\ndenominator 1\nrow 1 () 1 ()\nend\n";
+
+// Words, the file `s`, and the status with the number of bytes of the report.
+type Row = (&'static [&'static str], &'static [u8], u8, u64);
+
+const ROWS: &[Row] = &[
+    // # block 1 accepted claim 1 denominator 1
+    (&["check", "s", "c"], STATEMENT, 0, 41),
+    // # usage: opprove prove|check|refute|model|bench
+    (&["check", "s"], STATEMENT, 2, 48),
+    // # refused S15
+    (&["check", "s", "c"], b"object U\n", 3, 14),
+];
+
+// A run over devices that never fail.
+fn steady_run<R: Threads + Sync>(
+    rt: &R,
+    alloc: Global,
+    words: &[String],
+    shelf: &mut SteadyShelf,
+    sink: &mut SteadySink,
+) -> u8
+    ensures no_failure { result ≢ 5 }
+    ensures finished { result ≢ 6 → IsTrue sink.new.finished }
+{
+    run(rt, alloc, &Parity, words, shelf, sink, &OpenGate)
+}
+
+// The status of a run over the statement, and how many bytes were taken.
+fn taken_over<R: Threads + Sync>(
+    rt: &R,
+    alloc: Global,
+    words: &[&str],
+    statement: &[u8],
+) -> Result<(u8, u64, bool), AllocError> {
+    let words = owned(alloc, words)?;
+    let name = Text::from_str(alloc, "s")?;
+    let first = Listing::from_vec(statement.to_vec(alloc)?);
+    let second = Listing::from_vec(EVIDENCE.to_vec(alloc)?);
+    let mut shelf = SteadyShelf::new(name, first, second);
+    let mut sink = SteadySink::new();
+    let status = steady_run(rt, alloc, &words, &mut shelf, &mut sink);
+    Ok((status, sink.taken(), sink.finished()))
+}
+
+#[test]
+fn steady_devices_take_whole_reports(rt: HostRuntime) -> Result<(), Fail> {
+    for (words, statement, status, taken) in ROWS {
+        let got = taken_over(&rt, rt.alloc(), words, statement)?;
+        equal(&rt, &got, &(*status, *taken, true), "over a steady sink");
+    }
+    let long = vec![in rt.alloc(); b'x'; 1_048_577]?;
+    let got = taken_over(&rt, rt.alloc(), &["check", "s", "c"], &long)?;
+    equal(&rt, &got, &(4, 27, true), "a statement that is too long");
+    Ok(())
+}
