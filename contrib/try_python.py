@@ -82,14 +82,14 @@ WRITTEN: List[Callable[["Statement"], None]] = [
 
 
 class Builder:
-    """Builds a statement by the operators of Python, token by token of a text."""
+    """Builds a statement by the operators of Python, token by token of a text. What is declared comes first."""
 
     def __init__(self, path: Path) -> None:
         self.statement = Statement()
-        for text in path.read_text().split("\n"):
-            self.tokens = check.tokens_of(text, 1)
-            if self.tokens:
-                self.line([token.text for token in self.tokens[:-1]])
+        lines = [check.tokens_of(text, 1) for text in path.read_text().split("\n")]
+        order = {"object": 0, "map": 1}
+        for self.tokens in sorted(filter(None, lines), key=lambda tokens: order.get(tokens[0].text, 2)):
+            self.line([token.text for token in self.tokens[:-1]])
 
     def line(self, words: List[str]) -> None:
         s, word, names = self.statement, words[0], words[1:]
@@ -118,7 +118,8 @@ class Builder:
         self.take("name")
         left = self.sum()
         need(self.take("="), self.tokens)
-        return left == self.sum()
+        right = self.sum()
+        return (left * right if isinstance(left, int) else left) == right  # as 0 alone has no ends
 
     def sum(self) -> Expression:
         sign = self.take("+", "-")
