@@ -544,6 +544,11 @@ def in_venv(python: str, folder: Path) -> str:
     return f"{version} has the package from pip, with no network and no other name"
 
 
+def package(folder: Path) -> str:
+    """All of it for this Python."""
+    return in_venv(sys.executable, folder)
+
+
 def patiently(*words: object) -> None:
     """A command that may take longer than two minutes on a busy machine."""
     done = subprocess.run([str(word) for word in words], timeout=1200)

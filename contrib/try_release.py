@@ -2,7 +2,7 @@
 """Tries release.sh, in a clone of this checkout with what is changed here.
 
 Where ./opprove has built the program of these sources, and its object is there, that is what is released; else a stand-in in C,
-with a stand-in for the kit, and the first line says so. Each check gives a line, and raises Failed where a release isn't as it
+with a stand-in for the kit, and the last line says so. Each check gives a line, and raises Failed where a release isn't as it
 should be. What isn't installed is skipped with a line. The status is 0 where nothing failed, and else 1.
 """
 from __future__ import annotations
@@ -361,17 +361,22 @@ def citation(checkout: Checkout) -> str:
 CHECKS: List[Callable[[Checkout], str]] = [same_bytes, archive, answers, tools, manual, record, control, citation, refusals, owners]
 
 
+def release(folder: Path) -> str:
+    """Writes a line for each check, and gives one that tells what was released."""
+    checkout = Checkout(folder)
+    for check in CHECKS:
+        try:
+            print(f"release: {check(checkout)}", flush=True)
+        except Skipped as what:
+            print(f"release: skipped, {what}", flush=True)
+    what = "the program that is built here" if checkout.is_real else "a stand-in, as the program of these sources is not built,"
+    return f"{what} is released"
+
+
 def main() -> int:
     with tempfile.TemporaryDirectory() as name:
         try:
-            checkout = Checkout(Path(name))
-            what = "the program that is built here" if checkout.is_real else "a stand-in, as the program of these sources is not built"
-            print(f"release: {what}", flush=True)
-            for check in CHECKS:
-                try:
-                    print(f"release: {check(checkout)}", flush=True)
-                except Skipped as what:
-                    print(f"release: skipped, {what}", flush=True)
+            print(f"release: {release(Path(name))}")
         except Skipped as what:
             print(f"release: skipped, {what}")
         except (Failed, OSError, subprocess.TimeoutExpired) as what:
