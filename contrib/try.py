@@ -25,6 +25,8 @@ import try_chains
 import try_models
 import try_opprove
 import try_pictures
+import try_python
+import try_release
 import try_why
 from trying import CONTRIB, EXAMPLES, PROGRAM, Answer, Failed, Skipped, installed, need, run
 
@@ -323,6 +325,7 @@ def groups(folder: Path) -> Dict[str, List[Callable[[], str]]]:
     """The checks by their words."""
     checks = {"chains": try_chains.CHECKS, "pictures": try_pictures.CHECKS, "bounds": try_bounds.CHECKS}
     checks["words"] = try_why.CHECKS + try_opprove.CHECKS
+    checks["package"], checks["release"] = [try_python.package], [try_release.release]
     return {
         "checker": [
             examples, lambda: reports(folder), lambda: changes(folder), lambda: bad_input(folder), translations, trusted_files,
