@@ -6,7 +6,7 @@ seconds): with fewer assumptions, other orders of words, both, larger budgets, s
 models. It prints a report as `opprove prove` does: evidence for the statement as it was written, which `opprove check` and
 check.py, or `opprove model` and check_model.py, accept. Behind it, comments say which variant did it.
 
---only leaves the variants with these names: of selections lemmas, inside, near, light (fewer assumptions), given, whole
+--only leaves the variants with these names: of selections lemmas, inside, paired, near, light (fewer assumptions), given, whole
 (all of them, without and with lemmas); of orders written, defined, eliminated, hidden, second, shown, adjoints, backwards,
 degree; and models. FILE has lines `claim E = E`, which are tried first. FOLDER gets the variants. Statuses are those of
 `opprove prove`; 1 says that nothing could be run. The program is this checkout's, or the one that OPPROVE names.
@@ -34,7 +34,10 @@ from trying import PROGRAM
 from variants import Equation, Order, Statement
 
 PAIRS, STEPS, LIMIT, SECONDS = 500, 20_000, 1_000_000, 1  # of level 0; each level has twice as much, to the limit
-FEWER, OTHER, BOTH = range(3)  # fewer assumptions, other orders, both: cheap ones first
+# What a batch tries, cheap things first: fewer assumptions; other orders for all goals in one run; both; other orders for
+# a goal alone; what did it for another goal; models; and the statement as it is.
+FEWER, OTHER, BOTH, ALONE, AGAIN, MODELS, AS_WRITTEN = range(7)
+RANKS = [0, 1, 2, 2, -1, 1, 0]
 AS_IT_IS = "the statement as it is"
 
 
@@ -80,26 +83,34 @@ class Plan:
         self.orders = [order for order in variants.ORDERS if has_eliminate or order is not variants.eliminated]
         self.tried: Dict[Tuple[int, str], int] = {}  # the level of a goal and a text
         self.closed: Set[str] = set()  # texts that no larger budget helps
-        self.batches: List[Tuple[int, int, int, int]] = []  # what to try next: when, which goal, what, level
+        self.names: Set[str] = set()  # of variants that proved something
+        self.batches: List[Tuple[int, int, int, int]] = []  # when, of which goal or 0, what, level
         self.jobs: List[Job] = []
         self.begin()
         for place, goal in enumerate(self.goals, 1):
-            if goal.number and self.is_asked("models", ["models"]):
-                heappush(self.batches, (OTHER, place, -1, 0))
+            if goal.number and (not options.only or "models" in options.only):
+                self.push(MODELS, place, 0)
         if not options.only:
-            heappush(self.batches, (0, 0, 0, 0))  # all claims of the statement as it is
+            self.push(AS_WRITTEN, 0, 0)
 
-    def begin(self) -> None:
-        """Begins with all open goals again, as there is a new lemma. What was tried isn't tried again."""
+    def push(self, kind: int, place: int, level: int) -> None:
+        heappush(self.batches, (RANKS[kind] + 2 * level, place, kind, level))
+
+    def begin(self, job: Optional[Job] = None) -> None:
+        """Begins with all goals again where a job has made a new lemma. What was tried isn't tried again."""
         self.jobs = []
-        for place, goal in enumerate(self.goals, 1):
-            for kind in (FEWER, OTHER, BOTH):
-                heappush(self.batches, (kind, place, kind, 0))
+        self.push(OTHER, 0, 0)
+        for place in range(1, len(self.goals) + 1):
+            for kind in (FEWER, BOTH) if len(self.goals) == 1 else (FEWER, BOTH, ALONE):
+                self.push(kind, place, 0)
+            if job:
+                self.names.add(job.name)
+                heappush(self.batches, (-1, place, AGAIN, job.level))
 
     def is_asked(self, name: str, group: List[str]) -> bool:
-        """Whether --only has the name, or none of its group but one of another."""
-        only = self.options.only
-        return name in only or not only or (group != ["models"] and only != ["models"] and not set(only) & set(group))
+        """Whether --only has the name, or none of its group but a name of the other one."""
+        only = set(self.options.only) - {"models"}
+        return name in only or not self.options.only or (bool(only) and not only & set(group))
 
     def next_job(self) -> Optional[Job]:
         while self.jobs or self.batches:
@@ -115,48 +126,59 @@ class Plan:
 
     def expand(self) -> None:
         """Makes the jobs of the next batch, and puts the batch with a larger budget behind the others."""
-        when, place, kind, level = heappop(self.batches)
-        goal = self.goals[place - 1]
-        if place and goal.verdict:
-            return
-        jobs = self.as_it_is(level) if not place else self.models(goal, level) if kind < 0 else self.proofs(goal, kind, level)
-        found = [job for job in jobs if job.text not in self.closed]
+        _, place, kind, level = heappop(self.batches)
+        goals = [self.goals[place - 1]] if place else self.goals
+        found = [job for job in self.batch(goals, kind, level) if job.is_open() and job.text not in self.closed]
         self.jobs = found[::-1]
-        if found and PAIRS << level < LIMIT:
-            heappush(self.batches, (when + 2, place, kind, level + 1))
+        if found and kind != AGAIN and PAIRS << level < LIMIT:
+            self.push(kind, place, level + 1)
 
-    def as_it_is(self, level: int) -> Iterator[Job]:
-        yield Job(AS_IT_IS, self.claims, self.statement.text, budget(level), level, Order([]))
+    def batch(self, goals: List[Goal], kind: int, level: int) -> Iterator[Job]:
+        if kind == AS_WRITTEN:
+            yield Job(AS_IT_IS, self.claims, self.statement.text, budget(level), level, Order([]))
+        elif kind == MODELS:
+            text = variants.model_text(self.statement, goals[0].number, level)
+            yield Job("models", goals, text, ["refute", "--workers", "1", "--seed", str(level + 1)], level, Order([]))
+        elif any(not goal.verdict for goal in goals):
+            yield from self.proofs(goals, kind, level)
 
-    def models(self, goal: Goal, level: int) -> Iterator[Job]:
-        text = variants.model_text(self.statement, goal.number, level)
-        yield Job("models", [goal], text, ["refute", "--workers", "1", "--seed", str(level + 1)], level, Order([]))
-
-    def proofs(self, goal: Goal, kind: int, level: int) -> Iterator[Job]:
+    def proofs(self, goals: List[Goal], kind: int, level: int) -> Iterator[Job]:
+        """Variants by their size."""
         pool = list(self.statement.assumptions)
         for other in self.goals:
             pool += [other.equation._replace(is_lemma=True)] if other.verdict == "proved" else []
         group = [selection.__name__ for selection in [*variants.FEWER, *variants.ALL]]
-        for selection in variants.ALL if kind == OTHER else variants.FEWER:
-            for label, chosen in selection(pool, goal.equation) if self.is_asked(selection.__name__, group) else []:
-                if kind == OTHER or len(chosen) < len(pool):
-                    yield from self.ordered(goal, kind, level, selection.__name__ + label, chosen)
+        found = []
+        for selection in {OTHER: variants.ALL, ALONE: variants.ALL, AGAIN: variants.ALL + variants.FEWER}.get(kind, variants.FEWER):
+            for label, chosen in selection(pool, union(goals)) if self.is_asked(selection.__name__, group) else []:
+                if selection in variants.ALL or len(chosen) < len(pool):
+                    found.append((selection.__name__ + label, chosen))
+        for name, chosen in sorted(found, key=lambda named: len(named[1])):
+            # without lemmas the claims stay, and so does the text
+            open_goals = goals if name == "given" else [goal for goal in goals if not goal.verdict]
+            yield from self.ordered(open_goals, kind, level, name, chosen)
 
-    def ordered(self, goal: Goal, kind: int, level: int, name: str, chosen: List[Equation]) -> Iterator[Job]:
+    def ordered(self, goals: List[Goal], kind: int, level: int, name: str, chosen: List[Equation]) -> Iterator[Job]:
         group = [order.__name__ for order in variants.ORDERS]
         for order in [variants.written] if kind == FEWER else self.orders:
-            made = order(self.statement, chosen, goal.equation) if self.is_asked(order.__name__, group) else None
+            is_asked = self.is_asked(order.__name__, group) and (kind != AGAIN or f"{name} {order.__name__}" in self.names)
+            made = order(self.statement, chosen, union(goals)) if is_asked else None
             if made:
-                text = variants.text_of(self.statement, chosen, goal.equation, made)
-                yield Job(f"{name} {order.__name__}", [goal], text, budget(level), level, made)
+                text = variants.text_of(self.statement, chosen, [goal.equation for goal in goals], made)
+                yield Job(f"{name} {order.__name__}", goals, text, budget(level), level, made)
+
+
+def union(goals: List[Goal]) -> Equation:
+    """The goal, or an equation with the maps of all goals, for what looks at its maps alone."""
+    return goals[0].equation._replace(maps=variants.maps_of(goal.equation for goal in goals))
 
 
 class Search:
     """Runs what is planned, and keeps what stands for the statement as it was written."""
 
-    def __init__(self, options: argparse.Namespace, statement: Statement, program: Program, runs: Runs) -> None:
-        self.options, self.statement, self.program, self.runs = options, statement, program, runs
-        self.progress = Progress()
+    def __init__(self, options: argparse.Namespace, statement: Statement, runs: Runs, progress: Progress) -> None:
+        self.options, self.statement, self.runs, self.progress = options, statement, runs, progress
+        self.program = program = runs.program
         probe = self.write("eliminate.op", variants.ELIMINATE)
         self.plan = Plan(options, statement, program.answer(["prove", str(probe)]) == 0)
         self.pieces: List[join.Piece] = []
@@ -169,8 +191,8 @@ class Search:
 
     # ---- The run
 
-    def run(self, interrupts: Interrupts) -> None:
-        while not interrupts.is_met and self.progress.seconds() < self.options.seconds:
+    def run(self) -> None:
+        while not self.options.interrupts.is_met and self.progress.seconds() < self.options.seconds:
             self.runs.end(lambda job: not job.is_open() or job.text in self.plan.closed)
             while len(self.runs.going) < self.options.jobs and self.start(self.plan.next_job()):
                 pass
@@ -248,7 +270,7 @@ class Search:
         if not goal.number or self.is_accepted(lines):
             self.pieces.append(piece)
             self.settle(job, goal, "proved", lines)
-            self.plan.begin()
+            self.plan.begin(job)
 
     def is_accepted(self, lines: List[str]) -> bool:
         """Whether both checkers accept the certificate for the statement as it was written."""
@@ -323,15 +345,16 @@ def options_of(words: List[str]) -> argparse.Namespace:
 
 def searched(options: argparse.Namespace, folder: Path) -> Tuple[List[str], int]:
     """The report, and the status. A fault of the statement is answered as opprove answers it."""
+    progress = Progress()
     program = Program(Path(os.environ.get("OPPROVE", PROGRAM)))
     words = ["prove", options.statement, "--pairs", "1", "--steps", "1", "--workers", "1", "--no-models"]
     status, answer = program.report(words)
     if status in (2, 3, 4, 6):
         return answer.decode().splitlines(), status
     statement = Statement(options.statement)
-    with Interrupts() as interrupts, Runs(program, folder) as runs:
-        search = Search(options, statement, program, runs)
-        search.run(interrupts)
+    with Runs(program, folder) as runs:
+        search = Search(options, statement, runs, progress)
+        search.run()
     return search.report()
 
 
@@ -341,7 +364,7 @@ def main(words: List[str]) -> int:
         options = options_of(words)
         if options.keep:
             os.makedirs(options.keep, exist_ok=True)
-        with tempfile.TemporaryDirectory() as name:
+        with Interrupts() as options.interrupts, tempfile.TemporaryDirectory() as name:
             lines, status = searched(options, Path(name))
     except Unusable as what:
         error, status = str(what), 2 if str(what).startswith("# usage") else 1

@@ -18,6 +18,7 @@ from typing import Callable, Iterator, List, Tuple
 
 sys.dont_write_bytecode = True
 import measure
+import try_harder
 import try_models
 from trying import CONTRIB, EXAMPLES, PROGRAM, Answer, Failed, Skipped, installed, need, run
 
@@ -84,7 +85,7 @@ def reports(folder: Path) -> str:
     if not os.access(PROGRAM, os.X_OK):
         raise Skipped("opprove is not built, and its reports are not read")
     count = 0
-    for statement in sorted(EXAMPLES.glob("**/*.op")):
+    for statement in sorted([*EXAMPLES.glob("*.op"), *EXAMPLES.glob("gallery/*.op")]):
         for number in (1, 2):
             answer = run(PROGRAM, "prove", statement, "--pairs", 200, "--format", number)
             need(answer.status in (0, 10, 11, 12), (statement, answer))
@@ -304,7 +305,7 @@ def gate_time() -> str:
 
 
 def main(words: List[str]) -> int:
-    """Tries the second checkers and the second search, and, but for the word `checker`, all other tools."""
+    """Tries the second checkers and the second search (`checker`), the searches around the program (`harder`), or all."""
     with tempfile.TemporaryDirectory() as name:
         folder = Path(name)
         checker: List[Callable[[], str]] = [
@@ -317,7 +318,8 @@ def main(words: List[str]) -> int:
             shell("bash", "opprove.bash"), shell("zsh", "_opprove"), shell("fish", "opprove.fish"),
             lambda: vim(folder), grammars, lambda: plain(folder), gate_time,
         ]  # fmt: skip
-        for check in checker if words == ["checker"] else checker + others:
+        harder = try_harder.checks(folder, 20)
+        for check in {"checker": checker, "harder": harder}.get("".join(words), checker + others + harder):
             try:
                 print(f"contrib: {check()}", flush=True)
             except Skipped as what:

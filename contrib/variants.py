@@ -22,6 +22,7 @@ class Equation(NamedTuple):
     poly: Poly
     maps: FrozenSet[str]
     is_lemma: bool = False
+    pair: FrozenSet[str] = frozenset()  # the maps of the pinv, inverse or inner that says it
 
 
 class Map(NamedTuple):
@@ -51,7 +52,10 @@ class Statement:
             is_claim = word == "claim"
             equations = [self.equation(tokens, next(polys[is_claim])) for tokens in problem.equations(line)]
             (self.claims if is_claim else self.assumptions).extend(equations)
-            self.seconds += line.with_role("map")[1:] if word in ("pinv", "inverse", "inner") else []
+            if word in ("pinv", "inverse", "inner"):
+                pair = line.with_role("map")
+                self.seconds.append(pair[1])
+                self.assumptions = [one._replace(pair=frozenset(pair)) if one in equations else one for one in self.assumptions]
             if not equations and word not in ("object", "map"):
                 self.others.append([token.text for token in line.tokens[:-1]])
 
@@ -96,6 +100,16 @@ def inside(pool: List[Equation], goal: Equation) -> Iterator[Tuple[str, List[Equ
     """Those all of whose maps are within a distance from the claim's, which is that over shared maps."""
     maps = goal.maps
     for distance in range(DISTANCES):
+        yield str(distance), [equation for equation in pool if equation.maps <= maps]
+        maps |= maps_of(touching(pool, maps))
+
+
+def paired(pool: List[Equation], goal: Equation) -> Iterator[Tuple[str, List[Equation]]]:
+    """The same, where the two maps of a pinv, an inverse or an inner are as near as either."""
+    maps = goal.maps
+    for distance in range(DISTANCES):
+        for equation in pool:
+            maps |= equation.pair if equation.pair & maps else frozenset()
         yield str(distance), [equation for equation in pool if equation.maps <= maps]
         maps |= maps_of(touching(pool, maps))
 
@@ -151,7 +165,7 @@ def whole(pool: List[Equation], goal: Equation) -> Iterator[Tuple[str, List[Equa
 
 
 Selection = Callable[[List[Equation], Equation], Iterator[Tuple[str, List[Equation]]]]
-FEWER: List[Selection] = [lemmas, inside, near, light]
+FEWER: List[Selection] = [lemmas, inside, paired, near, light]
 ALL: List[Selection] = [given, whole]
 
 
@@ -278,11 +292,11 @@ def weigh(words: Dict[str, List[List[str]]], weights: Dict[str, int], name: str)
 ELIMINATE = "language 2\nobject V\nmap a b : V -> V\nassume b = a\nclaim b = a\neliminate b\n"
 
 
-def text_of(statement: Statement, chosen: List[Equation], goal: Equation, order: Order) -> str:
-    """The statement with these assumptions and this claim, about the maps that they have, or about all maps if the
+def text_of(statement: Statement, chosen: List[Equation], goals: List[Equation], order: Order) -> str:
+    """The statement with these assumptions and these claims, about the maps that they have, or about all maps if the
     assumptions are all there: then its generators are those of the statement, where no lemma adds to them."""
     is_whole = [one for one in chosen if not one.is_lemma] == statement.assumptions
-    names = maps_of([*chosen, goal])
+    names = maps_of([*chosen, *goals])
     maps = [one for one in statement.maps if is_whole or one.name in names]
     swapped = {one.name for one in maps if order.is_starred and not one.is_self}
     heads = {" ".join(words) for words in statement.others if words[0] == "language"}
@@ -293,8 +307,8 @@ def text_of(statement: Statement, chosen: List[Equation], goal: Equation, order:
     lines += order.lines[-1:]
     for equation in chosen:
         lines.append(f"assume {spelled(equation.tokens, swapped)}" + "  # a lemma" * equation.is_lemma)
-    lines += relations(statement, [*chosen, goal], maps, is_whole)
-    return "\n".join(lines + [f"claim {spelled(goal.tokens, swapped)}"]) + "\n"
+    lines += relations(statement, [*chosen, *goals], maps, is_whole)
+    return "\n".join(lines + [f"claim {spelled(goal.tokens, swapped)}" for goal in goals]) + "\n"
 
 
 def relations(statement: Statement, equations: List[Equation], maps: List[Map], is_whole: bool) -> Iterator[str]:
