@@ -34,10 +34,10 @@ from trying import PROGRAM
 from variants import Equation, Order, Statement
 
 PAIRS, STEPS, LIMIT, SECONDS = 500, 20_000, 1_000_000, 1  # of level 0; each level has twice as much, to the limit
-# What a batch tries, cheap things first: fewer assumptions; other orders for all goals in one run; both; other orders for
-# a goal alone; what did it for another goal; models; and the statement as it is.
+# What a batch tries: fewer assumptions; other orders for all goals in one run; both; other orders for a goal alone; what
+# did it for another goal; models; and the statement as it is. Cheap ones have a low rank.
 FEWER, OTHER, BOTH, ALONE, AGAIN, MODELS, AS_WRITTEN = range(7)
-RANKS = [0, 1, 2, 2, -1, 1, 0]
+RANKS = [0, 0, 2, 2, -1, 1, 0]
 AS_IT_IS = "the statement as it is"
 
 
@@ -163,7 +163,7 @@ class Plan:
         for order in [variants.written] if kind == FEWER else self.orders:
             is_asked = self.is_asked(order.__name__, group) and (kind != AGAIN or f"{name} {order.__name__}" in self.names)
             made = order(self.statement, chosen, union(goals)) if is_asked else None
-            if made:
+            if made and (self.options.only or name != "given" or order is not variants.written):  # else it is as it is
                 text = variants.text_of(self.statement, chosen, [goal.equation for goal in goals], made)
                 yield Job(f"{name} {order.__name__}", goals, text, budget(level), level, made)
 

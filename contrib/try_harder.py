@@ -341,7 +341,7 @@ def lemmas(folder: Path) -> str:
     statement.write_text(BY_LEMMA)
     file.write_text("claim x = y # the first\n\nclaim a x = 0\n")
     answer = answer_of(harder(statement, "--lemmas", file, "--only", "inside,lemmas,written"))
-    parts = ["\ngoal scale 1\nrow 1 (b) lemma ", "\n#   assume x = y  # a lemma\n#   claim b x = b y\n", "\n# lemma x = y\n"]
+    parts = ["\ngoal scale 1\nrow 1 (b) lemma ", "\n#   assume x = y  # a lemma\n", "\n# lemma x = y\n"]
     need(answer.status == 0 and all(part in answer.out for part in parts) and "a x = 0" not in answer.out, answer)
     return "a claim goes through by a lemma of a file"
 
