@@ -149,7 +149,8 @@ class Plan:
             pool += [other.equation._replace(is_lemma=True)] if other.verdict == "proved" else []
         group = [selection.__name__ for selection in [*variants.FEWER, *variants.ALL]]
         found = []
-        for selection in {OTHER: variants.ALL, ALONE: variants.ALL, AGAIN: variants.ALL + variants.FEWER}.get(kind, variants.FEWER):
+        selections = variants.FEWER if kind in (FEWER, BOTH) else variants.ALL
+        for selection in variants.ALL + variants.FEWER if kind == AGAIN else selections:
             for label, chosen in selection(pool, union(goals)) if self.is_asked(selection.__name__, group) else []:
                 if selection in variants.ALL or len(chosen) < len(pool):
                     found.append((selection.__name__ + label, chosen))

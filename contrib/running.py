@@ -9,7 +9,7 @@ import subprocess
 import sys
 import time
 from pathlib import Path
-from typing import Callable, Dict, Iterator, List, NamedTuple, Optional, Tuple
+from typing import IO, Any, Callable, Dict, Iterator, List, NamedTuple, Optional, Tuple, Union
 
 MEMORY = 2 << 30  # bytes that a run may have
 PARENT_DEATH_SIGNAL = 1  # of prctl
@@ -23,11 +23,11 @@ class Program:
     """The built program, tried once: whether it runs, with a bound of memory, and whether it reads `eliminate`."""
 
     def __init__(self, path: Path) -> None:
-        self.path, self.memory = path, MEMORY
+        self.path, self.memory, self.patience = path, MEMORY, 1
         libc = ctypes.CDLL(None) if sys.platform.startswith("linux") else None
         self.prctl: Optional[Callable[[int, int], int]] = libc.prctl if libc else None
         if self.answer(["bench", "1"]) != 10:
-            self.memory = 0  # a program with checks of its own reserves more than it uses
+            self.memory, self.patience = 0, 8  # a program with checks of its own reserves more than it uses, and is slow
             if self.answer(["bench", "1"]) != 10:
                 raise Unusable(f"{path} isn't built: ./opprove or ./unproved build it, and OPPROVE may name another one")
 
@@ -43,7 +43,7 @@ class Program:
         except OSError:
             return 1, b""
 
-    def start(self, words: List[str], out: object, seconds: int) -> "subprocess.Popen[bytes]":
+    def start(self, words: List[str], out: Union[int, IO[bytes]], seconds: int) -> "subprocess.Popen[bytes]":
         """Starts a run that ends with this program, and that ends behind so many seconds of processor time."""
         return subprocess.Popen(
             [str(self.path), *words], stdin=subprocess.DEVNULL, stdout=out, stderr=subprocess.DEVNULL,
@@ -62,7 +62,7 @@ class Program:
 class Run(NamedTuple):
     """A run that goes on: what it is for, and the file of its report."""
 
-    job: object
+    job: Any
     process: "subprocess.Popen[bytes]"
     report: Path
 
@@ -81,13 +81,13 @@ class Runs:
     def __exit__(self, *what: object) -> None:
         self.end(lambda job: True)
 
-    def start(self, job: object, words: List[str], seconds: int) -> None:
+    def start(self, job: Any, words: List[str], seconds: int) -> None:
         self.count += 1
         report = self.folder / f"{self.count}.report"
         with open(report, "wb") as out:
-            self.going.append(Run(job, self.program.start(words, out, seconds), report))
+            self.going.append(Run(job, self.program.start(words, out, seconds * self.program.patience), report))
 
-    def ended(self) -> Iterator[Tuple[object, int, Path]]:
+    def ended(self) -> Iterator[Tuple[Any, int, Path]]:
         """The runs that have ended by themselves, each with its status and its report."""
         for run in list(self.going):
             status = run.process.poll()
@@ -95,7 +95,7 @@ class Runs:
                 self.going.remove(run)
                 yield run.job, status, run.report
 
-    def end(self, is_idle: Callable[[object], bool]) -> None:
+    def end(self, is_idle: Callable[[Any], bool]) -> None:
         """Ends the runs whose jobs are idle."""
         idle = [run for run in self.going if is_idle(run.job)]
         for run in idle:
@@ -113,7 +113,7 @@ class Interrupts:
 
     def __init__(self) -> None:
         self.is_met = False
-        self.before: Dict[int, object] = {}
+        self.before: Dict[int, Any] = {}
 
     def __enter__(self) -> "Interrupts":
         self.before = {number: signal.signal(number, self.meet) for number in self.SIGNALS}

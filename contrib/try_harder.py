@@ -15,13 +15,13 @@ import sys
 import tempfile
 import time
 from pathlib import Path
-from typing import Callable, Dict, List, NamedTuple, Optional, Tuple
+from typing import Callable, List, NamedTuple, Optional, Tuple
 
 sys.dont_write_bytecode = True
 import check_model
 import join
 import variants
-from check import Certificate, Evidence, Poly, Problem, Refusal, Row, Share, Word, add, judge
+from check import Certificate, Evidence, Poly, Problem, Refusal, Row, Share, add, judge
 from trying import CONTRIB, EXAMPLES, PROGRAM, Answer, Failed, Skipped, need, run
 
 OPPROVE = os.environ.get("OPPROVE", str(PROGRAM))
@@ -430,6 +430,18 @@ def interrupts(folder: Path) -> str:
     return "runs that are ended leave no process, and print what was settled"
 
 
+def stand_ins(folder: Path) -> str:
+    """A program whose runs are killed leaves the claim undecided; one that can't write its reports ends the search."""
+    statement, stand_in = EXAMPLES / "gallery" / "braid_relation.op", folder / "stand_in"
+    for line, status, beginning in (("kill -9 $$", 12, ""), ("exit 5", 1, "harder.py: [Errno 28] ")):
+        stand_in.write_text(f'#!/bin/sh\ncase "$*" in *"--pairs 1 "*|bench*) exec {built()} "$@";; *) {line};; esac\n')
+        stand_in.chmod(0o700)
+        answer = answer_of(harder(statement, "--seconds", 3, OPPROVE=str(stand_in)))
+        need(answer.status == status and re.fullmatch("(# claim 1 undecided seconds [0-9]+\n)?", answer.out), answer)
+        need(answer.error.startswith(beginning) and answer.error.count("\n") <= 1, answer)
+    return "runs that are killed or have no space end no search with a trace"
+
+
 def full_disk(folder: Path) -> str:
     built()
     if not Path("/dev/full").exists():
@@ -445,7 +457,7 @@ def checks(folder: Path, count: int) -> List[Callable[[], str]]:
     return [
         lambda: selections(folder), lambda: orders(folder), lambda: shapes(folder), lambda: compositions(folder, count),
         lambda: join_refusals(folder), lambda: faults(folder), lambda: lemmas(folder), lambda: kept(folder),
-        lambda: interrupts(folder), lambda: full_disk(folder), lambda: statements(folder),
+        lambda: interrupts(folder), lambda: stand_ins(folder), lambda: full_disk(folder), lambda: statements(folder),
     ]  # fmt: skip
 
 

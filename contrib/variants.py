@@ -9,7 +9,7 @@ from __future__ import annotations
 import random
 from typing import Callable, Dict, FrozenSet, Iterable, Iterator, List, NamedTuple, Optional, Tuple
 
-from check import Line, Poly, Problem, Refusal, Token, check_names, fault, read_lines, tokens_of
+from check import Line, Poly, Problem, Token, check_names, fault, read_lines, tokens_of
 
 WEIGHT_LIMIT = 1000
 DISTANCES = 3
@@ -184,7 +184,7 @@ def weighted(weights: Dict[str, int], names: FrozenSet[str]) -> Optional[Order]:
     return Order(["order weight " + " ".join(pairs)]) if pairs else None
 
 
-def written(statement: Statement, chosen: List[Equation], goal: Equation) -> Optional[Order]:
+def written(statement: Statement, chosen: List[Equation], goal: Equation) -> Order:
     """The order of the file."""
     names = maps_of([*chosen, goal])
     for words in statement.others:
