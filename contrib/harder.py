@@ -37,7 +37,7 @@ PAIRS, STEPS, LIMIT, SECONDS = 500, 20_000, 1_000_000, 1  # of level 0; each lev
 # What a batch tries: fewer assumptions; other orders for all goals in one run; both; other orders for a goal alone; what
 # did it for another goal; models; and the statement as it is. Cheap ones have a low rank.
 FEWER, OTHER, BOTH, ALONE, AGAIN, MODELS, AS_WRITTEN = range(7)
-RANKS = [0, 0, 2, 2, -1, 1, 0]
+RANKS = [0, 0, 2, 2, 0, 1, 0]
 AS_IT_IS = "the statement as it is"
 
 
@@ -71,6 +71,9 @@ def budget(level: int) -> List[str]:
     return ["prove", "--pairs", pairs, "--steps", steps, "--workers", "1", "--no-models"]
 
 
+Batch = Tuple[int, int, int, int]  # when, of which goal or 0, what, level
+
+
 class Plan:
     """What is to be tried, in turn."""
 
@@ -84,7 +87,8 @@ class Plan:
         self.tried: Dict[Tuple[int, str], int] = {}  # the level of a goal and a text
         self.closed: Set[str] = set()  # texts that no larger budget helps
         self.names: Set[str] = set()  # of variants that proved something
-        self.batches: List[Tuple[int, int, int, int]] = []  # when, of which goal or 0, what, level
+        self.batches: List[Batch] = []
+        self.pending: Set[Batch] = set()  # those that are among the batches
         self.jobs: List[Job] = []
         self.begin()
         for place, goal in enumerate(self.goals, 1):
@@ -94,7 +98,10 @@ class Plan:
             self.push(AS_WRITTEN, 0, 0)
 
     def push(self, kind: int, place: int, level: int) -> None:
-        heappush(self.batches, (RANKS[kind] + 2 * level, place, kind, level))
+        batch = (RANKS[kind] + 2 * level, place, kind, level) if kind != AGAIN else (-1, place, kind, level)
+        if batch not in self.pending:
+            self.pending.add(batch)
+            heappush(self.batches, batch)
 
     def begin(self, job: Optional[Job] = None) -> None:
         """Begins with all goals again where a job has made a new lemma. What was tried isn't tried again."""
@@ -105,7 +112,7 @@ class Plan:
                 self.push(kind, place, 0)
             if job:
                 self.names.add(job.name)
-                heappush(self.batches, (-1, place, AGAIN, job.level))
+                self.push(AGAIN, place, job.level)
 
     def is_asked(self, name: str, group: List[str]) -> bool:
         """Whether --only has the name, or none of its group but a name of the other one."""
@@ -126,7 +133,9 @@ class Plan:
 
     def expand(self) -> None:
         """Makes the jobs of the next batch, and puts the batch with a larger budget behind the others."""
-        _, place, kind, level = heappop(self.batches)
+        batch = heappop(self.batches)
+        self.pending.remove(batch)
+        _, place, kind, level = batch
         goals = [self.goals[place - 1]] if place else self.goals
         found = [job for job in self.batch(goals, kind, level) if job.is_open() and job.text not in self.closed]
         self.jobs = found[::-1]
@@ -163,8 +172,9 @@ class Plan:
         group = [order.__name__ for order in variants.ORDERS]
         for order in [variants.written] if kind == FEWER else self.orders:
             is_asked = self.is_asked(order.__name__, group) and (kind != AGAIN or f"{name} {order.__name__}" in self.names)
-            made = order(self.statement, chosen, union(goals)) if is_asked else None
-            if made and (self.options.only or name != "given" or order is not variants.written):  # else it is as it is
+            is_as_it_is = order is variants.written and chosen == self.statement.assumptions and not self.options.only
+            made = order(self.statement, chosen, union(goals)) if is_asked and not is_as_it_is else None
+            if made:
                 text = variants.text_of(self.statement, chosen, [goal.equation for goal in goals], made)
                 yield Job(f"{name} {order.__name__}", goals, text, budget(level), level, made)
 
