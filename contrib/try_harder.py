@@ -1,8 +1,8 @@
 #!/usr/bin/env python3
-"""Tries harder.py, join.py and their variants: try_harder.py [COUNT]
+"""Tries harder.py, join.py and their variants: try_harder.py [COUNT | table]
 
 COUNT (500) random pairs of a lemma and a claim are joined, and changed ones; try.py does 20. What asks opprove is skipped
-where that is not built; OPPROVE names another one than this checkout's.
+where that is not built; OPPROVE names another one than this checkout's. The table is that of examples/README.md.
 """
 from __future__ import annotations
 
@@ -362,6 +362,32 @@ def kept(folder: Path) -> str:
     return "variants that are kept give the same answer by hand"
 
 
+def by_lemmas(folder: Path) -> str:
+    """Later claims go through by the first one alone, and by its adjoint; a claim has the denominator of a lemma's scale."""
+    built()
+    parts = {
+        "pseudoinverse_chain": ["assume x = y  # a lemma"], "normal_pseudoinverse": ["assume a x = x a  # a lemma"],
+        "halved_lemma": ["assume e = f  # a lemma", "denominator 2\nlemma 1 scale "],
+    }  # fmt: skip
+    for name, texts in parts.items():
+        only = "lemmas,inside,paired,written" if name == "halved_lemma" else "lemmas,inside,written"
+        answer = answer_of(harder(EXAMPLES / "harder" / f"{name}.op", "--only", only, "--jobs", 1))
+        need(answer.status == 0 and all(text in answer.out for text in texts), (name, answer))
+    return f"{len(parts)} statements go through by lemmas"
+
+
+def table(folder: Path) -> None:
+    """What prove says by default, which variants did it, how long that took, and how many rows."""
+    for path in sorted((EXAMPLES / "harder").glob("*.op")):
+        default = run(built(), "prove", path, "--workers", 1)
+        said = [line[len("# claim 1 ") :] for line in default.out.split("\n") if line.startswith("# claim ")]
+        seconds, answer = settled(folder, path)
+        found = sorted(set(re.findall("^# found by (.*):", answer.out, flags=re.MULTILINE)))
+        rows = re.findall("^# claim [0-9]+ (?:proved .*rows ([0-9]+)|(.*))$", answer.out, flags=re.MULTILINE)
+        cells = [f"`{path.name}`", ", ".join(f"`{one}`" for one in sorted(set(said))), ", ".join(found)]
+        print("| " + " | ".join([*cells, f"{seconds:.1f}", ", ".join(one or other for one, other in rows)]) + " |", flush=True)
+
+
 def faults(folder: Path) -> str:
     """Bad input ends with the line of prove and its status, and what can't be run or written with one line."""
     built()
@@ -459,12 +485,15 @@ def checks(folder: Path, count: int) -> List[Callable[[], str]]:
     return [
         lambda: selections(folder), lambda: orders(folder), lambda: shapes(folder), lambda: compositions(folder, count),
         lambda: join_refusals(folder), lambda: faults(folder), lambda: lemmas(folder), lambda: kept(folder),
-        lambda: interrupts(folder), lambda: stand_ins(folder), lambda: full_disk(folder), lambda: statements(folder),
+        lambda: by_lemmas(folder), lambda: interrupts(folder), lambda: stand_ins(folder), lambda: full_disk(folder), lambda: statements(folder),
     ]  # fmt: skip
 
 
 def main(words: List[str]) -> int:
     with tempfile.TemporaryDirectory() as name:
+        if words == ["table"]:
+            table(Path(name))
+            return 0
         for check in checks(Path(name), int(words[0]) if words else 500):
             try:
                 print(f"contrib: {check()}", flush=True)
