@@ -22,6 +22,7 @@ sys.dont_write_bytecode = True
 import measure
 import try_bounds
 import try_chains
+import try_harder
 import try_models
 import try_opprove
 import try_pictures
@@ -93,7 +94,7 @@ def reports(folder: Path) -> str:
     if not os.access(PROGRAM, os.X_OK):
         raise Skipped("opprove is not built, and its reports are not read")
     count = 0
-    for statement in sorted(EXAMPLES.glob("**/*.op")):
+    for statement in sorted([*EXAMPLES.glob("*.op"), *EXAMPLES.glob("gallery/*.op")]):
         for number in (1, 2):
             answer = run(PROGRAM, "prove", statement, "--pairs", 200, "--format", number)
             need(answer.status in (0, 10, 11, 12), (statement, answer))
@@ -332,6 +333,7 @@ def groups(folder: Path) -> Dict[str, List[Callable[[], str]]]:
             *(functools.partial(check, folder) for check in try_models.CHECKS),
         ],
         **{word: [functools.partial(check, folder) for check in found] for word, found in checks.items()},
+        "harder": try_harder.checks(folder, 20),
         "others": [
             lambda: try_models.example_searches(folder),
             lambda: singular(folder), lambda: sympy(folder), cofactors, lambda: latex(folder), manual,
