@@ -22,7 +22,7 @@ from check import Problem, Refusal
 from trying import CONTRIB, EXAMPLES, PROGRAM, TOP, Answer, Skipped, installed, need, run
 from why_parts import Screen, Told, on_screen
 
-why_outcomes.HARDER = __file__  # what is told of it is told whether or not it is there
+why_outcomes.HARDER = str(CONTRIB / "why.py")  # what is told of it is told whether or not it is there
 CASES = CONTRIB / "examples" / "words.txt"
 SCREEN = Screen(100, 60)
 NOT_RUN = ("5", "6", "C5", "C11", "K5: rows", "12: a large certificate", "12: many terms")  # of devices and memory, and what takes long
