@@ -37,7 +37,7 @@ PAIRS, STEPS, LIMIT, SECONDS = 500, 20_000, 1_000_000, 1  # of level 0; each lev
 # What a batch tries: fewer assumptions; other orders for all goals in one run; both; other orders for a goal alone; what
 # did it for another goal; models; and the statement as it is. Cheap ones have a low rank.
 FEWER, OTHER, BOTH, ALONE, AGAIN, MODELS, AS_WRITTEN = range(7)
-RANKS = [0, 0, 2, 2, 0, 1, 0]
+RANKS = [0, 0, 1, 2, 0, 1, 0]
 AS_IT_IS = "the statement as it is"
 
 

@@ -295,8 +295,8 @@ def answer_of(process: "subprocess.Popen[str]") -> Answer:
 
 # The statements of examples/harder, each with the status of harder.py.
 SETTLED = {
-    "commuting_inverses": 0, "common_solution": 0, "common_solution_beside": 0, "halved_lemma": 0, "normal_pseudoinverse": 0,
-    "one_sided_beside": 10, "pseudoinverse_chain": 0, "pseudoinverse_of_row": 0, "twice_a_braid": 11, "two_sided_equation": 0,
+    "commuting_inverses": 0, "common_solution": 0, "halved_lemma": 0, "normal_pseudoinverse": 0, "one_sided_beside": 10,
+    "pseudoinverse_chain": 0, "pseudoinverse_of_row": 0, "row_beside": 0, "twice_a_braid": 11, "two_sided_equation": 0,
 }  # fmt: skip
 
 
