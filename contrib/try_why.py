@@ -96,7 +96,7 @@ def told(case: Case) -> str:
 
 
 def asked(case: Case) -> Tuple[int, str]:
-    program = os.environ.get("OPPROVE_PROGRAM") or str(PROGRAM)
+    program = os.environ.get("OPPROVE") or str(PROGRAM)
     answer = run(program, *case.words, folder=Path.cwd())
     return answer.status, answer.out
 
@@ -192,13 +192,13 @@ def editor(folder: Path) -> str:
 
 @contextlib.contextmanager
 def set_program(path: Path) -> Iterator[None]:
-    before = os.environ.get("OPPROVE_PROGRAM")
-    os.environ["OPPROVE_PROGRAM"] = str(path)
+    before = os.environ.get("OPPROVE")
+    os.environ["OPPROVE"] = str(path)
     try:
         yield
     finally:
-        os.environ.pop("OPPROVE_PROGRAM")
-        os.environ.update({} if before is None else {"OPPROVE_PROGRAM": before})
+        os.environ.pop("OPPROVE")
+        os.environ.update({} if before is None else {"OPPROVE": before})
 
 
 def vim(folder: Path, statement: Path) -> None:
