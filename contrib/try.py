@@ -22,9 +22,12 @@ sys.dont_write_bytecode = True
 import measure
 import try_bounds
 import try_chains
+import try_harder
 import try_models
 import try_opprove
 import try_pictures
+import try_python
+import try_release
 import try_why
 from trying import CONTRIB, EXAMPLES, PROGRAM, TOP, Answer, Failed, Skipped, installed, need, run
 
@@ -91,7 +94,7 @@ def reports(folder: Path) -> str:
     if not os.access(PROGRAM, os.X_OK):
         raise Skipped("opprove is not built, and its reports are not read")
     count = 0
-    for statement in sorted(EXAMPLES.glob("**/*.op")):
+    for statement in sorted([*EXAMPLES.glob("*.op"), *EXAMPLES.glob("gallery/*.op")]):
         for number in (1, 2):
             answer = run(PROGRAM, "prove", statement, "--pairs", 200, "--format", number)
             need(answer.status in (0, 10, 11, 12), (statement, answer))
@@ -340,12 +343,14 @@ def groups(folder: Path) -> Dict[str, List[Callable[[], str]]]:
     """The checks by their words."""
     checks = {"chains": try_chains.CHECKS, "pictures": try_pictures.CHECKS, "bounds": try_bounds.CHECKS}
     checks["words"] = try_why.CHECKS + try_opprove.CHECKS
+    checks["package"], checks["release"] = [try_python.package], [try_release.release]
     return {
         "checker": [
             examples, lambda: reports(folder), lambda: changes(folder), lambda: bad_input(folder), translations, trusted_files,
             *(functools.partial(check, folder) for check in try_models.CHECKS),
         ],
         **{word: [functools.partial(check, folder) for check in found] for word, found in checks.items()},
+        "harder": try_harder.checks(folder, 20),
         "others": [
             lambda: try_models.example_searches(folder),
             lambda: singular(folder), lambda: sympy(folder), cofactors, lambda: latex(folder), manual,

@@ -292,6 +292,9 @@ class Maker:
         self.letters = [letter for letter, star in enumerate(self.problem.stars) if is_starred or star >= letter]
         self.lemmas: List[Tuple[Poly, Share, Signature]] = []  # the ends of one that isn't typed are (-1, -1)
 
+    def middle(self, row: Row) -> Poly:
+        return self.lemmas[row.number - 1][0] if row.is_lemma else self.generators[row.number - 1]
+
     def path_between(self, source: int, target: int) -> Word:
         word: Word = ()
         while target != source or self.random.random() < 0.3:
@@ -332,8 +335,7 @@ class Maker:
         rows = [Row(6, left, True, number + 1, right)]
         for row in self.lemmas[number][1].rows:
             whole = row._replace(coefficient=-6 * row.coefficient, left=left + row.left, right=row.right + right)
-            middle = self.lemmas[row.number - 1][0] if row.is_lemma else self.generators[row.number - 1]
-            word = next(iter(add({}, 1, middle, whole.left, whole.right)), (0,))
+            word = next(iter(add({}, 1, self.middle(row), whole.left, whole.right)), (0,))
             fits = all(self.ends[one][0] == self.ends[other][1] for one, other in zip(word, word[1:]))
             if not fits or (self.ends[word[-1]][0], self.ends[word[0]][1]) != ends:
                 rows.append(whole)
@@ -346,12 +348,11 @@ class Maker:
             ends = (-1, -1) if random.random() < 0.3 else (random.randrange(2), random.randrange(2))
             self.lemmas.append((*self.share(ends), ends))
         ends = (random.randrange(2), random.randrange(2))
-        poly, goal = self.share(ends)
+        _, goal = self.share(ends)
         rows = goal.rows + (self.untyped(ends) if random.random() < 0.7 else [])
         total: Poly = {}
         for row in rows:
-            middle = self.lemmas[row.number - 1][0] if row.is_lemma else self.generators[row.number - 1]
-            add(total, row.coefficient, middle, row.left, row.right)
+            add(total, row.coefficient, self.middle(row), row.left, row.right)
         random.shuffle(rows)
         left = {word: value // goal.scale for word, value in total.items() if random.random() < 0.6}
         right = {word: -value // goal.scale for word, value in total.items() if word not in left}

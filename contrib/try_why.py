@@ -2,7 +2,7 @@
 
 A case is a name, the words, the files s.op and e.cert as far as it has them, the program's status and report, and what is
 told. In files `{{TEXT|N}}` stands for N times the text, each # in it being the number of the time, and `{{0xNN}}` for a byte.
-`python3 try_why.py --write` writes the reports and what is told anew, where the program is built.
+`python3 try_why.py --write` writes what is told anew, and the reports where the program is built.
 """
 from __future__ import annotations
 
@@ -16,11 +16,13 @@ from typing import Callable, Dict, Iterator, List, NamedTuple, Tuple
 
 sys.dont_write_bytecode = True
 import why
+import why_outcomes
 import why_statement
 from check import Problem, Refusal
 from trying import CONTRIB, EXAMPLES, PROGRAM, TOP, Answer, Skipped, installed, need, run
 from why_parts import Screen, Told, on_screen
 
+why_outcomes.HARDER = str(CONTRIB / "why.py")  # what is told of it is told whether or not it is there
 CASES = CONTRIB / "examples" / "words.txt"
 SCREEN = Screen(100, 60)
 NOT_RUN = ("5", "6", "C5", "C11", "K5: rows", "12: a large certificate", "12: many terms")  # of devices and memory, and what takes long
@@ -94,7 +96,7 @@ def told(case: Case) -> str:
 
 
 def asked(case: Case) -> Tuple[int, str]:
-    program = os.environ.get("OPPROVE_PROGRAM") or str(PROGRAM)
+    program = os.environ.get("OPPROVE") or str(PROGRAM)
     answer = run(program, *case.words, folder=Path.cwd())
     return answer.status, answer.out
 
@@ -104,7 +106,7 @@ def write(folder: Path) -> None:
     texts = []
     for case in cases():
         with inside(folder, case):
-            if case.name not in NOT_RUN:
+            if case.name not in NOT_RUN and os.access(why.PROGRAM, os.X_OK):
                 status, report = asked(case)
                 case = case._replace(status=status, report=report)
             texts.append(as_text(case._replace(told=told(case))))
@@ -190,13 +192,13 @@ def editor(folder: Path) -> str:
 
 @contextlib.contextmanager
 def set_program(path: Path) -> Iterator[None]:
-    before = os.environ.get("OPPROVE_PROGRAM")
-    os.environ["OPPROVE_PROGRAM"] = str(path)
+    before = os.environ.get("OPPROVE")
+    os.environ["OPPROVE"] = str(path)
     try:
         yield
     finally:
-        os.environ.pop("OPPROVE_PROGRAM")
-        os.environ.update({} if before is None else {"OPPROVE_PROGRAM": before})
+        os.environ.pop("OPPROVE")
+        os.environ.update({} if before is None else {"OPPROVE": before})
 
 
 def vim(folder: Path, statement: Path) -> None:

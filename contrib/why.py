@@ -10,7 +10,7 @@ where there is none; with --bytes behind --editor the column counts bytes, as Vi
 program's. ./opprove calls why.py --told STATUS SECONDS WORDS.. for a run that has ended: it asks the program again where the
 status and five seconds allow it, and writes nothing but the words.
 
-The program is that of this checkout, or the one that OPPROVE_PROGRAM names. NO_COLOR is heard.
+The program is that of this checkout, or the one that OPPROVE names. NO_COLOR is heard.
 """
 from __future__ import annotations
 
@@ -30,7 +30,7 @@ import why_statement
 from why_parts import Screen, Told, on_screen
 
 TOP = os.path.dirname(os.path.dirname(os.path.abspath(__file__)))
-PROGRAM = os.environ.get("OPPROVE_PROGRAM") or os.path.join(TOP, "crates", "opprove", "out", "opprove")
+PROGRAM = os.environ.get("OPPROVE") or os.path.join(TOP, "crates", "opprove", "out", "opprove")
 SECONDS = 5  # a run that took longer is not repeated
 PATIENCE = 2  # seconds for an explanation; what takes longer is told by its status alone
 KEPT = 1 << 26  # bytes of a report that are read

@@ -3,6 +3,7 @@ from __future__ import annotations
 
 import os
 import re
+import shlex
 from typing import Callable, Dict, Iterator, List, NamedTuple, Optional, Tuple
 
 import check_model
@@ -186,7 +187,7 @@ def not_refuted(asked: Asked, outcome: Outcome) -> Told:
 def not_derivable(asked: Asked, outcome: Outcome) -> Told:
     told = f"claim {outcome.claim} is not derivable: no positive multiple of it is a sum of rows over the generators, whatever their words"
     problem = asked.problem()
-    more = ["It may hold in every representation all the same, as where the assumptions make an object zero."]
+    more = ["This says nothing of matrices of finite size, nor of star representations: the claim may hold in all of these all the same."]
     if problem and asked.call.command == "prove":
         missing = ["that a map has an inverse on one side (`assume x a = [V]`), where one is to cancel it"]
         if not problem.is_starred:
@@ -263,7 +264,8 @@ def helps(asked: Asked, cause: str) -> List[str]:
     if kind != "rows":
         told.append("Another order may do, since it makes other words leading: `order weight NAME N ..` in the file gives maps a weight.")
     if os.path.exists(HARDER):
-        told.append("contrib/harder.py tries such changes by itself.")
+        told += ["Fewer assumptions, other orders, lemmas and larger budgets are tried by"]
+        told += [f"  contrib/harder.py {shlex.quote(call.operands[0])}"]
     return told
 
 
