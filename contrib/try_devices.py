@@ -1,10 +1,11 @@
 #!/usr/bin/env python3
 """Tries the program from outside, over devices that fail: try_devices.py [--long] [PROGRAM]
 
-Gives PROGRAM, or the one that is built, files that can't be read or change while they are read, outputs that are closed, full or
-not read, signals, and too little memory, and compares its status and what it wrote with the tables below. It prints a line for each
-trial; what a trial wants and isn't there (Linux, cc, strace, root) is skipped with a line. The status is 1 where an answer differs.
-With --long it refuses each allocation of runs that decide and search too, on 1 and 4 threads, and goes through more address spaces.
+Gives PROGRAM, or the one that the variable OPPROVE names, or the one that is built, files that can't be read or change while they
+are read, outputs that are closed, full or not read, signals, and too little memory, and compares its status and what it wrote with
+the tables below. It prints a line for each trial; what a trial wants and isn't there (Linux, cc, strace, root) is skipped with a
+line. The status is 1 where an answer differs. With --long it refuses each allocation of runs that decide and search too, on 1 and 4
+threads, and goes through more address spaces.
 """
 from __future__ import annotations
 
@@ -523,7 +524,7 @@ def try_all(place: Place) -> bool:
 
 def main() -> int:
     parser = argparse.ArgumentParser(description="Tries the program from outside, over devices that fail")
-    parser.add_argument("program", nargs="?", type=Path, default=PROGRAM)
+    parser.add_argument("program", nargs="?", type=Path, default=Path(os.environ.get("OPPROVE", PROGRAM)))
     parser.add_argument("--long", action="store_true", help="more allocations and address spaces, in some minutes")
     words = parser.parse_args()
     if not sys.platform.startswith("linux"):
