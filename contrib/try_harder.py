@@ -367,7 +367,7 @@ def by_lemmas(folder: Path) -> str:
     built()
     parts = {
         "pseudoinverse_chain": ["assume x = y  # a lemma"], "normal_pseudoinverse": ["assume a x = x a  # a lemma"],
-        "halved_lemma": ["assume e = f  # a lemma", "denominator 2\nlemma 1 scale "],
+        "halved_lemma": ["assume e = x  # a lemma", "denominator 2\nlemma 1 scale "],
     }  # fmt: skip
     for name, texts in parts.items():
         only = "lemmas,inside,paired,written" if name == "halved_lemma" else "lemmas,inside,written"
@@ -379,8 +379,8 @@ def by_lemmas(folder: Path) -> str:
 def table(folder: Path) -> None:
     """What prove says by default, which variants did it, how long that took, and how many rows."""
     for path in sorted((EXAMPLES / "harder").glob("*.op")):
-        default = run(built(), "prove", path, "--workers", 1)
-        said = [line[len("# claim 1 ") :] for line in default.out.split("\n") if line.startswith("# claim ")]
+        default = subprocess.run([built(), "prove", str(path), "--workers", "1"], stdout=subprocess.PIPE, text=True)
+        said = [line[len("# claim 1 ") :] for line in default.stdout.split("\n") if line.startswith("# claim ")]
         seconds, answer = settled(folder, path)
         found = sorted(set(re.findall("^# found by (.*):", answer.out, flags=re.MULTILINE)))
         rows = re.findall("^# claim [0-9]+ (?:proved .*rows ([0-9]+)|(.*))$", answer.out, flags=re.MULTILINE)
