@@ -86,7 +86,7 @@ class Plan:
         self.orders = [order for order in variants.ORDERS if has_eliminate or order is not variants.eliminated]
         self.tried: Dict[Tuple[int, str], int] = {}  # the level of a goal and a text
         self.closed: Set[str] = set()  # texts that no larger budget helps
-        self.names: Set[str] = set()  # of variants that proved something
+        self.names = {"lemmas written"}  # of variants that proved something, or that are cheap where there is a lemma
         self.batches: List[Batch] = []
         self.pending: Set[Batch] = set()  # those that are among the batches
         self.jobs: List[Job] = []
