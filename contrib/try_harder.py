@@ -486,7 +486,8 @@ def checks(folder: Path, count: int) -> List[Callable[[], str]]:
     return [
         lambda: selections(folder), lambda: orders(folder), lambda: shapes(folder), lambda: compositions(folder, count),
         lambda: join_refusals(folder), lambda: faults(folder), lambda: lemmas(folder), lambda: kept(folder),
-        lambda: by_lemmas(folder), lambda: interrupts(folder), lambda: stand_ins(folder), lambda: full_disk(folder), lambda: statements(folder),
+        lambda: by_lemmas(folder), lambda: interrupts(folder), lambda: stand_ins(folder), lambda: full_disk(folder),
+        lambda: statements(folder),
     ]  # fmt: skip
 
 
