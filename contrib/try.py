@@ -29,7 +29,7 @@ import try_pictures
 import try_python
 import try_release
 import try_why
-from trying import CONTRIB, EXAMPLES, PROGRAM, TOP, Answer, Failed, Skipped, installed, need, run
+from trying import CONTRIB, EXAMPLES, PROGRAM, TOP, Answer, Failed, Skipped, decided, installed, need, run
 
 # ---- The two checkers
 
@@ -94,7 +94,7 @@ def reports(folder: Path) -> str:
     if not os.access(PROGRAM, os.X_OK):
         raise Skipped("opprove is not built, and its reports are not read")
     count = 0
-    for statement in sorted([*EXAMPLES.glob("*.op"), *EXAMPLES.glob("gallery/*.op")]):
+    for statement in decided():
         for number in (1, 2):
             answer = run(PROGRAM, "prove", statement, "--pairs", 200, "--format", number)
             need(answer.status in (0, 10, 11, 12), (statement, answer))

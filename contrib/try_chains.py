@@ -14,7 +14,7 @@ from typing import Callable, Dict, Iterator, List, NamedTuple, Set, Tuple
 
 import to_chain
 from check import Certificate, Evidence, Line, Poly, Problem, Row, Share, Signature, Value, Word, add, judge, tokens_of
-from trying import CONTRIB, EXAMPLES, PROGRAM, Answer, Skipped, installed, need, run
+from trying import CONTRIB, EXAMPLES, PROGRAM, Answer, Skipped, decided, installed, need, run
 
 TOOL = CONTRIB / "to_chain.py"
 STORED = {"pseudoinverses": EXAMPLES / "pseudoinverses.cert", "halved": CONTRIB / "examples" / "halved.cert"}
@@ -422,7 +422,7 @@ def reports(folder: Path) -> str:
     if not is_built():
         raise Skipped("opprove is not built, and its reports are not made chains")
     proofs = steps = 0
-    for statement in sorted(EXAMPLES.glob("**/*.op")):
+    for statement in decided():
         for number in (1, 2):
             evidence = folder / f"{statement.stem}{number}.cert"
             evidence.write_text(run(PROGRAM, "prove", statement, "--pairs", 200, "--format", number).out)

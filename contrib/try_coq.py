@@ -22,7 +22,7 @@ from typing import Callable, Iterable, Iterator, List, Tuple
 sys.dont_write_bytecode = True
 from check import Poly, Problem, Row, Word, add
 from to_coq import RESERVED
-from trying import CONTRIB, EXAMPLES, PROGRAM, Answer, Failed, Skipped, installed, need, run
+from trying import CONTRIB, EXAMPLES, PROGRAM, Answer, Failed, Skipped, decided, installed, need, run
 
 trials = importlib.import_module("try")  # whose name is a word of Python
 CLOSED = "Closed under the global context\n"
@@ -81,7 +81,7 @@ def library(coq: Coq) -> str:
 
 def reports(folder: Path) -> Iterator[Tuple[Path, Path]]:
     """The reports of prove on the gallery with a certificate."""
-    for statement in sorted(EXAMPLES.glob("**/*.op")) if os.access(PROGRAM, os.X_OK) else []:
+    for statement in decided() if os.access(PROGRAM, os.X_OK) else []:
         for number in (1, 2):
             answer = run(PROGRAM, "prove", statement, "--pairs", 200, "--format", number)
             if "\ncertificate " in answer.out:

@@ -12,7 +12,7 @@ from typing import Callable, Iterator, List, Optional, Tuple
 import candidates
 import check_model
 from check import Problem
-from trying import CONTRIB, EXAMPLES, PROGRAM, Answer, Skipped, need, run
+from trying import CONTRIB, EXAMPLES, PROGRAM, Answer, Skipped, decided, need, run
 
 MAPS = b"object U V\nmap p : U -> U self\nmap a : U -> V\nclaim a = 0\n"
 RIGHT = b"object U V\nmap a : U -> V\nmap b : V -> U\nassume a b = [V]\nclaim b a = [U]\n"
@@ -278,7 +278,7 @@ def searches(folder: Path) -> str:
 def example_searches(folder: Path) -> str:
     if not knows("refute"):
         raise Skipped("opprove refute is not built, and its searches on the examples are not compared")
-    statements = sorted(EXAMPLES.glob("**/*.op"))
+    statements = decided()
     for statement in statements:
         searched(statement, 1, folder)
     return f"{len(statements)} searches on the examples are made by candidates.py and by opprove"

@@ -5,7 +5,7 @@ import os
 import shutil
 import subprocess
 from pathlib import Path
-from typing import NamedTuple
+from typing import List, NamedTuple
 
 TOP = Path(__file__).resolve().parent.parent
 CONTRIB, EXAMPLES = TOP / "contrib", TOP / "examples"
@@ -34,6 +34,11 @@ def run(*words: object, folder: Path = TOP) -> Answer:
         command, cwd=folder, env=environment, stdin=subprocess.DEVNULL, capture_output=True, timeout=120
     )
     return Answer(done.returncode, done.stdout.decode(), done.stderr.decode())
+
+
+def decided() -> List[Path]:
+    """The statements of the examples that prove decides by default: all but those for searches around the program."""
+    return sorted([*EXAMPLES.glob("*.op"), *EXAMPLES.glob("gallery/*.op")])
 
 
 def need(condition: bool, what: object) -> None:
