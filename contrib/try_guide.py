@@ -66,8 +66,8 @@ def has_files(line: str, folder: Path) -> bool:
     return all((folder / word).exists() for word in line.split() if re.fullmatch(r"[\w/]+\.(op|report|model|v)", word))
 
 
-def followed(folder: Path, is_wanted: Callable[[Command], bool]) -> int:
-    """Runs the commands that are wanted and have their files, and tells how many they were."""
+def followed(folder: Path, is_wanted: Callable[[Command, Path], bool]) -> int:
+    """Runs the commands that are wanted at their place, and tells how many they were."""
     guide, count = read(GUIDE.read_text(encoding="utf-8")), 0
     place = Path(tempfile.mkdtemp(dir=folder))
     for name, text in guide.files.items():
@@ -76,7 +76,7 @@ def followed(folder: Path, is_wanted: Callable[[Command], bool]) -> int:
     shutil.copytree(CONTRIB / "coq", place / "contrib" / "coq", ignore=lambda _, names: {name for name in names if name[-2:] != ".v"})
     for command in guide.commands:
         stored = re.search(r" \| tee (\S+)$", command.line)
-        if is_wanted(command) and has_files(command.line, place):
+        if is_wanted(command, place):
             answer = run("bash", "-c", as_run(command.line), folder=place)
             need(answer.out == command.shown, f"$ {command.line}\n{answer.out}{answer.error}and the guide has\n{command.shown}")
             need(not answer.error or "contrib/harder.py " in command.line, f"$ {command.line}\n{answer.error}")
@@ -88,7 +88,11 @@ def followed(folder: Path, is_wanted: Callable[[Command], bool]) -> int:
 
 def alone(folder: Path) -> str:
     """The tools of Python, on reports as they stand in the guide."""
-    count = followed(folder, lambda command: not command.asks_program() and not command.asks_coq())
+
+    def is_of_python(command: Command, place: Path) -> bool:
+        return not command.asks_program() and not command.asks_coq() and has_files(command.line, place)
+
+    count = followed(folder, is_of_python)
     need(count >= 8, f"{count} commands")
     return f"{count} commands of the guide that want Python alone print what stands there"
 
@@ -96,7 +100,7 @@ def alone(folder: Path) -> str:
 def built(folder: Path) -> str:
     if not os.access(PROGRAM, os.X_OK):
         raise Skipped("opprove is not built, and its commands of the guide are not run")
-    count = followed(folder, lambda command: not command.asks_coq())
+    count = followed(folder, lambda command, _: not command.asks_coq())
     commands = read(GUIDE.read_text(encoding="utf-8")).commands
     need(count == sum(not command.asks_coq() for command in commands), f"{count} commands")
     return f"{count} commands of the guide print what stands there"
@@ -104,7 +108,7 @@ def built(folder: Path) -> str:
 
 def coq(folder: Path) -> str:
     installed("coqc")
-    count = followed(folder, lambda command: command.asks_coq() or "contrib/to_coq.py " in command.line)
+    count = followed(folder, lambda command, _: command.asks_coq() or "contrib/to_coq.py " in command.line)
     need(count == 2, f"{count} commands")
     return "the theorem of the guide is accepted by coqc"
 
