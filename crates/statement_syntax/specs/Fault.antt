@@ -13,16 +13,20 @@ use Rattle.statement_syntax.specs.declared.fault.Fault.{Fault}
 use Rattle.statement_syntax.specs.declared.fault.Fault.TheVariants as fault
 use Rattle.statement_syntax.specs.declared.fault.SyntaxFault.{SyntaxFault}
 use Rattle.statement_syntax.specs.declared.fault.SyntaxFault.TheVariants as refusal
+use Rattle.statement_tokens.specs.declared.language.Language.{Language}
+use Rattle.statement_tokens.specs.Language.{language_of}
 use Rattle.statement_tokens.specs.Token.{tokens_of}
-use Rattle.statement_syntax.specs.Grammar.{StatedLine, file_tokens, FileFits}
+use Rattle.statement_syntax.specs.Grammar.{StatedLine, IsFileOf, file_tokens, FileFits}
 use Rattle.statement_syntax.specs.Tree.{file_tree}
 
 -- ---- the language
 
--- the bytes are these statements, a line each, with at most 64 round brackets in one another
+-- the bytes are these statements, a line each, of one of the languages, with at most 64 round brackets in one another
 pub record IsStatements (bytes : List ℕ) (lines : List StatedLine) : Type 0 where
   pub utf8 : IsUtf8 bytes
   pub tokens : tokens_of (chars bytes) ≡ Ok (file_tokens lines)
+  pub language : Language
+  pub speaks : IsFileOf language lines
   pub fits : FileFits lines
 
 -- the bytes are statements that have this tree
@@ -43,15 +47,15 @@ code_of fault.Expected = 3
 code_of fault.LiteralTooLarge = 4
 code_of fault.TooDeep = 5
 
--- some statements begin so
-abbrev pub GoesOn : List Token → Type 0
-GoesOn front = (more : List Token) × (lines : List StatedLine) × (front ++ more ≡ file_tokens lines)
+-- some file of the language begins so
+abbrev pub GoesOn : Language → List Token → Type 0
+GoesOn language front = (more : List Token) × (lines : List StatedLine) × IsFileOf language lines × (front ++ more ≡ file_tokens lines)
 
--- some statements with at most 64 round brackets in one another begin so
-abbrev pub GoesOnWithin : List Token → Type 0
-GoesOnWithin front = (more : List Token) × (lines : List StatedLine) × FileFits lines × (front ++ more ≡ file_tokens lines)
+-- some file of the language with at most 64 round brackets in one another begins so
+abbrev pub GoesOnWithin : Language → List Token → Type 0
+GoesOnWithin language front = (more : List Token) × (lines : List StatedLine) × IsFileOf language lines × FileFits lines × (front ++ more ≡ file_tokens lines)
 
--- all tokens are good, and this is the first with which no statements within the limit go on
+-- all tokens are good, and this is the first with which no file of their language within the limit goes on
 pub record IsMisfit (bytes : List ℕ) (at : Spot) : Type 0 where
   pub utf8 : IsUtf8 bytes
   pub front : List Token
@@ -59,8 +63,8 @@ pub record IsMisfit (bytes : List ℕ) (at : Spot) : Type 0 where
   pub rest : List Token
   pub tokens : tokens_of (chars bytes) ≡ Ok (front ++ token ∷ rest)
   pub place : token.at ≡ at
-  pub before : GoesOnWithin front
-  pub there : GoesOnWithin (front ++ token ∷ []) → ⊥
+  pub before : GoesOnWithin (language_of (front ++ token ∷ rest)) front
+  pub there : GoesOnWithin (language_of (front ++ token ∷ rest)) (front ++ token ∷ []) → ⊥
 
 -- the fault is the first of the bytes, and it stands there
 abbrev pub IsFirstFault : List ℕ → Fault → Spot → Type 0
@@ -68,10 +72,10 @@ abbrev pub IsFirstFault : List ℕ → Fault → Spot → Type 0
 IsFirstFault bytes fault.NotUtf8 at = (IsUtf8 bytes → ⊥) × (at ≡ record { line = 0; column = utf8_valid_len bytes })
 IsFirstFault bytes fault.BadToken at = IsUtf8 bytes × (tokens_of (chars bytes) ≡ Err (record { fault = scan.BadToken; at = at }))
 IsFirstFault bytes fault.LiteralTooLarge at = IsUtf8 bytes × (tokens_of (chars bytes) ≡ Err (record { fault = scan.LiteralTooLarge; at = at }))
--- no statements go on with the token, whatever the limit
-IsFirstFault bytes fault.Expected at = (m : IsMisfit bytes at) × (GoesOn (m.front ++ m.token ∷ []) → ⊥)
+-- no file of the language goes on with the token, whatever the limit
+IsFirstFault bytes fault.Expected at = (m : IsMisfit bytes at) × (GoesOn (language_of (m.front ++ m.token ∷ m.rest)) (m.front ++ m.token ∷ []) → ⊥)
 -- some go on with it, but none within the limit
-IsFirstFault bytes fault.TooDeep at = (m : IsMisfit bytes at) × GoesOn (m.front ++ m.token ∷ [])
+IsFirstFault bytes fault.TooDeep at = (m : IsMisfit bytes at) × GoesOn (language_of (m.front ++ m.token ∷ m.rest)) (m.front ++ m.token ∷ [])
 
 -- the refusal tells the first fault of the bytes
 abbrev pub TellsFirstFault : List ℕ → SyntaxFault → Type 0

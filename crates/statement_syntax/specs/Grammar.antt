@@ -4,11 +4,13 @@ use Rattle.std.specs.List.{flat_map}
 use Rattle.statement_tokens.specs.declared.place.Spot.{Spot}
 use Rattle.statement_syntax.specs.Limits.{bracket_limit}
 use Rattle.statement_syntax.specs.declared.line.ListWord.{ListWord}
-use Rattle.statement_syntax.specs.declared.line.ListWord.TheVariants.{Object, Solve}
+use Rattle.statement_syntax.specs.declared.line.ListWord.TheVariants.{Object, Solve, Eliminate}
 use Rattle.statement_syntax.specs.declared.line.SidesWord.{SidesWord}
 use Rattle.statement_syntax.specs.declared.line.SidesWord.TheVariants.{Assume, Claim}
 use Rattle.statement_syntax.specs.declared.line.PairWord.{PairWord}
 use Rattle.statement_syntax.specs.declared.line.PairWord.TheVariants.{Pinv, Inverse, Inner}
+use Rattle.statement_tokens.specs.declared.language.Language.{Language}
+use Rattle.statement_tokens.specs.declared.language.Language.TheVariants.{First, Second}
 use Rattle.statement_tokens.specs.declared.token.Token.{Token}
 use Rattle.statement_tokens.specs.declared.token.TokenKind.{TokenKind}
 use Rattle.statement_tokens.specs.declared.token.TokenKind.TheVariants as kind
@@ -41,10 +43,11 @@ mutual
     one : Marked → Factors
     beside : Factors → Marked → Factors
 
-  -- factor = primary { "'" }
+  -- factor = primary { "'" | "^" literal }; a caret is a token of the second language alone
   pub data Marked : Type 0 where
     plain : Prime → Marked
     marked : Marked → Spot → Marked
+    raised : Marked → Spot → Number → Marked
 
   -- primary = name | "[" name "]" | "(" E ")"
   pub data Prime : Type 0 where
@@ -94,6 +97,7 @@ abbrev mutual
   pub marked_tokens : Marked → List Token
   marked_tokens (plain p) = prime_tokens p
   marked_tokens (marked f at) = marked_tokens f ++ sign_token kind.Quote at ∷ []
+  marked_tokens (raised f at n) = marked_tokens f ++ sign_token kind.Caret at ∷ number_token n ∷ []
 
   pub prime_tokens : Prime → List Token
   prime_tokens (name n) = name_token n ∷ []
@@ -117,6 +121,7 @@ abbrev mutual
   pub MarkedFits : Marked → ℕ → Type 0
   MarkedFits (plain p) d = PrimeFits p d
   MarkedFits (marked f at) d = MarkedFits f d
+  MarkedFits (raised f at n) d = MarkedFits f d
 
   pub PrimeFits : Prime → ℕ → Type 0
   PrimeFits (name n) d = Unit {0}
@@ -130,6 +135,7 @@ abbrev mutual
 abbrev pub list_text : ListWord → List ℕ
 list_text Object = codes "object"
 list_text Solve = codes "solve"
+list_text Eliminate = codes "eliminate"
 
 abbrev pub sides_text : SidesWord → List ℕ
 sides_text Assume = codes "assume"
@@ -147,7 +153,7 @@ pub data Ending : Type 0 where
 
 -- a statement with the places of its words and signs; a list has a first item
 pub data Stated : Type 0 where
-  -- object NAME .. | solve NAME ..
+  -- object NAME .. | solve NAME .. | eliminate NAME ..
   listed : ListWord → Spot → Name → List Name → Stated
   -- map NAME .. : NAME -> NAME [self]
   mapped : Spot → Name → List Name → Spot → Name → Spot → Name → Ending → Stated
@@ -163,6 +169,11 @@ pub data Stated : Type 0 where
   by_weight : Spot → Spot → Name × Number → List (Name × Number) → Stated
   -- model LITERAL NAME LITERAL .., also with no pair
   modelled : Spot → Number → List (Name × Number) → Stated
+  -- language LITERAL, with a literal of value 2
+  second_language : Spot → Spot → Stated
+
+abbrev pub two_at : Spot → Number
+two_at at = record { value = pos 2; at = at }
 
 abbrev pub word_token : List ℕ → Spot → Token
 word_token word at = sign_token (kind.Name word) at
@@ -187,6 +198,7 @@ stated_tokens (paired w at m n) = word_token (pair_text w) at ∷ name_token m �
 stated_tokens (projected at n) = word_token (codes "projection") at ∷ name_token n ∷ []
 stated_tokens (by_degree at word) = word_token (codes "order") at ∷ word_token (codes "degree") word ∷ []
 stated_tokens (by_weight at word p ps) = word_token (codes "order") at ∷ word_token (codes "weight") word ∷ pairs_tokens (p ∷ ps)
+stated_tokens (second_language at number) = word_token (codes "language") at ∷ number_token (two_at number) ∷ []
 stated_tokens (modelled at m ps) = word_token (codes "model") at ∷ number_token m ∷ pairs_tokens ps
 
 -- no more round brackets than the limit stand in one another
@@ -199,12 +211,34 @@ StatedFits (projected at n) = Unit {0}
 StatedFits (by_degree at word) = Unit {0}
 StatedFits (by_weight at word p ps) = Unit {0}
 StatedFits (modelled at m ps) = Unit {0}
+StatedFits (second_language at number) = Unit {0}
 
--- ---- a file: a statement a line
+-- ---- a file: a statement a line, in one of the two languages
 
 pub record StatedLine : Type 0 where
   pub stated : Stated
   pub end : Spot
+
+-- the line that a file of the second language begins with
+abbrev pub NamesLanguage : Stated → Type 0
+NamesLanguage (second_language at number) = Unit {0}
+NamesLanguage s = ⊥
+
+-- all other statements are of both languages, but `eliminate` of the second alone
+abbrev pub IsOf : Language → Stated → Type 0
+IsOf language (second_language at number) = ⊥
+IsOf First (listed Eliminate at n ns) = ⊥
+IsOf language s = Unit {0}
+
+abbrev pub AreLinesOf : Language → List StatedLine → Type 0
+AreLinesOf language [] = Unit {0}
+AreLinesOf language (l ∷ ls) = IsOf language l.stated × AreLinesOf language ls
+
+-- a file of the first language is lines of that, one of the second is the line that names it and then lines of that
+abbrev pub IsFileOf : Language → List StatedLine → Type 0
+IsFileOf First ls = AreLinesOf First ls
+IsFileOf Second [] = ⊥
+IsFileOf Second (l ∷ ls) = NamesLanguage l.stated × AreLinesOf Second ls
 
 abbrev pub line_tokens : StatedLine → List Token
 line_tokens l = stated_tokens l.stated ++ sign_token kind.End l.end ∷ []

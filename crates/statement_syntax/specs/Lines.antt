@@ -4,6 +4,8 @@ use Rattle.statement_tokens.specs.declared.place.Spot.{Spot}
 use Rattle.statement_tokens.specs.declared.token.Token.{Token}
 use Rattle.statement_tokens.specs.declared.token.TokenKind.{TokenKind}
 use Rattle.statement_tokens.specs.declared.token.TokenKind.TheVariants as kind
+use Rattle.statement_tokens.specs.declared.language.Language.{Language}
+use Rattle.statement_tokens.specs.declared.language.Language.TheVariants.{First, Second}
 use Rattle.statement_syntax.specs.declared.tree.Name.{Name}
 use Rattle.statement_syntax.specs.declared.tree.Number.{Number}
 use Rattle.statement_syntax.specs.declared.tree.Sum.{Sum}
@@ -15,7 +17,7 @@ use Rattle.statement_syntax.specs.declared.expression.Misfit.TheVariants.{Expect
 use Rattle.statement_syntax.specs.declared.expression.Reading.{Reading}
 use Rattle.statement_syntax.specs.declared.expression.Part.TheVariants.{Nothing}
 use Rattle.statement_syntax.specs.declared.line.ListWord.{ListWord}
-use Rattle.statement_syntax.specs.declared.line.ListWord.TheVariants.{Object, Solve}
+use Rattle.statement_syntax.specs.declared.line.ListWord.TheVariants.{Object, Solve, Eliminate}
 use Rattle.statement_syntax.specs.declared.line.SidesWord.{SidesWord}
 use Rattle.statement_syntax.specs.declared.line.SidesWord.TheVariants.{Assume, Claim}
 use Rattle.statement_syntax.specs.declared.line.PairWord.{PairWord}
@@ -69,8 +71,9 @@ number_in k at = Err Expected
 
 -- ---- the first word
 
-abbrev pub opening_in : List ℕ → Option Opening
-opening_in word =
+-- a word that begins a statement in both languages
+abbrev pub common_opening : List ℕ → Option Opening
+common_opening word =
     if bytes_eq word (codes "object") then Some (opening.List Object)
     else (if bytes_eq word (codes "solve") then Some (opening.List Solve)
     else (if bytes_eq word (codes "map") then Some opening.Map
@@ -83,6 +86,10 @@ opening_in word =
     else (if bytes_eq word (codes "order") then Some opening.Order
     else (if bytes_eq word (codes "model") then Some opening.Model
     else None))))))))))
+
+abbrev pub opening_in : Language → List ℕ → Option Opening
+opening_in First word = common_opening word
+opening_in Second word = if bytes_eq word (codes "eliminate") then Some (opening.List Eliminate) else common_opening word
 
 abbrev pub start_reading : Reading
 start_reading = outside [] empty_head Nothing
@@ -100,9 +107,9 @@ abbrev pub begun : Option Opening → Spot → Lined
 begun None at = Err Expected
 begun (Some o) at = Ok (opened o at)
 
-abbrev pub start_step : TokenKind → Spot → Lined
-start_step (kind.Name x) at = begun (opening_in x) at
-start_step k at = Err Expected
+abbrev pub start_step : Language → TokenKind → Spot → Lined
+start_step language (kind.Name x) at = begun (opening_in language x) at
+start_step language k at = Err Expected
 
 -- ---- the other tokens
 
@@ -183,18 +190,18 @@ IsBare (line.Weights at ps) = ⊥
 IsBare (line.Shape at m ps) = ⊥
 IsBare l = Unit {0}
 
-abbrev pub line_step : Line → TokenKind → Spot → Lined
-line_step line.Start k t = start_step k t
-line_step (line.List w at names) k t = list_step w at names k t
-line_step (line.Map at names r) k t = map_step at names r k t
-line_step (line.Sides w at left r) k t = sides_step w at left r k t
-line_step (line.Pair w at first) k t = pair_step w at first k t
-line_step (line.Projection at) k t = projection_step at k t
-line_step (line.Order at) k t = order_step at k
-line_step (line.Weights at ps) k t = pairs_step ps k t >>= λ p. Ok (line.Weights at p)
-line_step (line.Model at) k t = number_in k t >>= λ m. Ok (line.Shape at m no_pairs)
-line_step (line.Shape at m ps) k t = pairs_step ps k t >>= λ p. Ok (line.Shape at m p)
-line_step (line.Whole s) k t = Err Expected
+abbrev pub line_step : Language → Line → TokenKind → Spot → Lined
+line_step language line.Start k t = start_step language k t
+line_step language (line.List w at names) k t = list_step w at names k t
+line_step language (line.Map at names r) k t = map_step at names r k t
+line_step language (line.Sides w at left r) k t = sides_step w at left r k t
+line_step language (line.Pair w at first) k t = pair_step w at first k t
+line_step language (line.Projection at) k t = projection_step at k t
+line_step language (line.Order at) k t = order_step at k
+line_step language (line.Weights at ps) k t = pairs_step ps k t >>= λ p. Ok (line.Weights at p)
+line_step language (line.Model at) k t = number_in k t >>= λ m. Ok (line.Shape at m no_pairs)
+line_step language (line.Shape at m ps) k t = pairs_step ps k t >>= λ p. Ok (line.Shape at m p)
+line_step language (line.Whole s) k t = Err Expected
 
 abbrev pub list_end : ListWord → List Name → Result StatementKind Misfit
 list_end w [] = Err Expected
@@ -252,8 +259,8 @@ beginning = record { statements = []; line = line.Start }
 abbrev pub ended : Progress → Result Progress Misfit
 ended p = line_end p.line >>= λ s. Ok (record { statements = p.statements ++ s ∷ []; line = line.Start })
 
-abbrev pub within_line : Progress → TokenKind → Spot → Result Progress Misfit
-within_line p k at = line_step p.line k at >>= λ l. Ok (record { statements = p.statements; line = l })
+abbrev pub within_line : Language → Progress → TokenKind → Spot → Result Progress Misfit
+within_line language p k at = line_step language p.line k at >>= λ l. Ok (record { statements = p.statements; line = l })
 
-abbrev pub file_step : Progress → Token → Result Progress Misfit
-file_step p t = on_end (ended p) (within_line p t.kind t.at) t.kind
+abbrev pub file_step : Language → Progress → Token → Result Progress Misfit
+file_step language p t = on_end (ended p) (within_line language p t.kind t.at) t.kind

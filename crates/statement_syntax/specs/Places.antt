@@ -4,7 +4,7 @@ use Rattle.statement_tokens.specs.declared.place.Spot.{Spot}
 use Rattle.statement_syntax.specs.declared.tree.Statement.{Statement}
 use Rattle.statement_syntax.specs.declared.tree.Name.{Name}
 use Rattle.statement_syntax.specs.declared.tree.Number.{Number}
-use Rattle.statement_syntax.specs.Grammar.{Lead, no_sign, lead_plus, lead_minus, Sign, plus, minus, Expr, first, joined, Product, zero_alone, factors, Factors, one, beside, Marked, plain, marked, Prime, name, identity, bracket, Ending, no_word, self_word, Stated, listed, mapped, sides, paired, projected, by_degree, by_weight, modelled, StatedLine}
+use Rattle.statement_syntax.specs.Grammar.{Lead, no_sign, lead_plus, lead_minus, Sign, plus, minus, Expr, first, joined, Product, zero_alone, factors, Factors, one, beside, Marked, plain, marked, raised, Prime, name, identity, bracket, Ending, no_word, self_word, Stated, listed, mapped, sides, paired, projected, by_degree, by_weight, modelled, second_language, StatedLine}
 use Rattle.statement_syntax.specs.Tree.{file_tree}
 use Rattle.statement_syntax.specs.Fault.{IsTreeOf}
 
@@ -46,6 +46,7 @@ abbrev mutual
   pub bare_marked : Marked → Marked
   bare_marked (plain p) = plain (bare_prime p)
   bare_marked (marked f at) = marked (bare_marked f) somewhere
+  bare_marked (raised f at n) = raised (bare_marked f) somewhere (bare_number n)
 
   pub bare_prime : Prime → Prime
   bare_prime (name n) = name (bare_name n)
@@ -76,6 +77,7 @@ bare_stated (projected at n) = projected somewhere (bare_name n)
 bare_stated (by_degree at word) = by_degree somewhere somewhere
 bare_stated (by_weight at word p ps) = by_weight somewhere somewhere (bare_pair p) (bare_pairs ps)
 bare_stated (modelled at m ps) = modelled somewhere (bare_number m) (bare_pairs ps)
+bare_stated (second_language at number) = second_language somewhere somewhere
 
 abbrev pub bare_line : StatedLine → StatedLine
 bare_line l = record { stated = bare_stated l.stated; end = somewhere }

@@ -8,6 +8,7 @@ use Rattle.statement_syntax.specs.Limits.{bracket_limit}
 use Rattle.statement_syntax.specs.declared.tree.Name.{Name}
 use Rattle.statement_syntax.specs.declared.tree.Number.{Number}
 use Rattle.statement_syntax.specs.declared.tree.Primary.{Primary, Letter, Identity, Bracket}
+use Rattle.statement_syntax.specs.declared.tree.Factor.{Factor}
 use Rattle.statement_syntax.specs.declared.tree.Term.{Term, out-Term}
 use Rattle.statement_syntax.specs.declared.expression.Head.{Head}
 use Rattle.statement_syntax.specs.declared.expression.Level.{Level}
@@ -21,7 +22,7 @@ use Rattle.statement_syntax.specs.declared.expression.ReadError.TheVariants as e
 use Rattle.statement_syntax.specs.declared.tree.Sum.{Sum}
 use Rattle.statement_syntax.specs.declared.expression.Part.{Part}
 use Rattle.statement_syntax.specs.declared.expression.Part.TheVariants.{Nothing, Scaled, Product}
-pub use Rattle.statement_syntax.specs.Nodes.{name_with, factor_of, term_of, sum_of, marked_factor}
+pub use Rattle.statement_syntax.specs.Nodes.{name_with, factor_of, term_of, sum_of, marked_factor, raised_factor}
 
 abbrev pub part_with : Part → Primary → Spot → Part
 part_with Nothing p at = Product at None [] (factor_of at p [])
@@ -117,6 +118,12 @@ literal_step levels head Nothing n = Ok (outside levels head (Scaled n))
 literal_step levels head (Scaled m) n = Err Expected
 literal_step levels head (Product p l fs last) n = Err Expected
 
+-- the literal is next
+abbrev pub caret_step : List Level → Head → Part → Spot → Result Reading Misfit
+caret_step levels head Nothing at = Err Expected
+caret_step levels head (Scaled n) at = Err Expected
+caret_step levels head (Product first l fs last) at = Ok (record { levels = levels; head = head; part = Nothing; focus = focus.Raised first l fs last at })
+
 abbrev pub outside_step : List Level → Head → Part → TokenKind → Spot → Result Reading Misfit
 outside_step levels head part (kind.Name x) at = Ok (outside levels head (part_with part (Letter (record { text = x; at = at })) at))
 outside_step levels head part (kind.Literal n) at = literal_step levels head part (record { value = n; at = at })
@@ -130,6 +137,7 @@ outside_step levels head part kind.Close at = close_step levels head part
 outside_step levels head part kind.OpenSquare at = Ok (record { levels = levels; head = head; part = part; focus = focus.Square at })
 outside_step levels head part kind.CloseSquare at = Err Expected
 outside_step levels head part kind.Quote at = quote_step part >>= λ p. Ok (outside levels head p)
+outside_step levels head part kind.Caret at = caret_step levels head part at
 outside_step levels head part kind.End at = Err Expected
 
 abbrev pub square_step : List Level → Head → Part → Spot → TokenKind → Spot → Result Reading Misfit
@@ -140,10 +148,15 @@ abbrev pub named_step : List Level → Head → Part → Spot → Name → Token
 named_step levels head part left n kind.CloseSquare = Ok (outside levels head (part_with part (Identity n) left))
 named_step levels head part left n k = Err Expected
 
+abbrev pub raised_step : List Level → Head → Spot → Option Number → List Factor → Factor → Spot → TokenKind → Spot → Result Reading Misfit
+raised_step levels head first l fs last caret (kind.Literal n) at = Ok (outside levels head (Product first l fs (raised_factor last caret (record { value = n; at = at }))))
+raised_step levels head first l fs last caret k at = Err Expected
+
 abbrev pub focus_step : List Level → Head → Part → Focus → TokenKind → Spot → Result Reading Misfit
 focus_step levels head part focus.Outside k at = outside_step levels head part k at
 focus_step levels head part (focus.Square left) k at = square_step levels head part left k at
 focus_step levels head part (focus.Named left n) k at = named_step levels head part left n k
+focus_step levels head part (focus.Raised first l fs last caret) k at = raised_step levels head first l fs last caret k at
 
 abbrev pub token_step : Reading → TokenKind → Spot → Result Reading Misfit
 token_step r k at = focus_step r.levels r.head r.part r.focus k at
@@ -152,6 +165,7 @@ abbrev pub whole_by : List Level → Head → Part → Focus → Result Sum Misf
 whole_by [] head part focus.Outside = ended_part part head.negative >>= λ t. Ok (sum_with head t)
 whole_by [] head part (focus.Square left) = Err Expected
 whole_by [] head part (focus.Named left n) = Err Expected
+whole_by [] head part (focus.Raised first l fs last caret) = Err Expected
 whole_by (level ∷ levels) head part f = Err Expected
 
 abbrev pub whole_sum : Reading → Result Sum Misfit

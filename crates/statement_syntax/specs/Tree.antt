@@ -11,14 +11,14 @@ use Rattle.statement_syntax.specs.declared.tree.Statement.{Statement}
 use Rattle.statement_syntax.specs.declared.tree.StatementKind.{StatementKind}
 use Rattle.statement_syntax.specs.declared.tree.StatementKind.TheVariants as statement
 use Rattle.statement_syntax.specs.declared.line.ListWord.{ListWord}
-use Rattle.statement_syntax.specs.declared.line.ListWord.TheVariants.{Object, Solve}
+use Rattle.statement_syntax.specs.declared.line.ListWord.TheVariants.{Object, Solve, Eliminate}
 use Rattle.statement_syntax.specs.declared.line.SidesWord.{SidesWord}
 use Rattle.statement_syntax.specs.declared.line.SidesWord.TheVariants.{Assume, Claim}
 use Rattle.statement_syntax.specs.declared.line.PairWord.{PairWord}
 use Rattle.statement_syntax.specs.declared.line.PairWord.TheVariants.{Pinv, Inverse, Inner}
-use Rattle.statement_syntax.specs.Grammar.{Ending, no_word, self_word, Stated, listed, mapped, sides, paired, projected, by_degree, by_weight, modelled, StatedLine}
-use Rattle.statement_syntax.specs.Grammar.{Lead, no_sign, lead_plus, lead_minus, Sign, plus, minus, Expr, first, joined, Product, zero_alone, factors, Factors, one, beside, Marked, plain, marked, Prime, name, identity, bracket, zero_at}
-use Rattle.statement_syntax.specs.Nodes.{factor_of, term_of, sum_of, marked_factor}
+use Rattle.statement_syntax.specs.Grammar.{Ending, no_word, self_word, Stated, listed, mapped, sides, paired, projected, by_degree, by_weight, modelled, second_language, StatedLine}
+use Rattle.statement_syntax.specs.Grammar.{Lead, no_sign, lead_plus, lead_minus, Sign, plus, minus, Expr, first, joined, Product, zero_alone, factors, Factors, one, beside, Marked, plain, marked, raised, Prime, name, identity, bracket, zero_at}
+use Rattle.statement_syntax.specs.Nodes.{factor_of, term_of, sum_of, marked_factor, raised_factor}
 
 -- ---- the place of the first token
 
@@ -30,6 +30,7 @@ prime_at (bracket left e right) = left
 abbrev pub marked_at : Marked → Spot
 marked_at (plain p) = prime_at p
 marked_at (marked f at) = marked_at f
+marked_at (raised f at n) = marked_at f
 
 abbrev pub factors_at : Factors → Spot
 factors_at (one f) = marked_at f
@@ -86,6 +87,7 @@ abbrev mutual
   pub marked_tree : Marked → Factor
   marked_tree (plain p) = factor_of (prime_at p) (prime_tree p) []
   marked_tree (marked f at) = marked_factor (marked_tree f)
+  marked_tree (raised f at n) = raised_factor (marked_tree f) at n
 
   pub prime_tree : Prime → Primary
   prime_tree (name n) = Letter n
@@ -100,6 +102,7 @@ expr_tree e = sum_of (expr_at e) (expr_terms e)
 abbrev pub list_kind : ListWord → List Name → StatementKind
 list_kind Object ns = statement.Objects ns
 list_kind Solve ns = statement.Solve ns
+list_kind Eliminate ns = statement.Eliminate ns
 
 abbrev pub sides_kind : SidesWord → Sum → Sum → StatementKind
 sides_kind Assume left right = statement.Assume left right
@@ -124,6 +127,7 @@ stated_at (projected at n) = at
 stated_at (by_degree at word) = at
 stated_at (by_weight at word p ps) = at
 stated_at (modelled at m ps) = at
+stated_at (second_language at number) = at
 
 abbrev pub stated_kind : Stated → StatementKind
 stated_kind (listed w at n ns) = list_kind w (n ∷ ns)
@@ -134,6 +138,7 @@ stated_kind (projected at n) = statement.Projection n
 stated_kind (by_degree at word) = statement.Degree
 stated_kind (by_weight at word p ps) = statement.Weight (p ∷ ps)
 stated_kind (modelled at m ps) = statement.Shape m ps
+stated_kind (second_language at number) = statement.Language
 
 abbrev pub stated_tree : Stated → Statement
 stated_tree s = record { at = stated_at s; kind = stated_kind s }

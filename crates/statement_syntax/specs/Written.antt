@@ -1,11 +1,13 @@
 -- How a tree is written: the tokens of each statement, and their characters.
-use Rattle.std.specs.Prelude.{ℕ, zero, suc, Bool, true, false, ◌||◌, List, [], ◌∷◌, ◌++◌, length, Option, Some, None, codes}
+use Rattle.std.specs.Prelude.{ℕ, Bool, true, false, ◌||◌, List, [], ◌∷◌, ◌++◌, Option, Some, None, pos, codes}
 use Rattle.std.specs.List.{flat_map}
 use Rattle.std.specs.Fmt.{signed_decimal}
 use Rattle.statement_tokens.specs.declared.token.TokenKind.{TokenKind}
 use Rattle.statement_tokens.specs.declared.token.TokenKind.TheVariants as kind
 use Rattle.statement_syntax.specs.declared.tree.Name.{Name}
 use Rattle.statement_syntax.specs.declared.tree.Number.{Number}
+use Rattle.statement_syntax.specs.declared.tree.Mark.{Mark}
+use Rattle.statement_syntax.specs.declared.tree.Mark.TheVariants.{Adjoint, Power}
 use Rattle.statement_syntax.specs.declared.tree.Statement.{Statement}
 use Rattle.statement_syntax.specs.declared.tree.StatementKind.{StatementKind}
 use Rattle.statement_syntax.specs.declared.tree.StatementKind.TheVariants as statement
@@ -33,10 +35,9 @@ sign_kinds true false = []
 sign_kinds false true = kind.Minus ∷ []
 sign_kinds false false = kind.Plus ∷ []
 
--- as many quotes as there are marks
-abbrev pub quotes : ℕ → List TokenKind
-quotes zero = []
-quotes (suc n) = kind.Quote ∷ quotes n
+abbrev pub mark_kinds : Mark → List TokenKind
+mark_kinds Adjoint = kind.Quote ∷ []
+mark_kinds (Power at exponent) = kind.Caret ∷ number_kinds exponent
 
 abbrev mutual
   pub primary_kinds : Primary → List TokenKind
@@ -56,10 +57,10 @@ abbrev mutual
 
   pub factors_kinds : {m : _} → Row_of-Factor m → List TokenKind
   factors_kinds end_of-Factor = []
-  factors_kinds (more_of-Factor at primary marks rest) = (primary_kinds primary ++ quotes (length marks)) ++ factors_kinds rest
+  factors_kinds (more_of-Factor at primary marks rest) = (primary_kinds primary ++ flat_map mark_kinds marks) ++ factors_kinds rest
 
 abbrev pub factor_kinds : Factor → List TokenKind
-factor_kinds f = primary_kinds f.primary ++ quotes (length f.marks)
+factor_kinds f = primary_kinds f.primary ++ flat_map mark_kinds f.marks
 
 abbrev pub word_kinds : List ℕ → List TokenKind
 word_kinds word = kind.Name word ∷ []
@@ -87,6 +88,9 @@ two_kinds word first second = word_kinds word ++ name_kinds first ++ name_kinds 
 abbrev pub projection_kinds : Name → List TokenKind
 projection_kinds name = word_kinds (codes "projection") ++ name_kinds name
 
+abbrev pub language_kinds : List TokenKind
+language_kinds = word_kinds (codes "language") ++ kind.Literal (pos 2) ∷ []
+
 abbrev pub degree_kinds : List TokenKind
 degree_kinds = word_kinds (codes "order") ++ word_kinds (codes "degree")
 
@@ -97,6 +101,7 @@ abbrev pub shape_kinds : Number → List (Name × Number) → List TokenKind
 shape_kinds modulus sides = word_kinds (codes "model") ++ number_kinds modulus ++ flat_map pair_kinds sides
 
 abbrev pub statement_kinds : StatementKind → List TokenKind
+statement_kinds statement.Language = language_kinds
 statement_kinds (statement.Objects names) = list_kinds (codes "object") names
 statement_kinds (statement.Maps names source target selfmade) = map_kinds names source target selfmade
 statement_kinds (statement.Assume left right) = sides_kinds (codes "assume") left right
@@ -108,6 +113,7 @@ statement_kinds (statement.Projection name) = projection_kinds name
 statement_kinds statement.Degree = degree_kinds
 statement_kinds (statement.Weight weights) = weight_kinds weights
 statement_kinds (statement.Solve names) = list_kinds (codes "solve") names
+statement_kinds (statement.Eliminate names) = list_kinds (codes "eliminate") names
 statement_kinds (statement.Shape modulus sides) = shape_kinds modulus sides
 
 -- ---- the characters of the tokens
@@ -116,6 +122,7 @@ statement_kinds (statement.Shape modulus sides) = shape_kinds modulus sides
 abbrev pub opens : TokenKind → Bool
 opens kind.Open = true
 opens kind.OpenSquare = true
+opens kind.Caret = true
 opens k = false
 
 -- nothing is put before them
@@ -123,6 +130,7 @@ abbrev pub closes : TokenKind → Bool
 closes kind.Close = true
 closes kind.CloseSquare = true
 closes kind.Quote = true
+closes kind.Caret = true
 closes k = false
 
 abbrev pub kind_text : TokenKind → List ℕ
@@ -138,6 +146,7 @@ kind_text kind.Close = codes ")"
 kind_text kind.OpenSquare = codes "["
 kind_text kind.CloseSquare = codes "]"
 kind_text kind.Quote = codes "'"
+kind_text kind.Caret = codes "^"
 kind_text kind.End = []
 
 abbrev pub gap : Bool → List ℕ

@@ -1,13 +1,14 @@
 //! What has been read of an expression.
 
 ghost use Rattle.std.specs.Prelude.{◌≡◌, MatchResult, Ok, Err};
-ghost use Rattle.statement_syntax.specs.Steps.{Gives, Turns, empty_head, close_step, open_step, literal_step, signed_step, outside_step, token_step, whole_sum};
+ghost use Rattle.statement_syntax.specs.Steps.{Gives, Turns, empty_head, close_step, open_step, literal_step, caret_step, signed_step, outside_step, token_step, whole_sum};
 ghost use Rattle.statement_syntax.specs.declared.expression.Focus.TheVariants.{Outside};
 ghost use Rattle.statement_syntax.specs.declared.expression.ReadError.TheVariants as read_error;
 
+use crate::expected::number_in;
 use crate::part::{ended_part, part_with, quote_step, sign_step, sum_with};
 use crate::stack::Stack;
-use crate::tree::{Factor, Name, Number, Primary, Sum, Term};
+use crate::tree::{Factor, Mark, Name, Number, Primary, Sum, Term};
 use lists::Listing;
 use statement_tokens::{Spot, Token, TokenKind};
 use std::alloc::{AllocError, AllocFailed, Global};
@@ -38,12 +39,20 @@ pub enum Part {
     },
 }
 
-/// Inside square brackets, or not.
+/// Inside square brackets, behind a caret, or neither.
 #[derive(Drop)]
 pub enum Focus {
     Outside,
     Square(Spot),
     Named(Spot, Name),
+    /// Behind a caret, of which the literal is next, with the product before it.
+    Raised {
+        at: Spot,
+        literal: Option<Number>,
+        factors: Listing<Factor>,
+        last: Factor,
+        caret: Spot,
+    },
 }
 
 /// A round bracket that is open, with what stands before it.
@@ -197,7 +206,34 @@ fn outside_step(alloc: Global, reading: &mut Reading, token: Token) -> Result<()
             Ok(())
         }
         TokenKind::Quote => quote_step(&mut reading.part),
+        TokenKind::Caret => Ok(caret_step(reading, at)?),
         _ => Err(ReadError::Misfit(Misfit::Expected)),
+    }
+}
+
+// A caret behind a factor, of which the literal is next.
+fn caret_step(reading: &mut Reading, caret: Spot) -> Result<(), Misfit>
+    requires { reading.old.focus ≡ Outside }
+    ensures { MatchResult result (λ _. caret_step reading.old.levels reading.old.head reading.old.part caret ≡ Ok reading.new)
+        (λ misfit. caret_step reading.old.levels reading.old.head reading.old.part caret ≡ Err misfit) }
+{
+    match mem::replace(&mut reading.part, Part::Nothing) {
+        Part::Product {
+            at,
+            literal,
+            factors,
+            last,
+        } => {
+            reading.focus = Focus::Raised {
+                at,
+                literal,
+                factors,
+                last,
+                caret,
+            };
+            Ok(())
+        }
+        _ => Err(Misfit::Expected),
     }
 }
 
@@ -223,6 +259,26 @@ pub fn token_step(alloc: Global, reading: &mut Reading, token: Token) -> Result<
             }
             _ => Err(ReadError::Misfit(Misfit::Expected)),
         },
+        Focus::Raised {
+            at,
+            literal,
+            factors,
+            mut last,
+            caret,
+        } => {
+            let exponent = number_in(&token)?;
+            last.marks.push(Mark::Power {
+                at: caret,
+                exponent,
+            })?;
+            reading.part = Part::Product {
+                at,
+                literal,
+                factors,
+                last,
+            };
+            Ok(())
+        }
     }
 }
 

@@ -2,9 +2,9 @@
 
 ghost use Rattle.std.specs.Prelude.{◌≡◌, ◌++◌, OnOk};
 ghost use Rattle.std.specs.List.{flat_map};
-ghost use Rattle.statement_syntax.specs.Written.{name_kinds, number_kinds, sign_kinds, quotes, literal_kinds, term_kinds, sum_kinds, factor_kinds, word_kinds, pair_kinds, list_kinds, self_kinds, map_kinds, sides_kinds, two_kinds, projection_kinds, degree_kinds, weight_kinds, shape_kinds, statement_kinds};
+ghost use Rattle.statement_syntax.specs.Written.{name_kinds, number_kinds, sign_kinds, mark_kinds, literal_kinds, term_kinds, sum_kinds, factor_kinds, word_kinds, pair_kinds, list_kinds, self_kinds, map_kinds, sides_kinds, two_kinds, projection_kinds, language_kinds, degree_kinds, weight_kinds, shape_kinds, statement_kinds};
 
-use crate::tree::{Factor, Name, Number, Primary, StatementKind, Sum, Term};
+use crate::tree::{Factor, Mark, Name, Number, Primary, StatementKind, Sum, Term};
 use lists::{Duplicate, Listing, Text};
 use statement_tokens::TokenKind;
 use std::alloc::{AllocError, Global};
@@ -35,11 +35,23 @@ fn put_sign(leading: bool, negative: bool, out: &mut Listing<TokenKind>) -> Resu
     Ok(())
 }
 
-fn put_quotes(count: usize, out: &mut Listing<TokenKind>) -> Result<(), AllocError>
-    ensures { OnOk result (out.new ≡ out.old ++ quotes count) }
+fn put_mark(mark: &Mark, out: &mut Listing<TokenKind>) -> Result<(), AllocError>
+    ensures { OnOk result (out.new ≡ out.old ++ mark_kinds mark.now) }
 {
-    for _ in 0..count {
-        out.push(TokenKind::Quote)?;
+    match mark {
+        Mark::Adjoint => Ok(out.push(TokenKind::Quote)?),
+        Mark::Power { exponent, .. } => {
+            out.push(TokenKind::Caret)?;
+            put_number(exponent, out)
+        }
+    }
+}
+
+fn put_marks(marks: &Listing<Mark>, out: &mut Listing<TokenKind>) -> Result<(), AllocError>
+    ensures { OnOk result (out.new ≡ out.old ++ flat_map mark_kinds marks.now) }
+{
+    for mark in marks.as_slice() {
+        put_mark(mark, out)?;
     }
     Ok(())
 }
@@ -94,7 +106,7 @@ fn put_factor(factor: &Factor, out: &mut Listing<TokenKind>) -> Result<(), Alloc
             out.push(TokenKind::Close)?;
         }
     }
-    put_quotes(factor.marks.len(), out)
+    put_marks(&factor.marks, out)
 }
 
 fn put_word(alloc: Global, word: &str, out: &mut Listing<TokenKind>) -> Result<(), AllocError>
@@ -237,6 +249,14 @@ fn put_shape(
     put_pairs(sides, out)
 }
 
+fn put_language(alloc: Global, out: &mut Listing<TokenKind>) -> Result<(), AllocError>
+    ensures { OnOk result (out.new ≡ out.old ++ language_kinds) }
+{
+    put_word(alloc, "language", out)?;
+    out.push(TokenKind::Literal(2))?;
+    Ok(())
+}
+
 /// Adds the tokens of a statement.
 pub fn put_statement(
     alloc: Global,
@@ -246,6 +266,7 @@ pub fn put_statement(
     ensures { OnOk result (out.new ≡ out.old ++ statement_kinds kind.now) }
 {
     match kind {
+        StatementKind::Language => put_language(alloc, out),
         StatementKind::Objects(names) => put_list(alloc, "object", names, out),
         StatementKind::Maps {
             names,
@@ -262,6 +283,7 @@ pub fn put_statement(
         StatementKind::Degree => put_degree(alloc, out),
         StatementKind::Weight(weights) => put_weights(alloc, weights, out),
         StatementKind::Solve(names) => put_list(alloc, "solve", names, out),
+        StatementKind::Eliminate(names) => put_list(alloc, "eliminate", names, out),
         StatementKind::Shape { modulus, sides } => put_shape(alloc, modulus, sides, out),
     }
 }

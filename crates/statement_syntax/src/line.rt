@@ -12,7 +12,7 @@ use crate::opening::start_step;
 use crate::sides::{sides_end, sides_step};
 use crate::tree::{Name, Number, Statement, StatementKind, Sum};
 use lists::Listing;
-use statement_tokens::{Spot, Token};
+use statement_tokens::{Language, Spot, Token};
 use std::alloc::Global;
 use std::mem;
 
@@ -21,6 +21,7 @@ use std::mem;
 pub enum ListWord {
     Object,
     Solve,
+    Eliminate,
 }
 
 /// The words before two sides.
@@ -100,29 +101,44 @@ pub enum Line {
     Whole(Statement),
 }
 
-/// The line with one more token. An expression, which may be long, is read in its place.
-pub fn line_step(alloc: Global, line: &mut Line, token: Token) -> Result<(), ReadError>
-    ensures { Turns result line.new (line_step line.old token.kind token.at) }
+/// The line of a file of the language with one more token. An expression, which may be long, is read in its place.
+pub fn line_step(
+    alloc: Global,
+    language: Language,
+    line: &mut Line,
+    token: Token,
+) -> Result<(), ReadError>
+    ensures { Turns result line.new (line_step language line.old token.kind token.at) }
 {
     match line {
         Line::Sides { left, reading, .. } => sides_step(alloc, left, reading, token),
-        _ => plain_step(alloc, line, token),
+        _ => plain_step(alloc, language, line, token),
     }
 }
 
 // The same for a line that holds no expression.
-fn plain_step(alloc: Global, line: &mut Line, token: Token) -> Result<(), ReadError>
+fn plain_step(
+    alloc: Global,
+    language: Language,
+    line: &mut Line,
+    token: Token,
+) -> Result<(), ReadError>
     requires { IsPlain line.old }
-    ensures { Turns result line.new (line_step line.old token.kind token.at) }
+    ensures { Turns result line.new (line_step language line.old token.kind token.at) }
 {
-    let next = plain_line(alloc, mem::replace(line, Line::Start), token)?;
+    let next = plain_line(alloc, language, mem::replace(line, Line::Start), token)?;
     drop(mem::replace(line, next));
     Ok(())
 }
 
-fn plain_line(alloc: Global, line: Line, token: Token) -> Result<Line, ReadError>
+fn plain_line(
+    alloc: Global,
+    language: Language,
+    line: Line,
+    token: Token,
+) -> Result<Line, ReadError>
     requires { IsPlain line }
-    ensures { Gives result (line_step line token.kind token.at) }
+    ensures { Gives result (line_step language line token.kind token.at) }
 {
     match line {
         Line::List { word, at, names } => list_step(word, at, names, token),
@@ -133,7 +149,7 @@ fn plain_line(alloc: Global, line: Line, token: Token) -> Result<Line, ReadError
             Ok(Line::Shape(at, modulus, pairs_step(pairs, token)?))
         }
         line => {
-            let next = bare_line(alloc, &line, token);
+            let next = bare_line(alloc, language, &line, token);
             drop(line);
             next
         }
@@ -141,12 +157,17 @@ fn plain_line(alloc: Global, line: Line, token: Token) -> Result<Line, ReadError
 }
 
 // The same for a line that takes over nothing of what has been read.
-fn bare_line(alloc: Global, line: &Line, token: Token) -> Result<Line, ReadError>
+fn bare_line(
+    alloc: Global,
+    language: Language,
+    line: &Line,
+    token: Token,
+) -> Result<Line, ReadError>
     requires { IsBare line.now }
-    ensures { Gives result (line_step line.now token.kind token.at) }
+    ensures { Gives result (line_step language line.now token.kind token.at) }
 {
     match line {
-        Line::Start => Ok(start_step(alloc, &token)?),
+        Line::Start => Ok(start_step(alloc, language, &token)?),
         Line::Projection(at) => Ok(projection_step(*at, token)?),
         Line::Order(at) => Ok(order_step(alloc, *at, &token)?),
         Line::Model(at) => Ok(Line::Shape(*at, number_in(&token)?, no_pairs(alloc))),

@@ -1,4 +1,4 @@
-//! Statements that only names make: `object`, `solve`, `map`, `pinv`, `inverse`, `inner`, `projection`.
+//! Statements that only names make: `object`, `solve`, `eliminate`, `map`, `pinv`, `inverse`, `inner`, `projection`.
 
 ghost use Rattle.std.specs.Prelude.{◌≡◌};
 ghost use Rattle.statement_syntax.specs.Steps.{Gives};
@@ -12,7 +12,7 @@ use crate::tree::{Name, Statement, StatementKind};
 use lists::Listing;
 use statement_tokens::{Spot, Token, TokenKind};
 
-/// One more name of `object` or `solve`.
+/// One more name of `object`, `solve` or `eliminate`.
 pub fn list_step(
     word: ListWord,
     at: Spot,
@@ -36,6 +36,7 @@ pub fn list_end(word: ListWord, names: Listing<Name>) -> Result<StatementKind, M
     match word {
         ListWord::Object => Ok(StatementKind::Objects(names)),
         ListWord::Solve => Ok(StatementKind::Solve(names)),
+        ListWord::Eliminate => Ok(StatementKind::Eliminate(names)),
     }
 }
 

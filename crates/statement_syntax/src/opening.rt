@@ -1,18 +1,18 @@
 //! The first word of a line.
 
 ghost use Rattle.std.specs.Prelude.{◌≡◌};
-ghost use Rattle.statement_syntax.specs.Lines.{opening_in, opened, start_step};
+ghost use Rattle.statement_syntax.specs.Lines.{common_opening, opening_in, opened, start_step};
 
 use crate::expression::Misfit;
 use crate::line::{Line, ListWord, MapRest, Opening, PairWord, SidesWord};
 use crate::sides::start_reading;
 use lists::Listing;
-use statement_tokens::{Spot, Token, TokenKind};
+use statement_tokens::{Language, Spot, Token, TokenKind};
 use std::alloc::Global;
 
-// The statement that a word begins, if it begins one.
-fn opening_in(word: &str) -> Option<Opening>
-    ensures { result ≡ opening_in word.now }
+// The statement that a word begins in every language, if it begins one.
+fn common_opening(word: &str) -> Option<Opening>
+    ensures { result ≡ common_opening word.now }
 {
     match word {
         "object" => Some(Opening::List(ListWord::Object)),
@@ -27,6 +27,16 @@ fn opening_in(word: &str) -> Option<Opening>
         "order" => Some(Opening::Order),
         "model" => Some(Opening::Model),
         _ => None,
+    }
+}
+
+// The statement that a word begins in the language, if it begins one.
+fn opening_in(language: Language, word: &str) -> Option<Opening>
+    ensures { result ≡ opening_in language word.now }
+{
+    match (language, word) {
+        (Language::Second, "eliminate") => Some(Opening::List(ListWord::Eliminate)),
+        (_, word) => common_opening(word),
     }
 }
 
@@ -62,11 +72,11 @@ fn opened(alloc: Global, opening: Opening, at: Spot) -> Line
 }
 
 /// The line that a word begins.
-pub fn start_step(alloc: Global, token: &Token) -> Result<Line, Misfit>
-    ensures { result ≡ start_step token.now.kind token.now.at }
+pub fn start_step(alloc: Global, language: Language, token: &Token) -> Result<Line, Misfit>
+    ensures { result ≡ start_step language token.now.kind token.now.at }
 {
     match &token.kind {
-        TokenKind::Name(text) => match opening_in(text.as_str()) {
+        TokenKind::Name(text) => match opening_in(language, text.as_str()) {
             Some(opening) => Ok(opened(alloc, opening, token.at)),
             None => Err(Misfit::Expected),
         },

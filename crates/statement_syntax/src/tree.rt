@@ -36,6 +36,8 @@ pub struct Statement {
 /// The statements of the language. Lists of names and weights have at least one item.
 #[derive(Drop)]
 pub enum StatementKind {
+    /// The first line of a file of the second language.
+    Language,
     Objects(Listing<Name>),
     Maps {
         names: Listing<Name>,
@@ -52,6 +54,8 @@ pub enum StatementKind {
     Degree,
     Weight(Listing<(Name, Number)>),
     Solve(Listing<Name>),
+    /// The maps that the order puts above all others, in a file of the second language.
+    Eliminate(Listing<Name>),
     Shape {
         modulus: Number,
         sides: Listing<(Name, Number)>,
@@ -97,5 +101,8 @@ pub enum Primary {
 /// What may stand behind a primary, any number of times.
 #[derive(Clone, Copy, Debug)]
 pub enum Mark {
+    /// `'`
     Adjoint,
+    /// `^` at this place, and the literal behind it.
+    Power { at: Spot, exponent: Number },
 }

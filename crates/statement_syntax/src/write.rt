@@ -14,7 +14,10 @@ use std::alloc::{AllocError, Global};
 fn opens(kind: &TokenKind) -> bool
     ensures { result ≡ opens kind.now }
 {
-    matches!(kind, TokenKind::Open | TokenKind::OpenSquare)
+    matches!(
+        kind,
+        TokenKind::Open | TokenKind::OpenSquare | TokenKind::Caret
+    )
 }
 
 fn closes(kind: &TokenKind) -> bool
@@ -22,7 +25,7 @@ fn closes(kind: &TokenKind) -> bool
 {
     matches!(
         kind,
-        TokenKind::Close | TokenKind::CloseSquare | TokenKind::Quote
+        TokenKind::Close | TokenKind::CloseSquare | TokenKind::Quote | TokenKind::Caret
     )
 }
 
@@ -45,6 +48,7 @@ fn put_text(kind: &TokenKind, text: &mut Vec<u8>) -> Result<(), AllocError>
         TokenKind::OpenSquare => text.extend_from_slice(b"["),
         TokenKind::CloseSquare => text.extend_from_slice(b"]"),
         TokenKind::Quote => text.extend_from_slice(b"'"),
+        TokenKind::Caret => text.extend_from_slice(b"^"),
         TokenKind::End => Ok(()),
     }
 }
@@ -71,8 +75,8 @@ fn put_line(kinds: &[TokenKind], text: &mut Vec<u8>) -> Result<(), AllocError>
     Ok(())
 }
 
-/// The text of a tree, a statement a line. One blank stands between two tokens, but none after `(` and `[`, and none
-/// before `)`, `]` and `'`.
+/// The text of a tree, a statement a line. One blank stands between two tokens, but none after `(`, `[` and
+/// `^`, and none before `)`, `]`, `'` and `^`.
 pub fn write_tree(alloc: Global, tree: &Tree) -> Result<Vec<u8>, AllocError>
     // One blank between two tokens, but where a bracket or a mark stands close.
     ensures exact { IfOk result (λ text. text.items ≡ tree_text tree.now.statements) }

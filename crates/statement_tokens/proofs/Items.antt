@@ -14,7 +14,11 @@ use Rattle.statement_tokens.specs.declared.scan.Item.TheVariants as item
 use Rattle.statement_tokens.specs.declared.scan.ItemError.{ItemError}
 use Rattle.statement_tokens.specs.declared.scan.ScanFault.{ScanFault}
 use Rattle.statement_tokens.specs.declared.scan.ScanFault.TheVariants.{BadToken, LiteralTooLarge}
-use Rattle.statement_tokens.specs.Token.{name_of, literal_of, sign_at, more_of, GivesItem}
+use Rattle.statement_tokens.specs.Token.{name_of, literal_of, caret_in, sign_at, more_of, GivesItem}
+use Rattle.statement_tokens.specs.Language.{language_of}
+use Rattle.statement_tokens.specs.declared.language.Language.{Language}
+use Rattle.statement_tokens.specs.declared.language.Language.TheVariants.{First, Second}
+use Rattle.statement_tokens.specs.declared.token.Token.{Token}
 
 -- ---- names
 
@@ -46,7 +50,12 @@ literal_short n value more short = chosen (λ i. more_of i ≤ n) (nat_lt value 
 one_sign : (n : ℕ) (b : Bool) (k : TokenKind) (other : Result Item ScanFault) → IfOk other (λ i. more_of i ≤ n) → IfOk (if b then Ok (item.Token k 0) else other) (λ i. more_of i ≤ n)
 one_sign n b k other short = chosen (λ i. more_of i ≤ n) b (Ok (item.Token k 0)) other (omega arith) short
 
-pub sign_short : (n c : ℕ) → IfOk (sign_at c) (λ i. more_of i ≤ n)
-sign_short n c =
+caret_short : (n : ℕ) (l : Language) → IfOk (caret_in l) (λ i. more_of i ≤ n)
+caret_short n First = tt
+caret_short n Second = omega arith
+
+pub sign_short : (n : ℕ) (before : List Token) (c : ℕ) → IfOk (sign_at before c) (λ i. more_of i ≤ n)
+sign_short n before c =
     one_sign n (c == 58) kind.Colon _ (one_sign n (c == 61) kind.Equals _ (one_sign n (c == 43) kind.Plus _ (one_sign n (c == 40) kind.Open _
-    (one_sign n (c == 41) kind.Close _ (one_sign n (c == 91) kind.OpenSquare _ (one_sign n (c == 93) kind.CloseSquare _ (one_sign n (c == 39) kind.Quote (Err BadToken) tt)))))))
+    (one_sign n (c == 41) kind.Close _ (one_sign n (c == 91) kind.OpenSquare _ (one_sign n (c == 93) kind.CloseSquare _ (one_sign n (c == 39) kind.Quote _
+    (chosen (λ i. more_of i ≤ n) (c == 94) (caret_in (language_of before)) (Err BadToken) (caret_short n (language_of before)) tt))))))))

@@ -4,9 +4,12 @@ use Rattle.std.specs.List.{take_while, prefix_len}
 use Rattle.std.specs.Str.{encode_utf8_all}
 use Rattle.unicode_ident.specs.Ident.{is_xid_start, is_xid_continue}
 use Rattle.statement_tokens.specs.Limits.{name_limit}
+use Rattle.statement_tokens.specs.Language.{language_of}
 use Rattle.statement_tokens.specs.declared.place.Spot.{Spot}
 use Rattle.statement_tokens.specs.declared.token.Token.{Token}
 use Rattle.statement_tokens.specs.declared.token.TokenKind.TheVariants as kind
+use Rattle.statement_tokens.specs.declared.language.Language.{Language}
+use Rattle.statement_tokens.specs.declared.language.Language.TheVariants.{First, Second}
 use Rattle.statement_tokens.specs.declared.scan.Class.{Class}
 use Rattle.statement_tokens.specs.declared.scan.Class.TheVariants as class
 use Rattle.statement_tokens.specs.declared.scan.Item.{Item}
@@ -52,8 +55,14 @@ name_of text more = if nat_le (length text) name_limit then Ok (item.Token (kind
 abbrev pub literal_of : ℕ → ℕ → Result Item ScanFault
 literal_of value more = if nat_lt value (2 ^ 127) then Ok (item.Token (kind.Literal (pos value)) more) else Err LiteralTooLarge
 
-abbrev pub sign_at : ℕ → Result Item ScanFault
-sign_at c =
+-- a caret is a token of the second language alone
+abbrev pub caret_in : Language → Result Item ScanFault
+caret_in First = Err BadToken
+caret_in Second = Ok (item.Token kind.Caret 0)
+
+-- a sign behind these tokens
+abbrev pub sign_at : List Token → ℕ → Result Item ScanFault
+sign_at before c =
     if c == 58 then Ok (item.Token kind.Colon 0)
     else (if c == 61 then Ok (item.Token kind.Equals 0)
     else (if c == 43 then Ok (item.Token kind.Plus 0)
@@ -62,17 +71,18 @@ sign_at c =
     else (if c == 91 then Ok (item.Token kind.OpenSquare 0)
     else (if c == 93 then Ok (item.Token kind.CloseSquare 0)
     else (if c == 39 then Ok (item.Token kind.Quote 0)
-    else Err BadToken)))))))
+    else (if c == 94 then caret_in (language_of before)
+    else Err BadToken))))))))
 
-unfoldable pub item_at : ℕ → List ℕ → Result Item ScanFault
-item_at c rest =
+unfoldable pub item_at : List Token → ℕ → List ℕ → Result Item ScanFault
+item_at before c rest =
     if c == 10 then Ok item.NewLine
     else (if (c == 32) || (c == 9) || ((c == 13) && begins_with 10 rest) then Ok (item.Gap 0)
     else (if c == 35 then Ok (item.Gap (prefix_len is_inside_line rest))
     else (if starts_name c then name_of (encode_utf8_all (c ∷ take_while is_xid_continue rest)) (prefix_len is_xid_continue rest)
     else (if is_digit c then literal_of (value_from 0 (c ∷ take_while is_digit rest)) (prefix_len is_digit rest)
     else (if c == 45 then (if begins_with 62 rest then Ok (item.Token kind.Arrow 1) else Ok (item.Token kind.Minus 0))
-    else sign_at c)))))
+    else sign_at before c)))))
 
 -- ---- all tokens
 
@@ -92,20 +102,21 @@ abbrev pub end_of : ℕ → ℕ → List Token
 end_of line zero = []
 end_of line (suc n) = record { at = record { line = line; column = suc n }; kind = kind.End } ∷ []
 
-abbrev pub placed : Result Item ScanFault → Spot → ℕ → (ℕ → Spot → ℕ → Result (List Token) Placed) → Result (List Token) Placed
-placed (Err e) at past next = Err (record { fault = e; at = at })
-placed (Ok item.NewLine) at past next = next 0 (below at) 0 >>= λ ts. Ok (end_of at.line past ++ ts)
-placed (Ok (item.Gap more)) at past next = next more (right_of at 1) past
-placed (Ok (item.Token k more)) at past next = next more (right_of at 1) (at.column + 1 + more) >>= λ ts. Ok (record { at = at; kind = k } ∷ ts)
+abbrev pub placed : List Token → Result Item ScanFault → Spot → ℕ → (List Token → ℕ → Spot → ℕ → Result (List Token) Placed) → Result (List Token) Placed
+placed before (Err e) at past next = Err (record { fault = e; at = at })
+placed before (Ok item.NewLine) at past next = next (before ++ end_of at.line past) 0 (below at) 0 >>= λ ts. Ok (end_of at.line past ++ ts)
+placed before (Ok (item.Gap more)) at past next = next before more (right_of at 1) past
+placed before (Ok (item.Token k more)) at past next =
+    next (before ++ record { at = at; kind = k } ∷ []) more (right_of at 1) (at.column + 1 + more) >>= λ ts. Ok (record { at = at; kind = k } ∷ ts)
 
--- so many characters belong to what began before; past is the column past the last token of the line, 0 where it has none
-unfoldable pub tokens_from : List ℕ → ℕ → Spot → ℕ → Result (List Token) Placed
-tokens_from [] skip at past = Ok (end_of at.line past)
-tokens_from (c ∷ cs) (suc skip) at past = tokens_from cs skip (right_of at 1) past
-tokens_from (c ∷ cs) zero at past = placed (item_at c cs) at past (λ skip to end. tokens_from cs skip to end)
+-- behind these tokens; so many characters belong to what began before; past is the column past the last token of the line, 0 where it has none
+unfoldable pub tokens_from : List Token → List ℕ → ℕ → Spot → ℕ → Result (List Token) Placed
+tokens_from before [] skip at past = Ok (end_of at.line past)
+tokens_from before (c ∷ cs) (suc skip) at past = tokens_from before cs skip (right_of at 1) past
+tokens_from before (c ∷ cs) zero at past = placed before (item_at before c cs) at past (λ front skip to end. tokens_from front cs skip to end)
 
 abbrev pub tokens_of : List ℕ → Result (List Token) Placed
-tokens_of characters = tokens_from characters 0 (record { line = 1; column = 1 }) 0
+tokens_of characters = tokens_from [] characters 0 (record { line = 1; column = 1 }) 0
 
 abbrev pub FailsAt : {Y : Type 0} → ScanError → Result Y Placed → Type 0
 FailsAt error.Memory read = Unit {0}

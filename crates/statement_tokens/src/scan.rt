@@ -3,12 +3,13 @@
 ghost use Rattle.std.specs.Prelude.{◌≡◌, ◌≤◌, ◌<◌, ◌+◌, ◌^◌, ◌++◌, ◌∷◌, length, IfOk, OnOk, SomeIff, pos};
 ghost use Rattle.std.specs.List.{prefix_len, take_while};
 ghost use Rattle.std.specs.Str.{chars, encode_utf8_all};
-ghost use Rattle.statement_tokens.specs.Token.{item_at, sign_at, GivesItem, ScansTo, tokens_of, more_of, value_from, name_of, literal_of, begins_with, is_digit, starts_name, end_of};
+ghost use Rattle.statement_tokens.specs.Token.{item_at, sign_at, caret_in, GivesItem, ScansTo, tokens_of, more_of, value_from, name_of, literal_of, begins_with, is_digit, starts_name, end_of};
 ghost use Rattle.unicode_ident.specs.Ident.{is_xid_continue};
 ghost use Rattle.statement_tokens.specs.Token.{is_in};
 ghost use Rattle.statement_tokens.specs.declared.scan.ItemError.TheVariants as item_error;
 ghost use Rattle.statement_tokens.specs.declared.scan.ScanError.TheVariants as scan_error;
 
+use crate::language::{Language, language_of};
 use crate::place::Spot;
 use crate::token::{Token, TokenKind};
 use lists::Text;
@@ -129,8 +130,9 @@ fn spelled(alloc: Global, first: char, more: &[char]) -> Result<Text, AllocError
     Ok(out)
 }
 
-fn sign_at(ch: char) -> Result<Item, ScanFault>
-    ensures { result ≡ sign_at ch }
+// A caret is a sign in the second language alone, which the tokens before it tell.
+fn sign_at(before: &[Token], ch: char) -> Result<Item, ScanFault>
+    ensures { result ≡ sign_at before.now ch }
 {
     let kind = match ch {
         ':' => TokenKind::Colon,
@@ -141,9 +143,19 @@ fn sign_at(ch: char) -> Result<Item, ScanFault>
         '[' => TokenKind::OpenSquare,
         ']' => TokenKind::CloseSquare,
         '\'' => TokenKind::Quote,
+        '^' => return caret_in(language_of(before)),
         _ => return Err(ScanFault::BadToken),
     };
     Ok(Item::Token(kind, 0))
+}
+
+fn caret_in(language: Language) -> Result<Item, ScanFault>
+    ensures { result ≡ caret_in language }
+{
+    match language {
+        Language::First => Err(ScanFault::BadToken),
+        Language::Second => Ok(Item::Token(TokenKind::Caret, 0)),
+    }
 }
 
 // The greatest value of a literal.
@@ -202,8 +214,8 @@ fn begins_with(ch: char, text: &[char]) -> bool
 }
 
 #[tactic(auto, unfolding(crate::specs::Token::item_at))]
-fn item_at(alloc: Global, first: char, rest: &[char]) -> Result<Item, ItemError>
-    ensures exact { GivesItem result (item_at first rest.now) }
+fn item_at(alloc: Global, before: &[Token], first: char, rest: &[char]) -> Result<Item, ItemError>
+    ensures exact { GivesItem result (item_at before.now first rest.now) }
     ensures within { IfOk result (λ item. more_of item ≤ length rest.now) }
 {
     if first == '\n' {
@@ -223,7 +235,7 @@ fn item_at(alloc: Global, first: char, rest: &[char]) -> Result<Item, ItemError>
             Ok(Item::Token(TokenKind::Minus, 0))
         }
     } else {
-        Ok(sign_at(first)?)
+        Ok(sign_at(before, first)?)
     }
 }
 
@@ -252,7 +264,7 @@ pub fn tokens(alloc: Global, text: &[char]) -> Result<Vec<Token>, ScanError>
     let mut past = 0;
     while place < text.len() {
         let at = Spot { line, column };
-        let item = match item_at(alloc, text[place], &text[place + 1..]) {
+        let item = match item_at(alloc, &out, text[place], &text[place + 1..]) {
             Ok(item) => item,
             Err(ItemError::Memory) => return Err(ScanError::Memory),
             Err(ItemError::Fault(fault)) => return Err(ScanError::Fault(Placed { fault, at })),

@@ -30,6 +30,8 @@ pub enum TokenKind {
     CloseSquare,
     /// `'`
     Quote,
+    /// `^`, in the second language alone
+    Caret,
     /// The end of a line that has a token.
     End,
 }

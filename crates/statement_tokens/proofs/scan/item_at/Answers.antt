@@ -25,4 +25,4 @@ returns-in_ok-literal_at-clause-within c =
 
 pub returns-in_ok-sign_at-clause-within : goal.returns-in_ok-sign_at-clause-within
 returns-in_ok-sign_at-clause-within c =
-    IfOk-at_ok (λ i. more_of i ≤ length c.args.rest.now) (sym c.sign_at.ensures ∙ c.in_ok-sign_at.was) (sign_short (length c.args.rest.now) c.args.first)
+    IfOk-at_ok (λ i. more_of i ≤ length c.args.rest.now) (sym c.sign_at.ensures ∙ c.in_ok-sign_at.was) (sign_short (length c.args.rest.now) c.args.before.now c.args.first)

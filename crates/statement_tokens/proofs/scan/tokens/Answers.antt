@@ -6,16 +6,17 @@ use Rattle.statement_tokens.proofs.scan.tokens.Goals as goal
 pub returns-in-Err-Fault : goal.returns-in-Err-Fault
 returns-in-Err-Fault c =
     let split = rest_is c.args.text.now c.loop-place.place c.index-text-place.result c.loop-place-test.true c.index-text-place.is in
-    let fails = subst (λ e. FailsItem e (item_at c.index-text-place.result (left c.args.text.now c.loop-place.place))) c.in-Err-Fault.field-0-is c.in-Err-Fault.ensures.exact in
+    let fails = subst (λ e. FailsItem e (item_at c.deref.result.now c.index-text-place.result (left c.args.text.now c.loop-place.place))) c.in-Err-Fault.field-0-is c.in-Err-Fault.ensures.exact in
     rw c.in-Err-Fault.fault-is (sym c.loop-place.invariant.same
-    ∙ turn_fault c.args.text.now c.loop-place.place c.index-text-place.result (left c.args.text.now c.loop-place.place) c.loop-place.line c.loop-place.column c.loop-place.past c.loop-place.out.items split c.in-Err-Fault.fault fails)
+    ∙ turn_fault c.args.text.now c.loop-place.place c.index-text-place.result (left c.args.text.now c.loop-place.place) c.loop-place.line c.loop-place.column c.loop-place.past c.loop-place.out.items split c.in-Err-Fault.fault
+    (sym (ap (λ front. item_at front c.index-text-place.result (left c.args.text.now c.loop-place.place)) c.deref.ensures.value) ∙ fails))
 
 pub loop-place-preserved-in-NewLine : goal.loop-place-preserved-in-NewLine
 loop-place-preserved-in-NewLine c =
     let split = rest_is c.args.text.now c.loop-place.place c.index-text-place.result c.loop-place-test.true c.index-text-place.is in
     let put : c.put_end.new.out.items ≡ c.loop-place.out.items ++ end_of c.loop-place.line c.loop-place.past = search rules in
     let turn = turn_new_line c.args.text.now c.loop-place.place c.index-text-place.result (left c.args.text.now c.loop-place.place) c.loop-place.line c.loop-place.column c.loop-place.past c.loop-place.out.items split
-    (c.in-Ok.ensures.exact ∙ ap (λ x. Ok x) c.in-NewLine.is) in
+    (sym (ap (λ front. item_at front c.index-text-place.result (left c.args.text.now c.loop-place.place)) c.deref.ensures.value) ∙ c.in-Ok.ensures.exact ∙ ap (λ x. Ok x) c.in-NewLine.is) in
     record {
       within = omega (arith, c.loop-place-test.true);
       line = omega (arith, c.loop-place.invariant.line);
@@ -28,7 +29,7 @@ loop-place-preserved-in-Gap c =
     let split = rest_is c.args.text.now c.loop-place.place c.index-text-place.result c.loop-place-test.true c.index-text-place.is in
     let short = subst (λ x. more_of x ≤ length (left c.args.text.now c.loop-place.place)) c.in-Gap.is c.in-Ok.ensures.within in
     let turn = turn_gap c.args.text.now c.loop-place.place c.index-text-place.result (left c.args.text.now c.loop-place.place) c.loop-place.line c.loop-place.column c.loop-place.past c.loop-place.out.items split
-    c.in-Gap.more short (c.in-Ok.ensures.exact ∙ ap (λ x. Ok x) c.in-Gap.is) in
+    c.in-Gap.more short (sym (ap (λ front. item_at front c.index-text-place.result (left c.args.text.now c.loop-place.place)) c.deref.ensures.value) ∙ c.in-Ok.ensures.exact ∙ ap (λ x. Ok x) c.in-Gap.is) in
     record {
       within = omega (arith, c.loop-place-test.true, short, left-length c.args.text.now c.loop-place.place);
       line = omega (arith, c.loop-place.invariant.line);
@@ -42,7 +43,7 @@ loop-place-preserved c =
     let short = subst (λ x. more_of x ≤ length (left c.args.text.now c.loop-place.place)) c.in-Token.is c.in-Ok.ensures.within in
     let put : c.push.new.self.items ≡ c.loop-place.out.items ++ record { at = spot c.loop-place.line c.loop-place.column; kind = c.in-Token.kind } ∷ [] = search rules in
     let turn = turn_token c.args.text.now c.loop-place.place c.index-text-place.result (left c.args.text.now c.loop-place.place) c.loop-place.line c.loop-place.column c.loop-place.past c.loop-place.out.items split
-    c.in-Token.kind c.in-Token.more short (c.in-Ok.ensures.exact ∙ ap (λ x. Ok x) c.in-Token.is) in
+    c.in-Token.kind c.in-Token.more short (sym (ap (λ front. item_at front c.index-text-place.result (left c.args.text.now c.loop-place.place)) c.deref.ensures.value) ∙ c.in-Ok.ensures.exact ∙ ap (λ x. Ok x) c.in-Token.is) in
     record {
       within = omega (arith, c.loop-place-test.true, short, left-length c.args.text.now c.loop-place.place);
       line = omega (arith, c.loop-place.invariant.line);

@@ -7,7 +7,7 @@ invariant-loop-place l = record {
   within : l.place ≤ length l.text;
   line : l.line ≤ l.place + 1;
   column : l.column ≤ l.place + 1;
-  same : with_front l.out.items (tokens_from (drop l.place l.text) 0 (record { line = l.line; column = l.column }) l.past) ≡ tokens_of l.text;
+  same : with_front l.out.items (tokens_from l.out.items (drop l.place l.text) 0 (record { line = l.line; column = l.column }) l.past) ≡ tokens_of l.text;
 }
 
 abbrev pub decreases-loop-place : goal.decreases-loop-place
