@@ -1,5 +1,6 @@
 -- The polynomial of an expression, or the first fault of its arithmetic.
-use Rattle.std.specs.Prelude.{ℕ, pos, Bool, true, false, List, [], ◌∷◌, Option, Some, None, Result, Ok}
+use Rattle.std.specs.Prelude.{ℕ, zero, suc, ℤ, pos, negsuc, Bool, true, false, List, [], ◌∷◌, Option, Some, None, Result, Ok}
+use Rattle.std.specs.List.{replicate}
 use Rattle.definitions.specs.Poly.{Poly}
 use Rattle.definitions.specs.Quiver.{Quiver}
 use Rattle.definitions.specs.Generators.{adjoint_poly}
@@ -10,7 +11,7 @@ use Rattle.nc_polynomial.specs.Collected.{collection_result}
 use Rattle.nc_polynomial.specs.Product.{product_result}
 use Rattle.quiver.specs.Declarations.{Declaration, quiver_of, identity_in}
 use Rattle.statement_syntax.specs.declared.tree.Mark.{Mark}
-use Rattle.statement_syntax.specs.declared.tree.Mark.TheVariants.{Adjoint}
+use Rattle.statement_syntax.specs.declared.tree.Mark.TheVariants.{Adjoint, Power}
 use Rattle.statement_syntax.specs.declared.tree.Number.{Number}
 use Rattle.statement_syntax.specs.declared.tree.Primary.{Primary, Letter, Identity, Bracket}
 use Rattle.statement_syntax.specs.declared.tree.Factor.{Factor}
@@ -22,14 +23,6 @@ use Rattle.expressions.specs.Names.{letter_of, object_of}
 abbrev pub letter_poly : ℕ → Poly
 letter_poly a = (pos 1, a ∷ []) ∷ []
 
--- a mark reverses the words and takes the adjoints of their letters
-abbrev pub adjoint_by : Quiver → Mark → Poly → Result Poly PolyFault
-adjoint_by q Adjoint p = collection_result (adjoint_poly q p)
-
-abbrev pub marked_poly : Quiver → List Mark → Poly → Result Poly PolyFault
-marked_poly q [] p = Ok p
-marked_poly q (m ∷ marks) p = adjoint_by q m p >>= marked_poly q marks
-
 -- factors from the left, after this part
 abbrev pub product_from : Poly → List Poly → Result Poly PolyFault
 product_from so_far [] = Ok so_far
@@ -39,6 +32,22 @@ product_from so_far (p ∷ polys) = product_result so_far p >>= λ next. product
 abbrev pub product_poly : List Poly → Result Poly PolyFault
 product_poly [] = Ok []
 product_poly (p ∷ polys) = product_from p polys
+
+-- so many times the polynomial; an exponent below 1, which no statement has, leaves it as it is
+abbrev pub power_poly : ℤ → Poly → Result Poly PolyFault
+power_poly (pos (suc n)) p = product_poly (replicate (suc n) p)
+power_poly (pos zero) p = Ok p
+power_poly (negsuc n) p = Ok p
+
+-- a quote reverses the words and takes the adjoints of their letters, a caret repeats what stands before it
+abbrev pub mark_poly : Quiver → Mark → Poly → Result Poly PolyFault
+mark_poly q Adjoint p = collection_result (adjoint_poly q p)
+mark_poly q (Power at exponent) p = power_poly exponent.value p
+
+-- the marks from the left
+abbrev pub marked_poly : Quiver → List Mark → Poly → Result Poly PolyFault
+marked_poly q [] p = Ok p
+marked_poly q (m ∷ marks) p = mark_poly q m p >>= marked_poly q marks
 
 abbrev pub scaled_by : Option Number → Poly → Result Poly PolyFault
 scaled_by None p = Ok p

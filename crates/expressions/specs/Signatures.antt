@@ -1,12 +1,12 @@
 -- The signature of an expression, or its first fault. An expression that is open has no signature of its own.
-use Rattle.std.specs.Prelude.{ℕ, ◌<◌, IfSome, ◌&&◌, nat_eq, Bool, List, [], ◌∷◌, Option, Some, None, Result, Ok, Err, if◌then◌else◌}
+use Rattle.std.specs.Prelude.{ℕ, suc, ℤ, pos, ◌<◌, IfSome, ◌&&◌, nat_eq, Bool, true, false, List, [], ◌∷◌, Option, Some, None, Result, Ok, Err, if◌then◌else◌}
 use Rattle.std.specs.Option.{option_map}
 use Rattle.definitions.specs.Quiver.{Quiver, source, target}
 use Rattle.quiver.specs.declared.named.Sig.{Sig}
 use Rattle.quiver.specs.Declarations.{Declaration, quiver_of}
 use Rattle.statement_tokens.specs.declared.place.Spot.{Spot}
 use Rattle.statement_syntax.specs.declared.tree.Mark.{Mark}
-use Rattle.statement_syntax.specs.declared.tree.Mark.TheVariants.{Adjoint}
+use Rattle.statement_syntax.specs.declared.tree.Mark.TheVariants.{Adjoint, Power}
 use Rattle.statement_syntax.specs.declared.tree.Primary.{Primary, Letter, Identity, Bracket}
 use Rattle.statement_syntax.specs.declared.tree.Factor.{Factor}
 use Rattle.statement_syntax.specs.declared.tree.Term.{Term, Term', Row_of-Factor, end_of-Factor, more_of-Factor}
@@ -30,13 +30,25 @@ same_ends s t = nat_eq s.source.0 t.source.0 && nat_eq s.target.0 t.target.0
 abbrev pub turned : Sig → Sig
 turned s = record { source = s.target; target = s.source }
 
--- a mark exchanges the ends
-abbrev pub turned_by : Mark → Option Sig → Option Sig
-turned_by Adjoint s = option_map turned s
+-- whether an exponent repeats its base
+abbrev pub is_repeated : ℤ → Bool
+is_repeated (pos (suc (suc n))) = true
+is_repeated exponent = false
 
-abbrev pub marked_signature : List Mark → Option Sig → Option Sig
-marked_signature [] s = s
-marked_signature (m ∷ marks) s = marked_signature marks (turned_by m s)
+-- what is repeated leads from an object to itself; the primary and the caret are at these places
+abbrev pub repeated : Spot → Spot → Option Sig → Result (Option Sig) SignatureFault
+repeated first caret None = Err (OpenZero first)
+repeated first caret (Some s) = if nat_eq s.source.0 s.target.0 then Ok (Some s) else Err (NotComposable caret s s)
+
+-- a quote exchanges the ends, a caret leaves them
+abbrev pub mark_signature : Spot → Mark → Option Sig → Result (Option Sig) SignatureFault
+mark_signature first Adjoint s = Ok (option_map turned s)
+mark_signature first (Power caret exponent) s = if is_repeated exponent.value then repeated first caret s else Ok s
+
+-- the marks from the left, behind the primary at this place
+abbrev pub marked_signature : Spot → List Mark → Option Sig → Result (Option Sig) SignatureFault
+marked_signature first [] s = Ok s
+marked_signature first (m ∷ marks) s = mark_signature first m s >>= marked_signature first marks
 
 -- its ends are among the first n objects, unless it is open
 abbrev pub HasObjects : ℕ → Option Sig → Type 0
@@ -107,7 +119,7 @@ abbrev mutual
   pub factors_parts : {m : _} → List Declaration → Row_of-Factor m → Result (List Part) SignatureFault
   factors_parts ds end_of-Factor = Ok []
   factors_parts ds (more_of-Factor at primary marks rest) = do
-    part ← primary_signature ds primary >>= λ s. Ok (at, marked_signature marks s)
+    part ← (primary_signature ds primary >>= marked_signature at marks) >>= λ s. Ok (at, s)
     parts ← factors_parts ds rest
     Ok (part ∷ parts)
 
@@ -117,7 +129,7 @@ abbrev mutual
   primary_signature ds (Bracket s) = sum_signature ds s
 
 abbrev pub factor_signature : List Declaration → Factor → Result (Option Sig) SignatureFault
-factor_signature ds f = primary_signature ds f.primary >>= λ s. Ok (marked_signature f.marks s)
+factor_signature ds f = primary_signature ds f.primary >>= marked_signature f.at f.marks
 
 -- the sides of an equation: an open side takes the signature of the other
 abbrev pub sides_signature : Spot → Spot → Option Sig → Option Sig → Result Sig SignatureFault

@@ -120,7 +120,7 @@ fn factor_signature(quiver: &Quiver, factor: &Factor) -> Result<Option<Sig>, Sig
     ensures in_range { IfOk result (HasObjects (object_count quiver.now)) }
 {
     let signature = primary_signature(quiver, &factor.primary)?;
-    Ok(marked_signature(signature, factor.marks.as_slice()))
+    marked_signature(factor.at, factor.marks.as_slice(), signature)
 }
 
 #[cycle(signatures)]
@@ -145,25 +145,60 @@ fn primary_signature(quiver: &Quiver, primary: &Primary) -> Result<Option<Sig>, 
     }
 }
 
-fn marked_signature(signature: Option<Sig>, marks: &[Mark]) -> Option<Sig>
-    ensures { result ≡ marked_signature marks.now signature }
+// The signature with these marks behind the primary at this place.
+fn marked_signature(
+    first: Spot,
+    marks: &[Mark],
+    signature: Option<Sig>,
+) -> Result<Option<Sig>, SignatureFault>
+    ensures { result ≡ marked_signature first marks.now signature }
 {
     let mut marked = signature;
     for mark in marks {
-        marked = turned_by(mark, marked);
+        marked = mark_signature(first, mark, marked)?;
     }
-    marked
+    Ok(marked)
 }
 
-// A mark exchanges the ends.
-fn turned_by(mark: &Mark, signature: Option<Sig>) -> Option<Sig>
-    ensures { result ≡ turned_by mark.now signature }
+// A quote exchanges the ends, a caret leaves them.
+fn mark_signature(
+    first: Spot,
+    mark: &Mark,
+    signature: Option<Sig>,
+) -> Result<Option<Sig>, SignatureFault>
+    ensures { result ≡ mark_signature first mark.now signature }
 {
-    match (mark, signature) {
-        (Mark::Adjoint, None) => None,
-        (Mark::Adjoint, Some(s)) => Some(Sig {
-            source: s.target,
-            target: s.source,
+    match mark {
+        Mark::Adjoint => Ok(signature.map(turned)),
+        Mark::Power { at, exponent } if exponent.value >= 2 => repeated(first, *at, signature),
+        Mark::Power { .. } => Ok(signature),
+    }
+}
+
+fn turned(signature: Sig) -> Sig
+    ensures { result ≡ turned signature }
+{
+    Sig {
+        source: signature.target,
+        target: signature.source,
+    }
+}
+
+// What is repeated leads from an object to itself.
+fn repeated(
+    first: Spot,
+    caret: Spot,
+    signature: Option<Sig>,
+) -> Result<Option<Sig>, SignatureFault>
+    ensures { result ≡ repeated first caret signature }
+{
+    match signature {
+        None => Err(SignatureFault::OpenZero { at: first }),
+        Some(s) if s.source == s.target => Ok(signature),
+        Some(s) => Err(SignatureFault::NotComposable {
+            at: caret,
+            left: s,
+            right: s,
         }),
     }
 }
