@@ -1,6 +1,5 @@
 use Rattle.std.proofs.Common.{◌≡◌, ◌++◌, length}
 use Rattle.std.specs.Vec.Iter.{into_iter_items, into_iter_len}
-use Rattle.statement_tokens.specs.Language.{language_of}
 use Rattle.statement_syntax.specs.Stages.{left}
 use Rattle.statement_syntax.proofs.Stopping.{Runs}
 use Rattle.statement_syntax.proofs.read.statements.Given as goal
@@ -10,5 +9,4 @@ invariant-loop-token l = record {
   splits : l.yielded ++ into_iter_items l.token-iterator ≡ left l.fn.tokens.items;
   left : into_iter_len l.token-iterator ≡ length (into_iter_items l.token-iterator);
   ran : Runs l.fn.tokens.items l.yielded l.progress;
-  language : l.language ≡ language_of l.fn.tokens.items;
 }
