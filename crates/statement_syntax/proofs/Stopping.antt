@@ -1,5 +1,5 @@
 -- The loop over the tokens of a file, and what its end says of the bytes.
-use Rattle.std.proofs.Common.{◌≡◌, ℕ, List, [], ◌∷◌, ◌++◌, inl, inr, Ok, Err, refl, sym, ap, subst, ◌∙◌, append_assoc}
+use Rattle.std.proofs.Common.{◌≡◌, ℕ, List, [], ◌∷◌, ◌++◌, inl, inr, Result, Ok, Err, refl, sym, ap, subst, ◌∙◌, append_assoc}
 use Rattle.std.proofs.lemmas.List.{append-nil, map-append}
 use Rattle.std.specs.Str.{IsUtf8, chars}
 use Rattle.std.specs.Str.Lossy.{utf8_valid_len}
@@ -13,7 +13,9 @@ use Rattle.statement_syntax.specs.declared.expression.Misfit.TheVariants.{Expect
 use Rattle.statement_syntax.specs.declared.line.Line.{Line}
 use Rattle.statement_syntax.specs.declared.line.Line.TheVariants as line
 use Rattle.statement_syntax.specs.declared.read.Progress.{Progress}
+use Rattle.statement_syntax.specs.declared.fault.Fault.{Fault}
 use Rattle.statement_syntax.specs.declared.fault.Fault.TheVariants as fault
+use Rattle.statement_tokens.specs.declared.scan.Placed.{Placed}
 use Rattle.statement_syntax.specs.declared.fault.SyntaxFault.{SyntaxFault}
 use Rattle.statement_syntax.specs.declared.fault.SyntaxFault.TheVariants as refusal
 use Rattle.statement_syntax.specs.declared.expression.ReadError.{ReadError}
@@ -24,7 +26,7 @@ use Rattle.statement_tokens.specs.Token.{tokens_of}
 use Rattle.statement_syntax.specs.Grammar.{sign_token, StatedLine, AreLinesOf, IsFileOf, file_tokens, FileFits}
 use Rattle.statement_syntax.specs.Tree.{stated_tree, file_tree}
 use Rattle.statement_syntax.specs.Lines.{line_end, ended, file_step}
-use Rattle.statement_syntax.specs.Fault.{IsStatements, IsTreeOf, GoesOn, GoesOnWithin, IsMisfit, TellsFirstFault, IsWantOfMemory, fault_at, misfit_fault}
+use Rattle.statement_syntax.specs.Fault.{IsStatements, IsTreeOf, GoesOn, GoesOnWithin, IsMisfit, IsFirstFault, TellsFirstFault, IsWantOfMemory, fault_at, misfit_fault}
 use Rattle.statement_syntax.specs.Stages.{first_statements, begun, left, StoppedAt, AllRead, Refused, IsRefusal}
 use Rattle.statement_syntax.proofs.Run.{bind_ok, ok_is, run_front, one_step, upto_ok}
 use Rattle.statement_syntax.proofs.LastToken.{EndsWell, ends_from, rest_ends, tokens_is}
@@ -232,3 +234,25 @@ is_first bytes ts (refusal.Fault code l c) utf8 read loop =
 
 pub told_not_utf8 : (bytes : List ℕ) (told : SyntaxFault) (column : ℕ) → told ≡ fault_at fault.NotUtf8 (record { line = 0; column = column }) → (IsUtf8 bytes → ⊥) → column ≡ utf8_valid_len bytes → TellsFirstFault bytes told
 told_not_utf8 bytes told column is invalid at = subst (TellsFirstFault bytes) (sym is) (fault.NotUtf8, refl, (invalid, ap (λ n. record { line = 0; column = n }) at))
+
+-- ---- statements have no fault
+
+no_misfit : (bytes : List ℕ) (lines : List StatedLine) (at : Spot) → IsMisfit bytes at → IsStatements bytes lines → ⊥
+no_misfit bytes lines at m is =
+    let all : m.front ++ m.token ∷ m.rest ≡ file_tokens lines = tokens_is _ _ (sym m.tokens ∙ is.tokens) in
+    let language : language_of (m.front ++ m.token ∷ m.rest) ≡ is.language = ap language_of all ∙ file_language is.language lines is.speaks in
+    m.there (m.rest, lines, subst (λ l. IsFileOf l lines) (sym language) is.speaks, is.fits, append_assoc m.front (m.token ∷ []) m.rest ∙ all)
+
+no_tokens : {ts : List Token} (p : Placed) → (let r : Result (List Token) Placed = Ok ts in r) ≡ Err p → ⊥
+no_tokens p is = absurd cc
+
+no_first : (bytes : List ℕ) (lines : List StatedLine) (f : Fault) (at : Spot) → IsFirstFault bytes f at → IsStatements bytes lines → ⊥
+no_first bytes lines fault.NotUtf8 at first is = first.0 is.utf8
+no_first bytes lines fault.BadToken at first is = no_tokens _ (sym is.tokens ∙ first.1)
+no_first bytes lines fault.LiteralTooLarge at first is = no_tokens _ (sym is.tokens ∙ first.1)
+no_first bytes lines fault.Expected at first is = no_misfit bytes lines at first.0 is
+no_first bytes lines fault.TooDeep at first is = no_misfit bytes lines at first.0 is
+
+pub want_alone : (bytes : List ℕ) (lines : List StatedLine) (refused : SyntaxFault) → TellsFirstFault bytes refused → IsStatements bytes lines → IsWantOfMemory refused
+want_alone bytes lines (refusal.Memory e) tells is = tt
+want_alone bytes lines (refusal.Fault code l c) tells is = no_first bytes lines tells.0 (record { line = l; column = c }) tells.2 is
