@@ -145,7 +145,6 @@ mutual
         same = ap (λ x. marked x somewhere) m.same;
         fits = m.fits;
       }
-
   marked_moved (raised f at n) ts alike =
       let parts = parts_of ts (marked_tokens (bare_marked f)) (sign_token kind.Caret somewhere ∷ number_token (bare_number n) ∷ []) alike in
       let m = marked_moved f parts.left parts.left_are in

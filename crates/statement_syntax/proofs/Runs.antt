@@ -152,7 +152,6 @@ mutual
       before_it (ap (run step (at_outside levels head part)) (append_assoc (marked_tokens f) (sign_token kind.Quote at ∷ []) rest))
       (after_it (marked_run levels head part f d (sign_token kind.Quote at ∷ rest) room)
       (one_step step (at_outside levels head (add_marked part f)) (at_outside levels head (add_marked part (marked f at))) (sign_token kind.Quote at) rest (quote_step levels head part f at)))
-
   marked_run levels head part (raised f at n) d rest room =
       before_it (ap (run step (at_outside levels head part)) (append_assoc (marked_tokens f) (sign_token kind.Caret at ∷ number_token n ∷ []) rest))
       (after_it (marked_run levels head part f d (sign_token kind.Caret at ∷ number_token n ∷ rest) room) (power_run levels head part f at n rest))

@@ -151,7 +151,7 @@ is_only bytes ts statements read loop lines is =
     let before = first_statements language ts in
     let parts = lines_are bytes ts lines read is in
     let same = upto_ok _ (in_file (before ++ file_tree parts.others) line.Start) loop.0 (lines_run language before parts.others parts.speak)
-        (ap (run (file_step language) (begun ts)) (sym parts.are) ∙ loop.1) in
+    (ap (run (file_step language) (begun ts)) (sym parts.are) ∙ loop.1) in
     loop.2 ∙ ap (λ (p : Progress). p.statements) (sym same.1) ∙ ap (λ x. x ++ file_tree parts.others) (own ts).trees ∙ sym parts.trees
 
 stopped_misfit : (bytes : List ℕ) (ts : List Token) (lines : List StatedLine) (refused : SyntaxFault) → tokens_of (chars bytes) ≡ Ok ts → StoppedAt ts refused → IsStatements bytes lines → ⊥
@@ -190,7 +190,7 @@ module _ (ts : List Token) (refused : SyntaxFault) (loop : StoppedAt ts refused)
   stuck : (more : List Token) (lines : List StatedLine) → IsFileOf (language_of ts) lines → (front ++ loop.token ∷ []) ++ more ≡ file_tokens lines → (FileFits lines → ⊥) × (loop.misfit ≡ TooDeep)
   stuck more lines speaks is =
       let parts = (own ts).parts lines speaks (loop.front ++ loop.token ∷ more)
-          (sym (append_assoc (file_tokens (own ts).lines) loop.front (loop.token ∷ more)) ∙ sym (append_assoc front (loop.token ∷ []) more) ∙ is) in
+      (sym (append_assoc (file_tokens (own ts).lines) loop.front (loop.token ∷ more)) ∙ sym (append_assoc front (loop.token ∷ []) more) ∙ is) in
       let misfit = file_misfit (language_of ts) before loop.front loop.progress loop.token loop.misfit loop.ran loop.stops more parts.others parts.speak parts.are in
       (λ fits. misfit.0 (parts.fits fits), misfit.1)
 

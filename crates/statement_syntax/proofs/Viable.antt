@@ -64,7 +64,6 @@ ends levels head part (named left n) =
     let p = identity left n somewhere in
     let wide = add_whole part p in
     run_on _ (at_outside levels head (add part p)) (sign_token kind.CloseSquare somewhere) refl (closes levels head (add part p) wide.0 wide.1)
-
 ends levels head part (behind_caret l fs caret) =
     let raised = with_power fs caret some_exponent in
     run_on _ (at_outside levels head (product l raised)) (number_token some_exponent) refl (closes levels head (product l raised) (factors l raised) refl)

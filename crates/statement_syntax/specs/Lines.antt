@@ -253,9 +253,6 @@ line_end (line.Whole s) = Ok s
 
 -- ---- a whole file: the statements of its lines, and the line that is read
 
-abbrev pub beginning : Progress
-beginning = record { statements = []; line = line.Start }
-
 abbrev pub ended : Progress → Result Progress Misfit
 ended p = line_end p.line >>= λ s. Ok (record { statements = p.statements ++ s ∷ []; line = line.Start })
 

@@ -37,12 +37,12 @@ first_statements First ts = []
 first_statements Second [] = []
 first_statements Second (word ∷ ts) = record { at = word.at; kind = statement.Language } ∷ []
 
--- the tokens of the lines behind it
+-- the tokens behind that line
 abbrev pub behind_first : Language → List Token → List Token
 behind_first First ts = ts
 behind_first Second ts = drop 3 ts
 
--- all tokens of a file begin so
+-- what has been read of a file before the loop, and the tokens that the loop reads
 abbrev pub begun : List Token → Progress
 begun ts = record { statements = first_statements (language_of ts) ts; line = line.Start }
 

@@ -5,7 +5,7 @@ ghost use Rattle.statement_syntax.specs.Grammar.{StatedLine};
 ghost use Rattle.statement_syntax.specs.Tree.{file_tree};
 ghost use Rattle.statement_syntax.specs.Fault.{IsStatements, IsTreeOf, TellsFirstFault, IsWantOfMemory};
 ghost use Rattle.statement_syntax.specs.Steps.{Turns};
-ghost use Rattle.statement_syntax.specs.Lines.{beginning, ended, file_step};
+ghost use Rattle.statement_syntax.specs.Lines.{ended, file_step};
 ghost use Rattle.statement_syntax.specs.Stages.{TokensRead, LinesRead, IsRefusal, first_statements, behind_first};
 ghost use Rattle.std.specs.Vec.Iter.{into_iter_items, into_iter_len};
 
@@ -14,7 +14,9 @@ use crate::fault::{Fault, SyntaxFault, fault_at, misfit_fault, scan_fault};
 use crate::line::{Line, line_end, line_step};
 use crate::tree::{Statement, StatementKind, Tree};
 use lists::Listing;
-use statement_tokens::{Language, ScanError, Spot, Token, TokenKind, characters, language_of, tokens};
+use statement_tokens::{
+    Language, ScanError, Spot, Token, TokenKind, characters, language_of, tokens,
+};
 use std::alloc::{AllocError, Global};
 use std::mem;
 use std::vec::IntoIter;

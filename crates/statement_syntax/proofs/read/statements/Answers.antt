@@ -1,10 +1,10 @@
 use Rattle.std.proofs.Common.{◌≡◌, ◌++◌, ◌∷◌, [], List, length, sym, ap, ap₂, subst, ◌∙◌, refl, rules, arith, append_assoc, append-nil, Ok}
 use Rattle.std.specs.Vec.Iter.{into_iter_items, into_iter_len}
 use Rattle.statement_tokens.specs.Language.{language_of}
-use Rattle.statement_syntax.specs.Steps.{run, Fails, Turns}
+use Rattle.statement_syntax.specs.Steps.{run, Fails}
 use Rattle.statement_syntax.specs.Lines.{file_step}
-use Rattle.statement_syntax.specs.Stages.{first_statements, behind_first, begun, left}
-use Rattle.statement_syntax.proofs.Stopping.{Runs, goes_on, stops_at}
+use Rattle.statement_syntax.specs.Stages.{first_statements, behind_first, begun}
+use Rattle.statement_syntax.proofs.Stopping.{goes_on, stops_at}
 use Rattle.statement_syntax.proofs.read.statements.Goals as goal
 
 nothing_left : {X : Type 0} (l : List X) → length l ≡ 0 → l ≡ []
