@@ -15,6 +15,7 @@ pub mod FileDeep
 pub mod LastToken
 pub mod TreeKinds
 pub mod Moved
+pub mod Carets
 pub mod Spelled
 pub mod BareTokens
 pub mod Rescan
