@@ -87,12 +87,12 @@ named_language (second_language word number) at ts given = refl
 named_language s at ts given = absurd given
 
 -- the tokens of a file tell its language
-pub file_language : (language : Language) (ls : List StatedLine) → IsFileOf language ls → language_of (file_tokens ls) ≡ language
-file_language First [] given = refl
-file_language First (l ∷ ls) given =
+pub language_is : (language : Language) (ls : List StatedLine) → IsFileOf language ls → language_of (file_tokens ls) ≡ language
+language_is First [] given = refl
+language_is First (l ∷ ls) given =
     ap language_of (append_assoc (stated_tokens l.stated) (sign_token kind.End l.end ∷ []) (file_tokens ls)) ∙ line_language l.stated (sign_token kind.End l.end ∷ file_tokens ls) given.0
-file_language Second [] given = absurd given
-file_language Second (l ∷ ls) given =
+language_is Second [] given = absurd given
+language_is Second (l ∷ ls) given =
     ap language_of (append_assoc (stated_tokens l.stated) (sign_token kind.End l.end ∷ []) (file_tokens ls)) ∙ named_language l.stated l.end (file_tokens ls) given.0
 
 -- Without their places statements are of the same language

@@ -22,7 +22,7 @@ use Rattle.statement_syntax.specs.Places.{somewhere, bare_stated, bare_line, bar
 use Rattle.statement_syntax.specs.Written.{text_from, statement_kinds, tree_text}
 use Rattle.statement_tokens.proofs.Scanning.{spot}
 use Rattle.statement_syntax.proofs.Moved.{kinds, file_moved}
-use Rattle.statement_syntax.proofs.Carets.{HasCarets, Allows, carets_stay, language_by, first_word, file_language, same_language}
+use Rattle.statement_syntax.proofs.Carets.{HasCarets, Allows, carets_stay, language_by, first_word, language_is, same_language}
 use Rattle.statement_syntax.proofs.Spelled.{IsFileToken, AllKinds, tokens_are}
 use Rattle.statement_syntax.proofs.BareTokens.{AreTokens, AllSpelled, file_are}
 use Rattle.statement_syntax.proofs.StatedKinds.{kinds-append, stated-kinds}
@@ -161,5 +161,5 @@ reads_back statements some_text =
     let ls = some_text.1.0 in
     let is = some_text.1.1 in
     let spelled = tokens_are [] (chars bytes) 0 (spot 1 1) 0 (file_tokens ls) (scalars-chars bytes is.utf8) is.tokens in
-    let all = file_are is.language ls (subst (λ language. AllKinds (IsFileToken language) (kinds (file_tokens ls))) (file_language is.language ls is.speaks) spelled) in
+    let all = file_are is.language ls (subst (λ language. AllKinds (IsFileToken language) (kinds (file_tokens ls))) (language_is is.language ls is.speaks) spelled) in
     subst (λ x. ReadsBackAs (tree_text x) x) (sym some_text.1.2) (written_back is.language ls all is.speaks is.fits)
