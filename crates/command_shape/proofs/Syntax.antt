@@ -14,7 +14,9 @@ use Rattle.statement_syntax.specs.declared.fault.Fault.TheVariants as fault
 use Rattle.statement_syntax.specs.Steps.{run}
 use Rattle.statement_syntax.specs.Lines.{beginning, file_step}
 use Rattle.statement_tokens.specs.Token.{tokens_of}
-use Rattle.statement_syntax.specs.Grammar.{StatedLine, file_tokens, FileFits}
+use Rattle.statement_tokens.specs.declared.language.Language.{Language}
+use Rattle.statement_tokens.specs.Language.{language_of}
+use Rattle.statement_syntax.specs.Grammar.{StatedLine, IsFileOf, file_tokens, FileFits}
 use Rattle.statement_syntax.specs.Tree.{file_tree}
 use Rattle.statement_syntax.specs.Fault.{IsStatements, IsTreeOf, GoesOn, GoesOnWithin, IsMisfit, IsFirstFault}
 use Rattle.statement_syntax.proofs.FileReads.{all_run}
@@ -63,21 +65,35 @@ splits (x ∷ front) t rest (y ∷ front') t' rest' is =
     subst (λ z. Behind (x ∷ front) t (z ∷ front') t') head (pushed x front t front' t' (splits front t rest front' t' rest' tail))
 
 -- what goes on goes on at each of its tokens
-goes_before : (front : List Token) (t : Token) (more whole : List Token) → whole ≡ front ++ t ∷ more → GoesOnWithin whole → GoesOnWithin (front ++ t ∷ [])
-goes_before front t more whole is on =
-    (more ++ on.0, on.1, on.2, append_assoc front (t ∷ []) (more ++ on.0) ∙ sym (append_assoc front (t ∷ more) on.0) ∙ ap (λ l. l ++ on.0) (sym is) ∙ on.3)
+goes_before : (language : Language) (front : List Token) (t : Token) (more whole : List Token) → whole ≡ front ++ t ∷ more → GoesOnWithin language whole
+    → GoesOnWithin language (front ++ t ∷ [])
+goes_before language front t more whole is on =
+    (more ++ on.0, on.1, on.2, on.3, append_assoc front (t ∷ []) (more ++ on.0) ∙ sym (append_assoc front (t ∷ more) on.0) ∙ ap (λ l. l ++ on.0) (sym is) ∙ on.4)
 
 record Same (bytes : List ℕ) (at at' : Spot) (m : IsMisfit bytes at) (m' : IsMisfit bytes at') : Type 0 where
   place : at ≡ at'
   came : m.front ++ m.token ∷ [] ≡ m'.front ++ m'.token ∷ []
+  whole : m.front ++ m.token ∷ m.rest ≡ m'.front ++ m'.token ∷ m'.rest
 
 misfit_once : (bytes : List ℕ) (at at' : Spot) (m : IsMisfit bytes at) (m' : IsMisfit bytes at') → Same bytes at at' m m'
-misfit_once bytes at at' m m' = by (splits m.front m.token m.rest m'.front m'.token m'.rest (same_tokens bytes _ _ m.tokens m'.tokens))
+misfit_once bytes at at' m m' = by (splits m.front m.token m.rest m'.front m'.token m'.rest whole)
   where
+    whole : m.front ++ m.token ∷ m.rest ≡ m'.front ++ m'.token ∷ m'.rest
+    whole = same_tokens bytes _ _ m.tokens m'.tokens
+
     by : Behind m.front m.token m'.front m'.token → Same bytes at at' m m'
-    by (same front token) = record { place = sym m.place ∙ ap (λ (t : Token). t.at) token ∙ m'.place; came = ap (λ l. l ++ m.token ∷ []) front ∙ ap (λ t. m'.front ++ t ∷ []) token }
-    by (later more is) = absurd (m.there (goes_before m.front m.token more m'.front is m'.before))
-    by (earlier more is) = absurd (m'.there (goes_before m'.front m'.token more m.front is m.before))
+    by (same front token) =
+        record { place = sym m.place ∙ ap (λ (t : Token). t.at) token ∙ m'.place; came = ap (λ l. l ++ m.token ∷ []) front ∙ ap (λ t. m'.front ++ t ∷ []) token; whole = whole }
+    by (later more is) = absurd (m.there (goes_before _ m.front m.token more m'.front is (subst (λ ts. GoesOnWithin (language_of ts) m'.front) (sym whole) m'.before)))
+    by (earlier more is) = absurd (m'.there (goes_before _ m'.front m'.token more m.front is (subst (λ ts. GoesOnWithin (language_of ts) m.front) whole m.before)))
+
+-- what goes on with the one misfit goes on with the other
+module _ (bytes : List ℕ) (at at' : Spot) (m : IsMisfit bytes at) (m' : IsMisfit bytes at') where
+  goes_with : GoesOn (language_of (m'.front ++ m'.token ∷ m'.rest)) (m'.front ++ m'.token ∷ []) → GoesOn (language_of (m.front ++ m.token ∷ m.rest)) (m.front ++ m.token ∷ [])
+  goes_with on =
+      let once = misfit_once bytes at at' m m' in
+      subst (λ ts. GoesOn (language_of ts) (m.front ++ m.token ∷ [])) (sym once.whole)
+      (subst (GoesOn (language_of (m'.front ++ m'.token ∷ m'.rest))) (sym once.came) on)
 
 not_both : (bytes : List ℕ) (ts : List Token) (p : Placed) → tokens_of (chars bytes) ≡ Ok ts → tokens_of (chars bytes) ≡ Err p → ⊥
 not_both bytes ts p one other = let both : (let r : Result (List Token) Placed = Ok ts in r) ≡ Err p = sym one ∙ other in absurd cc
@@ -90,7 +106,9 @@ not_scanned bytes f at at' m fails = not_both bytes (m.front ++ m.token ∷ m.re
 
 misfit_in : (bytes : List ℕ) (statements : List Statement) (at : Spot) → IsTreeOf bytes statements → IsMisfit bytes at → ⊥
 misfit_in bytes statements at tree m =
-    m.there (m.rest, tree.0, tree.1.fits, append_assoc m.front (m.token ∷ []) m.rest ∙ same_tokens bytes _ _ m.tokens tree.1.tokens)
+    let whole = same_tokens bytes _ _ m.tokens tree.1.tokens in
+    let language = ap language_of whole ∙ language_is tree.1.language tree.0 tree.1.speaks in
+    m.there (m.rest, tree.0, subst (λ l. IsFileOf l tree.0) (sym language) tree.1.speaks, tree.1.fits, append_assoc m.front (m.token ∷ []) m.rest ∙ whole)
 
 -- of all five kinds: what a fault says first
 pub no_fault : (bytes : List ℕ) (statements : List Statement) (f : Fault) (at : Spot) → IsTreeOf bytes statements → IsFirstFault bytes f at → ⊥
@@ -132,9 +150,9 @@ fault_once bytes fault.Expected fault.NotUtf8 at at' one other = absurd (other.0
 fault_once bytes fault.Expected fault.BadToken at at' one other = absurd (not_scanned bytes _ at at' one.0 other.1)
 fault_once bytes fault.Expected fault.LiteralTooLarge at at' one other = absurd (not_scanned bytes _ at at' one.0 other.1)
 fault_once bytes fault.Expected fault.Expected at at' one other = (refl, (misfit_once bytes at at' one.0 other.0).place)
-fault_once bytes fault.Expected fault.TooDeep at at' one other = absurd (one.1 (subst GoesOn (sym (misfit_once bytes at at' one.0 other.0).came) other.1))
+fault_once bytes fault.Expected fault.TooDeep at at' one other = absurd (one.1 (goes_with bytes at at' one.0 other.0 other.1))
 fault_once bytes fault.TooDeep fault.NotUtf8 at at' one other = absurd (other.0 one.0.utf8)
 fault_once bytes fault.TooDeep fault.BadToken at at' one other = absurd (not_scanned bytes _ at at' one.0 other.1)
 fault_once bytes fault.TooDeep fault.LiteralTooLarge at at' one other = absurd (not_scanned bytes _ at at' one.0 other.1)
-fault_once bytes fault.TooDeep fault.Expected at at' one other = absurd (other.1 (subst GoesOn (misfit_once bytes at at' one.0 other.0).came one.1))
+fault_once bytes fault.TooDeep fault.Expected at at' one other = absurd (other.1 (goes_with bytes at' at other.0 one.0 one.1))
 fault_once bytes fault.TooDeep fault.TooDeep at at' one other = (refl, (misfit_once bytes at at' one.0 other.0).place)
