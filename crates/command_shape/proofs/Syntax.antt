@@ -19,6 +19,7 @@ use Rattle.statement_tokens.specs.Language.{language_of}
 use Rattle.statement_syntax.specs.Grammar.{StatedLine, IsFileOf, file_tokens, FileFits}
 use Rattle.statement_syntax.specs.Tree.{file_tree}
 use Rattle.statement_syntax.specs.Fault.{IsStatements, IsTreeOf, GoesOn, GoesOnWithin, IsMisfit, IsFirstFault}
+use Rattle.statement_syntax.proofs.Carets.{language_is}
 use Rattle.statement_syntax.proofs.FileReads.{all_run}
 use Rattle.statement_syntax.proofs.Run.{Upto}
 
