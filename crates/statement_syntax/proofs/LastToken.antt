@@ -34,21 +34,40 @@ scan_ok (Err d) f y e = absurd cc
 pub tokens_is : (x y : List Token) → (let r : Result (List Token) Placed = Ok x in r) ≡ Ok y → x ≡ y
 tokens_is x y known = cc
 
-placed_ends : (r : Result Item ScanFault) (at : Spot) (past : ℕ) (next : ℕ → Spot → ℕ → Result (List Token) Placed) → ((skip : ℕ) (to : Spot) (end : ℕ) (us : List Token) → next skip to end ≡ Ok us → EndsWell end us)
-    → (ts : List Token) → placed r at past next ≡ Ok ts → EndsWell past ts
-placed_ends (Err e) at past next go ts known = absurd cc
-placed_ends (Ok item.NewLine) at past next go ts known =
-    let one = scan_ok (next 0 (below at) 0) (λ ts. Ok (end_of at.line past ++ ts)) ts known in
-    subst (EndsWell past) (tokens_is _ ts one.2) (line_ends at.line past one.0 (go 0 (below at) 0 one.0 one.1))
-placed_ends (Ok (item.Gap more)) at past next go ts known = go more (right_of at 1) past ts known
-placed_ends (Ok (item.Token k more)) at past next go ts known =
-    let one = scan_ok (next more (right_of at 1) (at.column + 1 + more)) (λ ts. Ok (record { at = at; kind = k } ∷ ts)) ts known in
+placed_ends : (before : List Token) (r : Result Item ScanFault) (at : Spot) (past : ℕ) (next : List Token → ℕ → Spot → ℕ → Result (List Token) Placed)
+    → ((front : List Token) (skip : ℕ) (to : Spot) (end : ℕ) (us : List Token) → next front skip to end ≡ Ok us → EndsWell end us) → (ts : List Token) → placed before r at past next ≡ Ok ts → EndsWell past ts
+placed_ends before (Err e) at past next go ts known = absurd cc
+placed_ends before (Ok item.NewLine) at past next go ts known =
+    let front = before ++ end_of at.line past in
+    let one = scan_ok (next front 0 (below at) 0) (λ ts. Ok (end_of at.line past ++ ts)) ts known in
+    subst (EndsWell past) (tokens_is _ ts one.2) (line_ends at.line past one.0 (go front 0 (below at) 0 one.0 one.1))
+placed_ends before (Ok (item.Gap more)) at past next go ts known = go before more (right_of at 1) past ts known
+placed_ends before (Ok (item.Token k more)) at past next go ts known =
+    let front = before ++ record { at = at; kind = k } ∷ [] in
+    let one = scan_ok (next front more (right_of at 1) (at.column + 1 + more)) (λ ts. Ok (record { at = at; kind = k } ∷ ts)) ts known in
     let longer : at.column + 1 + more ≡ suc (at.column + more) = omega arith in
     subst (EndsWell past) (tokens_is _ ts one.2)
-    (token_ends (record { at = at; kind = k }) (at.column + more) one.0 past (subst (λ n. EndsWell n one.0) longer (go more (right_of at 1) (at.column + 1 + more) one.0 one.1)))
+    (token_ends (record { at = at; kind = k }) (at.column + more) one.0 past (subst (λ n. EndsWell n one.0) longer (go front more (right_of at 1) (at.column + 1 + more) one.0 one.1)))
 
-pub ends_from : (cs : List ℕ) (skip : ℕ) (at : Spot) (past : ℕ) (ts : List Token) → tokens_from cs skip at past ≡ Ok ts → EndsWell past ts
+pub ends_from : (before : List Token) (cs : List ℕ) (skip : ℕ) (at : Spot) (past : ℕ) (ts : List Token) → tokens_from before cs skip at past ≡ Ok ts → EndsWell past ts
 unfolding tokens_from
-ends_from [] skip at past ts known = subst (EndsWell past) (tokens_is _ ts known) (end_ends at.line past)
-ends_from (c ∷ cs) (suc skip) at past ts known = ends_from cs skip (right_of at 1) past ts known
-ends_from (c ∷ cs) zero at past ts known = placed_ends (item_at c cs) at past (λ skip to end. tokens_from cs skip to end) (λ skip to end us e. ends_from cs skip to end us e) ts known
+ends_from before [] skip at past ts known = subst (EndsWell past) (tokens_is _ ts known) (end_ends at.line past)
+ends_from before (c ∷ cs) (suc skip) at past ts known = ends_from before cs skip (right_of at 1) past ts known
+ends_from before (c ∷ cs) zero at past ts known =
+    placed_ends before (item_at before c cs) at past (λ front skip to end. tokens_from front cs skip to end) (λ front skip to end us e. ends_from front cs skip to end us e) ts known
+
+-- so do those behind others
+one_less : (t : Token) (ts : List Token) → EndsWell 0 (t ∷ ts) → EndsWell 0 ts
+one_less t ts (inl known) = absurd (nothing known.1)
+  where
+    nothing : t ∷ ts ≡ [] → ⊥
+    nothing e = absurd cc
+one_less t ts (inr known) = by known.0 known.2
+  where
+    by : (front : List Token) → t ∷ ts ≡ front ++ sign_token kind.End known.1 ∷ [] → EndsWell 0 ts
+    by [] e = let none : ts ≡ [] = cc in inl (refl, none)
+    by (x ∷ front) e = let rest : ts ≡ front ++ sign_token kind.End known.1 ∷ [] = cc in inr (front, known.1, rest)
+
+pub rest_ends : (front ts : List Token) → EndsWell 0 (front ++ ts) → EndsWell 0 ts
+rest_ends [] ts known = known
+rest_ends (t ∷ front) ts known = rest_ends front ts (one_less t (front ++ ts) known)

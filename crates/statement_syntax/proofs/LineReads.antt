@@ -5,6 +5,8 @@ use Rattle.std.proofs.lemmas.List.{append-nil, map-append}
 use Rattle.std.proofs.lemmas.Slice.Eq.{bytes_eq-Decides}
 use Rattle.statement_tokens.specs.declared.place.Spot.{Spot}
 use Rattle.statement_tokens.specs.declared.token.Token.{Token}
+use Rattle.statement_tokens.specs.declared.language.Language.{Language}
+use Rattle.statement_tokens.specs.declared.language.Language.TheVariants.{First, Second}
 use Rattle.statement_tokens.specs.declared.token.TokenKind.{TokenKind}
 use Rattle.statement_tokens.specs.declared.token.TokenKind.TheVariants as kind
 use Rattle.statement_syntax.specs.Limits.{bracket_limit}
@@ -17,7 +19,7 @@ use Rattle.statement_syntax.specs.declared.expression.Misfit.{Misfit}
 use Rattle.statement_syntax.specs.declared.expression.Misfit.TheVariants.{Expected}
 use Rattle.statement_syntax.specs.declared.expression.Reading.{Reading}
 use Rattle.statement_syntax.specs.declared.line.ListWord.{ListWord}
-use Rattle.statement_syntax.specs.declared.line.ListWord.TheVariants.{Object, Solve}
+use Rattle.statement_syntax.specs.declared.line.ListWord.TheVariants.{Object, Solve, Eliminate}
 use Rattle.statement_syntax.specs.declared.line.SidesWord.{SidesWord}
 use Rattle.statement_syntax.specs.declared.line.SidesWord.TheVariants.{Assume, Claim}
 use Rattle.statement_syntax.specs.declared.line.PairWord.{PairWord}
@@ -30,9 +32,9 @@ use Rattle.statement_syntax.specs.declared.line.Pairs.{Pairs}
 use Rattle.statement_syntax.specs.declared.line.Line.{Line}
 use Rattle.statement_syntax.specs.declared.line.Line.TheVariants as line
 use Rattle.statement_syntax.specs.Steps.{◌>>=◌, run, token_step, whole_sum}
-use Rattle.statement_syntax.specs.Grammar.{Expr, expr_tokens, ExprFits, sign_token, name_token, number_token, word_token, names_tokens, pairs_tokens, list_text, sides_text, pair_text, self_word, Stated, mapped, paired, projected, by_degree, stated_tokens, StatedFits}
+use Rattle.statement_syntax.specs.Grammar.{Expr, expr_tokens, ExprFits, sign_token, name_token, number_token, word_token, names_tokens, pairs_tokens, list_text, sides_text, pair_text, self_word, Stated, listed, mapped, paired, projected, by_degree, stated_tokens, StatedFits, IsOf}
 use Rattle.statement_syntax.specs.Tree.{expr_tree, stated_tree}
-use Rattle.statement_syntax.specs.Lines.{Lined, named, name_in, opening_in, start_reading, opened, begun, start_step, whole, list_step, colon_after, map_names_step, map_step, sides_step, pair_step, no_pairs, pairs_by, pairs_step, order_step, projection_step, line_step}
+use Rattle.statement_syntax.specs.Lines.{Lined, named, name_in, common_opening, opening_in, start_reading, opened, begun, start_step, whole, list_step, colon_after, map_names_step, map_step, sides_step, pair_step, no_pairs, pairs_by, pairs_step, order_step, projection_step, line_step}
 use Rattle.statement_syntax.proofs.Machine as machine
 use Rattle.statement_syntax.proofs.Machine.{State, fresh, step}
 use Rattle.statement_syntax.proofs.Seen.{reading_of, seen, tree_or}
@@ -92,33 +94,49 @@ abbrev pub read_pairs : Pairs → List Token
 read_pairs p = pairs_tokens p.whole ++ half_tokens p.half
 
 -- a whole statement, after which nothing fits
-pub record WholeReads (s : Statement) (ts : List Token) : Type 0 where
+pub record WholeReads (language : Language) (s : Statement) (ts : List Token) : Type 0 where
   pub stated : Stated
+  pub speaks : IsOf language stated
   pub fits : StatedFits stated
   pub tree : s ≡ stated_tree stated
   pub are : ts ≡ stated_tokens stated
 
--- the tokens of a line of which this has been read
-abbrev pub LineReads : Line → List Token → Type 0
-LineReads line.Start ts = ts ≡ []
-LineReads (line.List w at names) ts = ts ≡ word_token (list_text w) at ∷ names_tokens names
-LineReads (line.Map at names r) ts = RestReads at names r ts
-LineReads (line.Sides w at left r) ts = SidesReads w at left r ts
-LineReads (line.Pair w at first) ts = ts ≡ word_token (pair_text w) at ∷ half_tokens first
-LineReads (line.Projection at) ts = ts ≡ word_token (codes "projection") at ∷ []
-LineReads (line.Order at) ts = ts ≡ word_token (codes "order") at ∷ []
-LineReads (line.Weights at ps) ts = (word : Spot) × (ts ≡ word_token (codes "order") at ∷ word_token (codes "weight") word ∷ read_pairs ps)
-LineReads (line.Model at) ts = ts ≡ word_token (codes "model") at ∷ []
-LineReads (line.Shape at m ps) ts = ts ≡ word_token (codes "model") at ∷ number_token m ∷ read_pairs ps
-LineReads (line.Whole s) ts = WholeReads s ts
+-- the word begins a list in the language
+abbrev pub IsListOf : ListWord → Language → Type 0
+IsListOf Object language = Unit {0}
+IsListOf Solve language = Unit {0}
+IsListOf Eliminate First = ⊥
+IsListOf Eliminate Second = Unit {0}
 
-abbrev pub After : Lined → List Token → Type 0
-After (Ok l) ts = LineReads l ts
-After (Err e) ts = Unit {0}
+pub list_speaks : (language : Language) (w : ListWord) (at : Spot) (n : Name) (ns : List Name) → IsListOf w language → IsOf language (listed w at n ns)
+list_speaks First Object at n ns is = tt
+list_speaks First Solve at n ns is = tt
+list_speaks First Eliminate at n ns is = is
+list_speaks Second Object at n ns is = tt
+list_speaks Second Solve at n ns is = tt
+list_speaks Second Eliminate at n ns is = tt
+
+-- the tokens of a line of which this has been read
+abbrev pub LineReads : Language → Line → List Token → Type 0
+LineReads language line.Start ts = ts ≡ []
+LineReads language (line.List w at names) ts = IsListOf w language × (ts ≡ word_token (list_text w) at ∷ names_tokens names)
+LineReads language (line.Map at names r) ts = RestReads at names r ts
+LineReads language (line.Sides w at left r) ts = SidesReads w at left r ts
+LineReads language (line.Pair w at first) ts = ts ≡ word_token (pair_text w) at ∷ half_tokens first
+LineReads language (line.Projection at) ts = ts ≡ word_token (codes "projection") at ∷ []
+LineReads language (line.Order at) ts = ts ≡ word_token (codes "order") at ∷ []
+LineReads language (line.Weights at ps) ts = (word : Spot) × (ts ≡ word_token (codes "order") at ∷ word_token (codes "weight") word ∷ read_pairs ps)
+LineReads language (line.Model at) ts = ts ≡ word_token (codes "model") at ∷ []
+LineReads language (line.Shape at m ps) ts = ts ≡ word_token (codes "model") at ∷ number_token m ∷ read_pairs ps
+LineReads language (line.Whole s) ts = WholeReads language s ts
+
+abbrev pub After : Language → Lined → List Token → Type 0
+After language (Ok l) ts = LineReads language l ts
+After language (Err e) ts = Unit {0}
 
 -- a line with one token more
-abbrev pub Grows : List Token → Spot → TokenKind → Lined → Type 0
-Grows ts at k r = After r (ts ++ sign_token k at ∷ [])
+abbrev pub Grows : Language → List Token → Spot → TokenKind → Lined → Type 0
+Grows language ts at k r = After language r (ts ++ sign_token k at ∷ [])
 
 -- ---- the first word
 
@@ -132,27 +150,47 @@ opening_text opening.Projection = codes "projection"
 opening_text opening.Order = codes "order"
 opening_text opening.Model = codes "model"
 
-choose : (word : List ℕ) (o : Opening) (rest : Option Opening) (b : Bool) → bytes_eq word (opening_text o) ≡ b → ((p : Opening) → rest ≡ Some p → word ≡ opening_text p)
-    → (p : Opening) → cond b (Some o) rest ≡ Some p → word ≡ opening_text p
-choose word o rest true is there p read = let same : o ≡ p = cc in (bytes_eq-Decides word (opening_text o)).0 is ∙ ap opening_text same
-choose word o rest false is there p read = there p read
+-- the word begins a statement of the language
+abbrev IsOpeningOf : Language → Opening → Type 0
+IsOpeningOf language (opening.List w) = IsListOf w language
+IsOpeningOf language opening.Map = Unit {0}
+IsOpeningOf language (opening.Sides w) = Unit {0}
+IsOpeningOf language (opening.Pair w) = Unit {0}
+IsOpeningOf language opening.Projection = Unit {0}
+IsOpeningOf language opening.Order = Unit {0}
+IsOpeningOf language opening.Model = Unit {0}
 
-none_is : (word : List ℕ) (p : Opening) → (let r : Option Opening = None in r) ≡ Some p → word ≡ opening_text p
-none_is word p read = absurd cc
+-- whatever begins with the word is this
+abbrev Opens : Language → List ℕ → Option Opening → Type 0
+Opens language word found = (o : Opening) → found ≡ Some o → (word ≡ opening_text o) × IsOpeningOf language o
 
-pub opening_is : (word : List ℕ) (o : Opening) → opening_in word ≡ Some o → word ≡ opening_text o
-opening_is word =
-    choose word (opening.List Object) _ _ refl (
-    choose word (opening.List Solve) _ _ refl (
-    choose word opening.Map _ _ refl (
-    choose word (opening.Sides Assume) _ _ refl (
-    choose word (opening.Sides Claim) _ _ refl (
-    choose word (opening.Pair Pinv) _ _ refl (
-    choose word (opening.Pair Inverse) _ _ refl (
-    choose word (opening.Pair Inner) _ _ refl (
-    choose word opening.Projection _ _ refl (
-    choose word opening.Order _ _ refl (
-    choose word opening.Model _ _ refl (none_is word)))))))))))
+choose : (language : Language) (word : List ℕ) (o : Opening) (rest : Option Opening) (b : Bool) → bytes_eq word (opening_text o) ≡ b → IsOpeningOf language o → Opens language word rest
+    → Opens language word (cond b (Some o) rest)
+choose language word o rest true is speaks there p read =
+    let same : o ≡ p = cc in
+    ((bytes_eq-Decides word (opening_text o)).0 is ∙ ap opening_text same, subst (IsOpeningOf language) same speaks)
+choose language word o rest false is speaks there p read = there p read
+
+none_is : (language : Language) (word : List ℕ) → Opens language word None
+none_is language word p read = absurd cc
+
+common_is : (language : Language) (word : List ℕ) → Opens language word (common_opening word)
+common_is language word =
+    choose language word (opening.List Object) _ _ refl tt (
+    choose language word (opening.List Solve) _ _ refl tt (
+    choose language word opening.Map _ _ refl tt (
+    choose language word (opening.Sides Assume) _ _ refl tt (
+    choose language word (opening.Sides Claim) _ _ refl tt (
+    choose language word (opening.Pair Pinv) _ _ refl tt (
+    choose language word (opening.Pair Inverse) _ _ refl tt (
+    choose language word (opening.Pair Inner) _ _ refl tt (
+    choose language word opening.Projection _ _ refl tt (
+    choose language word opening.Order _ _ refl tt (
+    choose language word opening.Model _ _ refl tt (none_is language word)))))))))))
+
+opening_is : (language : Language) (word : List ℕ) → Opens language word (opening_in language word)
+opening_is First word = common_is First word
+opening_is Second word = choose Second word (opening.List Eliminate) _ _ refl tt (common_is Second word)
 
 start_is : start_reading ≡ reading_of (fresh [])
 start_is = refl
@@ -161,22 +199,24 @@ pub start_reads : ExprReads start_reading []
 unfolding run
 start_reads = record { state = fresh []; ran = refl; seen = start_is }
 
-opened_reads : (o : Opening) (at : Spot) → LineReads (opened o at) (word_token (opening_text o) at ∷ [])
-opened_reads (opening.List w) at = refl
-opened_reads opening.Map at = refl
-opened_reads (opening.Sides w) at = record { side = []; reads = start_reads; are = refl }
-opened_reads (opening.Pair w) at = refl
-opened_reads opening.Projection at = refl
-opened_reads opening.Order at = refl
-opened_reads opening.Model at = refl
+opened_reads : (language : Language) (o : Opening) (at : Spot) → IsOpeningOf language o → LineReads language (opened o at) (word_token (opening_text o) at ∷ [])
+opened_reads language (opening.List w) at speaks = (speaks, refl)
+opened_reads language opening.Map at speaks = refl
+opened_reads language (opening.Sides w) at speaks = record { side = []; reads = start_reads; are = refl }
+opened_reads language (opening.Pair w) at speaks = refl
+opened_reads language opening.Projection at speaks = refl
+opened_reads language opening.Order at speaks = refl
+opened_reads language opening.Model at speaks = refl
 
-begun_reads : (word : List ℕ) (o : Option Opening) (at : Spot) → opening_in word ≡ o → After (begun o at) (word_token word at ∷ [])
-begun_reads word None at is = tt
-begun_reads word (Some o) at is = subst (λ x. LineReads (opened o at) (word_token x at ∷ [])) (sym (opening_is word o is)) (opened_reads o at)
+begun_reads : (language : Language) (word : List ℕ) (o : Option Opening) (at : Spot) → Opens language word o → After language (begun o at) (word_token word at ∷ [])
+begun_reads language word None at is = tt
+begun_reads language word (Some o) at is =
+    let opens = is o refl in
+    subst (λ x. LineReads language (opened o at) (word_token x at ∷ [])) (sym opens.0) (opened_reads language o at opens.1)
 
-start_grows : (k : TokenKind) (at : Spot) → Grows [] at k (start_step k at)
-start_grows (kind.Name x) at = begun_reads x (opening_in x) at refl
-start_grows k at = tt
+start_grows : (language : Language) (k : TokenKind) (at : Spot) → Grows language [] at k (start_step language k at)
+start_grows language (kind.Name x) at = begun_reads language x (opening_in language x) at (opening_is language x)
+start_grows language k at = tt
 
 -- ---- the other tokens
 
@@ -186,9 +226,9 @@ with_next ts us t read = ap (λ (x : List Token). x ++ t ∷ []) read
 more_names : (front : Token) (names : List Name) (n : Name) → (front ∷ names_tokens names) ++ name_token n ∷ [] ≡ front ∷ names_tokens (names ++ n ∷ [])
 more_names front names n = ap (λ x. front ∷ x) (sym (map-append name_token names (n ∷ [])))
 
-list_grows : (w : ListWord) (at : Spot) (names : List Name) (ts : List Token) (t : Spot) (k : TokenKind) → LineReads (line.List w at names) ts → Grows ts t k (list_step w at names k t)
-list_grows w at names ts t k read =
-    by_name (Grows ts t) _ t (λ x. with_next ts _ _ read ∙ more_names (word_token (list_text w) at) names (named x t)) (λ k. tt) k
+list_grows : (language : Language) (w : ListWord) (at : Spot) (names : List Name) (ts : List Token) (t : Spot) (k : TokenKind) → LineReads language (line.List w at names) ts → Grows language ts t k (list_step w at names k t)
+list_grows language w at names ts t k read =
+    by_name (Grows language ts t) _ t (λ x. (read.0, with_next ts _ _ read.1 ∙ more_names (word_token (list_text w) at) names (named x t))) (λ k. tt) k
 
 map_more : (at : Spot) (names : List Name) (ts behind : List Token) (t : Token) → MapReads at names ts behind → MapReads at names (ts ++ t ∷ []) (behind ++ t ∷ [])
 map_more at names ts behind t read = record {
@@ -196,38 +236,39 @@ map_more at names ts behind t read = record {
   are = with_next ts _ t read.are ∙ ap (λ x. word_token (codes "map") at ∷ x) (append_assoc (names_tokens names) behind (t ∷ []));
 }
 
-colon_grows : (at : Spot) (names : List Name) (ts : List Token) (t : Spot) → RestReads at names rest.Names ts → Grows ts t kind.Colon (colon_after at names)
-colon_grows at [] ts t read = tt
-colon_grows at (n ∷ ns) ts t read = (t, record { has_first = record { first = n; more = ns; is = refl }; are = with_next ts _ _ read })
+colon_grows : (language : Language) (at : Spot) (names : List Name) (ts : List Token) (t : Spot) → RestReads at names rest.Names ts → Grows language ts t kind.Colon (colon_after at names)
+colon_grows language at [] ts t read = tt
+colon_grows language at (n ∷ ns) ts t read = (t, record { has_first = record { first = n; more = ns; is = refl }; are = with_next ts _ _ read })
 
-map_names_grows : (at : Spot) (names : List Name) (ts : List Token) (t : Spot) (k : TokenKind) → RestReads at names rest.Names ts → Grows ts t k (map_names_step at names k t)
-map_names_grows at names ts t k read =
-    by_colon (Grows ts t) (colon_after at names) (λ k. name_in k t >>= λ n. Ok (line.Map at (names ++ n ∷ []) rest.Names)) (colon_grows at names ts t read)
-    (λ k. by_name (Grows ts t) _ t (λ x. with_next ts _ _ read ∙ more_names (word_token (codes "map") at) names (named x t)) (λ k. tt) k) k
+map_names_grows : (language : Language) (at : Spot) (names : List Name) (ts : List Token) (t : Spot) (k : TokenKind) → RestReads at names rest.Names ts → Grows language ts t k (map_names_step at names k t)
+map_names_grows language at names ts t k read =
+    by_colon (Grows language ts t) (colon_after at names) (λ k. name_in k t >>= λ n. Ok (line.Map at (names ++ n ∷ []) rest.Names)) (colon_grows language at names ts t read)
+    (λ k. by_name (Grows language ts t) _ t (λ x. with_next ts _ _ read ∙ more_names (word_token (codes "map") at) names (named x t)) (λ k. tt) k) k
 
-self_grows : (at : Spot) (names : List Name) (s e : Name) (ts : List Token) (t : Spot) (x : List ℕ) (b : Bool) → bytes_eq x (codes "self") ≡ b → RestReads at names (rest.Target s e) ts
-    → Grows ts t (kind.Name x) (cond b (Ok (whole at (statement.Maps names s e true))) (Err Expected))
-self_grows at names s e ts t x false is read = tt
-self_grows at names s e ts t x true is read =
+self_grows : (language : Language) (at : Spot) (names : List Name) (s e : Name) (ts : List Token) (t : Spot) (x : List ℕ) (b : Bool) → bytes_eq x (codes "self") ≡ b → RestReads at names (rest.Target s e) ts
+    → Grows language ts t (kind.Name x) (cond b (Ok (whole at (statement.Maps names s e true))) (Err Expected))
+self_grows language at names s e ts t x false is read = tt
+self_grows language at names s e ts t x true is read =
     let wider = map_more at names ts _ (word_token x t) read.2 in
     let first = read.2.has_first in
     record {
       stated = mapped at first.first first.more read.0 s read.1 e (self_word t);
+      speaks = tt;
       fits = tt;
       tree = ap (λ ns. record { at = at; kind = statement.Maps ns s e true }) first.is;
       are = wider.are ∙ ap₂ (λ ns y. word_token (codes "map") at ∷ (names_tokens ns ++ sign_token kind.Colon read.0 ∷ name_token s ∷ sign_token kind.Arrow read.1 ∷ name_token e ∷ word_token y t ∷ []))
           first.is ((bytes_eq-Decides x (codes "self")).0 is);
     }
 
-map_grows : (at : Spot) (names : List Name) (r : MapRest) (ts : List Token) (t : Spot) (k : TokenKind) → RestReads at names r ts → Grows ts t k (map_step at names r k t)
-map_grows at names rest.Names ts t k read = map_names_grows at names ts t k read
-map_grows at names rest.Colon ts t k read = by_name (Grows ts t) _ t (λ x. (read.0, map_more at names ts _ (word_token x t) read.1)) (λ k. tt) k
-map_grows at names (rest.Source s) ts t k read = by_arrow (Grows ts t) (Ok (line.Map at names (rest.Arrow s))) (λ k. Err Expected) (read.0, t, map_more at names ts _ (sign_token kind.Arrow t) read.1) (λ k. tt) k
-map_grows at names (rest.Arrow s) ts t k read = by_name (Grows ts t) _ t (λ x. (read.0, read.1, map_more at names ts _ (word_token x t) read.2)) (λ k. tt) k
-map_grows at names (rest.Target s e) ts t k read = on_word k
+map_grows : (language : Language) (at : Spot) (names : List Name) (r : MapRest) (ts : List Token) (t : Spot) (k : TokenKind) → RestReads at names r ts → Grows language ts t k (map_step at names r k t)
+map_grows language at names rest.Names ts t k read = map_names_grows language at names ts t k read
+map_grows language at names rest.Colon ts t k read = by_name (Grows language ts t) _ t (λ x. (read.0, map_more at names ts _ (word_token x t) read.1)) (λ k. tt) k
+map_grows language at names (rest.Source s) ts t k read = by_arrow (Grows language ts t) (Ok (line.Map at names (rest.Arrow s))) (λ k. Err Expected) (read.0, t, map_more at names ts _ (sign_token kind.Arrow t) read.1) (λ k. tt) k
+map_grows language at names (rest.Arrow s) ts t k read = by_name (Grows language ts t) _ t (λ x. (read.0, read.1, map_more at names ts _ (word_token x t) read.2)) (λ k. tt) k
+map_grows language at names (rest.Target s e) ts t k read = on_word k
   where
-    on_word : (k : TokenKind) → Grows ts t k (map_step at names (rest.Target s e) k t)
-    on_word (kind.Name x) = self_grows at names s e ts t x (bytes_eq x (codes "self")) refl read
+    on_word : (k : TokenKind) → Grows language ts t k (map_step at names (rest.Target s e) k t)
+    on_word (kind.Name x) = self_grows language at names s e ts t x (bytes_eq x (codes "self")) refl read
     on_word k = tt
 
 -- ---- expressions
@@ -259,19 +300,19 @@ reading_ends r s ts read goes =
 side_more : (front ts side : List Token) (t : Token) → ts ≡ front ++ side → ts ++ t ∷ [] ≡ front ++ (side ++ t ∷ [])
 side_more front ts side t read = with_next ts _ t read ∙ append_assoc front side (t ∷ [])
 
-first_grows : (w : SidesWord) (at : Spot) (r : Reading) (ts : List Token) (t : Spot) (k : TokenKind) (res : Result Reading Misfit) → token_step r k t ≡ res → FirstSide w at r ts
-    → Grows ts t k (res >>= λ x. Ok (line.Sides w at None x))
-first_grows w at r ts t k (Err e) is read = tt
-first_grows w at r ts t k (Ok next) is read = record {
+first_grows : (language : Language) (w : SidesWord) (at : Spot) (r : Reading) (ts : List Token) (t : Spot) (k : TokenKind) (res : Result Reading Misfit) → token_step r k t ≡ res → FirstSide w at r ts
+    → Grows language ts t k (res >>= λ x. Ok (line.Sides w at None x))
+first_grows language w at r ts t k (Err e) is read = tt
+first_grows language w at r ts t k (Ok next) is read = record {
   side = read.side ++ sign_token k t ∷ [];
   reads = reading_grows r next read.side k t read.reads is;
   are = side_more (word_token (sides_text w) at ∷ []) ts read.side (sign_token k t) read.are;
 }
 
-second_grows : (w : SidesWord) (at : Spot) (left : Sum) (r : Reading) (ts : List Token) (t : Spot) (k : TokenKind) (res : Result Reading Misfit) → token_step r k t ≡ res → SecondSide w at left r ts
-    → Grows ts t k (res >>= λ x. Ok (line.Sides w at (Some left) x))
-second_grows w at left r ts t k (Err e) is read = tt
-second_grows w at left r ts t k (Ok next) is read =
+second_grows : (language : Language) (w : SidesWord) (at : Spot) (left : Sum) (r : Reading) (ts : List Token) (t : Spot) (k : TokenKind) (res : Result Reading Misfit) → token_step r k t ≡ res → SecondSide w at left r ts
+    → Grows language ts t k (res >>= λ x. Ok (line.Sides w at (Some left) x))
+second_grows language w at left r ts t k (Err e) is read = tt
+second_grows language w at left r ts t k (Ok next) is read =
     let front : List Token = word_token (sides_text w) at ∷ (expr_tokens read.expr ++ sign_token kind.Equals read.equals ∷ []) in
     record {
       expr = read.expr;
@@ -284,10 +325,10 @@ second_grows w at left r ts t k (Ok next) is read =
           ∙ ap (λ x. word_token (sides_text w) at ∷ x) (append_assoc (expr_tokens read.expr) (sign_token kind.Equals read.equals ∷ []) (read.side ++ sign_token k t ∷ []));
     }
 
-equals_grows : (w : SidesWord) (at : Spot) (r : Reading) (ts : List Token) (t : Spot) (res : Result Sum Misfit) → whole_sum r ≡ res → FirstSide w at r ts
-    → Grows ts t kind.Equals (res >>= λ left. Ok (line.Sides w at (Some left) start_reading))
-equals_grows w at r ts t (Err e) is read = tt
-equals_grows w at r ts t (Ok left) is read =
+equals_grows : (language : Language) (w : SidesWord) (at : Spot) (r : Reading) (ts : List Token) (t : Spot) (res : Result Sum Misfit) → whole_sum r ≡ res → FirstSide w at r ts
+    → Grows language ts t kind.Equals (res >>= λ left. Ok (line.Sides w at (Some left) start_reading))
+equals_grows language w at r ts t (Err e) is read = tt
+equals_grows language w at r ts t (Ok left) is read =
     let e = reading_ends r left read.side read.reads is in
     record {
       expr = e.0;
@@ -299,21 +340,21 @@ equals_grows w at r ts t (Ok left) is read =
       are = with_next ts _ _ read.are ∙ ap (λ x. word_token (sides_text w) at ∷ (x ++ sign_token kind.Equals t ∷ [])) e.3;
     }
 
-sides_grows : (w : SidesWord) (at : Spot) (left : Option Sum) (r : Reading) (ts : List Token) (t : Spot) (k : TokenKind) → SidesReads w at left r ts → Grows ts t k (sides_step w at left r k t)
-sides_grows w at (Some left) r ts t k read = second_grows w at left r ts t k (token_step r k t) refl read
-sides_grows w at None r ts t k read =
-    by_equals (Grows ts t) _ (λ k. token_step r k t >>= λ x. Ok (line.Sides w at None x)) (equals_grows w at r ts t (whole_sum r) refl read)
-    (λ k differs. first_grows w at r ts t k (token_step r k t) refl read) k
+sides_grows : (language : Language) (w : SidesWord) (at : Spot) (left : Option Sum) (r : Reading) (ts : List Token) (t : Spot) (k : TokenKind) → SidesReads w at left r ts → Grows language ts t k (sides_step w at left r k t)
+sides_grows language w at (Some left) r ts t k read = second_grows language w at left r ts t k (token_step r k t) refl read
+sides_grows language w at None r ts t k read =
+    by_equals (Grows language ts t) _ (λ k. token_step r k t >>= λ x. Ok (line.Sides w at None x)) (equals_grows language w at r ts t (whole_sum r) refl read)
+    (λ k differs. first_grows language w at r ts t k (token_step r k t) refl read) k
 
 -- ---- names and pairs
 
-pair_grows : (w : PairWord) (at : Spot) (first : Option Name) (ts : List Token) (t : Spot) (k : TokenKind) → LineReads (line.Pair w at first) ts → Grows ts t k (pair_step w at first k t)
-pair_grows w at None ts t k read = by_name (Grows ts t) _ t (λ x. with_next ts _ _ read) (λ k. tt) k
-pair_grows w at (Some m) ts t k read =
-    by_name (Grows ts t) _ t (λ x. record { stated = paired w at m (named x t); fits = tt; tree = refl; are = with_next ts _ _ read }) (λ k. tt) k
+pair_grows : (language : Language) (w : PairWord) (at : Spot) (first : Option Name) (ts : List Token) (t : Spot) (k : TokenKind) → LineReads language (line.Pair w at first) ts → Grows language ts t k (pair_step w at first k t)
+pair_grows language w at None ts t k read = by_name (Grows language ts t) _ t (λ x. with_next ts _ _ read) (λ k. tt) k
+pair_grows language w at (Some m) ts t k read =
+    by_name (Grows language ts t) _ t (λ x. record { stated = paired w at m (named x t); speaks = tt; fits = tt; tree = refl; are = with_next ts _ _ read }) (λ k. tt) k
 
-projection_grows : (at : Spot) (ts : List Token) (t : Spot) (k : TokenKind) → LineReads (line.Projection at) ts → Grows ts t k (projection_step at k t)
-projection_grows at ts t k read = by_name (Grows ts t) _ t (λ x. record { stated = projected at (named x t); fits = tt; tree = refl; are = with_next ts _ _ read }) (λ k. tt) k
+projection_grows : (language : Language) (at : Spot) (ts : List Token) (t : Spot) (k : TokenKind) → LineReads language (line.Projection at) ts → Grows language ts t k (projection_step at k t)
+projection_grows language at ts t k read = by_name (Grows language ts t) _ t (λ x. record { stated = projected at (named x t); speaks = tt; fits = tt; tree = refl; are = with_next ts _ _ read }) (λ k. tt) k
 
 -- what a step of pairs makes of their tokens
 abbrev PairsGrow : Pairs → Spot → TokenKind → Result Pairs Misfit → Type 0
@@ -332,49 +373,50 @@ pairs_grow ps (Some n) t k =
     ∙ pairs_more ps n (record { value = v; at = t })
     ∙ sym (append_assoc (pairs_tokens ps) (name_token n ∷ []) (sign_token (kind.Literal v) t ∷ []))) (λ k. tt) k
 
-weights_grow : (at : Spot) (p : Pairs) (ts : List Token) (t : Spot) (k : TokenKind) (res : Result Pairs Misfit) → PairsGrow p t k res → LineReads (line.Weights at p) ts
-    → Grows ts t k (res >>= λ q. Ok (line.Weights at q))
-weights_grow at p ts t k (Err e) grows read = tt
-weights_grow at p ts t k (Ok q) grows read = (read.0, with_next ts _ _ read.1 ∙ ap (λ x. word_token (codes "order") at ∷ word_token (codes "weight") read.0 ∷ x) (sym grows))
+weights_grow : (language : Language) (at : Spot) (p : Pairs) (ts : List Token) (t : Spot) (k : TokenKind) (res : Result Pairs Misfit) → PairsGrow p t k res → LineReads language (line.Weights at p) ts
+    → Grows language ts t k (res >>= λ q. Ok (line.Weights at q))
+weights_grow language at p ts t k (Err e) grows read = tt
+weights_grow language at p ts t k (Ok q) grows read = (read.0, with_next ts _ _ read.1 ∙ ap (λ x. word_token (codes "order") at ∷ word_token (codes "weight") read.0 ∷ x) (sym grows))
 
-shape_grows : (at : Spot) (m : Number) (p : Pairs) (ts : List Token) (t : Spot) (k : TokenKind) (res : Result Pairs Misfit) → PairsGrow p t k res → LineReads (line.Shape at m p) ts
-    → Grows ts t k (res >>= λ q. Ok (line.Shape at m q))
-shape_grows at m p ts t k (Err e) grows read = tt
-shape_grows at m p ts t k (Ok q) grows read = with_next ts _ _ read ∙ ap (λ x. word_token (codes "model") at ∷ number_token m ∷ x) (sym grows)
+shape_grows : (language : Language) (at : Spot) (m : Number) (p : Pairs) (ts : List Token) (t : Spot) (k : TokenKind) (res : Result Pairs Misfit) → PairsGrow p t k res → LineReads language (line.Shape at m p) ts
+    → Grows language ts t k (res >>= λ q. Ok (line.Shape at m q))
+shape_grows language at m p ts t k (Err e) grows read = tt
+shape_grows language at m p ts t k (Ok q) grows read = with_next ts _ _ read ∙ ap (λ x. word_token (codes "model") at ∷ number_token m ∷ x) (sym grows)
 
-model_grows : (at : Spot) (ts : List Token) (t : Spot) (k : TokenKind) → LineReads (line.Model at) ts → Grows ts t k (line_step (line.Model at) k t)
-model_grows at ts t k read = by_number (Grows ts t) _ t (λ v. with_next ts _ _ read) (λ k. tt) k
+model_grows : (language : Language) (at : Spot) (ts : List Token) (t : Spot) (k : TokenKind) → LineReads language (line.Model at) ts → Grows language ts t k (line_step language (line.Model at) k t)
+model_grows language at ts t k read = by_number (Grows language ts t) _ t (λ v. with_next ts _ _ read) (λ k. tt) k
 
-order_by : (at : Spot) (ts : List Token) (t : Spot) (x : List ℕ) (b c : Bool) → bytes_eq x (codes "degree") ≡ b → bytes_eq x (codes "weight") ≡ c → LineReads (line.Order at) ts
-    → Grows ts t (kind.Name x) (cond b (Ok (whole at statement.Degree)) (cond c (Ok (line.Weights at no_pairs)) (Err Expected)))
-order_by at ts t x true c is_degree is_weight read = record {
+order_by : (language : Language) (at : Spot) (ts : List Token) (t : Spot) (x : List ℕ) (b c : Bool) → bytes_eq x (codes "degree") ≡ b → bytes_eq x (codes "weight") ≡ c → LineReads language (line.Order at) ts
+    → Grows language ts t (kind.Name x) (cond b (Ok (whole at statement.Degree)) (cond c (Ok (line.Weights at no_pairs)) (Err Expected)))
+order_by language at ts t x true c is_degree is_weight read = record {
   stated = by_degree at t;
+  speaks = tt;
   fits = tt;
   tree = refl;
   are = with_next ts _ _ read ∙ ap (λ y. word_token (codes "order") at ∷ word_token y t ∷ []) ((bytes_eq-Decides x (codes "degree")).0 is_degree);
 }
-order_by at ts t x false true is_degree is_weight read = (t, with_next ts _ _ read ∙ ap (λ y. word_token (codes "order") at ∷ word_token y t ∷ []) ((bytes_eq-Decides x (codes "weight")).0 is_weight))
-order_by at ts t x false false is_degree is_weight read = tt
+order_by language at ts t x false true is_degree is_weight read = (t, with_next ts _ _ read ∙ ap (λ y. word_token (codes "order") at ∷ word_token y t ∷ []) ((bytes_eq-Decides x (codes "weight")).0 is_weight))
+order_by language at ts t x false false is_degree is_weight read = tt
 
-order_grows : (at : Spot) (ts : List Token) (t : Spot) (k : TokenKind) → LineReads (line.Order at) ts → Grows ts t k (order_step at k)
-order_grows at ts t (kind.Name x) read = order_by at ts t x (bytes_eq x (codes "degree")) (bytes_eq x (codes "weight")) refl refl read
-order_grows at ts t k read = tt
+order_grows : (language : Language) (at : Spot) (ts : List Token) (t : Spot) (k : TokenKind) → LineReads language (line.Order at) ts → Grows language ts t k (order_step at k)
+order_grows language at ts t (kind.Name x) read = order_by language at ts t x (bytes_eq x (codes "degree")) (bytes_eq x (codes "weight")) refl refl read
+order_grows language at ts t k read = tt
 
 -- ---- all lines
 
-line_grows : (l : Line) (ts : List Token) (t : Spot) (k : TokenKind) → LineReads l ts → Grows ts t k (line_step l k t)
-line_grows line.Start ts t k read = subst (λ us. Grows us t k (start_step k t)) (sym read) (start_grows k t)
-line_grows (line.List w at names) ts t k read = list_grows w at names ts t k read
-line_grows (line.Map at names r) ts t k read = map_grows at names r ts t k read
-line_grows (line.Sides w at left r) ts t k read = sides_grows w at left r ts t k read
-line_grows (line.Pair w at first) ts t k read = pair_grows w at first ts t k read
-line_grows (line.Projection at) ts t k read = projection_grows at ts t k read
-line_grows (line.Order at) ts t k read = order_grows at ts t k read
-line_grows (line.Weights at p) ts t k read = weights_grow at p ts t k (pairs_step p k t) (pairs_grow p.whole p.half t k) read
-line_grows (line.Model at) ts t k read = model_grows at ts t k read
-line_grows (line.Shape at m p) ts t k read = shape_grows at m p ts t k (pairs_step p k t) (pairs_grow p.whole p.half t k) read
-line_grows (line.Whole s) ts t k read = tt
+line_grows : (language : Language) (l : Line) (ts : List Token) (t : Spot) (k : TokenKind) → LineReads language l ts → Grows language ts t k (line_step language l k t)
+line_grows language line.Start ts t k read = subst (λ us. Grows language us t k (start_step language k t)) (sym read) (start_grows language k t)
+line_grows language (line.List w at names) ts t k read = list_grows language w at names ts t k read
+line_grows language (line.Map at names r) ts t k read = map_grows language at names r ts t k read
+line_grows language (line.Sides w at left r) ts t k read = sides_grows language w at left r ts t k read
+line_grows language (line.Pair w at first) ts t k read = pair_grows language w at first ts t k read
+line_grows language (line.Projection at) ts t k read = projection_grows language at ts t k read
+line_grows language (line.Order at) ts t k read = order_grows language at ts t k read
+line_grows language (line.Weights at p) ts t k read = weights_grow language at p ts t k (pairs_step p k t) (pairs_grow p.whole p.half t k) read
+line_grows language (line.Model at) ts t k read = model_grows language at ts t k read
+line_grows language (line.Shape at m p) ts t k read = shape_grows language at m p ts t k (pairs_step p k t) (pairs_grow p.whole p.half t k) read
+line_grows language (line.Whole s) ts t k read = tt
 
 -- one step reads one token
-pub line_step_reads : (l next : Line) (t : Token) (ts : List Token) → line_step l t.kind t.at ≡ Ok next → LineReads l ts → LineReads next (ts ++ t ∷ [])
-line_step_reads l next t ts goes read = subst (λ r. After r (ts ++ t ∷ [])) goes (line_grows l ts t.at t.kind read)
+pub line_step_reads : (language : Language) (l next : Line) (t : Token) (ts : List Token) → line_step language l t.kind t.at ≡ Ok next → LineReads language l ts → LineReads language next (ts ++ t ∷ [])
+line_step_reads language l next t ts goes read = subst (λ r. After language r (ts ++ t ∷ [])) goes (line_grows language l ts t.at t.kind read)

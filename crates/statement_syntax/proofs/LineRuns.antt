@@ -1,9 +1,11 @@
 -- Each statement is read as itself where it is within the limit, and else stops at a bracket that is too deep.
 use Rattle.std.proofs.Common.{◌≡◌, true, List, [], ◌∷◌, ◌++◌, inl, Some, None, Result, Ok, Err, refl, sym, ap, ◌∙◌, append_assoc}
-use Rattle.std.specs.Prelude.{codes}
+use Rattle.std.specs.Prelude.{ℕ, Bool, false, Option, cond, bytes_eq, codes}
 use Rattle.std.proofs.lemmas.List.{append-nil}
 use Rattle.statement_tokens.specs.declared.place.Spot.{Spot}
 use Rattle.statement_tokens.specs.declared.token.Token.{Token}
+use Rattle.statement_tokens.specs.declared.language.Language.{Language}
+use Rattle.statement_tokens.specs.declared.language.Language.TheVariants.{First, Second}
 use Rattle.statement_tokens.specs.declared.token.TokenKind.TheVariants as kind
 use Rattle.statement_syntax.specs.Limits.{bracket_limit}
 use Rattle.statement_syntax.specs.declared.tree.Name.{Name}
@@ -13,21 +15,23 @@ use Rattle.statement_syntax.specs.declared.tree.StatementKind.TheVariants as sta
 use Rattle.statement_syntax.specs.declared.expression.Misfit.{Misfit}
 use Rattle.statement_syntax.specs.declared.expression.Misfit.TheVariants.{Expected, TooDeep}
 use Rattle.statement_syntax.specs.declared.line.ListWord.{ListWord}
-use Rattle.statement_syntax.specs.declared.line.ListWord.TheVariants.{Object, Solve}
+use Rattle.statement_syntax.specs.declared.line.ListWord.TheVariants.{Object, Solve, Eliminate}
 use Rattle.statement_syntax.specs.declared.line.SidesWord.{SidesWord}
 use Rattle.statement_syntax.specs.declared.line.SidesWord.TheVariants.{Assume, Claim}
 use Rattle.statement_syntax.specs.declared.line.PairWord.{PairWord}
 use Rattle.statement_syntax.specs.declared.line.PairWord.TheVariants.{Pinv, Inverse, Inner}
+use Rattle.statement_syntax.specs.declared.line.Opening.{Opening}
+use Rattle.statement_syntax.specs.declared.line.Opening.TheVariants as opening
 use Rattle.statement_syntax.specs.declared.line.MapRest.TheVariants as rest
 use Rattle.statement_syntax.specs.declared.line.Pairs.{Pairs}
 use Rattle.statement_syntax.specs.declared.line.Line.{Line}
 use Rattle.statement_syntax.specs.declared.line.Line.TheVariants as line
 use Rattle.statement_syntax.specs.Steps.{◌>>=◌, run, token_step, whole_sum}
-use Rattle.statement_syntax.specs.Grammar.{Expr, expr_tokens, ExprFits, sign_token, name_token, number_token, word_token, names_tokens, pairs_tokens, list_text, sides_text, Ending, no_word, self_word, ending_tokens, Stated, listed, mapped, sides, paired, projected, by_degree, by_weight, modelled, stated_tokens, StatedFits}
+use Rattle.statement_syntax.specs.Grammar.{Expr, expr_tokens, ExprFits, sign_token, name_token, number_token, word_token, names_tokens, pairs_tokens, list_text, sides_text, pair_text, Ending, no_word, self_word, ending_tokens, Stated, listed, mapped, sides, paired, projected, by_degree, by_weight, modelled, second_language, stated_tokens, StatedFits, IsOf}
 use Rattle.statement_syntax.specs.Tree.{expr_tree, stated_tree, sides_kind, is_self}
-use Rattle.statement_syntax.specs.Lines.{Lined, start_reading, whole, line_step, line_end, statement_by}
+use Rattle.statement_syntax.specs.Lines.{Lined, common_opening, opened, begun, start_reading, whole, line_step, line_end, statement_by}
 use Rattle.statement_syntax.proofs.Machine as machine
-use Rattle.statement_syntax.proofs.Machine.{Focus, outside, square, State, Stepped, fresh, step}
+use Rattle.statement_syntax.proofs.Machine.{Focus, outside, square, behind_caret, State, Stepped, fresh, step}
 use Rattle.statement_syntax.proofs.Seen.{reading_of, seen, tree_or}
 use Rattle.statement_syntax.proofs.Run.{Upto, then_on, before_it, run_upto, inside_upto, one_step, ok_differs}
 use Rattle.statement_syntax.proofs.Runs.{end_state, end-whole}
@@ -36,8 +40,17 @@ use Rattle.statement_syntax.proofs.Viable.{only}
 use Rattle.statement_syntax.proofs.Choices.{not_equals}
 
 -- a step of a line by a token
-abbrev pub by_token : Line → Token → Lined
-by_token l t = line_step l t.kind t.at
+abbrev pub by_token : Language → Line → Token → Lined
+by_token language l t = line_step language l t.kind t.at
+
+-- a word that begins a statement in both languages
+word_starts : (language : Language) (word : List ℕ) (o : Opening) (at : Spot) (rest : List Token) → common_opening word ≡ Some o → bytes_eq word (codes "eliminate") ≡ false
+    → run (by_token language) line.Start (word_token word at ∷ rest) ≡ run (by_token language) (opened o at) rest
+unfolding run
+word_starts First word o at rest is differs = ap (λ x. begun x at >>= λ l. run (by_token First) l rest) is
+word_starts Second word o at rest is differs =
+    ap (λ b. begun (cond b (Some (opening.List Eliminate)) (common_opening word)) at >>= λ l. run (by_token Second) l rest) differs
+    ∙ ap (λ x. begun x at >>= λ l. run (by_token Second) l rest) is
 
 -- no expression goes on with an equals sign
 no_equals : (st : State) (f : Focus) (at : Spot) → step (record { levels = st.levels; head = st.head; part = st.part; focus = f }) (sign_token kind.Equals at) ≡ Err Expected
@@ -45,6 +58,7 @@ unfolding step
 no_equals st outside at = refl
 no_equals st (square left) at = refl
 no_equals st (machine.named left n) at = refl
+no_equals st (behind_caret l fs caret) at = refl
 
 err_is : {A : Type 0} (f g : Misfit) → (let r : Result A Misfit = Err f in r) ≡ Err g → f ≡ g
 err_is f g same = cc
@@ -69,127 +83,129 @@ token_deep st t fails = step-seen st t ∙ ap seen fails
 step_equals : (st : State) (r : Stepped) (t : Token) → step st t ≡ r → t.kind ≡ kind.Equals → r ≡ Err Expected
 step_equals st r t is k = sym is ∙ ap (λ x. step st (sign_token x t.at)) k ∙ no_equals st st.focus t.at
 
-first_each : (w : SidesWord) (at : Spot) (st next : State) (t : Token) → step st t ≡ Ok next → by_token (line.Sides w at None (reading_of st)) t ≡ Ok (line.Sides w at None (reading_of next))
-first_each w at st next t goes =
+first_each : (language : Language) (w : SidesWord) (at : Spot) (st next : State) (t : Token) → step st t ≡ Ok next → by_token language (line.Sides w at None (reading_of st)) t ≡ Ok (line.Sides w at None (reading_of next))
+first_each language w at st next t goes =
     not_equals _ _ t.kind (λ k. ok_differs next Expected (step_equals st (Ok next) t goes k))
     ∙ ap (λ x. x >>= λ r. Ok (line.Sides w at None r)) (token_seen st next t goes)
 
-first_deep : (w : SidesWord) (at : Spot) (st : State) (t : Token) → step st t ≡ Err TooDeep → by_token (line.Sides w at None (reading_of st)) t ≡ Err TooDeep
-first_deep w at st t fails =
+first_deep : (language : Language) (w : SidesWord) (at : Spot) (st : State) (t : Token) → step st t ≡ Err TooDeep → by_token language (line.Sides w at None (reading_of st)) t ≡ Err TooDeep
+first_deep language w at st t fails =
     not_equals _ _ t.kind (λ k. not_deep (sym (err_is {A = State} TooDeep Expected (step_equals st (Err TooDeep) t fails k))))
     ∙ ap (λ x. x >>= λ r. Ok (line.Sides w at None r)) (token_deep st t fails)
 
-second_each : (w : SidesWord) (at : Spot) (left : Sum) (st next : State) (t : Token) → step st t ≡ Ok next → by_token (line.Sides w at (Some left) (reading_of st)) t ≡ Ok (line.Sides w at (Some left) (reading_of next))
-second_each w at left st next t goes = ap (λ x. x >>= λ r. Ok (line.Sides w at (Some left) r)) (token_seen st next t goes)
+second_each : (language : Language) (w : SidesWord) (at : Spot) (left : Sum) (st next : State) (t : Token) → step st t ≡ Ok next → by_token language (line.Sides w at (Some left) (reading_of st)) t ≡ Ok (line.Sides w at (Some left) (reading_of next))
+second_each language w at left st next t goes = ap (λ x. x >>= λ r. Ok (line.Sides w at (Some left) r)) (token_seen st next t goes)
 
-second_deep : (w : SidesWord) (at : Spot) (left : Sum) (st : State) (t : Token) → step st t ≡ Err TooDeep → by_token (line.Sides w at (Some left) (reading_of st)) t ≡ Err TooDeep
-second_deep w at left st t fails = ap (λ x. x >>= λ r. Ok (line.Sides w at (Some left) r)) (token_deep st t fails)
+second_deep : (language : Language) (w : SidesWord) (at : Spot) (left : Sum) (st : State) (t : Token) → step st t ≡ Err TooDeep → by_token language (line.Sides w at (Some left) (reading_of st)) t ≡ Err TooDeep
+second_deep language w at left st t fails = ap (λ x. x >>= λ r. Ok (line.Sides w at (Some left) r)) (token_deep st t fails)
 
 sum_seen : (e : Expr) → whole_sum (reading_of (end_state [] e)) ≡ Ok (expr_tree e)
 sum_seen e = whole-seen (end_state [] e) ∙ ap (λ o. tree_or o Expected) (end-whole e)
 
-equals_step : (w : SidesWord) (at : Spot) (d : Expr) (equals : Spot)
-    → by_token (line.Sides w at None (reading_of (end_state [] d))) (sign_token kind.Equals equals) ≡ Ok (line.Sides w at (Some (expr_tree d)) (reading_of (fresh [])))
-equals_step w at d equals = ap (λ x. x >>= λ left. Ok (line.Sides w at (Some left) start_reading)) (sum_seen d)
+equals_step : (language : Language) (w : SidesWord) (at : Spot) (d : Expr) (equals : Spot)
+    → by_token language (line.Sides w at None (reading_of (end_state [] d))) (sign_token kind.Equals equals) ≡ Ok (line.Sides w at (Some (expr_tree d)) (reading_of (fresh [])))
+equals_step language w at d equals = ap (λ x. x >>= λ left. Ok (line.Sides w at (Some left) start_reading)) (sum_seen d)
 
-sides_start : (w : SidesWord) (at : Spot) (rest : List Token) → run by_token line.Start (word_token (sides_text w) at ∷ rest) ≡ run by_token (line.Sides w at None (reading_of (fresh []))) rest
-unfolding run
-sides_start Assume at rest = refl
-sides_start Claim at rest = refl
+sides_start : (language : Language) (w : SidesWord) (at : Spot) (rest : List Token) → run (by_token language) line.Start (word_token (sides_text w) at ∷ rest) ≡ run (by_token language) (line.Sides w at None (reading_of (fresh []))) rest
+sides_start language Assume at rest = word_starts language (sides_text Assume) (opening.Sides Assume) at rest refl refl
+sides_start language Claim at rest = word_starts language (sides_text Claim) (opening.Sides Claim) at rest refl refl
 
-sides_run : (w : SidesWord) (at : Spot) (d : Expr) (equals : Spot) (e : Expr)
-    → Upto (ExprFits d bracket_limit × ExprFits e bracket_limit) (run by_token line.Start (stated_tokens (sides w at d equals e))) (Ok (line.Sides w at (Some (expr_tree d)) (reading_of (end_state [] e))))
-sides_run w at d equals e =
-    before_it (sides_start w at (expr_tokens d ++ sign_token kind.Equals equals ∷ expr_tokens e))
+sides_run : (language : Language) (w : SidesWord) (at : Spot) (d : Expr) (equals : Spot) (e : Expr)
+    → Upto (ExprFits d bracket_limit × ExprFits e bracket_limit) (run (by_token language) line.Start (stated_tokens (sides w at d equals e))) (Ok (line.Sides w at (Some (expr_tree d)) (reading_of (end_state [] e))))
+sides_run language w at d equals e =
+    before_it (sides_start language w at (expr_tokens d ++ sign_token kind.Equals equals ∷ expr_tokens e))
     (then_on
-    (run_upto by_token (line.Sides w at None (reading_of (fresh []))) (expr_tokens d) (line.Sides w at None (reading_of (end_state [] d))) (sign_token kind.Equals equals ∷ expr_tokens e)
-    (inside_upto step by_token (λ st. line.Sides w at None (reading_of st)) (first_each w at) (first_deep w at) (expr_tokens d) (fresh []) (end_state [] d) (only d)))
-    (before_it (one_step by_token _ _ (sign_token kind.Equals equals) (expr_tokens e) (equals_step w at d equals))
-    (inside_upto step by_token (λ st. line.Sides w at (Some (expr_tree d)) (reading_of st)) (second_each w at (expr_tree d)) (second_deep w at (expr_tree d)) (expr_tokens e) (fresh []) (end_state [] e) (only e))))
+    (run_upto (by_token language) (line.Sides w at None (reading_of (fresh []))) (expr_tokens d) (line.Sides w at None (reading_of (end_state [] d))) (sign_token kind.Equals equals ∷ expr_tokens e)
+    (inside_upto step (by_token language) (λ st. line.Sides w at None (reading_of st)) (first_each language w at) (first_deep language w at) (expr_tokens d) (fresh []) (end_state [] d) (only d)))
+    (before_it (one_step (by_token language) _ _ (sign_token kind.Equals equals) (expr_tokens e) (equals_step language w at d equals))
+    (inside_upto step (by_token language) (λ st. line.Sides w at (Some (expr_tree d)) (reading_of st)) (second_each language w at (expr_tree d)) (second_deep language w at (expr_tree d)) (expr_tokens e) (fresh []) (end_state [] e) (only e))))
 
 -- ---- names and pairs
 
-list_start : (w : ListWord) (at : Spot) (rest : List Token) → run by_token line.Start (word_token (list_text w) at ∷ rest) ≡ run by_token (line.List w at []) rest
+list_start : (language : Language) (w : ListWord) (at : Spot) (n : Name) (ns : List Name) (rest : List Token) → IsOf language (listed w at n ns)
+    → run (by_token language) line.Start (word_token (list_text w) at ∷ rest) ≡ run (by_token language) (line.List w at []) rest
 unfolding run
-list_start Object at rest = refl
-list_start Solve at rest = refl
+list_start language Object at n ns rest speaks = word_starts language (list_text Object) (opening.List Object) at rest refl refl
+list_start language Solve at n ns rest speaks = word_starts language (list_text Solve) (opening.List Solve) at rest refl refl
+list_start First Eliminate at n ns rest speaks = absurd speaks
+list_start Second Eliminate at n ns rest speaks = refl
 
-list_run : (w : ListWord) (at : Spot) (front ns : List Name) → run by_token (line.List w at front) (names_tokens ns) ≡ Ok (line.List w at (front ++ ns))
+list_run : (language : Language) (w : ListWord) (at : Spot) (front ns : List Name) → run (by_token language) (line.List w at front) (names_tokens ns) ≡ Ok (line.List w at (front ++ ns))
 unfolding run
-list_run w at front [] = ap (λ ns. Ok (line.List w at ns)) (sym (append-nil front))
-list_run w at front (n ∷ ns) = list_run w at (front ++ n ∷ []) ns ∙ ap (λ x. Ok (line.List w at x)) (append_assoc front (n ∷ []) ns)
+list_run language w at front [] = ap (λ ns. Ok (line.List w at ns)) (sym (append-nil front))
+list_run language w at front (n ∷ ns) = list_run language w at (front ++ n ∷ []) ns ∙ ap (λ x. Ok (line.List w at x)) (append_assoc front (n ∷ []) ns)
 
-names_run : (at : Spot) (front ns : List Name) (behind : List Token) → run by_token (line.Map at front rest.Names) (names_tokens ns ++ behind) ≡ run by_token (line.Map at (front ++ ns) rest.Names) behind
+names_run : (language : Language) (at : Spot) (front ns : List Name) (behind : List Token) → run (by_token language) (line.Map at front rest.Names) (names_tokens ns ++ behind) ≡ run (by_token language) (line.Map at (front ++ ns) rest.Names) behind
 unfolding run
-names_run at front [] behind = ap (λ ns. run by_token (line.Map at ns rest.Names) behind) (sym (append-nil front))
-names_run at front (n ∷ ns) behind = names_run at (front ++ n ∷ []) ns behind ∙ ap (λ x. run by_token (line.Map at x rest.Names) behind) (append_assoc front (n ∷ []) ns)
+names_run language at front [] behind = ap (λ ns. run (by_token language) (line.Map at ns rest.Names) behind) (sym (append-nil front))
+names_run language at front (n ∷ ns) behind = names_run language at (front ++ n ∷ []) ns behind ∙ ap (λ x. run (by_token language) (line.Map at x rest.Names) behind) (append_assoc front (n ∷ []) ns)
 
-map_rest : (at : Spot) (n : Name) (ns : List Name) (colon : Spot) (s : Name) (arrow : Spot) (t : Name) (behind : List Token)
-    → run by_token (line.Map at (n ∷ ns) rest.Names) (sign_token kind.Colon colon ∷ name_token s ∷ sign_token kind.Arrow arrow ∷ name_token t ∷ behind) ≡ run by_token (line.Map at (n ∷ ns) (rest.Target s t)) behind
+map_rest : (language : Language) (at : Spot) (n : Name) (ns : List Name) (colon : Spot) (s : Name) (arrow : Spot) (t : Name) (behind : List Token)
+    → run (by_token language) (line.Map at (n ∷ ns) rest.Names) (sign_token kind.Colon colon ∷ name_token s ∷ sign_token kind.Arrow arrow ∷ name_token t ∷ behind) ≡ run (by_token language) (line.Map at (n ∷ ns) (rest.Target s t)) behind
 unfolding run
-map_rest at n ns colon s arrow t behind = refl
+map_rest language at n ns colon s arrow t behind = refl
 
 abbrev map_line : Spot → List Name → Name → Name → Ending → Line
 map_line at names s t no_word = line.Map at names (rest.Target s t)
 map_line at names s t (self_word self) = whole at (statement.Maps names s t true)
 
-map_last : (at : Spot) (names : List Name) (s t : Name) (end : Ending) → run by_token (line.Map at names (rest.Target s t)) (ending_tokens end) ≡ Ok (map_line at names s t end)
+map_last : (language : Language) (at : Spot) (names : List Name) (s t : Name) (end : Ending) → run (by_token language) (line.Map at names (rest.Target s t)) (ending_tokens end) ≡ Ok (map_line at names s t end)
 unfolding run
-map_last at names s t no_word = refl
-map_last at names s t (self_word self) = refl
+map_last language at names s t no_word = refl
+map_last language at names s t (self_word self) = refl
 
-map_start : (at : Spot) (behind : List Token) → run by_token line.Start (word_token (codes "map") at ∷ behind) ≡ run by_token (line.Map at [] rest.Names) behind
+map_start : (language : Language) (at : Spot) (behind : List Token) → run (by_token language) line.Start (word_token (codes "map") at ∷ behind) ≡ run (by_token language) (line.Map at [] rest.Names) behind
 unfolding run
-map_start at behind = refl
+map_start language at behind = word_starts language (codes "map") opening.Map at behind refl refl
 
-map_run : (at : Spot) (n : Name) (ns : List Name) (colon : Spot) (s : Name) (arrow : Spot) (t : Name) (end : Ending)
-    → run by_token line.Start (stated_tokens (mapped at n ns colon s arrow t end)) ≡ Ok (map_line at (n ∷ ns) s t end)
-map_run at n ns colon s arrow t end =
-    map_start at (names_tokens (n ∷ ns) ++ sign_token kind.Colon colon ∷ name_token s ∷ sign_token kind.Arrow arrow ∷ name_token t ∷ ending_tokens end)
-    ∙ names_run at [] (n ∷ ns) (sign_token kind.Colon colon ∷ name_token s ∷ sign_token kind.Arrow arrow ∷ name_token t ∷ ending_tokens end)
-    ∙ map_rest at n ns colon s arrow t (ending_tokens end)
-    ∙ map_last at (n ∷ ns) s t end
+map_run : (language : Language) (at : Spot) (n : Name) (ns : List Name) (colon : Spot) (s : Name) (arrow : Spot) (t : Name) (end : Ending)
+    → run (by_token language) line.Start (stated_tokens (mapped at n ns colon s arrow t end)) ≡ Ok (map_line at (n ∷ ns) s t end)
+map_run language at n ns colon s arrow t end =
+    map_start language at (names_tokens (n ∷ ns) ++ sign_token kind.Colon colon ∷ name_token s ∷ sign_token kind.Arrow arrow ∷ name_token t ∷ ending_tokens end)
+    ∙ names_run language at [] (n ∷ ns) (sign_token kind.Colon colon ∷ name_token s ∷ sign_token kind.Arrow arrow ∷ name_token t ∷ ending_tokens end)
+    ∙ map_rest language at n ns colon s arrow t (ending_tokens end)
+    ∙ map_last language at (n ∷ ns) s t end
 
-pair_run : (w : PairWord) (at : Spot) (m n : Name) → run by_token line.Start (stated_tokens (paired w at m n)) ≡ Ok (line.Whole (stated_tree (paired w at m n)))
+pair_run : (language : Language) (w : PairWord) (at : Spot) (m n : Name) → run (by_token language) line.Start (stated_tokens (paired w at m n)) ≡ Ok (line.Whole (stated_tree (paired w at m n)))
 unfolding run
-pair_run Pinv at m n = refl
-pair_run Inverse at m n = refl
-pair_run Inner at m n = refl
+pair_run language Pinv at m n = word_starts language (pair_text Pinv) (opening.Pair Pinv) at (name_token m ∷ name_token n ∷ []) refl refl
+pair_run language Inverse at m n = word_starts language (pair_text Inverse) (opening.Pair Inverse) at (name_token m ∷ name_token n ∷ []) refl refl
+pair_run language Inner at m n = word_starts language (pair_text Inner) (opening.Pair Inner) at (name_token m ∷ name_token n ∷ []) refl refl
 
-projection_run : (at : Spot) (n : Name) → run by_token line.Start (stated_tokens (projected at n)) ≡ Ok (line.Whole (stated_tree (projected at n)))
+projection_run : (language : Language) (at : Spot) (n : Name) → run (by_token language) line.Start (stated_tokens (projected at n)) ≡ Ok (line.Whole (stated_tree (projected at n)))
 unfolding run
-projection_run at n = refl
+projection_run language at n = word_starts language (codes "projection") opening.Projection at (name_token n ∷ []) refl refl
 
-degree_run : (at word : Spot) → run by_token line.Start (stated_tokens (by_degree at word)) ≡ Ok (line.Whole (stated_tree (by_degree at word)))
+degree_run : (language : Language) (at word : Spot) → run (by_token language) line.Start (stated_tokens (by_degree at word)) ≡ Ok (line.Whole (stated_tree (by_degree at word)))
 unfolding run
-degree_run at word = refl
+degree_run language at word = word_starts language (codes "order") opening.Order at (word_token (codes "degree") word ∷ []) refl refl
 
 abbrev whole_pairs_of : List (Name × Number) → Pairs
 whole_pairs_of ps = record { whole = ps; half = None }
 
-pairs_run : (wrap : Pairs → Line) → ((ps : List (Name × Number)) (p : Name × Number) (behind : List Token) → run by_token (wrap (whole_pairs_of ps)) (name_token p.0 ∷ number_token p.1 ∷ behind) ≡ run by_token (wrap (whole_pairs_of (ps ++ p ∷ []))) behind)
-    → (front ps : List (Name × Number)) → run by_token (wrap (whole_pairs_of front)) (pairs_tokens ps) ≡ Ok (wrap (whole_pairs_of (front ++ ps)))
+pairs_run : (language : Language) (wrap : Pairs → Line) → ((ps : List (Name × Number)) (p : Name × Number) (behind : List Token) → run (by_token language) (wrap (whole_pairs_of ps)) (name_token p.0 ∷ number_token p.1 ∷ behind) ≡ run (by_token language) (wrap (whole_pairs_of (ps ++ p ∷ []))) behind)
+    → (front ps : List (Name × Number)) → run (by_token language) (wrap (whole_pairs_of front)) (pairs_tokens ps) ≡ Ok (wrap (whole_pairs_of (front ++ ps)))
 unfolding run
-pairs_run wrap one front [] = ap (λ x. Ok (wrap (whole_pairs_of x))) (sym (append-nil front))
-pairs_run wrap one front (p ∷ ps) = one front p (pairs_tokens ps) ∙ pairs_run wrap one (front ++ p ∷ []) ps ∙ ap (λ x. Ok (wrap (whole_pairs_of x))) (append_assoc front (p ∷ []) ps)
+pairs_run language wrap one front [] = ap (λ x. Ok (wrap (whole_pairs_of x))) (sym (append-nil front))
+pairs_run language wrap one front (p ∷ ps) = one front p (pairs_tokens ps) ∙ pairs_run language wrap one (front ++ p ∷ []) ps ∙ ap (λ x. Ok (wrap (whole_pairs_of x))) (append_assoc front (p ∷ []) ps)
 
-weight_one : (at : Spot) (ps : List (Name × Number)) (p : Name × Number) (behind : List Token)
-    → run by_token (line.Weights at (whole_pairs_of ps)) (name_token p.0 ∷ number_token p.1 ∷ behind) ≡ run by_token (line.Weights at (whole_pairs_of (ps ++ p ∷ []))) behind
+weight_one : (language : Language) (at : Spot) (ps : List (Name × Number)) (p : Name × Number) (behind : List Token)
+    → run (by_token language) (line.Weights at (whole_pairs_of ps)) (name_token p.0 ∷ number_token p.1 ∷ behind) ≡ run (by_token language) (line.Weights at (whole_pairs_of (ps ++ p ∷ []))) behind
 unfolding run
-weight_one at ps p behind = refl
+weight_one language at ps p behind = refl
 
-side_one : (at : Spot) (m : Number) (ps : List (Name × Number)) (p : Name × Number) (behind : List Token)
-    → run by_token (line.Shape at m (whole_pairs_of ps)) (name_token p.0 ∷ number_token p.1 ∷ behind) ≡ run by_token (line.Shape at m (whole_pairs_of (ps ++ p ∷ []))) behind
+side_one : (language : Language) (at : Spot) (m : Number) (ps : List (Name × Number)) (p : Name × Number) (behind : List Token)
+    → run (by_token language) (line.Shape at m (whole_pairs_of ps)) (name_token p.0 ∷ number_token p.1 ∷ behind) ≡ run (by_token language) (line.Shape at m (whole_pairs_of (ps ++ p ∷ []))) behind
 unfolding run
-side_one at m ps p behind = refl
+side_one language at m ps p behind = refl
 
-weight_start : (at word : Spot) (behind : List Token) → run by_token line.Start (word_token (codes "order") at ∷ word_token (codes "weight") word ∷ behind) ≡ run by_token (line.Weights at (whole_pairs_of [])) behind
+weight_start : (language : Language) (at word : Spot) (behind : List Token) → run (by_token language) line.Start (word_token (codes "order") at ∷ word_token (codes "weight") word ∷ behind) ≡ run (by_token language) (line.Weights at (whole_pairs_of [])) behind
 unfolding run
-weight_start at word behind = refl
+weight_start language at word behind = word_starts language (codes "order") opening.Order at (word_token (codes "weight") word ∷ behind) refl refl
 
-model_start : (at : Spot) (m : Number) (behind : List Token) → run by_token line.Start (word_token (codes "model") at ∷ number_token m ∷ behind) ≡ run by_token (line.Shape at m (whole_pairs_of [])) behind
+model_start : (language : Language) (at : Spot) (m : Number) (behind : List Token) → run (by_token language) line.Start (word_token (codes "model") at ∷ number_token m ∷ behind) ≡ run (by_token language) (line.Shape at m (whole_pairs_of [])) behind
 unfolding run
-model_start at m behind = refl
+model_start language at m behind = word_starts language (codes "model") opening.Model at (number_token m ∷ behind) refl refl
 
 -- ---- all statements
 
@@ -203,16 +219,19 @@ end_line (projected at n) = line.Whole (stated_tree (projected at n))
 end_line (by_degree at word) = line.Whole (stated_tree (by_degree at word))
 end_line (by_weight at word p ps) = line.Weights at (whole_pairs_of (p ∷ ps))
 end_line (modelled at m ps) = line.Shape at m (whole_pairs_of ps)
+-- it is of no language
+end_line (second_language at number) = line.Whole (stated_tree (second_language at number))
 
-pub stated_run : (s : Stated) → Upto (StatedFits s) (run by_token line.Start (stated_tokens s)) (Ok (end_line s))
-stated_run (listed w at n ns) = inl (tt, list_start w at (names_tokens (n ∷ ns)) ∙ list_run w at [] (n ∷ ns))
-stated_run (mapped at n ns colon s arrow t end) = inl (tt, map_run at n ns colon s arrow t end)
-stated_run (sides w at d equals e) = sides_run w at d equals e
-stated_run (paired w at m n) = inl (tt, pair_run w at m n)
-stated_run (projected at n) = inl (tt, projection_run at n)
-stated_run (by_degree at word) = inl (tt, degree_run at word)
-stated_run (by_weight at word p ps) = inl (tt, weight_start at word (pairs_tokens (p ∷ ps)) ∙ pairs_run (line.Weights at) (weight_one at) [] (p ∷ ps))
-stated_run (modelled at m ps) = inl (tt, model_start at m (pairs_tokens ps) ∙ pairs_run (line.Shape at m) (side_one at m) [] ps)
+pub stated_run : (language : Language) (s : Stated) → IsOf language s → Upto (StatedFits s) (run (by_token language) line.Start (stated_tokens s)) (Ok (end_line s))
+stated_run language (listed w at n ns) speaks = inl (tt, list_start language w at n ns (names_tokens (n ∷ ns)) speaks ∙ list_run language w at [] (n ∷ ns))
+stated_run language (mapped at n ns colon s arrow t end) speaks = inl (tt, map_run language at n ns colon s arrow t end)
+stated_run language (sides w at d equals e) speaks = sides_run language w at d equals e
+stated_run language (paired w at m n) speaks = inl (tt, pair_run language w at m n)
+stated_run language (projected at n) speaks = inl (tt, projection_run language at n)
+stated_run language (by_degree at word) speaks = inl (tt, degree_run language at word)
+stated_run language (by_weight at word p ps) speaks = inl (tt, weight_start language at word (pairs_tokens (p ∷ ps)) ∙ pairs_run language (line.Weights at) (weight_one language at) [] (p ∷ ps))
+stated_run language (modelled at m ps) speaks = inl (tt, model_start language at m (pairs_tokens ps) ∙ pairs_run language (line.Shape at m) (side_one language at m) [] ps)
+stated_run language (second_language at number) speaks = absurd speaks
 
 map_line-end : (at : Spot) (names : List Name) (s t : Name) (end : Ending) → line_end (map_line at names s t end) ≡ Ok (record { at = at; kind = statement.Maps names s t (is_self end) })
 map_line-end at names s t no_word = refl
@@ -228,11 +247,4 @@ stated_end (projected at n) = refl
 stated_end (by_degree at word) = refl
 stated_end (by_weight at word p ps) = refl
 stated_end (modelled at m ps) = refl
-
--- ---- the end of a line is a step of no line
-
-no_end : (st : State) (f : Focus) (at : Spot) → step (record { levels = st.levels; head = st.head; part = st.part; focus = f }) (sign_token kind.End at) ≡ Err Expected
-unfolding step
-no_end st outside at = refl
-no_end st (square left) at = refl
-no_end st (machine.named left n) at = refl
+stated_end (second_language at number) = refl

@@ -9,7 +9,7 @@ use Rattle.statement_syntax.specs.declared.tree.Name.{Name}
 use Rattle.statement_syntax.specs.declared.tree.Number.{Number}
 use Rattle.statement_syntax.specs.declared.expression.Misfit.{Misfit}
 use Rattle.statement_syntax.specs.declared.expression.Misfit.TheVariants.{Expected, TooDeep}
-use Rattle.statement_syntax.specs.Grammar.{Lead, no_sign, lead_plus, lead_minus, Sign, plus, minus, Expr, first, joined, Product, zero_alone, factors, Factors, one, beside, plain, marked, Prime, name, identity, bracket, sign_token, name_token, number_token, lead_tokens, signed_token, literal_tokens, expr_tokens, factors_tokens}
+use Rattle.statement_syntax.specs.Grammar.{Lead, no_sign, lead_plus, lead_minus, Sign, plus, minus, Expr, first, joined, Product, zero_alone, factors, Factors, one, beside, plain, marked, raised, Prime, name, identity, bracket, sign_token, name_token, number_token, lead_tokens, signed_token, literal_tokens, expr_tokens, factors_tokens}
 
 -- what stands before the term that is read
 pub data Head : Type 0 where
@@ -22,11 +22,12 @@ pub data Part : Type 0 where
   scaled : Number → Part
   product : Option Number → Factors → Part
 
--- inside square brackets, or not
+-- inside square brackets, behind a caret with the product before it, or neither
 pub data Focus : Type 0 where
   outside : Focus
   square : Spot → Focus
   named : Spot → Name → Focus
+  behind_caret : Option Number → Factors → Spot → Focus
 
 -- a round bracket that is open, with what stands before it
 pub record Level : Type 0 where
@@ -51,6 +52,10 @@ add (product l fs) p = product l (beside fs (plain p))
 abbrev pub with_mark : Factors → Spot → Factors
 with_mark (one f) at = one (marked f at)
 with_mark (beside fs f) at = beside fs (marked f at)
+
+abbrev pub with_power : Factors → Spot → Number → Factors
+with_power (one f) at n = one (raised f at n)
+with_power (beside fs f) at n = beside fs (raised f at n)
 
 -- a literal alone is a term only where its value is 0
 abbrev pub lone_literal : ℤ → Spot → Option Product
@@ -98,6 +103,11 @@ step_quote levels head nothing at = Err Expected
 step_quote levels head (scaled n) at = Err Expected
 step_quote levels head (product l fs) at = Ok (record { levels = levels; head = head; part = product l (with_mark fs at); focus = outside })
 
+abbrev pub step_caret : List Level → Head → Part → Spot → Stepped
+step_caret levels head nothing at = Err Expected
+step_caret levels head (scaled n) at = Err Expected
+step_caret levels head (product l fs) at = Ok (record { levels = levels; head = head; part = nothing; focus = behind_caret l fs at })
+
 abbrev pub close_after : List Level → Head → Option Product → Spot → Stepped
 close_after levels head None at = Err Expected
 close_after [] head (Some t) at = Err Expected
@@ -121,6 +131,7 @@ step_outside levels head part kind.Close at = close_after levels head (whole_ter
 step_outside levels head part kind.OpenSquare at = Ok (record { levels = levels; head = head; part = part; focus = square at })
 step_outside levels head part kind.CloseSquare at = Err Expected
 step_outside levels head part kind.Quote at = step_quote levels head part at
+step_outside levels head part kind.Caret at = step_caret levels head part at
 step_outside levels head part kind.End at = Err Expected
 
 abbrev pub step_square : List Level → Head → Part → Spot → Spot → TokenKind → Stepped
@@ -131,10 +142,16 @@ abbrev pub step_named : List Level → Head → Part → Spot → Name → Spot 
 step_named levels head part left n at kind.CloseSquare = Ok (record { levels = levels; head = head; part = add part (identity left n at); focus = outside })
 step_named levels head part left n at k = Err Expected
 
+abbrev pub step_power : List Level → Head → Option Number → Factors → Spot → TokenKind → Spot → Stepped
+step_power levels head l fs caret (kind.Literal n) at =
+    Ok (record { levels = levels; head = head; part = product l (with_power fs caret (record { value = n; at = at })); focus = outside })
+step_power levels head l fs caret k at = Err Expected
+
 abbrev pub step_by : List Level → Head → Part → Focus → TokenKind → Spot → Stepped
 step_by levels head part outside k at = step_outside levels head part k at
 step_by levels head part (square left) k at = step_square levels head part left at k
 step_by levels head part (named left n) k at = step_named levels head part left n at k
+step_by levels head part (behind_caret l fs caret) k at = step_power levels head l fs caret k at
 
 unfoldable pub step : State → Token → Stepped
 step st t = step_by st.levels st.head st.part st.focus t.kind t.at
@@ -145,6 +162,7 @@ end_by [] head outside (Some t) = Some (with_term head t)
 end_by [] head outside None = None
 end_by [] head (square left) t = None
 end_by [] head (named left n) t = None
+end_by [] head (behind_caret l fs caret) t = None
 end_by (level ∷ levels) head focus t = None
 
 abbrev pub whole : State → Option Expr
@@ -160,14 +178,22 @@ part_tokens nothing = []
 part_tokens (scaled n) = number_token n ∷ []
 part_tokens (product l fs) = literal_tokens l ++ factors_tokens fs
 
+-- behind a caret the product stands in the focus
+abbrev pub kept_tokens : Part → Focus → List Token
+kept_tokens part outside = part_tokens part
+kept_tokens part (square left) = part_tokens part
+kept_tokens part (named left n) = part_tokens part
+kept_tokens part (behind_caret l fs caret) = []
+
 abbrev pub focus_tokens : Focus → List Token
 focus_tokens outside = []
 focus_tokens (square left) = sign_token kind.OpenSquare left ∷ []
 focus_tokens (named left n) = sign_token kind.OpenSquare left ∷ name_token n ∷ []
+focus_tokens (behind_caret l fs caret) = literal_tokens l ++ factors_tokens fs ++ sign_token kind.Caret caret ∷ []
 
 abbrev pub level_tokens : List Level → List Token
 level_tokens [] = []
 level_tokens (level ∷ levels) = level_tokens levels ++ head_tokens level.head ++ part_tokens level.part ++ sign_token kind.Open level.at ∷ []
 
 abbrev pub state_tokens : State → List Token
-state_tokens st = level_tokens st.levels ++ head_tokens st.head ++ part_tokens st.part ++ focus_tokens st.focus
+state_tokens st = level_tokens st.levels ++ head_tokens st.head ++ kept_tokens st.part st.focus ++ focus_tokens st.focus

@@ -10,7 +10,7 @@ use Rattle.statement_syntax.specs.declared.tree.Number.{Number}
 use Rattle.statement_syntax.specs.declared.expression.Misfit.TheVariants.{TooDeep}
 use Rattle.statement_syntax.specs.Steps.{◌>>=◌, run}
 use Rattle.statement_syntax.proofs.Run.{Upto, then_on, before_it, after_it, one_step}
-use Rattle.statement_syntax.specs.Grammar.{Lead, no_sign, lead_plus, lead_minus, Sign, plus, minus, Expr, first, joined, Product, zero_alone, factors, Factors, one, beside, Marked, plain, marked, Prime, name, identity, bracket, sign_token, name_token, lead_tokens, signed_token, literal_tokens, zero_at, expr_tokens, product_tokens, factors_tokens, marked_tokens, prime_tokens, ExprFits, ProductFits, FactorsFit, MarkedFits, PrimeFits}
+use Rattle.statement_syntax.specs.Grammar.{Lead, no_sign, lead_plus, lead_minus, Sign, plus, minus, Expr, first, joined, Product, zero_alone, factors, Factors, one, beside, Marked, plain, marked, raised, Prime, name, identity, bracket, sign_token, name_token, number_token, lead_tokens, signed_token, literal_tokens, zero_at, expr_tokens, product_tokens, factors_tokens, marked_tokens, prime_tokens, ExprFits, ProductFits, FactorsFit, MarkedFits, PrimeFits}
 use Rattle.statement_syntax.proofs.Machine.{Head, led, after, Part, nothing, scaled, product, outside, Level, State, fresh, add, step, whole}
 
 -- ---- the state at the end of each part
@@ -67,6 +67,13 @@ unfolding step
 quote_step levels head nothing f at = refl
 quote_step levels head (scaled n) f at = refl
 quote_step levels head (product l fs) f at = refl
+
+power_run : (levels : List Level) (head : Head) (part : Part) (f : Marked) (at : Spot) (n : Number) (rest : List Token)
+    → run step (at_outside levels head (add_marked part f)) (sign_token kind.Caret at ∷ number_token n ∷ rest) ≡ run step (at_outside levels head (add_marked part (raised f at n))) rest
+unfolding step run
+power_run levels head nothing f at n rest = refl
+power_run levels head (scaled m) f at n rest = refl
+power_run levels head (product l fs) f at n rest = refl
 
 literal_run : (levels : List Level) (head : Head) (l : Option Number) (rest : List Token)
     → run step (at_outside levels head nothing) (literal_tokens l ++ rest) ≡ run step (at_outside levels head (after_literal l)) rest
@@ -145,6 +152,10 @@ mutual
       before_it (ap (run step (at_outside levels head part)) (append_assoc (marked_tokens f) (sign_token kind.Quote at ∷ []) rest))
       (after_it (marked_run levels head part f d (sign_token kind.Quote at ∷ rest) room)
       (one_step step (at_outside levels head (add_marked part f)) (at_outside levels head (add_marked part (marked f at))) (sign_token kind.Quote at) rest (quote_step levels head part f at)))
+
+  marked_run levels head part (raised f at n) d rest room =
+      before_it (ap (run step (at_outside levels head part)) (append_assoc (marked_tokens f) (sign_token kind.Caret at ∷ number_token n ∷ []) rest))
+      (after_it (marked_run levels head part f d (sign_token kind.Caret at ∷ number_token n ∷ rest) room) (power_run levels head part f at n rest))
 
   prime_run : (levels : List Level) (head : Head) (part : Part) (p : Prime) (d : ℕ) (rest : List Token) → length levels + d ≡ bracket_limit
       → Upto (PrimeFits p d) (run step (at_outside levels head part) (prime_tokens p ++ rest)) (run step (at_outside levels head (add part p)) rest)

@@ -11,11 +11,11 @@ use Rattle.statement_syntax.specs.declared.tree.Number.{Number}
 use Rattle.statement_syntax.specs.declared.tree.Term.{Term, out-Term, out-roll-Term}
 use Rattle.statement_syntax.specs.declared.expression.Misfit.{Misfit}
 use Rattle.statement_syntax.specs.declared.expression.Misfit.TheVariants.{Expected, TooDeep}
-use Rattle.statement_syntax.specs.Grammar.{no_sign, lead_plus, lead_minus, Sign, plus, minus, Product, zero_alone, factors, one, beside, Prime, name, identity, bracket}
-use Rattle.statement_syntax.proofs.Machine.{Head, led, after, Part, nothing, scaled, product, Focus, outside, square, named, Level, State, fresh, add, lone_literal, whole_term, with_term, step_literal, lead_of, sign_after, step_sign, step_quote, close_after, step_open, step_outside, step_square, step_named, step_by, step, end_by, whole}
+use Rattle.statement_syntax.specs.Grammar.{no_sign, lead_plus, lead_minus, Sign, plus, minus, Product, zero_alone, factors, Factors, one, beside, Prime, name, identity, bracket}
+use Rattle.statement_syntax.proofs.Machine.{Head, led, after, Part, nothing, scaled, product, Focus, outside, square, named, behind_caret, Level, State, fresh, add, lone_literal, whole_term, with_term, step_literal, lead_of, sign_after, step_sign, step_quote, step_caret, close_after, step_open, step_outside, step_square, step_named, step_power, step_by, step, end_by, whole}
 use Rattle.statement_syntax.specs.Steps as steps
-use Rattle.statement_syntax.specs.Steps.{◌>>=◌, run}
-use Rattle.statement_syntax.specs.Tree.{prime_at, prime_tree, product_at, product_tree, expr_at, expr_terms, expr_tree, is_minus}
+use Rattle.statement_syntax.specs.Steps.{◌>>=◌}
+use Rattle.statement_syntax.specs.Tree.{prime_at, prime_tree, product_at, product_tree, expr_at, expr_terms, expr_tree, is_minus, literal_or, factors_at, front_trees, last_tree}
 use Rattle.statement_syntax.proofs.Seen.{head_of, part_of, focus_of, levels_of, reading_of, seen, tree_or}
 
 add-seen : (part : Part) (p : Prime) → steps.part_with (part_of part) (prime_tree p) (prime_at p) ≡ part_of (add part p)
@@ -87,6 +87,12 @@ quote-seen levels head (scaled n) at = refl
 quote-seen levels head (product l (one f)) at = refl
 quote-seen levels head (product l (beside fs f)) at = refl
 
+caret-seen : (levels : List Level) (head : Head) (part : Part) (at : Spot)
+    → steps.caret_step (levels_of levels) (head_of head) (part_of part) at ≡ seen (step_caret levels head part at)
+caret-seen levels head nothing at = refl
+caret-seen levels head (scaled n) at = refl
+caret-seen levels head (product l fs) at = refl
+
 literal-seen : (levels : List Level) (head : Head) (part : Part) (n : Number)
     → steps.literal_step (levels_of levels) (head_of head) (part_of part) n ≡ seen (step_literal levels head part n)
 literal-seen levels head nothing n = refl
@@ -138,6 +144,7 @@ outside-seen levels head part kind.Close at = close-seen levels head part at
 outside-seen levels head part kind.OpenSquare at = refl
 outside-seen levels head part kind.CloseSquare at = refl
 outside-seen levels head part kind.Quote at = quote-seen levels head part at
+outside-seen levels head part kind.Caret at = caret-seen levels head part at
 outside-seen levels head part kind.End at = refl
 
 square-seen : (levels : List Level) (head : Head) (part : Part) (left : Spot) (k : TokenKind) (at : Spot)
@@ -150,11 +157,18 @@ named-seen : (levels : List Level) (head : Head) (part : Part) (left : Spot) (n 
 named-seen levels head part left n kind.CloseSquare at = ap (λ p. Ok (steps.outside (levels_of levels) (head_of head) p)) (add-seen part (identity left n at))
 named-seen levels head part left n k at = refl
 
+power-seen : (levels : List Level) (head : Head) (l : Option Number) (fs : Factors) (caret : Spot) (k : TokenKind) (at : Spot)
+    → steps.raised_step (levels_of levels) (head_of head) (literal_or l (factors_at fs)) l (front_trees fs) (last_tree fs) caret k at ≡ seen (step_power levels head l fs caret k at)
+power-seen levels head l (one f) caret (kind.Literal n) at = refl
+power-seen levels head l (beside fs f) caret (kind.Literal n) at = refl
+power-seen levels head l fs caret k at = refl
+
 focus-seen : (levels : List Level) (head : Head) (part : Part) (f : Focus) (k : TokenKind) (at : Spot)
     → steps.focus_step (levels_of levels) (head_of head) (part_of part) (focus_of f) k at ≡ seen (step_by levels head part f k at)
 focus-seen levels head part outside k at = outside-seen levels head part k at
 focus-seen levels head part (square left) k at = square-seen levels head part left k at
 focus-seen levels head part (named left n) k at = named-seen levels head part left n k at
+focus-seen levels head part (behind_caret l fs caret) k at = power-seen levels head l fs caret k at
 
 -- one step of the program is one of the definition
 pub step-seen : (st : State) (t : Token) → steps.token_step (reading_of st) t.kind t.at ≡ seen (step st t)
@@ -166,6 +180,7 @@ whole_made : (levels : List Level) (head : Head) (part : Part) (f : Focus)
 whole_made (level ∷ levels) head part f = refl
 whole_made [] head part (square left) = refl
 whole_made [] head part (named left n) = refl
+whole_made [] head part (behind_caret l fs caret) = refl
 whole_made [] head part outside = ap (λ r. r >>= λ t. Ok (steps.sum_with (head_of head) t)) (ended-seen part (head_of head).negative) ∙ last (whole_term part)
   where
     last : (t : Option Product) → (product_or t (head_of head).negative >>= λ x. Ok (steps.sum_with (head_of head) x)) ≡ tree_or (end_by [] head outside t) Expected

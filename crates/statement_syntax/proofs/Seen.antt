@@ -28,6 +28,7 @@ abbrev pub focus_of : machine.Focus → Focus
 focus_of machine.outside = focus.Outside
 focus_of (machine.square left) = focus.Square left
 focus_of (machine.named left n) = focus.Named left n
+focus_of (machine.behind_caret l fs caret) = focus.Raised (literal_or l (factors_at fs)) l (front_trees fs) (last_tree fs) caret
 
 abbrev pub levels_of : List machine.Level → List Level
 levels_of [] = []

@@ -13,7 +13,7 @@ use Rattle.statement_syntax.specs.declared.expression.Misfit.TheVariants.{TooDee
 use Rattle.statement_syntax.specs.Steps.{run}
 use Rattle.statement_syntax.proofs.Run.{bind_ok}
 use Rattle.statement_syntax.specs.Grammar.{no_sign, lead_plus, lead_minus, Sign, plus, minus, Product, zero_alone, factors, Factors, one, beside, Prime, name, identity, bracket, sign_token, name_token, number_token, lead_tokens, signed_token, literal_tokens, expr_tokens, product_tokens, factors_tokens, marked_tokens, prime_tokens}
-use Rattle.statement_syntax.proofs.Machine.{Head, led, after, Part, nothing, scaled, product, Focus, outside, square, named, Level, State, fresh, add, with_mark, lone_literal, whole_term, with_term, Stepped, step_literal, lead_of, sign_after, step_sign, step_quote, close_after, step_outside, step_square, step_named, step_by, step, head_tokens, part_tokens, focus_tokens, level_tokens, state_tokens}
+use Rattle.statement_syntax.proofs.Machine.{Head, led, after, Part, nothing, scaled, product, Focus, outside, square, named, behind_caret, Level, State, fresh, add, with_mark, with_power, lone_literal, whole_term, with_term, Stepped, step_literal, lead_of, sign_after, step_sign, step_quote, step_caret, close_after, step_outside, step_square, step_named, step_power, step_by, step, head_tokens, part_tokens, kept_tokens, focus_tokens, level_tokens, state_tokens}
 
 abbrev done : State → Stepped
 done st = Ok st
@@ -26,6 +26,10 @@ add-tokens (product l fs) p = sym (append_assoc (literal_tokens l) (factors_toke
 pub mark-tokens : (fs : Factors) (at : Spot) → factors_tokens (with_mark fs at) ≡ factors_tokens fs ++ sign_token kind.Quote at ∷ []
 mark-tokens (one f) at = refl
 mark-tokens (beside fs f) at = sym (append_assoc (factors_tokens fs) (marked_tokens f) (sign_token kind.Quote at ∷ []))
+
+pub power-tokens : (fs : Factors) (at : Spot) (n : Number) → factors_tokens (with_power fs at n) ≡ factors_tokens fs ++ sign_token kind.Caret at ∷ number_token n ∷ []
+power-tokens (one f) at n = refl
+power-tokens (beside fs f) at n = sym (append_assoc (factors_tokens fs) (marked_tokens f) (sign_token kind.Caret at ∷ number_token n ∷ []))
 
 pub with_term-tokens : (head : Head) (t : Product) → expr_tokens (with_term head t) ≡ head_tokens head ++ product_tokens t
 with_term-tokens (led l) t = refl
@@ -43,7 +47,7 @@ whole_term-tokens (product l fs) t e = let t-is : factors l fs ≡ t = cc in ap 
 
 -- the tokens of a state with one more are those of the next
 abbrev Reads : List Level → Head → Part → Focus → Token → Stepped → Type 0
-Reads levels head part focus t (Ok st) = state_tokens st ≡ (level_tokens levels ++ head_tokens head ++ part_tokens part ++ focus_tokens focus) ++ t ∷ []
+Reads levels head part focus t (Ok st) = state_tokens st ≡ (level_tokens levels ++ head_tokens head ++ kept_tokens part focus ++ focus_tokens focus) ++ t ∷ []
 Reads levels head part focus t (Err e) = Unit {0}
 
 grow : (base x y e : List Token) → x ≡ y ++ e → (base ++ x) ++ [] ≡ ((base ++ y) ++ []) ++ e
@@ -65,6 +69,18 @@ quote_reads levels head nothing at = tt
 quote_reads levels head (scaled m) at = tt
 quote_reads levels head (product l fs) at = grow (level_tokens levels ++ head_tokens head) _ (part_tokens (product l fs)) _
     (ap (λ (x : List Token). literal_tokens l ++ x) (mark-tokens fs at) ∙ sym (append_assoc (literal_tokens l) (factors_tokens fs) (sign_token kind.Quote at ∷ [])))
+
+caret_group : (a p q e : List Token) → (a ++ []) ++ ((p ++ q) ++ e) ≡ ((a ++ (p ++ q)) ++ []) ++ e
+caret_group a p q e = simp (append-nil, append_assoc) refl
+
+caret_reads : (levels : List Level) (head : Head) (part : Part) (at : Spot)
+    → Reads levels head part outside (sign_token kind.Caret at) (step_caret levels head part at)
+caret_reads levels head nothing at = tt
+caret_reads levels head (scaled m) at = tt
+caret_reads levels head (product l fs) at = caret_group (level_tokens levels ++ head_tokens head) (literal_tokens l) (factors_tokens fs) (sign_token kind.Caret at ∷ [])
+
+power_group : (a p q c n f : List Token) → f ≡ q ++ (c ++ n) → (a ++ (p ++ f)) ++ [] ≡ ((a ++ []) ++ ((p ++ q) ++ c)) ++ n
+power_group a p q c n f given = simp (given, append-nil, append_assoc) refl
 
 sign_group : (a b c d e : List Token) → d ≡ b ++ c → ((a ++ (d ++ e)) ++ []) ++ [] ≡ (((a ++ b) ++ c) ++ []) ++ e
 sign_group a b c d e given = simp (given, append-nil, append_assoc) refl
@@ -130,6 +146,7 @@ outside_reads levels head part kind.Close at = close_reads levels head part at (
 outside_reads levels head part kind.OpenSquare at = simp (append-nil) refl
 outside_reads levels head part kind.CloseSquare at = tt
 outside_reads levels head part kind.Quote at = quote_reads levels head part at
+outside_reads levels head part kind.Caret at = caret_reads levels head part at
 outside_reads levels head part kind.End at = tt
 
 square_reads : (levels : List Level) (head : Head) (part : Part) (left : Spot) (k : TokenKind) (at : Spot)
@@ -146,11 +163,19 @@ named_reads levels head part left n kind.CloseSquare at =
     named_group (level_tokens levels ++ head_tokens head) (part_tokens part) (sign_token kind.OpenSquare left ∷ name_token n ∷ []) (sign_token kind.CloseSquare at ∷ []) _ (add-tokens part (identity left n at))
 named_reads levels head part left n k at = tt
 
+power_reads : (levels : List Level) (head : Head) (part : Part) (l : Option Number) (fs : Factors) (caret : Spot) (k : TokenKind) (at : Spot)
+    → Reads levels head part (behind_caret l fs caret) (sign_token k at) (step_power levels head l fs caret k at)
+power_reads levels head part l fs caret (kind.Literal n) at =
+    let number : Number = record { value = n; at = at } in
+    power_group (level_tokens levels ++ head_tokens head) (literal_tokens l) (factors_tokens fs) (sign_token kind.Caret caret ∷ []) (number_token number ∷ []) _ (power-tokens fs caret number)
+power_reads levels head part l fs caret k at = tt
+
 focus_reads : (levels : List Level) (head : Head) (part : Part) (focus : Focus) (k : TokenKind) (at : Spot)
     → Reads levels head part focus (sign_token k at) (step_by levels head part focus k at)
 focus_reads levels head part outside k at = outside_reads levels head part k at
 focus_reads levels head part (square left) k at = square_reads levels head part left k at
 focus_reads levels head part (named left n) k at = named_reads levels head part left n k at
+focus_reads levels head part (behind_caret l fs caret) k at = power_reads levels head part l fs caret k at
 
 -- one step reads one token
 pub step_reads : (st : State) (t : Token) (next : State) → step st t ≡ Ok next → state_tokens next ≡ state_tokens st ++ t ∷ []

@@ -1,5 +1,6 @@
 -- What a state has read can go on to an expression; what a fault stands at can't.
 use Rattle.std.proofs.Common.{◌≡◌, List, [], ◌∷◌, ◌++◌, Option, Some, None, Ok, Err, refl, sym, ap, ◌∙◌, append_assoc, arith}
+use Rattle.std.specs.Prelude.{pos}
 use Rattle.std.proofs.lemmas.List.{append-nil}
 use Rattle.statement_tokens.specs.declared.place.Spot.{Spot}
 use Rattle.statement_tokens.specs.declared.token.Token.{Token}
@@ -10,8 +11,8 @@ use Rattle.statement_syntax.specs.declared.tree.Number.{Number}
 use Rattle.statement_syntax.specs.declared.tree.Name.{Name}
 use Rattle.statement_syntax.specs.declared.expression.Misfit.TheVariants.{TooDeep}
 use Rattle.statement_syntax.specs.Steps.{◌>>=◌, run}
-use Rattle.statement_syntax.specs.Grammar.{no_sign, lead_plus, lead_minus, Sign, plus, minus, Expr, Product, factors, one, beside, plain, Prime, name, identity, bracket, sign_token, name_token, expr_tokens, ExprFits}
-use Rattle.statement_syntax.proofs.Machine.{Head, led, after, Part, nothing, scaled, product, Focus, outside, square, named, Level, State, fresh, add, whole_term, with_term, Stepped, step_literal, sign_after, step_sign, step_quote, close_after, step_outside, step_square, step_named, step_by, step, whole, end_by, state_tokens, head_tokens, part_tokens}
+use Rattle.statement_syntax.specs.Grammar.{no_sign, lead_plus, lead_minus, Sign, plus, minus, Expr, Product, factors, Factors, one, beside, plain, Prime, name, identity, bracket, sign_token, name_token, number_token, expr_tokens, ExprFits}
+use Rattle.statement_syntax.proofs.Machine.{Head, led, after, Part, nothing, scaled, product, Focus, outside, square, named, behind_caret, Level, State, fresh, add, with_power, whole_term, with_term, Stepped, step_literal, sign_after, step_sign, step_quote, step_caret, close_after, step_outside, step_square, step_named, step_power, step_by, step, whole, end_by, state_tokens, head_tokens, part_tokens}
 use Rattle.statement_syntax.proofs.StateReads.{with_term-tokens, whole_term-tokens, run_reads}
 use Rattle.statement_syntax.proofs.Run.{Upto, before_it, upto_ok, run_front}
 use Rattle.statement_syntax.proofs.Runs.{at_outside, end_state, expr_run}
@@ -21,6 +22,9 @@ somewhere = record { line = 1; column = 1 }
 
 abbrev pub some_name : Name
 some_name = record { text = 120 ∷ []; at = somewhere }
+
+some_exponent : Number
+some_exponent = record { value = pos 1; at = somewhere }
 
 add_whole : (part : Part) (p : Prime) → (t : Product) × (whole_term (add part p) ≡ Some t)
 add_whole nothing p = (factors None (one (plain p)), refl)
@@ -61,6 +65,10 @@ ends levels head part (named left n) =
     let wide = add_whole part p in
     run_on _ (at_outside levels head (add part p)) (sign_token kind.CloseSquare somewhere) refl (closes levels head (add part p) wide.0 wide.1)
 
+ends levels head part (behind_caret l fs caret) =
+    let raised = with_power fs caret some_exponent in
+    run_on _ (at_outside levels head (product l raised)) (number_token some_exponent) refl (closes levels head (product l raised) (factors l raised) refl)
+
 -- ---- at the end
 
 end_tokens : (levels : List Level) (head : Head) (part : Part) (f : Focus) (t : Option Product) (e : Expr) → whole_term part ≡ t → end_by levels head f t ≡ Some e
@@ -68,6 +76,7 @@ end_tokens : (levels : List Level) (head : Head) (part : Part) (f : Focus) (t : 
 end_tokens (level ∷ levels) head part f t e w given = absurd cc
 end_tokens [] head part (square left) t e w given = absurd cc
 end_tokens [] head part (named left n) t e w given = absurd cc
+end_tokens [] head part (behind_caret l fs caret) t e w given = absurd cc
 end_tokens [] head part outside None e w given = absurd cc
 end_tokens [] head part outside (Some t) e w given =
     let e-is : with_term head t ≡ e = cc in
@@ -126,6 +135,11 @@ quote-deep levels head nothing at fails = absurd cc
 quote-deep levels head (scaled m) at fails = absurd cc
 quote-deep levels head (product l fs) at fails = absurd cc
 
+caret-deep : (levels : List Level) (head : Head) (part : Part) (at : Spot) → step_caret levels head part at ≡ Err TooDeep → ⊥
+caret-deep levels head nothing at fails = absurd cc
+caret-deep levels head (scaled n) at fails = absurd cc
+caret-deep levels head (product l fs) at fails = absurd cc
+
 close-deep : (levels : List Level) (head : Head) (t : Option Product) (at : Spot) → close_after levels head t at ≡ Err TooDeep → ⊥
 close-deep levels head None at fails = absurd cc
 close-deep [] head (Some t) at fails = absurd cc
@@ -148,6 +162,7 @@ outside-deep levels head part kind.Close at fails = absurd (close-deep levels he
 outside-deep levels head part kind.OpenSquare at fails = absurd cc
 outside-deep levels head part kind.CloseSquare at fails = absurd cc
 outside-deep levels head part kind.Quote at fails = absurd (quote-deep levels head part at fails)
+outside-deep levels head part kind.Caret at fails = absurd (caret-deep levels head part at fails)
 outside-deep levels head part kind.End at fails = absurd cc
 
 square-deep : (levels : List Level) (head : Head) (part : Part) (left : Spot) (k : TokenKind) (at : Spot) → step_square levels head part left at k ≡ Err TooDeep → ⊥
@@ -158,10 +173,15 @@ named-deep : (levels : List Level) (head : Head) (part : Part) (left : Spot) (n 
 named-deep levels head part left n (kind.Name x) at fails = absurd cc
 named-deep levels head part left n k at fails = absurd cc
 
+power-deep : (levels : List Level) (head : Head) (l : Option Number) (fs : Factors) (caret : Spot) (k : TokenKind) (at : Spot) → step_power levels head l fs caret k at ≡ Err TooDeep → ⊥
+power-deep levels head l fs caret (kind.Literal n) at fails = absurd cc
+power-deep levels head l fs caret k at fails = absurd cc
+
 focus-deep : (levels : List Level) (head : Head) (part : Part) (f : Focus) (t : Token) → step_by levels head part f t.kind t.at ≡ Err TooDeep → Deeper levels head part f t
 focus-deep levels head part outside t fails = outside-deep levels head part t.kind t.at fails
 focus-deep levels head part (square left) t fails = absurd (square-deep levels head part left t.kind t.at fails)
 focus-deep levels head part (named left n) t fails = absurd (named-deep levels head part left n t.kind t.at fails)
+focus-deep levels head part (behind_caret l fs caret) t fails = absurd (power-deep levels head l fs caret t.kind t.at fails)
 
 -- with a bracket that is too deep it can go on to an expression, if not to one within the limit
 pub deep : (front : List Token) (st : State) (t : Token) → run step (fresh []) front ≡ Ok st → step st t ≡ Err TooDeep → (more : List Token) × (e : Expr) × (front ++ t ∷ more ≡ expr_tokens e)

@@ -1,18 +1,23 @@
 -- What the stages of reading come to, one after another.
-use Rattle.std.specs.Prelude.{◌≡◌, ℕ, List, ◌∷◌, ◌++◌, Result, Ok, Err}
+use Rattle.std.specs.Prelude.{◌≡◌, ℕ, List, [], ◌∷◌, ◌++◌, Result, Ok, Err, drop}
 use Rattle.std.specs.Global.{Vec}
 use Rattle.std.specs.Str.{IsUtf8, chars}
 use Rattle.statement_tokens.specs.declared.token.Token.{Token}
+use Rattle.statement_tokens.specs.declared.language.Language.{Language}
+use Rattle.statement_tokens.specs.declared.language.Language.TheVariants.{First, Second}
 use Rattle.statement_syntax.specs.declared.tree.Statement.{Statement}
+use Rattle.statement_syntax.specs.declared.tree.StatementKind.TheVariants as statement
 use Rattle.statement_tokens.specs.declared.place.Spot.{Spot}
 use Rattle.statement_syntax.specs.declared.expression.ReadError.{ReadError}
 use Rattle.statement_syntax.specs.declared.expression.ReadError.TheVariants as error
 use Rattle.statement_syntax.specs.declared.expression.Misfit.{Misfit}
 use Rattle.statement_syntax.specs.declared.read.Progress.{Progress}
+use Rattle.statement_syntax.specs.declared.line.Line.TheVariants as line
 use Rattle.statement_syntax.specs.declared.fault.SyntaxFault.{SyntaxFault}
 use Rattle.statement_syntax.specs.declared.fault.SyntaxFault.TheVariants as refusal
 use Rattle.statement_syntax.specs.Steps.{run}
-use Rattle.statement_syntax.specs.Lines.{beginning, file_step}
+use Rattle.statement_syntax.specs.Lines.{file_step}
+use Rattle.statement_tokens.specs.Language.{language_of}
 use Rattle.statement_tokens.specs.Token.{tokens_of}
 use Rattle.statement_syntax.specs.Fault.{TellsFirstFault, IsWantOfMemory, fault_at, misfit_fault}
 
@@ -26,21 +31,39 @@ abbrev pub TokensRead : List ℕ → Result (Vec Token) SyntaxFault → Type 0
 TokensRead bytes (Ok ts) = IsUtf8 bytes × (tokens_of (chars bytes) ≡ Ok ts.items)
 TokensRead bytes (Err e) = TellsFirstFault bytes e
 
+-- the statement of the line that names the second language
+abbrev pub first_statements : Language → List Token → List Statement
+first_statements First ts = []
+first_statements Second [] = []
+first_statements Second (word ∷ ts) = record { at = word.at; kind = statement.Language } ∷ []
+
+-- the tokens of the lines behind it
+abbrev pub behind_first : Language → List Token → List Token
+behind_first First ts = ts
+behind_first Second ts = drop 3 ts
+
+-- all tokens of a file begin so
+abbrev pub begun : List Token → Progress
+begun ts = record { statements = first_statements (language_of ts) ts; line = line.Start }
+
+abbrev pub left : List Token → List Token
+left ts = behind_first (language_of ts) ts
+
 -- the loop came to this token, and stopped at it
 pub record StoppedAt (ts : List Token) (refused : SyntaxFault) : Type 0 where
   pub front : List Token
   pub token : Token
   pub rest : List Token
-  pub splits : ts ≡ front ++ token ∷ rest
+  pub splits : left ts ≡ front ++ token ∷ rest
   pub progress : Progress
-  pub ran : run file_step beginning front ≡ Ok progress
+  pub ran : run (file_step (language_of ts)) (begun ts) front ≡ Ok progress
   pub misfit : Misfit
-  pub stops : file_step progress token ≡ Err misfit
+  pub stops : file_step (language_of ts) progress token ≡ Err misfit
   pub tells : refused ≡ fault_at (misfit_fault misfit) token.at
 
 -- the loop came to its end with these statements
 abbrev pub AllRead : List Token → List Statement → Type 0
-AllRead ts statements = (p : Progress) × (run file_step beginning ts ≡ Ok p) × (statements ≡ p.statements)
+AllRead ts statements = (p : Progress) × (run (file_step (language_of ts)) (begun ts) (left ts) ≡ Ok p) × (statements ≡ p.statements)
 
 abbrev pub Refused : List Token → SyntaxFault → Type 0
 Refused ts (refusal.Memory e) = Unit {0}

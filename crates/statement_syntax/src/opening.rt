@@ -34,9 +34,12 @@ fn common_opening(word: &str) -> Option<Opening>
 fn opening_in(language: Language, word: &str) -> Option<Opening>
     ensures { result ≡ opening_in language word.now }
 {
-    match (language, word) {
-        (Language::Second, "eliminate") => Some(Opening::List(ListWord::Eliminate)),
-        (_, word) => common_opening(word),
+    match language {
+        Language::First => common_opening(word),
+        Language::Second => match word {
+            "eliminate" => Some(Opening::List(ListWord::Eliminate)),
+            _ => common_opening(word),
+        },
     }
 }
 

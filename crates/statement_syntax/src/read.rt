@@ -6,16 +6,18 @@ ghost use Rattle.statement_syntax.specs.Tree.{file_tree};
 ghost use Rattle.statement_syntax.specs.Fault.{IsStatements, IsTreeOf, TellsFirstFault, IsWantOfMemory};
 ghost use Rattle.statement_syntax.specs.Steps.{Turns};
 ghost use Rattle.statement_syntax.specs.Lines.{beginning, ended, file_step};
-ghost use Rattle.statement_syntax.specs.Stages.{TokensRead, LinesRead, IsRefusal};
+ghost use Rattle.statement_syntax.specs.Stages.{TokensRead, LinesRead, IsRefusal, first_statements, behind_first};
+ghost use Rattle.std.specs.Vec.Iter.{into_iter_items, into_iter_len};
 
 use crate::expression::ReadError;
 use crate::fault::{Fault, SyntaxFault, fault_at, misfit_fault, scan_fault};
 use crate::line::{Line, line_end, line_step};
-use crate::tree::{Statement, Tree};
+use crate::tree::{Statement, StatementKind, Tree};
 use lists::Listing;
-use statement_tokens::{ScanError, Spot, Token, TokenKind, characters, tokens};
+use statement_tokens::{Language, ScanError, Spot, Token, TokenKind, characters, language_of, tokens};
 use std::alloc::{AllocError, Global};
 use std::mem;
+use std::vec::IntoIter;
 
 /// The statements of the lines that are read, and what has been read of the next one.
 #[derive(Drop)]
@@ -24,12 +26,17 @@ pub struct Progress {
     pub line: Line,
 }
 
-fn file_step(alloc: Global, progress: &mut Progress, token: Token) -> Result<(), ReadError>
-    ensures { Turns result progress.new (file_step progress.old token) }
+fn file_step(
+    alloc: Global,
+    language: Language,
+    progress: &mut Progress,
+    token: Token,
+) -> Result<(), ReadError>
+    ensures { Turns result progress.new (file_step language progress.old token) }
 {
     match &token.kind {
         TokenKind::End => end_line(alloc, progress),
-        _ => line_step(alloc, &mut progress.line, token),
+        _ => line_step(alloc, language, &mut progress.line, token),
     }
 }
 
@@ -50,16 +57,47 @@ fn refusal(error: ReadError, at: Spot) -> SyntaxFault
     }
 }
 
+// The statement of the line that names the second language, whose three tokens are taken off.
+fn first_statements(
+    alloc: Global,
+    language: Language,
+    tokens: &mut IntoIter<Token>,
+) -> Result<Listing<Statement>, AllocError>
+    requires { into_iter_len tokens.old ≡ length (into_iter_items tokens.old) }
+    ensures statements { IfOk result (λ statements. statements ≡ first_statements language (into_iter_items tokens.old)) }
+    ensures tokens { IfOk result (λ _. into_iter_items tokens.new ≡ behind_first language (into_iter_items tokens.old)) }
+    ensures left { into_iter_len tokens.new ≡ length (into_iter_items tokens.new) }
+{
+    let mut statements = Listing::new(alloc);
+    if let Language::Second = language {
+        if let Some(word) = tokens.next() {
+            statements.push(Statement {
+                at: word.at,
+                kind: StatementKind::Language,
+            })?;
+        }
+        drop(tokens.next());
+        drop(tokens.next());
+    }
+    Ok(statements)
+}
+
 fn statements(alloc: Global, tokens: Vec<Token>) -> Result<Listing<Statement>, SyntaxFault>
     ensures { LinesRead tokens.items result }
 {
+    let language = language_of(&tokens);
+    let mut tokens = tokens.into_iter();
+    let statements = match first_statements(alloc, language, &mut tokens) {
+        Ok(statements) => statements,
+        Err(failed) => return Err(SyntaxFault::Memory(failed)),
+    };
     let mut progress = Progress {
-        statements: Listing::new(alloc),
+        statements,
         line: Line::Start,
     };
     for token in tokens {
         let at = token.at;
-        if let Err(error) = file_step(alloc, &mut progress, token) {
+        if let Err(error) = file_step(alloc, language, &mut progress, token) {
             drop(progress);
             return Err(refusal(error, at));
         }
