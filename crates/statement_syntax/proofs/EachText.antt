@@ -1,5 +1,5 @@
 -- Each text has a tree or a first fault.
-use Rattle.std.proofs.Common.{◌≡◌, ◌⊎◌, inl, inr, ℕ, Bool, true, false, List, [], ◌∷◌, ◌++◌, Result, Ok, Err, refl, sym, subst, ◌∙◌, append_assoc, append-nil, true≢false}
+use Rattle.std.proofs.Common.{◌≡◌, ◌⊎◌, inl, inr, ℕ, Bool, true, false, List, [], ◌∷◌, ◌++◌, Result, Ok, Err, refl, sym, ap, ◌∙◌, append_assoc, append-nil, true≢false}
 use Rattle.std.specs.Str.{IsUtf8, is_utf8, chars}
 use Rattle.std.specs.Str.Lossy.{utf8_valid_len}
 use Rattle.std.proofs.lemmas.Str.{IsUtf8-from_is_utf8, is_utf8-from_IsUtf8}
@@ -14,29 +14,31 @@ use Rattle.statement_tokens.specs.declared.scan.ScanFault.TheVariants as scan
 use Rattle.statement_syntax.specs.declared.fault.Fault.{Fault}
 use Rattle.statement_syntax.specs.declared.fault.Fault.TheVariants as fault
 use Rattle.statement_syntax.specs.Steps.{run}
-use Rattle.statement_syntax.specs.Lines.{beginning, file_step}
+use Rattle.statement_syntax.specs.Lines.{file_step}
+use Rattle.statement_tokens.specs.Language.{language_of}
 use Rattle.statement_tokens.specs.Token.{tokens_of}
 use Rattle.statement_syntax.specs.Fault.{IsTreeOf, IsFirstFault, TellsFirstFault, fault_at, misfit_fault}
-use Rattle.statement_syntax.specs.Stages.{StoppedAt, AllRead}
+use Rattle.statement_syntax.specs.Stages.{begun, left, StoppedAt, AllRead}
 use Rattle.statement_syntax.specs.Laws.{EachTextIsRead}
-use Rattle.statement_syntax.proofs.Stopping.{goes_on, is_found, is_first}
+use Rattle.statement_syntax.proofs.Stopping.{Runs, goes_on, is_found, is_first}
 
 -- all tokens are read, or one is the first that isn't
 data Comes (ts : List Token) : Type 0 where
   to_end : (statements : List Statement) → AllRead ts statements → Comes ts
   to_misfit : (misfit : Misfit) (at : Spot) → StoppedAt ts (fault_at (misfit_fault misfit) at) → Comes ts
 
-comes_from : (front rest : List Token) (p : Progress) → run file_step beginning front ≡ Ok p → Comes (front ++ rest)
-comes_from front [] p ran = subst Comes (sym (append-nil front)) (to_end p.statements (p, ran, refl))
-comes_from front (t ∷ rest) p ran = by (file_step p t) refl (λ next steps. comes_from (front ++ t ∷ []) rest next (goes_on front t p next ran steps))
+comes_from : (ts front rest : List Token) (p : Progress) → left ts ≡ front ++ rest → Runs ts front p → Comes ts
+comes_from ts front [] p splits ran = to_end p.statements (p, ap (run (file_step (language_of ts)) (begun ts)) (splits ∙ append-nil front) ∙ ran, refl)
+comes_from ts front (t ∷ rest) p splits ran =
+    by (file_step (language_of ts) p t) refl (λ next steps. comes_from ts (front ++ t ∷ []) rest next (splits ∙ sym (append_assoc front (t ∷ []) rest)) (goes_on ts front t p next ran steps))
   where
-    by : (next : Result Progress Misfit) → file_step p t ≡ next → ((state : Progress) → file_step p t ≡ Ok state → Comes ((front ++ t ∷ []) ++ rest)) → Comes (front ++ t ∷ rest)
-    by (Ok next) steps more = subst Comes (append_assoc front (t ∷ []) rest) (more next steps)
-    by (Err misfit) stops more = to_misfit misfit t.at (record { front = front; token = t; rest = rest; splits = refl; progress = p; ran = ran; misfit = misfit; stops = stops; tells = refl })
+    by : (next : Result Progress Misfit) → file_step (language_of ts) p t ≡ next → ((state : Progress) → file_step (language_of ts) p t ≡ Ok state → Comes ts) → Comes ts
+    by (Ok next) steps more = more next steps
+    by (Err misfit) stops more = to_misfit misfit t.at (record { front = front; token = t; rest = rest; splits = splits; progress = p; ran = ran; misfit = misfit; stops = stops; tells = refl })
 
 comes : (ts : List Token) → Comes ts
 unfolding run
-comes ts = comes_from [] ts beginning refl
+comes ts = comes_from ts [] (left ts) (begun ts) refl refl
 
 -- what is told of a text
 abbrev IsRead : List ℕ → Type 0

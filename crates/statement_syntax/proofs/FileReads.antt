@@ -1,8 +1,9 @@
--- A file is read line by line: what was read is written so, can go on, and where a token is a misfit nothing goes on with it.
+-- Lines are read one by one: what was read is written so, can go on, and where a token is a misfit nothing goes on with it.
 use Rattle.std.proofs.Common.{◌≡◌, List, [], ◌∷◌, ◌++◌, inl, inr, Option, Some, None, Result, Ok, Err, refl, sym, ap, ap₂, subst, ◌∙◌, append_assoc}
 use Rattle.std.proofs.lemmas.List.{append-nil, map-append}
 use Rattle.statement_tokens.specs.declared.place.Spot.{Spot}
 use Rattle.statement_tokens.specs.declared.token.Token.{Token}
+use Rattle.statement_tokens.specs.declared.language.Language.{Language}
 use Rattle.statement_tokens.specs.declared.token.TokenKind.{TokenKind}
 use Rattle.statement_tokens.specs.declared.token.TokenKind.TheVariants as kind
 use Rattle.statement_syntax.specs.declared.tree.Name.{Name}
@@ -21,9 +22,9 @@ use Rattle.statement_syntax.specs.declared.line.Line.{Line}
 use Rattle.statement_syntax.specs.declared.line.Line.TheVariants as line
 use Rattle.statement_syntax.specs.declared.read.Progress.{Progress}
 use Rattle.statement_syntax.specs.Steps.{◌>>=◌, run, focus_step}
-use Rattle.statement_syntax.specs.Grammar.{sign_token, Stated, stated_tokens, StatedLine, line_tokens, file_tokens, FileFits}
+use Rattle.statement_syntax.specs.Grammar.{sign_token, Stated, stated_tokens, StatedLine, AreLinesOf, line_tokens, file_tokens, FileFits}
 use Rattle.statement_syntax.specs.Tree.{stated_tree, file_tree}
-use Rattle.statement_syntax.specs.Lines.{Lined, map_step, sides_step, pairs_by, line_step, line_end, beginning, ended, within_line, file_step}
+use Rattle.statement_syntax.specs.Lines.{Lined, map_step, sides_step, pairs_by, line_step, line_end, ended, within_line, file_step}
 use Rattle.statement_syntax.proofs.Run.{Upto, then_on, before_it, after_it, run_upto, inside_upto, one_step, failing, run_front, bind_ok, ok_is, ok_differs}
 use Rattle.statement_syntax.proofs.Viable.{somewhere}
 use Rattle.statement_syntax.proofs.Choices.{by_end, not_end}
@@ -37,6 +38,7 @@ focus_no_end : (r : Reading) (f : Focus) (at : Spot) → focus_step r.levels r.h
 focus_no_end r focus.Outside at = refl
 focus_no_end r (focus.Square left) at = refl
 focus_no_end r (focus.Named left n) at = refl
+focus_no_end r (focus.Raised first l fs last caret) at = refl
 
 sides_no_end : (w : SidesWord) (at : Spot) (left : Option Sum) (r : Reading) (t : Spot) → sides_step w at left r kind.End t ≡ Err Expected
 sides_no_end w at None r t = ap (λ x. x >>= λ next. Ok (line.Sides w at None next)) (focus_no_end r r.focus t)
@@ -53,26 +55,26 @@ pairs_no_end : (ps : List (Name × Number)) (half : Option Name) (t : Spot) → 
 pairs_no_end ps None t = refl
 pairs_no_end ps (Some n) t = refl
 
-line_no_end : (l : Line) (t : Spot) → line_step l kind.End t ≡ Err Expected
-line_no_end line.Start t = refl
-line_no_end (line.List w at names) t = refl
-line_no_end (line.Map at names r) t = map_no_end at names r t
-line_no_end (line.Sides w at left r) t = sides_no_end w at left r t
-line_no_end (line.Pair w at before) t = refl
-line_no_end (line.Projection at) t = refl
-line_no_end (line.Order at) t = refl
-line_no_end (line.Weights at p) t = ap (λ x. x >>= λ q. Ok (line.Weights at q)) (pairs_no_end p.whole p.half t)
-line_no_end (line.Model at) t = refl
-line_no_end (line.Shape at m p) t = ap (λ x. x >>= λ q. Ok (line.Shape at m q)) (pairs_no_end p.whole p.half t)
-line_no_end (line.Whole s) t = refl
+line_no_end : (language : Language) (l : Line) (t : Spot) → line_step language l kind.End t ≡ Err Expected
+line_no_end language line.Start t = refl
+line_no_end language (line.List w at names) t = refl
+line_no_end language (line.Map at names r) t = map_no_end at names r t
+line_no_end language (line.Sides w at left r) t = sides_no_end w at left r t
+line_no_end language (line.Pair w at before) t = refl
+line_no_end language (line.Projection at) t = refl
+line_no_end language (line.Order at) t = refl
+line_no_end language (line.Weights at p) t = ap (λ x. x >>= λ q. Ok (line.Weights at q)) (pairs_no_end p.whole p.half t)
+line_no_end language (line.Model at) t = refl
+line_no_end language (line.Shape at m p) t = ap (λ x. x >>= λ q. Ok (line.Shape at m q)) (pairs_no_end p.whole p.half t)
+line_no_end language (line.Whole s) t = refl
 
 -- ---- a line inside a file
 
 abbrev pub in_file : List Statement → Line → Progress
 in_file statements l = record { statements = statements; line = l }
 
-not_end_by : (l : Line) (t : Token) (r : Lined) → by_token l t ≡ r → (r ≡ Err Expected → ⊥) → t.kind ≡ kind.End → ⊥
-not_end_by l t r is other k = other (sym is ∙ ap (λ x. line_step l x t.at) k ∙ line_no_end l t.at)
+not_end_by : (language : Language) (l : Line) (t : Token) (r : Lined) → by_token language l t ≡ r → (r ≡ Err Expected → ⊥) → t.kind ≡ kind.End → ⊥
+not_end_by language l t r is other k = other (sym is ∙ ap (λ x. line_step language l x t.at) k ∙ line_no_end language l t.at)
 
 err_differs : (let r : Lined = Err TooDeep in r) ≡ Err Expected → ⊥
 err_differs read = absurd cc
@@ -80,42 +82,43 @@ err_differs read = absurd cc
 ok_not_err : (l : Line) → (let r : Lined = Ok l in r) ≡ Err Expected → ⊥
 ok_not_err l read = absurd cc
 
-file_each : (statements : List Statement) (l next : Line) (t : Token) → by_token l t ≡ Ok next → file_step (in_file statements l) t ≡ Ok (in_file statements next)
-file_each statements l next t goes =
-    not_end _ _ t.kind (not_end_by l t (Ok next) goes (ok_not_err next)) ∙ ap (λ r. r >>= λ x. Ok (in_file statements x)) goes
+file_each : (language : Language) (statements : List Statement) (l next : Line) (t : Token) → by_token language l t ≡ Ok next → file_step language (in_file statements l) t ≡ Ok (in_file statements next)
+file_each language statements l next t goes =
+    not_end _ _ t.kind (not_end_by language l t (Ok next) goes (ok_not_err next)) ∙ ap (λ r. r >>= λ x. Ok (in_file statements x)) goes
 
-file_deep : (statements : List Statement) (l : Line) (t : Token) → by_token l t ≡ Err TooDeep → file_step (in_file statements l) t ≡ Err TooDeep
-file_deep statements l t fails =
-    not_end _ _ t.kind (not_end_by l t (Err TooDeep) fails err_differs) ∙ ap (λ r. r >>= λ x. Ok (in_file statements x)) fails
+file_deep : (language : Language) (statements : List Statement) (l : Line) (t : Token) → by_token language l t ≡ Err TooDeep → file_step language (in_file statements l) t ≡ Err TooDeep
+file_deep language statements l t fails =
+    not_end _ _ t.kind (not_end_by language l t (Err TooDeep) fails err_differs) ∙ ap (λ r. r >>= λ x. Ok (in_file statements x)) fails
 
-line_ended : (statements : List Statement) (s : Stated) (at : Spot) → file_step (in_file statements (end_line s)) (sign_token kind.End at) ≡ Ok (in_file (statements ++ stated_tree s ∷ []) line.Start)
-line_ended statements s at = ap (λ r. r >>= λ x. Ok (in_file (statements ++ x ∷ []) line.Start)) (stated_end s)
+line_ended : (language : Language) (statements : List Statement) (s : Stated) (at : Spot)
+    → file_step language (in_file statements (end_line s)) (sign_token kind.End at) ≡ Ok (in_file (statements ++ stated_tree s ∷ []) line.Start)
+line_ended language statements s at = ap (λ r. r >>= λ x. Ok (in_file (statements ++ x ∷ []) line.Start)) (stated_end s)
 
--- the tokens of a file are read as its statements, where it is within the limit, and else stop at a bracket that is too deep
-pub file_run : (statements : List Statement) (lines : List StatedLine) → Upto (FileFits lines) (run file_step (in_file statements line.Start) (file_tokens lines)) (Ok (in_file (statements ++ file_tree lines) line.Start))
+-- the tokens of lines are read as their statements, where they are within the limit, and else stop at a bracket that is too deep
+pub lines_run : (language : Language) (statements : List Statement) (lines : List StatedLine) → AreLinesOf language lines
+    → Upto (FileFits lines) (run (file_step language) (in_file statements line.Start) (file_tokens lines)) (Ok (in_file (statements ++ file_tree lines) line.Start))
 unfolding run
-file_run statements [] = inl (tt, ap (λ x. Ok (in_file x line.Start)) (sym (append-nil statements)))
-file_run statements (l ∷ lines) =
+lines_run language statements [] speak = inl (tt, ap (λ x. Ok (in_file x line.Start)) (sym (append-nil statements)))
+lines_run language statements (l ∷ lines) speak =
     let behind : List Token = sign_token kind.End l.end ∷ file_tokens lines in
     let more : List Statement = statements ++ stated_tree l.stated ∷ [] in
-    before_it (ap (run file_step (in_file statements line.Start)) (append_assoc (stated_tokens l.stated) (sign_token kind.End l.end ∷ []) (file_tokens lines)))
+    before_it (ap (run (file_step language) (in_file statements line.Start)) (append_assoc (stated_tokens l.stated) (sign_token kind.End l.end ∷ []) (file_tokens lines)))
     (then_on
-    (run_upto file_step (in_file statements line.Start) (stated_tokens l.stated) (in_file statements (end_line l.stated)) behind
-    (inside_upto by_token file_step (in_file statements) (file_each statements) (file_deep statements) (stated_tokens l.stated) line.Start (end_line l.stated) (stated_run l.stated)))
-    (before_it (one_step file_step (in_file statements (end_line l.stated)) (in_file more line.Start) (sign_token kind.End l.end) (file_tokens lines) (line_ended statements l.stated l.end))
-    (after_it (file_run more lines) (ap (λ x. Ok (in_file x line.Start)) (append_assoc statements (stated_tree l.stated ∷ []) (file_tree lines))))))
-
-pub all_run : (lines : List StatedLine) → Upto (FileFits lines) (run file_step beginning (file_tokens lines)) (Ok (in_file (file_tree lines) line.Start))
-all_run lines = file_run [] lines
+    (run_upto (file_step language) (in_file statements line.Start) (stated_tokens l.stated) (in_file statements (end_line l.stated)) behind
+    (inside_upto (by_token language) (file_step language) (in_file statements) (file_each language statements) (file_deep language statements) (stated_tokens l.stated) line.Start (end_line l.stated) (stated_run language l.stated speak.0)))
+    (before_it (one_step (file_step language) (in_file statements (end_line l.stated)) (in_file more line.Start) (sign_token kind.End l.end) (file_tokens lines) (line_ended language statements l.stated l.end))
+    (after_it (lines_run language more lines speak.1) (ap (λ x. Ok (in_file x line.Start)) (append_assoc statements (stated_tree l.stated ∷ []) (file_tree lines))))))
 
 -- ---- what has been read of a file
 
-pub record FileReads (p : Progress) (ts : List Token) : Type 0 where
+-- the lines of it behind these statements
+pub record FileReads (language : Language) (before : List Statement) (p : Progress) (ts : List Token) : Type 0 where
   pub lines : List StatedLine
+  pub speak : AreLinesOf language lines
   pub fits : FileFits lines
-  pub trees : p.statements ≡ file_tree lines
+  pub trees : p.statements ≡ before ++ file_tree lines
   pub now : List Token
-  pub reads : LineReads p.line now
+  pub reads : LineReads language p.line now
   pub are : ts ≡ file_tokens lines ++ now
 
 pub file_tokens-append : (ls ms : List StatedLine) → file_tokens (ls ++ ms) ≡ file_tokens ls ++ file_tokens ms
@@ -126,88 +129,101 @@ pub FileFits-append : (ls ms : List StatedLine) → FileFits ls → FileFits ms 
 FileFits-append [] ms f g = g
 FileFits-append (l ∷ ls) ms f g = (f.0, FileFits-append ls ms f.1 g)
 
+pub AreLinesOf-append : (language : Language) (ls ms : List StatedLine) → AreLinesOf language ls → AreLinesOf language ms → AreLinesOf language (ls ++ ms)
+AreLinesOf-append language [] ms f g = g
+AreLinesOf-append language (l ∷ ls) ms f g = (f.0, AreLinesOf-append language ls ms f.1 g)
+
 -- with one line more
 one_line : (lines : List StatedLine) (s : Stated) (end : Spot) → file_tokens (lines ++ record { stated = s; end = end } ∷ []) ≡ file_tokens lines ++ (stated_tokens s ++ sign_token kind.End end ∷ [])
 one_line lines s end =
     file_tokens-append lines (record { stated = s; end = end } ∷ []) ∙ ap (λ x. file_tokens lines ++ x) (append-nil (stated_tokens s ++ sign_token kind.End end ∷ []))
 
-abbrev Goes : List Token → Spot → TokenKind → Result Progress Misfit → Type 0
-Goes ts at k (Ok p) = FileReads p (ts ++ sign_token k at ∷ [])
-Goes ts at k (Err e) = Unit {0}
+module _ (language : Language) (before : List Statement) where
+  abbrev Goes : List Token → Spot → TokenKind → Result Progress Misfit → Type 0
+  Goes ts at k (Ok p) = FileReads language before p (ts ++ sign_token k at ∷ [])
+  Goes ts at k (Err e) = Unit {0}
 
-next_is : (ts front now : List Token) (t : Token) → ts ≡ front ++ now → ts ++ t ∷ [] ≡ front ++ (now ++ t ∷ [])
-next_is ts front now t read = ap (λ (x : List Token). x ++ t ∷ []) read ∙ append_assoc front now (t ∷ [])
+  next_is : (ts front now : List Token) (t : Token) → ts ≡ front ++ now → ts ++ t ∷ [] ≡ front ++ (now ++ t ∷ [])
+  next_is ts front now t read = ap (λ (x : List Token). x ++ t ∷ []) read ∙ append_assoc front now (t ∷ [])
 
-end_goes : (p : Progress) (ts : List Token) (t : Spot) (r : Result Statement Misfit) → line_end p.line ≡ r → FileReads p ts
-    → Goes ts t kind.End (r >>= λ s. Ok (record { statements = p.statements ++ s ∷ []; line = line.Start }))
-end_goes p ts t (Err e) is read = tt
-end_goes p ts t (Ok s) is read =
-    let w = line_end_reads p.line read.now s read.reads is in
-    record {
-      lines = read.lines ++ record { stated = w.stated; end = t } ∷ [];
-      fits = FileFits-append read.lines _ read.fits (w.fits, tt);
-      trees = ap₂ (λ x y. x ++ y ∷ []) read.trees w.tree ∙ sym (map-append (λ l. stated_tree l.stated) read.lines (record { stated = w.stated; end = t } ∷ []));
-      now = [];
-      reads = refl;
-      are = next_is ts (file_tokens read.lines) read.now (sign_token kind.End t) read.are ∙ ap (λ x. file_tokens read.lines ++ (x ++ sign_token kind.End t ∷ [])) w.are ∙ sym (one_line read.lines w.stated t) ∙ sym (append-nil _);
-    }
+  end_goes : (p : Progress) (ts : List Token) (t : Spot) (r : Result Statement Misfit) → line_end p.line ≡ r → FileReads language before p ts
+      → Goes ts t kind.End (r >>= λ s. Ok (record { statements = p.statements ++ s ∷ []; line = line.Start }))
+  end_goes p ts t (Err e) is read = tt
+  end_goes p ts t (Ok s) is read =
+      let w = line_end_reads language p.line read.now s read.reads is in
+      record {
+        lines = read.lines ++ record { stated = w.stated; end = t } ∷ [];
+        speak = AreLinesOf-append language read.lines _ read.speak (w.speaks, tt);
+        fits = FileFits-append read.lines _ read.fits (w.fits, tt);
+        trees = ap₂ (λ x y. x ++ y ∷ []) read.trees w.tree ∙ append_assoc before (file_tree read.lines) (stated_tree w.stated ∷ [])
+            ∙ ap (λ x. before ++ x) (sym (map-append (λ l. stated_tree l.stated) read.lines (record { stated = w.stated; end = t } ∷ [])));
+        now = [];
+        reads = refl;
+        are = next_is ts (file_tokens read.lines) read.now (sign_token kind.End t) read.are ∙ ap (λ x. file_tokens read.lines ++ (x ++ sign_token kind.End t ∷ [])) w.are ∙ sym (one_line read.lines w.stated t) ∙ sym (append-nil _);
+      }
 
-within_goes : (p : Progress) (ts : List Token) (t : Spot) (k : TokenKind) (r : Lined) → line_step p.line k t ≡ r → FileReads p ts
-    → Goes ts t k (r >>= λ l. Ok (record { statements = p.statements; line = l }))
-within_goes p ts t k (Err e) is read = tt
-within_goes p ts t k (Ok l) is read = record {
-  lines = read.lines;
-  fits = read.fits;
-  trees = read.trees;
-  now = read.now ++ sign_token k t ∷ [];
-  reads = line_step_reads p.line l (sign_token k t) read.now is read.reads;
-  are = next_is ts (file_tokens read.lines) read.now (sign_token k t) read.are;
-}
+  within_goes : (p : Progress) (ts : List Token) (t : Spot) (k : TokenKind) (r : Lined) → line_step language p.line k t ≡ r → FileReads language before p ts
+      → Goes ts t k (r >>= λ l. Ok (record { statements = p.statements; line = l }))
+  within_goes p ts t k (Err e) is read = tt
+  within_goes p ts t k (Ok l) is read = record {
+    lines = read.lines;
+    speak = read.speak;
+    fits = read.fits;
+    trees = read.trees;
+    now = read.now ++ sign_token k t ∷ [];
+    reads = line_step_reads language p.line l (sign_token k t) read.now is read.reads;
+    are = next_is ts (file_tokens read.lines) read.now (sign_token k t) read.are;
+  }
 
-file_goes : (p : Progress) (ts : List Token) (t : Token) → FileReads p ts → Goes ts t.at t.kind (file_step p t)
-file_goes p ts t read =
-    by_end (Goes ts t.at) (ended p) (λ k. within_line p k t.at) (end_goes p ts t.at (line_end p.line) refl read) (λ k differs. within_goes p ts t.at k (line_step p.line k t.at) refl read) t.kind
+  file_goes : (p : Progress) (ts : List Token) (t : Token) → FileReads language before p ts → Goes ts t.at t.kind (file_step language p t)
+  file_goes p ts t read =
+      by_end (Goes ts t.at) (ended p) (λ k. within_line language p k t.at) (end_goes p ts t.at (line_end p.line) refl read)
+      (λ k differs. within_goes p ts t.at k (line_step language p.line k t.at) refl read) t.kind
 
-file_step_reads : (p next : Progress) (ts : List Token) (t : Token) → file_step p t ≡ Ok next → FileReads p ts → FileReads next (ts ++ t ∷ [])
-file_step_reads p next ts t goes read = subst (Goes ts t.at t.kind) goes (file_goes p ts t read)
+  file_step_reads : (p next : Progress) (ts : List Token) (t : Token) → file_step language p t ≡ Ok next → FileReads language before p ts → FileReads language before next (ts ++ t ∷ [])
+  file_step_reads p next ts t goes read = subst (Goes ts t.at t.kind) goes (file_goes p ts t read)
 
-run_reads_from : (p next : Progress) (ts us : List Token) → run file_step p us ≡ Ok next → FileReads p ts → FileReads next (ts ++ us)
-unfolding run
-run_reads_from p next ts [] ran read = subst (λ x. FileReads x (ts ++ [])) (ok_is p next ran) (subst (FileReads p) (sym (append-nil ts)) read)
-run_reads_from p next ts (t ∷ us) ran read =
-    let one = bind_ok (file_step p t) (λ x. run file_step x us) next ran in
-    subst (FileReads next) (append_assoc ts (t ∷ []) us) (run_reads_from one.0 next (ts ++ t ∷ []) us one.2 (file_step_reads p one.0 ts t one.1 read))
+  run_reads_from : (p next : Progress) (ts us : List Token) → run (file_step language) p us ≡ Ok next → FileReads language before p ts → FileReads language before next (ts ++ us)
+  unfolding run
+  run_reads_from p next ts [] ran read = subst (λ x. FileReads language before x (ts ++ [])) (ok_is p next ran) (subst (FileReads language before p) (sym (append-nil ts)) read)
+  run_reads_from p next ts (t ∷ us) ran read =
+      let one = bind_ok (file_step language p t) (λ x. run (file_step language) x us) next ran in
+      subst (FileReads language before next) (append_assoc ts (t ∷ []) us) (run_reads_from one.0 next (ts ++ t ∷ []) us one.2 (file_step_reads p one.0 ts t one.1 read))
 
--- a run reads what it was given
-pub run_reads : (p : Progress) (ts : List Token) → run file_step beginning ts ≡ Ok p → FileReads p ts
-run_reads p ts ran = run_reads_from beginning p [] ts ran (record { lines = []; fits = tt; trees = refl; now = []; reads = refl; are = refl })
+  -- a run reads what it was given
+  pub run_reads : (p : Progress) (ts : List Token) → run (file_step language) (in_file before line.Start) ts ≡ Ok p → FileReads language before p ts
+  run_reads p ts ran = run_reads_from (in_file before line.Start) p [] ts ran
+      (record { lines = []; speak = tt; fits = tt; trees = sym (append-nil before); now = []; reads = refl; are = refl })
 
--- ---- the laws
+  -- ---- the laws
 
--- what was read can go on to a file within the limit
-pub file_on : (p : Progress) (ts : List Token) → FileReads p ts → (more : List Token) × (lines : List StatedLine) × FileFits lines × (ts ++ more ≡ file_tokens lines)
-file_on p ts read =
-    let on = line_on p.line read.now read.reads in
-    let last : StatedLine = record { stated = on.1; end = somewhere } in (
-      on.0 ++ sign_token kind.End somewhere ∷ [],
-      read.lines ++ last ∷ [],
-      FileFits-append read.lines (last ∷ []) read.fits (on.2, tt),
-      ap (λ (x : List Token). x ++ (on.0 ++ sign_token kind.End somewhere ∷ [])) read.are
-          ∙ append_assoc (file_tokens read.lines) read.now (on.0 ++ sign_token kind.End somewhere ∷ [])
-          ∙ ap (λ x. file_tokens read.lines ++ x) (sym (append_assoc read.now on.0 (sign_token kind.End somewhere ∷ [])) ∙ ap (λ x. x ++ sign_token kind.End somewhere ∷ []) on.3)
-          ∙ sym (one_line read.lines on.1 somewhere),
-    )
+  -- what was read can go on to lines within the limit
+  pub file_on : (p : Progress) (ts : List Token) → FileReads language before p ts
+      → (more : List Token) × (lines : List StatedLine) × AreLinesOf language lines × FileFits lines × (ts ++ more ≡ file_tokens lines)
+  file_on p ts read =
+      let on = line_on language p.line read.now read.reads in
+      let last : StatedLine = record { stated = on.1; end = somewhere } in (
+        on.0 ++ sign_token kind.End somewhere ∷ [],
+        read.lines ++ last ∷ [],
+        AreLinesOf-append language read.lines (last ∷ []) read.speak (on.3, tt),
+        FileFits-append read.lines (last ∷ []) read.fits (on.2, tt),
+        ap (λ (x : List Token). x ++ (on.0 ++ sign_token kind.End somewhere ∷ [])) read.are
+            ∙ append_assoc (file_tokens read.lines) read.now (on.0 ++ sign_token kind.End somewhere ∷ [])
+            ∙ ap (λ x. file_tokens read.lines ++ x) (sym (append_assoc read.now on.0 (sign_token kind.End somewhere ∷ [])) ∙ ap (λ x. x ++ sign_token kind.End somewhere ∷ []) on.4)
+            ∙ sym (one_line read.lines on.1 somewhere),
+      )
 
-misfit_by : (lines : List StatedLine) (ts : List Token) (f : Misfit) → ts ≡ file_tokens lines → run file_step beginning ts ≡ Err f → Upto (FileFits lines) (run file_step beginning (file_tokens lines)) (Ok (in_file (file_tree lines) line.Start))
-    → (FileFits lines → ⊥) × (f ≡ TooDeep)
-misfit_by lines ts f is fails (inl (fits, ran)) = absurd (ok_differs _ f (sym ran ∙ ap (run file_step beginning) (sym is) ∙ fails))
-misfit_by lines ts f is fails (inr (wide, ran)) = (wide, err_is (sym fails ∙ ap (run file_step beginning) is ∙ ran))
-  where
-    err_is : (let r : Result Progress Misfit = Err f in r) ≡ Err TooDeep → f ≡ TooDeep
-    err_is read = cc
+  misfit_by : (lines : List StatedLine) (ts : List Token) (f : Misfit) → ts ≡ file_tokens lines → run (file_step language) (in_file before line.Start) ts ≡ Err f
+      → Upto (FileFits lines) (run (file_step language) (in_file before line.Start) (file_tokens lines)) (Ok (in_file (before ++ file_tree lines) line.Start)) → (FileFits lines → ⊥) × (f ≡ TooDeep)
+  misfit_by lines ts f is fails (inl (fits, ran)) = absurd (ok_differs _ f (sym ran ∙ ap (run (file_step language) (in_file before line.Start)) (sym is) ∙ fails))
+  misfit_by lines ts f is fails (inr (wide, ran)) = (wide, err_is (sym fails ∙ ap (run (file_step language) (in_file before line.Start)) is ∙ ran))
+    where
+      err_is : (let r : Result Progress Misfit = Err f in r) ≡ Err TooDeep → f ≡ TooDeep
+      err_is read = cc
 
--- where a token is a misfit no file goes on with it but one that is not within the limit, and that only where the misfit is a bracket that is too deep
-pub file_misfit : (front : List Token) (p : Progress) (t : Token) (f : Misfit) → run file_step beginning front ≡ Ok p → file_step p t ≡ Err f
-    → (more : List Token) (lines : List StatedLine) → front ++ t ∷ more ≡ file_tokens lines → (FileFits lines → ⊥) × (f ≡ TooDeep)
-file_misfit front p t f ran fails more lines is =
-    misfit_by lines (front ++ t ∷ more) f is (run_front file_step beginning front p (t ∷ more) ran ∙ failing file_step p t more f fails) (all_run lines)
+  -- where a token is a misfit no lines go on with it but some that are not within the limit, and that only where the misfit is a bracket that is too deep
+  pub file_misfit : (front : List Token) (p : Progress) (t : Token) (f : Misfit) → run (file_step language) (in_file before line.Start) front ≡ Ok p → file_step language p t ≡ Err f
+      → (more : List Token) (lines : List StatedLine) → AreLinesOf language lines → front ++ t ∷ more ≡ file_tokens lines → (FileFits lines → ⊥) × (f ≡ TooDeep)
+  file_misfit front p t f ran fails more lines speak is =
+      misfit_by lines (front ++ t ∷ more) f is
+      (run_front (file_step language) (in_file before line.Start) front p (t ∷ more) ran ∙ failing (file_step language) p t more f fails) (lines_run language before lines speak)

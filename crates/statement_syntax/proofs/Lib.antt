@@ -13,6 +13,7 @@ pub mod LineRuns
 pub mod FileReads
 pub mod FileDeep
 pub mod LastToken
+pub mod FirstLine
 pub mod TreeKinds
 pub mod Moved
 pub mod Carets

@@ -4,12 +4,16 @@ use Rattle.std.specs.Prelude.{codes}
 use Rattle.std.proofs.lemmas.List.{map-append}
 use Rattle.statement_tokens.specs.declared.place.Spot.{Spot}
 use Rattle.statement_tokens.specs.declared.token.Token.{Token}
+use Rattle.statement_tokens.specs.declared.language.Language.{Language}
+use Rattle.statement_tokens.specs.declared.language.Language.TheVariants.{First, Second}
 use Rattle.statement_tokens.specs.declared.token.TokenKind.{TokenKind}
 use Rattle.statement_tokens.specs.declared.token.TokenKind.TheVariants as kind
 use Rattle.statement_syntax.specs.Limits.{bracket_limit}
 use Rattle.statement_syntax.specs.declared.tree.Name.{Name}
 use Rattle.statement_syntax.specs.declared.tree.Number.{Number}
-use Rattle.statement_syntax.specs.Grammar.{no_sign, lead_plus, lead_minus, Sign, plus, minus, Expr, first, joined, Product, zero_alone, factors, Factors, one, beside, Marked, plain, marked, Prime, name, identity, bracket, sign_token, name_token, number_token, zero_at, signed_token, literal_tokens, expr_tokens, product_tokens, factors_tokens, marked_tokens, prime_tokens, ExprFits, ProductFits, FactorsFit, MarkedFits, PrimeFits, list_text, sides_text, pair_text, Ending, no_word, self_word, ending_tokens, word_token, names_tokens, pairs_tokens, Stated, listed, mapped, sides, paired, projected, by_degree, by_weight, modelled, stated_tokens, StatedFits, StatedLine, line_tokens, file_tokens, FileFits}
+use Rattle.statement_syntax.specs.declared.line.ListWord.{ListWord}
+use Rattle.statement_syntax.specs.declared.line.ListWord.TheVariants.{Object, Solve, Eliminate}
+use Rattle.statement_syntax.specs.Grammar.{no_sign, lead_plus, lead_minus, Sign, plus, minus, Expr, first, joined, Product, zero_alone, factors, Factors, one, beside, Marked, plain, marked, raised, Prime, name, identity, bracket, sign_token, name_token, number_token, zero_at, signed_token, literal_tokens, expr_tokens, product_tokens, factors_tokens, marked_tokens, prime_tokens, ExprFits, ProductFits, FactorsFit, MarkedFits, PrimeFits, list_text, sides_text, pair_text, Ending, no_word, self_word, ending_tokens, word_token, names_tokens, pairs_tokens, Stated, listed, mapped, sides, paired, projected, by_degree, by_weight, modelled, second_language, two_at, stated_tokens, StatedFits, IsOf, NamesLanguage, StatedLine, AreLinesOf, IsFileOf, line_tokens, file_tokens, FileFits}
 use Rattle.statement_syntax.specs.Places.{somewhere, bare_name, bare_number, bare_literal, bare_sign, bare, bare_product, bare_factors, bare_marked, bare_prime, bare_ending, bare_names, bare_pair, bare_pairs, bare_stated, bare_line, bare_file}
 
 abbrev pub kinds : List Token → List TokenKind
@@ -142,6 +146,19 @@ mutual
         fits = m.fits;
       }
 
+  marked_moved (raised f at n) ts alike =
+      let parts = parts_of ts (marked_tokens (bare_marked f)) (sign_token kind.Caret somewhere ∷ number_token (bare_number n) ∷ []) alike in
+      let m = marked_moved f parts.left parts.left_are in
+      let l = led_by parts.right kind.Caret (kind.Literal n.value ∷ []) parts.right_are in
+      let r = led_by l.rest (kind.Literal n.value) [] l.kinds_are in
+      let number : Number = record { value = n.value; at = r.at } in
+      record {
+        moved = raised m.moved l.at number;
+        are = parts.are ∙ ap₂ (λ x y. x ++ y) m.are (l.are ∙ ap (λ x. sign_token kind.Caret l.at ∷ x) (r.are ∙ ap (λ x. number_token number ∷ x) (none_left r.rest r.kinds_are)));
+        same = ap (λ x. raised x somewhere (bare_number n)) m.same;
+        fits = m.fits;
+      }
+
   prime_moved : (p : Prime) (ts : List Token) → kinds ts ≡ kinds (prime_tokens (bare_prime p)) → Moved prime_tokens bare_prime PrimeFits p ts
   prime_moved (name n) ts alike =
       let l = led_by ts (kind.Name n.text) [] alike in
@@ -220,6 +237,16 @@ record MovedStated (s : Stated) (ts : List Token) : Type 0 where
   pub are : ts ≡ stated_tokens moved
   pub same : bare_stated moved ≡ bare_stated s
   pub fits : StatedFits s → StatedFits moved
+  pub speaks : (language : Language) → IsOf language s → IsOf language moved
+  pub names : NamesLanguage s → NamesLanguage moved
+
+list_of : (language : Language) (w : ListWord) (at to : Spot) (n m : Name) (ns ms : List Name) → IsOf language (listed w at n ns) → IsOf language (listed w to m ms)
+list_of First Object at to n m ns ms speaks = tt
+list_of First Solve at to n m ns ms speaks = tt
+list_of First Eliminate at to n m ns ms speaks = speaks
+list_of Second Object at to n m ns ms speaks = tt
+list_of Second Solve at to n m ns ms speaks = tt
+list_of Second Eliminate at to n m ns ms speaks = tt
 
 stated_moved : (s : Stated) (ts : List Token) → kinds ts ≡ kinds (stated_tokens (bare_stated s)) → MovedStated s ts
 stated_moved (listed w at n ns) ts alike =
@@ -231,6 +258,8 @@ stated_moved (listed w at n ns) ts alike =
       are = l.are ∙ ap (λ x. word_token (list_text w) l.at ∷ x) (m.are ∙ ap (λ x. name_token m.moved ∷ x) ms.are);
       same = ap₂ (listed w somewhere) m.same ms.same;
       fits = λ f. f;
+      speaks = λ language speaks. list_of language w at l.at n m.moved ns ms.moved speaks;
+      names = λ names. names;
     }
 stated_moved (mapped at n ns colon s arrow t end) ts alike =
     let behind : List Token = sign_token kind.Colon somewhere ∷ name_token (bare_name s) ∷ sign_token kind.Arrow somewhere ∷ name_token (bare_name t) ∷ ending_tokens (bare_ending end) in
@@ -251,6 +280,8 @@ stated_moved (mapped at n ns colon s arrow t end) ts alike =
           ∙ ap₂ (λ x y. mapped somewhere (bare_name n) (bare_names ns) somewhere x somewhere y (bare_ending last.moved)) source.same target.same
           ∙ ap (mapped somewhere (bare_name n) (bare_names ns) somewhere (bare_name s) somewhere (bare_name t)) last.same;
       fits = λ f. f;
+      speaks = λ language speaks. tt;
+      names = λ names. names;
     }
 stated_moved (sides w at d equals e) ts alike =
     let l = led_by ts (kind.Name (sides_text w)) (kinds (expr_tokens (bare d) ++ sign_token kind.Equals somewhere ∷ expr_tokens (bare e))) alike in
@@ -263,6 +294,8 @@ stated_moved (sides w at d equals e) ts alike =
       are = l.are ∙ ap (λ x. word_token (sides_text w) l.at ∷ x) (parts.are ∙ ap₂ (λ x y. x ++ y) left.are (q.are ∙ ap (λ x. sign_token kind.Equals q.at ∷ x) right.are));
       same = ap₂ (λ x y. sides w somewhere x somewhere y) left.same right.same;
       fits = λ f. (left.fits bracket_limit f.0, right.fits bracket_limit f.1);
+      speaks = λ language speaks. tt;
+      names = λ names. names;
     }
 stated_moved (paired w at m n) ts alike =
     let l = led_by ts (kind.Name (pair_text w)) (kinds (name_token (bare_name m) ∷ name_token (bare_name n) ∷ [])) alike in
@@ -273,6 +306,8 @@ stated_moved (paired w at m n) ts alike =
       are = l.are ∙ ap (λ z. word_token (pair_text w) l.at ∷ z) (x.are ∙ ap (λ z. name_token x.moved ∷ z) (y.are ∙ ap (λ z. name_token y.moved ∷ z) (none_left y.rest y.kinds_are)));
       same = ap₂ (paired w somewhere) x.same y.same;
       fits = λ f. f;
+      speaks = λ language speaks. tt;
+      names = λ names. names;
     }
 stated_moved (projected at n) ts alike =
     let l = led_by ts (kind.Name (codes "projection")) (kinds (name_token (bare_name n) ∷ [])) alike in
@@ -282,6 +317,8 @@ stated_moved (projected at n) ts alike =
       are = l.are ∙ ap (λ z. word_token (codes "projection") l.at ∷ z) (x.are ∙ ap (λ z. name_token x.moved ∷ z) (none_left x.rest x.kinds_are));
       same = ap (projected somewhere) x.same;
       fits = λ f. f;
+      speaks = λ language speaks. tt;
+      names = λ names. names;
     }
 stated_moved (by_degree at word) ts alike =
     let l = led_by ts (kind.Name (codes "order")) (kind.Name (codes "degree") ∷ []) alike in
@@ -291,6 +328,8 @@ stated_moved (by_degree at word) ts alike =
       are = l.are ∙ ap (λ z. word_token (codes "order") l.at ∷ z) (r.are ∙ ap (λ z. word_token (codes "degree") r.at ∷ z) (none_left r.rest r.kinds_are));
       same = refl;
       fits = λ f. f;
+      speaks = λ language speaks. tt;
+      names = λ names. names;
     }
 stated_moved (by_weight at word p ps) ts alike =
     let l = led_by ts (kind.Name (codes "order")) (kind.Name (codes "weight") ∷ kinds (pairs_tokens (bare_pairs (p ∷ ps)))) alike in
@@ -302,6 +341,8 @@ stated_moved (by_weight at word p ps) ts alike =
       are = l.are ∙ ap (λ z. word_token (codes "order") l.at ∷ z) (r.are ∙ ap (λ z. word_token (codes "weight") r.at ∷ z) (x.are ∙ ap (λ z. name_token x.moved.0 ∷ number_token x.moved.1 ∷ z) xs.are));
       same = ap₂ (by_weight somewhere somewhere) x.same xs.same;
       fits = λ f. f;
+      speaks = λ language speaks. tt;
+      names = λ names. names;
     }
 stated_moved (modelled at m ps) ts alike =
     let l = led_by ts (kind.Name (codes "model")) (kind.Literal m.value ∷ kinds (pairs_tokens (bare_pairs ps))) alike in
@@ -312,6 +353,19 @@ stated_moved (modelled at m ps) ts alike =
       are = l.are ∙ ap (λ z. word_token (codes "model") l.at ∷ z) (r.are ∙ ap (λ z. number_token (record { value = m.value; at = r.at }) ∷ z) xs.are);
       same = ap (modelled somewhere (bare_number m)) xs.same;
       fits = λ f. f;
+      speaks = λ language speaks. tt;
+      names = λ names. names;
+    }
+stated_moved (second_language at number) ts alike =
+    let l = led_by ts (kind.Name (codes "language")) (kind.Literal (two_at somewhere).value ∷ []) alike in
+    let r = led_by l.rest (kind.Literal (two_at somewhere).value) [] l.kinds_are in
+    record {
+      moved = second_language l.at r.at;
+      are = l.are ∙ ap (λ z. word_token (codes "language") l.at ∷ z) (r.are ∙ ap (λ z. number_token (two_at r.at) ∷ z) (none_left r.rest r.kinds_are));
+      same = refl;
+      fits = λ f. f;
+      speaks = λ language speaks. speaks;
+      names = λ names. names;
     }
 
 -- ---- files
@@ -321,9 +375,16 @@ pub record MovedFile (ls : List StatedLine) (ts : List Token) : Type 0 where
   pub are : ts ≡ file_tokens moved
   pub same : bare_file moved ≡ bare_file ls
   pub fits : FileFits ls → FileFits moved
+  pub speak : (language : Language) → AreLinesOf language ls → AreLinesOf language moved
+  pub speaks : (language : Language) → IsFileOf language ls → IsFileOf language moved
+
+file_speaks : (language : Language) (l m : StatedLine) (ls ms : List StatedLine) → (IsOf language l.stated → IsOf language m.stated) → (NamesLanguage l.stated → NamesLanguage m.stated)
+    → (AreLinesOf language ls → AreLinesOf language ms) → IsFileOf language (l ∷ ls) → IsFileOf language (m ∷ ms)
+file_speaks First l m ls ms stated named others speaks = (stated speaks.0, others speaks.1)
+file_speaks Second l m ls ms stated named others speaks = (named speaks.0, others speaks.1)
 
 pub file_moved : (ls : List StatedLine) (ts : List Token) → kinds ts ≡ kinds (file_tokens (bare_file ls)) → MovedFile ls ts
-file_moved [] ts alike = record { moved = []; are = none_left ts alike; same = refl; fits = λ f. f }
+file_moved [] ts alike = record { moved = []; are = none_left ts alike; same = refl; fits = λ f. f; speak = λ language speak. speak; speaks = λ language speaks. speaks }
 file_moved (l ∷ ls) ts alike =
     let outer = parts_of ts (line_tokens (bare_line l)) (file_tokens (bare_file ls)) alike in
     let inner = parts_of outer.left (stated_tokens (bare_stated l.stated)) (sign_token kind.End somewhere ∷ []) outer.left_are in
@@ -336,4 +397,6 @@ file_moved (l ∷ ls) ts alike =
       are = outer.are ∙ ap₂ (λ x y. x ++ y) (inner.are ∙ ap₂ (λ x y. x ++ y) s.are (e.are ∙ ap (λ x. sign_token kind.End e.at ∷ x) (none_left e.rest e.kinds_are))) rest.are;
       same = ap₂ (λ x y. record { stated = x; end = somewhere } ∷ y) s.same rest.same;
       fits = λ f. (s.fits f.0, rest.fits f.1);
+      speak = λ language f. (s.speaks language f.0, rest.speak language f.1);
+      speaks = λ language. file_speaks language l line ls rest.moved (s.speaks language) s.names (rest.speak language);
     }

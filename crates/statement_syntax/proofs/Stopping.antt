@@ -1,10 +1,11 @@
 -- The loop over the tokens of a file, and what its end says of the bytes.
-use Rattle.std.proofs.Common.{◌≡◌, ℕ, List, [], ◌∷◌, ◌++◌, inl, inr, Ok, Err, refl, sym, ap, subst, ◌∙◌, append_assoc}
-use Rattle.std.proofs.lemmas.List.{append-nil}
+use Rattle.std.proofs.Common.{◌≡◌, ℕ, List, [], ◌∷◌, ◌++◌, inl, inr, Result, Ok, Err, refl, sym, ap, subst, ◌∙◌, append_assoc}
+use Rattle.std.proofs.lemmas.List.{append-nil, map-append}
 use Rattle.std.specs.Str.{IsUtf8, chars}
 use Rattle.std.specs.Str.Lossy.{utf8_valid_len}
 use Rattle.statement_tokens.specs.declared.place.Spot.{Spot}
 use Rattle.statement_tokens.specs.declared.token.Token.{Token}
+use Rattle.statement_tokens.specs.declared.language.Language.{Language}
 use Rattle.statement_tokens.specs.declared.token.TokenKind.TheVariants as kind
 use Rattle.statement_syntax.specs.declared.tree.Statement.{Statement}
 use Rattle.statement_syntax.specs.declared.expression.Misfit.{Misfit}
@@ -12,36 +13,44 @@ use Rattle.statement_syntax.specs.declared.expression.Misfit.TheVariants.{Expect
 use Rattle.statement_syntax.specs.declared.line.Line.{Line}
 use Rattle.statement_syntax.specs.declared.line.Line.TheVariants as line
 use Rattle.statement_syntax.specs.declared.read.Progress.{Progress}
+use Rattle.statement_syntax.specs.declared.fault.Fault.{Fault}
 use Rattle.statement_syntax.specs.declared.fault.Fault.TheVariants as fault
+use Rattle.statement_tokens.specs.declared.scan.Placed.{Placed}
 use Rattle.statement_syntax.specs.declared.fault.SyntaxFault.{SyntaxFault}
 use Rattle.statement_syntax.specs.declared.fault.SyntaxFault.TheVariants as refusal
 use Rattle.statement_syntax.specs.declared.expression.ReadError.{ReadError}
 use Rattle.statement_syntax.specs.declared.expression.ReadError.TheVariants as error
 use Rattle.statement_syntax.specs.Steps.{◌>>=◌, run, Fails}
+use Rattle.statement_tokens.specs.Language.{language_of}
 use Rattle.statement_tokens.specs.Token.{tokens_of}
-use Rattle.statement_syntax.specs.Grammar.{sign_token, StatedLine, file_tokens, FileFits}
-use Rattle.statement_syntax.specs.Tree.{file_tree}
-use Rattle.statement_syntax.specs.Lines.{line_end, beginning, ended, file_step}
-use Rattle.statement_syntax.specs.Fault.{IsStatements, IsTreeOf, IsMisfit, TellsFirstFault, IsWantOfMemory, fault_at, misfit_fault}
-use Rattle.statement_syntax.specs.Stages.{StoppedAt, AllRead, Refused, IsRefusal}
+use Rattle.statement_syntax.specs.Grammar.{sign_token, StatedLine, AreLinesOf, IsFileOf, file_tokens, FileFits}
+use Rattle.statement_syntax.specs.Tree.{stated_tree, file_tree}
+use Rattle.statement_syntax.specs.Lines.{line_end, ended, file_step}
+use Rattle.statement_syntax.specs.Fault.{IsStatements, IsTreeOf, GoesOn, GoesOnWithin, IsMisfit, IsFirstFault, TellsFirstFault, IsWantOfMemory, fault_at, misfit_fault}
+use Rattle.statement_syntax.specs.Stages.{first_statements, begun, left, StoppedAt, AllRead, Refused, IsRefusal}
 use Rattle.statement_syntax.proofs.Run.{bind_ok, ok_is, run_front, one_step, upto_ok}
-use Rattle.statement_syntax.proofs.LastToken.{EndsWell, ends_from, tokens_is}
+use Rattle.statement_syntax.proofs.LastToken.{EndsWell, ends_from, rest_ends, tokens_is}
 use Rattle.statement_syntax.proofs.LineReads.{LineReads}
-use Rattle.statement_syntax.proofs.FileReads.{FileReads, run_reads, file_on, file_misfit, all_run, in_file}
+use Rattle.statement_syntax.proofs.FirstLine.{file_language, Divided, Behind, divided}
+use Rattle.statement_syntax.proofs.FileReads.{FileReads, run_reads, file_on, file_misfit, lines_run, in_file, file_tokens-append, FileFits-append}
 use Rattle.statement_syntax.proofs.FileDeep.{file_deep}
 
 -- ---- the loop
 
-pub goes_on : (front : List Token) (t : Token) (p next : Progress) → run file_step beginning front ≡ Ok p → file_step p t ≡ Ok next → run file_step beginning (front ++ t ∷ []) ≡ Ok next
+-- the loop's run over tokens
+abbrev pub Runs : List Token → List Token → Progress → Type 0
+Runs ts front p = run (file_step (language_of ts)) (begun ts) front ≡ Ok p
+
+pub goes_on : (ts front : List Token) (t : Token) (p next : Progress) → Runs ts front p → file_step (language_of ts) p t ≡ Ok next → Runs ts (front ++ t ∷ []) next
 unfolding run
-goes_on front t p next ran goes = run_front file_step beginning front p (t ∷ []) ran ∙ one_step file_step p next t [] goes
+goes_on ts front t p next ran goes = run_front (file_step (language_of ts)) (begun ts) front p (t ∷ []) ran ∙ one_step (file_step (language_of ts)) p next t [] goes
 
 no_memory : (ts : List Token) (refused : SyntaxFault) → IsWantOfMemory refused → Refused ts refused
 no_memory ts (refusal.Memory e) loop = tt
 no_memory ts (refusal.Fault code l c) loop = absurd loop
 
-pub stops_at : (ts front : List Token) (t : Token) (rest : List Token) (p : Progress) (e : ReadError) (refused : SyntaxFault) → ts ≡ front ++ t ∷ rest → run file_step beginning front ≡ Ok p
-    → Fails e (file_step p t) → IsRefusal e t.at refused → Refused ts refused
+pub stops_at : (ts front : List Token) (t : Token) (rest : List Token) (p : Progress) (e : ReadError) (refused : SyntaxFault) → left ts ≡ front ++ t ∷ rest → Runs ts front p
+    → Fails e (file_step (language_of ts) p t) → IsRefusal e t.at refused → Refused ts refused
 stops_at ts front t rest p error.Memory refused splits ran fails tells = no_memory ts refused tells
 stops_at ts front t rest p (error.Misfit f) refused splits ran fails tells = subst (Refused ts) (sym tells) (record {
   front = front;
@@ -57,94 +66,193 @@ stops_at ts front t rest p (error.Misfit f) refused splits ran fails tells = sub
 
 -- ---- after all tokens no line is left open
 
-run_split : (p : Progress) (xs ys : List Token) (next : Progress) → run file_step p (xs ++ ys) ≡ Ok next → (mid : Progress) × (run file_step p xs ≡ Ok mid) × (run file_step mid ys ≡ Ok next)
-unfolding run
-run_split p [] ys next ran = (p, refl, ran)
-run_split p (x ∷ xs) ys next ran =
-    let one = bind_ok (file_step p x) (λ q. run file_step q (xs ++ ys)) next ran in
-    let rest = run_split one.0 xs ys next one.2 in
-    (rest.0, ap (λ r. r >>= λ q. run file_step q xs) one.1 ∙ rest.1, rest.2)
+module _ (language : Language) where
+  run_split : (p : Progress) (xs ys : List Token) (next : Progress) → run (file_step language) p (xs ++ ys) ≡ Ok next
+      → (mid : Progress) × (run (file_step language) p xs ≡ Ok mid) × (run (file_step language) mid ys ≡ Ok next)
+  unfolding run
+  run_split p [] ys next ran = (p, refl, ran)
+  run_split p (x ∷ xs) ys next ran =
+      let one = bind_ok (file_step language p x) (λ q. run (file_step language) q (xs ++ ys)) next ran in
+      let rest = run_split one.0 xs ys next one.2 in
+      (rest.0, ap (λ r. r >>= λ q. run (file_step language) q xs) one.1 ∙ rest.1, rest.2)
 
-end_starts : (mid p : Progress) (at : Spot) → run file_step mid (sign_token kind.End at ∷ []) ≡ Ok p → p.line ≡ line.Start
-unfolding run
-end_starts mid p at ran =
-    let one = bind_ok (ended mid) (λ q. run file_step q []) p ran in
-    let s = bind_ok (line_end mid.line) (λ s. Ok (record { statements = mid.statements ++ s ∷ []; line = line.Start })) one.0 one.1 in
-    ap (λ (q : Progress). q.line) (sym (ok_is _ _ s.2 ∙ ok_is _ _ one.2))
+  end_starts : (mid p : Progress) (at : Spot) → run (file_step language) mid (sign_token kind.End at ∷ []) ≡ Ok p → p.line ≡ line.Start
+  unfolding run
+  end_starts mid p at ran =
+      let one = bind_ok (ended mid) (λ q. run (file_step language) q []) p ran in
+      let s = bind_ok (line_end mid.line) (λ s. Ok (record { statements = mid.statements ++ s ∷ []; line = line.Start })) one.0 one.1 in
+      ap (λ (q : Progress). q.line) (sym (ok_is _ _ s.2 ∙ ok_is _ _ one.2))
 
-closed_by : (ts : List Token) (p : Progress) → EndsWell 0 ts → run file_step beginning ts ≡ Ok p → p.line ≡ line.Start
-unfolding run
-closed_by ts p (inl loop) ran = ap (λ (q : Progress). q.line) (sym (ok_is beginning p (sym (ap (run file_step beginning) loop.1) ∙ ran)))
-closed_by ts p (inr loop) ran =
-    let parts = run_split beginning loop.0 (sign_token kind.End loop.1 ∷ []) p (sym (ap (run file_step beginning) loop.2) ∙ ran) in
-    end_starts parts.0 p loop.1 parts.2
+  closed_by : (before : List Statement) (ts : List Token) (p : Progress) → EndsWell 0 ts → run (file_step language) (in_file before line.Start) ts ≡ Ok p → p.line ≡ line.Start
+  unfolding run
+  closed_by before ts p (inl loop) ran = ap (λ (q : Progress). q.line) (sym (ok_is (in_file before line.Start) p (sym (ap (run (file_step language) (in_file before line.Start)) loop.1) ∙ ran)))
+  closed_by before ts p (inr loop) ran =
+      let parts = run_split (in_file before line.Start) loop.0 (sign_token kind.End loop.1 ∷ []) p (sym (ap (run (file_step language) (in_file before line.Start)) loop.2) ∙ ran) in
+      end_starts parts.0 p loop.1 parts.2
 
 -- ---- the clauses
 
-tokens_are : (bytes : List ℕ) (ts : List Token) (lines : List StatedLine) → tokens_of (chars bytes) ≡ Ok ts → IsStatements bytes lines → ts ≡ file_tokens lines
-tokens_are bytes ts lines read is = tokens_is _ _ (sym read ∙ is.tokens)
+pub record Closed (language : Language) (before : List Statement) (p : Progress) (ts : List Token) : Type 0 where
+  pub lines : List StatedLine
+  pub speak : AreLinesOf language lines
+  pub fits : FileFits lines
+  pub trees : p.statements ≡ before ++ file_tree lines
+  pub are : ts ≡ file_tokens lines
 
-nothing_now : (p : Progress) (l : Line) (now : List Token) → p.line ≡ l → l ≡ line.Start → FileReads p now → (lines : List StatedLine) × FileFits lines × (p.statements ≡ file_tree lines) × (now ≡ file_tokens lines)
-nothing_now p l now is start loop =
-    let none : loop.now ≡ [] = subst (λ x. LineReads x loop.now) (is ∙ start) loop.reads in
-    (loop.lines, loop.fits, loop.trees, loop.are ∙ ap (λ x. file_tokens loop.lines ++ x) none ∙ append-nil (file_tokens loop.lines))
+closed : (language : Language) (before : List Statement) (p : Progress) (ts : List Token) → p.line ≡ line.Start → FileReads language before p ts → Closed language before p ts
+closed language before p ts start loop =
+    let none : loop.now ≡ [] = subst (λ x. LineReads language x loop.now) start loop.reads in
+    record {
+      lines = loop.lines;
+      speak = loop.speak;
+      fits = loop.fits;
+      trees = loop.trees;
+      are = loop.are ∙ ap (λ x. file_tokens loop.lines ++ x) none ∙ append-nil (file_tokens loop.lines);
+    }
+
+-- the tokens, of which the line that names the language is taken off
+own : (ts : List Token) → Divided (language_of ts) ts
+own ts = divided (language_of ts) ts refl
+
+-- with the line that names the language in front
+with_first : (ts front more : List Token) (lines : List StatedLine) → front ++ more ≡ file_tokens lines → (file_tokens (own ts).lines ++ front) ++ more ≡ file_tokens ((own ts).lines ++ lines)
+with_first ts front more lines is =
+    append_assoc (file_tokens (own ts).lines) front more ∙ ap (λ x. file_tokens (own ts).lines ++ x) is ∙ sym (file_tokens-append (own ts).lines lines)
 
 pub is_found : (bytes : List ℕ) (ts : List Token) (statements : List Statement) → IsUtf8 bytes → tokens_of (chars bytes) ≡ Ok ts → AllRead ts statements → IsTreeOf bytes statements
 is_found bytes ts statements utf8 read loop =
-    let closed = closed_by ts loop.0 (ends_from (chars bytes) 0 (record { line = 1; column = 1 }) 0 ts read) loop.1 in
-    let all = nothing_now loop.0 line.Start ts closed refl (run_reads loop.0 ts loop.1) in
-    (all.0, record { utf8 = utf8; tokens = read ∙ ap (λ x. Ok x) all.3; fits = all.1 }, loop.2 ∙ all.2)
+    let language = language_of ts in
+    let before = first_statements language ts in
+    let first = own ts in
+    let well = ends_from [] (chars bytes) 0 (record { line = 1; column = 1 }) 0 ts read in
+    let start = closed_by language before (left ts) loop.0 (rest_ends (file_tokens first.lines) (left ts) (subst (EndsWell 0) first.are well)) loop.1 in
+    let all = closed language before loop.0 (left ts) start (run_reads language before loop.0 (left ts) loop.1) in (
+      first.lines ++ all.lines,
+      record {
+        utf8 = utf8;
+        tokens = read ∙ ap (λ x. Ok x) (first.are ∙ ap (λ x. file_tokens first.lines ++ x) all.are ∙ sym (file_tokens-append first.lines all.lines));
+        language = language;
+        speaks = first.joins all.lines all.speak;
+        fits = FileFits-append first.lines all.lines first.fits all.fits;
+      },
+      loop.2 ∙ all.trees ∙ ap (λ x. x ++ file_tree all.lines) first.trees ∙ sym (map-append (λ l. stated_tree l.stated) first.lines all.lines),
+    )
+
+-- a file's lines are that line and those behind it
+lines_are : (bytes : List ℕ) (ts : List Token) (lines : List StatedLine) → tokens_of (chars bytes) ≡ Ok ts → IsStatements bytes lines → Behind (language_of ts) (own ts).lines lines (left ts)
+lines_are bytes ts lines read is =
+    let tokens : ts ≡ file_tokens lines = tokens_is _ _ (sym read ∙ is.tokens) in
+    let language : is.language ≡ language_of ts = sym (ap language_of tokens ∙ file_language is.language lines is.speaks) in
+    (own ts).parts lines (subst (λ l. IsFileOf l lines) language is.speaks) (left ts) (sym (own ts).are ∙ tokens)
 
 pub is_only : (bytes : List ℕ) (ts : List Token) (statements : List Statement) → tokens_of (chars bytes) ≡ Ok ts → AllRead ts statements → (lines : List StatedLine) → IsStatements bytes lines → statements ≡ file_tree lines
 is_only bytes ts statements read loop lines is =
-    let same = upto_ok _ (in_file (file_tree lines) line.Start) loop.0 (all_run lines) (ap (run file_step beginning) (sym (tokens_are bytes ts lines read is)) ∙ loop.1) in
-    loop.2 ∙ ap (λ (p : Progress). p.statements) (sym same.1)
+    let language = language_of ts in
+    let before = first_statements language ts in
+    let parts = lines_are bytes ts lines read is in
+    let same = upto_ok _ (in_file (before ++ file_tree parts.others) line.Start) loop.0 (lines_run language before parts.others parts.speak)
+        (ap (run (file_step language) (begun ts)) (sym parts.are) ∙ loop.1) in
+    loop.2 ∙ ap (λ (p : Progress). p.statements) (sym same.1) ∙ ap (λ x. x ++ file_tree parts.others) (own ts).trees ∙ sym parts.trees
 
 stopped_misfit : (bytes : List ℕ) (ts : List Token) (lines : List StatedLine) (refused : SyntaxFault) → tokens_of (chars bytes) ≡ Ok ts → StoppedAt ts refused → IsStatements bytes lines → ⊥
 stopped_misfit bytes ts lines refused read loop is =
-    (file_misfit loop.front loop.progress loop.token loop.misfit loop.ran loop.stops loop.rest lines (sym loop.splits ∙ tokens_are bytes ts lines read is)).0 is.fits
+    let language = language_of ts in
+    let parts = lines_are bytes ts lines read is in
+    (file_misfit language (first_statements language ts) loop.front loop.progress loop.token loop.misfit loop.ran loop.stops loop.rest parts.others parts.speak (sym loop.splits ∙ parts.are)).0
+    (parts.fits is.fits)
 
 pub is_refused : (bytes : List ℕ) (ts : List Token) (lines : List StatedLine) (refused : SyntaxFault) → tokens_of (chars bytes) ≡ Ok ts → Refused ts refused → IsStatements bytes lines → IsWantOfMemory refused
 is_refused bytes ts lines (refusal.Memory e) read loop is = tt
 is_refused bytes ts lines (refusal.Fault code l c) read loop is = stopped_misfit bytes ts lines (refusal.Fault code l c) read loop is
 
-joined : (front more : List Token) (t : Token) → (front ++ t ∷ []) ++ more ≡ front ++ t ∷ more
-joined front more t = append_assoc front (t ∷ []) more
+-- ---- the token at which the loop stopped is the first misfit
 
--- the token at which the loop stopped is the first misfit
-misfit_of : (bytes : List ℕ) (ts : List Token) (refused : SyntaxFault) → IsUtf8 bytes → tokens_of (chars bytes) ≡ Ok ts → (loop : StoppedAt ts refused) → IsMisfit bytes loop.token.at
-misfit_of bytes ts refused utf8 read loop = record {
-  utf8 = utf8;
-  front = loop.front;
-  token = loop.token;
-  rest = loop.rest;
-  tokens = read ∙ ap (λ x. Ok x) loop.splits;
-  place = refl;
-  before = file_on loop.progress loop.front (run_reads loop.progress loop.front loop.ran);
-  there = λ on. (file_misfit loop.front loop.progress loop.token loop.misfit loop.ran loop.stops on.0 on.1 (sym (joined loop.front on.0 loop.token) ∙ on.3)).0 on.2;
-}
+module _ (ts : List Token) (refused : SyntaxFault) (loop : StoppedAt ts refused) where
+  abbrev before : List Statement
+  before = first_statements (language_of ts) ts
 
-tells_by : (bytes : List ℕ) (ts : List Token) (refused : SyntaxFault) (f : Misfit) → IsUtf8 bytes → tokens_of (chars bytes) ≡ Ok ts → (loop : StoppedAt ts refused) → loop.misfit ≡ f → TellsFirstFault bytes (fault_at (misfit_fault f) loop.token.at)
-unfolding misfit_of
-tells_by bytes ts refused Expected utf8 read loop is = (
-  fault.Expected,
-  refl,
-  (
-    misfit_of bytes ts refused utf8 read loop,
-    λ on. not_deep (sym is ∙ (file_misfit loop.front loop.progress loop.token loop.misfit loop.ran loop.stops on.0 on.1 (sym (joined loop.front on.0 loop.token) ∙ on.2)).1),
-  ),
-)
-  where
-    not_deep : (let f : Misfit = Expected in f) ≡ TooDeep → ⊥
-    not_deep e = absurd cc
-tells_by bytes ts refused TooDeep utf8 read loop is =
-    (fault.TooDeep, refl, (misfit_of bytes ts refused utf8 read loop, file_deep loop.progress loop.front loop.token (run_reads loop.progress loop.front loop.ran) (loop.stops ∙ ap (λ x. Err x) is)))
+  -- all tokens before it
+  abbrev front : List Token
+  front = file_tokens (own ts).lines ++ loop.front
+
+  all : ts ≡ front ++ loop.token ∷ loop.rest
+  all = (own ts).are ∙ ap (λ x. file_tokens (own ts).lines ++ x) loop.splits ∙ sym (append_assoc (file_tokens (own ts).lines) loop.front (loop.token ∷ loop.rest))
+
+  read_so : FileReads (language_of ts) before loop.progress loop.front
+  read_so = run_reads (language_of ts) before loop.progress loop.front loop.ran
+
+  goes : GoesOnWithin (language_of ts) front
+  goes =
+      let on = file_on (language_of ts) before loop.progress loop.front read_so in
+      (on.0, (own ts).lines ++ on.1, (own ts).joins on.1 on.2, FileFits-append (own ts).lines on.1 (own ts).fits on.3, with_first ts loop.front on.0 on.1 on.4)
+
+  -- with it only lines that are not within the limit, and that only where it is a bracket that is too deep
+  stuck : (more : List Token) (lines : List StatedLine) → IsFileOf (language_of ts) lines → (front ++ loop.token ∷ []) ++ more ≡ file_tokens lines → (FileFits lines → ⊥) × (loop.misfit ≡ TooDeep)
+  stuck more lines speaks is =
+      let parts = (own ts).parts lines speaks (loop.front ++ loop.token ∷ more)
+          (sym (append_assoc (file_tokens (own ts).lines) loop.front (loop.token ∷ more)) ∙ sym (append_assoc front (loop.token ∷ []) more) ∙ is) in
+      let misfit = file_misfit (language_of ts) before loop.front loop.progress loop.token loop.misfit loop.ran loop.stops more parts.others parts.speak parts.are in
+      (λ fits. misfit.0 (parts.fits fits), misfit.1)
+
+  deeper : loop.misfit ≡ TooDeep → GoesOn (language_of ts) (front ++ loop.token ∷ [])
+  deeper is =
+      let on = file_deep (language_of ts) before loop.progress loop.front loop.token read_so (loop.stops ∙ ap (λ x. Err x) is) in
+      let shown = append_assoc (file_tokens (own ts).lines) loop.front (loop.token ∷ []) in
+      (on.0, (own ts).lines ++ on.1, (own ts).joins on.1 on.2, ap (λ (x : List Token). x ++ on.0) shown ∙ with_first ts (loop.front ++ loop.token ∷ []) on.0 on.1 on.3)
+
+  -- so within the language of all tokens
+  misfit_of : (bytes : List ℕ) → IsUtf8 bytes → tokens_of (chars bytes) ≡ Ok ts → IsMisfit bytes loop.token.at
+  misfit_of bytes utf8 read = record {
+    utf8 = utf8;
+    front = front;
+    token = loop.token;
+    rest = loop.rest;
+    tokens = read ∙ ap (λ x. Ok x) all;
+    place = refl;
+    before = subst (λ l. GoesOnWithin l front) (ap language_of all) goes;
+    there = λ on. (stuck on.0 on.1 (subst (λ l. IsFileOf l on.1) (sym (ap language_of all)) on.2) on.4).0 on.3;
+  }
+
+  tells_by : (bytes : List ℕ) (f : Misfit) → IsUtf8 bytes → tokens_of (chars bytes) ≡ Ok ts → loop.misfit ≡ f → TellsFirstFault bytes (fault_at (misfit_fault f) loop.token.at)
+  unfolding misfit_of
+  tells_by bytes Expected utf8 read is = (
+    fault.Expected,
+    refl,
+    (misfit_of bytes utf8 read, λ on. not_deep (sym is ∙ (stuck on.0 on.1 (subst (λ l. IsFileOf l on.1) (sym (ap language_of all)) on.2) on.3).1)),
+  )
+    where
+      not_deep : (let f : Misfit = Expected in f) ≡ TooDeep → ⊥
+      not_deep e = absurd cc
+  tells_by bytes TooDeep utf8 read is = (fault.TooDeep, refl, (misfit_of bytes utf8 read, subst (λ l. GoesOn l (front ++ loop.token ∷ [])) (ap language_of all) (deeper is)))
 
 pub is_first : (bytes : List ℕ) (ts : List Token) (refused : SyntaxFault) → IsUtf8 bytes → tokens_of (chars bytes) ≡ Ok ts → Refused ts refused → TellsFirstFault bytes refused
 is_first bytes ts (refusal.Memory e) utf8 read loop = tt
-is_first bytes ts (refusal.Fault code l c) utf8 read loop = subst (TellsFirstFault bytes) (sym loop.tells) (tells_by bytes ts (refusal.Fault code l c) loop.misfit utf8 read loop refl)
+is_first bytes ts (refusal.Fault code l c) utf8 read loop =
+    subst (TellsFirstFault bytes) (sym loop.tells) (tells_by ts (refusal.Fault code l c) loop bytes loop.misfit utf8 read refl)
 
 -- ---- bytes that are no text
 
 pub told_not_utf8 : (bytes : List ℕ) (told : SyntaxFault) (column : ℕ) → told ≡ fault_at fault.NotUtf8 (record { line = 0; column = column }) → (IsUtf8 bytes → ⊥) → column ≡ utf8_valid_len bytes → TellsFirstFault bytes told
 told_not_utf8 bytes told column is invalid at = subst (TellsFirstFault bytes) (sym is) (fault.NotUtf8, refl, (invalid, ap (λ n. record { line = 0; column = n }) at))
+
+-- ---- statements have no fault
+
+no_misfit : (bytes : List ℕ) (lines : List StatedLine) (at : Spot) → IsMisfit bytes at → IsStatements bytes lines → ⊥
+no_misfit bytes lines at m is =
+    let all : m.front ++ m.token ∷ m.rest ≡ file_tokens lines = tokens_is _ _ (sym m.tokens ∙ is.tokens) in
+    let language : language_of (m.front ++ m.token ∷ m.rest) ≡ is.language = ap language_of all ∙ file_language is.language lines is.speaks in
+    m.there (m.rest, lines, subst (λ l. IsFileOf l lines) (sym language) is.speaks, is.fits, append_assoc m.front (m.token ∷ []) m.rest ∙ all)
+
+no_tokens : {ts : List Token} (p : Placed) → (let r : Result (List Token) Placed = Ok ts in r) ≡ Err p → ⊥
+no_tokens p is = absurd cc
+
+no_first : (bytes : List ℕ) (lines : List StatedLine) (f : Fault) (at : Spot) → IsFirstFault bytes f at → IsStatements bytes lines → ⊥
+no_first bytes lines fault.NotUtf8 at first is = first.0 is.utf8
+no_first bytes lines fault.BadToken at first is = no_tokens _ (sym is.tokens ∙ first.1)
+no_first bytes lines fault.LiteralTooLarge at first is = no_tokens _ (sym is.tokens ∙ first.1)
+no_first bytes lines fault.Expected at first is = no_misfit bytes lines at first.0 is
+no_first bytes lines fault.TooDeep at first is = no_misfit bytes lines at first.0 is
+
+pub want_alone : (bytes : List ℕ) (lines : List StatedLine) (refused : SyntaxFault) → TellsFirstFault bytes refused → IsStatements bytes lines → IsWantOfMemory refused
+want_alone bytes lines (refusal.Memory e) tells is = tt
+want_alone bytes lines (refusal.Fault code l c) tells is = no_first bytes lines tells.0 (record { line = l; column = c }) tells.2 is

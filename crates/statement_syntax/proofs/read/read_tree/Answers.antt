@@ -1,7 +1,12 @@
 use Rattle.std.proofs.Common.{rules}
 use Rattle.statement_syntax.specs.Fault.{TellsFirstFault, IsWantOfMemory}
-use Rattle.statement_syntax.proofs.Stopping.{is_found, is_only, is_refused, is_first}
+use Rattle.statement_syntax.proofs.Stopping.{is_found, is_only, is_refused, is_first, want_alone}
 use Rattle.statement_syntax.proofs.read.read_tree.Goals as goal
+
+pub returns-in_err-tokens-clause-refused : goal.returns-in_err-tokens-clause-refused
+returns-in_err-tokens-clause-refused c lines is =
+    let want : IsWantOfMemory c.in_err-tokens.field-0.0 = want_alone c.args.bytes.now lines c.in_err-tokens.field-0.0 c.in_err-tokens.ensures is in
+    search rules
 
 pub returns-in_err-statements-clause-refused : goal.returns-in_err-statements-clause-refused
 returns-in_err-statements-clause-refused c lines is =
