@@ -15,14 +15,15 @@ use Rattle.statement_syntax.specs.declared.tree.Statement.{Statement}
 use Rattle.statement_tokens.specs.declared.scan.Item.TheVariants as item
 use Rattle.statement_tokens.specs.declared.scan.Placed.{Placed}
 use Rattle.statement_tokens.specs.Token.{◌>>=◌, item_at, tokens_from, tokens_of, placed, end_of, with_front}
-use Rattle.statement_syntax.specs.Grammar.{sign_token, Stated, second_language, stated_tokens, StatedLine, NamesLanguage, IsFileOf, line_tokens, file_tokens, FileFits}
+use Rattle.statement_syntax.specs.Grammar.{sign_token, Stated, listed, mapped, sides, paired, projected, by_degree, by_weight, modelled, second_language, stated_tokens, StatedLine, NamesLanguage, IsFileOf, line_tokens, file_tokens, FileFits}
 use Rattle.statement_syntax.specs.Tree.{stated_kind, file_tree}
 use Rattle.statement_syntax.specs.Fault.{HasText}
 use Rattle.statement_syntax.specs.Places.{somewhere, bare_stated, bare_line, bare_file, ReadsBackAs}
 use Rattle.statement_syntax.specs.Written.{text_from, statement_kinds, tree_text}
 use Rattle.statement_tokens.proofs.Scanning.{spot}
 use Rattle.statement_syntax.proofs.Moved.{kinds, file_moved}
-use Rattle.statement_syntax.proofs.Carets.{HasCarets, Allows, carets_stay, language_by, first_word, language_is, same_language}
+use Rattle.statement_syntax.proofs.FirstLine.{file_language}
+use Rattle.statement_syntax.proofs.Carets.{HasCarets, Allows, carets_stay, language_by}
 use Rattle.statement_syntax.proofs.Spelled.{IsFileToken, AllKinds, tokens_are}
 use Rattle.statement_syntax.proofs.BareTokens.{AreTokens, AllSpelled, file_are}
 use Rattle.statement_syntax.proofs.StatedKinds.{kinds-append, stated-kinds}
@@ -63,13 +64,25 @@ end-kinds : (line past : ℕ) → 1 ≤ past → kinds (end_of line past) ≡ ki
 end-kinds line zero some = absurd (omega (arith, some))
 end-kinds line (suc past) some = refl
 
+-- a statement has a token
+first_token : (s : Stated) → (t : Token) × (ts : List Token) × (stated_tokens s ≡ t ∷ ts)
+first_token (listed w at n ns) = (_, _, refl)
+first_token (mapped at n ns colon s arrow t end) = (_, _, refl)
+first_token (sides w at d equals e) = (_, _, refl)
+first_token (paired w at m n) = (_, _, refl)
+first_token (projected at n) = (_, _, refl)
+first_token (by_degree at word) = (_, _, refl)
+first_token (by_weight at word p ps) = (_, _, refl)
+first_token (modelled at m ps) = (_, _, refl)
+first_token (second_language at number) = (_, _, refl)
+
 some_kinds : (k : TokenKind) (ks : List TokenKind) → 1 ≤ 0 + length (k ∷ ks)
 some_kinds k ks = omega arith
 
 some_tokens : (s : Stated) → 1 ≤ 0 + length (kinds (stated_tokens s))
 some_tokens s =
-    let f = first_word s in
-    subst (λ ts. 1 ≤ 0 + length (kinds ts)) (sym f.are) (some_kinds f.word.kind (kinds f.rest))
+    let f = first_token s in
+    subst (λ ts. 1 ≤ 0 + length (kinds ts)) (sym f.2) (some_kinds f.0.kind (kinds f.1))
 
 -- behind these tokens the characters are read as tokens of the statements' kinds
 record FileRead (before : List Token) (ls : List StatedLine) (text : List ℕ) (line : ℕ) : Type 0 where
@@ -146,7 +159,7 @@ written_back language ls all speaks fits =
           utf8 = utf8;
           tokens = ap tokens_of (sym are) ∙ r.read ∙ ap (λ x. Ok x) m.are;
           language = language;
-          speaks = same_language language ls m.moved m.same speaks;
+          speaks = m.speaks language speaks;
           fits = m.fits fits;
         },
         refl,
@@ -161,5 +174,5 @@ reads_back statements some_text =
     let ls = some_text.1.0 in
     let is = some_text.1.1 in
     let spelled = tokens_are [] (chars bytes) 0 (spot 1 1) 0 (file_tokens ls) (scalars-chars bytes is.utf8) is.tokens in
-    let all = file_are is.language ls (subst (λ language. AllKinds (IsFileToken language) (kinds (file_tokens ls))) (language_is is.language ls is.speaks) spelled) in
+    let all = file_are is.language ls (subst (λ language. AllKinds (IsFileToken language) (kinds (file_tokens ls))) (file_language is.language ls is.speaks) spelled) in
     subst (λ x. ReadsBackAs (tree_text x) x) (sym some_text.1.2) (written_back is.language ls all is.speaks is.fits)
