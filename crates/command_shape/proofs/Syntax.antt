@@ -5,79 +5,113 @@ use Rattle.std.specs.Str.{chars}
 use Rattle.statement_tokens.specs.declared.token.Token.{Token}
 use Rattle.statement_tokens.specs.declared.place.Spot.{Spot}
 use Rattle.statement_syntax.specs.declared.tree.Statement.{Statement}
-use Rattle.statement_syntax.specs.declared.read.Progress.{Progress}
+use Rattle.statement_syntax.specs.declared.line.Line.TheVariants as line
 use Rattle.statement_tokens.specs.declared.scan.Placed.{Placed}
 use Rattle.statement_tokens.specs.declared.scan.ScanFault.{ScanFault}
 use Rattle.statement_tokens.specs.declared.scan.ScanFault.TheVariants as scan
 use Rattle.statement_syntax.specs.declared.fault.Fault.{Fault}
 use Rattle.statement_syntax.specs.declared.fault.Fault.TheVariants as fault
 use Rattle.statement_syntax.specs.Steps.{run}
-use Rattle.statement_syntax.specs.Lines.{beginning, file_step}
+use Rattle.statement_syntax.specs.Lines.{file_step}
+use Rattle.statement_syntax.specs.Stages.{first_statements, begun, left, AllRead}
 use Rattle.statement_tokens.specs.Token.{tokens_of}
-use Rattle.statement_syntax.specs.Grammar.{StatedLine, file_tokens, FileFits}
+use Rattle.statement_tokens.specs.declared.language.Language.{Language}
+use Rattle.statement_tokens.specs.Language.{language_of}
+use Rattle.statement_syntax.specs.Grammar.{StatedLine, IsFileOf, file_tokens, FileFits}
 use Rattle.statement_syntax.specs.Tree.{file_tree}
 use Rattle.statement_syntax.specs.Fault.{IsStatements, IsTreeOf, GoesOn, GoesOnWithin, IsMisfit, IsFirstFault}
-use Rattle.statement_syntax.proofs.FileReads.{all_run}
 use Rattle.statement_syntax.proofs.Run.{Upto}
+use Rattle.statement_syntax.proofs.FirstLine.{Behind, Divided, file_language, divided}
+use Rattle.statement_syntax.proofs.FileReads.{in_file, lines_run}
+use Rattle.statement_syntax.proofs.Stopping.{is_only}
 
--- what is read with the tokens of statements within the limit
-ran : (bytes : List ℕ) (lines : List StatedLine) → IsStatements bytes lines → (p : Progress) × (run file_step beginning (file_tokens lines) ≡ Ok p) × (p.statements ≡ file_tree lines)
-ran bytes lines is = by (all_run lines)
-  where
-    by : Upto (FileFits lines) (run file_step beginning (file_tokens lines)) (Ok (record { statements = file_tree lines; line = beginning.line })) → (p : Progress) × (run file_step beginning (file_tokens lines) ≡ Ok p) × (p.statements ≡ file_tree lines)
-    by (inl fits) = (_, fits.1, refl)
-    by (inr deep) = absurd (deep.0 is.fits)
+-- the tokens of statements within the limit are read as them
+module _ (bytes : List ℕ) (lines : List StatedLine) (is : IsStatements bytes lines) where
+  abbrev tokens : List Token
+  tokens = file_tokens lines
+
+  abbrev language : Language
+  language = language_of tokens
+
+  abbrev before : List Statement
+  before = first_statements language tokens
+
+  own : Divided language tokens
+  own = divided language tokens refl
+
+  behind : Behind language own.lines lines (left tokens)
+  behind =
+      let tells : is.language ≡ language = sym (file_language is.language lines is.speaks) in
+      own.parts lines (subst (λ l. IsFileOf l lines) tells is.speaks) (left tokens) (sym own.are)
+
+  ran_by : Upto (FileFits behind.others) (run (file_step language) (begun tokens) (file_tokens behind.others)) (Ok (in_file (before ++ file_tree behind.others) line.Start))
+      → AllRead tokens (file_tree lines)
+  ran_by (inl fits) =
+      (_, ap (run (file_step language) (begun tokens)) behind.are ∙ fits.1, behind.trees ∙ ap (λ x. x ++ file_tree behind.others) (sym own.trees))
+  ran_by (inr deep) = absurd (deep.0 (behind.fits is.fits))
+
+  ran : AllRead tokens (file_tree lines)
+  ran = ran_by (lines_run language before behind.others behind.speak)
 
 same_tokens : (bytes : List ℕ) (ts us : List Token) → tokens_of (chars bytes) ≡ Ok ts → tokens_of (chars bytes) ≡ Ok us → ts ≡ us
 same_tokens bytes ts us one other = let both : (let r : Result (List Token) Placed = Ok ts in r) ≡ Ok us = sym one ∙ other in cc
 
 pub tree_once : (bytes : List ℕ) (statements others : List Statement) → IsTreeOf bytes statements → IsTreeOf bytes others → statements ≡ others
 tree_once bytes statements others one other =
-    let first = ran bytes one.0 one.1 in
-    let second = ran bytes other.0 other.1 in
-    let tokens : file_tokens one.0 ≡ file_tokens other.0 = same_tokens bytes _ _ one.1.tokens other.1.tokens in
-    let both : (let r : Result Progress _ = Ok first.0 in r) ≡ Ok second.0 = sym first.1 ∙ ap (run file_step beginning) tokens ∙ second.1 in
-    let same : first.0 ≡ second.0 = cc in
-    one.2 ∙ sym first.2 ∙ ap (λ (p : Progress). p.statements) same ∙ second.2 ∙ sym other.2
+    one.2 ∙ is_only bytes (file_tokens one.0) (file_tree one.0) one.1.tokens (ran bytes one.0 one.1) other.0 other.1 ∙ sym other.2
 
 -- ---- the first misfit
 
 -- the second split is that of the first, or comes after it
-data Behind (front : List Token) (t : Token) (front' : List Token) (t' : Token) : Type 0 where
-  same : front ≡ front' → t ≡ t' → Behind front t front' t'
-  later : (more : List Token) → front' ≡ front ++ t ∷ more → Behind front t front' t'
-  earlier : (more : List Token) → front ≡ front' ++ t' ∷ more → Behind front t front' t'
+data Split (front : List Token) (t : Token) (front' : List Token) (t' : Token) : Type 0 where
+  same : front ≡ front' → t ≡ t' → Split front t front' t'
+  later : (more : List Token) → front' ≡ front ++ t ∷ more → Split front t front' t'
+  earlier : (more : List Token) → front ≡ front' ++ t' ∷ more → Split front t front' t'
 
-pushed : (x : Token) (front : List Token) (t : Token) (front' : List Token) (t' : Token) → Behind front t front' t' → Behind (x ∷ front) t (x ∷ front') t'
+pushed : (x : Token) (front : List Token) (t : Token) (front' : List Token) (t' : Token) → Split front t front' t' → Split (x ∷ front) t (x ∷ front') t'
 pushed x front t front' t' (same p q) = same (ap (λ l. x ∷ l) p) q
 pushed x front t front' t' (later more p) = later more (ap (λ l. x ∷ l) p)
 pushed x front t front' t' (earlier more p) = earlier more (ap (λ l. x ∷ l) p)
 
-splits : (front : List Token) (t : Token) (rest front' : List Token) (t' : Token) (rest' : List Token) → front ++ t ∷ rest ≡ front' ++ t' ∷ rest' → Behind front t front' t'
+splits : (front : List Token) (t : Token) (rest front' : List Token) (t' : Token) (rest' : List Token) → front ++ t ∷ rest ≡ front' ++ t' ∷ rest' → Split front t front' t'
 splits [] t rest [] t' rest' is = same refl cc
 splits [] t rest (y ∷ front') t' rest' is = let head : t ≡ y = cc in later front' (ap (λ z. z ∷ front') (sym head))
 splits (x ∷ front) t rest [] t' rest' is = let head : x ≡ t' = cc in earlier front (ap (λ z. z ∷ front) head)
 splits (x ∷ front) t rest (y ∷ front') t' rest' is =
     let head : x ≡ y = cc in
     let tail : front ++ t ∷ rest ≡ front' ++ t' ∷ rest' = cc in
-    subst (λ z. Behind (x ∷ front) t (z ∷ front') t') head (pushed x front t front' t' (splits front t rest front' t' rest' tail))
+    subst (λ z. Split (x ∷ front) t (z ∷ front') t') head (pushed x front t front' t' (splits front t rest front' t' rest' tail))
 
 -- what goes on goes on at each of its tokens
-goes_before : (front : List Token) (t : Token) (more whole : List Token) → whole ≡ front ++ t ∷ more → GoesOnWithin whole → GoesOnWithin (front ++ t ∷ [])
-goes_before front t more whole is on =
-    (more ++ on.0, on.1, on.2, append_assoc front (t ∷ []) (more ++ on.0) ∙ sym (append_assoc front (t ∷ more) on.0) ∙ ap (λ l. l ++ on.0) (sym is) ∙ on.3)
+goes_before : (language : Language) (front : List Token) (t : Token) (more whole : List Token) → whole ≡ front ++ t ∷ more → GoesOnWithin language whole
+    → GoesOnWithin language (front ++ t ∷ [])
+goes_before language front t more whole is on =
+    (more ++ on.0, on.1, on.2, on.3, append_assoc front (t ∷ []) (more ++ on.0) ∙ sym (append_assoc front (t ∷ more) on.0) ∙ ap (λ l. l ++ on.0) (sym is) ∙ on.4)
 
 record Same (bytes : List ℕ) (at at' : Spot) (m : IsMisfit bytes at) (m' : IsMisfit bytes at') : Type 0 where
   place : at ≡ at'
   came : m.front ++ m.token ∷ [] ≡ m'.front ++ m'.token ∷ []
+  whole : m.front ++ m.token ∷ m.rest ≡ m'.front ++ m'.token ∷ m'.rest
 
 misfit_once : (bytes : List ℕ) (at at' : Spot) (m : IsMisfit bytes at) (m' : IsMisfit bytes at') → Same bytes at at' m m'
-misfit_once bytes at at' m m' = by (splits m.front m.token m.rest m'.front m'.token m'.rest (same_tokens bytes _ _ m.tokens m'.tokens))
+misfit_once bytes at at' m m' = by (splits m.front m.token m.rest m'.front m'.token m'.rest whole)
   where
-    by : Behind m.front m.token m'.front m'.token → Same bytes at at' m m'
-    by (same front token) = record { place = sym m.place ∙ ap (λ (t : Token). t.at) token ∙ m'.place; came = ap (λ l. l ++ m.token ∷ []) front ∙ ap (λ t. m'.front ++ t ∷ []) token }
-    by (later more is) = absurd (m.there (goes_before m.front m.token more m'.front is m'.before))
-    by (earlier more is) = absurd (m'.there (goes_before m'.front m'.token more m.front is m.before))
+    whole : m.front ++ m.token ∷ m.rest ≡ m'.front ++ m'.token ∷ m'.rest
+    whole = same_tokens bytes _ _ m.tokens m'.tokens
+
+    by : Split m.front m.token m'.front m'.token → Same bytes at at' m m'
+    by (same front token) =
+        record { place = sym m.place ∙ ap (λ (t : Token). t.at) token ∙ m'.place; came = ap (λ l. l ++ m.token ∷ []) front ∙ ap (λ t. m'.front ++ t ∷ []) token; whole = whole }
+    by (later more is) = absurd (m.there (goes_before _ m.front m.token more m'.front is (subst (λ ts. GoesOnWithin (language_of ts) m'.front) (sym whole) m'.before)))
+    by (earlier more is) = absurd (m'.there (goes_before _ m'.front m'.token more m.front is (subst (λ ts. GoesOnWithin (language_of ts) m.front) whole m.before)))
+
+-- what goes on with the one misfit goes on with the other
+module _ (bytes : List ℕ) (at at' : Spot) (m : IsMisfit bytes at) (m' : IsMisfit bytes at') where
+  goes_with : GoesOn (language_of (m'.front ++ m'.token ∷ m'.rest)) (m'.front ++ m'.token ∷ []) → GoesOn (language_of (m.front ++ m.token ∷ m.rest)) (m.front ++ m.token ∷ [])
+  goes_with on =
+      let once = misfit_once bytes at at' m m' in
+      subst (λ ts. GoesOn (language_of ts) (m.front ++ m.token ∷ [])) (sym once.whole)
+      (subst (GoesOn (language_of (m'.front ++ m'.token ∷ m'.rest))) (sym once.came) on)
 
 not_both : (bytes : List ℕ) (ts : List Token) (p : Placed) → tokens_of (chars bytes) ≡ Ok ts → tokens_of (chars bytes) ≡ Err p → ⊥
 not_both bytes ts p one other = let both : (let r : Result (List Token) Placed = Ok ts in r) ≡ Err p = sym one ∙ other in absurd cc
@@ -90,7 +124,9 @@ not_scanned bytes f at at' m fails = not_both bytes (m.front ++ m.token ∷ m.re
 
 misfit_in : (bytes : List ℕ) (statements : List Statement) (at : Spot) → IsTreeOf bytes statements → IsMisfit bytes at → ⊥
 misfit_in bytes statements at tree m =
-    m.there (m.rest, tree.0, tree.1.fits, append_assoc m.front (m.token ∷ []) m.rest ∙ same_tokens bytes _ _ m.tokens tree.1.tokens)
+    let whole = same_tokens bytes _ _ m.tokens tree.1.tokens in
+    let language = ap language_of whole ∙ file_language tree.1.language tree.0 tree.1.speaks in
+    m.there (m.rest, tree.0, subst (λ l. IsFileOf l tree.0) (sym language) tree.1.speaks, tree.1.fits, append_assoc m.front (m.token ∷ []) m.rest ∙ whole)
 
 -- of all five kinds: what a fault says first
 pub no_fault : (bytes : List ℕ) (statements : List Statement) (f : Fault) (at : Spot) → IsTreeOf bytes statements → IsFirstFault bytes f at → ⊥
@@ -132,9 +168,9 @@ fault_once bytes fault.Expected fault.NotUtf8 at at' one other = absurd (other.0
 fault_once bytes fault.Expected fault.BadToken at at' one other = absurd (not_scanned bytes _ at at' one.0 other.1)
 fault_once bytes fault.Expected fault.LiteralTooLarge at at' one other = absurd (not_scanned bytes _ at at' one.0 other.1)
 fault_once bytes fault.Expected fault.Expected at at' one other = (refl, (misfit_once bytes at at' one.0 other.0).place)
-fault_once bytes fault.Expected fault.TooDeep at at' one other = absurd (one.1 (subst GoesOn (sym (misfit_once bytes at at' one.0 other.0).came) other.1))
+fault_once bytes fault.Expected fault.TooDeep at at' one other = absurd (one.1 (goes_with bytes at at' one.0 other.0 other.1))
 fault_once bytes fault.TooDeep fault.NotUtf8 at at' one other = absurd (other.0 one.0.utf8)
 fault_once bytes fault.TooDeep fault.BadToken at at' one other = absurd (not_scanned bytes _ at at' one.0 other.1)
 fault_once bytes fault.TooDeep fault.LiteralTooLarge at at' one other = absurd (not_scanned bytes _ at at' one.0 other.1)
-fault_once bytes fault.TooDeep fault.Expected at at' one other = absurd (other.1 (subst GoesOn (misfit_once bytes at at' one.0 other.0).came one.1))
+fault_once bytes fault.TooDeep fault.Expected at at' one other = absurd (other.1 (goes_with bytes at' at other.0 one.0 one.1))
 fault_once bytes fault.TooDeep fault.TooDeep at at' one other = (refl, (misfit_once bytes at at' one.0 other.0).place)

@@ -109,6 +109,14 @@ const FILES: &[Row] = &[
         "object U V W\nmap a : U -> V\npinv a a",
         "objects 3 letters 5 starred true marked [] solved [Letter(3)] order degree shape 2 [1, 1, 1] shape 2 [2, 2, 2]",
     ),
+    (
+        "language 2\nobject U\nmap p : U -> U self\nmap a : U -> U\neliminate a p",
+        "objects 1 letters 4 starred true marked [] solved [] order [Letter(2), Letter(3), Letter(1)] shape 2 [1] shape 2 [2]",
+    ),
+    (
+        "language 2\nobject U\nmap a b : U -> U\neliminate b",
+        "objects 1 letters 5 starred false marked [] solved [] order [Letter(3), Letter(4)] shape 2 [1] shape 2 [2]",
+    ),
 ];
 
 // All that the names stand for, where the file has no fault.

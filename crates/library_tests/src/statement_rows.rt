@@ -32,6 +32,27 @@ pub const STATEMENTS: &[Row] = &[
     ),
 ];
 
+/// Files of the second language: powers, elimination, and the line that names it.
+pub const SECOND_LANGUAGE: &[Row] = &[
+    (
+        "language\t002 # c\nclaim 2a ^ 03 ' ^1b^2 = ( [U] )^ 2 - 0",
+        "language 2\nclaim 2 a^3'^1 b^2 = ([U])^2 - 0\n",
+    ),
+    (
+        " language 2\neliminate  a  b#x",
+        "language 2\neliminate a b\n",
+    ),
+    (
+        "language 2\nassume (a^2'(b^ 1)c)^007 = - [ V ] ^2 a^1-b^1\nsolve a",
+        "language 2\nassume (a^2' (b^1) c)^7 = - [V]^2 a^1 - b^1\nsolve a\n",
+    ),
+    ("claim 2a' ' = + b", "claim 2 a'' = b\n"),
+    ("language 2", "language 2\n"),
+    ("object language eliminate", "object language eliminate\n"),
+    ("eliminate a", "S3 line 1 column 1"),
+    ("language 2\nlanguage 2", "S3 line 2 column 1"),
+];
+
 /// Line ends, blanks, comments, and signs that stand close.
 pub const LINES: &[Row] = &[
     ("", ""),

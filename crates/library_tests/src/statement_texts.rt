@@ -4,7 +4,7 @@ ghost use Rattle.std.specs.Prelude.{◌≤◌, length};
 use crate::name_rows::{LIMITS, NAMES, NUMBERS};
 use crate::problem_rows::{ARITHMETIC, LATE, PROBLEMS, SIGNATURES};
 use crate::statement_rows::{
-    FAULTS, LINES, LITERALS, MISFITS, NAMED, NESTED, NOT_UTF8, Row, STATEMENTS,
+    FAULTS, LINES, LITERALS, MISFITS, NAMED, NESTED, NOT_UTF8, Row, SECOND_LANGUAGE, STATEMENTS,
 };
 use crate::texts::{poly_text, repeated, same, tree_of};
 use adjoint_rules::Problem;
@@ -40,6 +40,7 @@ fn tell_written(rt: &impl Abort, alloc: Global, rows: &[Row]) -> Result<(), Fail
 #[test]
 fn a_text_is_written_back_or_its_first_fault_told(rt: HostRuntime) -> Result<(), Fail> {
     tell_written(&rt, rt.alloc(), STATEMENTS)?;
+    tell_written(&rt, rt.alloc(), SECOND_LANGUAGE)?;
     tell_written(&rt, rt.alloc(), LINES)?;
     tell_written(&rt, rt.alloc(), NAMED)?;
     tell_written(&rt, rt.alloc(), LITERALS)?;

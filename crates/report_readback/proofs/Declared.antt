@@ -7,13 +7,15 @@ use Rattle.std.proofs.lemmas.List.Folds.{list_all-append}
 use Rattle.std.proofs.lemmas.Str.{scalars-chars}
 use Rattle.quiver.specs.Declarations.{Declaration, name_of, object, arrow}
 use Rattle.statement_tokens.specs.declared.token.Token.{Token}
+use Rattle.statement_tokens.specs.declared.language.Language.{Language}
+use Rattle.statement_tokens.specs.Language.{language_of}
 use Rattle.statement_syntax.specs.declared.tree.Name.{Name}
 use Rattle.statement_syntax.specs.declared.tree.Statement.{Statement}
 use Rattle.statement_syntax.specs.declared.tree.StatementKind.{StatementKind}
-use Rattle.statement_syntax.specs.declared.line.ListWord.TheVariants.{Object, Solve}
+use Rattle.statement_syntax.specs.declared.line.ListWord.TheVariants.{Object, Solve, Eliminate}
 use Rattle.statement_syntax.specs.declared.line.SidesWord.TheVariants.{Assume, Claim}
 use Rattle.statement_syntax.specs.declared.line.PairWord.TheVariants.{Pinv, Inverse, Inner}
-use Rattle.statement_syntax.specs.Grammar.{names_tokens, Stated, listed, mapped, sides, paired, projected, by_degree, by_weight, modelled, stated_tokens, StatedLine, file_tokens}
+use Rattle.statement_syntax.specs.Grammar.{names_tokens, Stated, listed, mapped, sides, paired, projected, by_degree, by_weight, modelled, second_language, stated_tokens, StatedLine, file_tokens}
 use Rattle.statement_syntax.specs.Tree.{is_self, stated_kind, file_tree}
 use Rattle.statement_syntax.specs.Places.{bare_names, bare_stated}
 use Rattle.statement_tokens.proofs.Scanning.{spot}
@@ -35,62 +37,67 @@ join ds es front back = rw (list_all-append is_named ds es, front, back) refl
 
 -- ---- a statement
 
-names_named : (declare : Name → Declaration) → ((n : Name) → name_of (declare n) ≡ n.text) → (ns : List Name) → AreTokens (names_tokens (bare_names ns)) → AreNamed (map declare ns)
-names_named declare same [] spelled = refl
-names_named declare same (n ∷ ns) spelled = rw (same n, spelled_is_name n.text spelled.0, names_named declare same ns spelled.1) refl
+names_named : (language : Language) (declare : Name → Declaration) → ((n : Name) → name_of (declare n) ≡ n.text) → (ns : List Name) → AreTokens language (names_tokens (bare_names ns)) → AreNamed (map declare ns)
+names_named language declare same [] spelled = refl
+names_named language declare same (n ∷ ns) spelled = rw (same n, spelled_is_name n.text spelled.0, names_named language declare same ns spelled.1) refl
 
-first_tokens : (ts us : List Token) → AreTokens (ts ++ us) → AreTokens ts
-first_tokens ts us spelled = (AllKinds-split IsToken (kinds ts) (kinds us) (subst (AllKinds IsToken) (kinds-append ts us) spelled)).0
+first_tokens : (language : Language) (ts us : List Token) → AreTokens language (ts ++ us) → AreTokens language ts
+first_tokens language ts us spelled = (AllKinds-split (IsToken language) (kinds ts) (kinds us) (subst (AllKinds (IsToken language)) (kinds-append ts us) spelled)).0
 
 -- what some statements declare is named where it is named for each
 abbrev NamesStated : (StatementKind → List Declaration) → Type 0
-NamesStated declares = (s : Stated) → AreTokens (stated_tokens (bare_stated s)) → AreNamed (declares (stated_kind s))
+NamesStated declares = (language : Language) (s : Stated) → AreTokens language (stated_tokens (bare_stated s)) → AreNamed (declares (stated_kind s))
 
 stated_objects : NamesStated objects_in
-stated_objects (listed Object at n ns) spelled = names_named (λ n. object n.text) (λ n. refl) (n ∷ ns) spelled.1
-stated_objects (listed Solve at n ns) spelled = refl
-stated_objects (mapped at n ns colon s to t end) spelled = refl
-stated_objects (sides Assume at d equals e) spelled = refl
-stated_objects (sides Claim at d equals e) spelled = refl
-stated_objects (paired Pinv at m n) spelled = refl
-stated_objects (paired Inverse at m n) spelled = refl
-stated_objects (paired Inner at m n) spelled = refl
-stated_objects (projected at n) spelled = refl
-stated_objects (by_degree at word) spelled = refl
-stated_objects (by_weight at word p ps) spelled = refl
-stated_objects (modelled at m ps) spelled = refl
+stated_objects language (listed Object at n ns) spelled = names_named language (λ n. object n.text) (λ n. refl) (n ∷ ns) spelled.1
+stated_objects language (listed Solve at n ns) spelled = refl
+stated_objects language (listed Eliminate at n ns) spelled = refl
+stated_objects language (mapped at n ns colon s to t end) spelled = refl
+stated_objects language (sides Assume at d equals e) spelled = refl
+stated_objects language (sides Claim at d equals e) spelled = refl
+stated_objects language (paired Pinv at m n) spelled = refl
+stated_objects language (paired Inverse at m n) spelled = refl
+stated_objects language (paired Inner at m n) spelled = refl
+stated_objects language (projected at n) spelled = refl
+stated_objects language (by_degree at word) spelled = refl
+stated_objects language (by_weight at word p ps) spelled = refl
+stated_objects language (modelled at m ps) spelled = refl
+stated_objects language (second_language at number) spelled = refl
 
 stated_maps : (objects : List Declaration) → NamesStated (maps_in objects)
-stated_maps objects (listed Object at n ns) spelled = refl
-stated_maps objects (listed Solve at n ns) spelled = refl
-stated_maps objects (mapped at n ns colon s to t end) spelled =
-    names_named (λ n. arrow n.text (object_of objects s) (object_of objects t) (is_self end)) (λ n. refl) (n ∷ ns) (first_tokens (names_tokens (bare_names (n ∷ ns))) _ spelled.1)
-stated_maps objects (sides Assume at d equals e) spelled = refl
-stated_maps objects (sides Claim at d equals e) spelled = refl
-stated_maps objects (paired Pinv at m n) spelled = refl
-stated_maps objects (paired Inverse at m n) spelled = refl
-stated_maps objects (paired Inner at m n) spelled = refl
-stated_maps objects (projected at n) spelled = refl
-stated_maps objects (by_degree at word) spelled = refl
-stated_maps objects (by_weight at word p ps) spelled = refl
-stated_maps objects (modelled at m ps) spelled = refl
+stated_maps objects language (listed Object at n ns) spelled = refl
+stated_maps objects language (listed Solve at n ns) spelled = refl
+stated_maps objects language (listed Eliminate at n ns) spelled = refl
+stated_maps objects language (mapped at n ns colon s to t end) spelled =
+    names_named language (λ n. arrow n.text (object_of objects s) (object_of objects t) (is_self end)) (λ n. refl) (n ∷ ns) (first_tokens language (names_tokens (bare_names (n ∷ ns))) _ spelled.1)
+stated_maps objects language (sides Assume at d equals e) spelled = refl
+stated_maps objects language (sides Claim at d equals e) spelled = refl
+stated_maps objects language (paired Pinv at m n) spelled = refl
+stated_maps objects language (paired Inverse at m n) spelled = refl
+stated_maps objects language (paired Inner at m n) spelled = refl
+stated_maps objects language (projected at n) spelled = refl
+stated_maps objects language (by_degree at word) spelled = refl
+stated_maps objects language (by_weight at word p ps) spelled = refl
+stated_maps objects language (modelled at m ps) spelled = refl
+stated_maps objects language (second_language at number) spelled = refl
 
 -- ---- a file
 
-each_named : (declares : StatementKind → List Declaration) → NamesStated declares → (ls : List StatedLine) → AllSpelled ls → AreNamed (flat_map (λ (s : Statement). declares s.kind) (file_tree ls))
-each_named declares named [] spelled = refl
-each_named declares named (l ∷ ls) spelled =
-    join (declares (stated_kind l.stated)) (flat_map (λ s. declares s.kind) (file_tree ls)) (named l.stated spelled.0) (each_named declares named ls spelled.1)
+each_named : (language : Language) (declares : StatementKind → List Declaration) → NamesStated declares → (ls : List StatedLine) → AllSpelled language ls → AreNamed (flat_map (λ (s : Statement). declares s.kind) (file_tree ls))
+each_named language declares named [] spelled = refl
+each_named language declares named (l ∷ ls) spelled =
+    join (declares (stated_kind l.stated)) (flat_map (λ s. declares s.kind) (file_tree ls)) (named language l.stated spelled.0) (each_named language declares named ls spelled.1)
 
-declarations_named : (ls : List StatedLine) → AllSpelled ls → AreNamed (declarations_of (file_tree ls))
-declarations_named ls spelled =
+declarations_named : (language : Language) (ls : List StatedLine) → AllSpelled language ls → AreNamed (declarations_of (file_tree ls))
+declarations_named language ls spelled =
     let objects = declared_objects (file_tree ls) in
-    join objects (flat_map (λ s. maps_in objects s.kind) (file_tree ls)) (each_named objects_in stated_objects ls spelled) (each_named (maps_in objects) (stated_maps objects) ls spelled)
+    join objects (flat_map (λ s. maps_in objects s.kind) (file_tree ls)) (each_named language objects_in stated_objects ls spelled) (each_named language (maps_in objects) (stated_maps objects) ls spelled)
 
 pub declared_names_are_names : DeclaredNamesAreNames
 declared_names_are_names bytes statements problem tree is =
     let ls = tree.0 in
     let text = tree.1 in
-    let spelled = file_are ls (tokens_are (chars bytes) 0 (spot 1 1) 0 (file_tokens ls) (scalars-chars bytes text.utf8) text.tokens) in
+    let language = language_of (file_tokens ls) in
+    let spelled = file_are language ls (tokens_are [] (chars bytes) 0 (spot 1 1) 0 (file_tokens ls) (scalars-chars bytes text.utf8) text.tokens) in
     let declared : problem.parts.quiver ≡ declarations_of (file_tree ls) = is.parts.quiver ∙ ap declarations_of tree.2 in
-    subst AreNamed (sym declared) (declarations_named ls spelled)
+    subst AreNamed (sym declared) (declarations_named language ls spelled)

@@ -9,6 +9,7 @@ use Rattle.statement_tokens.specs.declared.token.TokenKind.TheVariants as kind
 use Rattle.statement_tokens.specs.declared.scan.Item.TheVariants as item
 use Rattle.statement_tokens.specs.declared.scan.Placed.{Placed}
 use Rattle.statement_tokens.specs.declared.scan.ScanFault.TheVariants.{BadToken}
+use Rattle.statement_tokens.specs.Language.{language_of}
 use Rattle.statement_tokens.specs.Token.{◌>>=◌, item_at, name_of, tokens_from, tokens_of, end_of}
 use Rattle.statement_syntax.specs.Grammar.{name_token}
 use Rattle.statement_tokens.proofs.Scanning.{spot}
@@ -22,19 +23,20 @@ use Rattle.report_readback.proofs.Spellings.{spelled_is_name, name_is_spelled}
 
 -- ---- a name is a token by itself
 
-no_more : (line column past : ℕ) → tokens_from [] 0 (spot line column) past ≡ Ok (end_of line past)
+no_more : (before : List Token) (line column past : ℕ) → tokens_from before [] 0 (spot line column) past ≡ Ok (end_of line past)
 unfolding tokens_from
-no_more line column past = refl
+no_more before line column past = refl
 
-item_read : (text : List ℕ) (s : SpellsName text) → item_at s.first (s.more ++ []) ≡ Ok (item.Token (kind.Name text) (length s.more))
+item_read : (text : List ℕ) (s : SpellsName text) → item_at [] s.first (s.more ++ []) ≡ Ok (item.Token (kind.Name text) (length s.more))
 item_read text s =
-    name_back s.first s.more [] s.starts s.goes_on tt
+    name_back [] s.first s.more [] s.starts s.goes_on tt
     ∙ ap (λ y. name_of y (length s.more)) (sym s.is)
     ∙ ap (λ b. cond b (Ok (item.Token (kind.Name text) (length s.more))) (Err BadToken)) (le-leb (length text) name_limit s.short)
 
 spelled_is_token : (text : List ℕ) → SpellsName text → IsNameToken text
 spelled_is_token text s =
     let after = 1 + 1 + length s.more in
+    let token : Token = record { at = spot 1 1; kind = kind.Name text } in
     let characters : chars text ≡ s.first ∷ (s.more ++ []) = rw (s.is, append-nil s.more) (chars-encodes (s.first ∷ s.more) s.scalar) in
     record {
       bytes = text;
@@ -43,8 +45,8 @@ spelled_is_token text s =
       at = spot 1 1;
       back = end_of 1 after;
       tokens = ap tokens_of characters
-          ∙ one_token s.first s.more [] (kind.Name text) 1 1 0 (item_read text s)
-          ∙ ap (λ (r : Result (List Token) Placed). r >>= λ ts. Ok (record { at = spot 1 1; kind = kind.Name text } ∷ ts)) (no_more 1 after after);
+          ∙ one_token [] s.first s.more [] (kind.Name text) 1 1 0 (item_read text s)
+          ∙ ap (λ (r : Result (List Token) Placed). r >>= λ ts. Ok (token ∷ ts)) (no_more (token ∷ []) 1 after after);
     }
 
 -- ---- a token is a name
@@ -52,8 +54,10 @@ spelled_is_token text s =
 token_is_spelled : (text : List ℕ) → IsNameToken text → SpellsName text
 token_is_spelled text t =
     let here = name_token (record { text = text; at = t.at }) in
-    let each = tokens_are (chars t.bytes) 0 (spot 1 1) 0 (t.front ++ here ∷ t.back) (scalars-chars t.bytes t.utf8) t.tokens in
-    (AllKinds-split IsFileToken (kinds t.front) (kinds (here ∷ t.back)) (subst (AllKinds IsFileToken) (kinds-append t.front (here ∷ t.back)) each)).1.0
+    let whole = t.front ++ here ∷ t.back in
+    let each = tokens_are [] (chars t.bytes) 0 (spot 1 1) 0 whole (scalars-chars t.bytes t.utf8) t.tokens in
+    let Is = IsFileToken (language_of whole) in
+    (AllKinds-split Is (kinds t.front) (kinds (here ∷ t.back)) (subst (AllKinds Is) (kinds-append t.front (here ∷ t.back)) each)).1.0
 
 pub names_are_name_tokens : NamesAreNameTokens
 names_are_name_tokens text = (λ known. spelled_is_token text (name_is_spelled text known), λ token. spelled_is_name text (token_is_spelled text token))

@@ -14,6 +14,10 @@ mod gallery_rows;
 #[cfg(test)]
 mod gate_tests;
 #[cfg(test)]
+mod language_rows;
+#[cfg(test)]
+mod language_tests;
+#[cfg(test)]
 mod lemma_rows;
 #[cfg(test)]
 mod limit_rows;

@@ -80,8 +80,8 @@ fn text_of(alloc: Global, parts: &[Part]) -> Result<String, AllocError> {
     Ok(text)
 }
 
-// Asserts that the words of each row are answered so over its files.
-fn tell_limits<R: Threads + Sync + Abort>(
+/// Asserts that the words of each row are answered so over its files.
+pub fn tell_limits<R: Threads + Sync + Abort>(
     rt: &R,
     alloc: Global,
     rows: &[LimitRow],

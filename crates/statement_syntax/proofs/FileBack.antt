@@ -1,54 +1,64 @@
 -- What is written of a tree is in the language, and its tree is the same but for its places.
 use Rattle.std.proofs.Common.{◌≡◌, ℕ, zero, suc, ◌+◌, ◌≤◌, true, List, [], ◌∷◌, ◌++◌, inl, inr, length, Result, Ok, refl, sym, ap, ap₂, subst, ◌∙◌, append_assoc, arith}
+use Rattle.std.specs.Prelude.{pos, codes}
 use Rattle.std.specs.Str.{IsUtf8, chars, encode_utf8_all}
 use Rattle.std.proofs.Math.Utf8.{scalars}
 use Rattle.std.proofs.lemmas.Str.{encode_ascii, chars_from_encodes, scalars-chars}
+use Rattle.statement_tokens.specs.declared.place.Spot.{Spot}
 use Rattle.statement_tokens.specs.declared.token.Token.{Token}
 use Rattle.statement_tokens.specs.declared.token.TokenKind.{TokenKind}
 use Rattle.statement_tokens.specs.declared.token.TokenKind.TheVariants as kind
+use Rattle.statement_tokens.specs.declared.language.Language.{Language}
+use Rattle.statement_tokens.specs.declared.language.Language.TheVariants.{First, Second}
+use Rattle.statement_tokens.specs.Language.{language_of}
 use Rattle.statement_syntax.specs.declared.tree.Statement.{Statement}
 use Rattle.statement_tokens.specs.declared.scan.Item.TheVariants as item
 use Rattle.statement_tokens.specs.declared.scan.Placed.{Placed}
 use Rattle.statement_tokens.specs.Token.{◌>>=◌, item_at, tokens_from, tokens_of, placed, end_of, with_front}
-use Rattle.statement_syntax.specs.Grammar.{sign_token, Stated, listed, mapped, sides, paired, projected, by_degree, by_weight, modelled, stated_tokens, StatedLine, line_tokens, file_tokens, FileFits}
+use Rattle.statement_syntax.specs.Grammar.{sign_token, Stated, listed, mapped, sides, paired, projected, by_degree, by_weight, modelled, second_language, stated_tokens, StatedLine, NamesLanguage, IsFileOf, line_tokens, file_tokens, FileFits}
 use Rattle.statement_syntax.specs.Tree.{stated_kind, file_tree}
 use Rattle.statement_syntax.specs.Fault.{HasText}
 use Rattle.statement_syntax.specs.Places.{somewhere, bare_stated, bare_line, bare_file, ReadsBackAs}
 use Rattle.statement_syntax.specs.Written.{text_from, statement_kinds, tree_text}
 use Rattle.statement_tokens.proofs.Scanning.{spot}
 use Rattle.statement_syntax.proofs.Moved.{kinds, file_moved}
-use Rattle.statement_syntax.proofs.Spelled.{tokens_are}
-use Rattle.statement_syntax.proofs.BareTokens.{AllSpelled, file_are}
+use Rattle.statement_syntax.proofs.FirstLine.{file_language}
+use Rattle.statement_syntax.proofs.Carets.{HasCarets, Allows, carets_stay, language_by}
+use Rattle.statement_syntax.proofs.Spelled.{IsFileToken, AllKinds, tokens_are}
+use Rattle.statement_syntax.proofs.BareTokens.{AreTokens, AllSpelled, file_are}
 use Rattle.statement_syntax.proofs.StatedKinds.{kinds-append, stated-kinds}
-use Rattle.statement_syntax.proofs.ReadBack.{characters, characters-bytes, characters-scalars, line_read}
+use Rattle.statement_syntax.proofs.ReadBack.{ReadAs, characters, characters-bytes, characters-scalars, line_read}
 
 -- the characters of all lines
-abbrev file_characters : (ls : List StatedLine) → AllSpelled ls → List ℕ
-file_characters [] all = []
-file_characters (l ∷ ls) all = characters (kinds (stated_tokens (bare_stated l.stated))) all.0 true (10 ∷ file_characters ls all.1)
+abbrev file_characters : (language : Language) (ls : List StatedLine) → AllSpelled language ls → List ℕ
+file_characters language [] all = []
+file_characters language (l ∷ ls) all = characters language (kinds (stated_tokens (bare_stated l.stated))) all.0 true (10 ∷ file_characters language ls all.1)
 
-file-bytes : (ls : List StatedLine) (all : AllSpelled ls) → encode_utf8_all (file_characters ls all) ≡ tree_text (file_tree ls)
-file-bytes [] all = refl
-file-bytes (l ∷ ls) all =
+file-bytes : (language : Language) (ls : List StatedLine) (all : AllSpelled language ls) → encode_utf8_all (file_characters language ls all) ≡ tree_text (file_tree ls)
+file-bytes language [] all = refl
+file-bytes language (l ∷ ls) all =
     let ks = kinds (stated_tokens (bare_stated l.stated)) in
-    characters-bytes ks all.0 true (10 ∷ file_characters ls all.1)
-    ∙ ap₂ (λ x y. text_from true x ++ (y ++ encode_utf8_all (file_characters ls all.1))) (sym (stated-kinds l.stated)) (encode_ascii 10 (omega arith))
-    ∙ ap (λ x. text_from true (statement_kinds (stated_kind l.stated)) ++ 10 ∷ x) (file-bytes ls all.1)
+    let more = file_characters language ls all.1 in
+    characters-bytes language ks all.0 true (10 ∷ more)
+    ∙ ap₂ (λ x y. text_from true x ++ (y ++ encode_utf8_all more)) (sym (stated-kinds l.stated)) (encode_ascii 10 (omega arith))
+    ∙ ap (λ x. text_from true (statement_kinds (stated_kind l.stated)) ++ 10 ∷ x) (file-bytes language ls all.1)
     ∙ sym (append_assoc (text_from true (statement_kinds (stated_kind l.stated))) (10 ∷ []) (tree_text (file_tree ls)))
 
-file-scalars : (ls : List StatedLine) (all : AllSpelled ls) → scalars (file_characters ls all) ≡ true
-file-scalars [] all = refl
-file-scalars (l ∷ ls) all = characters-scalars (kinds (stated_tokens (bare_stated l.stated))) all.0 true (10 ∷ file_characters ls all.1) (file-scalars ls all.1)
+file-scalars : (language : Language) (ls : List StatedLine) (all : AllSpelled language ls) → scalars (file_characters language ls all) ≡ true
+file-scalars language [] all = refl
+file-scalars language (l ∷ ls) all =
+    characters-scalars language (kinds (stated_tokens (bare_stated l.stated))) all.0 true (10 ∷ file_characters language ls all.1) (file-scalars language ls all.1)
 
 -- ---- the tokens
 
-new_line : (rest : List ℕ) → item_at 10 rest ≡ Ok item.NewLine
+new_line : (before : List Token) (rest : List ℕ) → item_at before 10 rest ≡ Ok item.NewLine
 unfolding item_at
-new_line rest = refl
+new_line before rest = refl
 
-line_step : (rest : List ℕ) (line column past : ℕ) → tokens_from (10 ∷ rest) 0 (spot line column) past ≡ (tokens_from rest 0 (spot (line + 1) 1) 0 >>= λ ts. Ok (end_of line past ++ ts))
+line_step : (before : List Token) (rest : List ℕ) (line column past : ℕ)
+    → tokens_from before (10 ∷ rest) 0 (spot line column) past ≡ (tokens_from (before ++ end_of line past) rest 0 (spot (line + 1) 1) 0 >>= λ ts. Ok (end_of line past ++ ts))
 unfolding tokens_from
-line_step rest line column past = ap (λ i. placed i (spot line column) past (λ skip to end. tokens_from rest skip to end)) (new_line rest)
+line_step before rest line column past = ap (λ i. placed before i (spot line column) past (λ front skip to end. tokens_from front rest skip to end)) (new_line before rest)
 
 end-kinds : (line past : ℕ) → 1 ≤ past → kinds (end_of line past) ≡ kind.End ∷ []
 end-kinds line zero some = absurd (omega (arith, some))
@@ -64,6 +74,7 @@ first_token (projected at n) = (_, _, refl)
 first_token (by_degree at word) = (_, _, refl)
 first_token (by_weight at word p ps) = (_, _, refl)
 first_token (modelled at m ps) = (_, _, refl)
+first_token (second_language at number) = (_, _, refl)
 
 some_kinds : (k : TokenKind) (ks : List TokenKind) → 1 ≤ 0 + length (k ∷ ks)
 some_kinds k ks = omega arith
@@ -73,41 +84,86 @@ some_tokens s =
     let f = first_token s in
     subst (λ ts. 1 ≤ 0 + length (kinds ts)) (sym f.2) (some_kinds f.0.kind (kinds f.1))
 
--- the characters are read as tokens of the statements' kinds
-record FileRead (ls : List StatedLine) (text : List ℕ) (line : ℕ) : Type 0 where
+-- behind these tokens the characters are read as tokens of the statements' kinds
+record FileRead (before : List Token) (ls : List StatedLine) (text : List ℕ) (line : ℕ) : Type 0 where
   pub tokens : List Token
-  pub read : tokens_from text 0 (spot line 1) 0 ≡ Ok tokens
+  pub read : tokens_from before text 0 (spot line 1) 0 ≡ Ok tokens
   pub are : kinds tokens ≡ kinds (file_tokens (bare_file ls))
 
-file_read : (ls : List StatedLine) (all : AllSpelled ls) (line : ℕ) → FileRead ls (file_characters ls all) line
+nothing_read : (before : List Token) (line : ℕ) → FileRead before [] [] line
 unfolding tokens_from
-file_read [] all line = record { tokens = []; read = refl; are = refl }
-file_read (l ∷ ls) all line =
-    let s = bare_stated l.stated in
-    let rest = file_characters ls all.1 in
-    let r = line_read (kinds (stated_tokens s)) all.0 true (10 ∷ rest) line 1 0 (inr (inl refl)) in
-    let more = file_read ls all.1 (line + 1) in
-    record {
-      tokens = r.tokens ++ (end_of line r.past' ++ more.tokens);
-      read = r.reads ∙ ap (with_front r.tokens) (line_step rest line r.column' r.past' ∙ ap (λ (x : Result (List Token) Placed). x >>= λ ts. Ok (end_of line r.past' ++ ts)) more.read);
-      are = kinds-append r.tokens (end_of line r.past' ++ more.tokens)
-          ∙ ap₂ (λ x y. x ++ y) r.are (kinds-append (end_of line r.past') more.tokens ∙ ap₂ (λ x y. x ++ y) (end-kinds line r.past' (r.kept (some_tokens s))) more.are)
-          ∙ sym (append_assoc (kinds (stated_tokens s)) (kind.End ∷ []) (kinds (file_tokens (bare_file ls))))
-          ∙ ap (λ x. x ++ kinds (file_tokens (bare_file ls))) (sym (kinds-append (stated_tokens s) (sign_token kind.End somewhere ∷ [])))
-          ∙ sym (kinds-append (line_tokens (bare_line l)) (file_tokens (bare_file ls)));
-    }
+nothing_read before line = record { tokens = []; read = refl; are = refl }
+
+-- a line whose statement has been read
+module _ (before : List Token) (s : Stated) (text rest : List ℕ) (line : ℕ) (r : ReadAs before text (kinds (stated_tokens (bare_stated s))) (10 ∷ rest) line 1 0) where
+  -- it has a token
+  some_read : 1 ≤ r.past'
+  some_read = r.kept (some_tokens (bare_stated s))
+
+  -- the tokens before the next line
+  abbrev behind : List Token
+  behind = (before ++ r.tokens) ++ end_of line r.past'
+
+  line_and_more : (end : Spot) (ls : List StatedLine) → FileRead behind ls rest (line + 1) → FileRead before (record { stated = s; end = end } ∷ ls) text line
+  line_and_more end ls more = record {
+    tokens = r.tokens ++ (end_of line r.past' ++ more.tokens);
+    read = r.reads ∙ ap (with_front r.tokens) (line_step (before ++ r.tokens) rest line r.column' r.past' ∙ ap (λ (x : Result (List Token) Placed). x >>= λ ts. Ok (end_of line r.past' ++ ts)) more.read);
+    are = kinds-append r.tokens (end_of line r.past' ++ more.tokens)
+        ∙ ap₂ (λ x y. x ++ y) r.are (kinds-append (end_of line r.past') more.tokens ∙ ap₂ (λ x y. x ++ y) (end-kinds line r.past' some_read) more.are)
+        ∙ sym (append_assoc (kinds (stated_tokens (bare_stated s))) (kind.End ∷ []) (kinds (file_tokens (bare_file ls))))
+        ∙ ap (λ x. x ++ kinds (file_tokens (bare_file ls))) (sym (kinds-append (stated_tokens (bare_stated s)) (sign_token kind.End somewhere ∷ [])))
+        ∙ sym (kinds-append (stated_tokens (bare_stated s) ++ sign_token kind.End somewhere ∷ []) (file_tokens (bare_file ls)));
+  }
+
+-- lines of a language, behind tokens that tell it
+lines_read : (language : Language) (ls : List StatedLine) (all : AllSpelled language ls) (before : List Token) (line : ℕ) → Allows language before → FileRead before ls (file_characters language ls all) line
+lines_read language [] all before line allowed = nothing_read before line
+lines_read language (l ∷ ls) all before line allowed =
+    let rest = file_characters language ls all.1 in
+    let r = line_read language (kinds (stated_tokens (bare_stated l.stated))) all.0 true (10 ∷ rest) before line 1 0 allowed (inr (inl refl)) in
+    let more = lines_read language ls all.1 (behind before l.stated _ rest line r) (line + 1) (λ has. carets_stay (before ++ r.tokens) (end_of line r.past') (carets_stay before r.tokens (allowed has))) in
+    line_and_more before l.stated _ rest line r l.end ls more
+
+-- the line that names the second language, and the lines behind it
+second_read : (s : Stated) (end : Spot) (ls : List StatedLine) (here : AreTokens Second (stated_tokens (bare_stated s))) (all : AllSpelled Second ls) → NamesLanguage s → (line : ℕ)
+    → FileRead [] (record { stated = s; end = end } ∷ ls) (characters Second (kinds (stated_tokens (bare_stated s))) here true (10 ∷ file_characters Second ls all)) line
+second_read (second_language word number) end ls here all named line =
+    let s : Stated = second_language word number in
+    let rest = file_characters Second ls all in
+    let r = line_read First (kinds (stated_tokens (bare_stated s))) here true (10 ∷ rest) [] line 1 0 (λ has. has) (inr (inl refl)) in
+    let before = behind [] s _ rest line r in
+    let first : kinds before ≡ kind.Name (codes "language") ∷ kind.Literal (pos 2) ∷ kind.End ∷ [] =
+    kinds-append r.tokens (end_of line r.past') ∙ ap₂ (λ x y. x ++ y) r.are (end-kinds line r.past' (some_read [] s _ rest line r)) in
+    line_and_more [] s _ rest line r end ls (lines_read Second ls all before (line + 1) (λ has. subst HasCarets (sym (language_by before _ _ _ _ first)) tt))
+second_read s end ls here all named line = absurd named
+
+file_read : (language : Language) (ls : List StatedLine) (all : AllSpelled language ls) → IsFileOf language ls → (line : ℕ) → FileRead [] ls (file_characters language ls all) line
+file_read First ls all speaks line = lines_read First ls all [] line (λ has. has)
+file_read Second [] all speaks line = absurd speaks
+file_read Second (l ∷ ls) all speaks line = second_read l.stated l.end ls all.0 all.1 speaks.0 line
 
 -- ---- the tree
 
-written_back : (ls : List StatedLine) → AllSpelled ls → FileFits ls → ReadsBackAs (tree_text (file_tree ls)) (file_tree ls)
-written_back ls all fits =
+written_back : (language : Language) (ls : List StatedLine) → AllSpelled language ls → IsFileOf language ls → FileFits ls → ReadsBackAs (tree_text (file_tree ls)) (file_tree ls)
+written_back language ls all speaks fits =
     let bytes = tree_text (file_tree ls) in
-    let utf8 : IsUtf8 bytes = (file_characters ls all, (file-scalars ls all, file-bytes ls all)) in
-    let are : file_characters ls all ≡ chars bytes = chars_from_encodes (file_characters ls all) bytes utf8 (file-bytes ls all) in
-    let r = file_read ls all 1 in
+    let text = file_characters language ls all in
+    let utf8 : IsUtf8 bytes = (text, (file-scalars language ls all, file-bytes language ls all)) in
+    let are : text ≡ chars bytes = chars_from_encodes text bytes utf8 (file-bytes language ls all) in
+    let r = file_read language ls all speaks 1 in
     let m = file_moved ls r.tokens r.are in (
       file_tree m.moved,
-      (m.moved, record { utf8 = utf8; tokens = ap tokens_of (sym are) ∙ r.read ∙ ap (λ x. Ok x) m.are; fits = m.fits fits }, refl),
+      (
+        m.moved,
+        record {
+          utf8 = utf8;
+          tokens = ap tokens_of (sym are) ∙ r.read ∙ ap (λ x. Ok x) m.are;
+          language = language;
+          speaks = m.speaks language speaks;
+          fits = m.fits fits;
+        },
+        refl,
+      ),
       (ls, m.moved, refl, refl, sym m.same),
     )
 
@@ -117,5 +173,6 @@ reads_back statements some_text =
     let bytes = some_text.0 in
     let ls = some_text.1.0 in
     let is = some_text.1.1 in
-    let all = file_are ls (tokens_are (chars bytes) 0 (spot 1 1) 0 (file_tokens ls) (scalars-chars bytes is.utf8) is.tokens) in
-    subst (λ x. ReadsBackAs (tree_text x) x) (sym some_text.1.2) (written_back ls all is.fits)
+    let spelled = tokens_are [] (chars bytes) 0 (spot 1 1) 0 (file_tokens ls) (scalars-chars bytes is.utf8) is.tokens in
+    let all = file_are is.language ls (subst (λ language. AllKinds (IsFileToken language) (kinds (file_tokens ls))) (file_language is.language ls is.speaks) spelled) in
+    subst (λ x. ReadsBackAs (tree_text x) x) (sym some_text.1.2) (written_back is.language ls all is.speaks is.fits)

@@ -16,6 +16,7 @@ pub mod LastToken
 pub mod FirstLine
 pub mod TreeKinds
 pub mod Moved
+pub mod Carets
 pub mod Spelled
 pub mod BareTokens
 pub mod Rescan

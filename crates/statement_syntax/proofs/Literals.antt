@@ -5,6 +5,7 @@ use Rattle.std.proofs.lemmas.Fmt.{decimal_by_steps_wide}
 use Rattle.std.proofs.lemmas.Bool.{le-leb, leb-true, lt-leb, lt-ltb, ne_eqb}
 use Rattle.std.proofs.lemmas.List.{take_at}
 use Rattle.unicode_ident.proofs.IdentLemmas.{is_xid_start-ascii}
+use Rattle.statement_tokens.specs.declared.token.Token.{Token}
 use Rattle.statement_tokens.specs.declared.token.TokenKind.TheVariants as kind
 use Rattle.statement_tokens.specs.declared.scan.Item.TheVariants as item
 use Rattle.statement_tokens.specs.Token.{item_at, is_digit, value_from, starts_name}
@@ -70,9 +71,9 @@ plain_digit c known =
       low = omega (arith, high);
     }
 
-pub literal_back : (n c : ℕ) (cs rest : List ℕ) → n < 2 ^ 127 → value_from 0 (c ∷ cs) ≡ n → is_digit c ≡ true → EachIs is_digit cs → StopsAt is_digit rest
-    → item_at c (cs ++ rest) ≡ Ok (item.Token (kind.Literal (pos n)) (length cs))
+pub literal_back : (before : List Token) (n c : ℕ) (cs rest : List ℕ) → n < 2 ^ 127 → value_from 0 (c ∷ cs) ≡ n → is_digit c ≡ true → EachIs is_digit cs → StopsAt is_digit rest
+    → item_at before c (cs ++ rest) ≡ Ok (item.Token (kind.Literal (pos n)) (length cs))
 unfolding item_at
-literal_back n c cs rest below value digit each stops =
+literal_back before n c cs rest below value digit each stops =
     let plain = plain_digit c digit in
     rw (plain.line, plain.blank, plain.tab, plain.return, plain.comment, plain.name, digit, prefix_is is_digit cs rest each stops, take_at cs rest (length cs) refl, value, lt-ltb n (2 ^ 127) below) refl

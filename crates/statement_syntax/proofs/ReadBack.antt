@@ -5,6 +5,7 @@ use Rattle.std.specs.Fmt.{signed_decimal}
 use Rattle.std.specs.Str.{encode_utf8_all}
 use Rattle.std.proofs.Math.Utf8.{scalar, scalars}
 use Rattle.std.proofs.lemmas.Bool.{le-leb, lt-ltb}
+use Rattle.std.proofs.lemmas.List.{append-nil}
 use Rattle.std.proofs.lemmas.Str.{encodes-append, encode_ascii}
 use Rattle.statement_tokens.specs.declared.token.Token.{Token}
 use Rattle.statement_tokens.specs.declared.token.TokenKind.{TokenKind}
@@ -12,41 +13,22 @@ use Rattle.statement_tokens.specs.declared.token.TokenKind.TheVariants as kind
 use Rattle.statement_tokens.specs.declared.scan.Item.TheVariants as item
 use Rattle.statement_tokens.specs.declared.scan.ScanFault.TheVariants.{BadToken}
 use Rattle.statement_tokens.specs.declared.scan.Placed.{Placed}
+use Rattle.statement_tokens.specs.declared.language.Language.{Language}
+use Rattle.statement_tokens.specs.Language.{language_of}
 use Rattle.statement_tokens.specs.Token.{◌>>=◌, item_at, tokens_from, placed, with_front, is_digit, value_from, name_of}
 use Rattle.statement_tokens.specs.Limits.{name_limit}
 use Rattle.statement_syntax.specs.Written.{opens, closes, kind_text, gap, text_from}
 use Rattle.statement_tokens.proofs.Scanning.{spot}
 use Rattle.statement_syntax.proofs.Moved.{kinds}
+use Rattle.statement_syntax.proofs.Carets.{HasCarets, Allows, carets_stay, carets_second}
 use Rattle.statement_syntax.proofs.Spelled.{and_first, and_second, EachIs, SpellsName, SpellsNumber, IsToken, AllKinds}
-use Rattle.statement_syntax.proofs.Rescan.{EndsBefore, Ender, one_token, blank_back, name_back, stops_name, stops_digits, colon_back, equals_back, plus_back, minus_back, arrow_back, open_back, close_back, open_square_back, close_square_back, quote_back}
+use Rattle.statement_syntax.proofs.Rescan.{EndsBefore, Ender, one_token, blank_back, name_back, stops_name, stops_digits, colon_back, equals_back, plus_back, minus_back, arrow_back, open_back, close_back, open_square_back, close_square_back, quote_back, caret_back}
 use Rattle.statement_syntax.proofs.Literals.{Digits, decimal_digits, plain_digit, literal_back}
 
 -- ---- the characters of a token
 
 pub digits_of : (v : ℤ) → (t : SpellsNumber v) → Digits t.size (decimal t.size)
 digits_of v t = decimal_digits t.size (omega (arith, t.below))
-
-abbrev pub first_of : (k : TokenKind) → IsToken k → ℕ
-first_of (kind.Name x) t = t.first
-first_of (kind.Literal v) t = (digits_of v t).first
-first_of kind.Colon t = 58
-first_of kind.Arrow t = 45
-first_of kind.Equals t = 61
-first_of kind.Plus t = 43
-first_of kind.Minus t = 45
-first_of kind.Open t = 40
-first_of kind.Close t = 41
-first_of kind.OpenSquare t = 91
-first_of kind.CloseSquare t = 93
-first_of kind.Quote t = 39
-first_of kind.End t = absurd t
-
-abbrev pub more_of : (k : TokenKind) → IsToken k → List ℕ
-more_of (kind.Name x) t = t.more
-more_of (kind.Literal v) t = (digits_of v t).more
-more_of kind.Arrow t = 62 ∷ []
-more_of kind.End t = absurd t
-more_of k t = []
 
 scalar_ascii : (c : ℕ) → c < 128 → scalar c ≡ true
 scalar_ascii c low = rw (lt-ltb c 55296 (omega (arith, low))) refl
@@ -63,62 +45,25 @@ digits_scalars (d ∷ ds) given = ap₂ (λ x y. x && y) (scalar_ascii d (plain_
 one_byte : (c : ℕ) → c < 128 → c ∷ [] ≡ encode_utf8_all (c ∷ [])
 one_byte c low = ap (λ x. x ++ []) (sym (encode_ascii c low))
 
-text_is : (k : TokenKind) (t : IsToken k) → kind_text k ≡ encode_utf8_all (first_of k t ∷ more_of k t)
-text_is (kind.Name x) t = t.is
-text_is (kind.Literal v) t =
-    let d = digits_of v t in
-    ap signed_decimal t.is ∙ sym (digits_bytes (decimal t.size) d.each) ∙ ap encode_utf8_all d.is
-text_is kind.Colon t = one_byte 58 (omega arith)
-text_is kind.Arrow t = ap₂ (λ x y. x ++ y) (sym (encode_ascii 45 (omega arith))) (one_byte 62 (omega arith))
-text_is kind.Equals t = one_byte 61 (omega arith)
-text_is kind.Plus t = one_byte 43 (omega arith)
-text_is kind.Minus t = one_byte 45 (omega arith)
-text_is kind.Open t = one_byte 40 (omega arith)
-text_is kind.Close t = one_byte 41 (omega arith)
-text_is kind.OpenSquare t = one_byte 91 (omega arith)
-text_is kind.CloseSquare t = one_byte 93 (omega arith)
-text_is kind.Quote t = one_byte 39 (omega arith)
-text_is kind.End t = absurd t
-
-scalar_is : (k : TokenKind) (t : IsToken k) → scalars (first_of k t ∷ more_of k t) ≡ true
-scalar_is (kind.Name x) t = t.scalar
-scalar_is (kind.Literal v) t = let d = digits_of v t in ap scalars (sym d.is) ∙ digits_scalars (decimal t.size) d.each
-scalar_is kind.End t = absurd t
-scalar_is k t = refl
-
 -- what may stand behind a token
 abbrev Behind : TokenKind → List ℕ → Type 0
 Behind kind.Open rest = Unit {0}
 Behind kind.OpenSquare rest = Unit {0}
+Behind kind.Caret rest = Unit {0}
 Behind k rest = EndsBefore rest
 
-number_back : (v : ℤ) (t : SpellsNumber v) (rest : List ℕ) → EndsBefore rest → item_at (first_of (kind.Literal v) t) (more_of (kind.Literal v) t ++ rest) ≡ Ok (item.Token (kind.Literal v) (length (more_of (kind.Literal v) t)))
-number_back v t rest given =
+number_back : (before : List Token) (v : ℤ) (t : SpellsNumber v) (rest : List ℕ) → EndsBefore rest → item_at before (digits_of v t).first ((digits_of v t).more ++ rest) ≡ Ok (item.Token (kind.Literal v) (length (digits_of v t).more))
+number_back before v t rest given =
     let d = digits_of v t in
     let each : EachIs is_digit (d.first ∷ d.more) = subst (EachIs is_digit) d.is d.each in
-    literal_back t.size d.first d.more rest t.below (ap (value_from 0) (sym d.is) ∙ d.value) each.0 each.1 (stops_digits rest given)
+    literal_back before t.size d.first d.more rest t.below (ap (value_from 0) (sym d.is) ∙ d.value) each.0 each.1 (stops_digits rest given)
     ∙ ap (λ z. Ok (item.Token (kind.Literal z) (length d.more))) (sym t.is)
 
-word_back : (x : List ℕ) (t : SpellsName x) (rest : List ℕ) → EndsBefore rest → item_at t.first (t.more ++ rest) ≡ Ok (item.Token (kind.Name x) (length t.more))
-word_back x t rest given =
-    name_back t.first t.more rest t.starts t.goes_on (stops_name rest given)
+word_back : (before : List Token) (x : List ℕ) (t : SpellsName x) (rest : List ℕ) → EndsBefore rest → item_at before t.first (t.more ++ rest) ≡ Ok (item.Token (kind.Name x) (length t.more))
+word_back before x t rest given =
+    name_back before t.first t.more rest t.starts t.goes_on (stops_name rest given)
     ∙ ap (λ y. name_of y (length t.more)) (sym t.is)
     ∙ ap (λ b. cond b (Ok (item.Token (kind.Name x) (length t.more))) (Err BadToken)) (le-leb (length x) name_limit t.short)
-
-read_back : (k : TokenKind) (t : IsToken k) (rest : List ℕ) → Behind k rest → item_at (first_of k t) (more_of k t ++ rest) ≡ Ok (item.Token k (length (more_of k t)))
-read_back (kind.Name x) t rest given = word_back x t rest given
-read_back (kind.Literal v) t rest given = number_back v t rest given
-read_back kind.Colon t rest given = colon_back rest
-read_back kind.Arrow t rest given = arrow_back rest
-read_back kind.Equals t rest given = equals_back rest
-read_back kind.Plus t rest given = plus_back rest
-read_back kind.Minus t rest given = minus_back rest given
-read_back kind.Open t rest given = open_back rest
-read_back kind.Close t rest given = close_back rest
-read_back kind.OpenSquare t rest given = open_square_back rest
-read_back kind.CloseSquare t rest given = close_square_back rest
-read_back kind.Quote t rest given = quote_back rest
-read_back kind.End t rest given = absurd t
 
 -- ---- the characters of a line
 
@@ -126,25 +71,9 @@ abbrev pub glue : Bool → List ℕ → List ℕ
 glue true text = text
 glue false text = 32 ∷ text
 
--- the characters of tokens, and then others
-abbrev pub characters : (ks : List TokenKind) → AllKinds IsToken ks → Bool → List ℕ → List ℕ
-characters [] all glued rest = rest
-characters (k ∷ ks) all glued rest = glue (glued || closes k) (first_of k all.0 ∷ (more_of k all.0 ++ characters ks all.1 (opens k) rest))
-
 glue-bytes : (b : Bool) (text : List ℕ) → encode_utf8_all (glue b text) ≡ gap b ++ encode_utf8_all text
 glue-bytes true text = refl
 glue-bytes false text = ap (λ x. x ++ encode_utf8_all text) (encode_ascii 32 (omega arith))
-
--- they are the bytes of the tokens
-pub characters-bytes : (ks : List TokenKind) (all : AllKinds IsToken ks) (glued : Bool) (rest : List ℕ) → encode_utf8_all (characters ks all glued rest) ≡ text_from glued ks ++ encode_utf8_all rest
-characters-bytes [] all glued rest = refl
-characters-bytes (k ∷ ks) all glued rest =
-    let more = characters ks all.1 (opens k) rest in
-    glue-bytes (glued || closes k) (first_of k all.0 ∷ (more_of k all.0 ++ more))
-    ∙ ap (λ x. gap (glued || closes k) ++ x)
-    (encodes-append (first_of k all.0 ∷ more_of k all.0) more ∙ ap₂ (λ x y. x ++ y) (sym (text_is k all.0)) (characters-bytes ks all.1 (opens k) rest) ∙ sym (append_assoc (kind_text k) (text_from (opens k) ks) (encode_utf8_all rest)))
-    ∙ sym (append_assoc (gap (glued || closes k)) (kind_text k ++ text_from (opens k) ks) (encode_utf8_all rest))
-    ∙ ap (λ x. x ++ encode_utf8_all rest) (sym (append_assoc (gap (glued || closes k)) (kind_text k) (text_from (opens k) ks)))
 
 scalars-join : (xs ys : List ℕ) → scalars xs ≡ true → scalars ys ≡ true → scalars (xs ++ ys) ≡ true
 scalars-join [] ys f g = g
@@ -154,42 +83,15 @@ glue-scalars : (b : Bool) (text : List ℕ) → scalars text ≡ true → scalar
 glue-scalars true text given = given
 glue-scalars false text given = given
 
-pub characters-scalars : (ks : List TokenKind) (all : AllKinds IsToken ks) (glued : Bool) (rest : List ℕ) → scalars rest ≡ true → scalars (characters ks all glued rest) ≡ true
-characters-scalars [] all glued rest given = given
-characters-scalars (k ∷ ks) all glued rest given =
-    glue-scalars (glued || closes k) _ (scalars-join (first_of k all.0 ∷ more_of k all.0) (characters ks all.1 (opens k) rest) (scalar_is k all.0) (characters-scalars ks all.1 (opens k) rest given))
-
--- ---- what stands behind a token
-
-closing_first : (k : TokenKind) (t : IsToken k) → closes k ≡ true → Ender (first_of k t)
-closing_first kind.Close t given = inr (inr (inl refl))
-closing_first kind.CloseSquare t given = inr (inr (inr (inl refl)))
-closing_first kind.Quote t given = inr (inr (inr (inr refl)))
-closing_first kind.End t given = absurd t
-closing_first k t given = absurd cc
-
-behind_gap : (k : TokenKind) (t : IsToken k) (more : List ℕ) (b : Bool) → closes k ≡ b → EndsBefore (glue b (first_of k t ∷ more))
-behind_gap k t more true is = closing_first k t is
-behind_gap k t more false is = inl refl
-
-unglued : (ks : List TokenKind) (all : AllKinds IsToken ks) (rest : List ℕ) → EndsBefore rest → EndsBefore (characters ks all false rest)
-unglued [] all rest given = given
-unglued (k ∷ ks) all rest given = behind_gap k all.0 (more_of k all.0 ++ characters ks all.1 (opens k) rest) (closes k) refl
-
-behind_is : (k : TokenKind) (ks : List TokenKind) (all : AllKinds IsToken ks) (rest : List ℕ) → EndsBefore rest → Behind k (characters ks all (opens k) rest)
-behind_is kind.Open ks all rest given = tt
-behind_is kind.OpenSquare ks all rest given = tt
-behind_is k ks all rest given = unglued ks all rest given
-
 -- ---- a line is read as its tokens
 
--- the text is read as tokens of these kinds, and then goes on as the rest
-pub record ReadAs (text : List ℕ) (ks : List TokenKind) (rest : List ℕ) (line column past : ℕ) : Type 0 where
+-- behind these tokens the text is read as tokens of these kinds, and then goes on as the rest
+pub record ReadAs (before : List Token) (text : List ℕ) (ks : List TokenKind) (rest : List ℕ) (line column past : ℕ) : Type 0 where
   pub tokens : List Token
   pub are : kinds tokens ≡ ks
   pub column' : ℕ
   pub past' : ℕ
-  pub reads : tokens_from text 0 (spot line column) past ≡ with_front tokens (tokens_from rest 0 (spot line column') past')
+  pub reads : tokens_from before text 0 (spot line column) past ≡ with_front tokens (tokens_from (before ++ tokens) rest 0 (spot line column') past')
   -- a token stands before the rest, if one stood before the text or is part of it
   pub kept : 1 ≤ past + length ks → 1 ≤ past'
 
@@ -201,31 +103,153 @@ front_more : (t : Token) (ts : List Token) (r : Result (List Token) Placed) → 
 front_more t ts (Ok x) = refl
 front_more t ts (Err e) = refl
 
-blank_step : (text : List ℕ) (line column past : ℕ) → tokens_from (32 ∷ text) 0 (spot line column) past ≡ tokens_from text 0 (spot line (column + 1)) past
+blank_step : (before : List Token) (text : List ℕ) (line column past : ℕ) → tokens_from before (32 ∷ text) 0 (spot line column) past ≡ tokens_from before text 0 (spot line (column + 1)) past
 unfolding tokens_from
-blank_step text line column past = ap (λ i. placed i (spot line column) past (λ skip to end. tokens_from text skip to end)) (blank_back text)
+blank_step before text line column past = ap (λ i. placed before i (spot line column) past (λ front skip to end. tokens_from front text skip to end)) (blank_back before text)
 
-glued_reads : (b : Bool) (text : List ℕ) (ks : List TokenKind) (rest : List ℕ) (line past : ℕ) → ((column : ℕ) → ReadAs text ks rest line column past) → (column : ℕ) → ReadAs (glue b text) ks rest line column past
-glued_reads true text ks rest line past given column = given column
-glued_reads false text ks rest line past given column =
+glued_reads : (before : List Token) (b : Bool) (text : List ℕ) (ks : List TokenKind) (rest : List ℕ) (line past : ℕ) → ((column : ℕ) → ReadAs before text ks rest line column past) → (column : ℕ) → ReadAs before (glue b text) ks rest line column past
+glued_reads before true text ks rest line past given column = given column
+glued_reads before false text ks rest line past given column =
     let r = given (column + 1) in
-    record { tokens = r.tokens; are = r.are; column' = r.column'; past' = r.past'; reads = blank_step text line column past ∙ r.reads; kept = r.kept }
+    record { tokens = r.tokens; are = r.are; column' = r.column'; past' = r.past'; reads = blank_step before text line column past ∙ r.reads; kept = r.kept }
 
-pub line_read : (ks : List TokenKind) (all : AllKinds IsToken ks) (glued : Bool) (rest : List ℕ) (line column past : ℕ) → EndsBefore rest → ReadAs (characters ks all glued rest) ks rest line column past
-line_read [] all glued rest line column past given =
-    record { tokens = []; are = refl; column' = column; past' = past; reads = sym (front_nil (tokens_from rest 0 (spot line column) past)); kept = λ some. omega (arith, some) }
-line_read (k ∷ ks) all glued rest line column past given =
-    let more = characters ks all.1 (opens k) rest in
-    glued_reads (glued || closes k) (first_of k all.0 ∷ (more_of k all.0 ++ more)) (k ∷ ks) rest line past (λ col.
-    let after = col + 1 + length (more_of k all.0) in
-    let r = line_read ks all.1 (opens k) rest line after after given in
-    record {
-      tokens = record { at = spot line col; kind = k } ∷ r.tokens;
-      are = ap (λ x. k ∷ x) r.are;
-      column' = r.column';
-      past' = r.past';
-      reads = one_token (first_of k all.0) (more_of k all.0) more k line col past (read_back k all.0 more (behind_is k ks all.1 rest given))
-          ∙ ap (λ (x : Result (List Token) Placed). x >>= λ ts. Ok (record { at = spot line col; kind = k } ∷ ts)) r.reads
-          ∙ front_more (record { at = spot line col; kind = k }) r.tokens (tokens_from rest 0 (spot line r.column') r.past');
-      kept = λ some. r.kept (omega arith);
-    }) column
+-- what holds of the tokens of a language
+
+module _ (language : Language) where
+  abbrev pub first_of : (k : TokenKind) → IsToken language k → ℕ
+  first_of (kind.Name x) t = t.first
+  first_of (kind.Literal v) t = (digits_of v t).first
+  first_of kind.Colon t = 58
+  first_of kind.Arrow t = 45
+  first_of kind.Equals t = 61
+  first_of kind.Plus t = 43
+  first_of kind.Minus t = 45
+  first_of kind.Open t = 40
+  first_of kind.Close t = 41
+  first_of kind.OpenSquare t = 91
+  first_of kind.CloseSquare t = 93
+  first_of kind.Quote t = 39
+  first_of kind.Caret t = 94
+  first_of kind.End t = absurd t
+
+  abbrev pub more_of : (k : TokenKind) → IsToken language k → List ℕ
+  more_of (kind.Name x) t = t.more
+  more_of (kind.Literal v) t = (digits_of v t).more
+  more_of kind.Arrow t = 62 ∷ []
+  more_of kind.End t = absurd t
+  more_of k t = []
+
+  text_is : (k : TokenKind) (t : IsToken language k) → kind_text k ≡ encode_utf8_all (first_of k t ∷ more_of k t)
+  text_is (kind.Name x) t = t.is
+  text_is (kind.Literal v) t =
+      let d = digits_of v t in
+      ap signed_decimal t.is ∙ sym (digits_bytes (decimal t.size) d.each) ∙ ap encode_utf8_all d.is
+  text_is kind.Colon t = one_byte 58 (omega arith)
+  text_is kind.Arrow t = ap₂ (λ x y. x ++ y) (sym (encode_ascii 45 (omega arith))) (one_byte 62 (omega arith))
+  text_is kind.Equals t = one_byte 61 (omega arith)
+  text_is kind.Plus t = one_byte 43 (omega arith)
+  text_is kind.Minus t = one_byte 45 (omega arith)
+  text_is kind.Open t = one_byte 40 (omega arith)
+  text_is kind.Close t = one_byte 41 (omega arith)
+  text_is kind.OpenSquare t = one_byte 91 (omega arith)
+  text_is kind.CloseSquare t = one_byte 93 (omega arith)
+  text_is kind.Quote t = one_byte 39 (omega arith)
+  text_is kind.Caret t = one_byte 94 (omega arith)
+  text_is kind.End t = absurd t
+
+  scalar_is : (k : TokenKind) (t : IsToken language k) → scalars (first_of k t ∷ more_of k t) ≡ true
+  scalar_is (kind.Name x) t = t.scalar
+  scalar_is (kind.Literal v) t = let d = digits_of v t in ap scalars (sym d.is) ∙ digits_scalars (decimal t.size) d.each
+  scalar_is kind.End t = absurd t
+  scalar_is k t = refl
+
+  -- a token's characters are read as it, where carets are tokens if they are ones of the language
+  read_back : (before : List Token) → Allows language before → (k : TokenKind) (t : IsToken language k) (rest : List ℕ) → Behind k rest → item_at before (first_of k t) (more_of k t ++ rest) ≡ Ok (item.Token k (length (more_of k t)))
+  read_back before allowed (kind.Name x) t rest given = word_back before x t rest given
+  read_back before allowed (kind.Literal v) t rest given = number_back before v t rest given
+  read_back before allowed kind.Colon t rest given = colon_back before rest
+  read_back before allowed kind.Arrow t rest given = arrow_back before rest
+  read_back before allowed kind.Equals t rest given = equals_back before rest
+  read_back before allowed kind.Plus t rest given = plus_back before rest
+  read_back before allowed kind.Minus t rest given = minus_back before rest given
+  read_back before allowed kind.Open t rest given = open_back before rest
+  read_back before allowed kind.Close t rest given = close_back before rest
+  read_back before allowed kind.OpenSquare t rest given = open_square_back before rest
+  read_back before allowed kind.CloseSquare t rest given = close_square_back before rest
+  read_back before allowed kind.Quote t rest given = quote_back before rest
+  read_back before allowed kind.Caret t rest given = caret_back before rest (carets_second (language_of before) (allowed t))
+  read_back before allowed kind.End t rest given = absurd t
+
+  -- the characters of tokens, and then others
+  abbrev pub characters : (ks : List TokenKind) → AllKinds (IsToken language) ks → Bool → List ℕ → List ℕ
+  characters [] all glued rest = rest
+  characters (k ∷ ks) all glued rest = glue (glued || closes k) (first_of k all.0 ∷ (more_of k all.0 ++ characters ks all.1 (opens k) rest))
+
+  -- they are the bytes of the tokens
+  pub characters-bytes : (ks : List TokenKind) (all : AllKinds (IsToken language) ks) (glued : Bool) (rest : List ℕ) → encode_utf8_all (characters ks all glued rest) ≡ text_from glued ks ++ encode_utf8_all rest
+  characters-bytes [] all glued rest = refl
+  characters-bytes (k ∷ ks) all glued rest =
+      let more = characters ks all.1 (opens k) rest in
+      glue-bytes (glued || closes k) (first_of k all.0 ∷ (more_of k all.0 ++ more))
+      ∙ ap (λ x. gap (glued || closes k) ++ x)
+      (encodes-append (first_of k all.0 ∷ more_of k all.0) more ∙ ap₂ (λ x y. x ++ y) (sym (text_is k all.0)) (characters-bytes ks all.1 (opens k) rest) ∙ sym (append_assoc (kind_text k) (text_from (opens k) ks) (encode_utf8_all rest)))
+      ∙ sym (append_assoc (gap (glued || closes k)) (kind_text k ++ text_from (opens k) ks) (encode_utf8_all rest))
+      ∙ ap (λ x. x ++ encode_utf8_all rest) (sym (append_assoc (gap (glued || closes k)) (kind_text k) (text_from (opens k) ks)))
+
+  pub characters-scalars : (ks : List TokenKind) (all : AllKinds (IsToken language) ks) (glued : Bool) (rest : List ℕ) → scalars rest ≡ true → scalars (characters ks all glued rest) ≡ true
+  characters-scalars [] all glued rest given = given
+  characters-scalars (k ∷ ks) all glued rest given =
+      glue-scalars (glued || closes k) _ (scalars-join (first_of k all.0 ∷ more_of k all.0) (characters ks all.1 (opens k) rest) (scalar_is k all.0) (characters-scalars ks all.1 (opens k) rest given))
+
+  -- ---- what stands behind a token
+
+  closing_first : (k : TokenKind) (t : IsToken language k) → closes k ≡ true → Ender (first_of k t)
+  closing_first kind.Close t given = inr (inr (inl refl))
+  closing_first kind.CloseSquare t given = inr (inr (inr (inl refl)))
+  closing_first kind.Quote t given = inr (inr (inr (inr (inl refl))))
+  closing_first kind.Caret t given = inr (inr (inr (inr (inr refl))))
+  closing_first kind.End t given = absurd t
+  closing_first k t given = absurd cc
+
+  behind_gap : (k : TokenKind) (t : IsToken language k) (more : List ℕ) (b : Bool) → closes k ≡ b → EndsBefore (glue b (first_of k t ∷ more))
+  behind_gap k t more true is = closing_first k t is
+  behind_gap k t more false is = inl refl
+
+  unglued : (ks : List TokenKind) (all : AllKinds (IsToken language) ks) (rest : List ℕ) → EndsBefore rest → EndsBefore (characters ks all false rest)
+  unglued [] all rest given = given
+  unglued (k ∷ ks) all rest given = behind_gap k all.0 (more_of k all.0 ++ characters ks all.1 (opens k) rest) (closes k) refl
+
+  behind_is : (k : TokenKind) (ks : List TokenKind) (all : AllKinds (IsToken language) ks) (rest : List ℕ) → EndsBefore rest → Behind k (characters ks all (opens k) rest)
+  behind_is kind.Open ks all rest given = tt
+  behind_is kind.OpenSquare ks all rest given = tt
+  behind_is kind.Caret ks all rest given = tt
+  behind_is k ks all rest given = unglued ks all rest given
+
+  -- the characters of tokens are read as them
+  pub line_read : (ks : List TokenKind) (all : AllKinds (IsToken language) ks) (glued : Bool) (rest : List ℕ) (before : List Token) (line column past : ℕ) → Allows language before → EndsBefore rest → ReadAs before (characters ks all glued rest) ks rest line column past
+  line_read [] all glued rest before line column past allowed given =
+      record {
+        tokens = [];
+        are = refl;
+        column' = column;
+        past' = past;
+        reads = sym (front_nil (tokens_from before rest 0 (spot line column) past)) ∙ ap (λ front. with_front [] (tokens_from front rest 0 (spot line column) past)) (sym (append-nil before));
+        kept = λ some. omega (arith, some);
+      }
+  line_read (k ∷ ks) all glued rest before line column past allowed given =
+      let more = characters ks all.1 (opens k) rest in
+      glued_reads before (glued || closes k) (first_of k all.0 ∷ (more_of k all.0 ++ more)) (k ∷ ks) rest line past (λ col.
+      let after = col + 1 + length (more_of k all.0) in
+      let here : Token = record { at = spot line col; kind = k } in
+      let r = line_read ks all.1 (opens k) rest (before ++ here ∷ []) line after after (λ has. carets_stay before (here ∷ []) (allowed has)) given in
+      record {
+        tokens = here ∷ r.tokens;
+        are = ap (λ x. k ∷ x) r.are;
+        column' = r.column';
+        past' = r.past';
+        reads = one_token before (first_of k all.0) (more_of k all.0) more k line col past (read_back before allowed k all.0 more (behind_is k ks all.1 rest given))
+            ∙ ap (λ (x : Result (List Token) Placed). x >>= λ ts. Ok (here ∷ ts)) r.reads
+            ∙ front_more here r.tokens (tokens_from ((before ++ here ∷ []) ++ r.tokens) rest 0 (spot line r.column') r.past')
+            ∙ ap (λ front. with_front (here ∷ r.tokens) (tokens_from front rest 0 (spot line r.column') r.past')) (append_assoc before (here ∷ []) r.tokens);
+        kept = λ some. r.kept (omega arith);
+      }) column

@@ -11,6 +11,8 @@ use Rattle.statement_tokens.specs.declared.token.TokenKind.{TokenKind}
 use Rattle.statement_tokens.specs.declared.token.TokenKind.TheVariants as kind
 use Rattle.statement_tokens.specs.declared.scan.Item.TheVariants as item
 use Rattle.statement_tokens.specs.declared.scan.Placed.{Placed}
+use Rattle.statement_tokens.specs.declared.language.Language.TheVariants.{Second}
+use Rattle.statement_tokens.specs.Language.{language_of}
 use Rattle.statement_tokens.specs.Token.{◌>>=◌, item_at, tokens_from, placed, starts_name, is_digit, begins_with, name_of}
 use Rattle.statement_tokens.proofs.Scanning.{spot, skipped}
 use Rattle.statement_syntax.proofs.Spelled.{EachIs}
@@ -42,46 +44,48 @@ plain_start c given = (
   is_not c 35 (c == 35) refl given (rw (is_xid_start-ascii 35 (omega arith)) refl),
 )
 
-pub one_token : (c : ℕ) (cs rest : List ℕ) (k : TokenKind) (line column past : ℕ) → item_at c (cs ++ rest) ≡ Ok (item.Token k (length cs))
-    → tokens_from (c ∷ (cs ++ rest)) 0 (spot line column) past
-    ≡ (tokens_from rest 0 (spot line (column + 1 + length cs)) (column + 1 + length cs) >>= λ ts. Ok (record { at = spot line column; kind = k } ∷ ts))
+pub one_token : (before : List Token) (c : ℕ) (cs rest : List ℕ) (k : TokenKind) (line column past : ℕ) → item_at before c (cs ++ rest) ≡ Ok (item.Token k (length cs))
+    → tokens_from before (c ∷ (cs ++ rest)) 0 (spot line column) past
+    ≡ (tokens_from (before ++ record { at = spot line column; kind = k } ∷ []) rest 0 (spot line (column + 1 + length cs)) (column + 1 + length cs) >>= λ ts. Ok (record { at = spot line column; kind = k } ∷ ts))
 unfolding tokens_from
-one_token c cs rest k line column past given =
-    ap (λ i. placed i (spot line column) past (λ skip to end. tokens_from (cs ++ rest) skip to end)) given
+one_token before c cs rest k line column past given =
+    let front : List Token = before ++ record { at = spot line column; kind = k } ∷ [] in
+    ap (λ i. placed before i (spot line column) past (λ front skip to end. tokens_from front (cs ++ rest) skip to end)) given
     ∙ ap (λ (r : Result (List Token) Placed). r >>= λ ts. Ok (record { at = spot line column; kind = k } ∷ ts))
-    (skipped (length cs) (cs ++ rest) line (column + 1) (column + 1 + length cs) (omega (arith, length-append cs rest))
-    ∙ ap (λ x. tokens_from x 0 (spot line (column + 1 + length cs)) (column + 1 + length cs)) (drop_at cs rest (length cs) refl))
+    (skipped front (length cs) (cs ++ rest) line (column + 1) (column + 1 + length cs) (omega (arith, length-append cs rest))
+    ∙ ap (λ x. tokens_from front x 0 (spot line (column + 1 + length cs)) (column + 1 + length cs)) (drop_at cs rest (length cs) refl))
 
-pub blank_back : (rest : List ℕ) → item_at 32 rest ≡ Ok (item.Gap 0)
+pub blank_back : (before : List Token) (rest : List ℕ) → item_at before 32 rest ≡ Ok (item.Gap 0)
 unfolding item_at
-blank_back rest = refl
+blank_back before rest = refl
 
-pub name_back : (c : ℕ) (cs rest : List ℕ) → starts_name c ≡ true → EachIs is_xid_continue cs → StopsAt is_xid_continue rest
-    → item_at c (cs ++ rest) ≡ name_of (encode_utf8_all (c ∷ cs)) (length cs)
+pub name_back : (before : List Token) (c : ℕ) (cs rest : List ℕ) → starts_name c ≡ true → EachIs is_xid_continue cs → StopsAt is_xid_continue rest
+    → item_at before c (cs ++ rest) ≡ name_of (encode_utf8_all (c ∷ cs)) (length cs)
 unfolding item_at
-name_back c cs rest s e stop =
+name_back before c cs rest s e stop =
     let plain = plain_start c s in
     rw (plain.0, plain.1, plain.2, plain.3, plain.4, s, prefix_is is_xid_continue cs rest e stop, take_at cs rest (length cs) refl) refl
 
 -- what may stand behind a token with no blank between
 abbrev pub Ender : ℕ → Type 0
-Ender c = (c ≡ 32) ⊎ (c ≡ 10) ⊎ (c ≡ 41) ⊎ (c ≡ 93) ⊎ (c ≡ 39)
+Ender c = (c ≡ 32) ⊎ (c ≡ 10) ⊎ (c ≡ 41) ⊎ (c ≡ 93) ⊎ (c ≡ 39) ⊎ (c ≡ 94)
 
 abbrev pub EndsBefore : List ℕ → Type 0
 EndsBefore [] = Unit {0}
 EndsBefore (c ∷ rest) = Ender c
 
 -- what holds at these characters holds at whatever may stand there
-ender_by : (P : ℕ → Type 0) → P 32 → P 10 → P 41 → P 93 → P 39 → (c : ℕ) → Ender c → P c
-ender_by P a b d e f c (inl given) = subst P (sym given) a
-ender_by P a b d e f c (inr (inl given)) = subst P (sym given) b
-ender_by P a b d e f c (inr (inr (inl given))) = subst P (sym given) d
-ender_by P a b d e f c (inr (inr (inr (inl given)))) = subst P (sym given) e
-ender_by P a b d e f c (inr (inr (inr (inr given)))) = subst P (sym given) f
+ender_by : (P : ℕ → Type 0) → P 32 → P 10 → P 41 → P 93 → P 39 → P 94 → (c : ℕ) → Ender c → P c
+ender_by P a b d e f g c (inl given) = subst P (sym given) a
+ender_by P a b d e f g c (inr (inl given)) = subst P (sym given) b
+ender_by P a b d e f g c (inr (inr (inl given))) = subst P (sym given) d
+ender_by P a b d e f g c (inr (inr (inr (inl given)))) = subst P (sym given) e
+ender_by P a b d e f g c (inr (inr (inr (inr (inl given))))) = subst P (sym given) f
+ender_by P a b d e f g c (inr (inr (inr (inr (inr given))))) = subst P (sym given) g
 
-stops_by : (p : ℕ → Bool) → p 32 ≡ false → p 10 ≡ false → p 41 ≡ false → p 93 ≡ false → p 39 ≡ false → (rest : List ℕ) → EndsBefore rest → StopsAt p rest
-stops_by p a b c d e [] given = tt
-stops_by p a b c d e (x ∷ rest) given = ender_by (λ x. p x ≡ false) a b c d e x given
+stops_by : (p : ℕ → Bool) → p 32 ≡ false → p 10 ≡ false → p 41 ≡ false → p 93 ≡ false → p 39 ≡ false → p 94 ≡ false → (rest : List ℕ) → EndsBefore rest → StopsAt p rest
+stops_by p a b c d e f [] given = tt
+stops_by p a b c d e f (x ∷ rest) given = ender_by (λ x. p x ≡ false) a b c d e f x given
 
 -- no name and no literal goes on with it, and no sign
 pub stops_name : (rest : List ℕ) → EndsBefore rest → StopsAt is_xid_continue rest
@@ -92,52 +96,58 @@ stops_name =
     (rw (is_xid_continue-ascii 41 (omega arith)) refl)
     (rw (is_xid_continue-ascii 93 (omega arith)) refl)
     (rw (is_xid_continue-ascii 39 (omega arith)) refl)
+    (rw (is_xid_continue-ascii 94 (omega arith)) refl)
 
 pub stops_digits : (rest : List ℕ) → EndsBefore rest → StopsAt is_digit rest
-stops_digits = stops_by is_digit refl refl refl refl refl
+stops_digits = stops_by is_digit refl refl refl refl refl refl
 
 no_arrow : (rest : List ℕ) → EndsBefore rest → begins_with 62 rest ≡ false
 no_arrow [] given = refl
-no_arrow (c ∷ rest) given = ender_by (λ c. (c == 62) ≡ false) refl refl refl refl refl c given
+no_arrow (c ∷ rest) given = ender_by (λ c. (c == 62) ≡ false) refl refl refl refl refl refl c given
 
 -- ---- signs
 
-pub colon_back : (rest : List ℕ) → item_at 58 rest ≡ Ok (item.Token kind.Colon 0)
+pub colon_back : (before : List Token) (rest : List ℕ) → item_at before 58 rest ≡ Ok (item.Token kind.Colon 0)
 unfolding item_at
-colon_back rest = rw (is_xid_start-ascii 58 (omega arith)) refl
+colon_back before rest = rw (is_xid_start-ascii 58 (omega arith)) refl
 
-pub equals_back : (rest : List ℕ) → item_at 61 rest ≡ Ok (item.Token kind.Equals 0)
+pub equals_back : (before : List Token) (rest : List ℕ) → item_at before 61 rest ≡ Ok (item.Token kind.Equals 0)
 unfolding item_at
-equals_back rest = rw (is_xid_start-ascii 61 (omega arith)) refl
+equals_back before rest = rw (is_xid_start-ascii 61 (omega arith)) refl
 
-pub plus_back : (rest : List ℕ) → item_at 43 rest ≡ Ok (item.Token kind.Plus 0)
+pub plus_back : (before : List Token) (rest : List ℕ) → item_at before 43 rest ≡ Ok (item.Token kind.Plus 0)
 unfolding item_at
-plus_back rest = rw (is_xid_start-ascii 43 (omega arith)) refl
+plus_back before rest = rw (is_xid_start-ascii 43 (omega arith)) refl
 
-pub open_back : (rest : List ℕ) → item_at 40 rest ≡ Ok (item.Token kind.Open 0)
+pub open_back : (before : List Token) (rest : List ℕ) → item_at before 40 rest ≡ Ok (item.Token kind.Open 0)
 unfolding item_at
-open_back rest = rw (is_xid_start-ascii 40 (omega arith)) refl
+open_back before rest = rw (is_xid_start-ascii 40 (omega arith)) refl
 
-pub close_back : (rest : List ℕ) → item_at 41 rest ≡ Ok (item.Token kind.Close 0)
+pub close_back : (before : List Token) (rest : List ℕ) → item_at before 41 rest ≡ Ok (item.Token kind.Close 0)
 unfolding item_at
-close_back rest = rw (is_xid_start-ascii 41 (omega arith)) refl
+close_back before rest = rw (is_xid_start-ascii 41 (omega arith)) refl
 
-pub open_square_back : (rest : List ℕ) → item_at 91 rest ≡ Ok (item.Token kind.OpenSquare 0)
+pub open_square_back : (before : List Token) (rest : List ℕ) → item_at before 91 rest ≡ Ok (item.Token kind.OpenSquare 0)
 unfolding item_at
-open_square_back rest = rw (is_xid_start-ascii 91 (omega arith)) refl
+open_square_back before rest = rw (is_xid_start-ascii 91 (omega arith)) refl
 
-pub close_square_back : (rest : List ℕ) → item_at 93 rest ≡ Ok (item.Token kind.CloseSquare 0)
+pub close_square_back : (before : List Token) (rest : List ℕ) → item_at before 93 rest ≡ Ok (item.Token kind.CloseSquare 0)
 unfolding item_at
-close_square_back rest = rw (is_xid_start-ascii 93 (omega arith)) refl
+close_square_back before rest = rw (is_xid_start-ascii 93 (omega arith)) refl
 
-pub quote_back : (rest : List ℕ) → item_at 39 rest ≡ Ok (item.Token kind.Quote 0)
+pub quote_back : (before : List Token) (rest : List ℕ) → item_at before 39 rest ≡ Ok (item.Token kind.Quote 0)
 unfolding item_at
-quote_back rest = rw (is_xid_start-ascii 39 (omega arith)) refl
+quote_back before rest = rw (is_xid_start-ascii 39 (omega arith)) refl
 
-pub arrow_back : (rest : List ℕ) → item_at 45 (62 ∷ rest) ≡ Ok (item.Token kind.Arrow 1)
+-- a caret is read where the tokens before it are of the second language
+pub caret_back : (before : List Token) (rest : List ℕ) → language_of before ≡ Second → item_at before 94 rest ≡ Ok (item.Token kind.Caret 0)
 unfolding item_at
-arrow_back rest = rw (is_xid_start-ascii 45 (omega arith)) refl
+caret_back before rest given = rw (is_xid_start-ascii 94 (omega arith), given) refl
 
-pub minus_back : (rest : List ℕ) → EndsBefore rest → item_at 45 rest ≡ Ok (item.Token kind.Minus 0)
+pub arrow_back : (before : List Token) (rest : List ℕ) → item_at before 45 (62 ∷ rest) ≡ Ok (item.Token kind.Arrow 1)
 unfolding item_at
-minus_back rest given = rw (is_xid_start-ascii 45 (omega arith), no_arrow rest given) refl
+arrow_back before rest = rw (is_xid_start-ascii 45 (omega arith)) refl
+
+pub minus_back : (before : List Token) (rest : List ℕ) → EndsBefore rest → item_at before 45 rest ≡ Ok (item.Token kind.Minus 0)
+unfolding item_at
+minus_back before rest given = rw (is_xid_start-ascii 45 (omega arith), no_arrow rest given) refl

@@ -1,5 +1,5 @@
 -- What is read as a name or a literal is spelled as one.
-use Rattle.std.proofs.Common.{◌≡◌, ℕ, zero, suc, ◌+◌, ◌≤◌, ◌<◌, ◌^◌, ◌==◌, ◌&&◌, ◌||◌, Bool, true, false, cond, List, [], ◌∷◌, ◌++◌, length, take, Result, Ok, Err, refl, ap, subst, ◌∙◌, arith}
+use Rattle.std.proofs.Common.{◌≡◌, ℕ, zero, suc, ◌+◌, ◌≤◌, ◌<◌, ◌^◌, ◌==◌, ◌&&◌, ◌||◌, Bool, true, false, cond, List, [], ◌∷◌, ◌++◌, length, take, Result, Ok, Err, refl, ap, subst, ◌∙◌, append_assoc, arith}
 use Rattle.std.specs.Prelude.{ℤ, pos, nat_le, nat_lt}
 use Rattle.std.specs.List.{prefix_len, take_while}
 use Rattle.std.specs.Str.{encode_utf8_all}
@@ -15,10 +15,14 @@ use Rattle.statement_tokens.specs.declared.scan.Item.TheVariants as item
 use Rattle.statement_tokens.specs.declared.scan.ScanFault.{ScanFault}
 use Rattle.statement_tokens.specs.declared.scan.ScanFault.TheVariants.{BadToken, LiteralTooLarge}
 use Rattle.statement_tokens.specs.declared.scan.Placed.{Placed}
-use Rattle.statement_tokens.specs.Token.{item_at, sign_at, starts_name, is_digit, begins_with, name_of, literal_of, tokens_from, placed, end_of, right_of, below}
+use Rattle.statement_tokens.specs.declared.language.Language.{Language}
+use Rattle.statement_tokens.specs.declared.language.Language.TheVariants.{First, Second}
+use Rattle.statement_tokens.specs.Language.{language_of}
+use Rattle.statement_tokens.specs.Token.{item_at, sign_at, caret_in, starts_name, is_digit, begins_with, name_of, literal_of, tokens_from, placed, end_of, right_of, below}
 use Rattle.statement_tokens.specs.Limits.{name_limit}
 use Rattle.statement_syntax.proofs.LastToken.{scan_ok, tokens_is}
 use Rattle.statement_syntax.proofs.Moved.{kinds}
+use Rattle.statement_syntax.proofs.Carets.{HasCarets, carets_stay}
 
 -- each character passes
 abbrev pub EachIs : (ℕ → Bool) → List ℕ → Type 0
@@ -40,18 +44,20 @@ pub record SpellsNumber (value : ℤ) : Type 0 where
   pub is : value ≡ pos size
   pub below : size < 2 ^ 127
 
--- it can be a token of a statement
-abbrev pub IsToken : TokenKind → Type 0
-IsToken (kind.Name text) = SpellsName text
-IsToken (kind.Literal value) = SpellsNumber value
-IsToken kind.End = ⊥
-IsToken k = Unit {0}
+-- it can be a token of a statement of the language
+abbrev pub IsToken : Language → TokenKind → Type 0
+IsToken language (kind.Name text) = SpellsName text
+IsToken language (kind.Literal value) = SpellsNumber value
+IsToken language kind.Caret = HasCarets language
+IsToken language kind.End = ⊥
+IsToken language k = Unit {0}
 
--- it can be a token of a file
-abbrev pub IsFileToken : TokenKind → Type 0
-IsFileToken (kind.Name text) = SpellsName text
-IsFileToken (kind.Literal value) = SpellsNumber value
-IsFileToken k = Unit {0}
+-- it can be a token of a file of the language
+abbrev pub IsFileToken : Language → TokenKind → Type 0
+IsFileToken language (kind.Name text) = SpellsName text
+IsFileToken language (kind.Literal value) = SpellsNumber value
+IsFileToken language kind.Caret = HasCarets language
+IsFileToken language k = Unit {0}
 
 abbrev pub AllKinds : (TokenKind → Type 0) → List TokenKind → Type 0
 AllKinds P [] = Unit {0}
@@ -94,95 +100,121 @@ scalars-take (suc n) (c ∷ cs) given = ap (λ b. b && scalars (take n cs)) (and
 
 -- ---- one token
 
--- what is read here is such a token
-abbrev Makes : Result Item ScanFault → Type 0
-Makes r = (k : TokenKind) (more : ℕ) → r ≡ Ok (item.Token k more) → IsToken k
+caret_makes : (language : Language) (k : TokenKind) (more : ℕ) → caret_in language ≡ Ok (item.Token k more) → IsToken language k
+caret_makes First k more given = absurd cc
+caret_makes Second k more given = let same : kind.Caret ≡ k = cc in subst (IsToken Second) same tt
 
-by_test : (b : Bool) (x y : Result Item ScanFault) → (b ≡ true → Makes x) → Makes y → Makes (cond b x y)
-by_test true x y here there = here refl
-by_test false x y here there = there
+module _ (before : List Token) where
+  -- what is read behind these tokens is such a token
+  abbrev Makes : Result Item ScanFault → Type 0
+  Makes r = (k : TokenKind) (more : ℕ) → r ≡ Ok (item.Token k more) → IsToken (language_of before) k
 
-no_token : Makes (Ok item.NewLine)
-no_token k more given = absurd cc
+  by_test : (b : Bool) (x y : Result Item ScanFault) → (b ≡ true → Makes x) → Makes y → Makes (cond b x y)
+  by_test true x y here there = here refl
+  by_test false x y here there = there
 
-no_gap : (n : ℕ) → Makes (Ok (item.Gap n))
-no_gap n k more given = absurd cc
+  no_token : Makes (Ok item.NewLine)
+  no_token k more given = absurd cc
 
-no_fault : (f : ScanFault) → Makes (Err f)
-no_fault f k more given = absurd cc
+  no_gap : (n : ℕ) → Makes (Ok (item.Gap n))
+  no_gap n k more given = absurd cc
 
-this_token : (k : TokenKind) (n : ℕ) → IsToken k → Makes (Ok (item.Token k n))
-this_token k n t l more given = let same : k ≡ l = cc in subst IsToken same t
+  no_fault : (f : ScanFault) → Makes (Err f)
+  no_fault f k more given = absurd cc
 
-name_makes : (c : ℕ) (rest : List ℕ) → scalars (c ∷ rest) ≡ true → starts_name c ≡ true → Makes (name_of (encode_utf8_all (c ∷ take_while is_xid_continue rest)) (prefix_len is_xid_continue rest))
-name_makes c rest scalar starts =
-    by_test (nat_le (length (encode_utf8_all (c ∷ take_while is_xid_continue rest))) name_limit) _ _
-    (λ short. this_token _ _ (record {
-      first = c;
-      more = take_while is_xid_continue rest;
-      is = refl;
-      starts = starts;
-      goes_on = EachIs-take_while is_xid_continue rest;
-      scalar = scalars-take (suc (prefix_len is_xid_continue rest)) (c ∷ rest) scalar;
-      short = leb-true _ _ short;
-    }))
-    (no_fault BadToken)
+  this_token : (k : TokenKind) (n : ℕ) → IsToken (language_of before) k → Makes (Ok (item.Token k n))
+  this_token k n t l more given = let same : k ≡ l = cc in subst (IsToken (language_of before)) same t
 
-literal_makes : (value more : ℕ) → Makes (literal_of value more)
-literal_makes value more =
-    by_test (nat_lt value (2 ^ 127)) _ _ (λ below. this_token _ _ (record { size = value; is = refl; below = ltb-true _ _ below })) (no_fault LiteralTooLarge)
+  name_makes : (c : ℕ) (rest : List ℕ) → scalars (c ∷ rest) ≡ true → starts_name c ≡ true → Makes (name_of (encode_utf8_all (c ∷ take_while is_xid_continue rest)) (prefix_len is_xid_continue rest))
+  name_makes c rest scalar starts =
+      by_test (nat_le (length (encode_utf8_all (c ∷ take_while is_xid_continue rest))) name_limit) _ _
+      (λ short. this_token _ _ (record {
+        first = c;
+        more = take_while is_xid_continue rest;
+        is = refl;
+        starts = starts;
+        goes_on = EachIs-take_while is_xid_continue rest;
+        scalar = scalars-take (suc (prefix_len is_xid_continue rest)) (c ∷ rest) scalar;
+        short = leb-true _ _ short;
+      }))
+      (no_fault BadToken)
 
-sign_makes : (c : ℕ) → Makes (sign_at c)
-sign_makes c =
-    by_test (c == 58) _ _ (λ e. this_token _ _ tt) (
-    by_test (c == 61) _ _ (λ e. this_token _ _ tt) (
-    by_test (c == 43) _ _ (λ e. this_token _ _ tt) (
-    by_test (c == 40) _ _ (λ e. this_token _ _ tt) (
-    by_test (c == 41) _ _ (λ e. this_token _ _ tt) (
-    by_test (c == 91) _ _ (λ e. this_token _ _ tt) (
-    by_test (c == 93) _ _ (λ e. this_token _ _ tt) (
-    by_test (c == 39) _ _ (λ e. this_token _ _ tt) (no_fault BadToken))))))))
+  literal_makes : (value more : ℕ) → Makes (literal_of value more)
+  literal_makes value more =
+      by_test (nat_lt value (2 ^ 127)) _ _ (λ below. this_token _ _ (record { size = value; is = refl; below = ltb-true _ _ below })) (no_fault LiteralTooLarge)
 
-item_makes : (c : ℕ) (rest : List ℕ) → scalars (c ∷ rest) ≡ true → Makes (item_at c rest)
-unfolding item_at
-item_makes c rest scalar =
-    by_test (c == 10) _ _ (λ e. no_token) (
-    by_test ((c == 32) || (c == 9) || ((c == 13) && begins_with 10 rest)) _ _ (λ e. no_gap 0) (
-    by_test (c == 35) _ _ (λ e. no_gap _) (
-    by_test (starts_name c) _ _ (λ starts. name_makes c rest scalar starts) (
-    by_test (is_digit c) _ _ (λ e. literal_makes _ _) (
-    by_test (c == 45) _ _ (λ e. by_test (begins_with 62 rest) _ _ (λ e. this_token kind.Arrow 1 tt) (this_token kind.Minus 0 tt)) (sign_makes c))))))
+  sign_makes : (c : ℕ) → Makes (sign_at before c)
+  sign_makes c =
+      by_test (c == 58) _ _ (λ e. this_token _ _ tt) (
+      by_test (c == 61) _ _ (λ e. this_token _ _ tt) (
+      by_test (c == 43) _ _ (λ e. this_token _ _ tt) (
+      by_test (c == 40) _ _ (λ e. this_token _ _ tt) (
+      by_test (c == 41) _ _ (λ e. this_token _ _ tt) (
+      by_test (c == 91) _ _ (λ e. this_token _ _ tt) (
+      by_test (c == 93) _ _ (λ e. this_token _ _ tt) (
+      by_test (c == 39) _ _ (λ e. this_token _ _ tt) (
+      by_test (c == 94) _ _ (λ e. caret_makes (language_of before)) (no_fault BadToken)))))))))
+
+  item_makes : (c : ℕ) (rest : List ℕ) → scalars (c ∷ rest) ≡ true → Makes (item_at before c rest)
+  unfolding item_at
+  item_makes c rest scalar =
+      by_test (c == 10) _ _ (λ e. no_token) (
+      by_test ((c == 32) || (c == 9) || ((c == 13) && begins_with 10 rest)) _ _ (λ e. no_gap 0) (
+      by_test (c == 35) _ _ (λ e. no_gap _) (
+      by_test (starts_name c) _ _ (λ starts. name_makes c rest scalar starts) (
+      by_test (is_digit c) _ _ (λ e. literal_makes _ _) (
+      by_test (c == 45) _ _ (λ e. by_test (begins_with 62 rest) _ _ (λ e. this_token kind.Arrow 1 tt) (this_token kind.Minus 0 tt)) (sign_makes c))))))
 
 -- ---- all tokens
 
-file_token : (k : TokenKind) → IsToken k → IsFileToken k
-file_token (kind.Name x) t = t
-file_token (kind.Literal n) t = t
-file_token k t = tt
+file_token : (language : Language) (k : TokenKind) → IsToken language k → IsFileToken language k
+file_token language (kind.Name x) t = t
+file_token language (kind.Literal n) t = t
+file_token language kind.Caret t = t
+file_token language k t = tt
 
-abbrev AreFileTokens : List Token → Type 0
-AreFileTokens ts = AllKinds IsFileToken (kinds ts)
+-- it is a token of all that goes on with it
+token_stays : (before more : List Token) (k : TokenKind) → IsFileToken (language_of before) k → IsFileToken (language_of (before ++ more)) k
+token_stays before more (kind.Name x) t = t
+token_stays before more (kind.Literal n) t = t
+token_stays before more kind.Caret t = carets_stay before more t
+token_stays before more k t = tt
 
-end_are : (line past : ℕ) (us : List Token) → AreFileTokens us → AreFileTokens (end_of line past ++ us)
-end_are line zero us given = given
-end_are line (suc n) us given = (tt, given)
+-- behind these they are tokens of one file
+abbrev AreBehind : List Token → List Token → Type 0
+AreBehind before ts = AllKinds (IsFileToken (language_of (before ++ ts))) (kinds ts)
 
-placed_are : (r : Result Item ScanFault) (at : Spot) (past : ℕ) (next : ℕ → Spot → ℕ → Result (List Token) Placed) → Makes r → ((skip : ℕ) (to : Spot) (end : ℕ) (us : List Token) → next skip to end ≡ Ok us → AreFileTokens us)
-    → (ts : List Token) → placed r at past next ≡ Ok ts → AreFileTokens ts
-placed_are (Err e) at past next makes go ts given = absurd cc
-placed_are (Ok item.NewLine) at past next makes go ts given =
-    let one = scan_ok (next 0 (below at) 0) (λ ts. Ok (end_of at.line past ++ ts)) ts given in
-    subst AreFileTokens (tokens_is _ ts one.2) (end_are at.line past one.0 (go 0 (below at) 0 one.0 one.1))
-placed_are (Ok (item.Gap more)) at past next makes go ts given = go more (right_of at 1) past ts given
-placed_are (Ok (item.Token k more)) at past next makes go ts given =
-    let one = scan_ok (next more (right_of at 1) (at.column + 1 + more)) (λ ts. Ok (record { at = at; kind = k } ∷ ts)) ts given in
-    subst AreFileTokens (tokens_is _ ts one.2) (file_token k (makes k more refl), go more (right_of at 1) (at.column + 1 + more) one.0 one.1)
+end_are : (language : Language) (line past : ℕ) (us : List Token) → AllKinds (IsFileToken language) (kinds us) → AllKinds (IsFileToken language) (kinds (end_of line past ++ us))
+end_are language line zero us given = given
+end_are language line (suc n) us given = (tt, given)
 
--- the tokens of a text are spelled so
-pub tokens_are : (cs : List ℕ) (skip : ℕ) (at : Spot) (past : ℕ) (ts : List Token) → scalars cs ≡ true → tokens_from cs skip at past ≡ Ok ts → AreFileTokens ts
+-- the same tokens, of which some more stand before
+shifted : (before here us : List Token) → AreBehind (before ++ here) us → AllKinds (IsFileToken (language_of (before ++ (here ++ us)))) (kinds us)
+shifted before here us given = subst (λ ts. AllKinds (IsFileToken (language_of ts)) (kinds us)) (append_assoc before here us) given
+
+placed_are : (before : List Token) (r : Result Item ScanFault) (at : Spot) (past : ℕ) (next : List Token → ℕ → Spot → ℕ → Result (List Token) Placed) → Makes before r
+    → ((front : List Token) (skip : ℕ) (to : Spot) (end : ℕ) (us : List Token) → next front skip to end ≡ Ok us → AreBehind front us)
+    → (ts : List Token) → placed before r at past next ≡ Ok ts → AreBehind before ts
+placed_are before (Err e) at past next makes go ts given = absurd cc
+placed_are before (Ok item.NewLine) at past next makes go ts given =
+    let here = end_of at.line past in
+    let one = scan_ok (next (before ++ here) 0 (below at) 0) (λ ts. Ok (here ++ ts)) ts given in
+    subst (AreBehind before) (tokens_is _ ts one.2) (end_are (language_of (before ++ (here ++ one.0))) at.line past one.0 (shifted before here one.0 (go (before ++ here) 0 (below at) 0 one.0 one.1)))
+placed_are before (Ok (item.Gap more)) at past next makes go ts given = go before more (right_of at 1) past ts given
+placed_are before (Ok (item.Token k more)) at past next makes go ts given =
+    let here : List Token = record { at = at; kind = k } ∷ [] in
+    let one = scan_ok (next (before ++ here) more (right_of at 1) (at.column + 1 + more)) (λ ts. Ok (record { at = at; kind = k } ∷ ts)) ts given in
+    subst (AreBehind before) (tokens_is _ ts one.2) (
+      token_stays before (here ++ one.0) k (file_token (language_of before) k (makes k more refl)),
+      shifted before here one.0 (go (before ++ here) more (right_of at 1) (at.column + 1 + more) one.0 one.1),
+    )
+
+-- the tokens of a text are spelled so, behind others
+pub tokens_are : (before : List Token) (cs : List ℕ) (skip : ℕ) (at : Spot) (past : ℕ) (ts : List Token) → scalars cs ≡ true → tokens_from before cs skip at past ≡ Ok ts → AreBehind before ts
 unfolding tokens_from
-tokens_are [] skip at zero ts scalar given = subst AreFileTokens (tokens_is _ ts given) tt
-tokens_are [] skip at (suc past) ts scalar given = subst AreFileTokens (tokens_is _ ts given) (tt, tt)
-tokens_are (c ∷ cs) (suc skip) at past ts scalar given = tokens_are cs skip (right_of at 1) past ts (and_second _ _ scalar) given
-tokens_are (c ∷ cs) zero at past ts scalar given =
-    placed_are (item_at c cs) at past (λ skip to end. tokens_from cs skip to end) (item_makes c cs scalar) (λ skip to end us e. tokens_are cs skip to end us (and_second _ _ scalar) e) ts given
+tokens_are before [] skip at zero ts scalar given = subst (AreBehind before) (tokens_is _ ts given) tt
+tokens_are before [] skip at (suc past) ts scalar given = subst (AreBehind before) (tokens_is _ ts given) (tt, tt)
+tokens_are before (c ∷ cs) (suc skip) at past ts scalar given = tokens_are before cs skip (right_of at 1) past ts (and_second _ _ scalar) given
+tokens_are before (c ∷ cs) zero at past ts scalar given =
+    placed_are before (item_at before c cs) at past (λ front skip to end. tokens_from front cs skip to end) (item_makes before c cs scalar)
+    (λ front skip to end us e. tokens_are front cs skip to end us (and_second _ _ scalar) e) ts given

@@ -1,5 +1,5 @@
 -- The tokens that are written of a tree are those of its statements without their places.
-use Rattle.std.proofs.Common.{◌≡◌, ℕ, Bool, true, false, List, [], ◌∷◌, ◌++◌, length, Option, Some, None, refl, sym, ap, ap₂, ◌∙◌, append_assoc}
+use Rattle.std.proofs.Common.{◌≡◌, ℕ, Bool, true, false, List, [], ◌∷◌, ◌++◌, Option, Some, None, refl, sym, ap, ap₂, ◌∙◌, append_assoc}
 use Rattle.std.specs.Prelude.{codes}
 use Rattle.std.specs.List.{flat_map}
 use Rattle.std.proofs.lemmas.List.{append-nil, map-append}
@@ -11,18 +11,18 @@ use Rattle.statement_tokens.specs.declared.token.TokenKind.TheVariants as kind
 use Rattle.statement_syntax.specs.declared.tree.Name.{Name}
 use Rattle.statement_syntax.specs.declared.tree.Number.{Number}
 use Rattle.statement_syntax.specs.declared.tree.Mark.{Mark}
-use Rattle.statement_syntax.specs.declared.tree.Mark.TheVariants.{Adjoint}
+use Rattle.statement_syntax.specs.declared.tree.Mark.TheVariants.{Adjoint, Power}
 use Rattle.statement_syntax.specs.declared.tree.Factor.{Factor}
 use Rattle.statement_syntax.specs.declared.tree.Term.{Term, out-roll-Term}
 use Rattle.statement_syntax.specs.declared.tree.Sum.{out-roll-Sum}
-use Rattle.statement_syntax.specs.declared.line.ListWord.TheVariants.{Object, Solve}
+use Rattle.statement_syntax.specs.declared.line.ListWord.TheVariants.{Object, Solve, Eliminate}
 use Rattle.statement_syntax.specs.declared.line.SidesWord.TheVariants.{Assume, Claim}
 use Rattle.statement_syntax.specs.declared.line.PairWord.TheVariants.{Pinv, Inverse, Inner}
 use Rattle.statement_syntax.specs.Nodes.{term_of, sum_of}
-use Rattle.statement_syntax.specs.Grammar.{Lead, no_sign, lead_plus, lead_minus, Sign, plus, minus, Expr, first, joined, Product, zero_alone, factors, Factors, one, beside, Marked, plain, marked, Prime, name, identity, bracket, sign_token, name_token, zero_at, lead_tokens, signed_token, literal_tokens, expr_tokens, product_tokens, factors_tokens, marked_tokens, prime_tokens, Ending, no_word, self_word, ending_tokens, names_tokens, pairs_tokens, Stated, listed, mapped, sides, paired, projected, by_degree, by_weight, modelled, stated_tokens}
+use Rattle.statement_syntax.specs.Grammar.{Lead, no_sign, lead_plus, lead_minus, Sign, plus, minus, Expr, first, joined, Product, zero_alone, factors, Factors, one, beside, Marked, plain, marked, raised, Prime, name, identity, bracket, sign_token, name_token, number_token, zero_at, lead_tokens, signed_token, literal_tokens, expr_tokens, product_tokens, factors_tokens, marked_tokens, prime_tokens, Ending, no_word, self_word, ending_tokens, names_tokens, pairs_tokens, Stated, listed, mapped, sides, paired, projected, by_degree, by_weight, modelled, second_language, stated_tokens}
 use Rattle.statement_syntax.specs.Tree.{prime_tree, marked_tree, front_trees, last_tree, product_tree, expr_terms, expr_tree, expr_at, is_minus, is_negative, literal_or, factors_at, is_self, stated_kind}
-use Rattle.statement_syntax.specs.Places.{somewhere, bare_name, bare_literal, bare_lead, bare_sign, bare, bare_product, bare_factors, bare_marked, bare_prime, bare_ending, bare_names, bare_pairs, bare_stated}
-use Rattle.statement_syntax.specs.Written.{name_kinds, number_kinds, literal_kinds, sign_kinds, quotes, primary_kinds, factor_kinds, term_kinds, sum_kinds, pair_kinds, self_kinds, sides_kinds, statement_kinds}
+use Rattle.statement_syntax.specs.Places.{somewhere, bare_name, bare_number, bare_literal, bare_lead, bare_sign, bare, bare_product, bare_factors, bare_marked, bare_prime, bare_ending, bare_names, bare_pairs, bare_stated}
+use Rattle.statement_syntax.specs.Written.{name_kinds, number_kinds, literal_kinds, sign_kinds, mark_kinds, primary_kinds, factor_kinds, term_kinds, sum_kinds, pair_kinds, self_kinds, sides_kinds, statement_kinds}
 use Rattle.statement_syntax.proofs.TreeKinds.{terms_of, term-flat, sum-flat}
 use Rattle.statement_syntax.proofs.Moved.{kinds}
 
@@ -37,9 +37,11 @@ term_of-kinds leading at negative l fs =
     term-flat leading (term_of at negative l fs)
     ∙ ap (λ r. sign_kinds leading r.negative ++ literal_kinds r.literal ++ flat_map factor_kinds r.factors) (out-roll-Term (record { at = at; negative = negative; literal = l; factors = fs }))
 
-quotes-append : (marks : List Mark) → quotes (length (marks ++ Adjoint ∷ [])) ≡ quotes (length marks) ++ kind.Quote ∷ []
-quotes-append [] = refl
-quotes-append (m ∷ marks) = ap (λ ks. kind.Quote ∷ ks) (quotes-append marks)
+-- a mark behind those of a factor
+mark_more : (f : Factor) (m : Mark) → primary_kinds f.primary ++ flat_map mark_kinds (f.marks ++ m ∷ []) ≡ factor_kinds f ++ mark_kinds m
+mark_more f m =
+    ap (λ ks. primary_kinds f.primary ++ ks) (flat_map-append mark_kinds f.marks (m ∷ []) ∙ ap (λ ks. flat_map mark_kinds f.marks ++ ks) (append-nil (mark_kinds m)))
+    ∙ sym (append_assoc (primary_kinds f.primary) (flat_map mark_kinds f.marks) (mark_kinds m))
 
 one_more : (fs : List Factor) (f : Factor) → flat_map factor_kinds (fs ++ f ∷ []) ≡ flat_map factor_kinds fs ++ factor_kinds f
 one_more fs f = flat_map-append factor_kinds fs (f ∷ []) ∙ ap (λ ks. flat_map factor_kinds fs ++ ks) (append-nil (factor_kinds f))
@@ -101,10 +103,13 @@ mutual
   marked-kinds : (f : Marked) → factor_kinds (marked_tree f) ≡ kinds (marked_tokens (bare_marked f))
   marked-kinds (plain p) = append-nil (primary_kinds (prime_tree p)) ∙ prime-kinds p
   marked-kinds (marked f at) =
-      ap (λ ks. primary_kinds (marked_tree f).primary ++ ks) (quotes-append (marked_tree f).marks)
-      ∙ sym (append_assoc (primary_kinds (marked_tree f).primary) (quotes (length (marked_tree f).marks)) (kind.Quote ∷ []))
+      mark_more (marked_tree f) Adjoint
       ∙ ap (λ ks. ks ++ kind.Quote ∷ []) (marked-kinds f)
       ∙ sym (kinds-append (marked_tokens (bare_marked f)) (sign_token kind.Quote somewhere ∷ []))
+  marked-kinds (raised f at n) =
+      mark_more (marked_tree f) (Power at n)
+      ∙ ap (λ ks. ks ++ kind.Caret ∷ kind.Literal n.value ∷ []) (marked-kinds f)
+      ∙ sym (kinds-append (marked_tokens (bare_marked f)) (sign_token kind.Caret somewhere ∷ number_token (bare_number n) ∷ []))
 
   prime-kinds : (p : Prime) → primary_kinds (prime_tree p) ≡ kinds (prime_tokens (bare_prime p))
   prime-kinds (name n) = refl
@@ -143,6 +148,7 @@ map_group a b c d e f g = simp (append_assoc) refl
 pub stated-kinds : (s : Stated) → statement_kinds (stated_kind s) ≡ kinds (stated_tokens (bare_stated s))
 stated-kinds (listed Object at n ns) = ap (λ ks. kind.Name (codes "object") ∷ kind.Name n.text ∷ ks) (names-kinds ns)
 stated-kinds (listed Solve at n ns) = ap (λ ks. kind.Name (codes "solve") ∷ kind.Name n.text ∷ ks) (names-kinds ns)
+stated-kinds (listed Eliminate at n ns) = ap (λ ks. kind.Name (codes "eliminate") ∷ kind.Name n.text ∷ ks) (names-kinds ns)
 stated-kinds (mapped at n ns colon s arrow t end) =
     map_group (kind.Name (codes "map")) (flat_map name_kinds (n ∷ ns)) (kind.Colon ∷ []) (name_kinds s) (kind.Arrow ∷ []) (name_kinds t) (self_kinds (is_self end))
     ∙ ap₂ (λ x y. kind.Name (codes "map") ∷ (x ++ (kind.Colon ∷ kind.Name s.text ∷ kind.Arrow ∷ kind.Name t.text ∷ y))) (names-kinds (n ∷ ns)) (self-kinds end)
@@ -156,3 +162,4 @@ stated-kinds (projected at n) = refl
 stated-kinds (by_degree at word) = refl
 stated-kinds (by_weight at word p ps) = ap (λ ks. kind.Name (codes "order") ∷ kind.Name (codes "weight") ∷ ks) (pairs-kinds (p ∷ ps))
 stated-kinds (modelled at m ps) = ap (λ ks. kind.Name (codes "model") ∷ kind.Literal m.value ∷ ks) (pairs-kinds ps)
+stated-kinds (second_language at number) = refl

@@ -1,10 +1,10 @@
 -- The tokens of a tree, by lists in place of rows.
-use Rattle.std.proofs.Common.{◌≡◌, Bool, true, false, List, [], ◌++◌, ◌∷◌, length, refl, sym, ap, ◌∙◌}
+use Rattle.std.proofs.Common.{◌≡◌, Bool, true, false, List, [], ◌++◌, ◌∷◌, refl, sym, ap, ◌∙◌}
 use Rattle.std.specs.List.{flat_map}
 use Rattle.statement_tokens.specs.declared.token.TokenKind.{TokenKind}
 use Rattle.statement_syntax.specs.declared.tree.Term.{Term, Term', out-Term, outs-Term', Row_of-Factor, end_of-Factor, more_of-Factor, items-the_row-Factor, items_shown-the_row-Factor-1}
 use Rattle.statement_syntax.specs.declared.tree.Sum.{Sum, Sum', out-Sum, outs-Sum', Row_of-Term, end_of-Term, more_of-Term, items-the_row-Term, items_shown-the_row-Term-0}
-use Rattle.statement_syntax.specs.Written.{literal_kinds, sign_kinds, quotes, primary_kinds, factor_kinds, factors_kinds, term_kinds, terms_kinds, sum_kinds}
+use Rattle.statement_syntax.specs.Written.{literal_kinds, sign_kinds, mark_kinds, primary_kinds, factor_kinds, factors_kinds, term_kinds, terms_kinds, sum_kinds}
 
 -- the tokens of terms, of which the first is the sum's first or not
 abbrev pub terms_of : Bool → List Term → List TokenKind
@@ -13,7 +13,7 @@ terms_of leading (t ∷ ts) = term_kinds leading t ++ terms_of false ts
 
 factors-flat : (n : _) (k : Row_of-Factor n) → factors_kinds k ≡ flat_map factor_kinds (items-the_row-Factor n k)
 factors-flat n end_of-Factor = refl
-factors-flat n (more_of-Factor at primary marks rest) = ap (λ x. (primary_kinds primary ++ quotes (length marks)) ++ x) (factors-flat _ rest)
+factors-flat n (more_of-Factor at primary marks rest) = ap (λ x. (primary_kinds primary ++ flat_map mark_kinds marks) ++ x) (factors-flat _ rest)
 
 terms-flat : (n : _) (leading : Bool) (k : Row_of-Term n) → terms_kinds leading k ≡ terms_of leading (items-the_row-Term n k)
 terms-flat n leading end_of-Term = refl

@@ -1,0 +1,165 @@
+//! Runs over statements of both languages.
+use crate::decided_rows::{BROKEN, CallRow, OTHERS, PROVED, PROVED_PLAINLY};
+use crate::gallery_rows::MOORE_PENROSE_UNIQUE;
+use crate::language_rows::{
+    ARITHMETIC, BEGINNINGS, EVIDENCE, FIRST_LINES, MAP_LIMITS, NUMBERS, ORDERS, POWERS, SIGNATURES,
+    Told, WRITTEN_OUT,
+};
+use crate::lemma_rows::LEMMAS;
+use crate::limit_tests::tell_limits;
+use crate::model_rows::{FAULTS, MODELS};
+use crate::test_rows::{EXAMPLES, JUDGED, REFUSED, Row};
+use crate::tests::{answer, tell};
+use std::alloc::{AllocError, Global};
+use std::process::Abort;
+use std::test::Fail;
+use std::thread::Threads;
+
+const PROVE: &[&str] = &["prove", "s"];
+
+// The first line of a file of the second language.
+const FIRST_LINE: &str = "language 2\n";
+
+// Asserts that `prove` answers so over each statement.
+fn tell_each<R: Threads + Sync + Abort>(rt: &R, alloc: Global, rows: &[Told]) -> Result<(), Fail> {
+    for (statement, want) in rows {
+        tell(rt, alloc, PROVE, statement, b"", want)?;
+    }
+    Ok(())
+}
+
+#[test]
+fn the_first_line_tells_the_language(rt: HostRuntime) -> Result<(), Fail> {
+    tell_each(&rt, rt.alloc(), BEGINNINGS)?;
+    tell_each(&rt, rt.alloc(), FIRST_LINES)
+}
+
+#[test]
+fn powers_are_read(rt: HostRuntime) -> Result<(), Fail> {
+    tell_each(&rt, rt.alloc(), POWERS)?;
+    tell_each(&rt, rt.alloc(), NUMBERS)?;
+    tell_each(&rt, rt.alloc(), SIGNATURES)
+}
+
+#[test]
+fn powers_are_products(rt: HostRuntime) -> Result<(), Fail> {
+    tell_each(&rt, rt.alloc(), ARITHMETIC)
+}
+
+#[test]
+fn maps_are_eliminated(rt: HostRuntime) -> Result<(), Fail> {
+    for (words, statement, want) in ORDERS {
+        tell(&rt, rt.alloc(), words, statement, b"", want)?;
+    }
+    for (word, statement, text, want) in EVIDENCE {
+        tell(&rt, rt.alloc(), &[*word, "s", "c"], statement, text, want)?;
+    }
+    Ok(())
+}
+
+#[test]
+fn a_file_has_the_maps_of_its_language(rt: HostRuntime) -> Result<(), Fail> {
+    tell_limits(&rt, rt.alloc(), MAP_LIMITS)
+}
+
+// A power is what it stands for: the report is that of the statement in which it is written out.
+#[test]
+fn powers_written_out_change_no_report(rt: HostRuntime) -> Result<(), Fail> {
+    for (words, short, long) in WRITTEN_OUT {
+        let want = answer(&rt, rt.alloc(), words, long, b"", &[])?;
+        tell(&rt, rt.alloc(), words, short, b"", want.as_str())?;
+    }
+    Ok(())
+}
+
+// The same statement behind the line that names the second language.
+fn renamed(alloc: Global, statement: &[u8]) -> Result<Vec<u8>, AllocError> {
+    let mut text = FIRST_LINE.as_bytes().to_vec(alloc)?;
+    text.extend_from_slice(statement)?;
+    Ok(text)
+}
+
+// A number so much greater.
+fn greater(alloc: Global, digits: &str, more: u32) -> Result<String, Fail> {
+    let number = digits.trim_end().parse::<u32>()?;
+    Ok(format!(in alloc; "{}", number.saturating_add(more))?)
+}
+
+// The answer behind that line: the place of a fault of the statement is a line further down, or as many bytes further on.
+fn moved(alloc: Global, told: &str) -> Result<String, Fail> {
+    let mut out = String::new(alloc);
+    let is_refused = told.starts_with("3 # refused S");
+    let mut before = "";
+    for (place, word) in told.split(' ').enumerate() {
+        out.push_str(if place > 0 { " " } else { "" })?;
+        match (is_refused, before) {
+            (true, "line") => out.push_str(greater(alloc, word, 1)?.as_str())?,
+            (true, "byte") => {
+                out.push_str(greater(alloc, word, FIRST_LINE.len() as u32)?.as_str())?;
+                out.push('\n')?;
+            }
+            _ => out.push_str(word)?,
+        }
+        before = word;
+    }
+    Ok(out)
+}
+
+// Asserts that the words answer the same behind the line that names the second language.
+fn tell_renamed<R: Threads + Sync + Abort>(
+    rt: &R,
+    alloc: Global,
+    words: &[&str],
+    rows: &[Row],
+) -> Result<(), Fail> {
+    for (statement, text, told) in rows {
+        let statement = renamed(alloc, statement)?;
+        let want = moved(alloc, told)?;
+        tell(rt, alloc, words, &statement, text, want.as_str())?;
+    }
+    Ok(())
+}
+
+#[test]
+fn evidence_is_judged_the_same_in_both_languages(rt: HostRuntime) -> Result<(), Fail> {
+    let alloc = rt.alloc();
+    for rows in [EXAMPLES, JUDGED, LEMMAS, REFUSED] {
+        tell_renamed(&rt, alloc, &["check", "s", "c"], rows)?;
+    }
+    for rows in [MODELS, FAULTS] {
+        tell_renamed(&rt, alloc, &["model", "s", "c"], rows)?;
+    }
+    Ok(())
+}
+
+// The same of calls over a statement alone.
+fn tell_calls_renamed<R: Threads + Sync + Abort>(
+    rt: &R,
+    alloc: Global,
+    rows: &[CallRow],
+) -> Result<(), Fail> {
+    for (words, statement, told) in rows {
+        let statement = renamed(alloc, statement)?;
+        let want = moved(alloc, told)?;
+        tell(rt, alloc, words, &statement, b"", want.as_str())?;
+    }
+    Ok(())
+}
+
+#[test]
+fn claims_are_decided_the_same_in_both_languages(rt: HostRuntime) -> Result<(), Fail> {
+    for rows in [PROVED, PROVED_PLAINLY, OTHERS, BROKEN] {
+        tell_calls_renamed(&rt, rt.alloc(), rows)?;
+    }
+    Ok(())
+}
+
+// Where a lone order of elimination leaves each comparison as it was, so does it leave the report.
+#[test]
+fn elimination_of_the_inverses_changes_no_report(rt: HostRuntime) -> Result<(), Fail> {
+    let alloc = rt.alloc();
+    let want = answer(&rt, alloc, PROVE, MOORE_PENROSE_UNIQUE, b"", &[])?;
+    let mut statement = renamed(alloc, MOORE_PENROSE_UNIQUE)?;
+    statement.extend_from_slice(b"eliminate a x y\n")?;
+    tell(&rt, alloc, PROVE, &statement, b"", want.as_str())
+}

@@ -1,0 +1,42 @@
+-- Carets are tokens of the second language alone, which the tokens of a file's first line tell.
+use Rattle.std.proofs.Common.{◌≡◌, ◌&&◌, List, [], ◌∷◌, ◌++◌, refl, ap, ◌∙◌}
+use Rattle.std.specs.Prelude.{if◌then◌else◌}
+use Rattle.statement_tokens.specs.declared.token.Token.{Token}
+use Rattle.statement_tokens.specs.declared.token.TokenKind.{TokenKind}
+use Rattle.statement_tokens.specs.declared.language.Language.{Language}
+use Rattle.statement_tokens.specs.declared.language.Language.TheVariants.{First, Second}
+use Rattle.statement_tokens.specs.Language.{is_language_word, is_two, is_end, language_of}
+use Rattle.statement_syntax.proofs.Moved.{kinds}
+
+-- a caret is a token of the language
+abbrev pub HasCarets : Language → Type 0
+HasCarets First = ⊥
+HasCarets Second = Unit {0}
+
+pub carets_second : (l : Language) → HasCarets l → l ≡ Second
+carets_second First has = absurd has
+carets_second Second has = refl
+
+-- where a caret is a token of the language, it is one behind these tokens
+abbrev pub Allows : Language → List Token → Type 0
+Allows language before = HasCarets language → HasCarets (language_of before)
+
+-- it stays one behind more tokens
+pub carets_stay : (before more : List Token) → HasCarets (language_of before) → HasCarets (language_of (before ++ more))
+carets_stay [] more has = absurd has
+carets_stay (a ∷ []) more has = absurd has
+carets_stay (a ∷ b ∷ []) more has = absurd has
+carets_stay (a ∷ b ∷ c ∷ before) more has = has
+
+-- the first three kinds tell the language
+pub language_by : (ts : List Token) (a b c : TokenKind) (ks : List TokenKind) → kinds ts ≡ a ∷ b ∷ c ∷ ks → language_of ts ≡ (if is_language_word a && is_two b && is_end c then Second else First)
+language_by [] a b c ks given = absurd cc
+language_by (t ∷ []) a b c ks given = absurd cc
+language_by (t ∷ u ∷ []) a b c ks given = absurd cc
+language_by (t ∷ u ∷ v ∷ ts) a b c ks given =
+    let one : t.kind ≡ a = cc in
+    let two : u.kind ≡ b = cc in
+    let three : v.kind ≡ c = cc in
+    ap (λ k. if is_language_word k && is_two u.kind && is_end v.kind then Second else First) one
+    ∙ ap (λ k. if is_language_word a && is_two k && is_end v.kind then Second else First) two
+    ∙ ap (λ k. if is_language_word a && is_two b && is_end k then Second else First) three
