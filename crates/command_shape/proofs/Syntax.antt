@@ -25,33 +25,33 @@ use Rattle.statement_syntax.proofs.FirstLine.{Behind, Divided, file_language, di
 use Rattle.statement_syntax.proofs.FileReads.{in_file, lines_run}
 use Rattle.statement_syntax.proofs.Stopping.{is_only}
 
--- the tokens of statements within the limit are read as them
+-- what is read of the tokens of statements within the limit is their tree
 module _ (bytes : List ℕ) (lines : List StatedLine) (is : IsStatements bytes lines) where
   abbrev tokens : List Token
   tokens = file_tokens lines
 
-  abbrev language : Language
-  language = language_of tokens
+  abbrev spoken : Language
+  spoken = language_of tokens
 
   abbrev before : List Statement
-  before = first_statements language tokens
+  before = first_statements spoken tokens
 
-  own : Divided language tokens
-  own = divided language tokens refl
+  own : Divided spoken tokens
+  own = divided spoken tokens refl
 
-  behind : Behind language own.lines lines (left tokens)
+  behind : Behind spoken own.lines lines (left tokens)
   behind =
-      let tells : is.language ≡ language = sym (file_language is.language lines is.speaks) in
+      let tells : is.language ≡ spoken = sym (file_language is.language lines is.speaks) in
       own.parts lines (subst (λ l. IsFileOf l lines) tells is.speaks) (left tokens) (sym own.are)
 
-  ran_by : Upto (FileFits behind.others) (run (file_step language) (begun tokens) (file_tokens behind.others)) (Ok (in_file (before ++ file_tree behind.others) line.Start))
+  ran_by : Upto (FileFits behind.others) (run (file_step spoken) (begun tokens) (file_tokens behind.others)) (Ok (in_file (before ++ file_tree behind.others) line.Start))
       → AllRead tokens (file_tree lines)
   ran_by (inl fits) =
-      (_, ap (run (file_step language) (begun tokens)) behind.are ∙ fits.1, behind.trees ∙ ap (λ x. x ++ file_tree behind.others) (sym own.trees))
+      (_, ap (run (file_step spoken) (begun tokens)) behind.are ∙ fits.1, behind.trees ∙ ap (λ x. x ++ file_tree behind.others) (sym own.trees))
   ran_by (inr deep) = absurd (deep.0 (behind.fits is.fits))
 
   ran : AllRead tokens (file_tree lines)
-  ran = ran_by (lines_run language before behind.others behind.speak)
+  ran = ran_by (lines_run spoken before behind.others behind.speak)
 
 same_tokens : (bytes : List ℕ) (ts us : List Token) → tokens_of (chars bytes) ≡ Ok ts → tokens_of (chars bytes) ≡ Ok us → ts ≡ us
 same_tokens bytes ts us one other = let both : (let r : Result (List Token) Placed = Ok ts in r) ≡ Ok us = sym one ∙ other in cc
