@@ -3,19 +3,38 @@ use Rattle.std.proofs.Common.{ℕ, Bool, true, false, cond, nat_eq, List, [], �
 use Rattle.quiver.specs.declared.named.Sig.{Sig}
 use Rattle.statement_tokens.specs.declared.place.Spot.{Spot}
 use Rattle.statement_syntax.specs.declared.tree.Mark.{Mark}
-use Rattle.statement_syntax.specs.declared.tree.Mark.TheVariants.{Adjoint}
+use Rattle.statement_syntax.specs.declared.tree.Mark.TheVariants.{Adjoint, Power}
 use Rattle.expressions.specs.declared.fault.SignatureFault.{SignatureFault}
 use Rattle.expressions.specs.declared.fault.SignatureFault.TheVariants.{NotComposable, SumMismatch}
-use Rattle.expressions.specs.Signatures.{HasObjects, from_to, same_ends, turned_by, marked_signature, product_step, sum_step}
+use Rattle.expressions.specs.Results.{◌>>=◌}
+use Rattle.expressions.specs.Signatures.{HasObjects, from_to, same_ends, is_repeated, repeated, mark_signature, marked_signature, product_step, sum_step}
 
 module _ (n : ℕ) where
-  objects-turned_by : (m : Mark) (s : Option Sig) → HasObjects n s → HasObjects n (turned_by m s)
-  objects-turned_by Adjoint None h = tt
-  objects-turned_by Adjoint (Some s) h = (h.1, h.0)
+  objects-repeated : (first caret : Spot) (s : Option Sig) → HasObjects n s → IfOk (repeated first caret s) (HasObjects n)
+  objects-repeated first caret None h = tt
+  objects-repeated first caret (Some s) h = go (nat_eq s.source.0 s.target.0)
+    where
+      go : (b : Bool) → IfOk {E = SignatureFault} (cond b (Ok (Some s)) (Err (NotComposable caret s s))) (HasObjects n)
+      go true = h
+      go false = tt
 
-  pub objects-marked_signature : (marks : List Mark) (s : Option Sig) → HasObjects n s → HasObjects n (marked_signature marks s)
-  objects-marked_signature [] s h = h
-  objects-marked_signature (m ∷ marks) s h = objects-marked_signature marks (turned_by m s) (objects-turned_by m s h)
+  objects-mark_signature : (first : Spot) (m : Mark) (s : Option Sig) → HasObjects n s → IfOk (mark_signature first m s) (HasObjects n)
+  objects-mark_signature first Adjoint None h = tt
+  objects-mark_signature first Adjoint (Some s) h = (h.1, h.0)
+  objects-mark_signature first (Power caret exponent) s h = go (is_repeated exponent.value)
+    where
+      go : (b : Bool) → IfOk (cond b (repeated first caret s) (Ok s)) (HasObjects n)
+      go true = objects-repeated first caret s h
+      go false = h
+
+  pub objects-marked_signature : (first : Spot) (marks : List Mark) (s : Option Sig) → HasObjects n s → IfOk (marked_signature first marks s) (HasObjects n)
+  objects-marked_signature first [] s h = h
+  objects-marked_signature first (m ∷ marks) s h = go (mark_signature first m s) (objects-mark_signature first m s h) (objects-marked_signature first marks)
+    where
+      go : (r : Result (Option Sig) SignatureFault) → IfOk r (HasObjects n) → ((next : Option Sig) → HasObjects n next → IfOk (marked_signature first marks next) (HasObjects n))
+          → IfOk (r >>= marked_signature first marks) (HasObjects n)
+      go (Ok next) k more = more next k
+      go (Err e) k more = tt
 
   pub objects-product_step : (so_far : Result (Option Sig) SignatureFault) (at : Spot) (next : Option Sig) → IfOk so_far (HasObjects n) → HasObjects n next → IfOk (product_step so_far at next) (HasObjects n)
   objects-product_step (Err e) at next h k = tt

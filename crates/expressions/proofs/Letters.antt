@@ -1,5 +1,5 @@
 -- What holds of all letters that an expression writes holds of all letters of its polynomial.
-use Rattle.std.proofs.Common.{◌≡◌, ◌<◌, ℕ, Bool, true, false, ◌||◌, List, [], ◌∷◌, ◌++◌, Option, Some, None, Ok, refl, subst, eq-eqb}
+use Rattle.std.proofs.Common.{◌≡◌, ◌<◌, ℕ, zero, suc, ℤ, pos, negsuc, Bool, true, false, ◌||◌, List, [], ◌∷◌, ◌++◌, replicate, Option, Some, None, Ok, refl, subst, eq-eqb}
 use Rattle.std.proofs.lemmas.Bool.{and_parts}
 use Rattle.std.proofs.lemmas.List.Elements.{All-from_recursion, recursion_from_All}
 use Rattle.std.specs.List.{All, AllByRecursion, list_any}
@@ -13,7 +13,7 @@ use Rattle.quiver.specs.declared.named.Named.TheVariants.{Object, Map}
 use Rattle.quiver.specs.Declarations.{Declaration, named_in, object_count, quiver_of, identity_in}
 use Rattle.quiver.proofs.Found.{is_named}
 use Rattle.statement_syntax.specs.declared.tree.Mark.{Mark}
-use Rattle.statement_syntax.specs.declared.tree.Mark.TheVariants.{Adjoint}
+use Rattle.statement_syntax.specs.declared.tree.Mark.TheVariants.{Adjoint, Power}
 use Rattle.statement_syntax.specs.declared.tree.Number.{Number}
 use Rattle.statement_syntax.specs.declared.tree.Primary.{Primary, Letter as letter, Identity, Bracket}
 use Rattle.statement_syntax.specs.declared.tree.Term.{Term, Term', Row_of-Factor, end_of-Factor, more_of-Factor}
@@ -21,7 +21,7 @@ use Rattle.statement_syntax.specs.declared.tree.Sum.{Sum, Sum', Row_of-Term, end
 use Rattle.expressions.specs.Results.{◌>>=◌}
 use Rattle.expressions.specs.Names.{is_map, is_object, letter_number, object_number, are_names, are_names_of_terms, are_names_of_term, are_names_of_factors, are_names_of_primary}
 use Rattle.expressions.specs.Occurrences.{is_adjoint, has_mark, has_mark_in_terms, has_mark_in_term, has_mark_in_factors, has_mark_in_primary, is_the_object, has_identity, has_identity_in_terms, has_identity_in_term, has_identity_in_factors, has_identity_in_primary}
-use Rattle.expressions.specs.Polynomials.{letter_poly, adjoint_by, marked_poly, product_from, product_poly, scaled_by, Summand, signed, sum_step, sum_from, total, sum_poly, summands, term_poly, factor_polys, primary_poly}
+use Rattle.expressions.specs.Polynomials.{letter_poly, power_poly, mark_poly, marked_poly, product_from, product_poly, scaled_by, Summand, signed, sum_step, sum_from, total, sum_poly, summands, term_poly, factor_polys, primary_poly}
 use Rattle.expressions.proofs.Sequences.{bound, same_value}
 use Rattle.expressions.proofs.Words.{Words, words-negated, words-sum, words-difference, words-multiple, words-collection, words-adjoint, words-product}
 
@@ -71,9 +71,18 @@ module _ (P : List ℕ → Type 0) where
         let step = bound _ (λ next. product_from next ps) r e in
         words-product_from step.value ps r (words-product P P P joined p q step.value h k.0 step.is) k.1 step.then
 
-    words-product_poly : (ps : List Poly) (r : Poly) → AllByRecursion (Words P) ps → product_poly ps ≡ Ok r → Words P r
+    pub words-product_poly : (ps : List Poly) (r : Poly) → AllByRecursion (Words P) ps → product_poly ps ≡ Ok r → Words P r
     words-product_poly [] r h e = subst (Words P) (same_value [] r e) tt
     words-product_poly (p ∷ ps) r h e = words-product_from p ps r h.0 h.1 e
+
+    words-copies : (n : ℕ) (p : Poly) → Words P p → AllByRecursion (Words P) (replicate n p)
+    words-copies zero p h = tt
+    words-copies (suc n) p h = (h, words-copies n p h)
+
+    pub words-power_poly : (exponent : ℤ) (p r : Poly) → Words P p → power_poly exponent p ≡ Ok r → Words P r
+    words-power_poly (pos (suc n)) p r h e = words-product_poly (replicate (suc n) p) r (words-copies (suc n) p h) e
+    words-power_poly (pos zero) p r h e = subst (Words P) (same_value p r e) h
+    words-power_poly (negsuc n) p r h e = subst (Words P) (same_value p r e) h
 
 -- ---- where a part occurs in the whole
 pub left_of : (a b : Bool) → a ≡ true → (a || b) ≡ true
@@ -100,18 +109,19 @@ module _ (ds : List Declaration) (L : ℕ → Type 0) (maps : (name : List ℕ) 
   over-adjoint_word closed [] h = tt
   over-adjoint_word closed (a ∷ w) h = all-append L (adjoint_word (quiver_of ds) w) (star (quiver_of ds) a ∷ []) (over-adjoint_word closed w h.1) (closed a h.0, tt)
 
-  pub over-adjoint_by : (m : Mark) → IsClosed → (p r : Poly) → Words Over p → adjoint_by (quiver_of ds) m p ≡ Ok r → Words Over r
-  over-adjoint_by Adjoint closed p r h e =
-      words-collection Over (adjoint_poly (quiver_of ds) p) r (words-adjoint Over Over (quiver_of ds) (over-adjoint_word closed) p h) e
+  over-append : (v w : List ℕ) → Over v → Over w → Over (v ++ w)
+  over-append v w h k = all-append L v w h k
+
+  pub over-mark_poly : (m : Mark) → (is_adjoint m ≡ true → IsClosed) → (p r : Poly) → Words Over p → mark_poly (quiver_of ds) m p ≡ Ok r → Words Over r
+  over-mark_poly Adjoint closed p r h e =
+      words-collection Over (adjoint_poly (quiver_of ds) p) r (words-adjoint Over Over (quiver_of ds) (over-adjoint_word (closed refl)) p h) e
+  over-mark_poly (Power at exponent) closed p r h e = words-power_poly Over over-append exponent.value p r h e
 
   over-marked_poly : (marks : List Mark) → (list_any is_adjoint marks ≡ true → IsClosed) → (p r : Poly) → Words Over p → marked_poly (quiver_of ds) marks p ≡ Ok r → Words Over r
   over-marked_poly [] closed p r h e = subst (Words Over) (same_value p r e) h
-  over-marked_poly (Adjoint ∷ marks) closed p r h e =
-      let step = bound (adjoint_by (quiver_of ds) Adjoint p) (marked_poly (quiver_of ds) marks) r e in
-      over-marked_poly marks (λ more. closed refl) step.value r (over-adjoint_by Adjoint (closed refl) p step.value h step.is) step.then
-
-  over-append : (v w : List ℕ) → Over v → Over w → Over (v ++ w)
-  over-append v w h k = all-append L v w h k
+  over-marked_poly (m ∷ marks) closed p r h e =
+      let step = bound (mark_poly (quiver_of ds) m p) (marked_poly (quiver_of ds) marks) r e in
+      over-marked_poly marks (λ more. closed (right_of _ _ more)) step.value r (over-mark_poly m (λ here. closed (left_of _ _ here)) p step.value h step.is) step.then
 
   over-letter : (o : Option Named) (name : List ℕ) → named_in ds name ≡ o → is_map o ≡ true → Words Over (letter_poly (letter_number o))
   over-letter None name e known = absurd (cc)

@@ -17,3 +17,4 @@ pub mod TypedParts
 pub mod Typed
 pub mod WordRuns
 pub mod TwoMarks
+pub mod Copies

@@ -13,8 +13,8 @@ use Rattle.quiver.proofs.Letters.{letter_is, in_range_from_table, star-quiver_of
 use Rattle.statement_syntax.specs.declared.tree.Mark.{Mark}
 use Rattle.statement_syntax.specs.declared.tree.Primary.{Primary}
 use Rattle.expressions.specs.Names.{are_names_of_primary}
-use Rattle.expressions.specs.Polynomials.{adjoint_by, primary_poly}
-use Rattle.expressions.proofs.Letters.{letters_by_places, letters_by_recursion, over-primary, over-adjoint_by}
+use Rattle.expressions.specs.Polynomials.{mark_poly, primary_poly}
+use Rattle.expressions.proofs.Letters.{letters_by_places, letters_by_recursion, over-primary, over-mark_poly}
 
 module _ (ds : List Declaration) (declared : IsDeclared ds) where
   pub star_in_range : (a : ℕ) → a < letter_count ds → star (quiver_of ds) a < letter_count ds
@@ -34,6 +34,6 @@ module _ (ds : List Declaration) (declared : IsDeclared ds) where
   pub in_range-primary : (x : Primary) (p : Poly) → are_names_of_primary ds x ≡ true → primary_poly ds x ≡ Ok p → AllOver p
   in_range-primary x p known e = letters_by_places IsLetter p (over-primary ds IsLetter maps_in_range x known (λ v below h. identity_in_range ds v below) (λ h. star_in_range) p e)
 
-  pub in_range-adjoint_by : (m : Mark) (p r : Poly) → AllOver p → adjoint_by (quiver_of ds) m p ≡ Ok r → AllOver r
-  in_range-adjoint_by m p r h e =
-      letters_by_places IsLetter r (over-adjoint_by ds IsLetter maps_in_range m star_in_range p r (letters_by_recursion IsLetter p h) e)
+  pub in_range-mark_poly : (m : Mark) (p r : Poly) → AllOver p → mark_poly (quiver_of ds) m p ≡ Ok r → AllOver r
+  in_range-mark_poly m p r h e =
+      letters_by_places IsLetter r (over-mark_poly ds IsLetter maps_in_range m (λ adjoint. star_in_range) p r (letters_by_recursion IsLetter p h) e)

@@ -8,7 +8,7 @@ use Rattle.statement_syntax.specs.declared.tree.Term.{Term, out-Term}
 use Rattle.statement_syntax.specs.declared.tree.Sum.{Sum, out-Sum}
 use Rattle.expressions.specs.declared.fault.SignatureFault.{SignatureFault}
 use Rattle.expressions.specs.Results.{◌>>=◌}
-use Rattle.expressions.specs.Signatures.{Part, product_from, product_signature, product_step, sum_from, sum_step, sum_signature, term_signature, term_at, factor_signature, marked_signature, primary_signature}
+use Rattle.expressions.specs.Signatures.{Part, product_from, product_signature, product_step, sum_from, sum_step, sum_signature, term_signature, term_at, factor_signature}
 use Rattle.expressions.proofs.Trees.{each, factor_part, term_part, signature-sum, signature-term, place-term}
 use Rattle.expressions.proofs.Sequences.{loop-next, loop-fault, loop-end}
 
@@ -36,13 +36,6 @@ module _ (ds : List Declaration) (s : Sum) (terms : List Term) (whole : terms �
         ∙ rest
 
 -- ---- a product
-part-of : (ds : List Declaration) (f : Factor) → factor_part ds f ≡ (factor_signature ds f >>= placed f.at)
-part-of ds f = go (primary_signature ds f.primary)
-  where
-    go : (r : Result (Option Sig) SignatureFault) → (r >>= λ s. placed f.at (marked_signature f.marks s)) ≡ ((r >>= λ s. Ok (marked_signature f.marks s)) >>= placed f.at)
-    go (Ok s) = refl
-    go (Err e) = refl
-
 -- of several factors none may be open
 several-factors : {A : Type 0} (f : A → Result Part SignatureFault) (xs : List A) → length xs ≢ 1 → (each f xs >>= product_signature) ≡ (each f xs >>= product_from (Ok None))
 several-factors f [] several = refl
@@ -67,7 +60,7 @@ only-factor ds t factors whole one f item = sym (signature-term ds t ∙ ap (λ 
     go : (fs : List Factor) → length fs ≡ 1 → f ≡ get_or fs 0 f → (each (factor_part ds) fs >>= product_signature) ≡ factor_signature ds f
     go [] n e = absurd (omega arith)
     go (g ∷ []) n e =
-        ap (λ h. (factor_part ds h >>= λ p. Ok (p ∷ [])) >>= product_signature) (sym e) ∙ ap (λ r. (r >>= λ p. Ok (p ∷ [])) >>= product_signature) (part-of ds f) ∙ alone (factor_signature ds f)
+        ap (λ h. (factor_part ds h >>= λ p. Ok (p ∷ [])) >>= product_signature) (sym e) ∙ alone (factor_signature ds f)
     go (g ∷ h ∷ fs) n e = absurd (omega arith)
 
 module _ (ds : List Declaration) (t : Term) (factors : List Factor) (whole : factors ≡ (out-Term t).factors) (several : length factors ≢ 1) (i : ℕ) (so_far : Result (Option Sig) SignatureFault)
@@ -80,9 +73,9 @@ module _ (ds : List Declaration) (t : Term) (factors : List Factor) (whole : fac
 
   module _ (f : Factor) (inside : i < length factors) (item : f ≡ get_or factors i f) where
     pub product-fault : (e : SignatureFault) → factor_signature ds f ≡ Err e → Err e ≡ term_signature ds t
-    product-fault e fault = sym (product_is ∙ loop-fault (factor_part ds) (product_from so_far) factors i f inside item e (part-of ds f ∙ ap (λ r. r >>= placed f.at) fault))
+    product-fault e fault = sym (product_is ∙ loop-fault (factor_part ds) (product_from so_far) factors i f inside item e (ap (λ r. r >>= placed f.at) fault))
 
     pub product-next : (s : Option Sig) → factor_signature ds f ≡ Ok s → (each (factor_part ds) (drop (i + 1) factors) >>= product_from (product_step so_far f.at s)) ≡ (each (factor_part ds) factors >>= product_from (Ok None))
     product-next s ok =
-        loop-next (factor_part ds) (product_from so_far) factors i f inside item (f.at, s) (part-of ds f ∙ ap (λ r. r >>= placed f.at) ok)
+        loop-next (factor_part ds) (product_from so_far) factors i f inside item (f.at, s) (ap (λ r. r >>= placed f.at) ok)
         ∙ rest

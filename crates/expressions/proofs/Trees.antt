@@ -31,7 +31,7 @@ abbrev pub has_identity_in_factor : List Declaration → ℕ → Factor → Bool
 has_identity_in_factor ds v f = has_identity_in_primary ds v f.primary
 
 abbrev pub factor_part : List Declaration → Factor → Result signatures.Part SignatureFault
-factor_part ds f = signatures.primary_signature ds f.primary >>= λ s. Ok (f.at, signatures.marked_signature f.marks s)
+factor_part ds f = signatures.factor_signature ds f >>= λ s. Ok (f.at, s)
 
 abbrev pub term_part : List Declaration → Term → Result signatures.Part SignatureFault
 term_part ds t = signatures.term_signature ds t >>= λ s. Ok (signatures.term_at t, s)
@@ -111,7 +111,7 @@ identity-sum ds v (Sum' at shape terms) = identity-terms ds v _ terms ∙ of_sum
 parts-factors : (ds : List Declaration) (n : _) (k : Row_of-Factor n) → signatures.factors_parts ds k ≡ each (factor_part ds) (items-the_row-Factor n k)
 parts-factors ds n end_of-Factor = refl
 parts-factors ds n (more_of-Factor at primary marks rest) =
-    ap (λ r. (signatures.primary_signature ds primary >>= λ s. Ok (at, signatures.marked_signature marks s)) >>= λ part. r >>= λ parts. Ok (part ∷ parts)) (parts-factors ds _ rest)
+    ap (λ r. ((signatures.primary_signature ds primary >>= signatures.marked_signature at marks) >>= λ s. Ok (at, s)) >>= λ part. r >>= λ parts. Ok (part ∷ parts)) (parts-factors ds _ rest)
 
 parts-terms : (ds : List Declaration) (n : _) (k : Row_of-Term n) → signatures.terms_parts ds k ≡ each (term_part ds) (items-the_row-Term n k)
 parts-terms ds n end_of-Term = refl

@@ -1,8 +1,8 @@
 -- Two marks change nothing: the adjoint of an adjoint is the polynomial itself, and none of them is a fault.
-use Rattle.std.proofs.Common.{◌≡◌, ◌≢◌, ℕ, zero, suc, ◌+◌, ◌<◌, ◌≤◌, ◌⊎◌, inl, inr, pos, negsuc, ℤ, ◌+ℤ◌, false, cond, List, [], ◌∷◌, ◌++◌, ◌-◌, length, map, take, drop, None, Ok, sym, refl, ap, ap₂, subst, ◌∙◌, arith, append_assoc}
+use Rattle.std.proofs.Common.{◌≡◌, ◌≢◌, ℕ, zero, suc, ◌+◌, ◌<◌, ◌≤◌, ◌⊎◌, inl, inr, pos, negsuc, ℤ, ◌+ℤ◌, false, cond, List, [], ◌∷◌, ◌++◌, length, map, None, Ok, sym, refl, ap, ap₂, subst, ◌∙◌, arith, append_assoc}
 use Rattle.std.proofs.Math.IntN.{+ℤ_idl}
 use Rattle.std.proofs.lemmas.Bool.{cases_lt}
-use Rattle.std.proofs.lemmas.List.{length-append, length-map, get_or_past, take_all}
+use Rattle.std.proofs.lemmas.List.{length-append, length-map, get_or_past}
 use Rattle.std.proofs.lemmas.List.Elements.{All-from_recursion, recursion_from_All}
 use Rattle.std.specs.Cmp.{both_ways}
 use Rattle.std.specs.List.{AllByRecursion}
@@ -171,13 +171,7 @@ module _ (ds : List Declaration) (declared : IsDeclared ds) where
   turned_twice (a ∷ w) =
       adjoint_word-append (quiver_of ds) (adjoint_word (quiver_of ds) w) (star (quiver_of ds) a ∷ []) ∙ ap₂ ◌∷◌ (star_star a) (turned_twice w)
 
-  pub two-marks : (m n : Mark) (more : List Mark) (p : Poly) → IsCanonical p → marked_poly (quiver_of ds) (m ∷ n ∷ more) p ≡ marked_poly (quiver_of ds) more p
-  two-marks Adjoint Adjoint more p canonical =
+  pub two-adjoints : (more : List Mark) (p : Poly) → IsCanonical p → marked_poly (quiver_of ds) (Adjoint ∷ Adjoint ∷ more) p ≡ marked_poly (quiver_of ds) more p
+  two-adjoints more p canonical =
       ap (λ r. r >>= marked_poly (quiver_of ds) (Adjoint ∷ more)) (adjoint-fits (quiver_of ds) turned_twice p canonical)
       ∙ ap (λ r. r >>= marked_poly (quiver_of ds) more) (adjoint-twice (quiver_of ds) turned_twice p canonical)
-
-  pub marks-behind : (marks : List Mark) → 2 ≤ length marks → (p : Poly) → IsCanonical p → marked_poly (quiver_of ds) (take (length marks - 2) (drop 2 marks)) p ≡ marked_poly (quiver_of ds) marks p
-  marks-behind [] two p canonical = absurd (omega arith)
-  marks-behind (m ∷ []) two p canonical = absurd (omega arith)
-  marks-behind (m ∷ n ∷ more) two p canonical =
-      ap (λ ms. marked_poly (quiver_of ds) ms p) (take_all (length (m ∷ n ∷ more) - 2) more (omega arith)) ∙ sym (two-marks m n more p canonical)

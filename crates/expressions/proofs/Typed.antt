@@ -20,9 +20,9 @@ use Rattle.expressions.specs.declared.fault.SignatureFault.TheVariants.{SumMisma
 use Rattle.expressions.specs.Results.{◌>>=◌}
 use Rattle.expressions.specs.Names.{is_map, is_object, letter_number, object_number, letter_of, object_of, are_names, are_names_of_terms, are_names_of_term, are_names_of_factors, are_names_of_primary}
 use Rattle.expressions.specs.Signatures as signatures
-use Rattle.expressions.specs.Signatures.{Part, from_to, letter_signature, same_ends, turned_by, marked_signature, sides_signature, equation_signature, sum_at}
+use Rattle.expressions.specs.Signatures.{Part, from_to, letter_signature, same_ends, marked_signature, sides_signature, equation_signature, sum_at}
 use Rattle.expressions.specs.Polynomials as polynomials
-use Rattle.expressions.specs.Polynomials.{letter_poly, adjoint_by, marked_poly, scaled_by, Summand, signed, equation_poly}
+use Rattle.expressions.specs.Polynomials.{letter_poly, marked_poly, scaled_by, Summand, signed, equation_poly}
 use Rattle.expressions.specs.Laws.{EquationsAreTyped}
 use Rattle.expressions.proofs.Sequences.{bound, same_value}
 use Rattle.expressions.proofs.Words.{Words, weaker, words-difference}
@@ -93,13 +93,14 @@ module _ (ds : List Declaration) (declared : IsDeclared ds) (first : ObjectsFirs
         let names = and_parts (are_names_of_primary ds primary) (are_names_of_factors ds rest) known in
         let part = bound _ (λ x. signatures.factors_parts ds rest >>= λ xs. Ok (x ∷ xs)) parts e in
         let later_parts = bound (signatures.factors_parts ds rest) (λ xs. Ok (part.value ∷ xs)) parts part.then in
-        let signature = bound (signatures.primary_signature ds primary) _ part.value part.is in
+        let marked_part = bound (signatures.primary_signature ds primary >>= marked_signature at marks) _ part.value part.is in
+        let signature = bound (signatures.primary_signature ds primary) (marked_signature at marks) marked_part.value marked_part.is in
         let poly = bound _ (λ x. polynomials.factor_polys ds rest >>= λ xs. Ok (x ∷ xs)) ps d in
         let later_polys = bound (polynomials.factor_polys ds rest) (λ xs. Ok (poly.value ∷ xs)) ps poly.then in
         let inner = bound (polynomials.primary_poly ds primary) (marked_poly q marks) poly.value poly.is in
         let here : Typed signature.value inner.value = typed-primary primary names.0 signature.value signature.is inner.value inner.is in
-        let marked : Typed (marked_signature marks signature.value) poly.value = typed-marked q quiver marks signature.value inner.value poly.value here inner.then in
-        let placed : Typed part.value.1 poly.value = subst (λ x. Typed x.1 poly.value) (same_value _ part.value signature.then) marked in
+        let marked : Typed marked_part.value poly.value = typed-marked q quiver at marks signature.value marked_part.value inner.value poly.value here signature.then inner.then in
+        let placed : Typed part.value.1 poly.value = subst (λ x. Typed x.1 poly.value) (same_value _ part.value marked_part.then) marked in
         let later = typed-factors rest names.1 later_parts.value later_parts.is later_polys.value later_polys.is in
         subst (λ x. AreFactors q x ps) (same_value _ parts later_parts.then) (subst (λ y. AreFactors q (part.value ∷ later_parts.value) y) (same_value _ ps later_polys.then) (placed, later))
 

@@ -1,6 +1,7 @@
 -- The words of sums, products and adjoints are paths of their signatures.
-use Rattle.std.proofs.Common.{◌≡◌, ◌<◌, ℕ, Bool, true, false, cond, nat_eq, List, [], ◌∷◌, ◌++◌, Option, Some, None, Result, Ok, Err, refl, sym, ap, ap₂, subst, ◌∙◌, eqb-true, eq-eqb, lt-ltb}
+use Rattle.std.proofs.Common.{◌≡◌, ◌<◌, ℕ, zero, suc, ℤ, pos, negsuc, Bool, true, false, cond, nat_eq, List, [], ◌∷◌, ◌++◌, Option, Some, None, Result, Ok, Err, refl, sym, ap, ap₂, subst, ◌∙◌, eqb-true, eq-eqb, lt-ltb}
 use Rattle.std.proofs.lemmas.Bool.{and_parts, and_from}
+use Rattle.std.specs.Option.{option_map}
 use Rattle.definitions.specs.Poly.{Poly}
 use Rattle.definitions.specs.Quiver.{Quiver, IsQuiver, letters, source, target, is_path}
 use Rattle.definitions.specs.Generators.{adjoint_word, adjoint_poly}
@@ -10,16 +11,16 @@ use Rattle.nc_polynomial.specs.Product.{product_result}
 use Rattle.quiver.specs.declared.named.Sig.{Sig}
 use Rattle.statement_tokens.specs.declared.place.Spot.{Spot}
 use Rattle.statement_syntax.specs.declared.tree.Mark.{Mark}
-use Rattle.statement_syntax.specs.declared.tree.Mark.TheVariants.{Adjoint}
+use Rattle.statement_syntax.specs.declared.tree.Mark.TheVariants.{Adjoint, Power}
 use Rattle.expressions.specs.declared.fault.SignatureFault.{SignatureFault}
 use Rattle.expressions.specs.declared.fault.SignatureFault.TheVariants.{NotComposable, SumMismatch}
 use Rattle.expressions.specs.Signatures as signatures
-use Rattle.expressions.specs.Signatures.{Part, from_to, letter_signature, same_ends, turned_by, marked_signature, sides_signature, equation_signature, sum_at}
+use Rattle.expressions.specs.Signatures.{Part, from_to, letter_signature, same_ends, turned, is_repeated, repeated, mark_signature, marked_signature, sides_signature, equation_signature, sum_at}
 use Rattle.expressions.specs.Polynomials as polynomials
-use Rattle.expressions.specs.Polynomials.{letter_poly, adjoint_by, marked_poly, scaled_by, Summand, signed, equation_poly}
+use Rattle.expressions.specs.Polynomials.{letter_poly, power_poly, mark_poly, marked_poly, scaled_by, Summand, signed, equation_poly}
 use Rattle.expressions.proofs.Sequences.{bound, same_value}
 use Rattle.expressions.proofs.Words.{Words, weaker, words-collection, words-adjoint, words-product}
-use Rattle.expressions.proofs.Letters.{words-signed, words-sum_step}
+use Rattle.expressions.proofs.Letters.{words-signed, words-sum_step, words-power_poly}
 
 pub no_fault : {A : Type 0} (x : A) (f : SignatureFault) → ◌≡◌ {A = Result A SignatureFault} (Err f) (Ok x) → ⊥
 no_fault x f h = cc
@@ -154,14 +155,55 @@ module _ (q : Quiver) where
       go (Some s) rest factor = typed-product_from s p (next ∷ parts) ps o r factor k.1 rest d
 
   -- ---- marks
-  turned-path : IsQuiver q → (m : Mark) (s : Option Sig) (w : List ℕ) → IsPathOf s w → IsPathOf (turned_by m s) (adjoint_word q w)
-  turned-path quiver Adjoint None w h = h
-  turned-path quiver Adjoint (Some s) w h = is_path-adjoint_word q quiver s.source.0 s.target.0 w h
+  turned-path : IsQuiver q → (s : Option Sig) (w : List ℕ) → IsPathOf s w → IsPathOf (option_map turned s) (adjoint_word q w)
+  turned-path quiver None w h = h
+  turned-path quiver (Some s) w h = is_path-adjoint_word q quiver s.source.0 s.target.0 w h
 
-  pub typed-marked : IsQuiver q → (marks : List Mark) (s : Option Sig) (p r : Poly) → Words (IsPathOf s) p → marked_poly q marks p ≡ Ok r → Words (IsPathOf (marked_signature marks s)) r
-  typed-marked quiver [] s p r h e = subst (Words (IsPathOf s)) (same_value p r e) h
-  typed-marked quiver (Adjoint ∷ marks) s p r h e =
-      let step = bound (adjoint_by q Adjoint p) (marked_poly q marks) r e in
-      typed-marked quiver marks (turned_by Adjoint s) step.value r
-      (words-collection (IsPathOf (turned_by Adjoint s)) (adjoint_poly q p) step.value (words-adjoint (IsPathOf s) (IsPathOf (turned_by Adjoint s)) q (turned-path quiver Adjoint s) p h) step.is)
-      step.then
+  -- what leads from an object to itself is repeated along paths
+  repeated-path : (first caret : Spot) (s o : Option Sig) → repeated first caret s ≡ Ok o → (v w : List ℕ) → IsPathOf o v → IsPathOf o w → IsPathOf o (v ++ w)
+  repeated-path first caret None o e v w h k = absurd (no_fault o _ e)
+  repeated-path first caret (Some s) o e v w h k = go (nat_eq s.source.0 s.target.0) refl e
+    where
+      joined : s.source.0 ≡ s.target.0 → IsPathOf (Some s) v → IsPathOf (Some s) w → IsPathOf (Some s) (v ++ w)
+      joined meet on_left on_right = path-append s.source.0 s.source.0 s.target.0 v w on_left (subst (λ x. is_path q s.source.0 x w ≡ true) (sym meet) on_right)
+
+      go : (b : Bool) → nat_eq s.source.0 s.target.0 ≡ b → cond b (Ok (Some s)) (Err (NotComposable caret s s)) ≡ Ok o → IsPathOf o (v ++ w)
+      go true meet r =
+          let same = same_value (Some s) o r in
+          let back = λ (x : List ℕ) (path : IsPathOf o x). subst (λ t. IsPathOf t x) (sym same) path in
+          subst (λ t. IsPathOf t (v ++ w)) same (joined (eqb-true s.source.0 s.target.0 meet) (back v h) (back w k))
+      go false meet r = absurd (no_fault o _ r)
+
+  repeated-same : (first caret : Spot) (s o : Option Sig) → repeated first caret s ≡ Ok o → s ≡ o
+  repeated-same first caret None o e = absurd (no_fault o _ e)
+  repeated-same first caret (Some s) o e = go (nat_eq s.source.0 s.target.0) e
+    where
+      go : (b : Bool) → cond b (Ok (Some s)) (Err (NotComposable caret s s)) ≡ Ok o → Some s ≡ o
+      go true r = same_value (Some s) o r
+      go false r = absurd (no_fault o _ r)
+
+  -- an exponent that repeats nothing
+  power-once : (exponent : ℤ) (p : Poly) → is_repeated exponent ≡ false → power_poly exponent p ≡ Ok p
+  power-once (pos zero) p h = refl
+  power-once (pos (suc zero)) p h = refl
+  power-once (pos (suc (suc n))) p h = absurd (cc)
+  power-once (negsuc n) p h = refl
+
+  typed-mark : IsQuiver q → (first : Spot) (m : Mark) (s o : Option Sig) (p r : Poly) → Words (IsPathOf s) p → mark_signature first m s ≡ Ok o → mark_poly q m p ≡ Ok r → Words (IsPathOf o) r
+  typed-mark quiver first Adjoint s o p r h e d =
+      subst (λ t. Words (IsPathOf t) r) (same_value (option_map turned s) o e)
+      (words-collection (IsPathOf (option_map turned s)) (adjoint_poly q p) r (words-adjoint (IsPathOf s) (IsPathOf (option_map turned s)) q (turned-path quiver s) p h) d)
+  typed-mark quiver first (Power caret exponent) s o p r h e d = go (is_repeated exponent.value) refl e
+    where
+      go : (b : Bool) → is_repeated exponent.value ≡ b → cond b (repeated first caret s) (Ok s) ≡ Ok o → Words (IsPathOf o) r
+      go true again k =
+          words-power_poly (IsPathOf o) (repeated-path first caret s o k) exponent.value p r (subst (λ t. Words (IsPathOf t) p) (repeated-same first caret s o k) h) d
+      go false once k =
+          subst (Words (IsPathOf o)) (same_value p r (sym (power-once exponent.value p once) ∙ d)) (subst (λ t. Words (IsPathOf t) p) (same_value s o k) h)
+
+  pub typed-marked : IsQuiver q → (first : Spot) (marks : List Mark) (s o : Option Sig) (p r : Poly) → Words (IsPathOf s) p → marked_signature first marks s ≡ Ok o → marked_poly q marks p ≡ Ok r → Words (IsPathOf o) r
+  typed-marked quiver first [] s o p r h e d = subst (λ t. Words (IsPathOf t) r) (same_value s o e) (subst (Words (IsPathOf s)) (same_value p r d) h)
+  typed-marked quiver first (m ∷ marks) s o p r h e d =
+      let signature = bound (mark_signature first m s) (marked_signature first marks) o e in
+      let poly = bound (mark_poly q m p) (marked_poly q marks) r d in
+      typed-marked quiver first marks signature.value o poly.value r (typed-mark quiver first m s signature.value p poly.value h signature.is poly.is) signature.then poly.then

@@ -7,6 +7,7 @@ mod laws;
 mod names;
 mod occurrence;
 mod polynomial;
+mod powers;
 mod signature;
 
 pub use fault::SignatureFault;

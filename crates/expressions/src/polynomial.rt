@@ -1,25 +1,21 @@
 //! The polynomial of an expression, or the first fault of its arithmetic.
 ghost use Rattle.std.specs.Prelude.{◌≡◌, ◌<◌, [], ◌∷◌, pos, map, MatchResult, Ok, Err, IfOk, IfErr, IfSome, IsTrue, OnOk};
-ghost use Rattle.std.specs.List.{All};
-ghost use Rattle.definitions.specs.Generators.{adjoint_poly};
-ghost use Rattle.word_core.specs.Letters.{IsOver};
 ghost use Rattle.nc_polynomial.specs.Arithmetic.{multiple_result};
-ghost use Rattle.nc_polynomial.specs.Collected.{collection_result};
 ghost use Rattle.nc_polynomial.specs.Faults.{Explains, IsMemory};
 ghost use Rattle.nc_polynomial.specs.Shape.{IsCanonical};
-ghost use Rattle.quiver.specs.Declarations.{letter_count, quiver_of, identity_in, IsDeclared};
+ghost use Rattle.quiver.specs.Declarations.{quiver_of, identity_in, IsDeclared};
 ghost use Rattle.expressions.specs.Names.{AreNames, are_names_of_term, are_names_of_primary, letter_of, object_of};
 ghost use Rattle.expressions.specs.Begun.{product_begun, product_followed};
-ghost use Rattle.expressions.specs.Polynomials.{letter_poly, adjoint_by, marked_poly, product_poly, scaled_by, signed, sum_step, total, sum_poly, term_poly, factor_poly, primary_poly, equation_poly};
+ghost use Rattle.expressions.specs.Polynomials.{letter_poly, marked_poly, product_poly, scaled_by, signed, sum_step, total, sum_poly, term_poly, factor_poly, primary_poly, equation_poly};
 
 use crate::added::add;
 use crate::names::{letter_of, object_of};
-use adjoint_rules::adjoint_word;
+use crate::powers::marked;
 use coef_int::Overflow;
 use lists::Listing;
 use nc_polynomial::{Poly, PolyFault, RunningSum, WORD_LIMIT, negate_terms};
 use quiver::{OBJECT_LIMIT, Quiver};
-use statement_syntax::{Factor, Mark, Number, Primary, Sum, Term};
+use statement_syntax::{Factor, Number, Primary, Sum, Term};
 use std::alloc::{AllocError, Global};
 use word_core::{Letter, Word};
 
@@ -254,22 +250,6 @@ fn factor_poly(alloc: Global, quiver: &Quiver, factor: &Factor) -> Result<Poly, 
     marked(alloc, quiver, factor.marks.as_slice(), poly)
 }
 
-// The polynomial with these marks behind it. Two marks change nothing, so that one is left at most.
-fn marked(alloc: Global, quiver: &Quiver, marks: &[Mark], poly: Poly) -> Result<Poly, PolyFault>
-    requires declared { IsDeclared quiver.now }
-    requires letters { All (λ t. IsOver (letter_count quiver.now) t.1) poly.terms }
-    ensures { MatchResult result (λ p. marked_poly (quiver_of quiver.now) marks.now poly.terms ≡ Ok p.terms) (Explains (marked_poly (quiver_of quiver.now) marks.now poly.terms)) }
-{
-    let mut rest = marks;
-    while let [_, _, more @ ..] = rest {
-        rest = more;
-    }
-    match rest {
-        [] => Ok(poly),
-        [mark, ..] => adjoint_by(alloc, quiver, mark, &poly),
-    }
-}
-
 #[cycle(polys)]
 fn primary_poly(alloc: Global, quiver: &Quiver, primary: &Primary) -> Result<Poly, PolyFault>
     requires declared { IsDeclared quiver.now }
@@ -295,25 +275,4 @@ fn letter_poly(alloc: Global, letter: Letter) -> Result<Poly, PolyFault>
     let mut terms = Listing::with_room(alloc, 1)?;
     terms.push((1, word))?;
     Ok(Poly { terms })
-}
-
-// A mark reverses the words and takes the adjoints of their letters.
-fn adjoint_by(alloc: Global, quiver: &Quiver, mark: &Mark, poly: &Poly) -> Result<Poly, PolyFault>
-    requires { All (λ t. IsOver (letter_count quiver.now) t.1) poly.now.terms }
-    ensures { MatchResult result (λ p. adjoint_by (quiver_of quiver.now) mark.now poly.now.terms ≡ Ok p.terms) (Explains (adjoint_by (quiver_of quiver.now) mark.now poly.now.terms)) }
-{
-    match mark {
-        Mark::Adjoint => adjoint(alloc, quiver, poly),
-    }
-}
-
-fn adjoint(alloc: Global, quiver: &Quiver, poly: &Poly) -> Result<Poly, PolyFault>
-    requires { All (λ t. IsOver (letter_count quiver.now) t.1) poly.now.terms }
-    ensures { MatchResult result (λ p. collection_result (adjoint_poly (quiver_of quiver.now) poly.now.terms) ≡ Ok p.terms) (Explains (collection_result (adjoint_poly (quiver_of quiver.now) poly.now.terms))) }
-{
-    let mut terms = Vec::new(alloc);
-    for term in poly.terms.as_slice() {
-        terms.push((term.0, adjoint_word(alloc, quiver, &term.1)?))?;
-    }
-    Poly::from_terms(alloc, terms.as_slice())
 }

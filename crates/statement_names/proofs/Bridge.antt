@@ -10,7 +10,6 @@ use Rattle.std.proofs.lemmas.List.{append-nil}
 use Rattle.std.proofs.lemmas.List.Sums.{sum_by_push}
 use Rattle.quiver.specs.Limits.{object_limit}
 use Rattle.adjoint_rules.specs.Limits.{assumption_limit, claim_limit, shape_limit}
-use Rattle.statement_names.specs.Limits.{file_map_limit}
 use Rattle.statement_names.specs.declared.fault.NameFault.{NameFault}
 use Rattle.statement_names.specs.declared.fault.NameFault.TheVariants.{Unknown, Double, TooMany, NotSquare}
 use Rattle.statement_names.specs.declared.kinds.Kind.{Kind}
@@ -57,31 +56,33 @@ new_then_room true x rest e = absurd (cc)
 new_then_room false x rest e = e
 
 -- ---- a survey of what stands before
-pub record Agrees (kind : List ℕ → Option Kind) (before : List Occurrence) (s : Survey) : Type 0 where
+pub record Agrees (most_maps : ℕ) (kind : List ℕ → Option Kind) (before : List Occurrence) (s : Survey) : Type 0 where
   pub kinds : (name : List ℕ) → kind_in s.kinds name ≡ kind name
   pub declared : s.declared ≡ declared_in before
   pub objects : s.objects + sum_by objects_by before ≡ object_limit
-  pub maps : s.maps + sum_by maps_by before ≡ file_map_limit
+  pub map_limit : s.map_limit ≡ most_maps
+  pub maps : s.maps + sum_by maps_by before ≡ most_maps
   pub orders : s.orders + sum_by orders_by before ≡ 1
   pub assumptions : s.assumptions + sum_by assumptions_by before ≡ assumption_limit
   pub claims : s.claims + sum_by claims_by before ≡ claim_limit
   pub shapes : s.shapes + sum_by shapes_by before ≡ shape_limit
 
-module _ (kind : List ℕ → Option Kind) (before : List Occurrence) (s : Survey) (agrees : Agrees kind before s) where
+module _ (most_maps : ℕ) (kind : List ℕ → Option Kind) (before : List Occurrence) (s : Survey) (agrees : Agrees most_maps kind before s) where
   two_same : (u v : List ℕ) → are_two_objects (kind_in s.kinds) u v ≡ are_two_objects kind u v
   two_same u v = ap₂ (λ x y. is_kind x Object && (is_kind y Object && not (bytes_eq u v))) (agrees.kinds u) (agrees.kinds v)
 
   is_declared_same : (name : List ℕ) → is_some (kind_in s.declared name) ≡ is_some (kind_in (declared_in before) name)
   is_declared_same name = ap (λ ds. is_some (kind_in ds name)) agrees.declared
 
-  fault_same : (o : Occurrence) → fault_at s o ≡ fault_behind kind before o
+  fault_same : (o : Occurrence) → fault_at s o ≡ fault_behind most_maps kind before o
   fault_same (declares_object n) =
       ap₂ (λ b rest. if b then Some (Double n.at) else rest) (is_declared_same n.text) (short_same s.objects (sum_by objects_by before) 1 object_limit (TooMany n.at object_limit) agrees.objects)
   fault_same (declares_map n u v selfmade) =
-      first_of_three (is_some (kind_in s.declared n.text)) (nat_lt s.maps 1) (selfmade && are_two_objects (kind_in s.kinds) u v) (Double n.at) (TooMany n.at file_map_limit) (NotSquare n.at)
-      ∙ ap (λ b. if b then Some (Double n.at) else if nat_lt s.maps 1 then Some (TooMany n.at file_map_limit) else if selfmade && are_two_objects (kind_in s.kinds) u v then Some (NotSquare n.at) else None) (is_declared_same n.text)
-      ∙ ap₂ (λ b c. if is_some (kind_in (declared_in before) n.text) then Some (Double n.at) else if b then Some (TooMany n.at file_map_limit) else if selfmade && c then Some (NotSquare n.at) else None)
-      (below_room s.maps (sum_by maps_by before) 1 file_map_limit agrees.maps) (two_same u v)
+      first_of_three (is_some (kind_in s.declared n.text)) (nat_lt s.maps 1) (selfmade && are_two_objects (kind_in s.kinds) u v) (Double n.at) (TooMany n.at s.map_limit) (NotSquare n.at)
+      ∙ ap₂ (λ b limit. if b then Some (Double n.at) else if nat_lt s.maps 1 then Some (TooMany n.at limit) else if selfmade && are_two_objects (kind_in s.kinds) u v then Some (NotSquare n.at) else None)
+      (is_declared_same n.text) agrees.map_limit
+      ∙ ap₂ (λ b c. if is_some (kind_in (declared_in before) n.text) then Some (Double n.at) else if b then Some (TooMany n.at most_maps) else if selfmade && c then Some (NotSquare n.at) else None)
+      (below_room s.maps (sum_by maps_by before) 1 most_maps agrees.maps) (two_same u v)
   fault_same (uses u) = ap (λ found. if is_kind found u.kind then None else Some (Unknown u.name.at)) (agrees.kinds u.name.text)
   fault_same (lists front u) =
       first_of_two (is_kind (kind_in s.kinds u.name.text) u.kind) (is_among front u.name.text) (Unknown u.name.at) (Double u.name.at)
@@ -104,12 +105,13 @@ module _ (kind : List ℕ → Option Kind) (before : List Occurrence) (s : Surve
   declared_push o = flat_map-append declared_by before (o ∷ []) ∙ ap (λ ds. declared_in before ++ ds) (append-nil (declared_by o))
 
   -- an occurrence that neither declares nor begins anything
-  still : (o : Occurrence) → declared_by o ≡ [] → objects_by o ≡ 0 → maps_by o ≡ 0 → orders_by o ≡ 0 → assumptions_by o ≡ 0 → claims_by o ≡ 0 → shapes_by o ≡ 0 → Agrees kind (before ++ o ∷ []) s
+  still : (o : Occurrence) → declared_by o ≡ [] → objects_by o ≡ 0 → maps_by o ≡ 0 → orders_by o ≡ 0 → assumptions_by o ≡ 0 → claims_by o ≡ 0 → shapes_by o ≡ 0 → Agrees most_maps kind (before ++ o ∷ []) s
   still o d no_object no_map no_order no_assumption no_claim no_shape = record {
     kinds = agrees.kinds;
     declared = agrees.declared ∙ sym (declared_push o ∙ ap (λ ds. declared_in before ++ ds) d ∙ append-nil (declared_in before));
     objects = same_count objects_by o s.objects object_limit no_object agrees.objects;
-    maps = same_count maps_by o s.maps file_map_limit no_map agrees.maps;
+    map_limit = agrees.map_limit;
+    maps = same_count maps_by o s.maps most_maps no_map agrees.maps;
     orders = same_count orders_by o s.orders 1 no_order agrees.orders;
     assumptions = same_count assumptions_by o s.assumptions assumption_limit no_assumption agrees.assumptions;
     claims = same_count claims_by o s.claims claim_limit no_claim agrees.claims;
@@ -120,7 +122,7 @@ module _ (kind : List ℕ → Option Kind) (before : List Occurrence) (s : Surve
   declared_still : (o : Occurrence) → declared_by o ≡ [] → s.declared ≡ declared_in (before ++ o ∷ [])
   declared_still o d = agrees.declared ∙ sym (declared_push o ∙ ap (λ ds. declared_in before ++ ds) d ∙ append-nil (declared_in before))
 
-  behind_agrees : (o : Occurrence) → fault_at s o ≡ None → Agrees kind (before ++ o ∷ []) (behind s o)
+  behind_agrees : (o : Occurrence) → fault_at s o ≡ None → Agrees most_maps kind (before ++ o ∷ []) (behind s o)
   behind_agrees (declares_object n) good =
       let o = declares_object n in
       let room : nat_lt s.objects 1 ≡ false = not_short s.objects 1 (TooMany n.at object_limit) (new_then_room (is_some (kind_in s.declared n.text)) (Double n.at) _ good) in
@@ -128,7 +130,8 @@ module _ (kind : List ℕ → Option Kind) (before : List Occurrence) (s : Surve
         kinds = agrees.kinds;
         declared = ap (λ ds. ds ++ (n.text, Object) ∷ []) agrees.declared ∙ sym (declared_push o);
         objects = less_room objects_by o s.objects object_limit agrees.objects room;
-        maps = same_count maps_by o s.maps file_map_limit refl agrees.maps;
+        map_limit = agrees.map_limit;
+        maps = same_count maps_by o s.maps most_maps refl agrees.maps;
         orders = same_count orders_by o s.orders 1 refl agrees.orders;
         assumptions = same_count assumptions_by o s.assumptions assumption_limit refl agrees.assumptions;
         claims = same_count claims_by o s.claims claim_limit refl agrees.claims;
@@ -137,13 +140,14 @@ module _ (kind : List ℕ → Option Kind) (before : List Occurrence) (s : Surve
   behind_agrees (declares_map n u v selfmade) good =
       let o = declares_map n u v selfmade in
       let room : nat_lt s.maps 1 ≡ false =
-      not_short s.maps 1 (TooMany n.at file_map_limit) (new_then_room (is_some (kind_in s.declared n.text)) (Double n.at) _
-      (or_else_none (declared_fault s.declared s.maps file_map_limit n) (selfmade && are_two_objects (kind_in s.kinds) u v) (NotSquare n.at) good)) in
+      not_short s.maps 1 (TooMany n.at s.map_limit) (new_then_room (is_some (kind_in s.declared n.text)) (Double n.at) _
+      (or_else_none (declared_fault s.declared s.maps s.map_limit n) (selfmade && are_two_objects (kind_in s.kinds) u v) (NotSquare n.at) good)) in
       record {
         kinds = agrees.kinds;
         declared = ap (λ ds. ds ++ (n.text, Map) ∷ []) agrees.declared ∙ sym (declared_push o);
         objects = same_count objects_by o s.objects object_limit refl agrees.objects;
-        maps = less_room maps_by o s.maps file_map_limit agrees.maps room;
+        map_limit = agrees.map_limit;
+        maps = less_room maps_by o s.maps most_maps agrees.maps room;
         orders = same_count orders_by o s.orders 1 refl agrees.orders;
         assumptions = same_count assumptions_by o s.assumptions assumption_limit refl agrees.assumptions;
         claims = same_count claims_by o s.claims claim_limit refl agrees.claims;
@@ -159,7 +163,8 @@ module _ (kind : List ℕ → Option Kind) (before : List Occurrence) (s : Surve
         kinds = agrees.kinds;
         declared = declared_still o refl;
         objects = same_count objects_by o s.objects object_limit refl agrees.objects;
-        maps = same_count maps_by o s.maps file_map_limit refl agrees.maps;
+        map_limit = agrees.map_limit;
+        maps = same_count maps_by o s.maps most_maps refl agrees.maps;
         orders = less_room orders_by o s.orders 1 agrees.orders (not_short s.orders 1 (Double at) good);
         assumptions = same_count assumptions_by o s.assumptions assumption_limit refl agrees.assumptions;
         claims = same_count claims_by o s.claims claim_limit refl agrees.claims;
@@ -171,7 +176,8 @@ module _ (kind : List ℕ → Option Kind) (before : List Occurrence) (s : Surve
         kinds = agrees.kinds;
         declared = declared_still o refl;
         objects = same_count objects_by o s.objects object_limit refl agrees.objects;
-        maps = same_count maps_by o s.maps file_map_limit refl agrees.maps;
+        map_limit = agrees.map_limit;
+        maps = same_count maps_by o s.maps most_maps refl agrees.maps;
         orders = same_count orders_by o s.orders 1 refl agrees.orders;
         assumptions = less_room assumptions_by o s.assumptions assumption_limit agrees.assumptions (not_short s.assumptions count (TooMany at assumption_limit) good);
         claims = same_count claims_by o s.claims claim_limit refl agrees.claims;
@@ -183,7 +189,8 @@ module _ (kind : List ℕ → Option Kind) (before : List Occurrence) (s : Surve
         kinds = agrees.kinds;
         declared = declared_still o refl;
         objects = same_count objects_by o s.objects object_limit refl agrees.objects;
-        maps = same_count maps_by o s.maps file_map_limit refl agrees.maps;
+        map_limit = agrees.map_limit;
+        maps = same_count maps_by o s.maps most_maps refl agrees.maps;
         orders = same_count orders_by o s.orders 1 refl agrees.orders;
         assumptions = same_count assumptions_by o s.assumptions assumption_limit refl agrees.assumptions;
         claims = less_room claims_by o s.claims claim_limit agrees.claims (not_short s.claims 1 (TooMany at claim_limit) good);
@@ -195,7 +202,8 @@ module _ (kind : List ℕ → Option Kind) (before : List Occurrence) (s : Surve
         kinds = agrees.kinds;
         declared = declared_still o refl;
         objects = same_count objects_by o s.objects object_limit refl agrees.objects;
-        maps = same_count maps_by o s.maps file_map_limit refl agrees.maps;
+        map_limit = agrees.map_limit;
+        maps = same_count maps_by o s.maps most_maps refl agrees.maps;
         orders = same_count orders_by o s.orders 1 refl agrees.orders;
         assumptions = same_count assumptions_by o s.assumptions assumption_limit refl agrees.assumptions;
         claims = same_count claims_by o s.claims claim_limit refl agrees.claims;
@@ -203,13 +211,13 @@ module _ (kind : List ℕ → Option Kind) (before : List Occurrence) (s : Surve
       }
 
 -- the first fault is the one that the search finds
-pub first_same : (kind : List ℕ → Option Kind) (before : List Occurrence) (s : Survey) → Agrees kind before s → (os : List Occurrence) → first_fault kind before os ≡ fault_in (run s os)
-first_same kind before s agrees [] = refl
-first_same kind before s agrees (o ∷ os) =
-    ap (λ found. option_or found (first_fault kind (before ++ o ∷ []) os)) (sym (fault_same kind before s agrees o))
-    ∙ go (fault_at s o) refl (λ good. first_same kind (before ++ o ∷ []) (behind s o) (behind_agrees kind before s agrees o good) os)
+pub first_same : (most_maps : ℕ) (kind : List ℕ → Option Kind) (before : List Occurrence) (s : Survey) → Agrees most_maps kind before s → (os : List Occurrence) → first_fault most_maps kind before os ≡ fault_in (run s os)
+first_same most_maps kind before s agrees [] = refl
+first_same most_maps kind before s agrees (o ∷ os) =
+    ap (λ found. option_or found (first_fault most_maps kind (before ++ o ∷ []) os)) (sym (fault_same most_maps kind before s agrees o))
+    ∙ go (fault_at s o) refl (λ good. first_same most_maps kind (before ++ o ∷ []) (behind s o) (behind_agrees most_maps kind before s agrees o good) os)
   where
-    go : (found : Option NameFault) → fault_at s o ≡ found → (fault_at s o ≡ None → first_fault kind (before ++ o ∷ []) os ≡ fault_in (run (behind s o) os))
-        → option_or found (first_fault kind (before ++ o ∷ []) os) ≡ fault_in (goes_on found (run (behind s o) os))
+    go : (found : Option NameFault) → fault_at s o ≡ found → (fault_at s o ≡ None → first_fault most_maps kind (before ++ o ∷ []) os ≡ fault_in (run (behind s o) os))
+        → option_or found (first_fault most_maps kind (before ++ o ∷ []) os) ≡ fault_in (goes_on found (run (behind s o) os))
     go (Some fault) is rest = refl
     go None is rest = rest is

@@ -9,7 +9,6 @@ use Rattle.std.proofs.lemmas.List.Sums.{sum_by_push}
 use Rattle.definitions.specs.Moduli.{is_field_modulus}
 use Rattle.quiver.specs.Limits.{object_limit}
 use Rattle.adjoint_rules.specs.Limits.{assumption_limit, claim_limit, shape_limit}
-use Rattle.statement_names.specs.Limits.{file_map_limit}
 use Rattle.statement_names.specs.declared.fault.NameFault.{NameFault}
 use Rattle.statement_names.specs.declared.fault.NameFault.TheVariants.{Double, TooMany}
 use Rattle.statement_names.specs.declared.kinds.Kind.{Kind}
@@ -60,17 +59,17 @@ IsGood kind (counts most n) = is_between 1 most (value_of n.value) ≡ true
 IsGood kind (modulus n) = is_field_modulus (value_of n.value) ≡ true
 IsGood kind o = Unit {0}
 
-module _ (kind : List ℕ → Option Kind) where
-  head_clean : (before : List Occurrence) (o : Occurrence) (os : List Occurrence) → first_fault kind before (o ∷ os) ≡ None → fault_behind kind before o ≡ None
-  head_clean before o os clean = none_first (fault_behind kind before o) (first_fault kind (before ++ o ∷ []) os) clean
+module _ (most_maps : ℕ) (kind : List ℕ → Option Kind) where
+  head_clean : (before : List Occurrence) (o : Occurrence) (os : List Occurrence) → first_fault most_maps kind before (o ∷ os) ≡ None → fault_behind most_maps kind before o ≡ None
+  head_clean before o os clean = none_first (fault_behind most_maps kind before o) (first_fault most_maps kind (before ++ o ∷ []) os) clean
 
-  tail_clean : (before : List Occurrence) (o : Occurrence) (os : List Occurrence) → first_fault kind before (o ∷ os) ≡ None → first_fault kind (before ++ o ∷ []) os ≡ None
-  tail_clean before o os clean = none_later (fault_behind kind before o) (first_fault kind (before ++ o ∷ []) os) clean
+  tail_clean : (before : List Occurrence) (o : Occurrence) (os : List Occurrence) → first_fault most_maps kind before (o ∷ os) ≡ None → first_fault most_maps kind (before ++ o ∷ []) os ≡ None
+  tail_clean before o os clean = none_later (fault_behind most_maps kind before o) (first_fault most_maps kind (before ++ o ∷ []) os) clean
 
-  good : (before : List Occurrence) (o : Occurrence) → fault_behind kind before o ≡ None → IsGood kind o
+  good : (before : List Occurrence) (o : Occurrence) → fault_behind most_maps kind before o ≡ None → IsGood kind o
   good before (declares_map n u v selfmade) clean =
       let room = test_rest (is_some (kind_in (declared_in before) n.text)) _ _ clean in
-      test_false (selfmade && are_two_objects kind u v) _ None (test_rest (nat_lt file_map_limit (sum_by maps_by before + 1)) _ _ room)
+      test_false (selfmade && are_two_objects kind u v) _ None (test_rest (nat_lt most_maps (sum_by maps_by before + 1)) _ _ room)
   good before (uses u) clean = test_true (is_kind (kind u.name.text) u.kind) _ clean
   good before (lists front u) clean = (
     not_not (is_kind (kind u.name.text) u.kind) (test_false (not (is_kind (kind u.name.text) u.kind)) _ _ clean),
@@ -84,12 +83,12 @@ module _ (kind : List ℕ → Option Kind) where
   good before (begins_claim at) clean = tt
   good before (begins_shape at) clean = tt
 
-  pub each_good : (before os : List Occurrence) → first_fault kind before os ≡ None → Each (IsGood kind) os
+  pub each_good : (before os : List Occurrence) → first_fault most_maps kind before os ≡ None → Each (IsGood kind) os
   each_good before [] clean = tt
   each_good before (o ∷ os) clean = (good before o (head_clean before o os clean), each_good (before ++ o ∷ []) os (tail_clean before o os clean))
 
   -- ---- different names
-  apart_next : (before : List Occurrence) (o : Occurrence) → fault_behind kind before o ≡ None → Apart (declared_in before) → Apart (declared_in before ++ declared_by o)
+  apart_next : (before : List Occurrence) (o : Occurrence) → fault_behind most_maps kind before o ≡ None → Apart (declared_in before) → Apart (declared_in before ++ declared_by o)
   apart_next before (declares_object n) clean apart =
       Apart-push (declared_in before) (n.text, Object) apart (absent_from (kind_in (declared_in before) n.text) (test_false (is_some (kind_in (declared_in before) n.text)) _ _ clean))
   apart_next before (declares_map n u v selfmade) clean apart =
@@ -99,7 +98,7 @@ module _ (kind : List ℕ → Option Kind) where
   declared_push : (before : List Occurrence) (o : Occurrence) → declared_in before ++ declared_by o ≡ declared_in (before ++ o ∷ [])
   declared_push before o = sym (flat_map-append declared_by before (o ∷ []) ∙ ap (λ ds. declared_in before ++ ds) (append-nil (declared_by o)))
 
-  pub apart_declared : (before os : List Occurrence) → Apart (declared_in before) → first_fault kind before os ≡ None → Apart (declared_in (before ++ os))
+  pub apart_declared : (before os : List Occurrence) → Apart (declared_in before) → first_fault most_maps kind before os ≡ None → Apart (declared_in (before ++ os))
   apart_declared before [] apart clean = subst (λ xs. Apart (declared_in xs)) (sym (append-nil before)) apart
   apart_declared before (o ∷ os) apart clean =
       subst (λ xs. Apart (declared_in xs)) (append_assoc before (o ∷ []) os)
@@ -108,8 +107,8 @@ module _ (kind : List ℕ → Option Kind) where
       (tail_clean before o os clean))
 
   -- ---- at most so many
-  counted : (by : Occurrence → ℕ) (limit : ℕ) → ((before : List Occurrence) (o : Occurrence) → fault_behind kind before o ≡ None → sum_by by before ≤ limit → sum_by by before + by o ≤ limit)
-      → (before os : List Occurrence) → sum_by by before ≤ limit → first_fault kind before os ≡ None → sum_by by (before ++ os) ≤ limit
+  counted : (by : Occurrence → ℕ) (limit : ℕ) → ((before : List Occurrence) (o : Occurrence) → fault_behind most_maps kind before o ≡ None → sum_by by before ≤ limit → sum_by by before + by o ≤ limit)
+      → (before os : List Occurrence) → sum_by by before ≤ limit → first_fault most_maps kind before os ≡ None → sum_by by (before ++ os) ≤ limit
   counted by limit step before [] few clean = subst (λ xs. sum_by by xs ≤ limit) (sym (append-nil before)) few
   counted by limit step before (o ∷ os) few clean =
       subst (λ xs. sum_by by xs ≤ limit) (append_assoc before (o ∷ []) os)
@@ -117,33 +116,33 @@ module _ (kind : List ℕ → Option Kind) where
       (subst (λ n. n ≤ limit) (sym (sum_by_push by before o)) (step before o (head_clean before o os clean) few))
       (tail_clean before o os clean))
 
-  objects_step : (before : List Occurrence) (o : Occurrence) → fault_behind kind before o ≡ None → sum_by objects_by before ≤ object_limit → sum_by objects_by before + objects_by o ≤ object_limit
+  objects_step : (before : List Occurrence) (o : Occurrence) → fault_behind most_maps kind before o ≡ None → sum_by objects_by before ≤ object_limit → sum_by objects_by before + objects_by o ≤ object_limit
   objects_step before (declares_object n) clean few = at_most _ object_limit (TooMany n.at object_limit) (test_rest (is_some (kind_in (declared_in before) n.text)) (Double n.at) _ clean)
   objects_step before o clean few = omega arith
 
-  maps_step : (before : List Occurrence) (o : Occurrence) → fault_behind kind before o ≡ None → sum_by maps_by before ≤ file_map_limit → sum_by maps_by before + maps_by o ≤ file_map_limit
+  maps_step : (before : List Occurrence) (o : Occurrence) → fault_behind most_maps kind before o ≡ None → sum_by maps_by before ≤ most_maps → sum_by maps_by before + maps_by o ≤ most_maps
   maps_step before (declares_map n u v selfmade) clean few =
-      ltb-false file_map_limit _ (test_false (nat_lt file_map_limit (sum_by maps_by before + 1)) (TooMany n.at file_map_limit) _ (test_rest (is_some (kind_in (declared_in before) n.text)) (Double n.at) _ clean))
+      ltb-false most_maps _ (test_false (nat_lt most_maps (sum_by maps_by before + 1)) (TooMany n.at most_maps) _ (test_rest (is_some (kind_in (declared_in before) n.text)) (Double n.at) _ clean))
   maps_step before o clean few = omega arith
 
-  assumptions_step : (before : List Occurrence) (o : Occurrence) → fault_behind kind before o ≡ None → sum_by assumptions_by before ≤ assumption_limit → sum_by assumptions_by before + assumptions_by o ≤ assumption_limit
+  assumptions_step : (before : List Occurrence) (o : Occurrence) → fault_behind most_maps kind before o ≡ None → sum_by assumptions_by before ≤ assumption_limit → sum_by assumptions_by before + assumptions_by o ≤ assumption_limit
   assumptions_step before (begins_assumptions count at) clean few = at_most _ assumption_limit (TooMany at assumption_limit) clean
   assumptions_step before o clean few = omega arith
 
-  claims_step : (before : List Occurrence) (o : Occurrence) → fault_behind kind before o ≡ None → sum_by claims_by before ≤ claim_limit → sum_by claims_by before + claims_by o ≤ claim_limit
+  claims_step : (before : List Occurrence) (o : Occurrence) → fault_behind most_maps kind before o ≡ None → sum_by claims_by before ≤ claim_limit → sum_by claims_by before + claims_by o ≤ claim_limit
   claims_step before (begins_claim at) clean few = at_most _ claim_limit (TooMany at claim_limit) clean
   claims_step before o clean few = omega arith
 
-  shapes_step : (before : List Occurrence) (o : Occurrence) → fault_behind kind before o ≡ None → sum_by shapes_by before ≤ shape_limit → sum_by shapes_by before + shapes_by o ≤ shape_limit
+  shapes_step : (before : List Occurrence) (o : Occurrence) → fault_behind most_maps kind before o ≡ None → sum_by shapes_by before ≤ shape_limit → sum_by shapes_by before + shapes_by o ≤ shape_limit
   shapes_step before (begins_shape at) clean few = at_most _ shape_limit (TooMany at shape_limit) clean
   shapes_step before o clean few = omega arith
 
-  module _ (os : List Occurrence) (clean : first_fault kind [] os ≡ None) where
+  module _ (os : List Occurrence) (clean : first_fault most_maps kind [] os ≡ None) where
     pub few_objects : sum_by objects_by os ≤ object_limit
     few_objects = counted objects_by object_limit objects_step [] os (omega arith) clean
 
-    pub few_maps : sum_by maps_by os ≤ file_map_limit
-    few_maps = counted maps_by file_map_limit maps_step [] os (omega arith) clean
+    pub few_maps : sum_by maps_by os ≤ most_maps
+    few_maps = counted maps_by most_maps maps_step [] os (omega arith) clean
 
     pub few_assumptions : sum_by assumptions_by os ≤ assumption_limit
     few_assumptions = counted assumptions_by assumption_limit assumptions_step [] os (omega arith) clean

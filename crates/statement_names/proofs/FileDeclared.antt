@@ -1,5 +1,5 @@
 -- The declarations of a file in whose names nothing is wrong are those of a quiver.
-use Rattle.std.proofs.Common.{◌≡◌, ℕ, ◌+◌, ◌<◌, Bool, true, false, ◌&&◌, ◌||◌, not, nat_eq, is_some, cond, IsTrue, List, [], ◌∷◌, ◌++◌, length, map, take, drop, get_or, Option, Some, None, refl, ap, ap₂, sym, subst, ◌∙◌, arith, append_assoc}
+use Rattle.std.proofs.Common.{◌≡◌, ℕ, ◌+◌, ◌<◌, ◌≤◌, Bool, true, false, ◌&&◌, ◌||◌, not, nat_eq, is_some, cond, IsTrue, List, [], ◌∷◌, ◌++◌, length, map, take, drop, get_or, Option, Some, None, refl, ap, ap₂, sym, subst, ◌∙◌, arith, append_assoc}
 use Rattle.std.specs.List.{list_all}
 use Rattle.std.specs.Map.{lookup}
 use Rattle.std.specs.Option.{option_or}
@@ -10,6 +10,7 @@ use Rattle.std.proofs.lemmas.Grind.{flat_map-append}
 use Rattle.std.proofs.lemmas.List.{map-append, append-nil, take-append-drop}
 use Rattle.quiver.specs.declared.named.Named.{Named}
 use Rattle.quiver.specs.declared.named.Named.TheVariants as named
+use Rattle.quiver.specs.Limits.{map_limit}
 use Rattle.quiver.specs.Declarations.{Declaration, object, arrow, object_count, map_count, named_in, naming_table, has_ends, IsDeclared, objects_first, ObjectsFirst, is_arrow}
 use Rattle.quiver.proofs.Counts.{object_count-append, map_count-append}
 use Rattle.quiver.proofs.Growth.{naming_table-append}
@@ -23,6 +24,7 @@ use Rattle.statement_syntax.specs.declared.tree.StatementKind.TheVariants as sta
 use Rattle.statement_names.specs.declared.kinds.Kind.{Kind}
 use Rattle.statement_names.specs.declared.kinds.Kind.TheVariants.{Object, Map}
 use Rattle.statement_names.specs.Faults.{kind_in, is_kind, are_two_objects, declared_in, name_fault_of}
+use Rattle.statement_names.specs.Limits.{map_limit_after, map_limit_of}
 use Rattle.statement_names.specs.Occurrences.{declares_map, uses, kind_occurrences, statement_occurrences, occurrences_of}
 use Rattle.statement_names.specs.Uses.{object_use}
 use Rattle.statement_names.specs.Numbered.{objects_in, maps_in, declared_objects, declared_maps, declarations_of, HasEnds}
@@ -160,13 +162,22 @@ map_count-objects : (statements : List Statement) → map_count (declared_object
 map_count-objects [] = refl
 map_count-objects (s ∷ statements) = map_count-append (objects_in s.kind) (declared_objects statements) ∙ ap₂ (λ a b. a + b) (no_map_objects s.kind) (map_count-objects statements)
 
+-- ---- a quiver has room for the maps of a file
+some_enough : (k : StatementKind) → map_limit_after k ≤ map_limit
+some_enough statement.Language = omega arith
+some_enough k = omega arith
+
+few_enough : (statements : List Statement) → map_limit_of statements ≤ map_limit
+few_enough [] = omega arith
+few_enough (s ∷ statements) = some_enough s.kind
+
 -- ---- in a file in whose names nothing is wrong
 module _ (statements : List Statement) (clean : name_fault_of statements ≡ None) where
   abbrev kind : List ℕ → Option Kind
   kind = kind_in (declared_in (occurrences_of statements))
 
   pub statements_good : Each (λ s. Each (IsGood (kind_in (declared_in (occurrences_of statements)))) (statement_occurrences s)) statements
-  statements_good = Each-of_flat_map (IsGood kind) statement_occurrences statements (each_good kind [] (occurrences_of statements) clean)
+  statements_good = Each-of_flat_map (IsGood kind) statement_occurrences statements (each_good (map_limit_of statements) kind [] (occurrences_of statements) clean)
 
   object_kind : (q : List ℕ) → is_kind (kind q) Object ≡ true → kind_in (kinds (declared_objects statements)) q ≡ Some Object
   object_kind q is =
@@ -231,13 +242,14 @@ module _ (statements : List Statement) (clean : name_fault_of statements ≡ Non
   pub file_declared : IsDeclared (declarations_of statements)
   file_declared = record {
     distinct = different_of_apart (declarations_of statements) (apart_declarations statements clean);
-    few_objects = omega (arith, object_count-behind statements, object_count-statements statements, few_objects kind (occurrences_of statements) clean);
+    few_objects = omega (arith, object_count-behind statements, object_count-statements statements, few_objects (map_limit_of statements) kind (occurrences_of statements) clean);
     few_maps = omega (
       arith,
       map_count-append (declared_objects statements) (declared_maps (declared_objects statements) statements),
       map_count-objects statements,
       map_count-statements (declared_objects statements) statements,
-      few_maps kind (occurrences_of statements) clean,
+      few_maps (map_limit_of statements) kind (occurrences_of statements) clean,
+      few_enough statements,
     );
     ends = ends_behind statements statements_good;
   }

@@ -3,6 +3,7 @@ use Rattle.std.proofs.Common.{◌≡◌, ◌<◌, ◌≤◌, List, None, refl, s
 use Rattle.quiver.specs.Declarations.{object_count, letter_count}
 use Rattle.statement_syntax.specs.declared.tree.Statement.{Statement}
 use Rattle.statement_names.specs.Faults.{kind_in, declared_in, name_fault_of}
+use Rattle.statement_names.specs.Limits.{map_limit_of}
 use Rattle.statement_names.specs.Marked.{an_object, is_marked}
 use Rattle.statement_names.specs.Numbered.{declarations_of}
 use Rattle.statement_names.specs.Occurrences.{occurrences_of}
@@ -32,9 +33,9 @@ file_ready statements clean =
       declared = file_declared statements clean;
       objects_first = first;
       order = order_sound statements clean;
-      few_assumptions = subst (λ n. n ≤ assumption_limit) (sym (length-assumptions ds statements)) (few_assumptions kind (occurrences_of statements) clean);
+      few_assumptions = subst (λ n. n ≤ assumption_limit) (sym (length-assumptions ds statements)) (few_assumptions (map_limit_of statements) kind (occurrences_of statements) clean);
       assumptions = Each-at (HasNames ds) (assumptions_of ds statements) (assumptions_named statements clean);
-      few_claims = subst (λ n. n ≤ claim_limit) (sym (length-claims statements)) (few_claims kind (occurrences_of statements) clean);
+      few_claims = subst (λ n. n ≤ claim_limit) (sym (length-claims statements)) (few_claims (map_limit_of statements) kind (occurrences_of statements) clean);
       claims = Each-at (HasNames ds) (claims_of statements) (all_claims_named statements clean);
       marked_objects = numbers_hold an_object (λ v. v.0) (λ k. refl) (object_count ds) (is_marked ds statements) (λ v. v.0 < object_count ds) (λ k below is. below);
       marked_ascending = numbers_ascend an_object (λ v. v.0) (λ k. refl) (object_count ds) (is_marked ds statements);

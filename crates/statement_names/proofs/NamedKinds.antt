@@ -17,6 +17,7 @@ use Rattle.statement_syntax.specs.declared.tree.StatementKind.TheVariants as sta
 use Rattle.statement_names.specs.declared.kinds.Kind.{Kind}
 use Rattle.statement_names.specs.declared.kinds.Kind.TheVariants.{Object, Map}
 use Rattle.statement_names.specs.Faults.{kind_in, is_kind, declared_in, name_fault_of}
+use Rattle.statement_names.specs.Limits.{map_limit_of}
 use Rattle.statement_names.specs.Occurrences.{occurrences_of}
 use Rattle.statement_names.specs.Numbered.{objects_in, maps_in, declared_objects, declared_maps, declarations_of}
 use Rattle.statement_names.specs.Survey.{kinded, kinds_by}
@@ -148,7 +149,7 @@ kinds-declarations_of statements =
 -- ---- in a file in whose names nothing is wrong
 module _ (statements : List Statement) (clean : name_fault_of statements ≡ None) where
   apart_statements : Apart (statement_kinds statements)
-  apart_statements = subst Apart (declared-statements statements) (apart_declared (kind_in (declared_in (occurrences_of statements))) [] (occurrences_of statements) tt clean)
+  apart_statements = subst Apart (declared-statements statements) (apart_declared (map_limit_of statements) (kind_in (declared_in (occurrences_of statements))) [] (occurrences_of statements) tt clean)
 
   pub apart_declarations : Apart (kinds (declarations_of statements))
   apart_declarations = subst Apart (sym (kinds-declarations_of statements)) (Apart-sorted (statement_kinds statements) apart_statements)

@@ -9,13 +9,17 @@ use Rattle.statement_syntax.specs.declared.tree.Number.{Number}
 use Rattle.statement_syntax.specs.declared.tree.Statement.{Statement}
 use Rattle.statement_syntax.specs.declared.tree.StatementKind.{StatementKind}
 use Rattle.statement_syntax.specs.declared.tree.StatementKind.TheVariants as statement
-use Rattle.statement_syntax.specs.declared.tree.Sum.{Sum}
+use Rattle.statement_syntax.specs.declared.tree.Mark.{Mark}
+use Rattle.statement_syntax.specs.declared.tree.Mark.TheVariants.{Adjoint, Power}
+use Rattle.statement_syntax.specs.declared.tree.Primary.{Primary, Letter, Identity, Bracket}
+use Rattle.statement_syntax.specs.declared.tree.Term.{Term, Term', Row_of-Factor, end_of-Factor, more_of-Factor}
+use Rattle.statement_syntax.specs.declared.tree.Sum.{Sum, Sum', Row_of-Term, end_of-Term, more_of-Term}
 use Rattle.adjoint_rules.specs.Limits.{shape_side_limit}
 use Rattle.word_orders.specs.Limits.{weight_limit}
 use Rattle.statement_names.specs.declared.kinds.Kind.{Kind}
 use Rattle.statement_names.specs.declared.kinds.Kind.TheVariants.{Object, Map}
-use Rattle.statement_names.specs.Uses.{Use, sum_uses}
-use Rattle.statement_names.specs.Occurrences.{Occurrence, declares_object, declares_map, uses, lists, counts, modulus, begins_order, begins_assumptions, begins_claim, begins_shape, names_behind, pairs_behind, used_names, sides_occurrences, kind_occurrences, statement_occurrences, occurrences_of}
+use Rattle.statement_names.specs.Uses.{Use}
+use Rattle.statement_names.specs.Occurrences.{Occurrence, declares_object, declares_map, uses, lists, counts, modulus, begins_order, begins_assumptions, begins_claim, begins_shape, names_behind, pairs_behind, used_names, mark_occurrences, primary_occurrences, factors_occurrences, term_occurrences, terms_occurrences, sum_occurrences, sides_occurrences, kind_occurrences, statement_occurrences, occurrences_of}
 use Rattle.statement_names.specs.Faults.{declared_by, declared_in}
 use Rattle.statement_names.specs.Survey.{kinded, kinds_by}
 
@@ -53,8 +57,35 @@ quiet-append (begins_assumptions n at ∷ xs) ys h k = absurd h
 quiet-append (begins_claim at ∷ xs) ys h k = absurd h
 quiet-append (begins_shape at ∷ xs) ys h k = absurd h
 
+marks-quiet : (marks : List Mark) → IsQuiet (flat_map mark_occurrences marks)
+marks-quiet [] = tt
+marks-quiet (Adjoint ∷ marks) = marks-quiet marks
+marks-quiet (Power at exponent ∷ marks) = marks-quiet marks
+
+mutual
+  sum-quiet : (s : Sum) → IsQuiet (sum_occurrences s)
+  sum-quiet (Sum' at shape terms) = terms-quiet terms
+
+  terms-quiet : {m : _} (row : Row_of-Term m) → IsQuiet (terms_occurrences row)
+  terms-quiet end_of-Term = tt
+  terms-quiet (more_of-Term t rest) = quiet-append (term_occurrences t) (terms_occurrences rest) (term-quiet t) (terms-quiet rest)
+
+  term-quiet : (t : Term) → IsQuiet (term_occurrences t)
+  term-quiet (Term' at negative literal shape factors) = factors-quiet factors
+
+  factors-quiet : {m : _} (row : Row_of-Factor m) → IsQuiet (factors_occurrences row)
+  factors-quiet end_of-Factor = tt
+  factors-quiet (more_of-Factor at primary marks rest) =
+      quiet-append (primary_occurrences primary ++ flat_map mark_occurrences marks) (factors_occurrences rest)
+      (quiet-append (primary_occurrences primary) (flat_map mark_occurrences marks) (primary-quiet primary) (marks-quiet marks)) (factors-quiet rest)
+
+  primary-quiet : (primary : Primary) → IsQuiet (primary_occurrences primary)
+  primary-quiet (Letter n) = tt
+  primary-quiet (Identity n) = tt
+  primary-quiet (Bracket s) = sum-quiet s
+
 pub sides-quiet : (left right : Sum) → IsQuiet (sides_occurrences left right)
-sides-quiet left right = quiet-append (used_names (sum_uses left)) (used_names (sum_uses right)) (used_names-quiet (sum_uses left)) (used_names-quiet (sum_uses right))
+sides-quiet left right = quiet-append (sum_occurrences left) (sum_occurrences right) (sum-quiet left) (sum-quiet right)
 
 -- ---- a count of occurrences that leaves out those
 module _ (by : Occurrence → ℕ) (no_use : (u : Use) → by (uses u) ≡ 0) (no_list : (front : List (List ℕ)) (u : Use) → by (lists front u) ≡ 0)
@@ -99,6 +130,7 @@ append_nothing [] = refl
 append_nothing (x ∷ xs) = ap (λ ys. x ∷ ys) (append_nothing xs)
 
 pub declared-statement : (at : Spot) (kind : StatementKind) → declared_in (kind_occurrences at kind) ≡ kinds_by kind
+declared-statement at statement.Language = refl
 declared-statement at (statement.Objects names) = declared-objects names
 declared-statement at (statement.Maps names source target selfmade) =
     flat_map-append declared_by (map (λ n. declares_map n source.text target.text selfmade) names) _
@@ -112,6 +144,7 @@ declared-statement at (statement.Projection p) = refl
 declared-statement at statement.Degree = refl
 declared-statement at (statement.Weight pairs) = declared-quiet (pairs_behind Map weight_limit [] pairs) (pairs_behind-quiet Map weight_limit [] pairs)
 declared-statement at (statement.Solve names) = declared-quiet (names_behind Map [] names) (names_behind-quiet Map [] names)
+declared-statement at (statement.Eliminate names) = declared-quiet (names_behind Map [] names) (names_behind-quiet Map [] names)
 declared-statement at (statement.Shape m sides) = declared-quiet (pairs_behind Object shape_side_limit [] sides) (pairs_behind-quiet Object shape_side_limit [] sides)
 
 pub declared-statements : (statements : List Statement) → declared_in (occurrences_of statements) ≡ flat_map (λ s. kinds_by s.kind) statements

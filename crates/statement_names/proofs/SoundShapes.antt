@@ -19,6 +19,7 @@ use Rattle.adjoint_rules.specs.Limits.{shape_side_limit}
 use Rattle.statement_names.specs.declared.kinds.Kind.{Kind}
 use Rattle.statement_names.specs.declared.kinds.Kind.TheVariants.{Object}
 use Rattle.statement_names.specs.Faults.{kind_in, declared_in, value_of, name_fault_of}
+use Rattle.statement_names.specs.Limits.{map_limit_of}
 use Rattle.statement_names.specs.Numbered.{declarations_of}
 use Rattle.statement_names.specs.Occurrences.{kind_occurrences, statement_occurrences, occurrences_of}
 use Rattle.statement_names.specs.Shapes.{shape, side_in, sides_of, shapes_in, default_shapes, or_shapes, shapes_of}
@@ -99,4 +100,4 @@ module _ (statements : List Statement) (clean : name_fault_of statements ≡ Non
   pub shapes_sound : AreShapes (shapes_of (declarations_of statements) statements)
   shapes_sound =
       or_default (flat_map (λ s. shapes_in all s.kind) statements) file_shapes
-      (subst (λ n. n ≤ shape_limit) (sym (length-shapes all statements)) (few_shapes kind (occurrences_of statements) clean))
+      (subst (λ n. n ≤ shape_limit) (sym (length-shapes all statements)) (few_shapes (map_limit_of statements) kind (occurrences_of statements) clean))

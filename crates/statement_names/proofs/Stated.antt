@@ -1,5 +1,5 @@
 -- What the names and literals of a statement are, in a file in whose names nothing is wrong.
-use Rattle.std.proofs.Common.{◌≡◌, ◌≢◌, ℕ, ◌<◌, ◌≤◌, Bool, true, false, ◌&&◌, ◌||◌, nat_eq, nat_le, IsTrue, List, [], ◌∷◌, ◌++◌, length, get_or, Option, None, All, AllPairs, refl, ap, sym, subst, ◌∙◌, arith}
+use Rattle.std.proofs.Common.{◌≡◌, ◌≢◌, ℕ, ◌<◌, ◌≤◌, Bool, true, false, ◌&&◌, ◌||◌, nat_eq, nat_le, IsTrue, List, [], ◌∷◌, ◌++◌, map, length, get_or, Option, None, All, AllPairs, refl, ap, sym, subst, ◌∙◌, arith}
 use Rattle.std.specs.List.{list_any, list_all}
 use Rattle.std.specs.Str.{bytes_eq}
 use Rattle.std.proofs.lemmas.Bool.{leb-true}
@@ -19,11 +19,11 @@ use Rattle.word_orders.specs.Limits.{weight_limit}
 use Rattle.statement_names.specs.declared.kinds.Kind.{Kind}
 use Rattle.statement_names.specs.declared.kinds.Kind.TheVariants.{Object, Map}
 use Rattle.statement_names.specs.Faults.{kind_in, is_kind, is_among, is_between, value_of, declared_in, name_fault_of}
-use Rattle.statement_names.specs.Occurrences.{pairs_behind, kind_occurrences, statement_occurrences, occurrences_of}
+use Rattle.statement_names.specs.Occurrences.{names_behind, pairs_behind, kind_occurrences, statement_occurrences, occurrences_of}
 use Rattle.statement_names.specs.Numbered.{declarations_of}
 use Rattle.statement_names.proofs.Apart.{own_bytes}
 use Rattle.statement_names.proofs.Clean.{IsGood}
-use Rattle.statement_names.proofs.Each.{Each, Each-at, Each-item, Each-weaker}
+use Rattle.statement_names.proofs.Each.{Each, Each-at, Each-item, Each-unmap, Each-weaker}
 use Rattle.statement_names.proofs.FileDeclared.{statements_good}
 use Rattle.statement_names.proofs.NamedKinds.{map_named, object_named}
 
@@ -49,27 +49,26 @@ any_small n limit (m ∷ ms) e k =
 pub modulus_small : (n : ℕ) → is_field_modulus n ≡ true → n ≤ 65537
 modulus_small n is = any_small n 65537 field_moduli is refl
 
--- ---- names with literals
+-- ---- listed names
 -- each name once
-abbrev pub Once : List (Name × Number) → Type 0
+abbrev pub Once : List Name → Type 0
 Once [] = Unit {0}
-Once (p ∷ pairs) = Each (λ q. p.0.text ≢ q.0.text) pairs × Once pairs
+Once (n ∷ names) = Each (λ m. n.text ≢ m.text) names × Once names
 
-pub pairs_once : (pairs : List (Name × Number)) → Once pairs → AllPairs (λ p q. p.0.text ≢ q.0.text) pairs
+-- the names of a list with literals
+abbrev pub named_by : List (Name × Number) → List Name
+named_by pairs = map (λ p. p.0) pairs
+
+pub pairs_once : (pairs : List (Name × Number)) → Once (named_by pairs) → AllPairs (λ p q. p.0.text ≢ q.0.text) pairs
 pairs_once [] once = λ i j d less below. absurd (omega arith)
-pairs_once (p ∷ pairs) once = AllPairs-cons (λ p q. p.0.text ≢ q.0.text) p pairs (Each-at (λ q. p.0.text ≢ q.0.text) pairs once.0) (pairs_once pairs once.1)
+pairs_once (p ∷ pairs) once =
+    AllPairs-cons (λ p q. p.0.text ≢ q.0.text) p pairs
+    (Each-at (λ q. p.0.text ≢ q.0.text) pairs (Each-unmap (λ m. p.0.text ≢ m.text) (λ q. q.0) pairs once.0)) (pairs_once pairs once.1)
 
-pub record IsPair (kind : List ℕ → Option Kind) (k : Kind) (most : ℕ) (p : Name × Number) : Type 0 where
-  pub of_kind : is_kind (kind p.0.text) k ≡ true
-  pub least : 1 ≤ value_of p.1.value
-  pub most_ : value_of p.1.value ≤ most
-
-module _ (kind : List ℕ → Option Kind) (k : Kind) (most : ℕ) where
-  pub pairs_are : (front : List (List ℕ)) (pairs : List (Name × Number)) → Each (IsGood kind) (pairs_behind k most front pairs) → Each (IsPair kind k most) pairs
-  pairs_are front [] good = tt
-  pairs_are front (p ∷ pairs) good =
-      let range = between 1 most (value_of p.1.value) good.1.0 in
-      (record { of_kind = good.0.0; least = range.0; most_ = range.1 }, pairs_are (front ++ p.0.text ∷ []) pairs good.1.1)
+module _ (kind : List ℕ → Option Kind) (k : Kind) where
+  pub names_are : (front : List (List ℕ)) (names : List Name) → Each (IsGood kind) (names_behind k front names) → Each (λ n. is_kind (kind n.text) k ≡ true) names
+  names_are front [] good = tt
+  names_are front (n ∷ names) good = (good.0.0, names_are (front ++ n.text ∷ []) names good.1)
 
   -- a name that stands in front isn't listed again
   abbrev IsInFront : List (List ℕ) → List ℕ → Type 0
@@ -92,15 +91,36 @@ module _ (kind : List ℕ → Option Kind) (k : Kind) (most : ℕ) where
       first false c e = refl
       first true c e = absurd (cc)
 
-  later_differ : (front : List (List ℕ)) (pairs : List (Name × Number)) (name : List ℕ) → IsInFront front name → Each (IsGood kind) (pairs_behind k most front pairs) → Each (λ p. name ≢ p.0.text) pairs
+  later_differ : (front : List (List ℕ)) (names : List Name) (name : List ℕ) → IsInFront front name → Each (IsGood kind) (names_behind k front names) → Each (λ n. name ≢ n.text) names
   later_differ front [] name there good = tt
-  later_differ front (p ∷ pairs) name there good =
-      (there p.0.text good.0.1, later_differ (front ++ p.0.text ∷ []) pairs name (stays_in_front front name p.0.text there) good.1.1)
+  later_differ front (n ∷ names) name there good =
+      (there n.text good.0.1, later_differ (front ++ n.text ∷ []) names name (stays_in_front front name n.text there) good.1)
 
-  pub pairs_apart : (front : List (List ℕ)) (pairs : List (Name × Number)) → Each (IsGood kind) (pairs_behind k most front pairs) → Once pairs
-  pairs_apart front [] good = tt
-  pairs_apart front (p ∷ pairs) good =
-      (later_differ (front ++ p.0.text ∷ []) pairs p.0.text (put_in_front front p.0.text) good.1.1, pairs_apart (front ++ p.0.text ∷ []) pairs good.1.1)
+  pub names_apart : (front : List (List ℕ)) (names : List Name) → Each (IsGood kind) (names_behind k front names) → Once names
+  names_apart front [] good = tt
+  names_apart front (n ∷ names) good =
+      (later_differ (front ++ n.text ∷ []) names n.text (put_in_front front n.text) good.1, names_apart (front ++ n.text ∷ []) names good.1)
+
+-- ---- names with literals
+pub record IsPair (kind : List ℕ → Option Kind) (k : Kind) (most : ℕ) (p : Name × Number) : Type 0 where
+  pub of_kind : is_kind (kind p.0.text) k ≡ true
+  pub least : 1 ≤ value_of p.1.value
+  pub most_ : value_of p.1.value ≤ most
+
+module _ (kind : List ℕ → Option Kind) (k : Kind) (most : ℕ) where
+  pub pairs_are : (front : List (List ℕ)) (pairs : List (Name × Number)) → Each (IsGood kind) (pairs_behind k most front pairs) → Each (IsPair kind k most) pairs
+  pairs_are front [] good = tt
+  pairs_are front (p ∷ pairs) good =
+      let range = between 1 most (value_of p.1.value) good.1.0 in
+      (record { of_kind = good.0.0; least = range.0; most_ = range.1 }, pairs_are (front ++ p.0.text ∷ []) pairs good.1.1)
+
+  -- without the literals
+  names_good : (front : List (List ℕ)) (pairs : List (Name × Number)) → Each (IsGood kind) (pairs_behind k most front pairs) → Each (IsGood kind) (names_behind k front (named_by pairs))
+  names_good front [] good = tt
+  names_good front (p ∷ pairs) good = (good.0, names_good (front ++ p.0.text ∷ []) pairs good.1.1)
+
+  pub pairs_apart : (front : List (List ℕ)) (pairs : List (Name × Number)) → Each (IsGood kind) (pairs_behind k most front pairs) → Once (named_by pairs)
+  pairs_apart front pairs good = names_apart kind k front (named_by pairs) (names_good front pairs good)
 
 -- ---- in a file in whose names nothing is wrong
 module _ (statements : List Statement) (clean : name_fault_of statements ≡ None) where
@@ -127,8 +147,12 @@ module _ (statements : List Statement) (clean : name_fault_of statements ≡ Non
     weights_small pairs is =
         Each-at (λ p. value_of p.1.value ≤ weight_limit) pairs (Each-weaker (IsPair kind Map weight_limit) (λ p. value_of p.1.value ≤ weight_limit) pairs (λ p pair. pair.most_) (weights_are pairs is))
 
-    pub weights_once : (pairs : List (Name × Number)) → s.kind ≡ statement.Weight pairs → Once pairs
-    weights_once pairs is = pairs_apart kind Map weight_limit [] pairs (kind_good i s (statement.Weight pairs) below at is).1
+    -- the maps that are eliminated
+    pub eliminated_named : (names : List Name) → s.kind ≡ statement.Eliminate names → All (λ n. IsTrue (is_map (named_in (declarations_of statements) n.text))) names
+    eliminated_named names is =
+        Each-at (λ n. IsTrue (is_map (named_in (declarations_of statements) n.text))) names
+        (Each-weaker (λ n. is_kind (kind n.text) Map ≡ true) (λ n. IsTrue (is_map (named_in (declarations_of statements) n.text))) names (λ n of_kind. map_named statements clean n.text of_kind)
+        (names_are kind Map [] names (kind_good i s (statement.Eliminate names) below at is).1))
 
     -- the modulus and the sides of a shape
     pub modulus_is : (m : Number) (sides : List (Name × Number)) → s.kind ≡ statement.Shape m sides → is_field_modulus (value_of m.value) ≡ true

@@ -37,6 +37,7 @@ made_maps u v selfmade names = map (λ n. declares_map n u v selfmade) names
 
 -- what a statement adds to a count
 abbrev pub tally : (Occurrence → ℕ) → Spot → StatementKind → ℕ
+tally by at statement.Language = 0
 tally by at (statement.Objects names) = sum_by by (made_objects names)
 tally by at (statement.Maps names source target selfmade) = sum_by by (made_maps source.text target.text selfmade names)
 tally by at (statement.Assume left right) = by (begins_assumptions 1 at)
@@ -48,6 +49,7 @@ tally by at (statement.Projection p) = by (begins_assumptions 2 at)
 tally by at statement.Degree = by (begins_order at)
 tally by at (statement.Weight pairs) = by (begins_order at)
 tally by at (statement.Solve names) = 0
+tally by at (statement.Eliminate names) = by (begins_order at)
 tally by at (statement.Shape m sides) = by (begins_shape at)
 
 plus_nothing : (n : ℕ) → n + 0 ≡ n
@@ -61,6 +63,7 @@ module _ (by : Occurrence → ℕ) (out : LeavesOut by) where
   begins o os h = sum_by-cons by o os ∙ ap (λ n. by o + n) (quiet os h) ∙ plus_nothing (by o)
 
   pub tally-statement : (at : Spot) (k : StatementKind) → sum_by by (kind_occurrences at k) ≡ tally by at k
+  tally-statement at statement.Language = refl
   tally-statement at (statement.Objects names) = refl
   tally-statement at (statement.Maps names source target selfmade) =
       let ends = used_names (object_use source ∷ object_use target ∷ []) in
@@ -76,6 +79,7 @@ module _ (by : Occurrence → ℕ) (out : LeavesOut by) where
   tally-statement at statement.Degree = begins (begins_order at) [] tt
   tally-statement at (statement.Weight pairs) = begins (begins_order at) (pairs_behind Map weight_limit [] pairs) (pairs_behind-quiet Map weight_limit [] pairs)
   tally-statement at (statement.Solve names) = quiet (names_behind Map [] names) (names_behind-quiet Map [] names)
+  tally-statement at (statement.Eliminate names) = begins (begins_order at) (names_behind Map [] names) (names_behind-quiet Map [] names)
   tally-statement at (statement.Shape m sides) = begins (begins_shape at) (modulus m ∷ pairs_behind Object shape_side_limit [] sides) (pairs_behind-quiet Object shape_side_limit [] sides)
 
   -- a measure of statements that agrees with it

@@ -1,6 +1,6 @@
 -- The names in equations stand for maps and objects.
-use Rattle.std.proofs.Common.{◌≡◌, ℕ, ◌<◌, true, false, ◌&&◌, IsTrue, List, [], ◌∷◌, map, Option, Some, None, refl, ap, ap₂, sym, subst, ◌∙◌}
-use Rattle.std.specs.List.{list_all}
+use Rattle.std.proofs.Common.{◌≡◌, ℕ, ◌<◌, true, false, ◌&&◌, IsTrue, List, [], ◌∷◌, ◌++◌, map, Option, Some, None, refl, ap, ap₂, sym, subst, ◌∙◌}
+use Rattle.std.specs.List.{list_all, flat_map}
 use Rattle.quiver.specs.Declarations.{Declaration, object_count, letter_count, named_in, quiver_of, IsDeclared}
 use Rattle.expressions.specs.Names.{is_map, is_object, are_names, are_names_of_terms, are_names_of_term, are_names_of_factors, are_names_of_primary, AreNames}
 use Rattle.statement_tokens.specs.declared.place.Spot.{Spot}
@@ -23,9 +23,8 @@ use Rattle.statement_names.specs.declared.kinds.Kind.{Kind}
 use Rattle.statement_names.specs.declared.kinds.Kind.TheVariants.{Object, Map}
 use Rattle.statement_names.specs.Faults.{kind_in, is_kind, declared_in, name_fault_of}
 use Rattle.statement_names.specs.Numbered.{declarations_of}
-use Rattle.statement_names.specs.Occurrences.{used_names, sides_occurrences, kind_occurrences, statement_occurrences, occurrences_of}
+use Rattle.statement_names.specs.Occurrences.{mark_occurrences, primary_occurrences, factors_occurrences, term_occurrences, terms_occurrences, sum_occurrences, sides_occurrences, kind_occurrences, statement_occurrences, occurrences_of}
 use Rattle.statement_names.specs.Ready.{HasNames}
-use Rattle.statement_names.specs.Uses.{primary_uses, factors_uses, term_uses, terms_uses, sum_uses}
 use Rattle.statement_names.specs.Written.{letter_at, word_at, adjoint_at, product_at, identity_at, marked_letter, equation, inner_equation, adjoint_equation, identity_equation, projection_equations, end_name, source_name, target_name, equations_in, equations_of, assumptions_of, claims_in, claims_of}
 use Rattle.statement_names.proofs.Clean.{IsGood}
 use Rattle.statement_names.proofs.Each.{Each, Each-left, Each-right, Each-weaker, Each-flat_map}
@@ -33,37 +32,37 @@ use Rattle.statement_names.proofs.FileDeclared.{statements_good, file_declared, 
 use Rattle.statement_names.proofs.Found.{named_object}
 use Rattle.statement_names.proofs.Fresh.{apart_of}
 use Rattle.statement_names.proofs.NamedKinds.{map_named, object_named}
-use Rattle.statement_names.proofs.Flat.{used_names-append}
 
 module _ (ds : List Declaration) (kind : List ℕ → Option Kind) (maps : (q : List ℕ) → is_kind (kind q) Map ≡ true → IsTrue (is_map (named_in ds q)))
     (objects : (q : List ℕ) → is_kind (kind q) Object ≡ true → IsTrue (is_object (named_in ds q))) where
   mutual
-    sum_named : (s : Sum) → Each (IsGood kind) (used_names (sum_uses s)) → are_names ds s ≡ true
+    sum_named : (s : Sum) → Each (IsGood kind) (sum_occurrences s) → are_names ds s ≡ true
     sum_named (Sum' at shape terms) good = terms_named terms good
 
-    terms_named : {m : _} (row : Row_of-Term m) → Each (IsGood kind) (used_names (terms_uses row)) → are_names_of_terms ds row ≡ true
+    terms_named : {m : _} (row : Row_of-Term m) → Each (IsGood kind) (terms_occurrences row) → are_names_of_terms ds row ≡ true
     terms_named end_of-Term good = refl
     terms_named (more_of-Term t rest) good =
-        let parts = subst (Each (IsGood kind)) (used_names-append (term_uses t) (terms_uses rest)) good in
-        ap₂ (λ b c. b && c) (term_named t (Each-left (IsGood kind) (used_names (term_uses t)) (used_names (terms_uses rest)) parts))
-        (terms_named rest (Each-right (IsGood kind) (used_names (term_uses t)) (used_names (terms_uses rest)) parts))
+        ap₂ (λ b c. b && c) (term_named t (Each-left (IsGood kind) (term_occurrences t) (terms_occurrences rest) good))
+        (terms_named rest (Each-right (IsGood kind) (term_occurrences t) (terms_occurrences rest) good))
 
-    term_named : (t : Term) → Each (IsGood kind) (used_names (term_uses t)) → are_names_of_term ds t ≡ true
+    term_named : (t : Term) → Each (IsGood kind) (term_occurrences t) → are_names_of_term ds t ≡ true
     term_named (Term' at negative literal shape factors) good = factors_named factors good
 
-    factors_named : {m : _} (row : Row_of-Factor m) → Each (IsGood kind) (used_names (factors_uses row)) → are_names_of_factors ds row ≡ true
+    factors_named : {m : _} (row : Row_of-Factor m) → Each (IsGood kind) (factors_occurrences row) → are_names_of_factors ds row ≡ true
     factors_named end_of-Factor good = refl
     factors_named (more_of-Factor at primary marks rest) good =
-        let parts = subst (Each (IsGood kind)) (used_names-append (primary_uses primary) (factors_uses rest)) good in
-        ap₂ (λ b c. b && c) (primary_named primary (Each-left (IsGood kind) (used_names (primary_uses primary)) (used_names (factors_uses rest)) parts))
-        (factors_named rest (Each-right (IsGood kind) (used_names (primary_uses primary)) (used_names (factors_uses rest)) parts))
+        let exponents = flat_map mark_occurrences marks in
+        let factor = primary_occurrences primary ++ exponents in
+        ap₂ (λ b c. b && c)
+        (primary_named primary (Each-left (IsGood kind) (primary_occurrences primary) exponents (Each-left (IsGood kind) factor (factors_occurrences rest) good)))
+        (factors_named rest (Each-right (IsGood kind) factor (factors_occurrences rest) good))
 
-    primary_named : (primary : Primary) → Each (IsGood kind) (used_names (primary_uses primary)) → are_names_of_primary ds primary ≡ true
+    primary_named : (primary : Primary) → Each (IsGood kind) (primary_occurrences primary) → are_names_of_primary ds primary ≡ true
     primary_named (Letter n) good = maps n.text good.0
     primary_named (Identity n) good = objects n.text good.0
     primary_named (Bracket s) good = sum_named s good
 
-  pub are_named : (s : Sum) → Each (IsGood kind) (used_names (sum_uses s)) → AreNames ds s
+  pub are_named : (s : Sum) → Each (IsGood kind) (sum_occurrences s) → AreNames ds s
   are_named s good = sum_named s good
 
 -- ---- expressions that are written out
@@ -146,8 +145,8 @@ module _ (statements : List Statement) (clean : name_fault_of statements ≡ Non
 
   sides_named : (left right : Sum) → Each (IsGood kind) (sides_occurrences left right) → HasNames all (equation left right)
   sides_named left right good = record {
-    left = are_named all kind (map_named statements clean) (object_named statements clean) left (Each-left (IsGood kind) (used_names (sum_uses left)) (used_names (sum_uses right)) good);
-    right = are_named all kind (map_named statements clean) (object_named statements clean) right (Each-right (IsGood kind) (used_names (sum_uses left)) (used_names (sum_uses right)) good);
+    left = are_named all kind (map_named statements clean) (object_named statements clean) left (Each-left (IsGood kind) (sum_occurrences left) (sum_occurrences right) good);
+    right = are_named all kind (map_named statements clean) (object_named statements clean) right (Each-right (IsGood kind) (sum_occurrences left) (sum_occurrences right) good);
   }
 
   quiver_is : IsQuiver (quiver_of all)

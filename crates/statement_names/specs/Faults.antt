@@ -1,5 +1,5 @@
 -- The first thing that is wrong with the names, literals and first words of a file.
-use Rattle.std.specs.Prelude.{◌≡◌, ℕ, ℤ, ◌+◌, pos, negsuc, Bool, true, false, ◌&&◌, not, nat_eq, nat_lt, nat_le, if◌then◌else◌, is_some, List, [], ◌∷◌, ◌++◌, Option, Some, None, sum_by}
+use Rattle.std.specs.Prelude.{◌≡◌, ℕ, ℤ, ◌+◌, pos, negsuc, Bool, true, false, ◌&&◌, not, nat_lt, nat_le, if◌then◌else◌, is_some, List, [], ◌∷◌, ◌++◌, Option, Some, None, sum_by}
 use Rattle.std.specs.List.{flat_map, list_any}
 use Rattle.std.specs.Map.{lookup}
 use Rattle.std.specs.Option.{option_or}
@@ -15,7 +15,7 @@ use Rattle.statement_names.specs.declared.kinds.Kind.TheVariants.{Object, Map}
 use Rattle.statement_names.specs.Occurrences.{Occurrence, declares_object, declares_map, uses, lists, counts, modulus, begins_order, begins_assumptions, begins_claim, begins_shape, occurrences_of}
 use Rattle.quiver.specs.Limits.{object_limit}
 use Rattle.adjoint_rules.specs.Limits.{assumption_limit, claim_limit, shape_limit}
-use Rattle.statement_names.specs.Limits.{file_map_limit}
+use Rattle.statement_names.specs.Limits.{map_limit_of}
 
 -- ---- what occurrences declare, and how much they begin
 
@@ -79,38 +79,39 @@ is_between least most n = nat_le least n && nat_le n most
 
 -- ---- the faults
 
--- what is wrong with an occurrence behind those before it, where it is known what each name of the file is declared as
-abbrev pub fault_behind : (List ℕ → Option Kind) → List Occurrence → Occurrence → Option NameFault
-fault_behind kind before (declares_object name) =
+-- What is wrong with an occurrence behind those before it, where it is known how many maps the file may declare and what
+-- each of its names is declared as.
+abbrev pub fault_behind : ℕ → (List ℕ → Option Kind) → List Occurrence → Occurrence → Option NameFault
+fault_behind most_maps kind before (declares_object name) =
     if is_some (kind_in (declared_in before) name.text) then Some (Double name.at)
     else if nat_lt object_limit (sum_by objects_by before + 1) then Some (TooMany name.at object_limit)
     else None
-fault_behind kind before (declares_map name source target selfmade) =
+fault_behind most_maps kind before (declares_map name source target selfmade) =
     if is_some (kind_in (declared_in before) name.text) then Some (Double name.at)
-    else if nat_lt file_map_limit (sum_by maps_by before + 1) then Some (TooMany name.at file_map_limit)
+    else if nat_lt most_maps (sum_by maps_by before + 1) then Some (TooMany name.at most_maps)
     else if selfmade && are_two_objects kind source target then Some (NotSquare name.at)
     else None
-fault_behind kind before (uses u) =
+fault_behind most_maps kind before (uses u) =
     if is_kind (kind u.name.text) u.kind then None else Some (Unknown u.name.at)
-fault_behind kind before (lists front u) =
+fault_behind most_maps kind before (lists front u) =
     if not (is_kind (kind u.name.text) u.kind) then Some (Unknown u.name.at)
     else if is_among front u.name.text then Some (Double u.name.at)
     else None
-fault_behind kind before (counts most n) = if is_between 1 most (value_of n.value) then None else Some (BadNumber n.at)
-fault_behind kind before (modulus n) = if is_field_modulus (value_of n.value) then None else Some (BadNumber n.at)
-fault_behind kind before (begins_order at) = if nat_lt 1 (sum_by orders_by before + 1) then Some (Double at) else None
-fault_behind kind before (begins_assumptions count at) = if nat_lt assumption_limit (sum_by assumptions_by before + count) then Some (TooMany at assumption_limit) else None
-fault_behind kind before (begins_claim at) = if nat_lt claim_limit (sum_by claims_by before + 1) then Some (TooMany at claim_limit) else None
-fault_behind kind before (begins_shape at) = if nat_lt shape_limit (sum_by shapes_by before + 1) then Some (TooMany at shape_limit) else None
+fault_behind most_maps kind before (counts most n) = if is_between 1 most (value_of n.value) then None else Some (BadNumber n.at)
+fault_behind most_maps kind before (modulus n) = if is_field_modulus (value_of n.value) then None else Some (BadNumber n.at)
+fault_behind most_maps kind before (begins_order at) = if nat_lt 1 (sum_by orders_by before + 1) then Some (Double at) else None
+fault_behind most_maps kind before (begins_assumptions count at) = if nat_lt assumption_limit (sum_by assumptions_by before + count) then Some (TooMany at assumption_limit) else None
+fault_behind most_maps kind before (begins_claim at) = if nat_lt claim_limit (sum_by claims_by before + 1) then Some (TooMany at claim_limit) else None
+fault_behind most_maps kind before (begins_shape at) = if nat_lt shape_limit (sum_by shapes_by before + 1) then Some (TooMany at shape_limit) else None
 
 -- the fault of the first of some occurrences that has one behind all before it
-abbrev pub first_fault : (List ℕ → Option Kind) → List Occurrence → List Occurrence → Option NameFault
-first_fault kind before [] = None
-first_fault kind before (o ∷ os) = option_or (fault_behind kind before o) (first_fault kind (before ++ o ∷ []) os)
+abbrev pub first_fault : ℕ → (List ℕ → Option Kind) → List Occurrence → List Occurrence → Option NameFault
+first_fault most_maps kind before [] = None
+first_fault most_maps kind before (o ∷ os) = option_or (fault_behind most_maps kind before o) (first_fault most_maps kind (before ++ o ∷ []) os)
 
 -- the first thing that is wrong with the file
 abbrev pub name_fault_of : List Statement → Option NameFault
-name_fault_of statements = let os = occurrences_of statements in first_fault (kind_in (declared_in os)) [] os
+name_fault_of statements = let os = occurrences_of statements in first_fault (map_limit_of statements) (kind_in (declared_in os)) [] os
 
 -- the fault that is found is the answer, or memory was short
 abbrev pub Explains : Option NameFault → NameStop → Type 0

@@ -4,15 +4,21 @@ use Rattle.std.specs.List.{flat_map}
 use Rattle.statement_tokens.specs.declared.place.Spot.{Spot}
 use Rattle.statement_syntax.specs.declared.tree.Name.{Name}
 use Rattle.statement_syntax.specs.declared.tree.Number.{Number}
+use Rattle.statement_syntax.specs.declared.tree.Mark.{Mark}
+use Rattle.statement_syntax.specs.declared.tree.Mark.TheVariants.{Adjoint, Power}
+use Rattle.statement_syntax.specs.declared.tree.Primary.{Primary, Letter, Identity, Bracket}
+use Rattle.statement_syntax.specs.declared.tree.Factor.{Factor}
+use Rattle.statement_syntax.specs.declared.tree.Term.{Term, Term', Row_of-Factor, end_of-Factor, more_of-Factor}
+use Rattle.statement_syntax.specs.declared.tree.Sum.{Sum, Sum', Row_of-Term, end_of-Term, more_of-Term}
 use Rattle.statement_syntax.specs.declared.tree.Statement.{Statement}
 use Rattle.statement_syntax.specs.declared.tree.StatementKind.{StatementKind}
 use Rattle.statement_syntax.specs.declared.tree.StatementKind.TheVariants as statement
-use Rattle.statement_syntax.specs.declared.tree.Sum.{Sum}
 use Rattle.adjoint_rules.specs.Limits.{shape_side_limit}
 use Rattle.word_orders.specs.Limits.{weight_limit}
 use Rattle.statement_names.specs.declared.kinds.Kind.{Kind}
 use Rattle.statement_names.specs.declared.kinds.Kind.TheVariants.{Object, Map}
-use Rattle.statement_names.specs.Uses.{Use, object_use, map_use, sum_uses}
+use Rattle.statement_names.specs.Limits.{exponent_limit}
+use Rattle.statement_names.specs.Uses.{Use, use_of, object_use, map_use}
 
 pub data Occurrence : Type 0 where
   -- the name declares an object
@@ -32,9 +38,6 @@ pub data Occurrence : Type 0 where
   begins_claim : Spot → Occurrence
   begins_shape : Spot → Occurrence
 
-abbrev pub use_of : Kind → Name → Use
-use_of kind name = record { kind = kind; name = name }
-
 -- a list of names behind others of the list
 abbrev pub names_behind : Kind → List (List ℕ) → List Name → List Occurrence
 names_behind kind front [] = []
@@ -49,10 +52,41 @@ pairs_behind kind most front (pair ∷ pairs) =
 abbrev pub used_names : List Use → List Occurrence
 used_names us = map (λ u. uses u) us
 
+-- the exponent of a mark that is a power
+abbrev pub mark_occurrences : Mark → List Occurrence
+mark_occurrences Adjoint = []
+mark_occurrences (Power at exponent) = counts exponent_limit exponent ∷ []
+
+-- the names and the exponents of an expression from the left, a primary before its exponents
+abbrev mutual
+  pub primary_occurrences : Primary → List Occurrence
+  primary_occurrences (Letter name) = uses (map_use name) ∷ []
+  primary_occurrences (Identity name) = uses (object_use name) ∷ []
+  primary_occurrences (Bracket sum) = sum_occurrences sum
+
+  pub sum_occurrences : Sum → List Occurrence
+  sum_occurrences (Sum' at shape terms) = terms_occurrences terms
+
+  pub terms_occurrences : {m : _} → Row_of-Term m → List Occurrence
+  terms_occurrences end_of-Term = []
+  terms_occurrences (more_of-Term term rest) = term_occurrences term ++ terms_occurrences rest
+
+  pub term_occurrences : Term → List Occurrence
+  term_occurrences (Term' at negative literal shape factors) = factors_occurrences factors
+
+  pub factors_occurrences : {m : _} → Row_of-Factor m → List Occurrence
+  factors_occurrences end_of-Factor = []
+  factors_occurrences (more_of-Factor at primary marks rest) =
+      (primary_occurrences primary ++ flat_map mark_occurrences marks) ++ factors_occurrences rest
+
+abbrev pub factor_occurrences : Factor → List Occurrence
+factor_occurrences factor = primary_occurrences factor.primary ++ flat_map mark_occurrences factor.marks
+
 abbrev pub sides_occurrences : Sum → Sum → List Occurrence
-sides_occurrences left right = used_names (sum_uses left) ++ used_names (sum_uses right)
+sides_occurrences left right = sum_occurrences left ++ sum_occurrences right
 
 abbrev pub kind_occurrences : Spot → StatementKind → List Occurrence
+kind_occurrences at statement.Language = []
 kind_occurrences at (statement.Objects names) = map (λ name. declares_object name) names
 kind_occurrences at (statement.Maps names source target selfmade) =
     map (λ name. declares_map name source.text target.text selfmade) names ++ uses (object_use source) ∷ uses (object_use target) ∷ []
@@ -65,6 +99,7 @@ kind_occurrences at (statement.Projection name) = begins_assumptions 2 at ∷ us
 kind_occurrences at statement.Degree = begins_order at ∷ []
 kind_occurrences at (statement.Weight weights) = begins_order at ∷ pairs_behind Map weight_limit [] weights
 kind_occurrences at (statement.Solve names) = names_behind Map [] names
+kind_occurrences at (statement.Eliminate names) = begins_order at ∷ names_behind Map [] names
 kind_occurrences at (statement.Shape m sides) = begins_shape at ∷ modulus m ∷ pairs_behind Object shape_side_limit [] sides
 
 -- it has no list of names
@@ -73,6 +108,7 @@ IsListless (statement.Objects names) = ⊥
 IsListless (statement.Maps names source target selfmade) = ⊥
 IsListless (statement.Weight weights) = ⊥
 IsListless (statement.Solve names) = ⊥
+IsListless (statement.Eliminate names) = ⊥
 IsListless (statement.Shape m sides) = ⊥
 IsListless kind = Unit {0}
 

@@ -11,7 +11,7 @@ use Rattle.statement_syntax.specs.declared.tree.StatementKind.TheVariants as sta
 use Rattle.expressions.specs.Names.{letter_of}
 use Rattle.word_core.specs.declared.letter.Letter.{Letter}
 use Rattle.word_orders.specs.declared.any.OrderSpec.{OrderSpec}
-use Rattle.word_orders.specs.declared.any.OrderSpec.TheVariants.{Degree, Weight}
+use Rattle.word_orders.specs.declared.any.OrderSpec.TheVariants.{Degree, Weight, Block}
 use Rattle.statement_names.specs.Faults.{value_of}
 
 abbrev pub letter : ℕ → Letter
@@ -21,14 +21,19 @@ letter a = record { 0 = a }
 abbrev pub with_star : List Declaration → ℕ → List Letter
 with_star ds a = let s = star (quiver_of ds) a in if nat_eq s a then letter a ∷ [] else letter a ∷ letter s ∷ []
 
--- a map and its adjoint weigh what the literal says
+-- the letter of a map and its adjoint
+abbrev pub letters_for : List Declaration → Name → List Letter
+letters_for ds name = with_star ds (letter_of ds name)
+
+-- they weigh what the literal says
 abbrev pub weights_of : List Declaration → Name × Number → List (Letter × ℕ)
-weights_of ds pair = map (λ l. (l, value_of pair.1.value)) (with_star ds (letter_of ds pair.0))
+weights_of ds pair = map (λ l. (l, value_of pair.1.value)) (letters_for ds pair.0)
 
 -- the order of a statement, if it is one
 abbrev pub order_or : List Declaration → StatementKind → OrderSpec → OrderSpec
 order_or ds statement.Degree later = Degree
 order_or ds (statement.Weight pairs) later = Weight (flat_map (weights_of ds) pairs)
+order_or ds (statement.Eliminate names) later = Block (flat_map (letters_for ds) names)
 order_or ds kind later = later
 
 -- the one order of the file, and the canonical one where it has none

@@ -14,7 +14,6 @@ use Rattle.statement_names.specs.Uses.{Use}
 use Rattle.statement_names.specs.Faults.{kind_in, is_kind, are_two_objects, is_among, value_of, is_between}
 use Rattle.quiver.specs.Limits.{object_limit}
 use Rattle.adjoint_rules.specs.Limits.{assumption_limit, claim_limit, shape_limit}
-use Rattle.statement_names.specs.Limits.{file_map_limit}
 
 -- what a statement declares
 abbrev pub kinded : Kind → List Name → List (List ℕ × Kind)
@@ -58,7 +57,7 @@ number_fault good fault = if good then None else Some fault
 abbrev pub fault_at : Survey → Occurrence → Option NameFault
 fault_at s (declares_object name) = declared_fault s.declared s.objects object_limit name
 fault_at s (declares_map name source target selfmade) =
-    or_else (declared_fault s.declared s.maps file_map_limit name)
+    or_else (declared_fault s.declared s.maps s.map_limit name)
     (selfmade && are_two_objects (kind_in s.kinds) source target) (NotSquare name.at)
 fault_at s (uses u) = used_fault s.kinds u
 fault_at s (lists front u) = or_else (used_fault s.kinds u) (is_among front u.name.text) (Double u.name.at)

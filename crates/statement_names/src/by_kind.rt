@@ -2,8 +2,9 @@
 
 ghost use Rattle.std.specs.Prelude.{◌≡◌, ◌∷◌, [], ◌++◌, map, Some, Ok, OnOk, IfErr};
 ghost use Rattle.statement_names.specs.Faults.{Explains};
-ghost use Rattle.statement_names.specs.Occurrences.{IsListless, declares_map, begins_assumptions, use_of, used_names, kind_occurrences, statement_occurrences};
+ghost use Rattle.statement_names.specs.Occurrences.{IsListless, declares_map, begins_assumptions, used_names, kind_occurrences, statement_occurrences};
 ghost use Rattle.statement_names.specs.Survey.{run, fault_in};
+ghost use Rattle.statement_names.specs.Uses.{use_of};
 
 use crate::fault::{NameFault, NameStop};
 use crate::kinds::Kind;
@@ -32,6 +33,7 @@ impl Survey {
             } => self.maps_between(names.as_slice(), source, target, *selfmade),
             StatementKind::Weight(weights) => self.weights(alloc, at, weights.as_slice()),
             StatementKind::Solve(names) => self.names(alloc, names.as_slice()),
+            StatementKind::Eliminate(names) => self.eliminated(alloc, at, names.as_slice()),
             StatementKind::Shape { modulus, sides } => self.shape_with(
                 alloc,
                 at,
@@ -49,6 +51,7 @@ impl Survey {
         ensures err { IfErr result (λ e. fault_in (run self.old (kind_occurrences at kind.now)) ≡ Some e) }
     {
         match kind {
+            StatementKind::Language => Ok(()),
             StatementKind::Assume(left, right) => self.assumption(at, left, right),
             StatementKind::Claim(left, right) => self.claimed(at, left, right),
             StatementKind::Pinv(a, x) => self.abbreviation(4, at, a, x),
@@ -128,6 +131,15 @@ impl Survey {
     {
         self.order(at)?;
         self.pairs(alloc, weights, Kind::Map, WEIGHT_LIMIT)
+    }
+
+    // An order by the maps that are eliminated.
+    fn eliminated(&mut self, alloc: Global, at: Spot, names: &[Name]) -> Result<(), NameStop>
+        ensures ok { OnOk result (run self.old (kind_occurrences at (StatementKind.Eliminate names.now)) ≡ Ok self.new) }
+        ensures err { IfErr result (Explains (fault_in (run self.old (kind_occurrences at (StatementKind.Eliminate names.now))))) }
+    {
+        self.order(at)?;
+        self.names(alloc, names)
     }
 
     // A shape of models.

@@ -7,7 +7,7 @@ ghost use Rattle.statement_names.specs.Survey.{fault_at, behind, run, fault_in, 
 
 use crate::fault::{NameFault, NameStop};
 use crate::kinds::{Kind, Kinds};
-use crate::survey::{FILE_MAP_LIMIT, Survey, take_room};
+use crate::survey::{Survey, take_room};
 use quiver::OBJECT_LIMIT;
 use statement_syntax::Name;
 
@@ -92,7 +92,7 @@ impl Survey {
         ensures err { IfErr result (Explains (fault_at self.old (declares_map name.now source.now.text target.now.text selfmade))) }
     {
         let declared = &mut self.declared;
-        declare(declared, &mut self.maps, FILE_MAP_LIMIT, name, Kind::Map)?;
+        declare(declared, &mut self.maps, self.map_limit, name, Kind::Map)?;
         if selfmade && self.are_two_objects(source, target) {
             return Err(NameStop::Fault(NameFault::NotSquare { at: name.at }));
         }

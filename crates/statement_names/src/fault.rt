@@ -14,7 +14,7 @@ pub enum NameFault {
     /// The name isn't declared, or it is a map's where an object stands, or an object's where a map stands.
     #[error("line {}, column {}: no such name", at.line, at.column)]
     Unknown { at: Spot },
-    /// The name is declared or listed for the second time, or this is a second `order` statement.
+    /// The name is declared or listed for the second time, or this is a second statement of an order.
     #[error("line {}, column {}: for the second time", at.line, at.column)]
     Double { at: Spot },
     /// There are more of them than may be.
@@ -23,7 +23,7 @@ pub enum NameFault {
     /// A map that is to be its own adjoint has two different ends.
     #[error("line {}, column {}: the source and the target differ", at.line, at.column)]
     NotSquare { at: Spot },
-    /// A weight, a modulus or a side that may not be.
+    /// A weight, a modulus, a side or an exponent that may not be.
     #[error("line {}, column {}: no such number may stand here", at.line, at.column)]
     BadNumber { at: Spot },
 }

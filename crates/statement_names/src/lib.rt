@@ -19,5 +19,6 @@ mod written;
 
 pub use fault::{NameFault, NameStop};
 pub use names::{Names, read_names};
-pub use survey::FILE_MAP_LIMIT;
+pub use survey::FIRST_MAP_LIMIT;
+pub use used::EXPONENT_LIMIT;
 pub use written::{Equation, abbreviation};

@@ -7,7 +7,7 @@ ghost use Rattle.quiver.specs.Declarations.{named_in};
 ghost use Rattle.expressions.specs.Names.{is_map};
 ghost use Rattle.statement_names.specs.Faults.{name_fault_of, value_of};
 ghost use Rattle.statement_names.specs.Numbered.{declarations_of};
-ghost use Rattle.statement_names.specs.Ordered.{order_of, weights_of};
+ghost use Rattle.statement_names.specs.Ordered.{order_of, letters_for, weights_of};
 
 use crate::literal::value_of;
 use expressions::letter_of;
@@ -34,6 +34,10 @@ pub fn read_order(
             StatementKind::Weight(weights) => {
                 let weights = weights_of(alloc, quiver, weights.as_slice())?;
                 return Ok(OrderSpec::Weight(weights));
+            }
+            StatementKind::Eliminate(names) => {
+                let block = block_of(alloc, quiver, names.as_slice())?;
+                return Ok(OrderSpec::Block(block));
             }
             _ => {}
         }
@@ -62,4 +66,21 @@ fn weights_of(
         }
     }
     Ok(weights)
+}
+
+// The letters of maps and their adjoints.
+fn block_of(alloc: Global, quiver: &Quiver, names: &[Name]) -> Result<Listing<Letter>, AllocError>
+    requires { All (λ name. IsTrue (is_map (named_in quiver.now name.text))) names.now }
+    ensures { IfOk result (λ block. block ≡ flat_map (letters_for quiver.now) names.now) }
+{
+    let mut block = Listing::new(alloc);
+    for name in names {
+        let letter = letter_of(quiver, name);
+        let star = quiver.star_of(letter);
+        block.push(letter)?;
+        if star != letter {
+            block.push(star)?;
+        }
+    }
+    Ok(block)
 }

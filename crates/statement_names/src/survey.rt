@@ -2,24 +2,26 @@
 
 ghost use Rattle.std.specs.Prelude.{◌≡◌, ◌-◌, None, Some, OnOk, OnErr, IfErr};
 ghost use Rattle.statement_names.specs.Faults.{name_fault_of, Explains};
+ghost use Rattle.statement_names.specs.Limits.{map_limit_of};
 ghost use Rattle.statement_names.specs.Occurrences.{begins_order, begins_assumptions, begins_claim, begins_shape};
 ghost use Rattle.statement_names.specs.Survey.{fault_at, behind, short_of};
 
 use crate::fault::{NameFault, NameStop};
 use crate::kinds::{Kinds, kinds_of};
 use adjoint_rules::{ASSUMPTION_LIMIT, CLAIM_LIMIT, SHAPE_LIMIT};
-use quiver::OBJECT_LIMIT;
-use statement_syntax::Statement;
+use quiver::{MAP_LIMIT, OBJECT_LIMIT};
+use statement_syntax::{Statement, StatementKind};
 use statement_tokens::Spot;
 use std::alloc::Global;
 
-/// The greatest number of maps of a file.
-pub const FILE_MAP_LIMIT: u32 = 200;
+/// The greatest number of maps of a file of the first language.
+pub const FIRST_MAP_LIMIT: u32 = 200;
 
-/// What all of a file declares, what is declared so far, and how many more of each may come.
+/// What all of a file declares and how many maps it may, what is declared so far, and how many more of each may come.
 #[derive(Drop)]
 pub struct Survey {
     pub kinds: Kinds,
+    pub map_limit: u32,
     pub declared: Kinds,
     pub objects: u32,
     pub maps: u32,
@@ -34,11 +36,13 @@ pub fn check_names(alloc: Global, statements: &[Statement]) -> Result<(), NameSt
     ensures ok { OnOk result (name_fault_of statements.now ≡ None) }
     ensures err { IfErr result (Explains (name_fault_of statements.now)) }
 {
+    let map_limit = map_limit_of(statements);
     let mut survey = Survey {
         kinds: kinds_of(alloc, statements)?,
+        map_limit,
         declared: Kinds::new(alloc),
         objects: OBJECT_LIMIT,
-        maps: FILE_MAP_LIMIT,
+        maps: map_limit,
         orders: 1,
         assumptions: ASSUMPTION_LIMIT,
         claims: CLAIM_LIMIT,
@@ -52,6 +56,21 @@ pub fn check_names(alloc: Global, statements: &[Statement]) -> Result<(), NameSt
     }
     drop(survey);
     Ok(())
+}
+
+// How many maps a file may declare: as many as a quiver, where the first statement names the second language.
+fn map_limit_of(statements: &[Statement]) -> u32
+    ensures { result ≡ map_limit_of statements.now }
+{
+    match statements.first() {
+        Some(
+            Statement {
+                kind: StatementKind::Language,
+                ..
+            },
+        ) => MAP_LIMIT,
+        _ => FIRST_MAP_LIMIT,
+    }
 }
 
 /// Takes room for so many more, or gives the fault and leaves the room as it was.

@@ -1,17 +1,21 @@
 //! The names that are used: whether they are declared, as what they are to be, and once in a list.
 
 ghost use Rattle.std.specs.Prelude.{◌≡◌, ◌∷◌, [], ◌++◌, None, Some, Ok, OnOk, IfErr};
+ghost use Rattle.std.specs.List.{flat_map};
 ghost use Rattle.statement_names.specs.Faults.{Explains, kind_in, is_kind};
-ghost use Rattle.statement_names.specs.Occurrences.{use_of, lists, names_behind, pairs_behind, used_names, sides_occurrences};
+ghost use Rattle.statement_names.specs.Occurrences.{lists, names_behind, pairs_behind, used_names, mark_occurrences, primary_occurrences, factor_occurrences, term_occurrences, sum_occurrences, sides_occurrences};
 ghost use Rattle.statement_names.specs.Survey.{fault_at, run, fault_in, used_fault, names_in};
-ghost use Rattle.statement_names.specs.Uses.{primary_uses, term_uses, sum_uses};
+ghost use Rattle.statement_names.specs.Uses.{use_of};
 
 use crate::fault::{NameFault, NameStop};
 use crate::kinds::{Kind, Kinds};
 use crate::literal::check_count;
 use crate::survey::Survey;
-use statement_syntax::{Name, Number, Primary, Sum, Term};
+use statement_syntax::{Factor, Mark, Name, Number, Primary, Sum, Term};
 use std::alloc::Global;
+
+/// The greatest exponent of a power.
+pub const EXPONENT_LIMIT: u32 = 500;
 
 impl Survey {
     // Whether the name is declared as this.
@@ -85,11 +89,11 @@ impl Survey {
         Ok(())
     }
 
-    // The names in an expression.
+    // The names and the exponents in an expression.
     #[cycle(expressions)]
     pub(crate) fn sum(&self, sum: &Sum) -> Result<(), NameFault>
-        ensures ok { OnOk result (run self.now (used_names (sum_uses sum.now)) ≡ Ok self.now) }
-        ensures err { IfErr result (λ e. fault_in (run self.now (used_names (sum_uses sum.now))) ≡ Some e) }
+        ensures ok { OnOk result (run self.now (sum_occurrences sum.now) ≡ Ok self.now) }
+        ensures err { IfErr result (λ e. fault_in (run self.now (sum_occurrences sum.now)) ≡ Some e) }
     {
         for term in sum.terms.as_slice() {
             self.term(term)?;
@@ -99,24 +103,55 @@ impl Survey {
 
     #[cycle(expressions)]
     fn term(&self, term: &Term) -> Result<(), NameFault>
-        ensures ok { OnOk result (run self.now (used_names (term_uses term.now)) ≡ Ok self.now) }
-        ensures err { IfErr result (λ e. fault_in (run self.now (used_names (term_uses term.now))) ≡ Some e) }
+        ensures ok { OnOk result (run self.now (term_occurrences term.now) ≡ Ok self.now) }
+        ensures err { IfErr result (λ e. fault_in (run self.now (term_occurrences term.now)) ≡ Some e) }
     {
         for factor in term.factors.as_slice() {
-            self.primary(&factor.primary)?;
+            self.factor(factor)?;
         }
         Ok(())
     }
 
     #[cycle(expressions)]
+    fn factor(&self, factor: &Factor) -> Result<(), NameFault>
+        ensures ok { OnOk result (run self.now (factor_occurrences factor.now) ≡ Ok self.now) }
+        ensures err { IfErr result (λ e. fault_in (run self.now (factor_occurrences factor.now)) ≡ Some e) }
+    {
+        self.primary(&factor.primary)?;
+        self.exponents(factor.marks.as_slice())
+    }
+
+    #[cycle(expressions)]
     fn primary(&self, primary: &Primary) -> Result<(), NameFault>
-        ensures ok { OnOk result (run self.now (used_names (primary_uses primary.now)) ≡ Ok self.now) }
-        ensures err { IfErr result (λ e. fault_in (run self.now (used_names (primary_uses primary.now))) ≡ Some e) }
+        ensures ok { OnOk result (run self.now (primary_occurrences primary.now) ≡ Ok self.now) }
+        ensures err { IfErr result (λ e. fault_in (run self.now (primary_occurrences primary.now)) ≡ Some e) }
     {
         match primary {
             Primary::Letter(name) => self.name(name, Kind::Map),
             Primary::Identity(name) => self.name(name, Kind::Object),
             Primary::Bracket(sum) => self.sum(sum),
+        }
+    }
+
+    // The exponents behind a primary.
+    fn exponents(&self, marks: &[Mark]) -> Result<(), NameFault>
+        ensures ok { OnOk result (run self.now (flat_map mark_occurrences marks.now) ≡ Ok self.now) }
+        ensures err { IfErr result (λ e. fault_in (run self.now (flat_map mark_occurrences marks.now)) ≡ Some e) }
+    {
+        for mark in marks {
+            self.exponent(mark)?;
+        }
+        Ok(())
+    }
+
+    // The exponent of a mark that is a power.
+    fn exponent(&self, mark: &Mark) -> Result<(), NameFault>
+        ensures ok { OnOk result (run self.now (mark_occurrences mark.now) ≡ Ok self.now) }
+        ensures err { IfErr result (λ e. fault_in (run self.now (mark_occurrences mark.now)) ≡ Some e) }
+    {
+        match mark {
+            Mark::Adjoint => Ok(()),
+            Mark::Power { exponent, .. } => check_count(EXPONENT_LIMIT, exponent),
         }
     }
 

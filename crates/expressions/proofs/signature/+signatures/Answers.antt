@@ -9,7 +9,7 @@ use Rattle.expressions.proofs.signature.+signatures.Goals as goal
 
 pub factor_signature-returns-clause-in_range : goal.factor_signature-returns-clause-in_range
 factor_signature-returns-clause-in_range t c =
-    rw c.marked_signature.ensures (objects-marked_signature (object_count c.args.quiver.now) c.as_slice.result.now c.in_ok-signature.signature (search rules))
+    rw c.marked_signature.ensures (objects-marked_signature (object_count c.args.quiver.now) c.args.factor.now.at c.as_slice.result.now c.in_ok-signature.signature (search rules))
 
 -- ---- a sum
 pub sum_signature-term_signature-requires : goal.sum_signature-term_signature-requires

@@ -1,11 +1,11 @@
 use Rattle.std.proofs.Common.{◌≡◌, drop}
 use Rattle.std.specs.List.{flat_map}
+use Rattle.statement_names.specs.Occurrences.{term_occurrences, factor_occurrences}
 use Rattle.statement_names.specs.Survey.{run}
-use Rattle.statement_names.proofs.Flat.{term_names, factor_names}
 use Rattle.statement_names.proofs.survey.Survey.+expressions.Given as goal
 
 abbrev pub invariant-sum-loop-term : goal.invariant-sum-loop-term
-invariant-sum-loop-term l = run l.self (flat_map term_names (drop l.term-index l.term-items)) ≡ run l.self (flat_map term_names l.term-items)
+invariant-sum-loop-term l = run l.self (flat_map term_occurrences (drop l.term-index l.term-items)) ≡ run l.self (flat_map term_occurrences l.term-items)
 
 abbrev pub invariant-term-loop-factor : goal.invariant-term-loop-factor
-invariant-term-loop-factor l = run l.self (flat_map factor_names (drop l.factor-index l.factor-items)) ≡ run l.self (flat_map factor_names l.factor-items)
+invariant-term-loop-factor l = run l.self (flat_map factor_occurrences (drop l.factor-index l.factor-items)) ≡ run l.self (flat_map factor_occurrences l.factor-items)

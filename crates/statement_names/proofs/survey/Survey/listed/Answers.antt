@@ -1,7 +1,7 @@
 use Rattle.std.proofs.Common.{rules, ◌≡◌, true, false, None, ap₂, ◌∙◌}
 use Rattle.statement_names.specs.Faults.{is_among}
-use Rattle.statement_names.specs.Occurrences.{use_of}
 use Rattle.statement_names.specs.Survey.{used_fault, or_else, names_in}
+use Rattle.statement_names.specs.Uses.{use_of}
 use Rattle.statement_names.specs.declared.fault.NameFault.TheVariants.{Double}
 use Rattle.statement_names.proofs.Listed.{among-names_in}
 use Rattle.statement_names.proofs.survey.Survey.listed.Goals as goal

@@ -1,8 +1,9 @@
 use Rattle.std.proofs.Common.{◌≡◌, ◌∷◌, [], ◌++◌, Some, Ok, map, ap, ◌∙◌, rules}
 use Rattle.statement_names.specs.Faults.{Explains}
 use Rattle.statement_names.specs.declared.kinds.Kind.TheVariants.{Object}
-use Rattle.statement_names.specs.Occurrences.{declares_map, use_of, used_names}
+use Rattle.statement_names.specs.Occurrences.{declares_map, used_names}
 use Rattle.statement_names.specs.Survey.{run, fault_in}
+use Rattle.statement_names.specs.Uses.{use_of}
 use Rattle.statement_names.proofs.Runs.{run_on, run_ends}
 use Rattle.statement_names.proofs.survey.Survey.maps_between.Goals as goal
 

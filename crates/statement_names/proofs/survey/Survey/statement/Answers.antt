@@ -1,7 +1,8 @@
 use Rattle.std.proofs.Common.{◌∷◌, [], ◌++◌, map, ap, sym, ◌∙◌}
 use Rattle.statement_names.specs.declared.kinds.Kind.TheVariants.{Object}
-use Rattle.statement_names.specs.Occurrences.{declares_map, use_of, used_names, kind_occurrences}
+use Rattle.statement_names.specs.Occurrences.{declares_map, used_names, kind_occurrences}
 use Rattle.statement_names.specs.Survey.{run}
+use Rattle.statement_names.specs.Uses.{use_of}
 use Rattle.statement_names.proofs.survey.Survey.statement.Goals as goal
 
 pub returns-in-Maps-clause-err : goal.returns-in-Maps-clause-err

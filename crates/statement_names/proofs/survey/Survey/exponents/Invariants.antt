@@ -1,0 +1,8 @@
+use Rattle.std.proofs.Common.{◌≡◌, drop}
+use Rattle.std.specs.List.{flat_map}
+use Rattle.statement_names.specs.Occurrences.{mark_occurrences}
+use Rattle.statement_names.specs.Survey.{run}
+use Rattle.statement_names.proofs.survey.Survey.exponents.Given as goal
+
+abbrev pub invariant-loop-mark : goal.invariant-loop-mark
+invariant-loop-mark l = run l.self (flat_map mark_occurrences (drop l.mark-index l.marks)) ≡ run l.self (flat_map mark_occurrences l.marks)
