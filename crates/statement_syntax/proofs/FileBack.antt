@@ -10,15 +10,14 @@ use Rattle.statement_tokens.specs.declared.token.TokenKind.{TokenKind}
 use Rattle.statement_tokens.specs.declared.token.TokenKind.TheVariants as kind
 use Rattle.statement_tokens.specs.declared.language.Language.{Language}
 use Rattle.statement_tokens.specs.declared.language.Language.TheVariants.{First, Second}
-use Rattle.statement_tokens.specs.Language.{language_of}
 use Rattle.statement_syntax.specs.declared.tree.Statement.{Statement}
 use Rattle.statement_tokens.specs.declared.scan.Item.TheVariants as item
 use Rattle.statement_tokens.specs.declared.scan.Placed.{Placed}
 use Rattle.statement_tokens.specs.Token.{◌>>=◌, item_at, tokens_from, tokens_of, placed, end_of, with_front}
-use Rattle.statement_syntax.specs.Grammar.{sign_token, Stated, listed, mapped, sides, paired, projected, by_degree, by_weight, modelled, second_language, stated_tokens, StatedLine, NamesLanguage, IsFileOf, line_tokens, file_tokens, FileFits}
+use Rattle.statement_syntax.specs.Grammar.{sign_token, Stated, listed, mapped, sides, paired, projected, by_degree, by_weight, modelled, second_language, stated_tokens, StatedLine, NamesLanguage, IsFileOf, file_tokens, FileFits}
 use Rattle.statement_syntax.specs.Tree.{stated_kind, file_tree}
 use Rattle.statement_syntax.specs.Fault.{HasText}
-use Rattle.statement_syntax.specs.Places.{somewhere, bare_stated, bare_line, bare_file, ReadsBackAs}
+use Rattle.statement_syntax.specs.Places.{somewhere, bare_stated, bare_file, ReadsBackAs}
 use Rattle.statement_syntax.specs.Written.{text_from, statement_kinds, tree_text}
 use Rattle.statement_tokens.proofs.Scanning.{spot}
 use Rattle.statement_syntax.proofs.Moved.{kinds, file_moved}

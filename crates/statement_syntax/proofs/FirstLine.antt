@@ -1,6 +1,6 @@
 -- The line that a file of the second language begins with: its tokens tell the language, and behind it stand lines of the language.
-use Rattle.std.proofs.Common.{◌≡◌, ℕ, Bool, true, false, List, [], ◌∷◌, ◌++◌, refl, sym, ap, subst, ◌∙◌, append_assoc}
-use Rattle.std.specs.Prelude.{◌&&◌, if◌then◌else◌, pos, codes, bytes_eq}
+use Rattle.std.proofs.Common.{◌≡◌, Bool, true, false, List, [], ◌∷◌, ◌++◌, refl, sym, ap, subst, ◌∙◌, append_assoc}
+use Rattle.std.specs.Prelude.{◌&&◌, if◌then◌else◌, pos, codes}
 use Rattle.std.proofs.lemmas.Slice.Eq.{bytes_eq-Decides}
 use Rattle.std.proofs.lemmas.Bool.Decides.{Decides-int_eq}
 use Rattle.statement_tokens.specs.declared.place.Spot.{Spot}
@@ -10,7 +10,6 @@ use Rattle.statement_tokens.specs.declared.token.TokenKind.TheVariants as kind
 use Rattle.statement_tokens.specs.declared.language.Language.{Language}
 use Rattle.statement_tokens.specs.declared.language.Language.TheVariants.{First, Second}
 use Rattle.statement_tokens.specs.Language.{is_language_word, is_two, is_end, language_of}
-use Rattle.statement_syntax.specs.declared.tree.Statement.{Statement}
 use Rattle.statement_syntax.specs.declared.tree.StatementKind.TheVariants as statement
 use Rattle.statement_syntax.specs.declared.line.ListWord.TheVariants.{Object, Solve, Eliminate}
 use Rattle.statement_syntax.specs.declared.line.SidesWord.TheVariants.{Assume, Claim}

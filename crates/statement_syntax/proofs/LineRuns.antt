@@ -1,6 +1,6 @@
 -- Each statement is read as itself where it is within the limit, and else stops at a bracket that is too deep.
 use Rattle.std.proofs.Common.{◌≡◌, true, List, [], ◌∷◌, ◌++◌, inl, Some, None, Result, Ok, Err, refl, sym, ap, ◌∙◌, append_assoc}
-use Rattle.std.specs.Prelude.{ℕ, Bool, false, Option, cond, bytes_eq, codes}
+use Rattle.std.specs.Prelude.{ℕ, false, cond, bytes_eq, codes}
 use Rattle.std.proofs.lemmas.List.{append-nil}
 use Rattle.statement_tokens.specs.declared.place.Spot.{Spot}
 use Rattle.statement_tokens.specs.declared.token.Token.{Token}

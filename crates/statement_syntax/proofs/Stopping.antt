@@ -10,7 +10,6 @@ use Rattle.statement_tokens.specs.declared.token.TokenKind.TheVariants as kind
 use Rattle.statement_syntax.specs.declared.tree.Statement.{Statement}
 use Rattle.statement_syntax.specs.declared.expression.Misfit.{Misfit}
 use Rattle.statement_syntax.specs.declared.expression.Misfit.TheVariants.{Expected, TooDeep}
-use Rattle.statement_syntax.specs.declared.line.Line.{Line}
 use Rattle.statement_syntax.specs.declared.line.Line.TheVariants as line
 use Rattle.statement_syntax.specs.declared.read.Progress.{Progress}
 use Rattle.statement_syntax.specs.declared.fault.Fault.{Fault}
