@@ -3,7 +3,7 @@ use Rattle.std.proofs.Common.{◌≡◌, ℕ, pos, negsuc, true, false, List, []
 use Rattle.quiver.specs.Declarations.{Declaration, object, arrow, quiver_of}
 use Rattle.statement_tokens.specs.declared.place.Spot.{Spot}
 use Rattle.statement_syntax.specs.declared.tree.Mark.{Mark}
-use Rattle.statement_syntax.specs.declared.tree.Mark.TheVariants.{Adjoint}
+use Rattle.statement_syntax.specs.declared.tree.Mark.TheVariants.{Adjoint, Power}
 use Rattle.statement_syntax.specs.declared.tree.Name.{Name}
 use Rattle.statement_syntax.specs.declared.tree.Number.{Number}
 use Rattle.statement_syntax.specs.declared.tree.Primary.{Letter}
@@ -12,7 +12,7 @@ use Rattle.statement_syntax.specs.declared.tree.Term.{Term, roll-Term, out-roll-
 use Rattle.expressions.specs.declared.fault.SignatureFault.TheVariants.{NotComposable, SumMismatch, OpenZero}
 use Rattle.expressions.specs.Results.{◌>>=◌}
 use Rattle.expressions.specs.Names.{letter_of, object_of}
-use Rattle.expressions.specs.Signatures.{from_to, Part, product_signature, sum_from, sides_signature, term_signature}
+use Rattle.expressions.specs.Signatures.{from_to, Part, marked_signature, product_signature, sum_from, sides_signature, term_signature}
 use Rattle.expressions.specs.Polynomials.{letter_poly, marked_poly, product_poly, scaled_by, total, term_poly, factor_poly}
 use Rattle.expressions.proofs.Trees.{each, factor_part, poly-term, signature-term}
 
@@ -72,6 +72,23 @@ open_side = refl
 sides : sides_signature (at 7) (at 11) (Some (from_to 0 1)) (Some (from_to 1 0)) ≡ Err (SumMismatch (at 11) (from_to 0 1) (from_to 1 0))
 sides = refl
 
+-- x a leads from 0 to itself; the caret stands at 12
+abbrev caret : ℕ → Mark
+caret exponent = Power (at 12) (record { value = pos exponent; at = at 13 })
+
+repeated : marked_signature (at 7) (caret 2 ∷ Adjoint ∷ []) (Some (from_to 0 0)) ≡ Ok (Some (from_to 0 0))
+repeated = refl
+
+-- a^1'^2 and (0)^2, and (0)^1, which is open
+two_ends : marked_signature (at 7) (caret 1 ∷ Adjoint ∷ caret 2 ∷ []) (Some (from_to 0 1)) ≡ Err (NotComposable (at 12) (from_to 1 0) (from_to 1 0))
+two_ends = refl
+
+open_base : marked_signature (at 7) (caret 2 ∷ []) None ≡ Err (OpenZero (at 7))
+open_base = refl
+
+once : marked_signature (at 7) (caret 1 ∷ []) None ≡ Ok None
+once = refl
+
 -- ---- polynomials
 abbrev three : Option Number
 three = Some (record { value = pos 3; at = at 1 })
@@ -79,6 +96,21 @@ three = Some (record { value = pos 3; at = at 1 })
 -- (a x)'
 adjoint : marked_poly (quiver_of declared) (Adjoint ∷ []) ((pos 1, 2 ∷ 4 ∷ []) ∷ []) ≡ Ok ((pos 1, 5 ∷ 3 ∷ []) ∷ [])
 adjoint = refl
+
+-- (2 x a)^3, (2 x a)^1'^2 and (2 x a)^0
+power : marked_poly (quiver_of declared) (caret 3 ∷ []) ((pos 2, 4 ∷ 2 ∷ []) ∷ []) ≡ Ok ((pos 8, 4 ∷ 2 ∷ 4 ∷ 2 ∷ 4 ∷ 2 ∷ []) ∷ [])
+power = refl
+
+power_of_adjoint : marked_poly (quiver_of declared) (caret 1 ∷ Adjoint ∷ caret 2 ∷ []) ((pos 2, 4 ∷ 2 ∷ []) ∷ []) ≡ Ok ((pos 4, 3 ∷ 5 ∷ 3 ∷ 5 ∷ []) ∷ [])
+power_of_adjoint = refl
+
+unpowered : marked_poly (quiver_of declared) (caret 0 ∷ []) ((pos 2, 4 ∷ 2 ∷ []) ∷ []) ≡ Ok ((pos 2, 4 ∷ 2 ∷ []) ∷ [])
+unpowered = refl
+
+-- (x a - [U])^2
+power_of_sum : marked_poly (quiver_of declared) (caret 2 ∷ []) ((pos 1, 4 ∷ 2 ∷ []) ∷ (negsuc 0, 0 ∷ []) ∷ [])
+    ≡ Ok ((pos 1, 4 ∷ 2 ∷ 4 ∷ 2 ∷ []) ∷ (negsuc 0, 4 ∷ 2 ∷ 0 ∷ []) ∷ (negsuc 0, 0 ∷ 4 ∷ 2 ∷ []) ∷ (pos 1, 0 ∷ 0 ∷ []) ∷ [])
+power_of_sum = refl
 
 -- 3 a x
 multiple : (product_poly (letter_poly 2 ∷ letter_poly 4 ∷ []) >>= scaled_by three) ≡ Ok ((pos 3, 2 ∷ 4 ∷ []) ∷ [])

@@ -16,5 +16,6 @@ pub mod Written
 pub mod TypedParts
 pub mod Typed
 pub mod WordRuns
-pub mod TwoMarks
+pub mod TwoAdjoints
 pub mod Copies
+pub mod TermPowers

@@ -1,5 +1,5 @@
 -- The letters of a polynomial are letters of the quiver.
-use Rattle.std.proofs.Common.{◌≡◌, ◌<◌, ℕ, true, List, Ok, Some, sym, subst}
+use Rattle.std.proofs.Common.{◌≡◌, ◌<◌, ℕ, Bool, true, false, cond, List, Ok, Some, sym, subst}
 use Rattle.std.specs.List.{All}
 use Rattle.definitions.specs.Poly.{Poly}
 use Rattle.definitions.specs.Quiver.{star}
@@ -11,9 +11,13 @@ use Rattle.quiver.proofs.Found.{is_named}
 use Rattle.quiver.proofs.Identities.{identity_in_range}
 use Rattle.quiver.proofs.Letters.{letter_is, in_range_from_table, star-quiver_of}
 use Rattle.statement_syntax.specs.declared.tree.Mark.{Mark}
+use Rattle.statement_syntax.specs.declared.tree.Mark.TheVariants.{Adjoint}
 use Rattle.statement_syntax.specs.declared.tree.Primary.{Primary}
 use Rattle.expressions.specs.Names.{are_names_of_primary}
 use Rattle.expressions.specs.Polynomials.{mark_poly, primary_poly}
+use Rattle.expressions.specs.declared.powers.Marked.{Marked}
+use Rattle.expressions.specs.Due.{due_poly}
+use Rattle.expressions.proofs.Sequences.{same_value}
 use Rattle.expressions.proofs.Letters.{letters_by_places, letters_by_recursion, over-primary, over-mark_poly}
 
 module _ (ds : List Declaration) (declared : IsDeclared ds) where
@@ -37,3 +41,11 @@ module _ (ds : List Declaration) (declared : IsDeclared ds) where
   pub in_range-mark_poly : (m : Mark) (p r : Poly) → AllOver p → mark_poly (quiver_of ds) m p ≡ Ok r → AllOver r
   in_range-mark_poly m p r h e =
       letters_by_places IsLetter r (over-mark_poly ds IsLetter maps_in_range m (λ adjoint. star_in_range) p r (letters_by_recursion IsLetter p h) e)
+
+  -- of the polynomial of which an adjoint may be due
+  pub in_range-due : (m : Marked) (r : Poly) → AllOver m.poly.terms → due_poly (quiver_of ds) m ≡ Ok r → AllOver r
+  in_range-due m r h e = go m.due e
+    where
+      go : (due : Bool) → cond due (mark_poly (quiver_of ds) Adjoint m.poly.terms) (Ok m.poly.terms) ≡ Ok r → AllOver r
+      go true k = in_range-mark_poly Adjoint m.poly.terms r h k
+      go false k = subst AllOver (same_value m.poly.terms r k) h

@@ -19,7 +19,7 @@ EquationsAreTyped = (ds : List Declaration) (left right : Sum) (s : Sig) (p : Po
     → IsTyped (quiver_of ds) s.source.0 s.target.0 p
 
 -- A letter of the quiver that is no identity, unless one side writes that identity, and is no adjoint of a declared map,
--- unless one side has a mark.
+-- unless one side has a quote.
 pub record IsWritten (ds : List Declaration) (left right : Sum) (a : ℕ) : Type 0 where
   pub letter : a < letter_count ds
   pub identity : a < object_count ds → IsTrue (has_identity ds a left || has_identity ds a right)

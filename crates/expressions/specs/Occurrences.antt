@@ -1,4 +1,4 @@
--- Whether a mark and whether the identity of an object occur in an expression.
+-- Whether a quote and whether the identity of an object occur in an expression.
 use Rattle.std.specs.Prelude.{ℕ, Bool, true, false, ◌||◌, nat_eq, List, Option, Some, None}
 use Rattle.std.specs.List.{list_any}
 use Rattle.quiver.specs.declared.named.Named.{Named}
@@ -14,7 +14,7 @@ abbrev pub is_adjoint : Mark → Bool
 is_adjoint Adjoint = true
 is_adjoint (Power at exponent) = false
 
--- whether a factor has a mark
+-- whether a factor has a quote among its marks
 abbrev mutual
   pub has_mark : Sum → Bool
   has_mark (Sum' at shape terms) = has_mark_in_terms terms

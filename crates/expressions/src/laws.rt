@@ -8,7 +8,7 @@ pub fn equations_are_typed()
 {}
 
 /// The law that the letters of an equation's polynomial are those that the equation writes: maps, identities of the
-/// objects in square brackets, and adjoints where there is a mark. It has nothing to run.
+/// objects in square brackets, and adjoints where there is a quote. It has nothing to run.
 pub fn letters_are_written()
     ensures { LettersAreWritten }
 {}

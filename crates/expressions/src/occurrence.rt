@@ -1,11 +1,11 @@
-//! Whether a mark or an identity occurs in an expression.
+//! Whether an adjoint is taken in an expression.
 ghost use Rattle.std.specs.Prelude.{◌≡◌};
 ghost use Rattle.std.specs.List.{list_any};
 ghost use Rattle.expressions.specs.Occurrences.{is_adjoint, has_mark, has_mark_in_term, has_mark_in_primary};
 
 use statement_syntax::{Mark, Primary, Sum, Term};
 
-/// Whether a factor of the expression has a mark, and so an adjoint is taken.
+/// Whether a factor of the expression has a quote among its marks, and so an adjoint is taken.
 #[cycle(marks)]
 pub fn has_mark(sum: &Sum) -> bool
     ensures { result ≡ has_mark sum.now }

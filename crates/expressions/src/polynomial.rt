@@ -10,7 +10,7 @@ ghost use Rattle.expressions.specs.Polynomials.{letter_poly, marked_poly, produc
 
 use crate::added::add;
 use crate::names::{letter_of, object_of};
-use crate::powers::marked;
+use crate::powers::with_marks;
 use coef_int::Overflow;
 use lists::Listing;
 use nc_polynomial::{Poly, PolyFault, RunningSum, WORD_LIMIT, negate_terms};
@@ -247,7 +247,7 @@ fn factor_poly(alloc: Global, quiver: &Quiver, factor: &Factor) -> Result<Poly, 
     ensures { MatchResult result (λ p. factor_poly quiver.now factor.now ≡ Ok p.terms) (Explains (factor_poly quiver.now factor.now)) }
 {
     let poly = primary_poly(alloc, quiver, &factor.primary)?;
-    marked(alloc, quiver, factor.marks.as_slice(), poly)
+    with_marks(alloc, quiver, factor.marks.as_slice(), poly)
 }
 
 #[cycle(polys)]

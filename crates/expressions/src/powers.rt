@@ -1,21 +1,26 @@
 //! Marks behind a polynomial: adjoints and powers.
-ghost use Rattle.std.specs.Prelude.{◌≡◌, ◌≤◌, replicate, MatchResult, Ok};
+ghost use Rattle.std.specs.Prelude.{◌≡◌, ◌≤◌, [], ◌∷◌, ◌++◌, length, replicate, MatchResult, IfOk, OnOk, Ok};
 ghost use Rattle.std.specs.List.{All};
 ghost use Rattle.definitions.specs.Generators.{adjoint_poly};
 ghost use Rattle.word_core.specs.Letters.{IsOver};
 ghost use Rattle.nc_polynomial.specs.Collected.{collection_result};
 ghost use Rattle.nc_polynomial.specs.Faults.{Explains};
+ghost use Rattle.nc_polynomial.specs.Shape.{IsCanonical};
 ghost use Rattle.quiver.specs.Declarations.{letter_count, quiver_of, IsDeclared};
-ghost use Rattle.expressions.specs.Polynomials.{product_poly, power_poly, mark_poly, marked_poly};
+ghost use Rattle.expressions.specs.Due.{due_poly, due_marked};
+ghost use Rattle.expressions.specs.Polynomials.{product_poly, power_poly, marked_poly};
+ghost use Rattle.expressions.specs.Repeated.{repeated_word};
 
 use adjoint_rules::adjoint_word;
-use nc_polynomial::{Poly, PolyFault};
+use lists::Listing;
+use nc_polynomial::{Poly, PolyFault, SizeFault, WORD_LIMIT};
 use quiver::Quiver;
 use statement_syntax::Mark;
-use std::alloc::Global;
+use std::alloc::{AllocError, Global};
+use word_core::Word;
 
 /// The polynomial with these marks behind it, or the first fault.
-pub(crate) fn marked(
+pub(crate) fn with_marks(
     alloc: Global,
     quiver: &Quiver,
     marks: &[Mark],
@@ -23,29 +28,68 @@ pub(crate) fn marked(
 ) -> Result<Poly, PolyFault>
     requires declared { IsDeclared quiver.now }
     requires letters { All (λ t. IsOver (letter_count quiver.now) t.1) poly.terms }
-    ensures { MatchResult result (λ p. marked_poly (quiver_of quiver.now) marks.now poly.terms ≡ Ok p.terms) (Explains (marked_poly (quiver_of quiver.now) marks.now poly.terms)) }
+    ensures { let marked = marked_poly (quiver_of quiver.now) marks.now poly.terms in
+        MatchResult result (λ p. marked ≡ Ok p.terms) (Explains marked) }
 {
-    let mut marked = poly;
+    let mut marked = Marked { poly, due: false };
     for mark in marks {
-        marked = mark_poly(alloc, quiver, mark, marked)?;
+        marked = with_mark(alloc, quiver, marked, mark)?;
     }
-    Ok(marked)
+    take_due(alloc, quiver, marked)
 }
 
-// A quote reverses the words and takes the adjoints of their letters, a caret repeats what stands before it.
-fn mark_poly(alloc: Global, quiver: &Quiver, mark: &Mark, poly: Poly) -> Result<Poly, PolyFault>
-    requires { All (λ t. IsOver (letter_count quiver.now) t.1) poly.terms }
-    ensures { MatchResult result (λ p. mark_poly (quiver_of quiver.now) mark.now poly.terms ≡ Ok p.terms) (Explains (mark_poly (quiver_of quiver.now) mark.now poly.terms)) }
+// A polynomial with marks behind it, and whether its adjoint is meant. The adjoint isn't taken before a power needs it:
+// where another quote comes first, the polynomial itself is meant again.
+#[derive(Drop)]
+struct Marked {
+    poly: Poly,
+    due: bool,
+}
+
+// The polynomial with one mark more.
+fn with_mark(
+    alloc: Global,
+    quiver: &Quiver,
+    marked: Marked,
+    mark: &Mark,
+) -> Result<Marked, PolyFault>
+    requires declared { IsDeclared quiver.now }
+    requires letters { All (λ t. IsOver (letter_count quiver.now) t.1) marked.poly.terms }
+    ensures exact { let next = due_marked (quiver_of quiver.now) marked mark.now in
+        MatchResult result (λ m. due_poly (quiver_of quiver.now) m ≡ next) (Explains next) }
+    ensures letters { IfOk result (λ m. All (λ t. IsOver (letter_count quiver.now) t.1) m.poly.terms) }
 {
     match mark {
-        Mark::Adjoint => adjoint(alloc, quiver, &poly),
-        Mark::Power { exponent, .. } => power(poly, exponent.value),
+        Mark::Adjoint => Ok(Marked {
+            poly: marked.poly,
+            due: !marked.due,
+        }),
+        Mark::Power { exponent, .. } if exponent.value >= 2 => {
+            let base = take_due(alloc, quiver, marked)?;
+            let poly = power(alloc, base, exponent.value)?;
+            Ok(Marked { poly, due: false })
+        }
+        Mark::Power { .. } => Ok(marked),
     }
 }
 
+// The polynomial, or its adjoint where it is due.
+fn take_due(alloc: Global, quiver: &Quiver, marked: Marked) -> Result<Poly, PolyFault>
+    requires { All (λ t. IsOver (letter_count quiver.now) t.1) marked.poly.terms }
+    ensures { let taken = due_poly (quiver_of quiver.now) marked in
+        MatchResult result (λ p. taken ≡ Ok p.terms) (Explains taken) }
+{
+    if !marked.due {
+        return Ok(marked.poly);
+    }
+    adjoint(alloc, quiver, &marked.poly)
+}
+
+// The words are reversed, and the adjoints of their letters are taken.
 fn adjoint(alloc: Global, quiver: &Quiver, poly: &Poly) -> Result<Poly, PolyFault>
     requires { All (λ t. IsOver (letter_count quiver.now) t.1) poly.now.terms }
-    ensures { MatchResult result (λ p. collection_result (adjoint_poly (quiver_of quiver.now) poly.now.terms) ≡ Ok p.terms) (Explains (collection_result (adjoint_poly (quiver_of quiver.now) poly.now.terms))) }
+    ensures { let adjoint = collection_result (adjoint_poly (quiver_of quiver.now) poly.now.terms) in
+        MatchResult result (λ p. adjoint ≡ Ok p.terms) (Explains adjoint) }
 {
     let mut terms = Vec::new(alloc);
     for term in poly.terms.as_slice() {
@@ -54,19 +98,89 @@ fn adjoint(alloc: Global, quiver: &Quiver, poly: &Poly) -> Result<Poly, PolyFaul
     Poly::from_terms(alloc, terms.as_slice())
 }
 
-// The power, by products from the left.
-fn power(base: Poly, exponent: i128) -> Result<Poly, PolyFault>
+// The power. A power of zero is zero, and an exponent below 2 changes nothing.
+fn power(alloc: Global, base: Poly, exponent: i128) -> Result<Poly, PolyFault>
     ensures { MatchResult result (λ p. power_poly exponent base.terms ≡ Ok p.terms) (Explains (power_poly exponent base.terms)) }
 {
     if exponent < 2 {
         return Ok(base);
     }
-    power_of(&base, exponent.unsigned_abs())
+    let factors = exponent.unsigned_abs();
+    match base.terms.as_slice() {
+        [] => Ok(Poly::zero(alloc)),
+        [term] => power_of_term(alloc, term, factors),
+        _ => power_of_sum(&base, factors),
+    }
 }
 
-fn power_of(base: &Poly, factors: u128) -> Result<Poly, PolyFault>
+// The power of one term: its word is written once.
+fn power_of_term(alloc: Global, term: &(i128, Word), factors: u128) -> Result<Poly, PolyFault>
+    requires canonical { IsCanonical (term.now ∷ []) }
+    requires begun { 1 ≤ factors }
+    ensures { let power = product_poly (replicate factors (term.now ∷ [])) in
+        MatchResult result (λ p. power ≡ Ok p.terms) (Explains power) }
+{
+    let (coefficient, letters) = coefficient_and_letters(term, factors)?;
+    let word = repeated_word(alloc, &term.1, factors, letters)?;
+    let mut terms = Listing::with_room(alloc, 1)?;
+    terms.push((coefficient, word))?;
+    Ok(Poly { terms })
+}
+
+// The coefficient of the power and the number of its letters, factor by factor: too many letters are a fault before
+// too large a coefficient.
+fn coefficient_and_letters(term: &(i128, Word), factors: u128) -> Result<(i128, usize), PolyFault>
+    requires canonical { IsCanonical (term.now ∷ []) }
+    requires begun { 1 ≤ factors }
+    ensures exact { let power = product_poly (replicate factors (term.now ∷ [])) in
+        MatchResult result (λ p. power ≡ Ok ((p.0, repeated_word factors term.now.1) ∷ [])) (Explains power) }
+    ensures letters { IfOk result (λ p. p.1 ≡ length (repeated_word factors term.now.1)) }
+    ensures canonical { IfOk result (λ p. IsCanonical ((p.0, repeated_word factors term.now.1) ∷ [])) }
+{
+    let mut coefficient = term.0;
+    let mut letters = term.1.len();
+    for _ in 1..factors {
+        letters = letters.saturating_add(term.1.len());
+        if letters > WORD_LIMIT {
+            return Err(PolyFault::Size(SizeFault { letters: true }));
+        }
+        coefficient = coef_int::times(coefficient, term.0)?;
+    }
+    Ok((coefficient, letters))
+}
+
+// The word so many times, which are so many letters.
+fn repeated_word(
+    alloc: Global,
+    word: &Word,
+    times: u128,
+    letters: usize,
+) -> Result<Word, AllocError>
+    requires { letters ≡ length (repeated_word times word.now) }
+    ensures { IfOk result (λ w. w ≡ repeated_word times word.now) }
+{
+    let mut repeated = Word::with_room(alloc, letters)?;
+    for _ in 0..times {
+        push_word(&mut repeated, word)?;
+    }
+    Ok(repeated)
+}
+
+// The word with the letters of another behind it.
+fn push_word(word: &mut Word, more: &Word) -> Result<(), AllocError>
+    ensures { OnOk result (word.new ≡ word.old ++ more.now) }
+{
+    for place in 0..more.len() {
+        word.push(more.letter(place))?;
+    }
+    Ok(())
+}
+
+// The power of several terms: the product of so many factors, from the left.
+fn power_of_sum(base: &Poly, factors: u128) -> Result<Poly, PolyFault>
     requires { 1 ≤ factors }
-    ensures { MatchResult result (λ p. product_poly (replicate factors base.now.terms) ≡ Ok p.terms) (Explains (product_poly (replicate factors base.now.terms))) }
+    ensures { let power = product_poly (replicate factors base.now.terms) in
+        MatchResult result (λ p. power ≡ Ok p.terms) (Explains power) }
 {
     let mut power = base.copy()?;
     for _ in 1..factors {

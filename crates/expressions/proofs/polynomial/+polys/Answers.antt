@@ -9,8 +9,8 @@ use Rattle.expressions.proofs.PolynomialLoops.{summands_of, polys_of, sum-end, s
 use Rattle.expressions.proofs.polynomial.+polys.Goals as goal
 
 -- ---- a factor
-pub factor_poly-marked-requires : goal.factor_poly-marked-requires
-factor_poly-marked-requires t c =
+pub factor_poly-with_marks-requires : goal.factor_poly-with_marks-requires
+factor_poly-with_marks-requires t c =
     let ok : primary_poly c.args.quiver.now c.args.factor.now.primary ≡ Ok c.in_ok-poly.poly.terms = search rules in
     record {
       declared = c.requires.declared;

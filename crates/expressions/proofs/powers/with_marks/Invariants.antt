@@ -1,0 +1,15 @@
+use Rattle.std.proofs.Common.{◌≡◌, drop}
+use Rattle.std.specs.List.{All}
+use Rattle.word_core.specs.Letters.{IsOver}
+use Rattle.quiver.specs.Declarations.{letter_count, quiver_of}
+use Rattle.expressions.specs.Due.{due_poly}
+use Rattle.expressions.specs.Polynomials.{marked_poly}
+use Rattle.expressions.specs.Results.{◌>>=◌}
+use Rattle.expressions.proofs.powers.with_marks.Given as goal
+
+-- the marks that are left come to the same
+abbrev pub invariant-loop-mark : goal.invariant-loop-mark
+invariant-loop-mark l = record {
+  rest : (due_poly (quiver_of l.quiver) l.marked >>= marked_poly (quiver_of l.quiver) (drop l.mark-index l.marks)) ≡ marked_poly (quiver_of l.quiver) l.marks l.fn.poly.terms;
+  letters : All (λ t. IsOver (letter_count l.quiver) t.1) l.marked.poly.terms;
+}

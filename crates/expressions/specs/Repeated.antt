@@ -1,0 +1,6 @@
+-- A word so many times.
+use Rattle.std.specs.Prelude.{ℕ, zero, suc, List, [], ◌++◌}
+
+abbrev pub repeated_word : ℕ → List ℕ → List ℕ
+repeated_word zero w = []
+repeated_word (suc n) w = repeated_word n w ++ w
