@@ -10,7 +10,7 @@ use Rattle.quiver.proofs.Found.{is_named}
 use Rattle.quiver.proofs.Letters.{letter_is, source-quiver_of, target-quiver_of}
 use Rattle.statement_tokens.specs.declared.place.Spot.{Spot}
 use Rattle.statement_syntax.specs.declared.tree.Mark.{Mark}
-use Rattle.statement_syntax.specs.declared.tree.Mark.TheVariants.{Adjoint}
+use Rattle.statement_syntax.specs.declared.tree.Mark.TheVariants.{Adjoint, Power}
 use Rattle.statement_syntax.specs.declared.tree.Primary.{Primary, Letter, Identity, Bracket}
 use Rattle.statement_syntax.specs.declared.tree.Term.{Term, Term', Row_of-Factor, end_of-Factor, more_of-Factor}
 use Rattle.statement_syntax.specs.declared.tree.Sum.{Sum, Sum', Row_of-Term, end_of-Term, more_of-Term}
@@ -18,7 +18,7 @@ use Rattle.expressions.specs.declared.fault.SignatureFault.{SignatureFault}
 use Rattle.expressions.specs.declared.fault.SignatureFault.TheVariants.{NotComposable, SumMismatch}
 use Rattle.expressions.specs.Results.{◌>>=◌}
 use Rattle.expressions.specs.Names.{AreNames, is_map, is_object, letter_number, object_number, are_names_of_terms, are_names_of_term, are_names_of_factors, are_names_of_primary}
-use Rattle.expressions.specs.Signatures.{Part, from_to, letter_signature, same_ends, turned_by, marked_signature, product_step, product_from, product_signature, sum_step, sum_from, term_at, sum_at, sum_signature, terms_parts, term_signature, factors_parts, primary_signature, sides_signature, equation_signature}
+use Rattle.expressions.specs.Signatures.{Part, from_to, letter_signature, same_ends, is_repeated, repeated, mark_signature, marked_signature, product_step, product_from, product_signature, sum_step, sum_from, term_at, sum_at, sum_signature, terms_parts, term_signature, factors_parts, primary_signature, sides_signature, equation_signature}
 use Rattle.adjoint_rules.specs.Problem.{HasObjects}
 use Rattle.signature_typing.specs.Named.{HasFaultObjects}
 
@@ -40,13 +40,27 @@ module _ (ds : List Declaration) (declared : IsDeclared ds) where
   AreBetween (p ∷ parts) = IsBetween p.1 × AreBetween parts
 
   -- ---- marks
-  turned_between : (m : Mark) (s : Option Sig) → IsBetween s → IsBetween (turned_by m s)
-  turned_between Adjoint None between = tt
-  turned_between Adjoint (Some s) between = record { source = between.target; target = between.source }
+  repeated_fine : (first caret : Spot) (s : Option Sig) → IsBetween s → IsFine IsBetween (repeated first caret s)
+  repeated_fine first caret None between = tt
+  repeated_fine first caret (Some s) between = go (nat_eq s.source.0 s.target.0)
+    where
+      go : (fits : Bool) → IsFine IsBetween (cond fits (Ok (Some s)) (Err (NotComposable caret s s)))
+      go true = between
+      go false = (between, between)
 
-  marked_between : (marks : List Mark) (s : Option Sig) → IsBetween s → IsBetween (marked_signature marks s)
-  marked_between [] s between = between
-  marked_between (m ∷ marks) s between = marked_between marks (turned_by m s) (turned_between m s between)
+  mark_fine : (first : Spot) (m : Mark) (s : Option Sig) → IsBetween s → IsFine IsBetween (mark_signature first m s)
+  mark_fine first Adjoint None between = tt
+  mark_fine first Adjoint (Some s) between = record { source = between.target; target = between.source }
+  mark_fine first (Power caret exponent) s between = go (is_repeated exponent.value)
+    where
+      go : (repeats : Bool) → IsFine IsBetween (cond repeats (repeated first caret s) (Ok s))
+      go true = repeated_fine first caret s between
+      go false = between
+
+  marked_fine : (first : Spot) (marks : List Mark) (s : Option Sig) → IsBetween s → IsFine IsBetween (marked_signature first marks s)
+  marked_fine first [] s between = between
+  marked_fine first (m ∷ marks) s between =
+      and_then IsBetween IsBetween (mark_signature first m s) (marked_signature first marks) (mark_fine first m s between) (marked_fine first marks)
 
   -- ---- products
   product_step_fine : (so_far : Result (Option Sig) SignatureFault) (at : Spot) (next : Option Sig) → IsFine IsBetween so_far → IsBetween next → IsFine IsBetween (product_step so_far at next)
@@ -126,8 +140,10 @@ module _ (ds : List Declaration) (declared : IsDeclared ds) where
     factors_fine m end_of-Factor names = tt
     factors_fine m (more_of-Factor at primary marks rest) names =
         let both = and_parts (are_names_of_primary ds primary) (are_names_of_factors ds rest) names in
-        and_then (λ p. IsBetween p.1) AreBetween (primary_signature ds primary >>= λ s. Ok (at, marked_signature marks s)) _
-        (and_then IsBetween (λ p. IsBetween p.1) (primary_signature ds primary) _ (primary_fine primary both.0) (λ s between. marked_between marks s between))
+        let factor = primary_signature ds primary >>= marked_signature at marks in
+        and_then (λ p. IsBetween p.1) AreBetween (factor >>= λ s. Ok (at, s)) _
+        (and_then IsBetween (λ p. IsBetween p.1) factor _
+        (and_then IsBetween IsBetween (primary_signature ds primary) (marked_signature at marks) (primary_fine primary both.0) (marked_fine at marks)) (λ s between. between))
         (λ p between. and_then AreBetween AreBetween (factors_parts ds rest) _ (factors_fine _ rest both.1) (λ parts others. (between, others)))
 
     primary_fine : (p : Primary) → are_names_of_primary ds p ≡ true → IsFine IsBetween (primary_signature ds p)

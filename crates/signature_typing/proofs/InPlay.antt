@@ -67,32 +67,16 @@ abbrev AreStarred : StatementKind → List Equation → Type 0
 AreStarred kind es = AllByRecursion (λ e. is_starred_equation e ≡ true → is_starred_in kind ≡ true) es
 
 equations_starred : (ds : List Declaration) (at : Spot) (kind : StatementKind) → AreStarred kind (equations_in ds at kind)
-equations_starred ds at (statement.Objects names) = tt
-equations_starred ds at (statement.Maps names source target selfmade) = tt
 equations_starred ds at (statement.Assume left right) = (λ is. is, tt)
-equations_starred ds at (statement.Claim left right) = tt
 equations_starred ds at (statement.Pinv a x) = (λ _. refl, (λ _. refl, (λ _. refl, (λ _. refl, tt))))
 equations_starred ds at (statement.Inverse a x) = (never _ (unmarked at _ _ refl refl), (never _ (unmarked at _ _ refl refl), tt))
 equations_starred ds at (statement.Inner a x) = (never _ (unmarked at _ _ refl refl), tt)
 equations_starred ds at (statement.Projection p) = (λ _. refl, (λ _. refl, tt))
-equations_starred ds at statement.Degree = tt
-equations_starred ds at (statement.Weight pairs) = tt
-equations_starred ds at (statement.Solve names) = tt
-equations_starred ds at (statement.Shape modulus sides) = tt
+equations_starred ds at kind = tt
 
 claims_starred : (kind : StatementKind) → AreStarred kind (claims_in kind)
 claims_starred (statement.Claim left right) = (λ is. is, tt)
-claims_starred (statement.Objects names) = tt
-claims_starred (statement.Maps names source target selfmade) = tt
-claims_starred (statement.Assume left right) = tt
-claims_starred (statement.Pinv a x) = tt
-claims_starred (statement.Inverse a x) = tt
-claims_starred (statement.Inner a x) = tt
-claims_starred (statement.Projection p) = tt
-claims_starred statement.Degree = tt
-claims_starred (statement.Weight pairs) = tt
-claims_starred (statement.Solve names) = tt
-claims_starred (statement.Shape modulus sides) = tt
+claims_starred kind = tt
 
 -- those of all statements
 all_starred : (part : Statement → List Equation) → ((s : Statement) → AreStarred s.kind (part s)) → (xs : List Statement)

@@ -1,5 +1,5 @@
 -- The polynomial of an equation is within the limits, and the fault of its arithmetic is no want of memory.
-use Rattle.std.proofs.Common.{◌≡◌, ◌≢◌, ℕ, ◌≤◌, ℤ, pos, Bool, true, false, cond, List, [], ◌∷◌, ◌++◌, length, nat_lt, Option, Some, None, Result, Ok, Err, refl, sym, subst, ◌∙◌, arith}
+use Rattle.std.proofs.Common.{◌≡◌, ◌≢◌, ℕ, zero, suc, ◌≤◌, ℤ, pos, negsuc, Bool, true, false, cond, List, [], ◌∷◌, ◌++◌, length, replicate, nat_lt, Option, Some, None, Result, Ok, Err, refl, sym, subst, ◌∙◌, arith}
 use Rattle.std.specs.List.{AllByRecursion}
 use Rattle.std.proofs.lemmas.List.Elements.{All-from_recursion, recursion_from_All}
 use Rattle.coef_int.specs.declared.Overflow.{Overflow}
@@ -25,14 +25,14 @@ use Rattle.nc_polynomial.proofs.Products.{canonical_sized}
 use Rattle.nc_polynomial.proofs.Shapes.{IsDescending-from_recursion, recursion_from_IsDescending, shaped-scaled, shaped-added}
 use Rattle.quiver.specs.Declarations.{Declaration, quiver_of, identity_in}
 use Rattle.statement_syntax.specs.declared.tree.Mark.{Mark}
-use Rattle.statement_syntax.specs.declared.tree.Mark.TheVariants.{Adjoint}
+use Rattle.statement_syntax.specs.declared.tree.Mark.TheVariants.{Adjoint, Power}
 use Rattle.statement_syntax.specs.declared.tree.Number.{Number}
 use Rattle.statement_syntax.specs.declared.tree.Primary.{Primary, Letter as letter, Identity, Bracket}
 use Rattle.statement_syntax.specs.declared.tree.Term.{Term, Term', Row_of-Factor, end_of-Factor, more_of-Factor}
 use Rattle.statement_syntax.specs.declared.tree.Sum.{Sum, Sum', Row_of-Term, end_of-Term, more_of-Term}
 use Rattle.expressions.specs.Results.{◌>>=◌}
 use Rattle.expressions.specs.Names.{letter_of, object_of}
-use Rattle.expressions.specs.Polynomials.{letter_poly, adjoint_by, marked_poly, product_from, product_poly, scaled_by, Summand, signed, sum_step, sum_from, total, sum_poly, summands, term_poly, factor_polys, primary_poly, equation_poly}
+use Rattle.expressions.specs.Polynomials.{letter_poly, power_poly, mark_poly, marked_poly, product_from, product_poly, scaled_by, Summand, signed, sum_step, sum_from, total, sum_poly, summands, term_poly, factor_polys, primary_poly, equation_poly}
 use Rattle.expressions.proofs.Canonical.{canonical-negated}
 
 -- a value with a property, or a fault that isn't want of memory
@@ -113,6 +113,25 @@ canonical-none = record {
 product-gives : (p q : Poly) → IsCanonical q → Gives IsCanonical (product_result p q)
 product-gives p q k = steps-give [] p q canonical-none k
 
+product_from-gives : (p : Poly) (ps : List Poly) → IsCanonical p → AllByRecursion IsCanonical ps → Gives IsCanonical (product_from p ps)
+product_from-gives p [] h k = h
+product_from-gives p (q ∷ ps) h k = gives-bind IsCanonical IsCanonical (product_result p q) (λ next. product_from next ps) (product-gives p q k.0) (λ next m. product_from-gives next ps m k.1)
+
+product_poly-gives : (ps : List Poly) → AllByRecursion IsCanonical ps → Gives IsCanonical (product_poly ps)
+product_poly-gives [] h = canonical-none
+product_poly-gives (p ∷ ps) h = product_from-gives p ps h.0 h.1
+
+-- ---- powers
+
+repeated-canonical : (n : ℕ) (p : Poly) → IsCanonical p → AllByRecursion IsCanonical (replicate n p)
+repeated-canonical zero p h = tt
+repeated-canonical (suc n) p h = (h, repeated-canonical n p h)
+
+power-gives : (exponent : ℤ) (p : Poly) → IsCanonical p → Gives IsCanonical (power_poly exponent p)
+power-gives (pos (suc n)) p h = product_poly-gives (replicate (suc n) p) (repeated-canonical (suc n) p h)
+power-gives (pos zero) p h = h
+power-gives (negsuc n) p h = h
+
 -- ---- adjoints
 
 pub shaped-adjoint : (q : Quiver) → IsQuiver q → (p : Poly) → IsShaped p → IsShaped (collected (adjoint_poly q p))
@@ -128,11 +147,15 @@ shaped-adjoint q quiver p h =
     }
 
 module _ (ds : List Declaration) (quiver : IsQuiver (quiver_of ds)) where
+  mark-gives : (m : Mark) (p : Poly) → IsCanonical p → Gives IsCanonical (mark_poly (quiver_of ds) m p)
+  mark-gives Adjoint p h =
+      finished-gives (additions [] (adjoint_poly (quiver_of ds) p)) (collected (adjoint_poly (quiver_of ds) p)) (λ e. shaped-adjoint (quiver_of ds) quiver p h.shaped)
+  mark-gives (Power at exponent) p h = power-gives exponent.value p h
+
   marked-gives : (marks : List Mark) (p : Poly) → IsCanonical p → Gives IsCanonical (marked_poly (quiver_of ds) marks p)
   marked-gives [] p h = h
-  marked-gives (Adjoint ∷ marks) p h =
-      gives-bind IsCanonical IsCanonical (adjoint_by (quiver_of ds) Adjoint p) (marked_poly (quiver_of ds) marks)
-      (finished-gives (additions [] (adjoint_poly (quiver_of ds) p)) (collected (adjoint_poly (quiver_of ds) p)) (λ e. shaped-adjoint (quiver_of ds) quiver p h.shaped)) (marked-gives marks)
+  marked-gives (m ∷ marks) p h =
+      gives-bind IsCanonical IsCanonical (mark_poly (quiver_of ds) m p) (marked_poly (quiver_of ds) marks) (mark-gives m p h) (marked-gives marks)
 
   letter-gives : (a : ℕ) → IsCanonical (letter_poly a)
   letter-gives a = record {
@@ -164,14 +187,6 @@ module _ (ds : List Declaration) (quiver : IsQuiver (quiver_of ds)) where
   total-gives : (ss : List Summand) → AreCanonical ss → Gives IsCanonical (total ss)
   total-gives [] h = canonical-none
   total-gives (s ∷ ss) h = sum_from-gives (signed s) ss (signed-canonical s h.0) h.1
-
-  product_from-gives : (p : Poly) (ps : List Poly) → IsCanonical p → AllByRecursion IsCanonical ps → Gives IsCanonical (product_from p ps)
-  product_from-gives p [] h k = h
-  product_from-gives p (q ∷ ps) h k = gives-bind IsCanonical IsCanonical (product_result p q) (λ next. product_from next ps) (product-gives p q k.0) (λ next m. product_from-gives next ps m k.1)
-
-  product_poly-gives : (ps : List Poly) → AllByRecursion IsCanonical ps → Gives IsCanonical (product_poly ps)
-  product_poly-gives [] h = canonical-none
-  product_poly-gives (p ∷ ps) h = product_from-gives p ps h.0 h.1
 
   scaled_by-gives : (l : Option Number) (p : Poly) → IsCanonical p → Gives IsCanonical (scaled_by l p)
   scaled_by-gives None p h = h

@@ -1,3 +1,4 @@
+mod Examples
 pub mod Keys
 pub mod Runs
 pub mod Flat
