@@ -1,7 +1,0 @@
-use Rattle.std.proofs.Common.{◌≡◌, take}
-use Rattle.definitions.specs.Generators.{adjoint_poly}
-use Rattle.quiver.specs.Declarations.{quiver_of}
-use Rattle.expressions.proofs.polynomial.adjoint.Given as goal
-
-abbrev pub invariant-loop-term : goal.invariant-loop-term
-invariant-loop-term l = l.terms.items ≡ adjoint_poly (quiver_of l.quiver) (take l.term-index l.term-items)
