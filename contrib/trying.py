@@ -46,7 +46,7 @@ def reads_language_2(program: Path = PROGRAM) -> bool:
 
 def is_second(statement: Path) -> bool:
     """Whether an example is of language 2."""
-    return "\nlanguage 2\n" in statement.read_text()
+    return statement.read_text().startswith("language 2\n")
 
 
 def decided() -> List[Path]:
