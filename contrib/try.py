@@ -341,7 +341,10 @@ def trusted_files() -> str:
 
 
 def costly_files() -> str:
-    sizes = {"overlaps 500": 496_540, "sorted 498": 287_613, "unending 100": 57_068, "rests 100": 429_121, "rows 10": 41_295}
+    sizes = {
+        "overlaps 500": 496_540, "sorted 498": 287_613, "unending 100": 57_068, "rests 100": 429_121, "rows 10": 41_295,
+        "powers 500": 13_051,
+    }  # fmt: skip
     for name, size in sizes.items():
         answer = run(sys.executable, CONTRIB / "costly.py", *name.split())
         need(answer.status == 0 and len(answer.out) == size and f"{size:,}" in (TOP / "docs" / "COMMANDS.md").read_text(), (name, size))
