@@ -31,7 +31,7 @@ import try_pictures
 import try_python
 import try_release
 import try_why
-from trying import CONTRIB, EXAMPLES, PROGRAM, TOP, Answer, Failed, Skipped, decided, installed, need, run
+from trying import CONTRIB, EXAMPLES, PROGRAM, TOP, Answer, Failed, Skipped, decided, installed, is_second, need, reads_language_2, run
 
 # ---- The two checkers
 
@@ -42,7 +42,7 @@ def judged(statement: Path, evidence: Path) -> Tuple[str, bool]:
     line = answer.out.split("\n")[-2] if answer.out.endswith("\n") else ""
     status = 0 if re.fullmatch("# block [0-9]+ accepted .*", line) else 1
     need(answer.status == status and not answer.error and line.startswith("# "), (statement, evidence, answer))
-    is_asked = is_read_by_opprove(evidence)
+    is_asked = is_read_by_opprove(evidence) and (reads_language_2() or not is_second(statement))
     if is_asked:
         other = run(PROGRAM, "check", statement, evidence)
         same = (other.status == 0) == (status == 0) and other.out == answer.out

@@ -45,8 +45,8 @@ def reads_language_2(program: Path = PROGRAM) -> bool:
 
 
 def is_second(statement: Path) -> bool:
-    """Whether an example is of language 2."""
-    return statement.read_text().startswith("language 2\n")
+    """Whether a statement is of language 2, as one that faulty bytes stand in isn't."""
+    return b"\nlanguage 2\n" in b"\n" + statement.read_bytes()
 
 
 def decided() -> List[Path]:
