@@ -5,11 +5,15 @@ the program that is built reads language 2.
 """
 from __future__ import annotations
 
+import random
+import re
 import sys
 from pathlib import Path
-from typing import Callable, List, NamedTuple, Optional
+from typing import Callable, Iterator, List, NamedTuple, Optional
 
-from trying import CONTRIB, PROGRAM, Answer, need, reads_language_2, run
+import try_why
+from check import Problem, Refusal
+from trying import CONTRIB, EXAMPLES, PROGRAM, Answer, is_second, need, reads_language_2, run
 
 ZERO = "certificate 2 / claim 1 / denominator 1 / goal scale 1 / end"
 ACCEPTED = "# block 1 accepted claim 1 denominator 1"
@@ -224,4 +228,49 @@ def rows(folder: Path) -> str:
     return f"{sum(len(table) for _, table in TABLES)} rows on language 2 are answered as they should be, {by}"
 
 
-CHECKS: List[Callable[[Path], str]] = [rows]
+# ---- Language 1 with `language 2` in front
+
+
+def said_of(path: Path) -> object:
+    """What check.py makes of a statement: its fault, or all that it says."""
+    try:
+        problem = Problem(str(path))
+    except Refusal as refusal:
+        return str(refusal)
+    return problem.names, problem.ends, problem.is_starred, problem.assumptions, problem.claims, problem.generators()
+
+
+def further_down(said: object, bytes_more: int) -> object:
+    """The same of a text behind one more line of so many bytes."""
+    if not isinstance(said, str):
+        return said
+    moved = re.sub(r"(?<=byte )[0-9]+", lambda match: str(int(match.group()) + bytes_more), said)
+    return re.sub(r"(?<=line )[0-9]+", lambda match: str(int(match.group()) + 1), moved)
+
+
+def statements_of_language_1() -> Iterator[bytes]:
+    """Those of the examples, those of the words on faults, and random edits of both."""
+    texts = [path.read_bytes() for path in [*EXAMPLES.glob("**/*.op"), *CONTRIB.glob("examples/*.op")] if not is_second(path)]
+    texts += [try_why.expanded(case.files["s.op"]) for case in try_why.cases() if "s.op" in case.files]
+    texts = [text for text in texts if len(text) < 20000 and not re.search(rb"\^|language|eliminate|m201", text)]
+    yield from texts
+    chance = random.Random(1)
+    for _ in range(500):
+        text = chance.choice(texts).decode(errors="replace")
+        yield try_why.edited(text, chance).encode() if re.search("[a-z]", text) else b""
+
+
+def in_front(folder: Path) -> str:
+    """It changes nothing, but that a refusal stands one line further down."""
+    path, front, faults, count = folder / "row.op", b"language 2\n", 0, 0
+    for text in filter(None, statements_of_language_1()):
+        path.write_bytes(text)
+        said = said_of(path)
+        path.write_bytes(front + text)
+        need(said_of(path) == further_down(said, len(front)), (text, said, said_of(path)))
+        faults, count = faults + isinstance(said, str), count + 1
+    need(faults > 100 and count - faults > 100, (faults, count))
+    return f"{count} statements, {faults} of them with a fault, mean the same to check.py with `language 2` in front"
+
+
+CHECKS: List[Callable[[Path], str]] = [rows, in_front]
