@@ -5,8 +5,9 @@ Reads a statement and the certificates of an evidence text, of both formats, for
 compares. It prints a line for each certificate: that it is accepted, with its denominator, or the first thing that is
 wrong, with its place, which ends the report. The status is 0 where all are accepted, and else 1.
 
-It is written from docs/FORMATS.md and shares nothing with opprove; codes and places are those of that page. Numbers and
-sums of rows have any size: S4, S13, K4, C4, C5, C9 and C11 are not looked at. Names follow this Python's version of Unicode.
+It is written from docs/FORMATS.md and shares nothing with opprove; codes and places are those of that page. It reads both
+languages of statements. Numbers and sums of rows have any size: S4, S13, K4, C4, C5, C9 and C11 are not looked at. Names
+follow this Python's version of Unicode.
 """
 from __future__ import annotations
 
@@ -55,18 +56,20 @@ Token = NamedTuple("Token", [("kind", str), ("text", str), ("line", int), ("colu
 SHAPES = {
     "object": "new_object+", "map": "new_map+ : object -> object self?", "assume": "sum = sum", "claim": "sum = sum",
     "pinv": "map map", "inverse": "map map", "inner": "map map", "projection": "map",
-    "order": "", "solve": "map+", "model": "literal object,literal*",
+    "order": "", "solve": "map+", "model": "literal object,literal*", "eliminate": "map+",
 }  # fmt: skip
+WORDS = {2: list(SHAPES), 1: [word for word in SHAPES if word != "eliminate"]}  # that a line begins with, by the language
+SIGNS = {1: r":=+\-()\[\]'", 2: r":=+\-()\[\]'^"}
 
 
 def fault(code: str, token: Token, more: str = "") -> Refusal:
     return Refusal(f"# refused {code} line {token.line} column {token.column}{more}")
 
 
-def tokens_of(line: str, number: int) -> List[Token]:
+def tokens_of(line: str, number: int, language: int = 1) -> List[Token]:
     """The tokens of a line, and behind the last an "end". The kind of a token is "name", "literal", or the sign."""
-    tokens = []
-    for match in re.finditer(r"([0-9]+)|(->|[:=+\-()\[\]'])|[^ \t:=+\-()\[\]']+", line.split("#")[0]):
+    tokens, signs = [], SIGNS[language]
+    for match in re.finditer(rf"([0-9]+)|(->|[{signs}])|[^ \t{signs}]+", line.split("#")[0]):
         kind = "literal" if match.group(1) else match.group(2) or "name"
         token = Token(kind, match.group(), number, match.start() + 1)
         if kind == "name" and not is_name(token.text):
@@ -75,6 +78,23 @@ def tokens_of(line: str, number: int) -> List[Token]:
             raise fault("S2", token if is_long else token._replace(column=token.column + bad[0]))
         tokens.append(token)
     return tokens + [Token("end", "", number, tokens[-1].column + len(tokens[-1].text))] if tokens else []
+
+
+def language_of(tokens: List[Token]) -> int:
+    """That of a file whose first line with a token has these."""
+    is_second = [token.kind for token in tokens] == ["name", "literal", "end"] and tokens[0].text == "language"
+    return 2 if is_second and int(tokens[1].text) == 2 else 1
+
+
+def lines_of(path: str) -> List[Line]:
+    """The lines of a statement that have a token, the one that names its language among them."""
+    texts: List[List[Token]] = []
+    language = 1
+    for number, text in read_lines(path, "# refused S1 byte {}"):
+        tokens = tokens_of(text, number, language)
+        language = language_of(tokens) if tokens and not texts else language
+        texts += [tokens] if tokens else []
+    return [Line(tokens) if language == 2 and tokens is texts[0] else Line(tokens).statement(language) for tokens in texts]
 
 
 class Line:
@@ -96,15 +116,15 @@ class Line:
     def take(self, role: str, words: Iterable[str] = ()) -> str:
         """Takes the next token, if it may have this role, and is one of the words where there are any."""
         token = self.next()
-        kind = "name" if role.isidentifier() and role not in ("literal", "end") else role
+        kind = {"exponent": "literal", "literal": "literal", "end": "end"}.get(role, "name" if role.isidentifier() else role)
         if token.kind != kind or (words and token.text not in words):
             raise fault("S3", token)
         self.place += 1
         self.roles.append((token, role))
         return token.text
 
-    def statement(self) -> Line:
-        word = self.take("word", SHAPES)
+    def statement(self, language: int = 1) -> Line:
+        word = self.take("word", WORDS[language])
         is_weight = word == "order" and self.take("way", ["degree", "weight"]) == "weight"
         for group in ["map,literal+"] if is_weight else SHAPES[word].split():
             again = group[-1] not in "?*" or self.is_at("name")
@@ -175,19 +195,39 @@ class Line:
         return signature, total
 
     def factor(self, depth: int) -> Value:
+        first = self.next()
         if self.is_at("("):
             if depth == 64:
-                raise fault("S5", self.next())
+                raise fault("S5", first)
             self.take("(")
             value = self.sum(depth + 1)
             self.take(")")
         else:
             letter = self.take("[") + self.take("object") + self.take("]") if self.is_at("[") else self.take("map")
             value = self.problem.letter(letter) if self.problem else (None, {})
-        while self.is_at("'"):
-            self.take("'")
-            value = self.problem.adjoint(value) if self.problem else value
+        while self.is_at("'", "^"):
+            mark, exponent = self.next(), 0
+            if self.take(mark.kind) == "^":
+                exponent = int(self.take("exponent"))
+            if self.problem:
+                value = self.power(first, mark, exponent, value) if exponent else self.problem.adjoint(value)
         return value
+
+    def power(self, first: Token, mark: Token, exponent: int, value: Value) -> Value:
+        """The product of so many times the value, from the left."""
+        signature, base = value
+        if exponent == 1:
+            return value
+        if signature is None:
+            raise fault("S12", first)
+        if signature[0] != signature[1]:
+            raise fault("S10", mark, self.problem.arrows(signature, signature))
+        if len(base) == 1 and exponent * len(next(iter(base))) <= 500:
+            return signature, {word * exponent: coefficient**exponent for word, coefficient in base.items()}
+        total = base
+        for _ in range(exponent - 1 if base else 0):
+            total = self.product(total, base)
+        return signature, total
 
 
 # ---- Statements: names, letters and generators
@@ -199,7 +239,7 @@ ABBREVIATIONS = {
 }  # fmt: skip
 
 
-LIMITS = {"new_object": 64, "new_map": 200, "assume": 500, "claim": 100, "model": 16}
+LIMITS = {"new_object": 64, "new_map": 200, "assume": 500, "claim": 100, "model": 16}  # 1,000 maps in language 2
 MODULI = (2, 3, 5, 7, 101, 32003, 65537)
 
 
@@ -209,39 +249,39 @@ def check_names(lines: List[Line]) -> None:
     firsts = dict(reversed(news))  # the first declaration of each name
     kinds = {name: kind for name, (_, kind) in firsts.items()}
     counts = {"order": 0, **dict.fromkeys(LIMITS, 0)}
+    limits = {**LIMITS, "new_map": 1000} if lines and lines[0].tokens[0].text == "language" else LIMITS
     for line in lines:
         word, ends = line.tokens[0].text, line.with_role("object") if line.with_role("self") else []
         named = []  # by this line, if a name may not stand in it twice
         for place, (token, role) in enumerate(line.roles):
-            kind = role if role != "word" else "assume" if word in ABBREVIATIONS else word
+            kind = role if role != "word" else "assume" if word in ABBREVIATIONS else "order" if word == "eliminate" else word
             if kind in counts:
                 counts[kind] += len(ABBREVIATIONS.get(word, [""])) if kind == "assume" else 1
             if role in ("object", "map") and kinds.get(token.text) != role:
                 raise fault("S6", token)
             if (role[:4] == "new_" and firsts[token.text][0] != token) or token.text in named or (place == 0 and counts["order"] > 1):
                 raise fault("S7", token)
-            if kind in LIMITS and counts[kind] > LIMITS[kind]:
-                raise fault("S8", token, f" limit {LIMITS[kind]}")
+            if kind in limits and counts[kind] > limits[kind]:
+                raise fault("S8", token, f" limit {limits[kind]}")
             if role == "new_map" and len(set(ends)) == 2 and all(kinds.get(end) == "object" for end in ends):
                 raise fault("S9", token)
-            if role == "literal" and not is_in_range(word, place, int(token.text)):
+            if role in ("literal", "exponent") and not is_in_range(role, word, place, int(token.text)):
                 raise fault("S16", token)
-            named += [token.text] if word in ("order", "solve", "model") and role in ("object", "map") else []
+            named += [token.text] if word in ("order", "eliminate", "solve", "model") and role in ("object", "map") else []
 
 
-def is_in_range(word: str, place: int, literal: int) -> bool:
-    """Of a literal at this place of a line that begins with the word."""
+def is_in_range(role: str, word: str, place: int, literal: int) -> bool:
+    """Of a literal in this role at this place of a line that begins with the word."""
     if word == "model":
         return literal in (MODULI if place == 1 else range(1, 7))
-    return word != "order" or 1 <= literal <= 1000
+    return 1 <= literal <= 500 if role == "exponent" else word != "order" or 1 <= literal <= 1000
 
 
 class Problem:
     """What a statement says: its letters, and its assumptions, claims and generators as polynomials."""
 
     def __init__(self, path: str) -> None:
-        texts = [tokens_of(text, number) for number, text in read_lines(path, "# refused S1 byte {}")]
-        self.lines = lines = [Line(tokens).statement() for tokens in texts if tokens]
+        self.lines = lines = lines_of(path)
         check_names(lines)
         self.names, self.stars, self.ends = [], [], []  # of each letter: as it is written, its adjoint, its signature
         self.numbers: Dict[str, int] = {}  # of each way to write a letter

@@ -13,6 +13,7 @@ nested     16,384 terms in 48 brackets with a mark and a letter behind each, twi
 solved     maps of side 6 that are solved for: one by 4 assumptions, or with COUNT 2 two by 8
 doubled    20 assumptions that are twice 256 words, and a shape of side 4 modulo 2
 sides      an assumption of 500 letters; matrices: its model, of side 64
+powers     COUNT assumptions of language 2, each of 16,384 words of 500 letters
 short      an assumption of 16,384 words of 14 letters; long: of 500; uses: COUNT rows that use either
 """
 from __future__ import annotations
@@ -69,6 +70,7 @@ FILES: Dict[str, Callable[[int], str]] = {
     "doubled": lambda _: MAPS + f"assume 2 {'(a+b)' * 8} = 0\n" * 20 + "claim a = a\nmodel 2 U 4\n",
     "sides": lambda _: MAPS + f"assume {'a b ' * 250}= 0\nclaim b = 0\n",
     "matrices": matrices,
+    "powers": lambda count: "language 2\nobject U\nmap a b c : U -> U\n" + "assume (a+b)^14 c^486 = 0\n" * count + "claim a = 0\n",
     "short": lambda _: MAPS + f"assume {'(a+b)' * 14} = 0\nclaim a = 0\n",
     "long": lambda _: MAPS + f"assume {'(a+b)' * 14}{' a' * 486} = 0\nclaim a = 0\n",
     "uses": lambda count: HEAD + "row 1()1()\n" * count + "end\n",

@@ -257,8 +257,8 @@ class Search:
             goal.level, goal.cause = job.level, head[len("undecided ") :]
 
     def problem(self, job: Job) -> Problem:
-        """The variant as check.py reads it: generators don't depend on the order."""
-        return Problem(str(self.write("plain.op", variants.without(job.text, ["order", "eliminate"], self.statement))))
+        """The variant as check.py reads it."""
+        return Problem(str(self.write("variant.op", job.text)))
 
     def has_same_generators(self, job: Job) -> bool:
         problem, mine = self.problem(job), self.statement.problem
@@ -308,8 +308,7 @@ class Search:
             goal.found_by += ["# the variant:"] + [f"#   {line}" for line in job.text.rstrip("\n").split("\n")]
         if verdict == "not derivable" and job.order.lines:
             goal.found_by.append("# the basis is of another order than the statement's: " + job.order.lines[-1])
-            text = variants.without(self.statement.text, ["order", "eliminate"], None) + "\n".join(job.order.lines) + "\n"
-            self.write(f"claim_{goal.number}_order.op", text, self.options.keep)
+            self.write(f"claim_{goal.number}_order.op", variants.reordered(self.statement, job.order), self.options.keep)
         what = f"claim {goal.number}" if goal.number else "a lemma"
         self.progress.tell(f"{what} {verdict} by {job.name}", is_news=True)
 

@@ -3,8 +3,9 @@
 
 Makes statements and certificates that are small and cost much, or are as large as may be, runs `opprove check` and
 contrib/plain.rs on each, and prints a table in Markdown: processor time and peak memory of both, the least of three
-runs or of those that begin within ten seconds, and the quotient of the times. With a word it makes the rows alone whose
-name begins with it. It wants rustc and the program that is built, or another one that the variable OPPROVE names. A run
+runs or of those that begin within ten seconds, and the quotient of the times. A second table has runs of other commands,
+some beside a run on another statement, whose report has to be the same. With a word it makes the rows alone whose name
+begins with it: `powers`, `order` and `maps` are those of language 2. It wants rustc and the program that is built, or another one that the variable OPPROVE names. A run
 may take 8 GB of memory. Memory is seen from that of this script upwards.
 """
 from __future__ import annotations
@@ -24,7 +25,7 @@ from trying import CONTRIB, PROGRAM, Failed, Skipped, installed, need, run
 OPPROVE = Path(os.environ.get("OPPROVE", PROGRAM))
 RUNS, PATIENCE, MEMORY_LIMIT = 3, 10, 8 * 10**9
 STATEMENT_LIMIT, EVIDENCE_LIMIT = 2**20, 2**26
-FINE, NO_MEMORY, REFUSED = 0, 6, 7
+FINE, FAULTY, NO_MEMORY, REFUSED, UNDECIDED = 0, 3, 6, 7, 12
 MAPS = string.ascii_lowercase + "A"
 HEAD = f"object U\nmap {' '.join(MAPS)} : U -> U\n"
 ZERO_CLAIM = "claim a = a\n"
@@ -38,6 +39,18 @@ class Case(NamedTuple):
     evidence: Optional[Callable[[], Text]] = None
     answer: str = "# refused K7\n"  # how the report of opprove begins
     plain_status: int = FINE
+
+
+class Command(NamedTuple):
+    """A run that the plain program doesn't make, and a statement on which the same words give the same report."""
+
+    name: str
+    words: List[str]  # the command, and what stands behind its files
+    statement: Callable[[], Text]
+    status: int
+    answer: str
+    evidence: Optional[Callable[[], Text]] = None
+    beside: Optional[Callable[[], Text]] = None
 
 
 class Usage(NamedTuple):
@@ -101,6 +114,72 @@ STATEMENTS = [
     ),
     Case("assumptions: 500 of 16,384 words of 20 letters, starred", assumptions(20, "claim a' = a'\n")),
 ]
+
+
+# ---- Language 2
+
+SECOND = "language 2\n" + HEAD
+TOO_LARGE = "# refused S14 line 4 column 1\n"
+
+
+def second(left: str, more: str = "") -> Callable[[], Text]:
+    """A claim of language 2, in which something is repeated to the end of 1 MiB, where there is something."""
+    front, back = f"{SECOND}claim {left}", " = 0\n"
+    return lambda: iter([front, more * ((STATEMENT_LIMIT - len(front + back)) // max(len(more), 1)), back])
+
+
+def powers(base: str, times: int) -> Case:
+    """So many times one power in a sum, added and taken off in turn, as the coefficients are large."""
+    terms = [f"{'-+'[number % 2]} {base}" for number in range(1, times + 1)]
+    return Case(f"powers: `{base}`" + f", {times:,} times in a sum" * (times > 1), second(" ".join(terms)))
+
+
+def assumed_powers() -> Text:
+    return itertools.chain([SECOND], itertools.repeat("assume (a+b)^14 c^486 = 0\n", 500), [ZERO_CLAIM])
+
+
+POWERS = [
+    Case("powers: `a` and then `'` up to 1 MiB", second("a", "'")),
+    Case("powers: `a` and then `'^1` up to 1 MiB", second("a", "'^1")),
+    Case("powers: `(a - a)` and then `^500` up to 1 MiB", second("(a - a)", "^500")),
+    Case("powers: `a^500` and then `+a^500` up to 1 MiB", second("a^500", "+a^500")),
+    *(powers(base, times) for base in ("(a+b)^14", "(a+a^2)^130") for times in (1, 100, 1000)),
+    Case("powers: `(a+b)^500`", second("(a+b)^500"), None, TOO_LARGE, REFUSED),
+    Case("powers: 500 assumptions `(a+b)^14 c^486 = 0`", assumed_powers),
+]
+
+
+def many_maps(claimed: str) -> Callable[[], Text]:
+    names = " ".join(f"k{number}" for number in range(1, 1001))
+    return lambda: iter([f"language 2\nobject U\nmap {names} : U -> U\nclaim {claimed}\n"])
+
+
+def many_models() -> Text:
+    """A hundred models, in which all maps are 1."""
+    maps = "".join(f"map k{number} = 1\n" for number in range(1, 1001))
+    return itertools.repeat(f"model 1\nclaim 1\nmodulus 2\nside U 1\n{maps}end\n", 100)
+
+
+def braids(line: str) -> Callable[[], Text]:
+    return lambda: iter(["language 2\nobject V\nmap a b : V -> V\n", line, "assume b a b = a b a\nclaim a = b\n"])
+
+
+LONG = ["prove", "--pairs", "5000", "--no-models", "--workers", "1"]
+COMMANDS = [
+    Command(
+        "order: `eliminate` of all maps beside the order by degrees, 5,000 pairs", LONG,
+        braids("eliminate a b\n"), UNDECIDED, "# claim 1 undecided pairs 5000 least ", beside=braids("order degree\n"),
+    ),
+    Command(
+        "maps: one `[U]` among 1,000 maps, 5,000 pairs", LONG,
+        many_maps("[U] k1 k2 = k2 k1"), UNDECIDED, "# claim 1 undecided pairs 5000 least k3 [U] k997\n",
+    ),
+    Command(
+        "maps: the same, starred", LONG,
+        many_maps("[U] k1' k2 = k2 k1'"), UNDECIDED, "# claim 1 undecided pairs 5000 least ",
+    ),
+    Command("maps: 100 models of 1,000 maps", ["model"], many_maps("k1 = 0"), FINE, "# block 1 confirmed claim 1\n", many_models),
+]  # fmt: skip
 
 
 # ---- Evidence
@@ -194,6 +273,9 @@ EVIDENCE = [
 ]
 
 
+CASES = STATEMENTS + EVIDENCE + POWERS
+
+
 # ---- Runs
 
 
@@ -237,10 +319,25 @@ def row(case: Case, plain: str, folder: Path) -> str:
     size = write(statement, case.statement()) + write(evidence, case.evidence() if case.evidence else iter(()))
     files = [str(statement)] + ([str(evidence)] if case.evidence else [])
     other = least([plain, *files], out, case.plain_status, "")
-    status = FINE if case.answer == ACCEPTED else REFUSED
+    status = FINE if case.answer == ACCEPTED else FAULTY if case.answer.startswith("# refused S") else REFUSED
     own = least([str(OPPROVE), "check", str(statement), str(evidence)], out, status, case.answer)
     quotient = "" if NO_MEMORY in (own.status, other.status) else f"{own.seconds / other.seconds:.2f}"
     return f"| {case.name} | {size:,} | {told(own)} | {told(other)} | {quotient} |"
+
+
+def command_row(command: Command, folder: Path) -> str:
+    """A line of the second table. The same report is asked of the statement beside it."""
+    paths, out = [folder / "statement.op", folder / "evidence.cert"], folder / "out"
+    size = write(paths[0], command.statement())
+    size += write(paths[1], command.evidence()) if command.evidence else 0
+    words = [str(OPPROVE), command.words[0], *map(str, paths if command.evidence else paths[:1]), *command.words[1:]]
+    own = least(words, out, command.status, command.answer)
+    report, beside, quotient = out.read_text(), "| ", ""
+    if command.beside:
+        write(paths[0], command.beside())
+        other = least(words, out, command.status, report)
+        beside, quotient = told(other), f"{own.seconds / other.seconds:.2f}"
+    return f"| {command.name} | {size:,} | {told(own)} | {beside} | {quotient} |"
 
 
 def build_plain(folder: Path) -> str:
@@ -256,10 +353,13 @@ def main(words: List[str]) -> int:
         with tempfile.TemporaryDirectory() as name:
             plain = build_plain(Path(name))
             resource.setrlimit(resource.RLIMIT_AS, (MEMORY_LIMIT, MEMORY_LIMIT))
-            print("| | bytes | `opprove` s | MB | plain s | MB | quotient |\n|---|---|---|---|---|---|---|")
-            for case in STATEMENTS + EVIDENCE:
-                if case.name.startswith(tuple(words[:1])) or not words:
-                    print(row(case, plain, Path(name)), flush=True)
+            cases, commands = ([one for one in table if one.name.startswith("".join(words[:1]))] for table in (CASES, COMMANDS))
+            print("| | bytes | `opprove` s | MB | plain s | MB | quotient |\n|---|---|---|---|---|---|---|" * bool(cases))
+            for case in cases:
+                print(row(case, plain, Path(name)), flush=True)
+            print("\n| | bytes | `opprove` s | MB | beside s | MB | quotient |\n|---|---|---|---|---|---|---|\n" * bool(commands), end="")
+            for command in commands:
+                print(command_row(command, Path(name)), flush=True)
     except (Failed, Skipped) as reason:
         print(reason, file=sys.stderr)
         return 1

@@ -2,8 +2,9 @@
 //!
 //! `plain STATEMENT` multiplies out and prints how many terms each claim has; `plain STATEMENT EVIDENCE` adds up the
 //! certificates of both formats, over statements without adjoints, and says of each whether it gives its claim. It reads
-//! `object`, `map`, `assume` and `claim` with sums, products, brackets, integers and adjoints, and looks neither at
-//! signatures nor at all that a faulty file may hold. `rustc -O contrib/plain.rs` builds it; `measure.py` runs it.
+//! `object`, `map`, `assume` and `claim` with sums, products, brackets, integers and adjoints, and in language 2 powers and
+//! `eliminate`, which changes nothing here; it looks neither at signatures nor at all that a faulty file may hold.
+//! `rustc -O contrib/plain.rs` builds it; `measure.py` runs it.
 
 use std::collections::hash_map::Entry;
 use std::collections::HashMap;
@@ -18,6 +19,7 @@ type Answer<T> = Result<T, String>;
 const TERM_LIMIT: usize = 20_000;
 const LETTER_LIMIT: usize = 500;
 const DEPTH_LIMIT: usize = 64;
+const EXPONENT_LIMIT: i128 = 500;
 const SUM_LIMIT: usize = 200_000;
 
 fn main() -> ExitCode {
@@ -105,6 +107,35 @@ fn check_size(polynomial: &Polynomial) -> Answer<()> {
     Ok(())
 }
 
+fn check_length(length: usize) -> Answer<()> {
+    if length > LETTER_LIMIT {
+        return Err(format!("a word has more than {LETTER_LIMIT} letters"));
+    }
+    Ok(())
+}
+
+/// The product of so many times the polynomial: of one term at once, and else from the left.
+fn power(base: Polynomial, exponent: usize) -> Answer<Polynomial> {
+    if exponent == 1 || base.is_empty() {
+        return Ok(base);
+    }
+    if base.len() == 1 {
+        return base.iter().map(|(word, coefficient)| term_power(word, *coefficient, exponent)).collect();
+    }
+    let mut total = product(&base, &[], &base)?;
+    for _ in 2..exponent {
+        check_length(total.keys().map(|word| word.len()).max().unwrap_or(0))?;
+        total = product(&total, &[], &base)?;
+    }
+    Ok(total)
+}
+
+fn term_power(word: &[Letter], coefficient: i128, exponent: usize) -> Answer<(Word, i128)> {
+    check_length(word.len() * exponent)?;
+    let number = coefficient.checked_pow(exponent as u32).ok_or("a product is too large")?;
+    Ok((word.repeat(exponent).into_boxed_slice(), number))
+}
+
 // ---- Statements
 
 /// What a statement says.
@@ -152,11 +183,14 @@ impl Problem {
 fn read_statement(text: &str) -> Answer<Problem> {
     let mut problem = Problem::default();
     let mut equations = Vec::new();
-    for (word, rest) in text.lines().filter_map(first_word) {
+    let mut lines = text.lines().filter_map(first_word).peekable();
+    let has_powers = lines.next_if(is_second).is_some();
+    for (word, rest) in lines {
         match word {
             "object" => {}
             "map" => problem.declare(rest)?,
-            "assume" | "claim" => equations.push((word, Equation::read(rest)?)),
+            "assume" | "claim" => equations.push((word, Equation::read(rest, has_powers)?)),
+            "eliminate" if has_powers => {}
             _ => return Err(format!("the statement {word} is not read")),
         }
     }
@@ -174,6 +208,12 @@ fn first_word(line: &str) -> Option<(&str, &str)> {
     let text = line.split('#').next()?.trim();
     let end = text.find(char::is_whitespace).unwrap_or(text.len());
     (end > 0).then(|| text.split_at(end))
+}
+
+/// Whether this is the line that makes its file one of language 2, where it is the first one.
+fn is_second(line: &(&str, &str)) -> bool {
+    let (word, number) = (line.0, line.1.trim());
+    word == "language" && number.trim_start_matches('0') == "2"
 }
 
 // ---- Expressions
@@ -200,11 +240,24 @@ struct Factor<'a> {
 enum Primary<'a> {
     Letter(&'a str),
     Bracket(Sum<'a>),
+    Raised(Box<Raised<'a>>),
+}
+
+/// A factor to a power, and to the next one, and so on.
+struct Raised<'a> {
+    base: Factor<'a>,
+    powers: Vec<Power>,
+}
+
+struct Power {
+    exponent: usize,
+    /// Whether an odd number of marks stands between it and the next one.
+    is_adjoint: bool,
 }
 
 impl<'a> Equation<'a> {
-    fn read(text: &'a str) -> Answer<Equation<'a>> {
-        let mut reader = Reader { rest: text.as_bytes(), depth: 0, has_marks: false };
+    fn read(text: &'a str, has_powers: bool) -> Answer<Equation<'a>> {
+        let mut reader = Reader { rest: text.as_bytes(), depth: 0, has_marks: false, has_powers };
         let left = reader.sum()?;
         reader.expect(b'=')?;
         let right = reader.sum()?;
@@ -220,6 +273,7 @@ struct Reader<'a> {
     rest: &'a [u8],
     depth: usize,
     has_marks: bool,
+    has_powers: bool,
 }
 
 impl<'a> Reader<'a> {
@@ -270,7 +324,8 @@ impl<'a> Reader<'a> {
         let literal = self.literal()?;
         let mut factors = Vec::new();
         while let Some(primary) = self.primary()? {
-            factors.push(Factor { primary, is_adjoint: self.is_adjoint() });
+            let base = Factor { primary, is_adjoint: self.is_adjoint() };
+            factors.push(self.raised(base)?);
         }
         if factors.is_empty() && literal != Some(0) {
             return Err("a term has no factor".to_string());
@@ -304,6 +359,30 @@ impl<'a> Reader<'a> {
         self.expect(b')')?;
         self.depth -= 1;
         Ok(sum)
+    }
+
+    /// The factor with the powers behind it. An exponent of 1 does nothing.
+    fn raised(&mut self, mut base: Factor<'a>) -> Answer<Factor<'a>> {
+        let mut powers: Vec<Power> = Vec::new();
+        while self.has_powers && self.takes(b'^') {
+            let exponent = self.exponent()?;
+            let is_adjoint = self.is_adjoint();
+            match powers.last_mut() {
+                _ if exponent > 1 => powers.push(Power { exponent, is_adjoint }),
+                Some(last) => last.is_adjoint ^= is_adjoint,
+                None => base.is_adjoint ^= is_adjoint,
+            }
+        }
+        if powers.is_empty() {
+            return Ok(base);
+        }
+        powers.shrink_to_fit();
+        Ok(Factor { primary: Primary::Raised(Box::new(Raised { base, powers })), is_adjoint: false })
+    }
+
+    fn exponent(&mut self) -> Answer<usize> {
+        let exponent = self.literal()?.filter(|number| (1..=EXPONENT_LIMIT).contains(number));
+        exponent.map(|number| number as usize).ok_or_else(|| "an exponent is wrong".to_string())
     }
 
     /// Whether an odd number of marks stands here.
@@ -341,8 +420,8 @@ impl Problem {
         for factor in &term.factors {
             match &factor.primary {
                 Primary::Letter(name) => word.push(self.marked_letter(name, factor.is_adjoint)?),
-                Primary::Bracket(sum) => {
-                    let bracket = self.bracket(sum, factor.is_adjoint)?;
+                _ => {
+                    let bracket = self.factor(factor)?;
                     front = Some(match front {
                         None if word.is_empty() => bracket,
                         left => product(&left.unwrap_or_else(unit), &word, &bracket)?,
@@ -367,9 +446,24 @@ impl Problem {
         Ok(if is_adjoint { self.adjoints[letter as usize] } else { letter })
     }
 
-    fn bracket(&self, sum: &[Term], is_adjoint: bool) -> Answer<Polynomial> {
-        let inner = self.sum(sum)?;
-        Ok(if is_adjoint { self.adjoint(&inner) } else { inner })
+    fn factor(&self, factor: &Factor) -> Answer<Polynomial> {
+        let inner = match &factor.primary {
+            Primary::Letter(name) => Polynomial::from([(Box::from([self.letter(name)?]), 1)]),
+            Primary::Bracket(sum) => self.sum(sum)?,
+            Primary::Raised(raised) => self.raised(raised)?,
+        };
+        Ok(if factor.is_adjoint { self.adjoint(&inner) } else { inner })
+    }
+
+    fn raised(&self, raised: &Raised) -> Answer<Polynomial> {
+        let mut value = self.factor(&raised.base)?;
+        for step in &raised.powers {
+            value = power(value, step.exponent)?;
+            if step.is_adjoint && !value.is_empty() {
+                value = self.adjoint(&value);
+            }
+        }
+        Ok(value)
     }
 }
 

@@ -20,7 +20,7 @@ import textwrap
 import unicodedata
 from typing import Dict, Iterator, List, NamedTuple, Optional, Set, Tuple
 
-from check import Certificate, Problem, Row, Share, Signature, Token, Word, add
+from check import Certificate, Problem, Refusal, Row, Share, Signature, Token, Word, add
 from translation import main
 
 # Words of Coq, and those of this file and of Opprove.v that a theorem or its proof uses.
@@ -34,6 +34,7 @@ From Opprove Require Import Opprove.
 Import ListNotations.
 Local Open Scope positive_scope.
 Local Open Scope hom_scope."""
+LENGTH_LIMIT = 1000000  # characters of a power that is written out
 
 # An expression: how a theorem says it, at which level of Coq's grammar, and as the checker reads it.
 Said = NamedTuple("Said", [("ends", Optional[Signature]), ("text", str), ("level", int), ("term", str)])
@@ -144,10 +145,20 @@ class Reader:
         else:
             letter = self.problem.numbers[token.text]
             value = Said(self.problem.ends[letter], self.names.of[letter], 0, f"Var {self.names.place[letter]}")
-        while self.is_at("'"):
-            self.next()
-            value = Said(value.ends and value.ends[::-1], f"{bracketed(value, 2)}†", 2, f"EAdj ({value.term})")
+        while self.is_at("'", "^"):
+            if self.next().kind == "^":
+                value = self.power(value, self.next())
+            else:
+                value = Said(value.ends and value.ends[::-1], f"{bracketed(value, 2)}†", 2, f"EAdj ({value.term})")
         return value
+
+    def power(self, value: Said, exponent: Token) -> Said:
+        """The product of so many times the value, written out."""
+        more = int(exponent.text) - 1
+        if more * len(value.term) > LENGTH_LIMIT:
+            raise Refusal(f"# the power at line {exponent.line} column {exponent.column} is too long to be written out")
+        text = bracketed(value, 40) + f" ∘ {bracketed(value, 39)}" * more
+        return Said(value.ends, text, 40, "EComp (" * more + value.term + f") ({value.term})" * more) if more else value
 
 
 class Statement:

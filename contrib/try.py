@@ -24,13 +24,14 @@ import try_bounds
 import try_chains
 import try_guide
 import try_harder
+import try_language
 import try_models
 import try_opprove
 import try_pictures
 import try_python
 import try_release
 import try_why
-from trying import CONTRIB, EXAMPLES, PROGRAM, TOP, Answer, Failed, Skipped, decided, installed, need, run
+from trying import CONTRIB, EXAMPLES, PROGRAM, TOP, Answer, Failed, Skipped, decided, installed, is_second, need, reads_language_2, run
 
 # ---- The two checkers
 
@@ -41,7 +42,7 @@ def judged(statement: Path, evidence: Path) -> Tuple[str, bool]:
     line = answer.out.split("\n")[-2] if answer.out.endswith("\n") else ""
     status = 0 if re.fullmatch("# block [0-9]+ accepted .*", line) else 1
     need(answer.status == status and not answer.error and line.startswith("# "), (statement, evidence, answer))
-    is_asked = is_read_by_opprove(evidence)
+    is_asked = is_read_by_opprove(evidence) and (reads_language_2() or not is_second(statement))
     if is_asked:
         other = run(PROGRAM, "check", statement, evidence)
         same = (other.status == 0) == (status == 0) and other.out == answer.out
@@ -288,17 +289,33 @@ def shell(name: str, file: str) -> Callable[[], str]:
     return completion
 
 
+HIGHLIGHTED = [  # a text, its kind, and for some of its places, each a line and a column, what stands there for Vim
+    ("object U # c\nmap p : U -> U self\norder weight p 2\n", "op", {
+        "1,1": "opproveStatement", "1,10": "opproveComment", "2,11": "opproveSign", "2,16": "opproveOption", "3,7": "opproveOption",
+    }),
+    ("# c\n language 2 # c\nobject language\neliminate b\nclaim a'^2 = [U]\n", "op", {
+        "2,2": "opproveStatement", "2,11": "opproveNumber", "3,8": "", "4,1": "opproveStatement", "5,9": "opproveSign",
+        "5,10": "opproveNumber", "5,15": "opproveIdentity",
+    }),
+    ("language 2 x\n", "op", {"1,1": ""}),
+    ("certificate 2\nlemma 1 scale 2\nrow -1 () lemma 1 ([U])\n", "cert", {
+        "1,1": "opprovecertBlock", "2,1": "opprovecertWord", "3,5": "opprovecertNumber", "3,11": "opprovecertLemma", "3,20": "opprovecertIdentity",
+    }),
+]  # fmt: skip
+
+
 def vim(folder: Path) -> str:
-    show = "call writefile([&filetype, synIDattr(synID(1, 1, 1), 'name')], 'shown', 'a')"
-    steps = [f"set runtimepath+={CONTRIB}/vim", "filetype on", "syntax on"]
-    for file in ("pseudoinverses.op", "pseudoinverses.cert"):
-        steps += [f"edit {EXAMPLES / file}", show]
-    words = [word for step in steps + ["quitall!"] for word in ("-c", step)]
-    answer = run(installed("vim"), "-u", "NONE", "-es", "--cmd", "set nocompatible", *words, folder=folder)
-    want = "opprove\nopproveStatement\nopprovecert\nopprovecertBlock\n"
+    steps, want = [f"set runtimepath+={CONTRIB}/vim", "filetype on", "syntax on"], []
+    for number, (text, kind, places) in enumerate(HIGHLIGHTED):
+        (folder / f"{number}.{kind}").write_text(text)
+        shown = ", ".join(f"synIDattr(synID({place}, 1), 'name')" for place in places)
+        steps += [f"edit {number}.{kind}", f"call writefile([{shown}], 'shown', 'a')"]
+        want += places.values()
+    (folder / "steps.vim").write_text("\n".join([*steps, "quitall!"]) + "\n")
+    answer = run(installed("vim"), "-u", "NONE", "-es", "--cmd", "set nocompatible", "-S", "steps.vim", folder=folder)
     shown = folder / "shown"
-    need(shown.exists() and shown.read_text() == want, (answer, shown.exists() and shown.read_text()))
-    return "vim highlights both languages"
+    need(shown.exists() and shown.read_text().split("\n")[:-1] == want, (answer, shown.exists() and shown.read_text(), want))
+    return f"vim highlights {len(want)} places of statements of both languages and of evidence"
 
 
 def grammars() -> str:
@@ -324,7 +341,10 @@ def trusted_files() -> str:
 
 
 def costly_files() -> str:
-    sizes = {"overlaps 500": 496_540, "sorted 498": 287_613, "unending 100": 57_068, "rests 100": 429_121, "rows 10": 41_295}
+    sizes = {
+        "overlaps 500": 496_540, "sorted 498": 287_613, "unending 100": 57_068, "rests 100": 429_121, "rows 10": 41_295,
+        "powers 500": 13_051,
+    }  # fmt: skip
     for name, size in sizes.items():
         answer = run(sys.executable, CONTRIB / "costly.py", *name.split())
         need(answer.status == 0 and len(answer.out) == size and f"{size:,}" in (TOP / "docs" / "COMMANDS.md").read_text(), (name, size))
@@ -348,7 +368,7 @@ def groups(folder: Path) -> Dict[str, List[Callable[[], str]]]:
     return {
         "checker": [
             examples, lambda: reports(folder), lambda: changes(folder), lambda: bad_input(folder), translations, trusted_files,
-            *(functools.partial(check, folder) for check in try_models.CHECKS),
+            *(functools.partial(check, folder) for check in try_models.CHECKS + try_language.CHECKS),
         ],
         **{word: [functools.partial(check, folder) for check in found] for word, found in checks.items()},
         "harder": try_harder.checks(folder, 20),

@@ -54,22 +54,30 @@ SELECTIONS = [  # the selection, a label, and the numbers of the equations of SM
 ]  # fmt: skip
 ORDERS = [  # the order, its lines on all of SMALL, whether maps come from the last to the first, whether adjoints are below
     ("written", [], False, False), ("defined", ["order weight y 3"], False, False),
-    ("eliminated", ["language 2", "eliminate y"], False, False), ("hidden", ["order weight a 4 c 4 d 4"], False, False),
+    ("eliminated", ["eliminate y"], False, False), ("hidden", ["order weight a 4 c 4 d 4"], False, False),
     ("second", ["order weight d 3 x 3"], False, False), ("shown", ["order weight x 4 y 4"], False, False),
     ("adjoints", [], False, True), ("backwards", [], True, False), ("degree", None, False, False),
 ]  # fmt: skip
 
 
-def small(folder: Path) -> variants.Statement:
+SECOND = "# of language 2\nlanguage 02\n" + SMALL.replace("y = x c", "y = x c'^2") + "eliminate y\n"
+ORDERS_OF_SECOND = [  # the same of SECOND
+    ("written", ["eliminate y"], False, False), ("defined", ["order weight y 4"], False, False),
+    ("eliminated", ["eliminate y"], False, False), ("adjoints", ["eliminate y"], False, True),
+    ("backwards", ["eliminate y"], True, False), ("degree", [], False, False),
+]  # fmt: skip
+
+
+def small(folder: Path, text: str = SMALL) -> variants.Statement:
     path = folder / "small.op"
-    path.write_text(SMALL)
+    path.write_text(text)
     return variants.Statement(str(path))
 
 
 def selections(folder: Path) -> str:
     statement = small(folder)
     lemmas = folder / "lemmas"
-    lemmas.write_text("# a comment\nclaim a y a = a\n")
+    lemmas.write_text("# a comment\nlanguage 2\nclaim a^1 y a = a\n")
     pool = statement.assumptions + statement.lemmas(str(lemmas))
     for name, label, numbers in SELECTIONS:
         found = dict(getattr(variants, name)(pool, statement.claims[0]))
@@ -81,18 +89,21 @@ def selections(folder: Path) -> str:
 
 def orders(folder: Path) -> str:
     """Each order, and that the variant has the same generators, but for zeros, under the names of the statement."""
-    statement = small(folder)
-    whole, goal = statement.assumptions, statement.claims[0]
-    for name, lines, is_backwards, is_starred in ORDERS:
-        order = getattr(variants, name)(statement, whole, goal)
-        need(order == (variants.Order(lines, is_backwards, is_starred) if lines is not None else None), (name, order))
-        if order:
-            path = folder / "variant.op"
-            text = variants.text_of(statement, whole, [goal], order)
-            path.write_text(variants.without(text, ["eliminate"], statement))
-            need(same_values(statement, str(path), order), (name, text))
+    path = folder / "variant.op"
+    for statement, table in ((small(folder), ORDERS), (small(folder, SECOND), ORDERS_OF_SECOND)):
+        whole, goal = statement.assumptions, statement.claims[0]
+        for name, lines, is_backwards, is_starred in table:
+            order = getattr(variants, name)(statement, whole, goal)
+            need(order == (variants.Order(lines, is_backwards, is_starred) if lines is not None else None), (name, order))
+            texts = [variants.text_of(statement, whole, [goal], order)] if order else []
+            texts += [variants.reordered(statement, order)] if order and not is_backwards and not is_starred else []
+            for text in texts:
+                path.write_text(text)
+                is_second = text.startswith("language 2\n")
+                need(is_second == (table is ORDERS_OF_SECOND or name == "eliminated"), (name, text))
+                need(same_values(statement, str(path), order), (name, text))
     need([name for name, _, _, _ in ORDERS] == [order.__name__ for order in variants.ORDERS], "all orders")
-    return f"{len(ORDERS)} orders are as they should, of the same generators"
+    return f"{len(ORDERS) + len(ORDERS_OF_SECOND)} orders are as they should, of the same generators"
 
 
 def same_values(statement: variants.Statement, path: str, order: variants.Order) -> bool:

@@ -21,7 +21,7 @@ from typing import Callable, Dict, List, NamedTuple, Tuple
 
 sys.dont_write_bytecode = True
 import check
-from trying import CONTRIB, EXAMPLES, PROGRAM, Failed, Skipped, need, run
+from trying import CONTRIB, EXAMPLES, PROGRAM, Failed, Skipped, decided, need, run
 
 HERE = Path(__file__).resolve()
 NAMED = os.environ.get("OPPROVE") or str(PROGRAM)
@@ -86,9 +86,9 @@ class Builder:
 
     def __init__(self, path: Path) -> None:
         self.statement = Statement()
-        lines = [check.tokens_of(text, 1) for text in path.read_text().split("\n")]
+        lines = [line.tokens for line in check.lines_of(str(path)) if line.tokens[0].text != "language"]
         order = {"object": 0, "map": 1}
-        for self.tokens in sorted(filter(None, lines), key=lambda tokens: order.get(tokens[0].text, 2)):
+        for self.tokens in sorted(lines, key=lambda tokens: order.get(tokens[0].text, 2)):
             self.line([token.text for token in self.tokens[:-1]])
 
     def line(self, words: List[str]) -> None:
@@ -101,7 +101,7 @@ class Builder:
             s.maps(" ".join(names[:place]), source, target, self_adjoint=names[-1] == "self" and len(names) > place + 4)
         elif word in ("assume", "claim"):
             getattr(s, word)(self.equation())
-        elif word in ("pinv", "inverse", "inner", "projection", "solve"):
+        elif word in ("pinv", "inverse", "inner", "projection", "solve", "eliminate"):
             getattr(s, word)(*(s[name] for name in names))
         elif word == "model":
             s.shape(int(names[0]), *((s[name], int(side)) for name, side in zip(names[1::2], names[2::2])))
@@ -146,8 +146,8 @@ class Builder:
             self.take("]")
         else:
             value = self.statement[self.take("name")]
-        while self.take("'"):
-            value = value.H
+        while mark := self.take("'", "^"):
+            value = value.H if mark == "'" else value ** int(self.take("literal"))
         return value
 
 
@@ -188,7 +188,7 @@ def heads(folder: Path) -> str:
     rows = re.findall(r"^\| `(\w+)\.op`: [^|]* \| (.*) \|$", (EXAMPLES / "README.md").read_text(), re.MULTILINE)
     wanted = {name: (re.findall("`# ([^`]*)`", text), "".join(re.findall(r"\(`([^`]*)`\)", text))) for name, text in rows}
     count = 0
-    paths = [path for path in sorted(EXAMPLES.glob("gallery/*.op")) if path.stem in wanted]
+    paths = [path for path in decided() if path.parent.name == "gallery" and path.stem in wanted]
     proofs: List[str] = []
     for path in paths:
         lines, options = wanted[path.stem]
@@ -196,7 +196,7 @@ def heads(folder: Path) -> str:
         verdicts = s.prove(*options.split(), program=program())
         found = [f"claim {verdict.number} {verdict.kind} {verdict.detail}" for verdict in verdicts]
         need(found == lines, (path, found, lines))
-        is_false = path.stem in ("braid_relation", "one_sided_inverse")
+        is_false = path.stem in ("braid_relation", "one_sided_inverse", "two_sided_equation_condition")
         more = s.refute(program=program()) if is_false else s.prove("--format", 1, *options.split(), program=program())
         count += sum([confirmed(verdict) for verdict in verdicts + more])
         proofs += [verdict._repr_latex_() for verdict in verdicts if verdict]

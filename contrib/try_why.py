@@ -19,7 +19,7 @@ import why
 import why_outcomes
 import why_statement
 from check import Problem, Refusal
-from trying import CONTRIB, EXAMPLES, PROGRAM, TOP, Answer, Skipped, installed, need, run
+from trying import CONTRIB, PROGRAM, TOP, Answer, Skipped, decided, installed, need, reads_language_2, run
 from why_parts import Screen, Told, on_screen
 
 why_outcomes.HARDER = str(CONTRIB / "why.py")  # what is told of it is told whether or not it is there
@@ -101,12 +101,18 @@ def asked(case: Case) -> Tuple[int, str]:
     return answer.status, answer.out
 
 
+def is_run(case: Case) -> bool:
+    """Whether the program is built, reads the language of the case, and takes no long time for it."""
+    is_read = not case.files.get("s.op", "").startswith("language 2\n") or reads_language_2(Path(why.PROGRAM))
+    return is_read and case.name not in NOT_RUN and os.access(why.PROGRAM, os.X_OK)
+
+
 def write(folder: Path) -> None:
     """Writes all cases anew."""
     texts = []
     for case in cases():
         with inside(folder, case):
-            if case.name not in NOT_RUN and os.access(why.PROGRAM, os.X_OK):
+            if is_run(case):
                 status, report = asked(case)
                 case = case._replace(status=status, report=report)
             texts.append(as_text(case._replace(told=told(case))))
@@ -141,7 +147,7 @@ def answer_of(path: Path) -> str:
 
 def edits(folder: Path, count: int = 100, seed: int = 1) -> str:
     chance, path, faults = random.Random(seed), folder / "edited.op", 0
-    gallery = sorted((EXAMPLES / "gallery").glob("*.op"))
+    gallery = [path for path in decided() if path.parent.name == "gallery"]
     for _ in range(count):
         text = edited(chance.choice(gallery).read_text(), chance)
         path.write_text(text)
@@ -221,8 +227,7 @@ def stored_words(folder: Path) -> str:
     by_both, found = 0, cases()
     for case in found:
         with inside(folder, case):
-            is_asked = case.name not in NOT_RUN and os.access(why.PROGRAM, os.X_OK)
-            if is_asked:
+            if is_run(case):
                 need(asked(case) == (case.status, case.report), (case.name, asked(case)))
                 by_both += 1
             need(told(case) == case.told, (case.name, told(case)))

@@ -1,6 +1,7 @@
-"""What try.py and try_models.py share: programs that are run, and what is needed of them."""
+"""What try.py and the other try_*.py share: programs that are run, and what is needed of them."""
 from __future__ import annotations
 
+import functools
 import os
 import shutil
 import subprocess
@@ -36,9 +37,23 @@ def run(*words: object, folder: Path = TOP) -> Answer:
     return Answer(done.returncode, done.stdout.decode(), done.stderr.decode())
 
 
+@functools.lru_cache(maxsize=None)
+def reads_language_2(program: Path = PROGRAM) -> bool:
+    """Whether the program is built, and reads statements of language 2."""
+    statement = EXAMPLES / "gallery" / "drazin_commutes.op"
+    return os.access(program, os.X_OK) and run(program, "check", statement, os.devnull).status == 7
+
+
+def is_second(statement: Path) -> bool:
+    """Whether a statement is of language 2, as one that faulty bytes stand in isn't."""
+    return b"\nlanguage 2\n" in b"\n" + statement.read_bytes()
+
+
 def decided() -> List[Path]:
-    """The statements of the examples that prove decides by default: all but those for searches around the program."""
-    return sorted([*EXAMPLES.glob("*.op"), *EXAMPLES.glob("gallery/*.op")])
+    """The statements of the examples that prove decides by default: all but those for searches around the program, and
+    without those of language 2 where the program that is built doesn't read it."""
+    statements = sorted([*EXAMPLES.glob("*.op"), *EXAMPLES.glob("gallery/*.op")])
+    return [path for path in statements if reads_language_2() or not is_second(path)]
 
 
 def need(condition: bool, what: object) -> None:

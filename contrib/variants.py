@@ -9,7 +9,7 @@ from __future__ import annotations
 import random
 from typing import Callable, Dict, FrozenSet, Iterable, Iterator, List, NamedTuple, Optional, Tuple
 
-from check import Line, Poly, Problem, Token, check_names, fault, read_lines, tokens_of
+from check import Line, Poly, Problem, Token, check_names, fault, lines_of, read_lines
 
 WEIGHT_LIMIT = 1000
 DISTANCES = 3
@@ -43,7 +43,7 @@ class Statement:
         self.assumptions: List[Equation] = []
         self.claims: List[Equation] = []
         self.seconds: List[str] = []  # the second maps of pinv, inverse and inner
-        self.others: List[List[str]] = []  # lines of other words: order, solve, model
+        self.others: List[List[str]] = []  # lines of other words: language, order, eliminate, solve, model
         polys = {False: iter(problem.assumptions), True: iter(problem.claims)}
         for line in problem.lines:
             word, names = line.tokens[0].text, line.with_role("new_map")
@@ -66,8 +66,7 @@ class Statement:
 
     def lemmas(self, path: str) -> List[Equation]:
         """The claims of a file that has nothing but claims about the maps of this statement."""
-        texts = [tokens_of(text, number) for number, text in read_lines(path, "# refused S1 byte {}")]
-        lines = [Line(tokens).statement() for tokens in texts if tokens]
+        lines = [line for line in lines_of(path) if line.roles]  # without the one that names the language
         for line in lines:
             if line.tokens[0].text != "claim":
                 raise fault("S3", line.tokens[0])
@@ -199,7 +198,7 @@ def written(statement: Statement, chosen: List[Equation], goal: Equation) -> Ord
 
 def degree(statement: Statement, chosen: List[Equation], goal: Equation) -> Optional[Order]:
     """The canonical one, where the file has another."""
-    return Order([]) if any(words[:2] == ["order", "weight"] for words in statement.others) else None
+    return Order([]) if any(words[0] == "eliminate" or words[:2] == ["order", "weight"] for words in statement.others) else None
 
 
 def defined(statement: Statement, chosen: List[Equation], goal: Equation) -> Optional[Order]:
@@ -208,10 +207,10 @@ def defined(statement: Statement, chosen: List[Equation], goal: Equation) -> Opt
 
 
 def eliminated(statement: Statement, chosen: List[Equation], goal: Equation) -> Optional[Order]:
-    """The same by `eliminate`, for a program that reads it."""
+    """The same by `eliminate`, for a program that reads language 2."""
     weights = defined_weights(statement, chosen)
     names = [name for name in sorted(weights, key=lambda name: -weights[name]) if name in maps_of([*chosen, goal])]
-    return Order(["language 2", "eliminate " + " ".join(names)]) if names else None
+    return Order(["eliminate " + " ".join(names)]) if names else None
 
 
 def hidden(statement: Statement, chosen: List[Equation], goal: Equation) -> Optional[Order]:
@@ -288,7 +287,7 @@ def weigh(words: Dict[str, List[List[str]]], weights: Dict[str, int], name: str)
 
 # ---- The text of a variant
 
-# Proved by a program that reads `eliminate`, and refused by others.
+# Proved by a program that reads language 2, and refused by others.
 ELIMINATE = "language 2\nobject V\nmap a b : V -> V\nassume b = a\nclaim b = a\neliminate b\n"
 
 
@@ -299,12 +298,12 @@ def text_of(statement: Statement, chosen: List[Equation], goals: List[Equation],
     names = maps_of([*chosen, *goals])
     maps = [one for one in statement.maps if is_whole or one.name in names]
     swapped = {one.name for one in maps if order.is_starred and not one.is_self}
-    heads = {" ".join(words) for words in statement.others if words[0] == "language"}
-    lines = sorted(heads.union(order.lines[:-1])) + ["object " + " ".join(statement.objects)]
+    has_powers = any("^" in one.tokens for one in [*chosen, *goals])
+    lines = language(statement, order, has_powers) + ["object " + " ".join(statement.objects)]
     for one in maps[::-1] if order.is_backwards else maps:
         ends = (one.target, one.source) if one.name in swapped else (one.source, one.target)
         lines.append(f"map {one.name} : {ends[0]} -> {ends[1]}" + " self" * one.is_self)
-    lines += order.lines[-1:]
+    lines += order.lines
     for equation in chosen:
         lines.append(f"assume {spelled(equation.tokens, swapped)}" + "  # a lemma" * equation.is_lemma)
     lines += relations(statement, [*chosen, *goals], maps, is_whole)
@@ -320,19 +319,24 @@ def relations(statement: Statement, equations: List[Equation], maps: List[Map], 
         yield f"assume 0 {statement.problem.names[letter]} = 0"
 
 
-def without(text: str, words: List[str], statement: Optional[Statement]) -> str:
-    """The text without lines that begin with one of these words, or with the language if the statement has no such line."""
-    if statement and all(others[0] != "language" for others in statement.others):
-        words = words + ["language"]
-    lines = [line for line in text.split("\n") if (line.split("#")[0].split() or [""])[0] not in words]
-    return "\n".join(lines)
+def language(statement: Statement, order: Order, has_powers: bool) -> List[str]:
+    """The line that names the language of a variant, which is the first one, where it needs one."""
+    is_second = any(words[0] == "language" for words in statement.others)
+    return ["language 2"] if is_second or has_powers or any(line.startswith("eliminate ") for line in order.lines) else []
+
+
+def reordered(statement: Statement, order: Order) -> str:
+    """The text of the statement with this order in the place of its own."""
+    words = ("language", "order", "eliminate")
+    lines = [line for line in statement.text.split("\n") if (line.split("#")[0].split() or [""])[0] not in words]
+    return "\n".join(language(statement, order, False) + lines) + "\n".join(order.lines) + "\n"
 
 
 def spelled(tokens: Tuple[str, ...], swapped: Iterable[str]) -> str:
     """The tokens as a text, with the adjoint of each map that is swapped in its place."""
     texts = [f"{token} '" if token in swapped else token for token in tokens]
     text = " ".join(texts)
-    for tight, wide in (("(", "( "), (")", " )"), ("[", "[ "), ("]", " ]"), ("'", " '"), ("''", "' '")):
+    for tight, wide in (("(", "( "), (")", " )"), ("[", "[ "), ("]", " ]"), ("'", " '"), ("''", "' '"), ("^", " ^ ")):
         text = text.replace(wide, tight)
     return text.strip()
 

@@ -262,7 +262,10 @@ def helps(asked: Asked, cause: str) -> List[str]:
         lines.append(f"  {call.with_option('--format', '2')}")
     told = ["More may do:" if kind in ("pairs", "steps") else "Lemmas make a certificate shorter:"] + lines if lines else []
     if kind != "rows":
-        told.append("Another order may do, since it makes other words leading: `order weight NAME N ..` in the file gives maps a weight.")
+        told.append(
+            "Another order may do, since it makes other words leading: `order weight NAME N ..` in the file gives maps a weight, "
+            "and `eliminate NAME ..`, where its first line is `language 2`, puts maps that others define above all others."
+        )
     if os.path.exists(HARDER):
         told += ["Fewer assumptions, other orders, lemmas and larger budgets are tried by"]
         told += [f"  contrib/harder.py {shlex.quote(call.operands[0])}"]

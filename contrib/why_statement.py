@@ -3,11 +3,12 @@ from __future__ import annotations
 
 import contextlib
 import functools
+import itertools
 import re
 import unicodedata
 from typing import Callable, Dict, List, NamedTuple, Optional, Set, Tuple
 
-from check import SHAPES, Line, Problem, Refusal, Token, tokens_of
+from check import WORDS, Line, Problem, Refusal, Token, language_of, tokens_of
 from why_parts import LIMIT_OF_NUMBERS, Quote, Told, article, counted, did_you_mean, few, listed, ordinal, short
 
 MODULI = "2, 3, 5, 7, 101, 32003 and 65537"
@@ -36,6 +37,9 @@ class Statement:
     def __init__(self, path: str, data: bytes) -> None:
         self.path, self.data = path, data
         self.texts = re.split("\r?\n", data.decode(errors="surrogateescape"))
+        self.language = 1
+        with contextlib.suppress(Refusal):
+            self.language = language_of(next(filter(None, map(tokens_of, self.texts, itertools.count(1))), []))
         self._problem: Optional[Problem] = None
 
     def quote(self, line: int, column: int = 0) -> Optional[Quote]:
@@ -44,7 +48,7 @@ class Statement:
     def tokens(self, line: int) -> List[Token]:
         """The tokens of a line with an "end" behind them; none where check.py reads none."""
         try:
-            return tokens_of(self.texts[line - 1], line)
+            return tokens_of(self.texts[line - 1], line, self.language)
         except (Refusal, IndexError):
             return []
 
@@ -55,7 +59,7 @@ class Statement:
         for line in range(1, len(self.texts) + 1):
             tokens = self.tokens(line)
             with contextlib.suppress(Refusal):
-                found += [Line(tokens).statement()] if tokens else []
+                found += [Line(tokens).statement(self.language)] if tokens else []
         return found
 
     @functools.cached_property
@@ -128,12 +132,12 @@ def leads(ends: Ends) -> str:
 
 # ---- Characters and numbers
 
+POWERS = {1: "powers are written out, as a a, unless the file's first line is `language 2`", 2: "powers are written with ^, as a^2"}
 INSTEAD = {  # what is meant by characters that begin no token
     "*": "products are written side by side, as a b",
     "·": "products are written side by side, as a b",
     "∘": "products are written side by side, as a b",
     "/": "nothing is divided: an inverse is a map of its own, which `inverse a x` declares to be one",
-    "^": "powers are written out, as a a",
     ",": "names are separated by blanks",
     ";": "each statement has a line of its own",
     "{": "brackets are round",
@@ -179,10 +183,10 @@ def character(fault: Fault) -> str:
     name = next((text[:end] for end in range(len(text), 0, -1) if text[:end].isidentifier()), "")
     if name:
         return f"a name has at most 32 bytes, and '{short(name)}' has {len(name.encode())}"
-    char = text[0]
-    power = "powers are written out, as a a" if unicodedata.category(char) == "No" else ""
-    more = INSTEAD.get(char) or power or "names have letters, digits and _, and the signs are : -> = + - ( ) [ ] '"
-    return f"{named_sign(char)} begins no token: {more}"
+    char, language = text[0], fault.statement.language
+    power = POWERS[language] if char == "^" or unicodedata.category(char) == "No" else ""
+    signs = "the signs are : -> = + - ( ) [ ] '" + " ^" * (language == 2)
+    return f"{named_sign(char)} begins no token: {INSTEAD.get(char) or power or f'names have letters, digits and _, and {signs}'}"
 
 
 def number(fault: Fault) -> str:
@@ -194,13 +198,14 @@ def number(fault: Fault) -> str:
 
 WANTED = {
     "new_object": "the name of an object", "new_map": "the name of a map", "object": "the name of an object",
-    "map": "a map, `[OBJECT]` or a bracket", "literal": "a number", "end": "the end of the line", "self": "`self` or the end of the line",
-    "way": "`degree` or `weight`", "=": "the equals sign",
+    "map": "a map, `[OBJECT]` or a bracket", "literal": "a number", "exponent": "a number", "end": "the end of the line",
+    "self": "`self` or the end of the line", "way": "`degree` or `weight`", "=": "the equals sign",
 }  # fmt: skip
 FORMS = {
     "object": "object NAME ..", "map": "map NAME .. : NAME -> NAME", "assume": "assume E = E", "claim": "claim E = E",
     "pinv": "pinv NAME NAME", "inverse": "inverse NAME NAME", "inner": "inner NAME NAME", "projection": "projection NAME",
     "order": "order degree`, or `order weight NAME NUMBER ..", "solve": "solve NAME ..", "model": "model NUMBER NAME NUMBER ..",
+    "eliminate": "eliminate NAME ..",
 }  # fmt: skip
 
 
@@ -209,10 +214,10 @@ def grammar(fault: Fault) -> str:
     token, word = tokens[place], fault.word()
     found = "the end of the line" if token.kind == "end" else "the mark '" if token.kind == "'" else f"'{short(token.text, 30)}'"
     if place == 0:
-        return f"a line begins with {listed(list(SHAPES), 'or')}, and here stands {found}{did_you_mean(token.text, SHAPES)}"
+        return first_word(token, found, fault.statement.language)
     line = Watched(tokens)
     try:
-        line.statement()
+        line.statement(fault.statement.language)
     except Refusal:
         pass
     if line.place != place:
@@ -223,9 +228,20 @@ def grammar(fault: Fault) -> str:
     return f"{wanted} has to stand here, and {found} does{hint(tokens, place, word, line.wanted)}"
 
 
+def first_word(token: Token, found: str, language: int) -> str:
+    """Of a word that begins no line of this language."""
+    if token.text == "language":
+        return "the line `language 2` is the first one of its file, with no other word; no other line begins with 'language'"
+    if token.text in WORDS[2]:
+        return f"a line begins with {found} only where the first line of the file is `language 2`"
+    return f"a line begins with {listed(WORDS[language], 'or')}, and here stands {found}{did_you_mean(token.text, WORDS[language])}"
+
+
 def hint(tokens: List[Token], place: int, word: str, wanted: str) -> str:
     """What may be meant, in words behind the sentence."""
     before, token = tokens[place - 1], tokens[place]
+    if before.kind == "^":
+        return ": an exponent is from 1 to 500, and an inverse is a map of its own, which `inverse a x` declares to be one"
     if before.kind == "literal" and word in ("assume", "claim") and wanted == "map":
         times = f"{before.text} times the identity of V is {before.text} [V]"
         return f": a number stands before a factor, and alone only where it is 0; {times}"
@@ -274,23 +290,27 @@ def split_in(text: str, known: Set[str]) -> List[str]:
 
 def twice(fault: Fault) -> str:
     token, word, place = fault.token(), fault.word(), fault.place()
-    if word == "order" and place == 0:
-        first = next(line.tokens[0].line for line in fault.statement.lines if line.tokens[0].text == "order")
-        return f"a file has one line `order` at most, and there is one in line {first}"
-    if word in ("order", "solve", "model"):
+    if place == 0:
+        orders = ["order", "eliminate"][: fault.statement.language]
+        first = next(line.tokens[0].line for line in fault.statement.lines if line.tokens[0].text in orders)
+        return f"a file has one line {listed([f'`{it}`' for it in orders], 'or')} at most, and there is one in line {first}"
+    if word in ("order", "eliminate", "solve", "model"):
         first_column = next(other.column for other in fault.tokens()[1:] if other.text == token.text)
         return f"'{token.text}' stands twice in this line, first at column {first_column}"
     other = fault.statement.declared[token.text]
     return f"'{token.text}' is declared twice: first in line {other.token.line}, column {other.token.column}, as {article(other.kind)}"
 
 
-LIMITED = {64: "objects,", 200: "maps,", 500: "assumptions, abbreviations written out,", 100: "claims,", 16: "shapes for models,"}
+LIMITED = {
+    64: "objects,", 200: "maps unless its first line is `language 2`,", 1000: "maps,",
+    500: "assumptions, abbreviations written out,", 100: "claims,", 16: "shapes for models,",
+}  # fmt: skip
 
 
 def limit(fault: Fault) -> str:
     most = int(fault.rest.split()[-1])
-    here = f"'{fault.token().text}' is" if most in (64, 200) else "this line has"
-    return f"a file has at most {most} {LIMITED[most]} and {here} the {ordinal(most + 1)}"
+    here = f"'{fault.token().text}' is" if most in (64, 200, 1000) else "this line has"
+    return f"a file has at most {most:,} {LIMITED[most]} and {here} the {ordinal(most + 1)}"
 
 
 def own_adjoint(fault: Fault) -> str:
@@ -301,6 +321,8 @@ def own_adjoint(fault: Fault) -> str:
 
 def range_of(fault: Fault) -> str:
     token, word, place = fault.token(), fault.word(), fault.place()
+    if word in ("assume", "claim"):
+        return f"an exponent is from 1 to 500, and here stands {short(token.text, 30)}"
     if word == "order":
         return f"a weight is from 1 to 1,000, and here stands {short(token.text, 30)}"
     if place == 1:
@@ -322,17 +344,33 @@ def term_start(tokens: List[Token], place: int) -> int:
     return place
 
 
-def factor_end(tokens: List[Token], place: int) -> int:
-    """Behind the last token of the factor that begins here, its marks included."""
+def primary_end(tokens: List[Token], place: int) -> int:
+    """Behind the last token of the primary that begins here."""
     depth, end = 0, place
     while end < len(tokens) - 1:
         depth += {"(": 1, "[": 1, ")": -1, "]": -1}.get(tokens[end].kind, 0)
         end += 1
         if depth == 0:
             break
-    while tokens[end].kind == "'":
-        end += 1
     return end
+
+
+def factor_end(tokens: List[Token], place: int) -> int:
+    """The same, with the marks behind it."""
+    end = primary_end(tokens, place)
+    while tokens[end].kind in ("'", "^"):
+        end += 1 if tokens[end].kind == "'" else 2
+    return end
+
+
+def base_start(tokens: List[Token], place: int) -> int:
+    """Where the factor begins of which this is a mark."""
+    depth, start = 0, place - 1
+    while depth or tokens[start].kind not in ("name", "[", "("):
+        depth += {")": 1, "]": 1}.get(tokens[start].kind, 0)
+        start -= 1
+        depth -= tokens[start].kind in ("(", "[")
+    return start
 
 
 def term_end(tokens: List[Token], place: int) -> int:
@@ -350,6 +388,9 @@ def composed(fault: Fault) -> str:
     tokens, place = fault.tokens(), fault.place()
     if place == 0:
         return abbreviated(fault)
+    if tokens[place].kind == "^":
+        base = fault.text(base_start(tokens, place), place)
+        return f"{base}^{tokens[place + 1].text}: a power asks for a map from one object to itself, and {base} goes {leads(left)}"
     start = term_start(tokens, place)
     front, factor = fault.text(start, place), fault.text(place, factor_end(tokens, place))
     goes = f"{front} goes {leads(left)}, so the one behind it has to end at {left[0]}, and {factor} ends at {right[1]}"
@@ -386,6 +427,10 @@ def equal_ends(fault: Fault) -> str:
 def open_zero(fault: Fault) -> str:
     tokens, place = fault.tokens(), fault.place()
     equals = next((at for at, token in enumerate(tokens) if token.kind == "="), 0)
+    end = primary_end(tokens, place)
+    if any(token.kind == "literal" and int(token.text) > 1 for token in tokens[end : factor_end(tokens, place)]):
+        base = fault.text(place, end)
+        return f"the base of a power has a source and a target, and {base} has none: a 0 alone takes those of what it is added to"
     if place == 1 and tokens[factor_end_or(tokens, place)].kind not in ("name", "[", "("):
         sides = f"neither {fault.text(1, equals)} nor {fault.text(equals + 1, len(tokens) - 1)} does"
         return f"one side of an equation has to say its source and target, and {sides}: 0 alone has none"
@@ -428,16 +473,16 @@ RULES = {  # the rule alone, for where no more can be told
     "S4": "a number is at most 2^127 - 1",
     "S5": "round brackets are nested at most 64 deep",
     "S6": "this name isn't declared, or names an object where a map has to stand, or a map where an object has to",
-    "S7": "a name is declared once; a file has one line `order`; and a name stands once in a line `order`, `solve` or `model`",
-    "S8": "a file has at most 64 objects, 200 maps, 500 assumptions, 100 claims and 16 shapes",
+    "S7": "a name is declared once; a file has one line `order` or `eliminate`; and a name stands once in these, `solve` or `model`",
+    "S8": "a file has at most 64 objects, 200 maps (1,000 in language 2), 500 assumptions, 100 claims and 16 shapes",
     "S9": "a map that is its own adjoint has one object at both ends",
-    "S10": "in a product the source of each part is the target of the one behind it",
+    "S10": "in a product, and so in a power, the source of each part is the target of the one behind it",
     "S11": "the terms of a sum, and both sides of an equation, have one source and one target",
-    "S12": "a 0 alone has no source and target of its own, and can't be a factor or stand on both sides",
+    "S12": "a 0 alone has no source and target of its own, and can't be a factor or the base of a power, or stand on both sides",
     "S13": "a coefficient leaves ±(2^127 - 1)",
     "S14": "a polynomial has more than 20,000 terms, or a word more than 500 letters",
     "S15": "the file has no claim",
-    "S16": f"a weight is from 1 to 1,000, a modulus one of {MODULI}, and a side from 1 to 6",
+    "S16": f"a weight is from 1 to 1,000, a modulus one of {MODULI}, a side from 1 to 6, and an exponent from 1 to 500",
 }
 SENTENCES: Dict[str, Callable[[Fault], object]] = {
     "S1": utf8, "S2": character, "S3": grammar, "S4": number, "S5": brackets, "S6": name, "S7": twice, "S8": limit,

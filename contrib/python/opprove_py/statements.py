@@ -1,4 +1,4 @@
-"""Statements: lines of the statement language that are written from objects, or read from a file."""
+"""Statements: lines of the statement languages that are written from objects, or read from a file."""
 from __future__ import annotations
 
 import os
@@ -145,7 +145,7 @@ class Statement:
         self.lines.append(f"projection {self.own_map(p)}")
 
     def write(self, line: str) -> None:
-        """A line of the statement language as it is."""
+        """A line of a statement as it is."""
         self.lines.append(line)
 
     # ---- How opprove goes about it
@@ -153,6 +153,12 @@ class Statement:
     def weights(self, *pairs: Tuple[Expression, int]) -> None:
         """Words are compared by weight; all other letters weigh 1."""
         self.lines.append(" ".join(["order weight", *(f"{self.own_map(a)} {weight}" for a, weight in pairs)]))
+
+    def eliminate(self, *maps: Expression) -> None:
+        """Words with fewer of these maps and of their adjoints are smaller. The statement is then of language 2."""
+        self.lines.append(" ".join(["eliminate", *map(self.own_map, maps)]))
+        if all(line.split("#")[0].split()[:1] != ["language"] for line in self.lines):
+            self.lines.insert(0, "language 2")
 
     def solve(self, *maps: Expression) -> None:
         """Maps that a search of models is to solve for."""
