@@ -5,8 +5,8 @@ Makes statements and certificates that are small and cost much, or are as large 
 contrib/plain.rs on each, and prints a table in Markdown: processor time and peak memory of both, the least of three
 runs or of those that begin within ten seconds, and the quotient of the times. A second table has runs of other commands,
 some beside a run on another statement, whose report has to be the same. With a word it makes the rows alone whose name
-begins with it: `powers`, `order` and `maps` are those of language 2. It wants rustc and the program that is built, or another one that the variable OPPROVE names. A run
-may take 8 GB of memory. Memory is seen from that of this script upwards.
+begins with it: `powers`, `order` and `maps` are those of language 2. It wants rustc and the program that is built, or
+another one that the variable OPPROVE names. A run may take 8 GB of memory. Memory is seen from that of this script upwards.
 """
 from __future__ import annotations
 

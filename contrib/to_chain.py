@@ -3,7 +3,8 @@
 
 For each certificate the assumptions that its proof uses, by their numbers and lines, and then the chain from the left side
 of the claim to the right side. Each step is one row: an assumption (n), the adjoint (n)' of one, or a lemma [k], at one
-place and times an integer. Words lose their identities first, so the relations of identities need no step.
+place and times an integer. Words lose their identities first, so the relations of identities need no step. In a
+statement of language 2 a run of one letter is written as its power.
 
 From the start on each row that isn't used yet is taken off the present sum: the next one is that which leaves the fewest
 terms, then the fewest letters, then the first. The rows add up to the left side minus the right side, so the end is the
@@ -20,8 +21,9 @@ from __future__ import annotations
 import sys
 from collections import Counter
 from heapq import heapify, heappop, heappush
+from itertools import groupby
 from random import Random
-from typing import Dict, Iterator, List, NamedTuple, Optional, Set, Tuple
+from typing import Callable, Dict, Iterator, List, NamedTuple, Optional, Set, Tuple
 
 from check import Certificate, Evidence, Line, Poly, Problem, Refusal, Row, Share, Signature, Token, Word, add, judge
 from to_latex import letter_in_latex, lines_of
@@ -358,17 +360,24 @@ def without_loops(order: List[int], values: List[Poly]) -> List[int]:
 
 
 class Writer:
-    """Writes sums: with the names of letters, and what stands between factors."""
+    """Writes sums: with the names of letters, what stands between factors, and how powers are written where they are."""
 
-    def __init__(self, letters: List[str], joint: str) -> None:
-        self.letters, self.joint = letters, joint
+    def __init__(self, letters: List[str], joint: str, power: Optional[Callable[[str, int], str]] = None) -> None:
+        self.letters, self.joint, self.power = letters, joint, power
+
+    def factors(self, word: Word) -> Iterator[str]:
+        """The letters, and where powers are written each run of one letter as its power."""
+        for letter, run in groupby(word):
+            count = len(list(run))
+            name = self.letters[letter]
+            yield from [self.power(name, count)] if count > 1 and self.power else [name] * count
 
     def terms(self, poly: Poly, ends: Signature) -> List[str]:
         """The signed terms, those with a + first, and then the longest first."""
         found = []
         for word in sorted(poly, key=lambda word: (poly[word] < 0, -len(word), word)):
             number = [] if abs(poly[word]) == 1 else [str(abs(poly[word]))]
-            factors = number + [self.letters[letter] for letter in word or ends[:1]]
+            factors = [*number, *self.factors(word or ends[:1])]
             found.append(f"{'-' if poly[word] < 0 else '+'} {self.joint.join(factors)}")
         return found
 
@@ -387,6 +396,11 @@ class Writer:
 
     def equation(self, left: Poly, right: Poly, ends: Signature) -> str:
         return f"{self.sum(left, ends)} = {self.sum(right, ends)}"
+
+
+def has_powers(problem: Problem) -> bool:
+    """Whether the statement is of language 2."""
+    return problem.lines[0].tokens[0].text == "language"
 
 
 def used(reader: Reader, proof: Proof) -> List[int]:
@@ -419,8 +433,8 @@ def cancels(scale: int, before: str) -> str:
 
 
 def text(reader: Reader, proof: Proof) -> Iterator[str]:
-    """The proof in lines. Sums are written in the language of statements."""
-    writer = Writer(reader.problem.names, " ")
+    """The proof in lines. Sums are written in the language of the statement."""
+    writer = Writer(reader.problem.names, " ", "{}^{}".format if has_powers(reader.problem) else None)
     claim, numbers = reader.claims[proof.certificate.claim - 1], used(reader, proof)
     equation = writer.equation(claim.left, claim.right, claim.ends)
     yield f"Claim {proof.certificate.claim}{cancels(proof.certificate.denominator, ', where')}: {equation}"
@@ -457,7 +471,8 @@ def chain_in_text(reader: Reader, writer: Writer, chain: Chain) -> Iterator[str]
 
 def latex(reader: Reader, proof: Proof) -> Iterator[str]:
     """The proof in lines of LaTeX."""
-    writer = Writer([letter_in_latex(name) for name in reader.problem.names], r" \, ")
+    power = power_in_latex if has_powers(reader.problem) else None
+    writer = Writer([letter_in_latex(name) for name in reader.problem.names], r" \, ", power)
     claim, numbers = reader.claims[proof.certificate.claim - 1], used(reader, proof)
     yield f"% claim {proof.certificate.claim}, denominator {proof.certificate.denominator}"
     rows = [equation_in_latex(writer, claim, rf"\text{{claim {proof.certificate.claim}}}", "")]
@@ -475,6 +490,10 @@ def latex(reader: Reader, proof: Proof) -> Iterator[str]:
             by = rf" && \text{{by }} {label(reader, step.row, '^{*}')}"
             rows.append(f"  & = {sum_in_latex(writer, step.total, chain.ends)}{by}")
         yield from aligned(rows)
+
+
+def power_in_latex(letter: str, count: int) -> str:
+    return f"({letter})^{{{count}}}" if "^" in letter else f"{letter}^{{{count}}}"
 
 
 def aligned(rows: List[str]) -> List[str]:

@@ -10,7 +10,8 @@ file is NAME.v, these print "Closed under the global context", which is to say t
 
 Rows over relations of identities are left out, as Coq has identities themselves, and so are rows that are no paths, which
 say nothing of categories. The theorem of claim 1 is claim_1_holds, and that of a second certificate of it claim_1_2_holds.
-A name that is a word of Coq gets an _, and one with signs that Coq may not read a number.
+A name that is a word of Coq gets an _, and one with signs that Coq may not read a number. Powers are written out; for one
+that is too long for that there is a line on standard error, with status 1.
 """
 from __future__ import annotations
 

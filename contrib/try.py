@@ -98,7 +98,7 @@ def reports(folder: Path) -> str:
     count = 0
     for statement in decided():
         for number in (1, 2):
-            answer = run(PROGRAM, "prove", statement, "--pairs", 200, "--format", number)
+            answer = run(PROGRAM, "prove", statement, "--pairs", 2000, "--format", number)
             need(answer.status in (0, 10, 11, 12), (statement, answer))
             evidence = folder / "report.cert"
             evidence.write_text(answer.out)
@@ -299,7 +299,8 @@ HIGHLIGHTED = [  # a text, its kind, and for some of its places, each a line and
     }),
     ("language 2 x\n", "op", {"1,1": ""}),
     ("certificate 2\nlemma 1 scale 2\nrow -1 () lemma 1 ([U])\n", "cert", {
-        "1,1": "opprovecertBlock", "2,1": "opprovecertWord", "3,5": "opprovecertNumber", "3,11": "opprovecertLemma", "3,20": "opprovecertIdentity",
+        "1,1": "opprovecertBlock", "2,1": "opprovecertWord", "3,5": "opprovecertNumber", "3,11": "opprovecertLemma",
+        "3,20": "opprovecertIdentity",
     }),
 ]  # fmt: skip
 

@@ -29,7 +29,7 @@ class Reading(NamedTuple):
 
     def value(self, text: str) -> Value:
         """The signature and the polynomial of a sum, without identities."""
-        line = Line(tokens_of(text, 1), self.problem)
+        line = Line(tokens_of(text, 1, 2), self.problem)
         ends, poly = line.sum()
         need(line.is_at("end"), text)
         return ends, bare(self.problem, poly)
@@ -425,7 +425,7 @@ def reports(folder: Path) -> str:
     for statement in decided():
         for number in (1, 2):
             evidence = folder / f"{statement.stem}{number}.cert"
-            evidence.write_text(run(PROGRAM, "prove", statement, "--pairs", 200, "--format", number).out)
+            evidence.write_text(run(PROGRAM, "prove", statement, "--pairs", 2000, "--format", number).out)
             if "\ncertificate " in evidence.read_text():
                 found = tried(statement, evidence, folder)
                 proofs, steps = proofs + found[0], steps + found[1]

@@ -83,7 +83,7 @@ def reports(folder: Path) -> Iterator[Tuple[Path, Path]]:
     """The reports of prove on the gallery with a certificate."""
     for statement in decided() if os.access(PROGRAM, os.X_OK) else []:
         for number in (1, 2):
-            answer = run(PROGRAM, "prove", statement, "--pairs", 200, "--format", number)
+            answer = run(PROGRAM, "prove", statement, "--pairs", 2000, "--format", number)
             if "\ncertificate " in answer.out:
                 evidence = folder / f"{statement.stem}_{number}.cert"
                 evidence.write_text(answer.out, encoding="utf-8")
