@@ -20,7 +20,7 @@ use Rattle.adjoint_rules.specs.Problem.{polynomials, numbers, IsPosed, IsClosed,
 use Rattle.adjoint_rules.proofs.Generators.{posed_quiver}
 use Rattle.adjoint_rules.proofs.NewAdjoints.{AllZip-append, each_same}
 use Rattle.quiver.specs.Declarations.{quiver_of}
-use Rattle.expressions.proofs.TwoMarks.{length-collected, words-collected, short-adjoint}
+use Rattle.expressions.proofs.TwoAdjoints.{length-collected, words-collected, short-adjoint}
 use Rattle.signature_typing.proofs.Results.{shaped-adjoint}
 
 -- ---- polynomials of lists that are within the limits
