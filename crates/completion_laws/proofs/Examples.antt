@@ -1,5 +1,5 @@
 -- The generator x x - x, with the letter x = 0 in the canonical order: closed after one ambiguity, and x is outside.
-use Rattle.std.proofs.Common.{◌≡◌, ◌<◌, ◌≤◌, ◌+◌, ℕ, zero, suc, pos, negsuc, List, [], ◌∷◌, length, Some, Ok, Option, false, refl, sym, ap, ◌∙◌, arith}
+use Rattle.std.proofs.Common.{◌≡◌, ◌<◌, ◌≤◌, ◌+◌, ℕ, zero, suc, pos, negsuc, List, [], ◌∷◌, length, Some, Ok, Option, false, refl, sym, ap, ◌∙◌, subst, arith}
 use Rattle.std.proofs.lemmas.Int.{ints}
 use Rattle.std.specs.List.{All}
 use Rattle.std.proofs.lemmas.List.{length-append}
@@ -13,8 +13,10 @@ use Rattle.word_orders.specs.Rank.{rank_of}
 use Rattle.word_core.proofs.CanonicalLaws.{word_cmp-admissible}
 use Rattle.nc_polynomial.specs.Shape.{IsShaped, IsCanonical}
 use Rattle.cofactor_trace.specs.declared.Made.{Made}
+use Rattle.cofactor_trace.specs.declared.Origin.TheVariants as origin
 use Rattle.rule_reduce.specs.declared.rule.Rule.{Rule}
-use Rattle.rule_reduce.specs.RuleLists.{IsRule, rule_at}
+use Rattle.rule_reduce.specs.declared.state.State.{State}
+use Rattle.rule_reduce.specs.RuleLists.{IsRule, rule_at, polynomials_of}
 use Rattle.rule_reduce.specs.NormalForms.{start_of}
 use Rattle.rule_reduce.proofs.WordsKept.{words_with_coefficients}
 use Rattle.ambiguities.specs.declared.ambiguity.Kind.{Kind}
@@ -22,10 +24,13 @@ use Rattle.ambiguities.specs.declared.ambiguity.Kind.TheVariants.{Overlap, Inclu
 use Rattle.ambiguities.specs.declared.ambiguity.Ambiguity.{Ambiguity}
 use Rattle.ambiguities.specs.Ambiguities.{MeetsAs, IsAmbiguity, overlap_word_of}
 use Rattle.ambiguities.specs.SPolynomials.{s_polynomial_of}
+use Rattle.ambiguities.specs.Resolved.{IsResolved, Resolved}
 use Rattle.ambiguities.proofs.Balance.{s_polynomials_balance}
-use Rattle.confluence.specs.Reductions.{IsReduced}
-use Rattle.confluence.proofs.RestLaws.{normal_forms_are_reduced}
+use Rattle.confluence.specs.Reductions.{IsZero, IsReduced}
+use Rattle.confluence.proofs.Ideals.{ideals_stay_inside}
+use Rattle.confluence.proofs.RestLaws.{normal_forms_are_reduced, rests_of_ideal_are_zero}
 use Rattle.confluence.proofs.WrittenTerms.{shaped_as_written, canonical_as_written}
+use Rattle.confluence.proofs.ZeroRestLaws.{zero_rests_are_inside, zero_rests_are_resolved}
 use Rattle.completion_laws.specs.Rests.{generator_rows, IsAppended, rule_made}
 use Rattle.completion_laws.specs.Kept.{HaveLettersBelow, Kept}
 use Rattle.completion_laws.specs.Conclusions.{AreAllDone, NothingPending}
@@ -174,6 +179,29 @@ x_reduced = normal_forms_are_reduced 1 word_cmp (rank_of 1) (rule ∷ []) x 0 (s
 x_is_outside : InRationalIdeal generators x → ⊥
 x_is_outside = nonzero_is_outside 1 word_cmp (rank_of 1) generators (rule ∷ []) (made ∷ []) (1 ∷ []) (itself ∷ []) x (start_of x) laws closed all_done nothing_pending
     (record { at = words_with_coefficients (IsOver 1) x (one_letter, tt) }) x_reduced (record { word = 0 ∷ []; occurs = λ e. cc })
+
+-- so it is by the rule alone, whatever made it: the generator and the S-polynomial are reduced to zero
+abbrev generator_reduced : State
+generator_reduced = record { multiplier = pos 1; rest = []; rows = record { coef = pos 1; left = []; from = origin.Rule 1; right = [] } ∷ []; used = 1 }
+
+generators_inside : All (InRationalIdeal (polynomials_of (rule ∷ []))) generators
+generators_inside = All-from_recursion (InRationalIdeal (polynomials_of (rule ∷ []))) generators (
+  zero_rests_are_inside 1 word_cmp (rule ∷ []) terms generator_reduced (normal_forms_are_reduced 1 word_cmp (rank_of 1) (rule ∷ []) terms 1 generator_reduced laws rules_are canonical.shaped over refl) (record { at = λ w. refl }),
+  tt,
+)
+
+resolved_alone : Resolved 1 word_cmp (rule ∷ [])
+resolved_alone = record { each = λ a is. subst (IsResolved 1 word_cmp (rule ∷ [])) (sym (only_itself a is)) (zero_rests_are_resolved 1 word_cmp (rank_of 1) (rule ∷ []) itself [] (start_of []) laws rules_are is_one (s_polynomials_balance (rule ∷ []) itself [] difference) zero_reduced (record { at = λ w. refl })) }
+
+x_is_outside_alone : InRationalIdeal generators x → ⊥
+x_is_outside_alone inside = clash (rests_of_ideal_are_zero 1 word_cmp (rank_of 1) (rule ∷ []) x (start_of x) laws rules_are resolved_alone (ideals_stay_inside (polynomials_of (rule ∷ [])) generators x generators_inside inside)
+    (record { at = words_with_coefficients (IsOver 1) x (one_letter, tt) }) x_reduced)
+  where
+    clash : IsZero x → ⊥
+    clash none = differ (none.at (0 ∷ []))
+      where
+        differ : pos 1 ≡ pos 0 → ⊥
+        differ e = cc
 
 -- ---- with the ambiguity left out nothing can be concluded: it is pending
 left_out : NothingPending (rule ∷ []) [] → ⊥

@@ -1,9 +1,8 @@
 -- What is in the rational ideal of the generators.
-use Rattle.std.proofs.Common.{◌≡◌, ◌⊎◌, inl, inr, ◌≤◌, ◌<◌, ℕ, zero, suc, pos, ◌+ℤ◌, ◌*ℤ◌, List, [], ◌∷◌, length, slice_get, get_or, Some, refl, sym, ap, ◌∙◌, subst, arith, append-nil}
+use Rattle.std.proofs.Common.{◌≡◌, ◌≤◌, ◌<◌, ℕ, zero, suc, pos, ◌+ℤ◌, ◌*ℤ◌, List, [], ◌∷◌, length, slice_get, Some, refl, ap, ◌∙◌, subst, arith}
 use Rattle.std.specs.List.{All, AllByRecursion}
-use Rattle.std.proofs.lemmas.List.Elements.{All-contains, All-weaker, recursion_from_All}
-use Rattle.std.proofs.Math.IntN.{+ℤ_idl}
-use Rattle.definitions.specs.Poly.{Word, Term, coefficient_of, poly_between}
+use Rattle.std.proofs.lemmas.List.Elements.{All-contains, recursion_from_All}
+use Rattle.definitions.specs.Poly.{Term, coefficient_of, poly_between}
 use Rattle.definitions.specs.Combination.{generator_at, InRationalIdeal}
 use Rattle.definitions.proofs.Coefficients.{coefficient_of-append, coefficient_of-multiple}
 use Rattle.word_orders.specs.Admissible.{Compare}
@@ -15,19 +14,19 @@ use Rattle.cofactor_trace.specs.Traces.{origin_poly, traced_poly, traced_sum}
 use Rattle.rule_reduce.specs.declared.rule.Rule.{Rule}
 use Rattle.rule_reduce.specs.declared.state.State.{State}
 use Rattle.rule_reduce.specs.RuleLists.{rule_at, polynomials_of}
-use Rattle.rule_reduce.specs.Laws.{IsByRule}
 use Rattle.rule_reduce.proofs.Numbers.{rule_at-polynomial}
 use Rattle.ambiguities.proofs.Numbers.{rule_at-first, rule_at-last}
 use Rattle.confluence.specs.Reductions.{IsZero, IsReduced}
 use Rattle.confluence.proofs.Integers.{positive_nat}
-use Rattle.confluence.proofs.Spans.{Coefs, Span, nothing, part, span_same, span_add, span_scale, span_bind}
-use Rattle.confluence.proofs.Shifts.{shift, span_shift, coefficient_of-between}
-use Rattle.confluence.proofs.SumRows.{Numbered, combination_span}
-use Rattle.confluence.proofs.FreeRows.{Free, free_rows, single, numbered_shift, in_ideal}
+use Rattle.confluence.proofs.Spans.{Span, nothing, part, span_same, span_add, span_scale}
+use Rattle.confluence.proofs.SumRows.{Numbered}
+use Rattle.confluence.proofs.ZeroRestLaws.{zero_rests_are_inside}
+use Rattle.confluence.proofs.FreeRows.{Free, single, in_ideal}
+use Rattle.confluence.proofs.Ideals.{between_span, all_from_numbers, ideals_stay_inside}
 use Rattle.completion_laws.specs.Rests.{IsEarlier}
 use Rattle.completion_laws.specs.Kept.{AreRecorded, IsReached}
 use Rattle.completion_laws.specs.Conclusions.{AreAllDone, RulesAreInside, ZeroIsInside}
-use Rattle.completion_laws.proofs.RowSums.{traced_sum-by_rules}
+use Rattle.completion_laws.proofs.RowSums.{length-polynomials}
 
 -- strong induction
 strong : (P : ℕ → Type 0) → ((n : ℕ) → ((m : ℕ) → m < n → P m) → P n) → (n : ℕ) → P n
@@ -41,12 +40,6 @@ slice_some : (made : List Made) (n : ℕ) → n < length made → (m : Made) × 
 slice_some [] n inside = absurd (omega arith)
 slice_some (m ∷ made) zero inside = (m, refl)
 slice_some (m ∷ made) (suc n) inside = slice_some made n (omega arith)
-
--- what is between words comes from what it is of
-between_span : (polys : List (List Term)) (l r : Word) (p : List Term) → Span (Numbered polys Free) (coefficient_of p) → Span (Numbered polys Free) (coefficient_of (poly_between l p r))
-between_span polys l r p sp =
-    span_same (Numbered polys Free) (shift l r (coefficient_of p)) (coefficient_of (poly_between l p r))
-    (span_shift (Numbered polys Free) (Numbered polys Free) l r (λ b row. numbered_shift polys l r b row) (coefficient_of p) sp) (λ w. coefficient_of-between l r p w)
 
 module _ (generators : List (List Term)) where
   abbrev FromGenerators : List Term → Type 0
@@ -87,27 +80,11 @@ module _ (generators : List (List Term)) where
     pub rule_inside : (n : ℕ) (g : Rule) → rule_at rules n ≡ Some g → InRationalIdeal generators g.poly.terms
     rule_inside n g numbered = in_ideal generators g.poly.terms (subst FromGenerators (rule_at-polynomial rules n g numbered) (rule_from_generators n (rule_at-first rules n g numbered) (rule_at-last rules n g numbered)))
 
-    earlier_rule : (row : Row) → IsByRule (length rules) row.from → IsEarlier (length generators) (length rules) row.from
-    earlier_rule row by_rule = go row.from by_rule
-      where
-        go : (x : Origin) → IsByRule (length rules) x → IsEarlier (length generators) (length rules) x
-        go (origin.Generator n) none = absurd none
-        go (origin.Rule n) named = named
-
-    -- what is reduced to zero
     pub zero_inside : (letters : ℕ) (compare : Compare) (p : List Term) (s : State) → IsReduced letters compare rules p s → IsZero s.rest → InRationalIdeal generators p
-    zero_inside letters compare p s reduced none = in_ideal generators p (go (positive_nat s.multiplier reduced.positive))
-      where
-        sum_same : (w : Word) → coefficient_of (traced_sum generators (polynomials_of rules) s.rows) w ≡ s.multiplier *ℤ coefficient_of p w
-        sum_same w =
-            ap (λ q. coefficient_of q w) (ap (λ rs. traced_sum generators (polynomials_of rs) s.rows) (sym (append-nil rules)) ∙ traced_sum-by_rules generators rules [] s.rows reduced.by_rules)
-            ∙ sym (+ℤ_idl _) ∙ ap (λ z. z +ℤ coefficient_of (traced_sum [] (polynomials_of rules) s.rows) w) (sym (none.at w))
-            ∙ sym (coefficient_of-append s.rest (traced_sum [] (polynomials_of rules) s.rows) w) ∙ sym (reduced.balances.at w) ∙ coefficient_of-multiple s.multiplier p w
-
-        go : ((k : ℕ) × (0 < k) × (s.multiplier ≡ pos k)) → FromGenerators p
-        go (k, above, multiplier) = part (coefficient_of p) (coefficient_of (traced_sum generators (polynomials_of rules) s.rows)) k above
-            (from_rows (polynomials_of rules) (length rules) rule_from_generators s.rows (recursion_from_All (λ (row : Row). IsEarlier (length generators) (length rules) row.from) s.rows (All-weaker (λ (row : Row). IsByRule (length rules) row.from) (λ (row : Row). IsEarlier (length generators) (length rules) row.from) earlier_rule s.rows reduced.by_rules)))
-            (λ w. sum_same w ∙ ap (λ z. z *ℤ coefficient_of p w) multiplier)
+    zero_inside letters compare p s reduced none =
+        ideals_stay_inside generators (polynomials_of rules) p
+        (all_from_numbers (InRationalIdeal generators) (polynomials_of rules) (λ n first last. in_ideal generators (generator_at (polynomials_of rules) n) (rule_from_generators n first (omega (arith, last, length-polynomials rules)))))
+        (zero_rests_are_inside letters compare rules p s reduced none)
 
 pub rules_are_inside : RulesAreInside
 rules_are_inside letters compare generators rules made done treated n g kept numbered = rule_inside generators rules made kept.recorded n g numbered
@@ -115,34 +92,12 @@ rules_are_inside letters compare generators rules made done treated n g kept num
 pub zero_is_inside : ZeroIsInside
 zero_is_inside letters compare generators rules made done treated p s kept reduced none = zero_inside generators rules made kept.recorded letters compare p s reduced none
 
--- ---- back
-pub generator_decided : (generators : List (List Term)) (n : ℕ) → ((1 ≤ n) × (n ≤ length generators)) ⊎ (generator_at generators n ≡ [])
-generator_decided gs zero = inr refl
-generator_decided [] (suc n) = inr (past n)
-  where
-    past : (n : ℕ) → get_or {A = List Term} [] n [] ≡ []
-    past zero = refl
-    past (suc n) = refl
-generator_decided (g ∷ gs) (suc zero) = inl (omega arith, omega arith)
-generator_decided (g ∷ gs) (suc (suc n)) = up (generator_decided gs (suc n))
-  where
-    up : ((1 ≤ suc n) × (suc n ≤ length gs)) ⊎ (generator_at gs (suc n) ≡ []) → ((1 ≤ suc (suc n)) × (suc (suc n) ≤ suc (length gs))) ⊎ (generator_at (g ∷ gs) (suc (suc n)) ≡ [])
-    up (inl named) = inl (omega arith, omega (arith, named.1))
-    up (inr none) = inr none
-
 -- where all generators were reached, what is in their rational ideal is in that of the rules
 pub inside_rules : (letters : ℕ) (compare : Compare) (generators : List (List Term)) (rules : List Rule) (done : List ℕ) → All (λ n. IsReached letters compare rules (generator_at generators n)) done → AreAllDone generators done
     → (p : List Term) → InRationalIdeal generators p → InRationalIdeal (polynomials_of rules) p
-inside_rules letters compare generators rules done reached all p inside =
-    in_ideal (polynomials_of rules) p (span_bind (Numbered generators Free) (Numbered (polynomials_of rules) Free) each (coefficient_of p) (combination_span generators Free inside.rows inside.denominator p inside.combination (free_rows generators inside.rows)))
+inside_rules letters compare generators rules done reached all p inside = ideals_stay_inside (polynomials_of rules) generators p (all_from_numbers (InRationalIdeal (polynomials_of rules)) generators each) inside
   where
-    of_reached : (g : List Term) → IsReached letters compare rules g → Span (Numbered (polynomials_of rules) Free) (coefficient_of g)
-    of_reached g r = combination_span (polynomials_of rules) Free r.rows r.denominator g r.combination (free_rows (polynomials_of rules) r.rows)
-
-    each : (b : Coefs) → Numbered generators Free b → Span (Numbered (polynomials_of rules) Free) b
-    each b row = go (generator_decided generators row.number)
-      where
-        go : ((1 ≤ row.number) × (row.number ≤ length generators)) ⊎ (generator_at generators row.number ≡ []) → Span (Numbered (polynomials_of rules) Free) b
-        go (inl named) = span_same (Numbered (polynomials_of rules) Free) (coefficient_of (poly_between row.left (generator_at generators row.number) row.right)) b
-            (between_span (polynomials_of rules) row.left row.right (generator_at generators row.number) (of_reached (generator_at generators row.number) (All-contains (λ n. IsReached letters compare rules (generator_at generators n)) done row.number reached (all row.number named.0 named.1)))) row.is
-        go (inr none) = nothing b (λ w. row.is w ∙ ap (λ z. coefficient_of (poly_between row.left z row.right) w) none)
+    each : (n : ℕ) → 1 ≤ n → n ≤ length generators → InRationalIdeal (polynomials_of rules) (generator_at generators n)
+    each n first last =
+        let r : IsReached letters compare rules (generator_at generators n) = All-contains (λ k. IsReached letters compare rules (generator_at generators k)) done n reached (all n first last) in
+        record { denominator = r.denominator; rows = r.rows; combination = r.combination }

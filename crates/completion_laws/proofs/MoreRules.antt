@@ -6,7 +6,7 @@ use Rattle.definitions.specs.Poly.{Word, Term, coefficient_of}
 use Rattle.definitions.specs.Combination.{Row as Multiple, generator_at}
 use Rattle.word_orders.specs.Admissible.{Compare, IsAdmissible}
 use Rattle.word_orders.specs.Orders.{Order, IsBelow}
-use Rattle.word_orders.proofs.Orders.{order_from_laws, over_range, below_less, less_below}
+use Rattle.word_orders.proofs.Orders.{order_from_laws, over_range, less_below}
 use Rattle.rule_reduce.specs.declared.rule.Rule.{Rule}
 use Rattle.rule_reduce.specs.RuleLists.{IsRule, rule_at, polynomials_of}
 use Rattle.rule_reduce.specs.KeptWords.{IsAtMostOf}
@@ -18,8 +18,8 @@ use Rattle.confluence.proofs.Meets.{Allowed}
 use Rattle.confluence.proofs.Outside.{AnyRow, at_most_of}
 use Rattle.confluence.proofs.Parts.{parted, Extends, any_more}
 use Rattle.confluence.proofs.Resolve.{below, bounded_self, InRange}
-use Rattle.confluence.proofs.ResolvedOf.{below_from_comes}
-use Rattle.confluence.proofs.ReducibleLaws.{ordered, below_span}
+use Rattle.confluence.proofs.ReducedSpans.{at_most_in}
+use Rattle.confluence.proofs.ReducibleLaws.{ordered, below_span, below_from_span}
 use Rattle.confluence.proofs.RuleRows.{at_most_bounded}
 use Rattle.confluence.proofs.Spans.{Span}
 use Rattle.confluence.proofs.SumRows.{comes_from_span, span_from_comes}
@@ -40,13 +40,6 @@ module _ (letters : ℕ) (compare : Compare) (rank : List ℕ → List ℕ) (law
   order = order_from_laws letters compare rank laws
 
   -- ---- words that are at most a word of a polynomial
-  pub at_most_in : (p : List Term) (w : Word) → IsAtMostOf letters compare p w → IsAtMostIn order p w
-  at_most_in p w most = record { word = most.word; occurs = most.occurs; at_most = go most.at_most }
-    where
-      go : (w ≡ most.word) ⊎ IsBelow letters compare w most.word → (w ≡ most.word) ⊎ order.Less w most.word
-      go (inl same) = inl same
-      go (inr less) = inr (below_less letters compare rank laws w most.word less)
-
   pub at_most_from : (p : List Term) (w : Word) → IsAtMostIn order p w → IsAtMostOf letters compare p w
   at_most_from p w most = record { word = most.word; occurs = most.occurs; at_most = go most.at_most }
     where
@@ -59,16 +52,10 @@ module _ (letters : ℕ) (compare : Compare) (rank : List ℕ → List ℕ) (law
 
   -- ---- spans of rows over rules, and what comes from them
   module _ (rules : List Rule) (are : All (IsRule letters compare) rules) where
-    pub below_from_span : (bound : Word) (p : List Term) → Span (AnyRow order (ordered letters compare rank laws rules are) (below order bound)) (coefficient_of p) → ComesBelow letters compare (polynomials_of rules) bound p
-    below_from_span bound p sp =
-        below_from_comes letters compare rank laws (polynomials_of rules) bound p
-        (subst (λ ps. Comes ps (λ w. order.Less w bound) p) (polys_of-leds rules)
-        (comes_from_span order (leds_of rules) (leds_are letters compare rank laws rules are) (below order bound) (λ w. order.Less w bound) (λ u range less. less) p sp))
-
     reached_rows : (p : List Term) (rows : List Multiple) → AllByRecursion (λ r. (w : Word) → coefficient_of (generator_at (polynomials_of rules) r.generator) w ≢ pos 0 → IsAtMostOf letters compare p (r.left ++ (w ++ r.right))) rows
         → AllByRecursion (λ r. (w : Word) → coefficient_of (generator_at (polynomials_of rules) r.generator) w ≢ pos 0 → IsAtMostIn order p (r.left ++ (w ++ r.right))) rows
     reached_rows p [] each = tt
-    reached_rows p (r ∷ rows) each = ((λ w some. at_most_in p (r.left ++ (w ++ r.right)) (each.0 w some)), reached_rows p rows each.1)
+    reached_rows p (r ∷ rows) each = ((λ w some. at_most_in letters compare rank laws p (r.left ++ (w ++ r.right)) (each.0 w some)), reached_rows p rows each.1)
 
     found_rows : (p : List Term) (rows : List Multiple) → AllByRecursion (λ r. (w : Word) → coefficient_of (generator_at (polynomials_of rules) r.generator) w ≢ pos 0 → IsAtMostIn order p (r.left ++ (w ++ r.right))) rows
         → AllByRecursion (λ r. (w : Word) → coefficient_of (generator_at (polynomials_of rules) r.generator) w ≢ pos 0 → IsAtMostOf letters compare p (r.left ++ (w ++ r.right))) rows
@@ -115,7 +102,7 @@ module _ (letters : ℕ) (compare : Compare) (rank : List ℕ → List ℕ) (law
     span_more q f sp = any_more order (ordered letters compare rank laws rules are) (ordered letters compare rank laws (rules ++ more) all_are) extends q f sp
 
     pub below_more : (bound : Word) (p : List Term) → ComesBelow letters compare (polynomials_of rules) bound p → ComesBelow letters compare (polynomials_of (rules ++ more)) bound p
-    below_more bound p comes = below_from_span (rules ++ more) all_are bound p (span_more (below order bound) (coefficient_of p) (below_span letters compare rank laws rules are bound p comes))
+    below_more bound p comes = below_from_span letters compare rank laws (rules ++ more) all_are bound p (span_more (below order bound) (coefficient_of p) (below_span letters compare rank laws rules are bound p comes))
 
     pub reached_more : (p : List Term) → HasLettersBelow letters p → IsReached letters compare rules p → IsReached letters compare (rules ++ more) p
     reached_more p over reached = reached_from_span (rules ++ more) all_are p (span_more (at_most_of order p) (coefficient_of p) (reached_span rules are p over reached))

@@ -16,9 +16,10 @@ use Rattle.ambiguities.specs.Ambiguities.{IsAmbiguity, overlap_word_of}
 use Rattle.ambiguities.specs.Resolved.{ComesBelow, IsResolved}
 use Rattle.confluence.proofs.Integers.{nonzero_or}
 use Rattle.confluence.proofs.FreeRows.{between_word}
+use Rattle.confluence.proofs.Ideals.{generator_decided}
 use Rattle.confluence.proofs.Outside.{AnyRow, piece_span, coefficient_of-between_at}
 use Rattle.confluence.proofs.Parts.{same_nat}
-use Rattle.confluence.proofs.ReducibleLaws.{ordered}
+use Rattle.confluence.proofs.ReducibleLaws.{ordered, below_from_span}
 use Rattle.confluence.proofs.ResolvedOf.{comes_from_below}
 use Rattle.confluence.proofs.Resolve.{below}
 use Rattle.confluence.proofs.RestLaws.{rests_of_ideal_are_zero, rests_below_are_zero}
@@ -26,8 +27,8 @@ use Rattle.confluence.proofs.Spans.{Coefs, Span, nothing, span_bind}
 use Rattle.confluence.proofs.SumRows.{Numbered, combination_span}
 use Rattle.completion_laws.specs.Kept.{IsReached, HaveLettersBelow}
 use Rattle.completion_laws.specs.Conclusions.{AreAllDone, ResolvedWhereClosed, ResolvedBelowPending, NonzeroIsOutside, NonzeroIsNotBelow}
-use Rattle.completion_laws.proofs.MoreRules.{below_from_span, reached_span}
-use Rattle.completion_laws.proofs.Inside.{generator_decided, inside_rules}
+use Rattle.completion_laws.proofs.MoreRules.{reached_span}
+use Rattle.completion_laws.proofs.Inside.{inside_rules}
 
 -- ---- whether an ambiguity is listed
 same_kind : (k l : Kind) → (k ≡ l) ⊎ (k ≢ l)

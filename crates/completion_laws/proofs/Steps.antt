@@ -17,20 +17,28 @@ use Rattle.ambiguities.specs.Resolved.{IsResolved}
 use Rattle.confluence.specs.Reductions.{IsZero, IsReduced}
 use Rattle.confluence.proofs.Meets.{Allowed}
 use Rattle.confluence.proofs.Outside.{AnyRow, at_most_of}
+use Rattle.confluence.proofs.ReducedSpans.{zero_rest_span}
 use Rattle.confluence.proofs.ReducibleLaws.{ordered}
 use Rattle.confluence.proofs.Resolve.{bounded_self}
-use Rattle.confluence.proofs.RuleRows.{Bounded, from_rest}
+use Rattle.confluence.proofs.RuleRows.{Bounded}
 use Rattle.confluence.proofs.Spans.{Span}
 use Rattle.completion_laws.specs.Rests.{generator_rows, rows_less, AddsUpTo, signed, IsMadeOf, IsAppended, nothing_left, rule_made}
 use Rattle.completion_laws.specs.Kept.{IsReached, Kept, StartIsKept, HaveLettersBelow, GeneratorsAreKept}
 use Rattle.completion_laws.proofs.MoreRules.{in_range, reached_from_span}
-use Rattle.completion_laws.proofs.ReducedSpans.{IsAccounted, by_zero, by_rule, reduced_span, rest_bounded, accounted_span, reduced_in}
+use Rattle.completion_laws.proofs.ReducedSpans.{IsAccounted, rest_bounded, accounted_span, reduced_in}
 use Rattle.completion_laws.proofs.RowSums.{less_adds_up, generator_adds_up}
 use Rattle.completion_laws.proofs.Appending.{slice_get-last, signed_nonzero, appended_kept}
 
 -- a rule that was appended accounts for the rest
 pub made_accounts : (letters : ℕ) (compare : Compare) (rules : List Rule) (rest : List Term) (rows : List Row) (g : Rule) (m : Made) → IsMadeOf letters compare rest rows g m → IsAccounted (rules ++ (g ∷ [])) rest
-made_accounts letters compare rules rest rows g m is = by_rule (suc (length rules)) g (signed is.negated m.scale) (slice_get-last rules g) (signed_nonzero is.negated m.scale is.positive) is.divided
+made_accounts letters compare rules rest rows g m is = record {
+  number = suc (length rules);
+  rule = g;
+  scale = signed is.negated m.scale;
+  numbered = slice_get-last rules g;
+  nonzero = signed_nonzero is.negated m.scale is.positive;
+  divided = is.divided;
+}
 
 -- ---- rows that add up, with no rules behind
 generator_adds : (letters : ℕ) (compare : Compare) (generators : List (List Term)) (rules : List Rule) (n : ℕ) (s : State) → 1 ≤ n → n ≤ length generators → IsReduced letters compare rules (generator_at generators n) s → AddsUpTo generators rules s.rest (generator_rows n s)
@@ -62,13 +70,7 @@ module _ (letters : ℕ) (compare : Compare) (rank : List ℕ → List ℕ) (law
   abbrev order : Order
   order = order_from_laws letters compare rank laws
 
-  -- ---- spans of what was reduced by the rules themselves
-  pub reduced_here : (rules : List Rule) (are : All (IsRule letters compare) rules) (q : Allowed order) (p : List Term) (s : State) → IsReduced letters compare rules p s → Bounded order q p → IsAccounted rules s.rest
-      → Span (AnyRow order (ordered letters compare rank laws rules are) q) (coefficient_of p)
-  reduced_here rules are q p s reduced bounded accounted =
-      from_rest (AnyRow order (ordered letters compare rank laws rules are) q) p s.rest s.multiplier reduced.positive
-      (reduced_span letters compare rank laws rules are q p s reduced bounded) (accounted_span letters compare rank laws rules are q s.rest accounted (rest_bounded letters compare rank laws rules are q p s reduced bounded))
-
+  -- what was reduced to a rest that is accounted for by later rules
   pub reduced_later : (rules later : List Rule) (are : All (IsRule letters compare) rules) (all_are : All (IsRule letters compare) (rules ++ later)) (q : Allowed order) (p : List Term) (s : State) → IsReduced letters compare rules p s → Bounded order q p → IsAccounted (rules ++ later) s.rest
       → Span (AnyRow order (ordered letters compare rank laws (rules ++ later) all_are) q) (coefficient_of p)
   reduced_later rules later are all_are q p s reduced bounded accounted =
@@ -91,7 +93,7 @@ module _ (letters : ℕ) (compare : Compare) (rank : List ℕ → List ℕ) (law
     own = bounded_self order (generator_at generators n) (in_range letters compare rank laws (generator_at generators n) (over n))
 
     zero_kept : IsZero s.rest → Kept letters compare generators rules made (done ++ (n ∷ [])) treated
-    zero_kept none = done_kept generators rules made done treated n kept (reached_from_span letters compare rank laws rules kept.are_rules (generator_at generators n) (reduced_here rules kept.are_rules (at_most_of order (generator_at generators n)) (generator_at generators n) s reduced own (by_zero none)))
+    zero_kept none = done_kept generators rules made done treated n kept (reached_from_span letters compare rank laws rules kept.are_rules (generator_at generators n) (zero_rest_span letters compare rank laws rules kept.are_rules (at_most_of order (generator_at generators n)) (generator_at generators n) s reduced own none))
 
     rule_kept : (g : Rule) (m : Made) → IsMadeOf letters compare s.rest (generator_rows n s) g m → Kept letters compare generators (rules ++ (g ∷ [])) (made ++ (m ∷ [])) (done ++ (n ∷ [])) treated
     rule_kept g m is =

@@ -1,5 +1,5 @@
 -- One ambiguity, from what is kept to what is kept.
-use Rattle.std.proofs.Common.{◌≡◌, ◌⊎◌, inl, inr, ℕ, pos, List, [], ◌∷◌, ◌++◌, length, sym, ap, ◌∙◌, subst, append_assoc}
+use Rattle.std.proofs.Common.{◌≡◌, ℕ, List, [], ◌∷◌, ◌++◌, length, sym, ap, ◌∙◌, subst, append_assoc}
 use Rattle.std.specs.List.{All, AllByRecursion}
 use Rattle.std.proofs.lemmas.List.Elements.{All-append, All-cons, All-nil, All-weaker, All-from_recursion, recursion_from_All}
 use Rattle.definitions.specs.Poly.{Word, Term, SamePolynomial, coefficient_of}
@@ -10,29 +10,29 @@ use Rattle.cofactor_trace.specs.declared.Row.{Row}
 use Rattle.cofactor_trace.specs.declared.Made.{Made}
 use Rattle.rule_reduce.specs.declared.rule.Rule.{Rule}
 use Rattle.rule_reduce.specs.declared.state.State.{State}
-use Rattle.rule_reduce.specs.RuleLists.{IsRule, polynomials_of}
+use Rattle.rule_reduce.specs.RuleLists.{IsRule}
 use Rattle.rule_reduce.specs.Laws.{IsByRule}
 use Rattle.ambiguities.specs.declared.ambiguity.Ambiguity.{Ambiguity}
 use Rattle.ambiguities.specs.Ambiguities.{IsAmbiguity, overlap_word_of}
-use Rattle.ambiguities.specs.SPolynomials.{first_row, second_row, s_rows_of}
-use Rattle.ambiguities.specs.Resolved.{ComesBelow, s_sum, IsResolved}
+use Rattle.ambiguities.specs.SPolynomials.{s_rows_of}
+use Rattle.ambiguities.specs.Resolved.{s_sum, IsResolved}
 use Rattle.ambiguities.proofs.Numbers.{rule_at-first, rule_at-last}
 use Rattle.confluence.specs.Reductions.{IsZero, IsReduced}
-use Rattle.confluence.proofs.LedRules.{leds_of, leds_are}
-use Rattle.confluence.proofs.MeetingsOf.{meeting_of, factors_of, difference_of}
 use Rattle.confluence.proofs.Outside.{AnyRow}
+use Rattle.confluence.proofs.ReducedSpans.{reduced_span, zero_rest_span}
 use Rattle.confluence.proofs.ReducibleLaws.{ordered}
-use Rattle.confluence.proofs.Resolve.{below, s_words_below}
+use Rattle.confluence.proofs.Resolve.{below}
 use Rattle.confluence.proofs.RuleRows.{Bounded, from_rest}
-use Rattle.confluence.proofs.Spans.{Span, span_same}
+use Rattle.confluence.proofs.Spans.{Span}
+use Rattle.confluence.proofs.ZeroRestLaws.{s_bounded, resolved_by, zero_rests_are_resolved}
 use Rattle.completion_laws.specs.Rests.{IsEarlier, rows_less, AddsUpTo, IsMadeOf, IsAppended, nothing_left, rule_made}
 use Rattle.completion_laws.specs.Kept.{Kept, HaveLettersBelow, AmbiguitiesAreKept, ResolvedAtOnceIsKept}
-use Rattle.completion_laws.proofs.MoreRules.{below_from_span, span_more}
-use Rattle.completion_laws.proofs.MoreAmbiguities.{ambiguity_more, overlap_word-more, s_sum-more}
-use Rattle.completion_laws.proofs.ReducedSpans.{IsAccounted, by_zero, reduced_span, rest_bounded, reduced_in}
+use Rattle.completion_laws.proofs.MoreRules.{span_more}
+use Rattle.completion_laws.proofs.MoreAmbiguities.{ambiguity_more, overlap_word-more, s_sum-more, resolved_more}
+use Rattle.completion_laws.proofs.ReducedSpans.{rest_bounded, reduced_in}
 use Rattle.completion_laws.proofs.RowSums.{traced_sum-by_rules, earlier_by_rule, less_adds_up}
 use Rattle.completion_laws.proofs.Appending.{appended_kept}
-use Rattle.completion_laws.proofs.Steps.{made_accounts, less_adds, reduced_here, reduced_later}
+use Rattle.completion_laws.proofs.Steps.{made_accounts, less_adds, reduced_later}
 
 -- ---- rules in front
 all_front : (P : Rule → Type 0) (rules more : List Rule) → All P (rules ++ more) → All P rules
@@ -68,31 +68,19 @@ module _ (letters : ℕ) (compare : Compare) (rank : List ℕ → List ℕ) (law
     resolved = All-append (IsResolved letters compare rules) treated (a ∷ []) kept.resolved (All-cons (IsResolved letters compare rules) a [] resolved (All-nil (IsResolved letters compare rules)));
   }
 
-  module _ (start : List Rule) (start_are : All (IsRule letters compare) start) (a : Ambiguity) (is : IsAmbiguity start a) (p : List Term) (same : SamePolynomial p (s_sum start a)) where
+  module _ (start : List Rule) (a : Ambiguity) (is : IsAmbiguity start a) (p : List Term) (same : SamePolynomial p (s_sum start a)) where
     abbrev bound : Word
     bound = overlap_word_of start a
 
-    -- the words of the S-polynomial are below the overlap word
-    s_bounded : Bounded order (below order bound) p
-    s_bounded w = go (s_words_below order (leds_of start) (leds_are letters compare rank laws start start_are) a bound (first_row start a).right (second_row start a).left (second_row start a).right (factors_of start a is letters compare start_are).one (factors_of start a is letters compare start_are).other (s_sum start a)
-        (meeting_of start a is) (difference_of start a is letters compare start_are) w)
-      where
-        go : (coefficient_of (s_sum start a) w ≡ pos 0) ⊎ (order.Range w × order.Less w bound) → (coefficient_of p w ≡ pos 0) ⊎ (order.Range w × order.Less w bound)
-        go (inl none) = inl (same.at w ∙ none)
-        go (inr held) = inr held
-
-    -- where it comes from more rules the ambiguity is resolved by them
-    resolved_by : (later : List Rule) (all_are : All (IsRule letters compare) (start ++ later)) → Span (AnyRow order (ordered letters compare rank laws (start ++ later) all_are) (below order bound)) (coefficient_of p) → IsResolved letters compare (start ++ later) a
-    resolved_by later all_are sp = record {
-      ambiguity = ambiguity_more start later a is;
-      below = subst (λ w. ComesBelow letters compare (polynomials_of (start ++ later)) w (s_sum (start ++ later) a)) (sym (overlap_word-more start later a is))
-          (subst (λ q. ComesBelow letters compare (polynomials_of (start ++ later)) bound q) (sym (s_sum-more start later a is))
-          (below_from_span letters compare rank laws (start ++ later) all_are bound (s_sum start a) (span_same (AnyRow order (ordered letters compare rank laws (start ++ later) all_are) (below order bound)) (coefficient_of p) (coefficient_of (s_sum start a)) sp (λ w. sym (same.at w)))));
-    }
+    -- where the S-polynomial comes from more rules the ambiguity is resolved by them
+    resolved_later : (later : List Rule) (all_are : All (IsRule letters compare) (start ++ later)) → Span (AnyRow order (ordered letters compare rank laws (start ++ later) all_are) (below order bound)) (coefficient_of p) → IsResolved letters compare (start ++ later) a
+    resolved_later later all_are sp =
+        resolved_by letters compare rank laws (start ++ later) all_are a (ambiguity_more start later a is) p (subst (SamePolynomial p) (sym (s_sum-more start later a is)) same)
+        (subst (λ w. Span (AnyRow order (ordered letters compare rank laws (start ++ later) all_are) (below order w)) (coefficient_of p)) (sym (overlap_word-more start later a is)) sp)
 
     -- by rules of which the first ones are those from the start
     resolved_in : (rules later : List Rule) → start ++ later ≡ rules → (are : All (IsRule letters compare) rules) → Span (AnyRow order (ordered letters compare rank laws rules are) (below order bound)) (coefficient_of p) → IsResolved letters compare rules a
-    resolved_in rules later front = subst (λ rs. (are : All (IsRule letters compare) rs) → Span (AnyRow order (ordered letters compare rank laws rs are) (below order bound)) (coefficient_of p) → IsResolved letters compare rs a) front (resolved_by later)
+    resolved_in rules later front = subst (λ rs. (are : All (IsRule letters compare) rs) → Span (AnyRow order (ordered letters compare rank laws rs are) (below order bound)) (coefficient_of p) → IsResolved letters compare rs a) front (resolved_later later)
 
   module _ (generators : List (List Term)) (start later : List Rule) (made : List Made) (done : List ℕ) (treated : List Ambiguity) (kept : Kept letters compare generators (start ++ later) made done treated)
       (a : Ambiguity) (is : IsAmbiguity start a) (p : List Term) (same : SamePolynomial p (s_sum start a)) (s : State) (reduced : IsReduced letters compare start p s) where
@@ -100,23 +88,23 @@ module _ (letters : ℕ) (compare : Compare) (rank : List ℕ → List ℕ) (law
     start_are = all_front (IsRule letters compare) start later kept.are_rules
 
     bounded : Bounded order (below order (overlap_word_of start a)) p
-    bounded = s_bounded start start_are a is p same
+    bounded = s_bounded letters compare rank laws start start_are a is p same
 
     rest_below : Bounded order (below order (overlap_word_of start a)) s.rest
     rest_below = rest_bounded letters compare rank laws start start_are (below order (overlap_word_of start a)) p s reduced bounded
 
-    -- where the rest is accounted for by the rules now
-    pub once_kept : IsAccounted (start ++ later) s.rest → Kept letters compare generators (start ++ later) made done (treated ++ (a ∷ []))
-    once_kept accounted = treated_kept generators (start ++ later) made done treated a kept
-        (resolved_by start start_are a is p same later kept.are_rules (reduced_later letters compare rank laws start later start_are kept.are_rules (below order (overlap_word_of start a)) p s reduced bounded accounted))
+    -- where the rest is zero
+    pub once_kept : IsZero s.rest → Kept letters compare generators (start ++ later) made done (treated ++ (a ∷ []))
+    once_kept none = treated_kept generators (start ++ later) made done treated a kept
+        (resolved_more letters compare rank laws start later start_are kept.are_rules a (zero_rests_are_resolved letters compare rank start a p s laws start_are is same reduced none))
 
     module _ (over : HaveLettersBelow letters generators) (t : State) (again : IsReduced letters compare (start ++ later) s.rest t) where
       -- where the second rest is zero
       twice_kept : IsZero t.rest → Kept letters compare generators (start ++ later) made done (treated ++ (a ∷ []))
       twice_kept none = treated_kept generators (start ++ later) made done treated a kept
-          (resolved_by start start_are a is p same later kept.are_rules
+          (resolved_later start a is p same later kept.are_rules
           (reduced_in letters compare rank laws start later start_are kept.are_rules (below order (overlap_word_of start a)) p s reduced bounded
-          (reduced_here letters compare rank laws (start ++ later) kept.are_rules (below order (overlap_word_of start a)) s.rest t again rest_below (by_zero none))))
+          (zero_rest_span letters compare rank laws (start ++ later) kept.are_rules (below order (overlap_word_of start a)) s.rest t again rest_below none)))
 
       -- where a rule is made of it
       rule_kept : (g : Rule) (m : Made) → IsMadeOf letters compare t.rest (rows_less (rows_less (s_rows_of start a) s) t) g m → Kept letters compare generators ((start ++ later) ++ (g ∷ [])) (made ++ (m ∷ [])) done (treated ++ (a ∷ []))
@@ -129,7 +117,7 @@ module _ (letters : ℕ) (compare : Compare) (rank : List ℕ → List ℕ) (law
           (span_more letters compare rank laws (start ++ later) (g ∷ []) kept.are_rules longer.are_rules (below order (overlap_word_of start a)) _
           (span_more letters compare rank laws start later start_are kept.are_rules (below order (overlap_word_of start a)) _ (reduced_span letters compare rank laws start start_are (below order (overlap_word_of start a)) p s reduced bounded))) inner in
           treated_kept generators ((start ++ later) ++ (g ∷ [])) (made ++ (m ∷ [])) done treated a longer
-          (resolved_in start start_are a is p same ((start ++ later) ++ (g ∷ [])) (later ++ (g ∷ [])) (sym (append_assoc start later (g ∷ []))) longer.are_rules whole)
+          (resolved_in start a is p same ((start ++ later) ++ (g ∷ [])) (later ++ (g ∷ [])) (sym (append_assoc start later (g ∷ []))) longer.are_rules whole)
 
       pub treated_twice_kept : (rules_after : List Rule) (made_after : List Made) → IsAppended letters compare t.rest (rows_less (rows_less (s_rows_of start a) s) t) (start ++ later) made rules_after made_after → Kept letters compare generators rules_after made_after done (treated ++ (a ∷ []))
       treated_twice_kept rules_after made_after (nothing_left none rules_same made_same) =
@@ -143,4 +131,4 @@ ambiguities_are_kept letters compare rank generators start later made done treat
 
 pub resolved_at_once_is_kept : ResolvedAtOnceIsKept
 resolved_at_once_is_kept letters compare rank generators start later made done treated a p s laws kept is same reduced none =
-    once_kept letters compare rank laws generators start later made done treated kept a is p same s reduced (by_zero none)
+    once_kept letters compare rank laws generators start later made done treated kept a is p same s reduced none

@@ -13,7 +13,7 @@ use Rattle.confluence.proofs.Spans.{Coefs, Span, span_same, span_add, span_scale
 use Rattle.confluence.proofs.Shifts.{shift, shift-same, coefficient_of-between, between-between}
 use Rattle.confluence.proofs.Outside.{AnyRow, coefficient_word, coefficient_of-between_at}
 use Rattle.confluence.proofs.Parts.{rules_of}
-use Rattle.confluence.proofs.SumRows.{Numbered, listed, combination_from, span_from_numbered}
+use Rattle.confluence.proofs.SumRows.{Numbered, listed, combination_span, combination_from, span_from_numbered}
 use Rattle.confluence.proofs.LedLists.{has_decided, poly_at}
 use Rattle.confluence.proofs.Resolve.{everything, InRange}
 
@@ -50,9 +50,12 @@ in_ideal gs p sp = go (combination_from gs Free p (listed gs Free (coefficient_o
     go : Comes gs Free p → InRationalIdeal gs p
     go c = record { denominator = c.multiplier; rows = c.rows; combination = c.combination }
 
-pub free_rows : (gs : List (List Term)) (rows : List SumRow) → AllByRecursion (λ r. (w : Word) → coefficient_of (generator_at gs r.generator) w ≢ pos 0 → Free (r.left ++ (w ++ r.right))) rows
+free_rows : (gs : List (List Term)) (rows : List SumRow) → AllByRecursion (λ r. (w : Word) → coefficient_of (generator_at gs r.generator) w ≢ pos 0 → Free (r.left ++ (w ++ r.right))) rows
 free_rows gs [] = tt
 free_rows gs (r ∷ rows) = ((λ w n. tt), free_rows gs rows)
+
+pub ideal_span : (gs : List (List Term)) (p : List Term) → InRationalIdeal gs p → Span (Numbered gs Free) (coefficient_of p)
+ideal_span gs p inside = combination_span gs Free inside.rows inside.denominator p inside.combination (free_rows gs inside.rows)
 
 -- cutting to words in range
 abbrev keep_if : {A B : Type 0} → A ⊎ B → ℤ → ℤ

@@ -23,7 +23,10 @@ pub mod MeetingsOf
 pub mod ResolvedOf
 pub mod ReducibleLaws
 pub mod TracedRows
+pub mod ReducedSpans
 pub mod RestLaws
+pub mod Ideals
+pub mod ZeroRestLaws
 pub mod PlaceLaws
 pub mod WrittenTerms
 mod Examples

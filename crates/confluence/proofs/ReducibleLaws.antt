@@ -12,7 +12,7 @@ use Rattle.rule_reduce.specs.RuleLists.{IsRule, rule_at, polynomials_of}
 use Rattle.ambiguities.specs.Resolved.{ComesBelow}
 use Rattle.confluence.specs.Reductions.{IsNonzero}
 use Rattle.confluence.specs.Reducible.{IsReducible, HasReducibleGreatest, ReducibleBelow, ReducibleInIdeal}
-use Rattle.confluence.proofs.Led.{polys_of}
+use Rattle.confluence.proofs.Led.{polys_of, Comes}
 use Rattle.confluence.proofs.LedRules.{leds_of, polys_of-leds, led_at-is, rule_of_number, leds_are}
 use Rattle.confluence.proofs.Spans.{Coefs, Span}
 use Rattle.confluence.proofs.Confluence.{HasTopRow}
@@ -22,9 +22,9 @@ use Rattle.confluence.proofs.Outside.{AnyRow, span_word}
 use Rattle.confluence.proofs.Parts.{rules_of}
 use Rattle.confluence.proofs.Resolve.{everything, below}
 use Rattle.confluence.proofs.Resolved.{all_resolved}
-use Rattle.confluence.proofs.SumRows.{Numbered, combination_span, span_from_comes}
-use Rattle.confluence.proofs.FreeRows.{Free, free_rows, free_span}
-use Rattle.confluence.proofs.ResolvedOf.{comes_from_below, meetings_below, meetings_all}
+use Rattle.confluence.proofs.SumRows.{Numbered, comes_from_span, span_from_comes}
+use Rattle.confluence.proofs.FreeRows.{Free, ideal_span, free_span}
+use Rattle.confluence.proofs.ResolvedOf.{comes_from_below, below_from_comes, meetings_below, meetings_all}
 
 module _ (letters : ℕ) (compare : Compare) (rank : List ℕ → List ℕ) (laws : IsAdmissible letters compare rank) (rules : List Rule) (are : All (IsRule letters compare) rules) where
   abbrev pub order : Order
@@ -76,6 +76,13 @@ module _ (letters : ℕ) (compare : Compare) (rank : List ℕ → List ℕ) (law
       span_from_comes order (leds_of rules) (leds_are letters compare rank laws rules are) (below order bound) (λ w. order.Less w bound) (λ u less. (order.less_range u bound less, less)) p
       (comes_from_below letters compare rank laws (polys_of (leds_of rules)) bound p (subst (λ ps. ComesBelow letters compare ps bound p) (sym (polys_of-leds rules)) comes))
 
+  -- and back
+  pub below_from_span : (bound : Word) (p : List Term) → Span (AnyRow order ordered (below order bound)) (coefficient_of p) → ComesBelow letters compare (polynomials_of rules) bound p
+  below_from_span bound p sp =
+      below_from_comes letters compare rank laws (polynomials_of rules) bound p
+      (subst (λ ps. Comes ps (λ w. order.Less w bound) p) (polys_of-leds rules)
+      (comes_from_span order (leds_of rules) (leds_are letters compare rank laws rules are) (below order bound) (λ w. order.Less w bound) (λ u range less. less) p sp))
+
 pub reducible_below : ReducibleBelow
 reducible_below letters compare rank rules bound p laws are resolved comes some =
     let o = order_from_laws letters compare rank laws in
@@ -92,4 +99,4 @@ reducible_in_ideal letters compare rank rules p laws are resolved inside over so
     p
     (free_span o (leds_of rules) ok p (λ w occurs. over_range letters compare rank laws w (over.at w occurs))
     (subst (λ ps. Span (Numbered ps Free) (coefficient_of p)) (sym (polys_of-leds rules))
-    (combination_span (polynomials_of rules) Free inside.rows inside.denominator p inside.combination (free_rows (polynomials_of rules) inside.rows)))) some
+    (ideal_span (polynomials_of rules) p inside))) some

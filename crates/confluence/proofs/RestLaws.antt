@@ -1,16 +1,14 @@
 -- What reductions by resolved rules leave.
-use Rattle.std.proofs.Common.{◌≡◌, ◌≢◌, ◌⊎◌, inl, inr, ℕ, ℤ, pos, negsuc, ◌+ℤ◌, ◌*ℤ◌, List, [], ◌++◌, length, sym, ◌∙◌, subst, arith}
+use Rattle.std.proofs.Common.{◌≡◌, ◌≢◌, ◌⊎◌, inl, inr, ℕ, ℤ, pos, negsuc, neg_ℤ, ◌+ℤ◌, ◌*ℤ◌, List, sym, subst, arith}
 use Rattle.std.specs.List.{All}
 use Rattle.std.proofs.lemmas.Int.{ints}
-use Rattle.std.proofs.lemmas.List.Elements.{All-weaker, recursion_from_All}
+use Rattle.std.proofs.lemmas.List.Elements.{recursion_from_All}
 use Rattle.definitions.specs.Poly.{Word, Term, coefficient_of}
-use Rattle.definitions.proofs.Coefficients.{coefficient_of-append, coefficient_of-multiple}
 use Rattle.word_core.specs.Letters.{IsOver}
 use Rattle.word_core.specs.Occurrence.{OccursNowhere}
 use Rattle.word_orders.specs.Admissible.{Compare}
 use Rattle.word_orders.specs.Orders.{Order, IsBelow}
 use Rattle.word_orders.proofs.Orders.{order_from_laws, below_less}
-use Rattle.cofactor_trace.specs.Traces.{traced_sum}
 use Rattle.rule_reduce.specs.declared.rule.Rule.{Rule}
 use Rattle.rule_reduce.specs.declared.state.State.{State}
 use Rattle.rule_reduce.specs.RuleLists.{polynomials_of}
@@ -30,8 +28,8 @@ use Rattle.confluence.proofs.Spans.{Span, span_same, span_add, span_scale}
 use Rattle.confluence.proofs.Outside.{span_word}
 use Rattle.confluence.proofs.Resolve.{below}
 use Rattle.confluence.proofs.SumRows.{Numbered, listed, combination_span, combination_from}
-use Rattle.confluence.proofs.FreeRows.{Free, free_rows, in_ideal}
-use Rattle.confluence.proofs.TracedRows.{IsAsked, numbered_rows}
+use Rattle.confluence.proofs.FreeRows.{Free, in_ideal, ideal_span}
+use Rattle.confluence.proofs.ReducedSpans.{reduced_part, numbered_span}
 use Rattle.confluence.proofs.ResolvedOf.{comes_from_below, below_from_comes}
 use Rattle.confluence.proofs.ReducibleLaws.{ordered, below_span, reducible_below, reducible_in_ideal}
 
@@ -60,23 +58,19 @@ module _ (letters : ℕ) (compare : Compare) (rules : List Rule) (p : List Term)
       go w (inr some) = let top = greatest (record { word = w; occurs = some }) in absurd (not_reducible rules s.rest reduced.irreducible top.word top.occurs top.reducible)
 
   -- the rest is the multiple of the polynomial less the rows
-  pub rest_is : (w : Word) → coefficient_of s.rest w ≡ s.multiplier *ℤ coefficient_of p w +ℤ negsuc 0 *ℤ coefficient_of (traced_sum [] (polynomials_of rules) s.rows) w
-  rest_is w = less (coefficient_of s.rest w) (s.multiplier *ℤ coefficient_of p w) (coefficient_of (traced_sum [] (polynomials_of rules) s.rows) w) (sym (coefficient_of-multiple s.multiplier p w) ∙ reduced.balances.at w ∙ coefficient_of-append s.rest (traced_sum [] (polynomials_of rules) s.rows) w)
-    where
-      less : (r m t : ℤ) → m ≡ r +ℤ t → r ≡ m +ℤ negsuc 0 *ℤ t
-      less r m t e = omega (arith, ints, e)
-
   pub rest_span : (Asked : Word → Type 0) → ((w : Word) → IsAtMostOf letters compare p w → Asked w) → Span (Numbered (polynomials_of rules) Asked) (coefficient_of p) → Span (Numbered (polynomials_of rules) Asked) (coefficient_of s.rest)
   rest_span Asked asked sp =
       let Base = Numbered (polynomials_of rules) Asked in
-      let rows = numbered_rows (polynomials_of rules) Asked (length rules) s.rows reduced.by_rules
-      (All-weaker (IsAsked (polynomials_of rules) (IsAtMostOf letters compare p)) (IsAsked (polynomials_of rules) Asked) (λ row each w some. asked (row.left ++ (w ++ row.right)) (each w some)) s.rows reduced.words.rows) in
-      span_same Base _ (coefficient_of s.rest) (span_add Base _ _ (span_scale Base s.multiplier (coefficient_of p) sp) (span_scale Base (negsuc 0) (coefficient_of (traced_sum [] (polynomials_of rules) s.rows)) rows)) rest_is
+      span_same Base _ (coefficient_of s.rest) (span_add Base _ _ (span_scale Base s.multiplier (coefficient_of p) sp) (span_scale Base (negsuc 0) (reduced_part p s) (numbered_span letters compare rules p s reduced Asked asked)))
+      (λ w. less (s.multiplier *ℤ coefficient_of p w) (coefficient_of s.rest w))
+    where
+      less : (m r : ℤ) → r ≡ m +ℤ negsuc 0 *ℤ (m +ℤ neg_ℤ r)
+      less m r = omega (arith, ints)
 
 pub rests_of_ideal_are_zero : RestsOfIdealAreZero
 rests_of_ideal_are_zero letters compare rank rules p s laws are resolved inside over reduced =
     let polys = polynomials_of rules in
-    let rest_inside = in_ideal polys s.rest (rest_span letters compare rules p s reduced Free (λ w most. tt) (combination_span polys Free inside.rows inside.denominator p inside.combination (free_rows polys inside.rows))) in
+    let rest_inside = in_ideal polys s.rest (rest_span letters compare rules p s reduced Free (λ w most. tt) (ideal_span polys p inside)) in
     zero_rest letters compare rules p s reduced (reducible_in_ideal letters compare rank rules s.rest laws are resolved rest_inside (record { at = λ w some. of_word w (reduced.words.rest w some) }))
   where
     of_word : (w : Word) → IsAtMostOf letters compare p w → IsOver letters w

@@ -2,6 +2,7 @@
 ghost use Rattle.confluence.specs.Places.{PlacesOfOneWord, RowsApartDiffer};
 ghost use Rattle.confluence.specs.Reductions.{NormalFormsAreReduced};
 ghost use Rattle.confluence.specs.Reducible.{ReducibleBelow, ReducibleInIdeal, RestsBelowAreZero, RestsOfIdealAreZero};
+ghost use Rattle.confluence.specs.ZeroRests.{ZeroRestsAreInside, ZeroRestsAreResolved, IdealsStayInside};
 
 /// Two leading words in one word are of one rule at one place, or apart, or they come from an ambiguity.
 pub fn places_of_one_word()
@@ -38,4 +39,20 @@ pub fn rests_below_are_zero()
 /// Where the rules are resolved, each element of their rational ideal is reduced to zero.
 pub fn rests_of_ideal_are_zero()
     ensures { RestsOfIdealAreZero }
+{}
+
+/// What is reduced to zero is in the rational ideal of the rules.
+pub fn zero_rests_are_inside()
+    ensures { ZeroRestsAreInside }
+{}
+
+/// An ambiguity whose S-polynomial is reduced to zero is resolved.
+pub fn zero_rests_are_resolved()
+    ensures { ZeroRestsAreResolved }
+{}
+
+/// Where each generator is in the rational ideal of some polynomials, so is all that is in the rational ideal of the
+/// generators.
+pub fn ideals_stay_inside()
+    ensures { IdealsStayInside }
 {}

@@ -4,6 +4,7 @@
 mod laws;
 
 pub use laws::{
-    normal_forms_are_reduced, places_of_one_word, reducible_below, reducible_in_ideal,
-    rests_below_are_zero, rests_of_ideal_are_zero, rows_apart_differ,
+    ideals_stay_inside, normal_forms_are_reduced, places_of_one_word, reducible_below,
+    reducible_in_ideal, rests_below_are_zero, rests_of_ideal_are_zero, rows_apart_differ,
+    zero_rests_are_inside, zero_rests_are_resolved,
 };

@@ -1,0 +1,68 @@
+-- What was reduced, as rows over the rules.
+use Rattle.std.proofs.Common.{◌≡◌, ◌⊎◌, inl, inr, ℕ, ℤ, ◌+ℤ◌, ◌*ℤ◌, neg_ℤ, List, [], ◌++◌, length, sym, ◌∙◌, subst, arith}
+use Rattle.std.specs.List.{All}
+use Rattle.std.proofs.lemmas.Int.{ints}
+use Rattle.std.proofs.lemmas.List.Elements.{All-weaker}
+use Rattle.definitions.specs.Poly.{Word, Term, coefficient_of}
+use Rattle.definitions.proofs.Coefficients.{coefficient_of-append, coefficient_of-multiple}
+use Rattle.word_orders.specs.Admissible.{Compare, IsAdmissible}
+use Rattle.word_orders.specs.Orders.{Order, IsBelow}
+use Rattle.word_orders.proofs.Orders.{order_from_laws, below_less}
+use Rattle.cofactor_trace.specs.Traces.{traced_sum}
+use Rattle.rule_reduce.specs.declared.rule.Rule.{Rule}
+use Rattle.rule_reduce.specs.declared.state.State.{State}
+use Rattle.rule_reduce.specs.RuleLists.{IsRule, polynomials_of}
+use Rattle.rule_reduce.specs.KeptWords.{IsAtMostOf}
+use Rattle.confluence.specs.Reductions.{IsZero, IsReduced}
+use Rattle.confluence.proofs.Led.{IsAtMostOf as IsAtMostIn}
+use Rattle.confluence.proofs.LedRules.{leds_of, polys_of-leds, leds_are}
+use Rattle.confluence.proofs.Meets.{Allowed}
+use Rattle.confluence.proofs.Outside.{AnyRow}
+use Rattle.confluence.proofs.ReducibleLaws.{ordered}
+use Rattle.confluence.proofs.RuleRows.{Bounded, at_most_bounded, from_rest}
+use Rattle.confluence.proofs.Spans.{Coefs, Span, nothing, span_same}
+use Rattle.confluence.proofs.SumRows.{Numbered, span_from_numbered}
+use Rattle.confluence.proofs.TracedRows.{IsAsked, numbered_rows}
+
+-- the multiplier times the polynomial, less the rest
+abbrev pub reduced_part : List Term → State → Coefs
+reduced_part p s w = s.multiplier *ℤ coefficient_of p w +ℤ neg_ℤ (coefficient_of s.rest w)
+
+-- it is the sum of the rows
+pub numbered_span : (letters : ℕ) (compare : Compare) (rules : List Rule) (p : List Term) (s : State) → IsReduced letters compare rules p s
+    → (Asked : Word → Type 0) → ((w : Word) → IsAtMostOf letters compare p w → Asked w) → Span (Numbered (polynomials_of rules) Asked) (reduced_part p s)
+numbered_span letters compare rules p s reduced Asked asked =
+    span_same (Numbered (polynomials_of rules) Asked) (coefficient_of (traced_sum [] (polynomials_of rules) s.rows)) (reduced_part p s)
+    (numbered_rows (polynomials_of rules) Asked (length rules) s.rows reduced.by_rules
+    (All-weaker (IsAsked (polynomials_of rules) (IsAtMostOf letters compare p)) (IsAsked (polynomials_of rules) Asked) (λ row each w some. asked (row.left ++ (w ++ row.right)) (each w some)) s.rows reduced.words.rows))
+    (λ w. moved (s.multiplier *ℤ coefficient_of p w) (coefficient_of s.rest w) (coefficient_of (traced_sum [] (polynomials_of rules) s.rows) w)
+    (sym (coefficient_of-multiple s.multiplier p w) ∙ reduced.balances.at w ∙ coefficient_of-append s.rest (traced_sum [] (polynomials_of rules) s.rows) w))
+  where
+    moved : (x a t : ℤ) → x ≡ a +ℤ t → x +ℤ neg_ℤ a ≡ t
+    moved x a t e = omega (arith, ints, e)
+
+module _ (letters : ℕ) (compare : Compare) (rank : List ℕ → List ℕ) (laws : IsAdmissible letters compare rank) where
+  abbrev order : Order
+  order = order_from_laws letters compare rank laws
+
+  -- words that are at most a word of a polynomial
+  pub at_most_in : (p : List Term) (w : Word) → IsAtMostOf letters compare p w → IsAtMostIn order p w
+  at_most_in p w most = record { word = most.word; occurs = most.occurs; at_most = go most.at_most }
+    where
+      go : (w ≡ most.word) ⊎ IsBelow letters compare w most.word → (w ≡ most.word) ⊎ order.Less w most.word
+      go (inl same) = inl same
+      go (inr less) = inr (below_less letters compare rank laws w most.word less)
+
+  module _ (rules : List Rule) (are : All (IsRule letters compare) rules) (q : Allowed order) (p : List Term) (s : State) (reduced : IsReduced letters compare rules p s) (bounded : Bounded order q p) where
+    pub reduced_span : Span (AnyRow order (ordered letters compare rank laws rules are) q) (reduced_part p s)
+    reduced_span =
+        span_from_numbered order (leds_of rules) (leds_are letters compare rank laws rules are) q Asked (λ u asked. asked) (reduced_part p s)
+        (subst (λ ps. Span (Numbered ps Asked) (reduced_part p s)) (sym (polys_of-leds rules))
+        (numbered_span letters compare rules p s reduced Asked (λ u most. at_most_bounded order q p bounded u (at_most_in p u most))))
+      where
+        Asked : Word → Type 0
+        Asked u = order.Range u × q.May u
+
+    -- where the rest is zero
+    pub zero_rest_span : IsZero s.rest → Span (AnyRow order (ordered letters compare rank laws rules are) q) (coefficient_of p)
+    zero_rest_span none = from_rest (AnyRow order (ordered letters compare rank laws rules are) q) p s.rest s.multiplier reduced.positive reduced_span (nothing (coefficient_of s.rest) none.at)
