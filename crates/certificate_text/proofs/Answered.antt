@@ -7,9 +7,9 @@ use Rattle.cofactor_trace.specs.declared.Certificate.{Certificate}
 use Rattle.cofactor_trace.specs.declared.evidence.Evidence.{Evidence}
 use Rattle.cofactor_trace.specs.declared.evidence.Evidence.TheVariants as block
 use Rattle.cofactor_trace.specs.declared.evidence.Format.{Format}
-use Rattle.certificate_text.specs.declared.fault.CertFault.{CertFault}
-use Rattle.certificate_text.specs.declared.fault.CertFault.TheVariants as cert_fault
-use Rattle.certificate_text.specs.Fault.{ReadsText, Explains, ExplainsBy}
+use Rattle.block_text.specs.declared.fault.CertFault.{CertFault}
+use Rattle.block_text.specs.declared.fault.CertFault.TheVariants as cert_fault
+use Rattle.block_text.specs.Fault.{ReadsText, Explains, ExplainsBy}
 use Rattle.certificate_text.specs.Reading.{evidence_of}
 use Rattle.certificate_text.specs.Evidence.{IsEvidence, IsFirstFault, IsCheckable, IsCheckableEvidence}
 use Rattle.certificate_text.proofs.Checkable.{are_checkable}

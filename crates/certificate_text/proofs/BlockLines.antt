@@ -18,18 +18,19 @@ use Rattle.certificate_text.specs.declared.place.Opened.{Opened}
 use Rattle.certificate_text.specs.declared.place.Place.{Place}
 use Rattle.certificate_text.specs.declared.place.Place.TheVariants as at
 use Rattle.certificate_text.specs.declared.place.Progress.{Progress}
-use Rattle.certificate_text.specs.Fault.{◌>>=◌}
-use Rattle.certificate_text.specs.Letters.{is_number, number_within}
-use Rattle.certificate_text.specs.Lines.{RowTokens, number_limit, integer_limit, row_limit, block_limit, begins, integer_of, lemma_scale_of, is_value, is_row, row_values, over_lemma, no_rows}
+use Rattle.block_text.specs.Fault.{◌>>=◌}
+use Rattle.block_text.specs.Letters.{is_number, number_within}
+use Rattle.block_text.specs.Lines.{number_limit, integer_limit, block_limit, begins, integer_of, Line, claim_line, end_line}
+use Rattle.certificate_text.specs.Lines.{RowTokens, row_limit, lemma_scale_of, is_value, is_row, row_values, over_lemma, no_rows}
 use Rattle.certificate_text.specs.Blocks as tokens
-use Rattle.certificate_text.specs.Blocks.{Line, ScaledTokens, LemmaTokens, PlainTokens, LemmasTokens, OtherTokens, BlockTokens, row_line, head_line, claim_line, denominator_line, lemma_lines, goal_lines, end_line, block_lines, IsPlainRow, IsScaled, AreLemmas, IsPlainBlock, IsLemmasBlock, IsOtherBlock, IsBlock}
+use Rattle.certificate_text.specs.Blocks.{ScaledTokens, LemmaTokens, PlainTokens, LemmasTokens, BlockTokens, row_line, denominator_line, lemma_lines, goal_lines, block_lines, IsPlainRow, IsScaled, AreLemmas, IsPlainBlock, IsLemmasBlock}
 use Rattle.certificate_text.specs.Bounds as bound
-use Rattle.certificate_text.specs.Bounds.{Bound, flaw_of, IsWithin, HasNames, HasNumbers, HasShortWords, HasNumbersOutside, rows_in, lemmas_in, letters_in, KeepsOne, IsLemmaRowOf, IsScaledOf, IsPlainOf, IsLemmasOf, IsCertificateOf, AreCertificatesOf, certificates_in}
+use Rattle.certificate_text.specs.Bounds.{Bound, flaw_of, IsWithin, HasNumbersOutside, rows_in, IsScaledOf, AreCertificatesOf}
 use Rattle.certificate_text.specs.Reading.{progress, step, begun, headed, scaled, closed_by, certificate_of, opened_of, lemma_of}
-use Rattle.certificate_text.proofs.NumberedLines.{run, run-append}
+use Rattle.block_text.proofs.NumberedLines.{run, run-append}
 use Rattle.certificate_text.proofs.LineSteps.{step_at}
-use Rattle.certificate_text.proofs.Meets.{Meets, reads, then_meets, meets-weaker, asked_meets, unless_meets}
-use Rattle.certificate_text.proofs.Zips.{AllZip-weaker}
+use Rattle.block_text.proofs.Meets.{Meets, reads, then_meets, meets-weaker, asked_meets, unless_meets}
+use Rattle.block_text.proofs.Zips.{AllZip-weaker}
 use Rattle.certificate_text.proofs.RowLines.{row_line_read, lemma_row_line_read}
 use Rattle.certificate_text.proofs.RowValues.{RowsFit, with_rows, with_rows-append, rows_fit_parts, TakesRow, IsMadeOf, rows_meet}
 

@@ -7,12 +7,13 @@ use Rattle.std.proofs.lemmas.List.Elements.{All-push, All-nil, filter-append}
 use Rattle.quiver.specs.Declarations.{Declaration}
 use Rattle.cofactor_trace.specs.declared.evidence.Evidence.{Evidence}
 use Rattle.cofactor_trace.specs.declared.evidence.Format.{Format}
-use Rattle.certificate_text.specs.Lines.{row_limit, block_limit}
-use Rattle.certificate_text.specs.Blocks.{Line, OtherTokens, BlockTokens, plain, lemmas, other, end_line, block_lines, IsOtherBlock, IsBlock}
+use Rattle.block_text.specs.Lines.{block_limit, Line, OtherTokens, end_line}
+use Rattle.certificate_text.specs.Lines.{row_limit}
+use Rattle.certificate_text.specs.Blocks.{BlockTokens, plain, lemmas, other, block_lines, IsOtherBlock, IsBlock}
 use Rattle.certificate_text.specs.Bounds.{Bound, names, numbers, words, rows, letters, blocks, rows_in, lemmas_in, is_certificate, certificates_in, IsCertificateOf, AreCertificatesOf, bounds, HasNumbersOutside, KeepsOne, Keeps}
 use Rattle.certificate_text.specs.Evidence.{GoesOn}
 use Rattle.certificate_text.proofs.RowTrees.{RowsWithin, no_rows_keep}
-use Rattle.certificate_text.proofs.Zips.{zip_push, zip_length}
+use Rattle.block_text.proofs.Zips.{zip_push, zip_length}
 
 -- ---- one block
 

@@ -22,20 +22,21 @@ use Rattle.cofactor_trace.specs.declared.evidence.Evidence.TheVariants as block
 use Rattle.cofactor_trace.specs.declared.evidence.Format.{Format}
 use Rattle.cofactor_trace.specs.declared.evidence.Format.TheVariants as format
 use Rattle.cofactor_trace.specs.Limits.{row_limit}
-use Rattle.certificate_text.specs.declared.fault.Flaw.TheVariants.{BadLine, UnknownName, NumberTooLarge}
+use Rattle.block_text.specs.declared.fault.Flaw.TheVariants.{BadLine, UnknownName, NumberTooLarge}
 use Rattle.certificate_text.specs.declared.place.Size.{Size}
 use Rattle.certificate_text.specs.declared.place.Opened.{Opened}
 use Rattle.certificate_text.specs.declared.place.Place.{Place}
 use Rattle.certificate_text.specs.declared.place.Place.TheVariants as at
 use Rattle.certificate_text.specs.declared.place.Progress.{Progress}
-use Rattle.certificate_text.specs.Fault.{asked}
-use Rattle.certificate_text.specs.Letters.{spelled_by, letter_named, starred, letter_of, number_within, is_negative, digits_of, signed, integer_within}
-use Rattle.certificate_text.specs.Lines.{RowTokens, begins, is_plain_head, is_lemmas_head, is_other_head, is_end, number_behind, claim_of, integer_of, denominator_of, lemma_digits, lemma_scale_of, goal_digits, goal_scale_of, integer_limit, number_limit, row_limit, word_limit, letter_limit, block_limit, row_tokens, word_of, row_values, row_of, over_lemma, lemma_row_of, grown}
+use Rattle.block_text.specs.Fault.{asked}
+use Rattle.block_text.specs.Letters.{spelled_by, letter_named, starred, letter_of, number_within, is_negative, digits_of, signed, integer_within, word_of}
+use Rattle.block_text.specs.Lines.{begins, is_end, number_behind, claim_of, integer_of, integer_limit, number_limit, block_limit}
+use Rattle.certificate_text.specs.Lines.{RowTokens, is_plain_head, is_lemmas_head, is_other_head, denominator_of, lemma_digits, lemma_scale_of, goal_digits, goal_scale_of, row_limit, word_limit, letter_limit, row_tokens, row_values, row_of, over_lemma, lemma_row_of, grown}
 use Rattle.certificate_text.specs.Reading.{progress, headed, lemmas_headed, outside, certificate_of, begun, in_rows, lemma_of, closed_by, resized, scaled, lemma_row, in_lemma, lemma_certificate_of, in_goal, step, evidence_of}
 use Rattle.certificate_text.specs.Evidence.{IsRowOver, IsLemmaRowOver, IsCheckable, IsCheckableLemma, IsCheckableByLemmas, IsCheckableEvidence}
-use Rattle.certificate_text.proofs.Results.{bind_ok, asked_ok, by_test, else_ok, ok_has, option_map_some}
+use Rattle.block_text.proofs.Results.{bind_ok, asked_ok, by_test, else_ok, ok_has, option_map_some}
 use Rattle.certificate_text.proofs.Kept.{kept_by_text}
-use Rattle.certificate_text.proofs.Stars.{star_in_range}
+use Rattle.block_text.proofs.Stars.{star_in_range}
 
 -- ---- numbers
 

@@ -13,17 +13,18 @@ use Rattle.cofactor_trace.specs.declared.evidence.Format.{Format}
 use Rattle.certificate_text.specs.declared.place.Place.{Place}
 use Rattle.certificate_text.specs.declared.place.Place.TheVariants as at
 use Rattle.certificate_text.specs.declared.place.Progress.{Progress}
-use Rattle.certificate_text.specs.Fault.{Fault, ◌>>=◌, in_line, truncated}
-use Rattle.certificate_text.specs.Tokens.{tokens_of}
+use Rattle.block_text.specs.Fault.{Fault, ◌>>=◌, in_line, truncated}
+use Rattle.block_text.specs.Tokens.{tokens_of}
 use Rattle.certificate_text.specs.Blocks.{BlockTokens, plain, lemmas, other}
 use Rattle.certificate_text.specs.Bounds.{Bound, KeepsOne, bounds, Keeps, IsCertificateOf, certificates_in}
-use Rattle.certificate_text.specs.Evidence.{content, HasCertificates, IsEvidence, GoesOn, IsFlawed, misfit, passes, IsFirstFlaw, IsCutOff, HasNoCertificate, IsFirstFault}
+use Rattle.block_text.specs.Lines.{content}
+use Rattle.certificate_text.specs.Evidence.{HasCertificates, IsEvidence, IsCutOff, IsFirstFault}
 use Rattle.certificate_text.specs.EachText.{EachTextIsRead, EvidenceIsUnique, FirstFaultIsUnique, EvidenceHasNoFault}
 use Rattle.certificate_text.specs.Evidence as first
 use Rattle.certificate_text.specs.Reading.{progress, read_lines, beginning, ended, blocks_of, one_or_more, evidence_of}
 use Rattle.certificate_text.proofs.BlockTrees.{other_keeps}
 use Rattle.certificate_text.proofs.Standing.{goes_on, stands_outside}
-use Rattle.certificate_text.proofs.NumberedLines.{run, IsRefused, AreLinesRead, all, some, lines_are_read, all_are_read, refused_at}
+use Rattle.block_text.proofs.NumberedLines.{run, IsRefused, AreLinesRead, all, some, lines_are_read, all_are_read, refused_at}
 use Rattle.certificate_text.proofs.ReadLines.{stands, is_flawed, is_refused, goes_read, blocks_read, is_cut_off}
 use Rattle.certificate_text.proofs.LineSteps.{step_at, read_by}
 use Rattle.certificate_text.proofs.FirstBounds.{kept_at}

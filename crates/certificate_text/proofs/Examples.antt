@@ -9,10 +9,11 @@ use Rattle.cofactor_trace.specs.declared.evidence.CertFrom.TheVariants as over
 use Rattle.cofactor_trace.specs.declared.evidence.Evidence.{Evidence}
 use Rattle.cofactor_trace.specs.declared.evidence.Evidence.TheVariants as block
 use Rattle.cofactor_trace.specs.declared.evidence.Format.TheVariants.{Plain, Lemmas}
-use Rattle.certificate_text.specs.Fault.{Fault, truncated, no_block}
-use Rattle.certificate_text.specs.Tokens.{tokens_of}
+use Rattle.block_text.specs.Fault.{Fault, truncated, no_block}
+use Rattle.block_text.specs.Tokens.{tokens_of}
 use Rattle.certificate_text.specs.Reading.{evidence_of}
-use Rattle.certificate_text.specs.Written.{word_text, poly_text, certificate_text}
+use Rattle.block_text.specs.Written.{word_text, poly_text}
+use Rattle.certificate_text.specs.Written.{certificate_text}
 
 abbrev declared : List Declaration
 declared = object (codes "U") ∷ object (codes "V") ∷ arrow (codes "a") 0 1 false ∷ []

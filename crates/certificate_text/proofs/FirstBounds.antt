@@ -4,14 +4,14 @@ use Rattle.std.specs.List.{All}
 use Rattle.std.proofs.lemmas.List.Elements.{All-nil}
 use Rattle.quiver.specs.Declarations.{Declaration}
 use Rattle.cofactor_trace.specs.declared.evidence.Format.{Format}
-use Rattle.certificate_text.specs.declared.fault.Flaw.{Flaw}
-use Rattle.certificate_text.specs.declared.fault.Flaw.TheVariants as flaw
+use Rattle.block_text.specs.declared.fault.Flaw.{Flaw}
+use Rattle.block_text.specs.declared.fault.Flaw.TheVariants as flaw
 use Rattle.certificate_text.specs.Lines.{word_limit, row_limit, letter_limit}
-use Rattle.certificate_text.specs.Blocks.{Line}
+use Rattle.block_text.specs.Lines.{Line}
 use Rattle.certificate_text.specs.Bounds.{Bound, names, numbers, words, rows, letters, blocks, flaw_of, before, bounds, Keeps}
 use Rattle.certificate_text.specs.Evidence.{GoesOn, IsFlawed, misfit, passes}
-use Rattle.certificate_text.proofs.BoundOrder as order
-use Rattle.certificate_text.proofs.BoundOrder.{IsPlaced}
+use Rattle.block_text.proofs.BoundOrder as order
+use Rattle.block_text.proofs.BoundOrder.{IsPlaced}
 
 -- ---- flaws
 

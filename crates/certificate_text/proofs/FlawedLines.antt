@@ -11,22 +11,24 @@ use Rattle.cofactor_trace.specs.declared.evidence.LemmaRow.{LemmaRow}
 use Rattle.cofactor_trace.specs.declared.evidence.Evidence.{Evidence}
 use Rattle.cofactor_trace.specs.declared.evidence.Format.{Format}
 use Rattle.cofactor_trace.specs.declared.evidence.Format.TheVariants.{Plain, Lemmas}
-use Rattle.certificate_text.specs.declared.fault.Flaw.{Flaw}
-use Rattle.certificate_text.specs.declared.fault.Flaw.TheVariants.{BadLine, NumberTooLarge, TooMany}
+use Rattle.block_text.specs.declared.fault.Flaw.{Flaw}
+use Rattle.block_text.specs.declared.fault.Flaw.TheVariants.{BadLine, NumberTooLarge, TooMany}
 use Rattle.certificate_text.specs.declared.place.Size.{Size}
 use Rattle.certificate_text.specs.declared.place.Opened.{Opened}
 use Rattle.certificate_text.specs.declared.place.Place.{Place}
 use Rattle.certificate_text.specs.declared.place.Place.TheVariants as at
-use Rattle.certificate_text.specs.Fault.{asked}
-use Rattle.certificate_text.specs.Letters.{is_number, number_within}
-use Rattle.certificate_text.specs.Lines.{RowTokens, block_limit, begins, is_plain_head, is_lemmas_head, is_other_head, is_end, number_limit, integer_limit, row_limit, is_value, is_row, integer_of, number_behind, claim_of, denominator_of, lemma_digits, lemma_scale_of, goal_digits, goal_scale_of, row_tokens, row_values, row_of, over_lemma, lemma_row_of, grown}
-use Rattle.certificate_text.specs.Blocks.{Line, ScaledTokens, PlainTokens, BlockTokens, plain, lemmas, row_line, head_line, IsPlainRow, IsPlainBlock}
+use Rattle.block_text.specs.Fault.{asked}
+use Rattle.block_text.specs.Letters.{is_number, number_within}
+use Rattle.block_text.specs.Lines.{block_limit, begins, is_end, number_limit, integer_limit, integer_of, number_behind, claim_of, Line}
+use Rattle.certificate_text.specs.Lines.{RowTokens, is_plain_head, is_lemmas_head, is_other_head, row_limit, is_value, is_row, denominator_of, lemma_digits, lemma_scale_of, goal_digits, goal_scale_of, row_tokens, row_values, row_of, over_lemma, lemma_row_of, grown}
+use Rattle.certificate_text.specs.Blocks.{ScaledTokens, PlainTokens, BlockTokens, plain, lemmas, row_line, head_line, IsPlainRow, IsPlainBlock}
 use Rattle.certificate_text.specs.Bounds.{Bound, names, numbers, words, rows, blocks, rows_in, HasNames, IsScaledOf, flaw_of, before, KeepsOne}
 use Rattle.certificate_text.specs.Reading.{headed, lemmas_headed, outside, in_rows, closed_by, scaled, lemma_row, in_lemma, in_goal, step}
-use Rattle.certificate_text.proofs.Results.{by_test, bind_ok, bind_err, asked_ok, asked_err}
-use Rattle.certificate_text.proofs.LineTrees.{plain_head_is, lemmas_head_is, number_is, lemma_is, goal_is, plain_row_is, lemma_row_is}
+use Rattle.block_text.proofs.Results.{by_test, bind_ok, bind_err, asked_ok, asked_err}
+use Rattle.block_text.proofs.LineTrees.{number_is}
+use Rattle.certificate_text.proofs.LineTrees.{plain_head_is, lemmas_head_is, lemma_is, goal_is, plain_row_is, lemma_row_is}
 use Rattle.certificate_text.proofs.RowTrees.{RowsWithin, Pass, passes_unvalued, passes_full, integer_is_within}
-use Rattle.certificate_text.proofs.Zips.{zip_length}
+use Rattle.block_text.proofs.Zips.{zip_length}
 use Rattle.certificate_text.proofs.BlockTrees.{keeps_one, Begin}
 use Rattle.certificate_text.proofs.OpenBlocks.{IsRead, lemmas_read, IsOpen, begin_headed, IsHeaded, IsClaimed, IsInPlain, IsOpened, IsInside, Lead, lead_lines, IsNext, rows_of, lemmas_front, rows_behind, rows_are, rows_outside, rows_keep_one, begin_rows, begin_plain, begin_claimed, begin_shortest, shortest, plain_outside}
 use Rattle.certificate_text.proofs.NextLines.{lemma_finished, plain_push, plain_front-push, scaled_push, lead_lines-push}

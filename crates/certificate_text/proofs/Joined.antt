@@ -9,13 +9,13 @@ use Rattle.std.proofs.lemmas.Str.{IsUtf8-append, IsUtf8-from_is_utf8, is_utf8-fr
 use Rattle.quiver.specs.Declarations.{Declaration}
 use Rattle.cofactor_trace.specs.declared.evidence.Evidence.{Evidence}
 use Rattle.cofactor_trace.specs.declared.evidence.Format.{Format}
-use Rattle.certificate_text.specs.Lines.{block_limit}
-use Rattle.certificate_text.specs.Blocks.{Line, BlockTokens, block_lines, IsBlock, AreBlocks}
+use Rattle.block_text.specs.Lines.{block_limit, Line, content}
+use Rattle.certificate_text.specs.Blocks.{BlockTokens, block_lines, IsBlock, AreBlocks}
 use Rattle.certificate_text.specs.Bounds.{Bound, is_certificate, certificates_in, IsCertificateOf, AreCertificatesOf, KeepsOne, Keeps}
-use Rattle.certificate_text.specs.Evidence.{content, HasCertificates}
-use Rattle.certificate_text.specs.Back.{is_whole}
-use Rattle.certificate_text.proofs.ContentBack.{IsTextOf, content-append}
-use Rattle.certificate_text.proofs.LinesBack.{lines_append}
+use Rattle.certificate_text.specs.Evidence.{HasCertificates}
+use Rattle.block_text.specs.Back.{is_whole}
+use Rattle.block_text.proofs.ContentBack.{IsTextOf, content-append}
+use Rattle.block_text.proofs.LinesBack.{lines_append}
 
 -- ---- lists beside lists
 

@@ -8,10 +8,10 @@ use Rattle.cofactor_trace.specs.declared.evidence.Format.{Format}
 use Rattle.certificate_text.specs.declared.place.Place.{Place}
 use Rattle.certificate_text.specs.declared.place.Place.TheVariants as at
 use Rattle.certificate_text.specs.declared.place.Progress.{Progress}
-use Rattle.certificate_text.specs.Fault.{at_line, not_utf8}
-use Rattle.certificate_text.specs.Tokens.{tokens_of, is_skipped}
+use Rattle.block_text.specs.Fault.{at_line, not_utf8}
+use Rattle.block_text.specs.Tokens.{tokens_of, is_skipped}
 use Rattle.certificate_text.specs.Reading.{step, read_tokens, read_lines, beginning, ended, blocks_of, one_or_more, evidence_of}
-use Rattle.certificate_text.proofs.Results.{bind_ok, at_line_ok, by_test, ok_has}
+use Rattle.block_text.proofs.Results.{bind_ok, at_line_ok, by_test, ok_has}
 
 ended_is : (done : List Evidence) (place : Place) (es : List Evidence) → ended done place ≡ Ok es → done ≡ es
 ended_is done at.Outside es read = cc

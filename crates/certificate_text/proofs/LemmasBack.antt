@@ -13,22 +13,25 @@ use Rattle.cofactor_trace.specs.declared.evidence.LemmaCertificate.{LemmaCertifi
 use Rattle.cofactor_trace.specs.declared.evidence.Evidence.TheVariants as evidence
 use Rattle.cofactor_trace.specs.declared.evidence.Format.TheVariants as format
 use Rattle.cofactor_trace.specs.Lemmas.{row_count, letter_count as letters_of_lemmas}
-use Rattle.certificate_text.specs.Tokens.{tokens_of, is_skipped}
-use Rattle.certificate_text.specs.Letters.{number_within}
-use Rattle.certificate_text.specs.Lines.{RowTokens, number_limit, integer_limit}
-use Rattle.certificate_text.specs.Blocks.{Line, ScaledTokens, LemmaTokens, LemmasTokens, lemmas, row_line, lemma_lines, goal_lines, end_line, block_lines, IsScaled, AreLemmas, IsLemmasBlock}
+use Rattle.block_text.specs.Tokens.{tokens_of, is_skipped}
+use Rattle.block_text.specs.Letters.{number_within}
+use Rattle.block_text.specs.Lines.{number_limit, integer_limit, Line, end_line}
+use Rattle.certificate_text.specs.Lines.{RowTokens}
+use Rattle.certificate_text.specs.Blocks.{ScaledTokens, LemmaTokens, LemmasTokens, lemmas, row_line, lemma_lines, goal_lines, block_lines, IsScaled, AreLemmas, IsLemmasBlock}
 use Rattle.certificate_text.specs.Bounds.{Bound, names, numbers, words, rows, letters, blocks, letters_in, IsWithin, IsLemmaRowOf, IsScaledOf, IsLemmasOf, KeepsOne}
 use Rattle.certificate_text.specs.Evidence.{HasCertificates}
 use Rattle.certificate_text.specs.Written.{lemma_row_text, scaled_text, lemma_text, lemmas_text, goal_text, lemma_certificate_text}
-use Rattle.certificate_text.specs.Back.{IsWritableLemmaRow, IsWritableLemma, IsWritableByLemmas, is_named, is_whole, IsLineText}
+use Rattle.block_text.specs.Back.{is_named, is_whole, IsLineText}
+use Rattle.certificate_text.specs.Back.{IsWritableLemmaRow, IsWritableLemma, IsWritableByLemmas}
 use Rattle.certificate_text.proofs.BlocksBack.{lemma_row_written}
-use Rattle.certificate_text.proofs.ContentBack.{IsTextOf, no_text, text-append}
+use Rattle.block_text.proofs.ContentBack.{IsTextOf, no_text, text-append}
 use Rattle.certificate_text.proofs.Joined.{text_of_block}
-use Rattle.certificate_text.proofs.NumbersBack.{decimal_text, decimal_number, decimal_within}
+use Rattle.block_text.proofs.NumbersBack.{decimal_text, decimal_number, decimal_within}
 use Rattle.certificate_text.proofs.RowsBack.{row_tree, IsWrittenRow, lemma_row_says, AreRows, rows-append, letters_in-append, zip_by, trees, rows_are_text, rows_are_rows, letters_in-trees}
-use Rattle.certificate_text.proofs.SizesBack.{IsSize, size_written, number_is_value, text_of_number, opening_is_text, end_is_text}
-use Rattle.certificate_text.proofs.TextsBack.{line_text-append, literal, plain_name}
-use Rattle.certificate_text.proofs.TokensBack.{token_read, name_token}
+use Rattle.block_text.proofs.NumberLines.{text_of_number, end_is_text}
+use Rattle.certificate_text.proofs.SizesBack.{IsSize, size_written, number_is_value, opening_is_text}
+use Rattle.block_text.proofs.TextsBack.{line_text-append, literal, plain_name}
+use Rattle.block_text.proofs.TokensBack.{token_read, name_token}
 
 -- ---- a lemma, or the goal
 

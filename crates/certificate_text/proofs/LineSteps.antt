@@ -2,14 +2,14 @@
 use Rattle.std.proofs.Common.{◌≡◌, ◌+◌, ℕ, List, [], ◌∷◌, Result, refl}
 use Rattle.quiver.specs.Declarations.{Declaration}
 use Rattle.cofactor_trace.specs.declared.evidence.Format.{Format}
-use Rattle.certificate_text.specs.declared.fault.Flaw.{Flaw}
+use Rattle.block_text.specs.declared.fault.Flaw.{Flaw}
 use Rattle.certificate_text.specs.declared.place.Progress.{Progress}
-use Rattle.certificate_text.specs.Fault.{at_line}
-use Rattle.certificate_text.specs.Tokens.{tokens_of}
-use Rattle.certificate_text.specs.Blocks.{Line}
+use Rattle.block_text.specs.Fault.{at_line}
+use Rattle.block_text.specs.Tokens.{tokens_of}
+use Rattle.block_text.specs.Lines.{Line}
 use Rattle.certificate_text.specs.Reading.{step, read_tokens, read_lines}
-use Rattle.certificate_text.proofs.Results.{bind_same}
-use Rattle.certificate_text.proofs.NumberedLines.{lines_by}
+use Rattle.block_text.proofs.Results.{bind_same}
+use Rattle.block_text.proofs.NumberedLines.{lines_by}
 
 abbrev pub step_at : Format → List Declaration → Progress → Line → Result Progress Flaw
 step_at most ds p line = step most ds p.blocks p.place line

@@ -7,12 +7,13 @@ use Rattle.cofactor_trace.specs.declared.evidence.Lemma.{Lemma}
 use Rattle.cofactor_trace.specs.declared.evidence.LemmaCertificate.{LemmaCertificate}
 use Rattle.cofactor_trace.specs.declared.evidence.Evidence.{Evidence}
 use Rattle.cofactor_trace.specs.declared.evidence.Evidence.TheVariants as evidence
-use Rattle.certificate_text.specs.declared.fault.Flaw.{Flaw}
-use Rattle.certificate_text.specs.Lines.{RowTokens, number_limit, row_values, over_lemma, integer_of}
-use Rattle.certificate_text.specs.Letters.{number_within}
+use Rattle.block_text.specs.declared.fault.Flaw.{Flaw}
+use Rattle.block_text.specs.Lines.{number_limit, integer_of}
+use Rattle.certificate_text.specs.Lines.{RowTokens, row_values, over_lemma}
+use Rattle.block_text.specs.Letters.{number_within}
 use Rattle.certificate_text.specs.Blocks.{ScaledTokens, PlainTokens, LemmasTokens, BlockTokens, plain, lemmas, other}
 use Rattle.certificate_text.specs.Bounds.{IsLemmaRowOf, IsScaledOf, IsPlainOf, IsLemmasOf, IsCertificateOf, AreCertificatesOf, certificates_in}
-use Rattle.certificate_text.proofs.Zips.{AllZip-unique}
+use Rattle.block_text.proofs.Zips.{AllZip-unique}
 
 same_value : {A : Type 0} (o : Option A) (x y : A) → o ≡ Some x → o ≡ Some y → x ≡ y
 same_value o x y left right = cc

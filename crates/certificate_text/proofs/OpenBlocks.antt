@@ -14,9 +14,10 @@ use Rattle.certificate_text.specs.declared.place.Size.{Size}
 use Rattle.certificate_text.specs.declared.place.Opened.{Opened}
 use Rattle.certificate_text.specs.declared.place.Place.{Place}
 use Rattle.certificate_text.specs.declared.place.Place.TheVariants as at
-use Rattle.certificate_text.specs.Letters.{is_number, number_within}
-use Rattle.certificate_text.specs.Lines.{RowTokens, number_limit, integer_limit, row_limit, is_value, is_row, integer_of}
-use Rattle.certificate_text.specs.Blocks.{Line, ScaledTokens, LemmaTokens, PlainTokens, LemmasTokens, OtherTokens, BlockTokens, plain, lemmas, row_line, head_line, claim_line, denominator_line, lemma_lines, goal_lines, end_line, block_lines, IsPlainRow, IsScaled, AreLemmas, IsPlainBlock, IsLemmasBlock, IsOtherBlock, IsBlock}
+use Rattle.block_text.specs.Letters.{is_number, number_within}
+use Rattle.block_text.specs.Lines.{number_limit, integer_limit, integer_of, Line, OtherTokens, claim_line, end_line}
+use Rattle.certificate_text.specs.Lines.{RowTokens, row_limit, is_value, is_row}
+use Rattle.certificate_text.specs.Blocks.{ScaledTokens, LemmaTokens, PlainTokens, LemmasTokens, BlockTokens, plain, lemmas, row_line, head_line, denominator_line, lemma_lines, goal_lines, block_lines, IsPlainRow, IsScaled, AreLemmas, IsPlainBlock, IsLemmasBlock, IsOtherBlock, IsBlock}
 use Rattle.certificate_text.specs.Bounds.{Bound, rows_in, lemmas_in, IsWithin, IsScaledOf, IsPlainOf, IsLemmasOf, HasNumbersOutside, KeepsOne}
 use Rattle.certificate_text.specs.Reading.{lemma_certificate_of}
 use Rattle.certificate_text.proofs.RowTrees.{RowsWithin, HaveSize, no_rows_keep, integer_is_within}

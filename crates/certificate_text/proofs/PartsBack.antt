@@ -11,19 +11,20 @@ use Rattle.std.proofs.lemmas.Slice.Eq.{bytes_eq-Decides}
 use Rattle.std.proofs.lemmas.Str.{IsUtf8-append}
 use Rattle.quiver.specs.Declarations.{Declaration, IsDeclared}
 use Rattle.cofactor_trace.specs.declared.evidence.Format.{Format}
-use Rattle.certificate_text.specs.Lines.{block_limit}
-use Rattle.certificate_text.specs.Tokens.{is_line_end, goes_on, begins_comment, tokens_of, is_skipped}
-use Rattle.certificate_text.specs.Lines.{is, is_other_head, is_end}
-use Rattle.certificate_text.specs.Blocks.{Line, OtherTokens, other as other_block, block_lines}
+use Rattle.block_text.specs.Lines.{block_limit, is, is_end, Line, OtherTokens, content}
+use Rattle.block_text.specs.Tokens.{is_line_end, goes_on, begins_comment, tokens_of, is_skipped}
+use Rattle.certificate_text.specs.Lines.{is_other_head}
+use Rattle.certificate_text.specs.Blocks.{other as other_block, block_lines}
 use Rattle.certificate_text.specs.Bounds.{Bound, names, numbers, words, rows, letters, blocks, KeepsOne}
-use Rattle.certificate_text.specs.Evidence.{content, HasCertificates}
-use Rattle.certificate_text.specs.Back.{is_whole, is_named, is_inside, IsLineText, Part, certificate, comment, other, ended, part_text, IsBodyLine, IsPart, evidence_in, ArePartsReadBack}
-use Rattle.certificate_text.proofs.ContentBack.{IsTextOf, no_text, content-append, text-append, text_of_line, text_of_tokens, whole_line}
-use Rattle.certificate_text.proofs.Cuts.{part_is_line}
+use Rattle.certificate_text.specs.Evidence.{HasCertificates}
+use Rattle.block_text.specs.Back.{is_whole, is_named, is_inside, IsLineText, ended, IsBodyLine}
+use Rattle.certificate_text.specs.Back.{Part, certificate, comment, other, part_text, IsPart, evidence_in, ArePartsReadBack}
+use Rattle.block_text.proofs.ContentBack.{IsTextOf, no_text, content-append, text-append, text_of_line, text_of_tokens, whole_line}
+use Rattle.block_text.proofs.Cuts.{part_is_line}
 use Rattle.certificate_text.proofs.Joined.{joined, text_without_blocks, text_of_block}
 use Rattle.certificate_text.proofs.ReadBack.{evidence_written}
-use Rattle.certificate_text.proofs.SizesBack.{end_is_text}
-use Rattle.certificate_text.proofs.TextsBack.{ascii}
+use Rattle.block_text.proofs.NumberLines.{end_is_text}
+use Rattle.block_text.proofs.TextsBack.{ascii}
 
 -- ---- comments
 

@@ -8,14 +8,15 @@ use Rattle.cofactor_trace.specs.declared.evidence.Evidence.{Evidence}
 use Rattle.cofactor_trace.specs.declared.evidence.Evidence.TheVariants as block
 use Rattle.cofactor_trace.specs.declared.evidence.Format.{Format}
 use Rattle.cofactor_trace.specs.declared.evidence.Format.TheVariants as format
-use Rattle.certificate_text.specs.declared.fault.Flaw.TheVariants.{BadLine}
+use Rattle.block_text.specs.declared.fault.Flaw.TheVariants.{BadLine}
 use Rattle.certificate_text.specs.declared.place.Size.{Size}
 use Rattle.certificate_text.specs.declared.place.Place.{Place}
 use Rattle.certificate_text.specs.declared.place.Place.TheVariants as at
 use Rattle.certificate_text.specs.declared.place.Progress.{Progress}
-use Rattle.certificate_text.specs.Lines.{is_plain_head, is_lemmas_head, is_other_head, is_end, claim_of, denominator_of, row_of, grown, block_limit}
+use Rattle.block_text.specs.Lines.{is_end, claim_of, block_limit}
+use Rattle.certificate_text.specs.Lines.{is_plain_head, is_lemmas_head, is_other_head, denominator_of, row_of, grown}
 use Rattle.certificate_text.specs.Reading.{IsPlain, progress, headed, outside, certificate_of, begun, in_rows, step, evidence_of}
-use Rattle.certificate_text.proofs.Results.{bind_ok, by_test, else_ok, ok_has}
+use Rattle.block_text.proofs.Results.{bind_ok, by_test, else_ok, ok_has}
 use Rattle.certificate_text.proofs.Kept.{kept_by_text}
 
 -- the line stands in no certificate of format 2

@@ -9,9 +9,10 @@ use Rattle.cofactor_trace.specs.declared.evidence.Format.{Format}
 use Rattle.cofactor_trace.specs.declared.evidence.Format.TheVariants as format
 use Rattle.certificate_text.specs.Evidence.{HasCertificates}
 use Rattle.certificate_text.specs.Written.{evidence_text}
-use Rattle.certificate_text.specs.Back.{IsOfFormat, IsWritableEvidence, is_whole, is_named, IsReadBack}
+use Rattle.block_text.specs.Back.{is_whole, is_named}
+use Rattle.certificate_text.specs.Back.{IsOfFormat, IsWritableEvidence, IsReadBack}
 use Rattle.certificate_text.proofs.BlocksBack.{rows_written, plain_has, plain_is_whole}
-use Rattle.certificate_text.proofs.ContentBack.{whole_append}
+use Rattle.block_text.proofs.ContentBack.{whole_append}
 use Rattle.certificate_text.proofs.Joined.{joined}
 use Rattle.certificate_text.proofs.LemmasBack.{lemmas_written, lemmas_have, lemmas_are_whole}
 

@@ -3,26 +3,27 @@ use Rattle.std.proofs.Common.{◌≡◌, ◌⊎◌, List, [], ◌∷◌, ◌++�
 use Rattle.quiver.specs.Declarations.{Declaration}
 use Rattle.cofactor_trace.specs.declared.evidence.Evidence.{Evidence}
 use Rattle.cofactor_trace.specs.declared.evidence.Format.{Format}
-use Rattle.certificate_text.specs.declared.fault.Flaw.{Flaw}
-use Rattle.certificate_text.specs.declared.fault.Flaw.TheVariants.{BadLine}
+use Rattle.block_text.specs.declared.fault.Flaw.{Flaw}
+use Rattle.block_text.specs.declared.fault.Flaw.TheVariants.{BadLine}
 use Rattle.certificate_text.specs.declared.place.Place.{Place}
 use Rattle.certificate_text.specs.declared.place.Place.TheVariants as at
 use Rattle.certificate_text.specs.declared.place.Progress.{Progress}
-use Rattle.certificate_text.specs.Fault.{Fault, truncated}
-use Rattle.certificate_text.specs.Blocks.{Line, BlockTokens, AreBlocks}
+use Rattle.block_text.specs.Fault.{Fault, truncated}
+use Rattle.block_text.specs.Lines.{Line}
+use Rattle.certificate_text.specs.Blocks.{BlockTokens, AreBlocks}
 use Rattle.certificate_text.specs.Bounds.{Bound, flaw_of, before, bounds, Keeps, AreCertificatesOf}
 use Rattle.certificate_text.specs.Evidence.{GoesOn, IsFlawed, misfit, passes, IsCutOff}
 use Rattle.certificate_text.specs.Reading.{progress, step, beginning, ended}
-use Rattle.certificate_text.proofs.Results.{bind_ok}
+use Rattle.block_text.proofs.Results.{bind_ok}
 use Rattle.certificate_text.proofs.Standing.{Stands, stands_first, stands_next, goes_on, goes_on_before}
-use Rattle.certificate_text.proofs.Meets as meets
-use Rattle.certificate_text.proofs.Meets.{Meets}
+use Rattle.block_text.proofs.Meets as meets
+use Rattle.block_text.proofs.Meets.{Meets}
 use Rattle.certificate_text.proofs.BlockLines.{AreRead}
 use Rattle.certificate_text.proofs.TextLines.{text_meets}
-use Rattle.certificate_text.proofs.NumberedLines.{run, run-append, run_past}
+use Rattle.block_text.proofs.NumberedLines.{run, run-append, run_past}
 use Rattle.certificate_text.proofs.LineSteps.{step_at}
 use Rattle.certificate_text.proofs.OneCertificate.{same_certificates}
-use Rattle.certificate_text.proofs.BoundOrder.{last_kept}
+use Rattle.block_text.proofs.BoundOrder.{last_kept}
 use Rattle.certificate_text.proofs.FirstBounds.{same_bound, no_misfit, kept_at, goes_on_within_none, goes_on_up_to, one_flaw}
 
 stands_behind : (most : Format) (ds : List Declaration) (p q : Progress) (front ls : List Line) → Stands most ds front p → run (step_at most ds) p ls ≡ Ok q → Stands most ds (front ++ ls) q

@@ -9,15 +9,16 @@ use Rattle.cofactor_trace.specs.declared.evidence.Lemma.{Lemma}
 use Rattle.cofactor_trace.specs.declared.evidence.LemmaRow.{LemmaRow}
 use Rattle.cofactor_trace.specs.declared.evidence.Evidence.{Evidence}
 use Rattle.cofactor_trace.specs.declared.evidence.Evidence.TheVariants as block
-use Rattle.certificate_text.specs.declared.fault.Flaw.{Flaw}
-use Rattle.certificate_text.specs.declared.fault.LineFault.{LineFault}
-use Rattle.certificate_text.specs.declared.fault.LineFault.TheVariants as line_fault
+use Rattle.block_text.specs.declared.fault.Flaw.{Flaw}
+use Rattle.block_text.specs.declared.fault.LineFault.{LineFault}
+use Rattle.block_text.specs.declared.fault.LineFault.TheVariants as line_fault
 use Rattle.certificate_text.specs.declared.place.Size.{Size}
 use Rattle.certificate_text.specs.declared.place.Opened.{Opened}
 use Rattle.certificate_text.specs.declared.place.Place.TheVariants as at
 use Rattle.certificate_text.specs.declared.place.Progress.{Progress}
-use Rattle.certificate_text.specs.Fault.{◌>>=◌, ExplainsLine, Reads, IsLineMemory}
-use Rattle.certificate_text.specs.Lines.{is_end, row_of, lemma_row_of, grown}
+use Rattle.block_text.specs.Fault.{◌>>=◌, ExplainsLine, Reads, IsLineMemory}
+use Rattle.block_text.specs.Lines.{is_end}
+use Rattle.certificate_text.specs.Lines.{row_of, lemma_row_of, grown}
 use Rattle.certificate_text.specs.Reading.{progress, certificate_of, lemma_of, resized, in_rows, lemma_row}
 
 -- ---- what a `?` returns

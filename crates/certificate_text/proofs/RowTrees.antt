@@ -9,14 +9,15 @@ use Rattle.std.proofs.lemmas.List.Elements.{All-nil, All-push, All-from_recursio
 use Rattle.std.proofs.lemmas.Option.{option_and_then_some}
 use Rattle.quiver.specs.Declarations.{Declaration}
 use Rattle.cofactor_trace.specs.declared.CertRow.{CertRow}
-use Rattle.certificate_text.specs.declared.fault.Flaw.{Flaw}
-use Rattle.certificate_text.specs.declared.fault.Flaw.TheVariants.{UnknownName, NumberTooLarge, TooMany}
+use Rattle.block_text.specs.declared.fault.Flaw.{Flaw}
+use Rattle.block_text.specs.declared.fault.Flaw.TheVariants.{UnknownName, NumberTooLarge, TooMany}
 use Rattle.certificate_text.specs.declared.place.Size.{Size}
-use Rattle.certificate_text.specs.Fault.{asked}
-use Rattle.certificate_text.specs.Letters.{letter_of, number_within, integer_within}
-use Rattle.certificate_text.specs.Lines.{RowTokens, number_limit, integer_limit, word_limit, row_limit, letter_limit, word_of, row_values, integer_of, no_rows, grown}
+use Rattle.block_text.specs.Fault.{asked}
+use Rattle.block_text.specs.Letters.{letter_of, number_within, integer_within, word_of}
+use Rattle.block_text.specs.Lines.{number_limit, integer_limit, integer_of}
+use Rattle.certificate_text.specs.Lines.{RowTokens, word_limit, row_limit, letter_limit, row_values, no_rows, grown}
 use Rattle.certificate_text.specs.Bounds.{Bound, names, numbers, words, rows, letters, blocks, letters_in, IsWithin, HasNames, HasNumbers, HasShortWords, flaw_of, before}
-use Rattle.certificate_text.proofs.Results.{by_test, bind_ok, bind_err, asked_ok, asked_err, option_map_some}
+use Rattle.block_text.proofs.Results.{by_test, bind_ok, bind_err, asked_ok, asked_err, option_map_some}
 
 -- ---- values
 

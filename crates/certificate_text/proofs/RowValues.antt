@@ -11,17 +11,18 @@ use Rattle.cofactor_trace.specs.declared.evidence.Format.{Format}
 use Rattle.certificate_text.specs.declared.place.Size.{Size}
 use Rattle.certificate_text.specs.declared.place.Place.{Place}
 use Rattle.certificate_text.specs.declared.place.Progress.{Progress}
-use Rattle.certificate_text.specs.Fault.{◌>>=◌}
-use Rattle.certificate_text.specs.Letters.{number_within, integer_within}
-use Rattle.certificate_text.specs.Lines.{RowTokens, number_limit, integer_limit, word_limit, row_limit, letter_limit, word_of, row_values, grown}
+use Rattle.block_text.specs.Fault.{◌>>=◌}
+use Rattle.block_text.specs.Letters.{number_within, integer_within, word_of}
+use Rattle.block_text.specs.Lines.{number_limit, integer_limit}
+use Rattle.certificate_text.specs.Lines.{RowTokens, word_limit, row_limit, letter_limit, row_values, grown}
 use Rattle.certificate_text.specs.Blocks.{row_line}
 use Rattle.certificate_text.specs.Bounds as bound
 use Rattle.certificate_text.specs.Bounds.{Bound, flaw_of, HasNames, HasNumbers, HasShortWords, letters_in}
 use Rattle.certificate_text.specs.Reading.{progress, step}
 use Rattle.certificate_text.proofs.RowTrees.{word_of-length}
-use Rattle.certificate_text.proofs.NumberedLines.{run}
+use Rattle.block_text.proofs.NumberedLines.{run}
 use Rattle.certificate_text.proofs.LineSteps.{step_at}
-use Rattle.certificate_text.proofs.Meets.{Meets, reads, then_meets, meets-weaker, asked_meets, unless_meets}
+use Rattle.block_text.proofs.Meets.{Meets, reads, then_meets, meets-weaker, asked_meets, unless_meets}
 
 -- ---- the values of one row
 

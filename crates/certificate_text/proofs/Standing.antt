@@ -10,21 +10,23 @@ use Rattle.cofactor_trace.specs.declared.evidence.Evidence.{Evidence}
 use Rattle.cofactor_trace.specs.declared.evidence.Evidence.TheVariants as certificate
 use Rattle.cofactor_trace.specs.declared.evidence.Format.{Format}
 use Rattle.cofactor_trace.specs.declared.evidence.Format.TheVariants.{Plain, Lemmas}
-use Rattle.certificate_text.specs.declared.fault.Flaw.{Flaw}
-use Rattle.certificate_text.specs.declared.fault.Flaw.TheVariants.{BadLine}
+use Rattle.block_text.specs.declared.fault.Flaw.{Flaw}
+use Rattle.block_text.specs.declared.fault.Flaw.TheVariants.{BadLine}
 use Rattle.certificate_text.specs.declared.place.Size.{Size}
 use Rattle.certificate_text.specs.declared.place.Opened.{Opened}
 use Rattle.certificate_text.specs.declared.place.Place.{Place}
 use Rattle.certificate_text.specs.declared.place.Place.TheVariants as at
 use Rattle.certificate_text.specs.declared.place.Progress.{Progress}
-use Rattle.certificate_text.specs.Fault.{Fault, truncated}
-use Rattle.certificate_text.specs.Lines.{block_limit, begins, is_plain_head, is_lemmas_head, is_other_head, is_end, claim_of, denominator_of, lemma_scale_of, goal_scale_of, row_of, grown}
-use Rattle.certificate_text.specs.Blocks.{Line, PlainTokens, OtherTokens, BlockTokens, plain, lemmas, other, head_line, end_line, block_lines, AreBlocks}
+use Rattle.block_text.specs.Fault.{Fault, truncated}
+use Rattle.block_text.specs.Lines.{block_limit, begins, is_end, claim_of, Line, OtherTokens, end_line}
+use Rattle.certificate_text.specs.Lines.{is_plain_head, is_lemmas_head, is_other_head, denominator_of, lemma_scale_of, goal_scale_of, row_of, grown}
+use Rattle.certificate_text.specs.Blocks.{PlainTokens, BlockTokens, plain, lemmas, other, head_line, block_lines, AreBlocks}
 use Rattle.certificate_text.specs.Bounds.{Bound, names, numbers, words, rows, letters, blocks, flaw_of, before, bounds, AreCertificatesOf, KeepsOne, Keeps}
 use Rattle.certificate_text.specs.Evidence.{GoesOn}
 use Rattle.certificate_text.specs.Reading.{progress, headed, lemmas_headed, outside, certificate_of, begun, in_rows, lemma_of, closed_by, scaled, lemma_row, in_lemma, lemma_certificate_of, in_goal, step, ended, beginning}
-use Rattle.certificate_text.proofs.Results.{by_test, bind_ok}
-use Rattle.certificate_text.proofs.LineTrees.{plain_head_is, lemmas_head_is, end_is}
+use Rattle.block_text.proofs.Results.{by_test, bind_ok}
+use Rattle.block_text.proofs.LineTrees.{end_is}
+use Rattle.certificate_text.proofs.LineTrees.{plain_head_is, lemmas_head_is}
 use Rattle.certificate_text.proofs.BlockTrees.{Begin, AreWhole, none_whole, lines_push, goes_on_with, goes_on_with_other, goes_on_behind, whole_certificate, whole_other}
 use Rattle.certificate_text.proofs.OpenBlocks.{IsRead, lemmas_read, IsOpened, IsInside, IsOpen, everywhere, begin_headed, begin_claimed, begin_in_plain, begin_opened, begin_inside, shortest, shortest_keeps, unit_within, plain_keeps, inside_keeps, goal_block, goal_is_block, goal_value, goal_ends}
 use Rattle.certificate_text.proofs.FlawedLines.{IsStopped, misfit, passes, stops_at}

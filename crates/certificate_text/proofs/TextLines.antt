@@ -9,17 +9,18 @@ use Rattle.cofactor_trace.specs.declared.evidence.Evidence.{Evidence}
 use Rattle.cofactor_trace.specs.declared.evidence.Format.{Format}
 use Rattle.cofactor_trace.specs.declared.evidence.Format.TheVariants.{Plain, Lemmas}
 use Rattle.certificate_text.specs.declared.place.Place.TheVariants as at
-use Rattle.certificate_text.specs.Lines.{block_limit, is, is_other_head, is_end, is_pair, no_rows}
+use Rattle.block_text.specs.Lines.{block_limit, is, is_end, is_pair, Line, OtherTokens, end_line}
+use Rattle.certificate_text.specs.Lines.{is_other_head, no_rows}
 use Rattle.certificate_text.specs.Blocks as tokens
-use Rattle.certificate_text.specs.Blocks.{Line, OtherTokens, BlockTokens, end_line, block_lines, IsOtherBlock, IsBlock, AreBlocks}
+use Rattle.certificate_text.specs.Blocks.{BlockTokens, block_lines, IsOtherBlock, IsBlock, AreBlocks}
 use Rattle.certificate_text.specs.Bounds as bound
-use Rattle.certificate_text.specs.Bounds.{Bound, flaw_of, rows_in, KeepsOne, Keeps, is_certificate, certificates_in, IsCertificateOf, AreCertificatesOf}
+use Rattle.certificate_text.specs.Bounds.{Bound, flaw_of, rows_in, KeepsOne, Keeps, is_certificate, certificates_in, IsCertificateOf}
 use Rattle.certificate_text.specs.Reading.{progress, beginning}
-use Rattle.certificate_text.proofs.Zips.{AllZip-append}
-use Rattle.certificate_text.proofs.Meets.{Meets, reads, then_meets, meets-weaker}
-use Rattle.certificate_text.proofs.NumberedLines.{run, run-append}
+use Rattle.block_text.proofs.Zips.{AllZip-append}
+use Rattle.block_text.proofs.Meets.{Meets, reads, then_meets, meets-weaker}
+use Rattle.block_text.proofs.NumberedLines.{run, run-append}
 use Rattle.certificate_text.proofs.LineSteps.{step_at}
-use Rattle.certificate_text.proofs.RowLines.{other_word}
+use Rattle.block_text.proofs.LineTrees.{other_word}
 use Rattle.certificate_text.proofs.RowValues.{RowsFit}
 use Rattle.certificate_text.proofs.BlockLines.{AreRead, plain_meets, lemmas_meets}
 

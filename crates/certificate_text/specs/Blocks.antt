@@ -3,12 +3,9 @@ use Rattle.std.specs.Prelude.{◌≡◌, ⊤, ℕ, ◌+◌, ◌∷◌, ◌++◌,
 use Rattle.std.specs.List.{All, flat_map}
 use Rattle.cofactor_trace.specs.declared.evidence.Format.{Format}
 use Rattle.cofactor_trace.specs.declared.evidence.Format.TheVariants.{Plain, Lemmas}
-use Rattle.certificate_text.specs.Letters.{is_number}
-use Rattle.certificate_text.specs.Lines.{RowTokens, is_value, is_row, is_other_head, is_end}
-
--- a line is the list of its tokens
-abbrev pub Line : Type 0
-Line = List (List ℕ)
+use Rattle.block_text.specs.Letters.{is_number}
+use Rattle.block_text.specs.Lines.{Line, OtherTokens, claim_line, end_line, is_end}
+use Rattle.certificate_text.specs.Lines.{RowTokens, is_value, is_row, is_other_head}
 
 -- ---- the trees
 
@@ -35,11 +32,6 @@ pub record LemmasTokens : Type 0 where
   pub lemmas : List LemmaTokens
   pub goal : ScaledTokens
 
--- a block of another kind, without the line that ends it
-pub record OtherTokens : Type 0 where
-  pub head : Line
-  pub lines : List Line
-
 pub data BlockTokens : Type 0 where
   plain : PlainTokens → BlockTokens
   lemmas : LemmasTokens → BlockTokens
@@ -60,10 +52,6 @@ abbrev pub head_line : Format → Line
 head_line Plain = codes "certificate" ∷ codes "1" ∷ []
 head_line Lemmas = codes "certificate" ∷ codes "2" ∷ []
 
--- claim N
-abbrev pub claim_line : List ℕ → Line
-claim_line n = codes "claim" ∷ n ∷ []
-
 -- denominator D
 abbrev pub denominator_line : List ℕ → Line
 denominator_line d = codes "denominator" ∷ d ∷ []
@@ -75,10 +63,6 @@ lemma_lines l = (codes "lemma" ∷ l.number ∷ codes "scale" ∷ l.scaled.scale
 -- goal scale S, and its rows
 abbrev pub goal_lines : ScaledTokens → List Line
 goal_lines g = (codes "goal" ∷ codes "scale" ∷ g.scale ∷ []) ∷ map row_line g.rows
-
--- end
-abbrev pub end_line : Line
-end_line = codes "end" ∷ []
 
 abbrev pub block_lines : BlockTokens → List Line
 block_lines (plain b) = head_line Plain ∷ claim_line b.claim ∷ denominator_line b.denominator ∷ (map row_line b.rows ++ end_line ∷ [])

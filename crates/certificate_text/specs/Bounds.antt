@@ -9,10 +9,11 @@ use Rattle.cofactor_trace.specs.declared.evidence.Lemma.{Lemma}
 use Rattle.cofactor_trace.specs.declared.evidence.LemmaCertificate.{LemmaCertificate}
 use Rattle.cofactor_trace.specs.declared.evidence.Evidence.{Evidence}
 use Rattle.cofactor_trace.specs.declared.evidence.Evidence.TheVariants as evidence
-use Rattle.certificate_text.specs.declared.fault.Flaw.{Flaw}
-use Rattle.certificate_text.specs.declared.fault.Flaw.TheVariants.{UnknownName, NumberTooLarge, TooMany}
-use Rattle.certificate_text.specs.Letters.{number_within, integer_within}
-use Rattle.certificate_text.specs.Lines.{RowTokens, number_limit, integer_limit, word_limit, row_limit, letter_limit, block_limit, word_of, integer_of, row_values, over_lemma}
+use Rattle.block_text.specs.declared.fault.Flaw.{Flaw}
+use Rattle.block_text.specs.declared.fault.Flaw.TheVariants.{UnknownName, NumberTooLarge, TooMany}
+use Rattle.block_text.specs.Letters.{number_within, integer_within, word_of}
+use Rattle.block_text.specs.Lines.{number_limit, integer_limit, block_limit, integer_of}
+use Rattle.certificate_text.specs.Lines.{RowTokens, word_limit, row_limit, letter_limit, row_values, over_lemma}
 use Rattle.certificate_text.specs.Blocks.{ScaledTokens, LemmaTokens, PlainTokens, LemmasTokens, BlockTokens, plain, lemmas, other}
 
 -- ---- what a block has

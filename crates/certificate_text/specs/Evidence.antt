@@ -1,5 +1,5 @@
 -- Evidence text: the certificates that bytes are, or the first thing that is wrong with them.
-use Rattle.std.specs.Prelude.{◌≡◌, ◌<◌, ◌≤◌, ℕ, ◌+◌, not, true, false, List, [], ◌∷◌, ◌++◌, length, map, filter}
+use Rattle.std.specs.Prelude.{◌≡◌, ◌<◌, ◌≤◌, ℕ, ◌+◌, true, false, List, [], ◌∷◌, ◌++◌, length}
 use Rattle.std.specs.List.{All, flat_map}
 use Rattle.std.specs.Str.{is_utf8}
 use Rattle.std.specs.Str.Lines.{lines}
@@ -14,19 +14,14 @@ use Rattle.cofactor_trace.specs.declared.evidence.LemmaCertificate.{LemmaCertifi
 use Rattle.cofactor_trace.specs.declared.evidence.Evidence.{Evidence}
 use Rattle.cofactor_trace.specs.declared.evidence.Evidence.TheVariants as block
 use Rattle.cofactor_trace.specs.declared.evidence.Format.{Format}
-use Rattle.certificate_text.specs.declared.fault.Flaw.{Flaw}
-use Rattle.certificate_text.specs.declared.fault.Flaw.TheVariants.{BadLine}
-use Rattle.certificate_text.specs.Fault.{Fault, in_line, not_utf8, truncated, no_block}
-use Rattle.certificate_text.specs.Tokens.{tokens_of, is_skipped}
-use Rattle.certificate_text.specs.Blocks.{Line, BlockTokens, AreBlocks}
+use Rattle.block_text.specs.declared.fault.Flaw.{Flaw}
+use Rattle.block_text.specs.declared.fault.Flaw.TheVariants.{BadLine}
+use Rattle.block_text.specs.Fault.{Fault, in_line, not_utf8, truncated, no_block}
+use Rattle.block_text.specs.Tokens.{tokens_of, is_skipped}
+use Rattle.block_text.specs.Lines.{Line, content}
+use Rattle.certificate_text.specs.Blocks.{BlockTokens, AreBlocks}
 use Rattle.certificate_text.specs.Bounds.{Bound, flaw_of, before, bounds, Keeps, certificates_in, AreCertificatesOf}
 use Rattle.cofactor_trace.specs.Limits.{row_limit}
-
--- ---- lines
-
--- the tokens of the lines that are neither blank nor comments
-abbrev pub content : List (List ℕ) → List Line
-content ls = filter (λ line. not (is_skipped line)) (map tokens_of ls)
 
 -- ---- evidence
 

@@ -12,16 +12,17 @@ use Rattle.cofactor_trace.specs.declared.evidence.Evidence.{Evidence}
 use Rattle.cofactor_trace.specs.declared.evidence.Evidence.TheVariants as block
 use Rattle.cofactor_trace.specs.declared.evidence.Format.{Format}
 use Rattle.cofactor_trace.specs.declared.evidence.Format.TheVariants.{Plain, Lemmas}
-use Rattle.certificate_text.specs.declared.fault.Flaw.{Flaw}
-use Rattle.certificate_text.specs.declared.fault.Flaw.TheVariants.{BadLine, TooMany}
+use Rattle.block_text.specs.declared.fault.Flaw.{Flaw}
+use Rattle.block_text.specs.declared.fault.Flaw.TheVariants.{BadLine, TooMany}
 use Rattle.certificate_text.specs.declared.place.Size.{Size}
 use Rattle.certificate_text.specs.declared.place.Opened.{Opened}
 use Rattle.certificate_text.specs.declared.place.Place.{Place}
 use Rattle.certificate_text.specs.declared.place.Place.TheVariants as at
 use Rattle.certificate_text.specs.declared.place.Progress.{Progress}
-use Rattle.certificate_text.specs.Fault.{Fault, ◌>>=◌, at_line, not_utf8, truncated, no_block}
-use Rattle.certificate_text.specs.Tokens.{tokens_of, is_skipped}
-use Rattle.certificate_text.specs.Lines.{block_limit, begins, is_plain_head, is_lemmas_head, is_other_head, is_end, claim_of, denominator_of, lemma_scale_of, goal_scale_of, row_of, lemma_row_of, no_rows, grown}
+use Rattle.block_text.specs.Fault.{Fault, ◌>>=◌, at_line, not_utf8, truncated, no_block}
+use Rattle.block_text.specs.Tokens.{tokens_of, is_skipped}
+use Rattle.block_text.specs.Lines.{block_limit, begins, is_end, claim_of}
+use Rattle.certificate_text.specs.Lines.{is_plain_head, is_lemmas_head, is_other_head, denominator_of, lemma_scale_of, goal_scale_of, row_of, lemma_row_of, no_rows, grown}
 
 -- the block is of format 1
 abbrev pub IsPlain : Evidence → Type 0

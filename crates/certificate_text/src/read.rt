@@ -2,20 +2,17 @@
 
 ghost use Rattle.std.specs.Prelude.{◌≡◌, ◌<◌, IfOk, MatchResult, length, map};
 ghost use Rattle.std.specs.List.{All};
-ghost use Rattle.certificate_text.specs.Fault.{ReadsText, Reads, ExplainsBy, at_text};
+ghost use Rattle.block_text.specs.Fault.{ReadsText, Reads, ExplainsBy, at_text};
 ghost use Rattle.certificate_text.specs.Reading.{read_tokens, read_lines, beginning, ended, blocks_of, one_or_more, evidence_of, IsPlain};
 ghost use Rattle.certificate_text.specs.Evidence.{IsEvidence, IsFirstFault, IsCheckable, IsCheckableEvidence};
-ghost use Rattle.certificate_text.specs.Tokens.{tokens_of};
+ghost use Rattle.block_text.specs.Tokens.{tokens_of};
 ghost use Rattle.cofactor_trace.specs.declared.evidence.Evidence.TheVariants as Evidence;
 ghost use Rattle.cofactor_trace.specs.declared.evidence.Format.TheVariants as Format;
-ghost use Rattle.std.specs.Str.{is_utf8};
 ghost use Rattle.std.specs.Str.Lines.{lines};
 
-use crate::CertFault;
-use crate::cut::{first_line, is_skipped};
-use crate::fault::{LineFault, TextFlaw, at_line};
 use crate::place::{Place, Progress};
 use crate::step::step;
+use block_text::{CertFault, LineFault, TextFlaw, at_line, first_line, is_skipped, is_utf8};
 use cofactor_trace::{Certificate, Evidence, Format};
 use lists::Listing;
 use quiver::Quiver;
@@ -61,16 +58,6 @@ fn read_lines(
         rest = behind;
     }
     Ok(progress)
-}
-
-/// Whether the bytes are UTF-8.
-pub fn is_utf8(bytes: &[u8]) -> bool
-    ensures { result ≡ is_utf8 bytes.now }
-{
-    match std::str::from_utf8(bytes) {
-        Ok(_) => true,
-        Err(_) => false,
-    }
 }
 
 // The text may end outside of blocks alone.

@@ -1,27 +1,23 @@
 //! What a line of evidence text comes to at its place.
 
 ghost use Rattle.std.specs.Prelude.{◌≡◌, ◌++◌, ◌∷◌, [], List, Ok, false};
-ghost use Rattle.certificate_text.specs.Fault.{Reads};
-ghost use Rattle.certificate_text.specs.Lines.{is_end};
+ghost use Rattle.block_text.specs.Fault.{Reads};
+ghost use Rattle.block_text.specs.Lines.{is_end};
 ghost use Rattle.certificate_text.specs.Reading.{progress, headed, lemmas_headed, outside, begun, scaled, lemma_row, in_rows, in_lemma, in_goal, step};
-ghost use Rattle.certificate_text.specs.Tokens.{tokens_of};
+ghost use Rattle.block_text.specs.Tokens.{tokens_of};
 ghost use Rattle.certificate_text.specs.declared.place.Place.TheVariants as place;
 ghost use Rattle.cofactor_trace.specs.declared.evidence.Format.TheVariants as format;
 
-use crate::fault::{Flaw, LineFault};
 use crate::line::{
-    begins, claim_of, denominator_of, goal_scale_of, is_end, is_lemmas_head, is_other_head,
-    is_plain_head, lemma_scale_of,
+    denominator_of, goal_scale_of, is_lemmas_head, is_other_head, is_plain_head, lemma_scale_of,
 };
 use crate::place::{Opened, Place, Progress, Size};
 use crate::row::{grown, lemma_row_of, row_of};
+use block_text::{BLOCK_LIMIT, Flaw, LineFault, begins, claim_of, is_end};
 use cofactor_trace::{Certificate, Evidence, Format, Lemma, LemmaCertificate};
 use lists::Listing;
 use quiver::Quiver;
 use std::alloc::Global;
-
-/// The greatest number of blocks of a kind.
-pub const BLOCK_LIMIT: u32 = 100;
 
 const NO_ROWS: Size = Size {
     rows: 0,

@@ -2,9 +2,9 @@
 use Rattle.std.proofs.Common.{ℕ, List, Result, Ok, Err, MatchResult}
 use Rattle.quiver.specs.Declarations.{Declaration}
 use Rattle.matrix_models.specs.declared.model.Model.{Model}
-use Rattle.certificate_text.specs.declared.fault.CertFault.{CertFault}
-use Rattle.certificate_text.specs.declared.fault.CertFault.TheVariants as cert_fault
-use Rattle.certificate_text.specs.Fault.{ReadsText, Explains, ExplainsBy}
+use Rattle.block_text.specs.declared.fault.CertFault.{CertFault}
+use Rattle.block_text.specs.declared.fault.CertFault.TheVariants as cert_fault
+use Rattle.block_text.specs.Fault.{ReadsText, Explains, ExplainsBy}
 use Rattle.model_text.specs.Models.{IsModels, IsFirstFault}
 use Rattle.model_text.specs.Reading.{all_models}
 use Rattle.model_text.proofs.EachText.{models_read, fault_read}

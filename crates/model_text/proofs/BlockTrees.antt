@@ -6,8 +6,7 @@ use Rattle.std.proofs.lemmas.List.{length-append}
 use Rattle.std.proofs.lemmas.List.Elements.{All-push, All-nil, filter-append}
 use Rattle.quiver.specs.Declarations.{Declaration}
 use Rattle.matrix_models.specs.declared.model.Model.{Model}
-use Rattle.certificate_text.specs.Lines.{block_limit}
-use Rattle.certificate_text.specs.Blocks.{Line, OtherTokens, end_line}
+use Rattle.block_text.specs.Lines.{block_limit, Line, OtherTokens, end_line}
 use Rattle.model_text.specs.ModelBlocks.{ModelTokens, BlockTokens, model, other, block_lines, IsModelBlock, IsOtherBlock, IsBlock}
 use Rattle.model_text.specs.ModelBounds.{Bound, names, blocks, is_model, models_in, model_value, values_in, bounds, KeepsOne, Keeps}
 use Rattle.model_text.specs.Models.{GoesOn}

@@ -11,18 +11,18 @@ use Rattle.matrix_models.specs.declared.model.Model.{Model}
 use Rattle.model_text.specs.declared.place.Place.{Place}
 use Rattle.model_text.specs.declared.place.Place.TheVariants as at
 use Rattle.model_text.specs.declared.place.Progress.{Progress}
-use Rattle.certificate_text.specs.Fault.{Fault, ◌>>=◌, in_line, truncated}
-use Rattle.certificate_text.specs.Tokens.{tokens_of}
+use Rattle.block_text.specs.Fault.{Fault, ◌>>=◌, in_line, truncated}
+use Rattle.block_text.specs.Tokens.{tokens_of}
 use Rattle.model_text.specs.ModelBlocks.{BlockTokens, model, other}
 use Rattle.model_text.specs.ModelBounds.{Bound, KeepsOne, bounds, Keeps, models_in, values_in}
-use Rattle.certificate_text.specs.Evidence.{content}
-use Rattle.model_text.specs.Models.{HasModels, IsModels, GoesOn, IsFlawed, misfit, passes, IsFirstFlaw, IsCutOff, HasNoModel, IsFirstFault}
+use Rattle.block_text.specs.Lines.{content}
+use Rattle.model_text.specs.Models.{HasModels, IsModels, IsCutOff, IsFirstFault}
 use Rattle.model_text.specs.EachText.{EachTextIsRead, ModelsAreUnique, FirstFaultIsUnique, ModelsHaveNoFault}
 use Rattle.model_text.specs.Models as first
 use Rattle.model_text.specs.Reading.{progress, read_lines, beginning, ended, models_of, one_or_more, all_models}
 use Rattle.model_text.proofs.BlockTrees.{other_keeps, models_in-length}
 use Rattle.model_text.proofs.Standing.{goes_on, stands_outside}
-use Rattle.certificate_text.proofs.NumberedLines.{run, IsRefused, AreLinesRead, all, some, lines_are_read, all_are_read, refused_at}
+use Rattle.block_text.proofs.NumberedLines.{run, IsRefused, AreLinesRead, all, some, lines_are_read, all_are_read, refused_at}
 use Rattle.model_text.proofs.ReadLines.{stands, is_flawed, is_refused, goes_read, blocks_read, is_cut_off}
 use Rattle.model_text.proofs.LineSteps.{step_at, read_by}
 use Rattle.model_text.proofs.FirstBounds.{kept_at}

@@ -8,10 +8,10 @@ use Rattle.std.proofs.lemmas.List.Elements.{All-nil, All-cons, All-head, All-tai
 use Rattle.quiver.specs.declared.named.Named.{Named}
 use Rattle.quiver.specs.declared.named.Named.TheVariants.{Object, Map}
 use Rattle.quiver.specs.Declarations.{Declaration, named_in, object_count, letter_count}
-use Rattle.certificate_text.specs.declared.fault.Flaw.{Flaw}
-use Rattle.certificate_text.specs.declared.fault.Flaw.TheVariants.{NumberTooLarge}
-use Rattle.certificate_text.specs.Blocks.{Line}
-use Rattle.certificate_text.specs.Fault.{asked}
+use Rattle.block_text.specs.declared.fault.Flaw.{Flaw}
+use Rattle.block_text.specs.declared.fault.Flaw.TheVariants.{NumberTooLarge}
+use Rattle.block_text.specs.Lines.{Line}
+use Rattle.block_text.specs.Fault.{asked}
 use Rattle.model_text.specs.declared.place.Begun.{Begun}
 use Rattle.model_text.specs.declared.place.Entry.{Entry}
 use Rattle.model_text.specs.declared.place.Entry.TheVariants as entry
@@ -19,7 +19,7 @@ use Rattle.model_text.specs.ModelBlocks.{EntryTokens, side, matrix, ModelTokens}
 use Rattle.matrix_models.specs.Limits.{side_limit}
 use Rattle.model_text.specs.ModelBounds.{Bound, names, numbers, sizes, blocks, flaw_of, before, value_of, matrix_value, side_of, matrix_of, model_value, HasName, IsBelow, IsSmall}
 use Rattle.model_text.specs.Reading.{values_below, matrix_made, side_value, map_value, entry_value, side_in, matrix_in, sides_in, maps_in, model_of}
-use Rattle.certificate_text.proofs.Results.{by_test, bind_ok, asked_ok}
+use Rattle.block_text.proofs.Results.{by_test, bind_ok, asked_ok}
 use Rattle.model_text.proofs.Values.{are_values}
 
 -- the line keeps the bound

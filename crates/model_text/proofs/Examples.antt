@@ -5,8 +5,8 @@ use Rattle.std.proofs.lemmas.Fmt.{decimal_digit}
 use Rattle.std.specs.Str.{is_utf8, chars}
 use Rattle.quiver.specs.Declarations.{Declaration, object, arrow}
 use Rattle.matrix_models.specs.declared.model.Model.{Model}
-use Rattle.certificate_text.specs.Fault.{truncated, no_block}
-use Rattle.certificate_text.specs.Tokens.{tokens_of}
+use Rattle.block_text.specs.Fault.{truncated, no_block}
+use Rattle.block_text.specs.Tokens.{tokens_of}
 use Rattle.model_text.specs.ModelBlocks.{side, matrix, entry_line}
 use Rattle.model_text.specs.Reading.{all_models}
 use Rattle.model_text.specs.Written.{model_text}

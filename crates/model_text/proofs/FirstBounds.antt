@@ -3,11 +3,11 @@ use Rattle.std.proofs.Common.{◌≡◌, cond, List, [], ◌∷◌, ◌++◌, re
 use Rattle.std.specs.List.{All}
 use Rattle.std.proofs.lemmas.List.Elements.{All-nil}
 use Rattle.quiver.specs.Declarations.{Declaration}
-use Rattle.certificate_text.specs.declared.fault.Flaw.{Flaw}
-use Rattle.certificate_text.specs.declared.fault.Flaw.TheVariants as flaw
-use Rattle.certificate_text.specs.Blocks.{Line}
-use Rattle.certificate_text.proofs.BoundOrder as order
-use Rattle.certificate_text.proofs.BoundOrder.{IsPlaced}
+use Rattle.block_text.specs.declared.fault.Flaw.{Flaw}
+use Rattle.block_text.specs.declared.fault.Flaw.TheVariants as flaw
+use Rattle.block_text.specs.Lines.{Line}
+use Rattle.block_text.proofs.BoundOrder as order
+use Rattle.block_text.proofs.BoundOrder.{IsPlaced}
 use Rattle.matrix_models.specs.Limits.{side_limit}
 use Rattle.model_text.specs.ModelBounds.{Bound, names, numbers, sizes, blocks, flaw_of, before, bounds, Keeps}
 use Rattle.model_text.specs.Models.{GoesOn, IsFlawed, misfit, passes}

@@ -1,12 +1,12 @@
 -- The models of evidence text are read line after line.
 use Rattle.std.proofs.Common.{◌≡◌, ◌+◌, ℕ, List, [], ◌∷◌, Result, refl}
 use Rattle.quiver.specs.Declarations.{Declaration}
-use Rattle.certificate_text.specs.declared.fault.Flaw.{Flaw}
-use Rattle.certificate_text.specs.Fault.{at_line}
-use Rattle.certificate_text.specs.Tokens.{tokens_of}
-use Rattle.certificate_text.specs.Blocks.{Line}
-use Rattle.certificate_text.proofs.Results.{bind_same}
-use Rattle.certificate_text.proofs.NumberedLines.{lines_by}
+use Rattle.block_text.specs.declared.fault.Flaw.{Flaw}
+use Rattle.block_text.specs.Fault.{at_line}
+use Rattle.block_text.specs.Tokens.{tokens_of}
+use Rattle.block_text.specs.Lines.{Line}
+use Rattle.block_text.proofs.Results.{bind_same}
+use Rattle.block_text.proofs.NumberedLines.{lines_by}
 use Rattle.model_text.specs.declared.place.Progress.{Progress}
 use Rattle.model_text.specs.Reading.{step, read_tokens, read_lines}
 

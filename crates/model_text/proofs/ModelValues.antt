@@ -10,10 +10,10 @@ use Rattle.quiver.specs.declared.named.Named.TheVariants.{Map}
 use Rattle.quiver.specs.Declarations.{Declaration, object_count, letter_count, named_in}
 use Rattle.matrix_models.specs.Matrix.{IsModulus, IsSide, IsMatrix}
 use Rattle.matrix_models.specs.declared.model.Model.{Model}
-use Rattle.certificate_text.specs.declared.fault.CertFault.{CertFault}
-use Rattle.certificate_text.specs.Blocks.{Line}
-use Rattle.certificate_text.specs.Fault.{ReadsText}
-use Rattle.certificate_text.specs.Letters.{is_name, is_number}
+use Rattle.block_text.specs.declared.fault.CertFault.{CertFault}
+use Rattle.block_text.specs.Lines.{Line}
+use Rattle.block_text.specs.Fault.{ReadsText}
+use Rattle.block_text.specs.Letters.{is_name, is_number}
 use Rattle.model_text.specs.ModelBlocks.{EntryTokens, side, matrix, ModelTokens, BlockTokens, model, other, is_row, is_row_of, is_entry, IsModelBlock, IsBlock}
 use Rattle.matrix_models.specs.Limits.{side_limit}
 use Rattle.model_text.specs.ModelBounds.{Bound, names, numbers, sizes, value_of, is_map_named, is_object_named, side_of, matrix_value, matrix_of, model_value, values_in, HasName, IsBelow, IsSmall, KeepsOne, Keeps}

@@ -10,16 +10,16 @@ use Rattle.std.proofs.lemmas.List.FromFn.{fill_by_all}
 use Rattle.quiver.specs.Declarations.{Declaration, object_count, letter_count, object_name, letter_name, IsDeclared}
 use Rattle.matrix_models.specs.Matrix.{Matrix, entry_at, IsSide, IsMatrix}
 use Rattle.matrix_models.specs.declared.model.Model.{Model}
-use Rattle.certificate_text.specs.Blocks.{Line, claim_line, end_line}
-use Rattle.certificate_text.specs.Letters.{is_number}
-use Rattle.certificate_text.specs.Tokens.{tokens_of}
-use Rattle.certificate_text.specs.Back.{is_whole, is_named}
-use Rattle.certificate_text.proofs.ContentBack.{IsTextOf, no_text, text-append, text_of_tokens, whole_append}
-use Rattle.certificate_text.proofs.NameBytes.{name_text}
-use Rattle.certificate_text.proofs.NumbersBack.{decimal_text, decimal_number}
-use Rattle.certificate_text.proofs.SizesBack.{text_of_number, end_is_text}
-use Rattle.certificate_text.proofs.TextsBack.{line_text-append, literal, plain_name}
-use Rattle.certificate_text.proofs.TokensBack.{token_read, name_token}
+use Rattle.block_text.specs.Lines.{Line, claim_line, end_line}
+use Rattle.block_text.specs.Letters.{is_number}
+use Rattle.block_text.specs.Tokens.{tokens_of}
+use Rattle.block_text.specs.Back.{is_whole, is_named}
+use Rattle.block_text.proofs.ContentBack.{IsTextOf, no_text, text-append, text_of_tokens, whole_append}
+use Rattle.block_text.proofs.NameBytes.{name_text}
+use Rattle.block_text.proofs.NumbersBack.{decimal_text, decimal_number}
+use Rattle.block_text.proofs.NumberLines.{text_of_number, end_is_text}
+use Rattle.block_text.proofs.TextsBack.{line_text-append, literal, plain_name}
+use Rattle.block_text.proofs.TokensBack.{token_read, name_token}
 use Rattle.model_text.specs.ModelBlocks.{EntryTokens, side, matrix, ModelTokens, model, head_line, modulus_line, entry_line, block_lines, name_of, is_row, is_row_of, is_entry, IsModelBlock}
 use Rattle.model_text.specs.ModelBounds.{Bound, names, numbers, sizes, blocks, value_of, side_of, matrix_of, model_value, HasName, IsBelow, IsSmall, KeepsOne}
 use Rattle.model_text.specs.Models.{HasModels, HasMap, IsPlaced}

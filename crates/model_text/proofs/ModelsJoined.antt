@@ -7,12 +7,10 @@ use Rattle.std.proofs.lemmas.List.Elements.{All-nil, All-cons, All-append, filte
 use Rattle.std.proofs.lemmas.Str.{IsUtf8-append, IsUtf8-from_is_utf8, is_utf8-from_IsUtf8}
 use Rattle.quiver.specs.Declarations.{Declaration}
 use Rattle.matrix_models.specs.declared.model.Model.{Model}
-use Rattle.certificate_text.specs.Blocks.{Line}
-use Rattle.certificate_text.specs.Evidence.{content}
-use Rattle.certificate_text.specs.Back.{is_whole}
-use Rattle.certificate_text.proofs.ContentBack.{IsTextOf, content-append}
-use Rattle.certificate_text.proofs.LinesBack.{lines_append}
-use Rattle.certificate_text.specs.Lines.{block_limit}
+use Rattle.block_text.specs.Lines.{Line, content, block_limit}
+use Rattle.block_text.specs.Back.{is_whole}
+use Rattle.block_text.proofs.ContentBack.{IsTextOf, content-append}
+use Rattle.block_text.proofs.LinesBack.{lines_append}
 use Rattle.model_text.specs.ModelBlocks.{ModelTokens, BlockTokens, model, other, block_lines, IsModelBlock, IsBlock, AreBlocks}
 use Rattle.model_text.specs.ModelBounds.{Bound, is_model, models_in, model_value, values_in, KeepsOne, Keeps}
 use Rattle.model_text.specs.Models.{HasModels}

@@ -8,15 +8,14 @@ use Rattle.std.proofs.lemmas.List.{map-append}
 use Rattle.std.proofs.lemmas.List.Elements.{All-nil, All-push, All-from_recursion}
 use Rattle.std.proofs.lemmas.Option.{cond_some}
 use Rattle.quiver.specs.Declarations.{Declaration}
-use Rattle.certificate_text.specs.declared.fault.Flaw.{Flaw}
-use Rattle.certificate_text.specs.declared.fault.Flaw.TheVariants.{BadLine, NumberTooLarge}
-use Rattle.certificate_text.specs.Fault.{◌>>=◌, asked}
-use Rattle.certificate_text.specs.Letters.{is_number, number_within}
-use Rattle.certificate_text.specs.Lines.{number_limit, is, number_behind, claim_of}
-use Rattle.certificate_text.specs.Blocks.{Line, OtherTokens, claim_line, end_line}
-use Rattle.certificate_text.proofs.LineTrees.{is_word, number_is}
-use Rattle.certificate_text.proofs.Results.{by_test, bind_ok, bind_err, asked_ok, asked_err, else_ok}
-use Rattle.certificate_text.proofs.Zips.{zip_push}
+use Rattle.block_text.specs.declared.fault.Flaw.{Flaw}
+use Rattle.block_text.specs.declared.fault.Flaw.TheVariants.{BadLine, NumberTooLarge}
+use Rattle.block_text.specs.Fault.{◌>>=◌, asked}
+use Rattle.block_text.specs.Letters.{is_number, number_within}
+use Rattle.block_text.specs.Lines.{number_limit, is, number_behind, claim_of, Line, OtherTokens, claim_line, end_line}
+use Rattle.block_text.proofs.LineTrees.{is_word, number_is}
+use Rattle.block_text.proofs.Results.{by_test, bind_ok, bind_err, asked_ok, asked_err, else_ok}
+use Rattle.block_text.proofs.Zips.{zip_push}
 use Rattle.model_text.specs.declared.place.Begun.{Begun}
 use Rattle.model_text.specs.declared.place.Entry.{Entry}
 use Rattle.model_text.specs.declared.place.Place.{Place}

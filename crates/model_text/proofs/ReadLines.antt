@@ -2,24 +2,24 @@
 use Rattle.std.proofs.Common.{◌≡◌, ◌⊎◌, List, [], ◌∷◌, ◌++◌, Result, Ok, Err, refl, sym, ap, ◌∙◌, subst, inl, inr, append_assoc, append-nil}
 use Rattle.quiver.specs.Declarations.{Declaration}
 use Rattle.matrix_models.specs.declared.model.Model.{Model}
-use Rattle.certificate_text.specs.declared.fault.Flaw.{Flaw}
-use Rattle.certificate_text.specs.declared.fault.Flaw.TheVariants.{BadLine}
+use Rattle.block_text.specs.declared.fault.Flaw.{Flaw}
+use Rattle.block_text.specs.declared.fault.Flaw.TheVariants.{BadLine}
 use Rattle.model_text.specs.declared.place.Place.{Place}
 use Rattle.model_text.specs.declared.place.Place.TheVariants as at
 use Rattle.model_text.specs.declared.place.Progress.{Progress}
-use Rattle.certificate_text.specs.Fault.{Fault, truncated}
-use Rattle.certificate_text.specs.Blocks.{Line}
+use Rattle.block_text.specs.Fault.{Fault, truncated}
+use Rattle.block_text.specs.Lines.{Line}
 use Rattle.model_text.specs.ModelBlocks.{BlockTokens, AreBlocks}
 use Rattle.model_text.specs.ModelBounds.{Bound, flaw_of, before, bounds, Keeps, values_in}
 use Rattle.model_text.specs.Models.{GoesOn, IsFlawed, misfit, passes, IsCutOff}
 use Rattle.model_text.specs.Reading.{progress, step, beginning, ended}
-use Rattle.certificate_text.proofs.Results.{bind_ok}
+use Rattle.block_text.proofs.Results.{bind_ok}
 use Rattle.model_text.proofs.Standing.{Stands, stands_first, stands_next, goes_on, goes_on_before}
-use Rattle.certificate_text.proofs.Meets as meets
-use Rattle.certificate_text.proofs.Meets.{Meets}
+use Rattle.block_text.proofs.Meets as meets
+use Rattle.block_text.proofs.Meets.{Meets}
 use Rattle.model_text.proofs.TextLines.{AreRead, text_meets}
-use Rattle.certificate_text.proofs.NumberedLines.{run, run-append, run_past}
-use Rattle.certificate_text.proofs.BoundOrder.{last_kept}
+use Rattle.block_text.proofs.NumberedLines.{run, run-append, run_past}
+use Rattle.block_text.proofs.BoundOrder.{last_kept}
 use Rattle.model_text.proofs.LineSteps.{step_at}
 use Rattle.model_text.proofs.FirstBounds.{same_bound, no_misfit, kept_at, goes_on_within_none, goes_on_up_to, one_flaw}
 

@@ -5,13 +5,12 @@ use Rattle.std.specs.List.{All, flat_map}
 use Rattle.std.proofs.lemmas.List.Elements.{All-nil, All-push, All-from_recursion}
 use Rattle.quiver.specs.Declarations.{Declaration}
 use Rattle.matrix_models.specs.declared.model.Model.{Model}
-use Rattle.certificate_text.specs.declared.fault.Flaw.{Flaw}
-use Rattle.certificate_text.specs.declared.fault.Flaw.TheVariants.{BadLine}
-use Rattle.certificate_text.specs.Fault.{asked}
-use Rattle.certificate_text.specs.Lines.{block_limit, is_end, claim_of}
-use Rattle.certificate_text.specs.Blocks.{Line, OtherTokens, end_line}
-use Rattle.certificate_text.proofs.LineTrees.{pair_is, end_is}
-use Rattle.certificate_text.proofs.Results.{by_test, bind_ok, bind_err, asked_ok}
+use Rattle.block_text.specs.declared.fault.Flaw.{Flaw}
+use Rattle.block_text.specs.declared.fault.Flaw.TheVariants.{BadLine}
+use Rattle.block_text.specs.Fault.{asked}
+use Rattle.block_text.specs.Lines.{block_limit, is_end, claim_of, Line, OtherTokens, end_line}
+use Rattle.block_text.proofs.LineTrees.{pair_is, end_is}
+use Rattle.block_text.proofs.Results.{by_test, bind_ok, bind_err, asked_ok}
 use Rattle.model_text.specs.declared.place.Begun.{Begun}
 use Rattle.model_text.specs.declared.place.Place.{Place}
 use Rattle.model_text.specs.declared.place.Place.TheVariants as at

@@ -9,10 +9,9 @@ use Rattle.std.proofs.lemmas.Option.{cond_some}
 use Rattle.std.proofs.lemmas.List.Elements.{All-head, All-tail, filter-append}
 use Rattle.quiver.specs.Declarations.{Declaration}
 use Rattle.matrix_models.specs.declared.model.Model.{Model}
-use Rattle.certificate_text.specs.Letters.{is_number, number_within}
-use Rattle.certificate_text.specs.Lines.{block_limit, number_limit, is, is_end}
-use Rattle.certificate_text.specs.Blocks.{Line, OtherTokens, claim_line, end_line}
-use Rattle.certificate_text.proofs.RowLines.{other_word}
+use Rattle.block_text.specs.Letters.{is_number, number_within}
+use Rattle.block_text.specs.Lines.{block_limit, number_limit, is, is_end, Line, OtherTokens, claim_line, end_line}
+use Rattle.block_text.proofs.LineTrees.{other_word}
 use Rattle.model_text.specs.declared.place.Begun.{Begun}
 use Rattle.model_text.specs.declared.place.Entry.{Entry}
 use Rattle.model_text.specs.declared.place.Place.TheVariants as at
@@ -24,9 +23,9 @@ use Rattle.model_text.specs.Reading.{progress, beginning, begun_of, step, is_hea
 use Rattle.model_text.proofs.BlockTrees.{models_in-length, values_in-append}
 use Rattle.model_text.proofs.EntryLines.{entry_read, entry_goes_on}
 use Rattle.model_text.proofs.EntryValues.{KeepsEntry, IsJudged, fine, fails, entry_judged, IsEntryOf, model_is}
-use Rattle.certificate_text.proofs.NumberedLines.{run, run-append}
+use Rattle.block_text.proofs.NumberedLines.{run, run-append}
 use Rattle.model_text.proofs.LineSteps.{step_at}
-use Rattle.certificate_text.proofs.Meets.{Meets, reads, passes, then_meets, meets-weaker, asked_meets, unless_meets}
+use Rattle.block_text.proofs.Meets.{Meets, reads, passes, then_meets, meets-weaker, asked_meets, unless_meets}
 use Rattle.model_text.proofs.Names.{AreDistinct, distinct_apart}
 
 -- the blocks were read behind others

@@ -2,9 +2,8 @@
 use Rattle.std.specs.Prelude.{◌≡◌, ◌≢◌, ℕ, ◌∷◌, ◌++◌, ◌&&◌, ◌||◌, Bool, false, IsTrue, List, [], map, AllPairs, length, nat_eq, nat_lt, nat_le, codes}
 use Rattle.std.specs.List.{All, flat_map, list_all}
 use Rattle.std.specs.Str.Parse.{digits_value}
-use Rattle.certificate_text.specs.Letters.{is_name, is_number}
-use Rattle.certificate_text.specs.Lines.{begins, is_end}
-use Rattle.certificate_text.specs.Blocks.{Line, OtherTokens, claim_line, end_line}
+use Rattle.block_text.specs.Letters.{is_name, is_number}
+use Rattle.block_text.specs.Lines.{begins, is_end, Line, OtherTokens, claim_line, end_line}
 
 -- ---- the trees
 

@@ -1,5 +1,5 @@
 -- The bounds of models in evidence text, in the order in which they count, and the values of its blocks.
-use Rattle.std.specs.Prelude.{◌≡◌, ◌<◌, ◌≤◌, ⊤, ℕ, ◌-◌, ◌^◌, ◌∷◌, ◌++◌, Bool, true, false, List, [], length, map, nat_eq, Option, Some, None, filter, if◌then◌else◌}
+use Rattle.std.specs.Prelude.{◌≡◌, ◌<◌, ◌≤◌, ⊤, ℕ, ◌∷◌, ◌++◌, Bool, true, false, List, [], length, map, nat_eq, Option, Some, None, filter, if◌then◌else◌}
 use Rattle.std.specs.List.{All, flat_map, range_with_len}
 use Rattle.std.specs.Str.Parse.{digits_value}
 use Rattle.quiver.specs.declared.named.Named.{Named}
@@ -8,9 +8,9 @@ use Rattle.quiver.specs.Declarations.{Declaration, object_count, letter_count, n
 use Rattle.matrix_models.specs.Limits.{modulus_limit, side_limit}
 use Rattle.matrix_models.specs.Matrix.{Matrix}
 use Rattle.matrix_models.specs.declared.model.Model.{Model}
-use Rattle.certificate_text.specs.declared.fault.Flaw.{Flaw}
-use Rattle.certificate_text.specs.declared.fault.Flaw.TheVariants.{UnknownName, NumberTooLarge, TooMany}
-use Rattle.certificate_text.specs.Lines.{number_limit, block_limit}
+use Rattle.block_text.specs.declared.fault.Flaw.{Flaw}
+use Rattle.block_text.specs.declared.fault.Flaw.TheVariants.{UnknownName, NumberTooLarge, TooMany}
+use Rattle.block_text.specs.Lines.{number_limit, block_limit}
 use Rattle.model_text.specs.ModelBlocks.{EntryTokens, side, matrix, ModelTokens, BlockTokens, model, other}
 
 -- ---- what a text has

@@ -7,12 +7,11 @@ use Rattle.quiver.specs.declared.named.Named.TheVariants.{Map}
 use Rattle.quiver.specs.Declarations.{Declaration, object_count, letter_count, named_in}
 use Rattle.matrix_models.specs.Matrix.{Matrix, IsModulus, IsSide, IsMatrix}
 use Rattle.matrix_models.specs.declared.model.Model.{Model}
-use Rattle.certificate_text.specs.declared.fault.Flaw.{Flaw}
-use Rattle.certificate_text.specs.declared.fault.Flaw.TheVariants.{BadLine}
-use Rattle.certificate_text.specs.Fault.{Fault, in_line, not_utf8, truncated, no_block}
-use Rattle.certificate_text.specs.Tokens.{tokens_of, is_skipped}
-use Rattle.certificate_text.specs.Blocks.{Line}
-use Rattle.certificate_text.specs.Evidence.{content}
+use Rattle.block_text.specs.declared.fault.Flaw.{Flaw}
+use Rattle.block_text.specs.declared.fault.Flaw.TheVariants.{BadLine}
+use Rattle.block_text.specs.Fault.{Fault, in_line, not_utf8, truncated, no_block}
+use Rattle.block_text.specs.Tokens.{tokens_of, is_skipped}
+use Rattle.block_text.specs.Lines.{Line, content}
 use Rattle.model_text.specs.ModelBlocks.{BlockTokens, AreBlocks}
 use Rattle.model_text.specs.ModelBounds.{Bound, flaw_of, before, bounds, Keeps, models_in, values_in}
 

@@ -9,13 +9,12 @@ use Rattle.quiver.specs.declared.named.Named.TheVariants.{Object, Map}
 use Rattle.quiver.specs.Declarations.{Declaration, object_count, letter_count, named_in}
 use Rattle.matrix_models.specs.Matrix.{Matrix, IsModulus}
 use Rattle.matrix_models.specs.declared.model.Model.{Model}
-use Rattle.certificate_text.specs.declared.fault.Flaw.{Flaw}
-use Rattle.certificate_text.specs.declared.fault.Flaw.TheVariants.{BadLine, UnknownName, NumberTooLarge, TooMany}
-use Rattle.certificate_text.specs.Fault.{Fault, ◌>>=◌, asked, at_line, not_utf8, truncated, no_block}
-use Rattle.certificate_text.specs.Tokens.{tokens_of, is_skipped}
-use Rattle.certificate_text.specs.Letters.{number_within}
-use Rattle.certificate_text.specs.Lines.{block_limit, is, begins, is_pair, is_end, claim_of}
-use Rattle.certificate_text.specs.Blocks.{Line}
+use Rattle.block_text.specs.declared.fault.Flaw.{Flaw}
+use Rattle.block_text.specs.declared.fault.Flaw.TheVariants.{BadLine, UnknownName, NumberTooLarge, TooMany}
+use Rattle.block_text.specs.Fault.{Fault, ◌>>=◌, asked, at_line, not_utf8, truncated, no_block}
+use Rattle.block_text.specs.Tokens.{tokens_of, is_skipped}
+use Rattle.block_text.specs.Letters.{number_within}
+use Rattle.block_text.specs.Lines.{block_limit, is, begins, is_pair, is_end, claim_of, Line}
 use Rattle.model_text.specs.ModelBlocks.{EntryTokens, side, matrix, name_of, is_row, is_row_of, is_entry, is_modulus, is_other_head}
 use Rattle.matrix_models.specs.Limits.{modulus_limit, side_limit}
 use Rattle.model_text.specs.ModelBounds.{value_of}

@@ -3,14 +3,14 @@
 ghost use Rattle.std.specs.Prelude.{◌≡◌, ◌<◌, IfOk, MatchResult, length};
 ghost use Rattle.std.specs.List.{All};
 ghost use Rattle.std.specs.Str.Lines.{lines};
-ghost use Rattle.certificate_text.specs.Fault.{ReadsText, Reads, ExplainsBy, at_text};
-ghost use Rattle.certificate_text.specs.Tokens.{tokens_of};
+ghost use Rattle.block_text.specs.Fault.{ReadsText, Reads, ExplainsBy, at_text};
+ghost use Rattle.block_text.specs.Tokens.{tokens_of};
 ghost use Rattle.model_text.specs.Models.{IsModels, IsFirstFault, IsModel};
 ghost use Rattle.model_text.specs.Reading.{read_tokens, read_lines, beginning, ended, models_of, one_or_more, all_models, HasModulus};
 
 use crate::place::{Place, Progress};
 use crate::step::step;
-use certificate_text::{CertFault, LineFault, TextFlaw, at_line, first_line, is_skipped, is_utf8};
+use block_text::{CertFault, LineFault, TextFlaw, at_line, first_line, is_skipped, is_utf8};
 use lists::Listing;
 use matrix_models::Model;
 use quiver::Quiver;

@@ -3,10 +3,10 @@
 ghost use Rattle.std.specs.Prelude.{◌≡◌, [], Ok, IfOk, IsTrue};
 ghost use Rattle.std.specs.List.{list_any};
 ghost use Rattle.std.specs.Str.{bytes_eq};
-ghost use Rattle.certificate_text.specs.Fault.{Reads};
-ghost use Rattle.certificate_text.specs.Tokens.{tokens_of};
+ghost use Rattle.block_text.specs.Fault.{Reads};
+ghost use Rattle.block_text.specs.Tokens.{tokens_of};
 ghost use Rattle.matrix_models.specs.Matrix.{IsModulus};
-ghost use Rattle.model_text.specs.ModelBlocks.{name_of, is_entry, is_other_head};
+ghost use Rattle.model_text.specs.ModelBlocks.{is_entry, is_other_head};
 ghost use Rattle.model_text.specs.Reading.{is_head, outside, modulus_of, grown, inside, step, HasModulus};
 ghost use Rattle.model_text.specs.Views.{tokens_in};
 ghost use Rattle.model_text.specs.declared.place.Place.TheVariants as place;
@@ -15,9 +15,7 @@ use crate::entry::{EntryTokens, entry_tokens, is_modulus};
 use crate::finish::model_of;
 use crate::place::{Begun, Place, Progress};
 use crate::value::{entry_value, name_text};
-use certificate_text::{
-    BLOCK_LIMIT, Flaw, LineFault, begins, claim_of, is, is_end, number_within, two_tokens,
-};
+use block_text::{BLOCK_LIMIT, Flaw, LineFault, begins, claim_of, is, is_end, number_within, two_tokens};
 use lists::{Listing, Text};
 use matrix_models::{MODULUS_LIMIT, Model};
 use quiver::Quiver;

@@ -8,11 +8,12 @@ use Rattle.std.proofs.lemmas.Str.{is_utf8-from_IsUtf8}
 use Rattle.nc_polynomial.specs.declared.poly.Poly.{Poly}
 use Rattle.quiver.specs.Declarations.{Declaration, IsDeclared}
 use Rattle.matrix_models.specs.declared.model.Model.{Model}
-use Rattle.certificate_text.specs.Fault.{no_block}
-use Rattle.certificate_text.specs.Evidence.{content}
-use Rattle.certificate_text.specs.Tokens.{tokens_of}
-use Rattle.certificate_text.specs.Back.{is_whole, is_named, is_inside, comment, other, part_text}
-use Rattle.certificate_text.proofs.ContentBack.{IsTextOf, no_text, whole_append}
+use Rattle.block_text.specs.Fault.{no_block}
+use Rattle.block_text.specs.Lines.{content, block_limit}
+use Rattle.block_text.specs.Tokens.{tokens_of}
+use Rattle.block_text.specs.Back.{is_whole, is_named, is_inside}
+use Rattle.certificate_text.specs.Back.{comment, other, part_text}
+use Rattle.block_text.proofs.ContentBack.{IsTextOf, no_text, whole_append}
 use Rattle.certificate_text.proofs.PartsBack.{is_before_end, comment_is_text, other_is_text}
 use Rattle.model_text.specs.ModelBlocks.{BlockTokens, model, other as other_block, IsBlock}
 use Rattle.model_text.specs.ModelBounds.{models_in, values_in, KeepsOne}
@@ -24,7 +25,6 @@ use Rattle.report_text.specs.declared.verdict.Verdict.{Verdict}
 use Rattle.report_text.specs.declared.verdict.Verdict.TheVariants as verdict
 use Rattle.report_text.specs.Heads.{head_line}
 use Rattle.report_text.specs.Report.{basis_text, block_text, report_from, report_of, IsPolyOver}
-use Rattle.certificate_text.specs.Lines.{block_limit}
 use Rattle.report_readback.specs.ReadBack.{IsWritableVerdict}
 use Rattle.report_readback.specs.ModelsReadBack.{IsReadAsModels, refuted_in, ReportsReadBackAsModels}
 use Rattle.report_readback.proofs.Heads.{told_of, told_is_line}

@@ -10,10 +10,11 @@ use Rattle.quiver.specs.Declarations.{Declaration, IsDeclared}
 use Rattle.cofactor_trace.specs.declared.evidence.Evidence.{Evidence}
 use Rattle.cofactor_trace.specs.declared.evidence.Evidence.TheVariants as evidence
 use Rattle.cofactor_trace.specs.declared.evidence.Format.TheVariants.{Lemmas}
-use Rattle.certificate_text.specs.Fault.{no_block}
+use Rattle.block_text.specs.Fault.{no_block}
 use Rattle.certificate_text.specs.Bounds.{certificates_in, IsCertificateOf}
 use Rattle.certificate_text.specs.Evidence.{HasCertificates, IsFirstFault, certificates}
-use Rattle.certificate_text.specs.Back.{IsOfFormat, is_named, Part, certificate, comment, other, part_text, IsPart, evidence_in}
+use Rattle.block_text.specs.Back.{is_named}
+use Rattle.certificate_text.specs.Back.{IsOfFormat, Part, certificate, comment, other, part_text, IsPart, evidence_in}
 use Rattle.certificate_text.proofs.PartsBack.{are_parts_read_back}
 use Rattle.report_text.specs.declared.verdict.Verdict.{Verdict}
 use Rattle.report_text.specs.declared.verdict.Verdict.TheVariants as verdict

@@ -13,19 +13,20 @@ use Rattle.cofactor_trace.specs.declared.evidence.Format.{Format}
 use Rattle.cofactor_trace.specs.declared.evidence.Format.TheVariants as format
 use Rattle.cofactor_trace.specs.declared.evidence.Lemma.{Lemma}
 use Rattle.cofactor_trace.specs.declared.evidence.LemmaRow.{LemmaRow}
-use Rattle.certificate_text.specs.Tokens.{tokens_of, is_skipped}
-use Rattle.certificate_text.specs.Lines.{is_end}
-use Rattle.certificate_text.specs.Blocks.{Line, OtherTokens, row_line, head_line, claim_line, denominator_line}
-use Rattle.certificate_text.specs.Evidence.{content}
+use Rattle.block_text.specs.Tokens.{tokens_of, is_skipped}
+use Rattle.block_text.specs.Lines.{is_end, Line, OtherTokens, claim_line, content}
+use Rattle.certificate_text.specs.Blocks.{row_line, head_line, denominator_line}
 use Rattle.certificate_text.specs.Written.{opening_text, lemma_row_text, scaled_text, lemmas_text, evidence_text}
-use Rattle.certificate_text.specs.Back.{is_named, IsLineText, ended, IsBodyLine, IsWritableEvidence}
+use Rattle.block_text.specs.Back.{is_named, IsLineText, ended, IsBodyLine}
+use Rattle.certificate_text.specs.Back.{IsWritableEvidence}
 use Rattle.certificate_text.proofs.BlocksBack.{rows_written}
-use Rattle.certificate_text.proofs.ContentBack.{IsTextOf, no_text, text-append, text_of_line}
+use Rattle.block_text.proofs.ContentBack.{IsTextOf, no_text, text-append, text_of_line}
 use Rattle.certificate_text.proofs.LemmasBack.{IsWrittenLemma, lemmas_written}
 use Rattle.certificate_text.proofs.PartsBack.{begins_no_end}
 use Rattle.certificate_text.proofs.RowsBack.{over_generator, IsWrittenRow, trees, rows_are_text}
-use Rattle.certificate_text.proofs.SizesBack.{IsSize, size_written, head_text, opening_is_text, end_is_text}
-use Rattle.certificate_text.proofs.TextsBack.{literal, line_text-append}
+use Rattle.block_text.proofs.NumberLines.{end_is_text}
+use Rattle.certificate_text.proofs.SizesBack.{IsSize, size_written, head_text, opening_is_text}
+use Rattle.block_text.proofs.TextsBack.{literal, line_text-append}
 use Rattle.model_text.specs.ModelBlocks.{other, block_lines, is_other_head, IsBlock, IsOtherBlock}
 use Rattle.model_text.specs.ModelBounds.{Bound, names, numbers, sizes, blocks, bounds, KeepsOne}
 use Rattle.model_text.specs.Models.{HasModels}

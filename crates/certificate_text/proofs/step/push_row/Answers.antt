@@ -1,5 +1,5 @@
 use Rattle.std.proofs.Common.{sym, ◌∙◌}
-use Rattle.certificate_text.specs.Tokens.{tokens_of}
+use Rattle.block_text.specs.Tokens.{tokens_of}
 use Rattle.certificate_text.proofs.RowSteps.{flaw_told, memory_told, row_told, row_too_large, row_added}
 use Rattle.certificate_text.proofs.step.push_row.Goals as goal
 
