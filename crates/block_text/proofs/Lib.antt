@@ -21,3 +21,10 @@ pub mod TextsBack
 pub mod ContentBack
 pub mod NumberLines
 pub mod PolysBack
+pub mod Owed
+pub mod TextLines
+pub mod Standing
+mod FirstBounds
+mod ReadLines
+pub mod EachText
+pub mod PartsBack
