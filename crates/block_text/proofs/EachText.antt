@@ -167,7 +167,7 @@ module _ {Begun Value : Type 0} (kind : Kind Value) (steps : Steps Begun Value) 
 
     -- ---- what a reader returns, as its callers are told
 
-    fault_told : (e : CertFault) → Explains (all_values steps bytes) e → ExplainsBy (IsFirstFault kind bytes) e
+    pub fault_told : (e : CertFault) → Explains (all_values steps bytes) e → ExplainsBy (IsFirstFault kind bytes) e
     fault_told (cert_fault.Fault code line limit) told = fault_read (record { code = code; line = line; limit = limit }) told
     fault_told (cert_fault.Memory e) told = tt
 

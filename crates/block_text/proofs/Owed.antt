@@ -1,5 +1,5 @@
 -- What a reader of a kind of block owes: facts of single blocks, from which those of whole texts follow.
-use Rattle.std.proofs.Common.{◌≡◌, false, List, [], ◌∷◌, ◌++◌, Some, Result, Ok, Err, if◌then◌else◌}
+use Rattle.std.proofs.Common.{◌≡◌, false, List, [], ◌∷◌, ◌++◌, Some, Result, Ok, Err, refl, if◌then◌else◌}
 use Rattle.std.specs.List.{All}
 use Rattle.block_text.specs.declared.fault.Flaw.{Flaw}
 use Rattle.block_text.specs.declared.fault.Flaw.TheVariants.{BadLine, TooMany}
@@ -10,6 +10,9 @@ use Rattle.block_text.specs.Kind.{Kind}
 use Rattle.block_text.specs.Blocks.{is_other_head}
 use Rattle.block_text.specs.Steps.{Steps}
 use Rattle.block_text.proofs.Meets.{Meets}
+use Rattle.block_text.proofs.NumberedLines.{run}
+use Rattle.block_text.proofs.Results.{bind_assoc}
+use Rattle.std.proofs.lemmas.List.Elements.{All-head, All-tail}
 
 -- ---- a block whose lines are read
 
@@ -21,6 +24,13 @@ module _ {Begun Value : Type 0} (steps : Steps Begun Value) where
   abbrev pub read_block : List Line → Result Value Flaw
   read_block [] = Err BadLine
   read_block (head ∷ lines) = asked BadLine (steps.begin head) >>= λ b. read_inside b lines
+
+  -- the same of lines of which none is `end`
+  pub read_inside-run : (b : Begun) (lines : List Line) → All (λ line. is_end line ≡ false) lines → read_inside b lines ≡ (run steps.next b lines >>= λ c. asked BadLine (steps.finish c))
+  read_inside-run b [] none = refl
+  read_inside-run b (line ∷ lines) none =
+      rw (All-head (λ l. is_end l ≡ false) line lines none)
+      (bind_assoc (steps.next b line) (λ c. run steps.next c lines) (λ c. asked BadLine (steps.finish c)) (λ c. read_inside c lines) (λ c. read_inside-run c lines (All-tail (λ l. is_end l ≡ false) line lines none)))
 
 -- ---- the first lines of a block
 

@@ -70,7 +70,7 @@ comment_is_text text utf8 all =
       are = ap content one_line ∙ rw (stripped_by _ text _) refl;
     }
 
-inside_is_before_end : (text : List ℕ) → list_all is_inside text ≡ true → list_all is_before_end text ≡ true
+pub inside_is_before_end : (text : List ℕ) → list_all is_inside text ≡ true → list_all is_before_end text ≡ true
 inside_is_before_end [] all = refl
 inside_is_before_end (c ∷ cs) all =
     let parts : (is_inside c ≡ true) × (list_all is_inside cs ≡ true) = and_parts _ _ all in

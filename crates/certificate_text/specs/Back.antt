@@ -1,5 +1,5 @@
 -- What is read of evidence that is written, whatever stands around it.
-use Rattle.std.specs.Prelude.{◌≡◌, ◌<◌, ◌≤◌, ◌+◌, ◌^◌, ⊤, ℕ, pos, List, [], ◌∷◌, ◌++◌, length, IsTrue, codes}
+use Rattle.std.specs.Prelude.{◌≡◌, ◌<◌, ◌≤◌, ◌+◌, ◌^◌, ⊤, ℕ, pos, List, ◌∷◌, ◌++◌, length, IsTrue}
 use Rattle.std.specs.List.{All, list_all, flat_map}
 use Rattle.coef_int.specs.Range.{IsCoefficient}
 use Rattle.quiver.specs.Declarations.{Declaration, IsDeclared}
@@ -17,11 +17,10 @@ use Rattle.cofactor_trace.specs.declared.evidence.Format.TheVariants as format
 use Rattle.cofactor_trace.specs.Expansion.{letter_count}
 use Rattle.cofactor_trace.specs.Lemmas.{row_count, letter_count as letters_of_lemmas}
 use Rattle.cofactor_trace.specs.GatheringLaws.{parts_of}
-use Rattle.block_text.specs.Back.{is_whole, is_named, IsLineText, ended, IsBodyLine}
-use Rattle.block_text.specs.Tokens.{tokens_of}
+use Rattle.block_text.specs.Back as blocks
+use Rattle.block_text.specs.Back.{values_in, is_whole, is_named}
 use Rattle.block_text.specs.Lines.{block_limit}
-use Rattle.certificate_text.specs.Lines.{is_other_head}
-use Rattle.certificate_text.specs.Evidence.{IsRowOver, IsLemmaRowOver, HasCertificates}
+use Rattle.certificate_text.specs.Evidence.{other_words, IsRowOver, IsLemmaRowOver, HasCertificates}
 use Rattle.certificate_text.specs.Written.{evidence_text}
 use Rattle.nc_polynomial.specs.Limits.{word_limit}
 use Rattle.cofactor_trace.specs.Limits.{row_limit, letter_limit}
@@ -104,27 +103,22 @@ IsReadBack = (most : Format) (ds : List Declaration) (e : Evidence) (before afte
 -- ---- texts of several parts
 
 -- a certificate, a comment without its # and LF, or a block of another kind by its first line and those before `end`
-pub data Part : Type 0 where
-  certificate : Evidence → Part
-  comment : List ℕ → Part
-  other : List ℕ → List (List ℕ) → Part
+abbrev pub Part : Type 0
+Part = blocks.Part Evidence
 
 abbrev pub part_text : List Declaration → Part → List ℕ
-part_text ds (certificate e) = evidence_text ds e
-part_text ds (comment text) = ended (codes "#" ++ text)
-part_text ds (other head lines) = ended head ++ flat_map ended lines ++ codes "end\n"
+part_text ds p = blocks.part_text (evidence_text ds) p
+
+-- evidence of the format within the limits
+abbrev pub IsGood : Format → List Declaration → Evidence → Type 0
+IsGood most ds e = IsOfFormat most e × IsWritableEvidence ds e
 
 abbrev pub IsPart : Format → List Declaration → Part → Type 0
-IsPart most ds (certificate e) = IsOfFormat most e × IsWritableEvidence ds e
-IsPart most ds (comment text) = IsLineText text
-IsPart most ds (other head lines) = IsLineText head × IsTrue (is_other_head (tokens_of head)) × All IsBodyLine lines
+IsPart most ds p = blocks.IsPart other_words (IsGood most ds) p
 
 -- the certificates among the parts
 abbrev pub evidence_in : List Part → List Evidence
-evidence_in [] = []
-evidence_in (certificate e ∷ parts) = e ∷ evidence_in parts
-evidence_in (comment text ∷ parts) = evidence_in parts
-evidence_in (other head lines ∷ parts) = evidence_in parts
+evidence_in parts = values_in parts
 
 -- The certificates of a text of such parts are those among the parts, in their order.
 abbrev pub ArePartsReadBack : Type 0

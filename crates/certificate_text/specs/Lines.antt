@@ -14,7 +14,7 @@ use Rattle.block_text.specs.declared.fault.Flaw.{Flaw}
 use Rattle.block_text.specs.declared.fault.Flaw.TheVariants.{BadLine, UnknownName, NumberTooLarge, TooMany}
 use Rattle.certificate_text.specs.declared.place.Size.{Size}
 use Rattle.block_text.specs.Fault.{◌>>=◌, asked}
-use Rattle.block_text.specs.Lines.{number_limit, integer_limit, is, begins, is_pair, number_behind, integer_of, bracketed}
+use Rattle.block_text.specs.Lines.{number_limit, integer_limit, is, is_pair, number_behind, integer_of, bracketed}
 use Rattle.block_text.specs.Letters.{is_letter, word_of, is_number, number_within, is_integer, integer_within}
 pub use Rattle.nc_polynomial.specs.Limits.{word_limit}
 pub use Rattle.cofactor_trace.specs.Limits.{row_limit, letter_limit}
@@ -28,10 +28,6 @@ is_plain_head = is_pair (codes "certificate") (codes "1")
 -- `certificate 2`
 abbrev pub is_lemmas_head : List (List ℕ) → Bool
 is_lemmas_head = is_pair (codes "certificate") (codes "2")
-
--- whether a block of another kind begins
-abbrev pub is_other_head : List (List ℕ) → Bool
-is_other_head line = begins (codes "model") line || begins (codes "basis") line
 
 -- ---- `claim N` and `denominator D`
 

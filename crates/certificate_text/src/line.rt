@@ -3,12 +3,12 @@
 ghost use Rattle.std.specs.Prelude.{◌≡◌, ◌<◌, ◌^◌, IsTrue, IfSome};
 ghost use Rattle.std.specs.Option.{option_copied};
 ghost use Rattle.block_text.specs.Letters.{is_number};
-ghost use Rattle.block_text.specs.Lines.{is, begins, is_pair, number_behind, integer_of};
-ghost use Rattle.certificate_text.specs.Lines.{is_plain_head, is_lemmas_head, is_other_head, denominator_of, scale_digits, is_value, lemma_digits, lemma_scale_of, goal_digits, goal_scale_of};
+ghost use Rattle.block_text.specs.Lines.{is, is_pair, number_behind, integer_of};
+ghost use Rattle.certificate_text.specs.Lines.{is_plain_head, is_lemmas_head, denominator_of, scale_digits, is_value, lemma_digits, lemma_scale_of, goal_digits, goal_scale_of};
 ghost use Rattle.block_text.specs.Tokens.{tokens_of};
 
 use block_text::{
-    Flaw, begins, first_token, integer_of, is, is_number, is_pair, number_behind, number_within,
+    Flaw, first_token, integer_of, is, is_number, is_pair, number_behind, number_within,
 };
 use cofactor_trace::ROW_LIMIT;
 
@@ -24,13 +24,6 @@ pub fn is_lemmas_head(line: &[u8]) -> bool
     ensures { result ≡ is_lemmas_head (tokens_of line.now) }
 {
     is_pair("certificate", "2", line)
-}
-
-/// Whether a block of another kind begins.
-pub fn is_other_head(line: &[u8]) -> bool
-    ensures { result ≡ is_other_head (tokens_of line.now) }
-{
-    begins("model", line) || begins("basis", line)
 }
 
 /// The number of `denominator D`.

@@ -1,5 +1,5 @@
 -- Models that keep bounds are read.
-use Rattle.std.proofs.Common.{◌≡◌, ◌≤◌, ◌+◌, ℕ, true, false, List, [], ◌∷◌, ◌++◌, Some, Result, Ok, IsTrue, arith, refl, sym, ◌∙◌, subst, map, nat_le, ap₂}
+use Rattle.std.proofs.Common.{◌≡◌, ◌≤◌, ◌+◌, ℕ, true, false, List, [], ◌∷◌, ◌++◌, Some, Result, Ok, IsTrue, arith, refl, sym, ap, ◌∙◌, subst, map, nat_le, ap₂}
 use Rattle.std.specs.List.{All, AllZip, list_any}
 use Rattle.std.specs.Str.{bytes_eq}
 use Rattle.std.proofs.lemmas.Bool.{and_parts}
@@ -66,20 +66,27 @@ module _ (K : Bound → Type 0) (ds : List Declaration) where
     each : AllZip (IsEntryOf ds b.modulus) es values
     is : m ≡ model_of ds (begun_of b.claim b.modulus (b.names ++ map name_of es) (b.entries ++ values))
 
+  -- the line is behind the others
+  abbrev IsGrownTo : Begun → EntryTokens → Stage → Type 0
+  IsGrownTo b e s = (value : Entry) × (entry_value ds b.modulus e ≡ Ok value) × (s ≡ at.Inside (begun_of b.claim b.modulus (b.names ++ name_of e ∷ []) (b.entries ++ value ∷ [])))
+
+  line_meets : (b : Begun) (e : EntryTokens) → 1 ≤ b.modulus → IsTrue (is_entry e) → list_any (bytes_eq (name_of e)) b.names ≡ false → ((bound : Bound) → K bound → KeepsEntry ds b.modulus bound e)
+      → Meets flaw_of K (IsGrownTo b e) (next ds (at.Inside b) (entry_line e))
+  line_meets b e some fits fresh keeps = rw (entry_read e fits) (then_meets _ (grown_meets b e some fresh keeps) (λ after _ known. reads _ refl (known.0, known.1, ap (λ b. at.Inside b) known.2)))
+
   lines_meet : (b : Begun) (es : List EntryTokens) → 1 ≤ b.modulus → All (λ e. IsTrue (is_entry e)) es → AreDistinct (b.names ++ map name_of es) → LinesKeep b.modulus es
       → Meets flaw_of K (IsRead b es) (Steps (Inside b) (map entry_line es))
   lines_meet b [] some each distinct keeps =
-      reads (model_of ds b) refl (record { values = []; each = tt; is = rw (append-nil b.names, append-nil b.entries) refl })
+      reads (model_of ds b) refl (record { values = []; each = tt; is = ap (λ es. model_of ds (begun_of b.claim b.modulus b.names es)) (sym (append-nil b.entries)) })
   lines_meet b (e ∷ es) some each distinct keeps =
       let fresh : list_any (bytes_eq (name_of e)) b.names ≡ false = distinct_apart b.names (name_of e) (map name_of es) distinct in
       let fits : IsTrue (is_entry e) = All-head (λ t. IsTrue (is_entry t)) e es each in
       let later : All (λ t. IsTrue (is_entry t)) es = All-tail (λ t. IsTrue (is_entry t)) e es each in
-      rw (entry_goes_on e, entry_read e fits)
-      (then_meets _ (then_meets _ (grown_meets b e some fresh (λ bound kept. All-head (KeepsEntry ds b.modulus bound) e es (keeps bound kept))) (λ next _ one. reads (at.Inside next) refl (next, one, refl))) (λ stage _ made.
-      let one = made.1 in
+      rw (entry_goes_on e)
+      (then_meets _ (line_meets b e some fits fresh (λ bound kept. All-head (KeepsEntry ds b.modulus bound) e es (keeps bound kept))) (λ s _ one.
       let after : Begun = begun_of b.claim b.modulus (b.names ++ name_of e ∷ []) (b.entries ++ one.0 ∷ []) in
       let apart : AreDistinct (after.names ++ map name_of es) = subst AreDistinct (sym (append_assoc b.names (name_of e ∷ []) (map name_of es))) distinct in
-      rw (made.2, one.2) (meets-weaker (lines_meet after es some later apart (λ bound kept. All-tail (KeepsEntry ds b.modulus bound) e es (keeps bound kept))) (λ m _ rest. record {
+      rw one.2 (meets-weaker (lines_meet after es some later apart (λ bound kept. All-tail (KeepsEntry ds b.modulus bound) e es (keeps bound kept))) (λ m _ rest. record {
         values = one.0 ∷ rest.values;
         each = (one.1, rest.each);
         is = rest.is ∙ ap₂ (λ ns vs. model_of ds (begun_of b.claim b.modulus ns vs)) (append_assoc b.names (name_of e ∷ []) (map name_of es)) (append_assoc b.entries (one.0 ∷ []) rest.values);

@@ -231,6 +231,7 @@ module _ (ds : List Declaration) where
   placed sizes = record { earlier = names ∷ numbers ∷ []; later = []; splits = refl }
 
   earlier_is : (bound : Bound) → (placed bound).earlier ≡ before bound
+  unfolding placed
   earlier_is names = refl
   earlier_is numbers = refl
   earlier_is sizes = refl

@@ -1,11 +1,11 @@
 -- The reader of models owes what a reader of blocks owes.
-use Rattle.std.proofs.Common.{◌≡◌, ◌++◌, ◌∷◌, [], true, false, List, Some, None, Ok, Err, refl, sym, ap, ◌∙◌, subst, codes}
+use Rattle.std.proofs.Common.{arith, ◌≡◌, ◌++◌, ◌∷◌, [], true, false, List, Some, None, Ok, Err, refl, sym, ap, ◌∙◌, subst, codes}
 use Rattle.std.proofs.lemmas.List.Elements.{All-from_recursion}
 use Rattle.quiver.specs.Declarations.{Declaration}
 use Rattle.matrix_models.specs.declared.model.Model.{Model}
 use Rattle.block_text.specs.declared.fault.Flaw.{Flaw}
 use Rattle.block_text.specs.declared.fault.Flaw.TheVariants.{BadLine, TooMany}
-use Rattle.block_text.specs.Fault.{asked}
+use Rattle.block_text.specs.Fault.{limit_of, asked}
 use Rattle.block_text.specs.Tokens.{begins_comment}
 use Rattle.block_text.specs.Lines.{Line, block_limit, is, is_end, claim_of}
 use Rattle.block_text.specs.Blocks.{is_other_head}
@@ -40,9 +40,9 @@ no_misfit numbers same = absurd (cc)
 no_misfit sizes same = absurd (cc)
 
 no_count : (b : Bound) → TooMany block_limit ≡ flaw_of b → ⊥
-no_count names same = absurd (cc)
-no_count numbers same = absurd (cc)
-no_count sizes same = absurd (cc)
+no_count names same = absurd (omega (arith, ap limit_of same))
+no_count numbers same = absurd (omega (arith, ap limit_of same))
+no_count sizes same = absurd (omega (arith, ap limit_of same))
 
 -- ---- heads
 
@@ -62,42 +62,42 @@ module _ (ds : List Declaration) where
   -- ---- a line more
 
   goes : (s t : Stage) (front : List Line) (line : Line) → IsOpen ds s front → is_end line ≡ false → next ds s line ≡ Ok t → IsOpen ds t (front ++ line ∷ [])
-  goes at.Headed t front line open more read =
-      bind_ok (claim_of line) _ t read (λ n n_is made. let same : at.Claimed n ≡ t = cc in subst (λ (u : Stage). IsOpen ds u (front ++ line ∷ [])) same (next_headed front line n open n_is))
-  goes (at.Claimed n) t front line open more read =
+  goes at.Headed t front line here more read =
+      bind_ok (claim_of line) _ t read (λ n n_is made. let same : at.Claimed n ≡ t = cc in subst (λ (u : Stage). IsOpen ds u (front ++ line ∷ [])) same (next_headed front line n here n_is))
+  goes (at.Claimed n) t front line here more read =
       bind_ok (modulus_of line) _ t read (λ m m_is made.
-      let same : at.Inside (begun_of n m [] []) ≡ t = cc in subst (λ (u : Stage). IsOpen ds u (front ++ line ∷ [])) same (next_claimed ds front line n m open m_is))
-  goes (at.Inside b) t front line open more read =
+      let same : at.Inside (begun_of n m [] []) ≡ t = cc in subst (λ (u : Stage). IsOpen ds u (front ++ line ∷ [])) same (next_claimed ds front line n m here m_is))
+  goes (at.Inside b) t front line here more read =
       bind_ok (asked BadLine (entry_tokens line)) _ t read (λ e e_there read_grown.
       bind_ok (grown ds b e) _ t read_grown (λ c c_is made.
       let same : at.Inside c ≡ t = cc in
-      subst (λ (u : Stage). IsOpen ds u (front ++ line ∷ [])) same (next_entry ds b c front line e open (asked_ok BadLine (entry_tokens line) e e_there) c_is)))
+      subst (λ (u : Stage). IsOpen ds u (front ++ line ∷ [])) same (next_entry ds b c front line e here (asked_ok BadLine (entry_tokens line) e e_there) c_is)))
 
   goes_on : (s : Stage) (front : List Line) → IsOpen ds s front → Begins (model_kind ds) (names ∷ numbers ∷ sizes ∷ []) front
-  goes_on at.Headed front open = subst (Begins (model_kind ds) (names ∷ numbers ∷ sizes ∷ [])) (sym open) (begin_headed ds (names ∷ numbers ∷ sizes ∷ []))
-  goes_on (at.Claimed n) front open = begin_claimed ds (names ∷ numbers ∷ sizes ∷ []) n front open
-  goes_on (at.Inside b) front open = begin_inside ds (names ∷ numbers ∷ sizes ∷ []) b front open
+  goes_on at.Headed front here = subst (Begins (model_kind ds) (names ∷ numbers ∷ sizes ∷ [])) (sym here) (begin_headed ds (names ∷ numbers ∷ sizes ∷ []))
+  goes_on (at.Claimed n) front here = begin_claimed ds (names ∷ numbers ∷ sizes ∷ []) n front here
+  goes_on (at.Inside b) front here = begin_inside ds (names ∷ numbers ∷ sizes ∷ []) b front here
 
   ends : (s : Stage) (front : List Line) (m : Model) → IsOpen ds s front → finish ds s ≡ Some m → IsWhole (model_kind ds) front m
-  ends at.Headed front m open read = absurd (cc)
-  ends (at.Claimed n) front m open read = absurd (cc)
-  ends (at.Inside b) front m open read =
+  ends at.Headed front m here read = absurd (cc)
+  ends (at.Claimed n) front m here read = absurd (cc)
+  ends (at.Inside b) front m here read =
       let same : m ≡ model_of ds b = cc in
       record {
-        tree = open.tokens;
-        are = open.are;
-        is_tree = open.is_block;
-        keeps = open.keeps;
-        says = same ∙ model_is ds open.tokens b open.claim_value open.modulus_value open.some open.entries_are;
+        tree = here.tokens;
+        are = here.are;
+        is_tree = here.is_block;
+        keeps = here.keeps;
+        says = same ∙ model_is ds here.tokens b here.claim_value here.modulus_value here.some here.entries_are;
       }
 
   stops : (s : Stage) (front : List Line) (line : Line) (flaw : Flaw) → IsOpen ds s front → is_end line ≡ false → next ds s line ≡ Err flaw → IsStopped (model_kind ds) flaw (front ++ line ∷ [])
-  stops at.Headed front line flaw open more read = bind_err (claim_of line) _ flaw read (λ e. stopped_headed ds flaw front line open e) (λ n n_is made. absurd (cc))
-  stops (at.Claimed n) front line flaw open more read = bind_err (modulus_of line) _ flaw read (λ e. stopped_claimed ds flaw front line n open e) (λ m m_is made. absurd (cc))
-  stops (at.Inside b) front line flaw open more read =
+  stops at.Headed front line flaw here more read = bind_err (claim_of line) _ flaw read (λ e. stopped_headed ds flaw front line here e) (λ n n_is made. absurd (cc))
+  stops (at.Claimed n) front line flaw here more read = bind_err (modulus_of line) _ flaw read (λ e. stopped_claimed ds flaw front line n here e) (λ m m_is made. absurd (cc))
+  stops (at.Inside b) front line flaw here more read =
       bind_err (asked BadLine (entry_tokens line)) _ flaw read
-      (λ e. stopped_inside ds flaw front line b open (rw e refl))
-      (λ e e_there read_grown. bind_err (grown ds b e) _ flaw read_grown (λ none. stopped_inside ds flaw front line b open (rw (e_there, none) refl)) (λ c c_is made. absurd (cc)))
+      (λ e. stopped_inside ds flaw front line b here (rw e refl))
+      (λ e e_there read_grown. bind_err (grown ds b e) _ flaw read_grown (λ none. stopped_inside ds flaw front line b here (rw (e_there, none) refl)) (λ c c_is made. absurd (cc)))
 
   pub reader : IsReader (model_kind ds) (model_steps ds)
   reader = record {

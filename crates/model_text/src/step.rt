@@ -24,6 +24,7 @@ use quiver::Quiver;
 use std::alloc::{AllocError, Global};
 
 /// Models over the objects and the maps of a quiver.
+#[derive(Clone, Copy)]
 pub struct Models<'q> {
     pub quiver: &'q Quiver,
 }

@@ -9,9 +9,9 @@ use Rattle.quiver.specs.Declarations.{Declaration, IsDeclared}
 use Rattle.cofactor_trace.specs.declared.evidence.Format.TheVariants.{Lemmas}
 use Rattle.block_text.specs.Tokens.{tokens_of}
 use Rattle.block_text.specs.Written.{poly_text}
-use Rattle.block_text.specs.Back.{is_named, IsLineText, ended, IsBodyLine}
-use Rattle.certificate_text.specs.Back.{other, part_text, IsPart}
-use Rattle.certificate_text.proofs.PartsBack.{begins_no_end}
+use Rattle.block_text.specs.Back.{other, is_named, IsLineText, ended, IsBodyLine}
+use Rattle.certificate_text.specs.Back.{part_text, IsPart}
+use Rattle.block_text.proofs.PartsBack.{begins_no_end}
 use Rattle.block_text.proofs.PolysBack.{poly_is_line}
 use Rattle.block_text.proofs.TextsBack.{literal, line_text-append}
 use Rattle.report_text.specs.Report.{rule_line, basis_text, IsPolyOver}

@@ -13,8 +13,8 @@ use Rattle.cofactor_trace.specs.declared.halt.Cause.{Cause}
 use Rattle.cofactor_trace.specs.declared.halt.Cause.TheVariants as cause
 use Rattle.cofactor_trace.specs.declared.halt.Place.{Place}
 use Rattle.cofactor_trace.specs.declared.halt.Place.TheVariants as place
-use Rattle.block_text.specs.Back.{is_named, IsLineText}
-use Rattle.certificate_text.specs.Back.{comment, part_text}
+use Rattle.block_text.specs.Back.{comment, is_named, IsLineText}
+use Rattle.certificate_text.specs.Back.{part_text}
 use Rattle.block_text.proofs.PolysBack.{nothing_is_line, word_is_line}
 use Rattle.block_text.proofs.TextsBack.{literal, line_text-append}
 use Rattle.report_text.specs.declared.verdict.Verdict.{Verdict}
