@@ -1,5 +1,5 @@
 -- A certificate of format 1 that is written is a block of evidence text.
-use Rattle.std.proofs.Common.{◌≡◌, ◌<◌, ◌^◌, List, [], ◌∷◌, Some, Ok, arith, refl, IsTrue}
+use Rattle.std.proofs.Common.{◌++◌, ◌∷◌, ◌≡◌, ◌<◌, ◌^◌, List, [], Some, Ok, arith, refl, IsTrue}
 use Rattle.std.specs.Prelude.{decimal}
 use Rattle.std.specs.Fmt.{signed_decimal}
 use Rattle.std.specs.List.{All, list_all}

@@ -1,5 +1,5 @@
 -- Evidence text: the certificates that bytes are, or the first thing that is wrong with them.
-use Rattle.std.specs.Prelude.{◌≤◌, ℕ, ◌+◌, List, [], ◌∷◌, length}
+use Rattle.std.specs.Prelude.{◌≤◌, ℕ, ◌+◌, List, [], ◌∷◌, length, codes}
 use Rattle.std.specs.List.{All, flat_map}
 use Rattle.coef_int.specs.Range.{IsCoefficient}
 use Rattle.word_core.specs.Letters.{IsOver}

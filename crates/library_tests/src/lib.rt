@@ -34,6 +34,8 @@ mod name_rows;
 #[cfg(test)]
 mod notation;
 #[cfg(test)]
+mod notes;
+#[cfg(test)]
 mod numbers;
 #[cfg(test)]
 mod orders;
