@@ -9,7 +9,6 @@ pub mod Zips
 pub mod LineTrees
 pub mod Meets
 pub mod NumberedLines
-pub mod BoundOrder
 pub mod Stars
 pub mod NameBytes
 pub mod TokensBack

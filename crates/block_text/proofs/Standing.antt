@@ -1,5 +1,5 @@
 -- What the lines that were read are: whole blocks and the first lines of one more.
-use Rattle.std.proofs.Common.{◌≡◌, ◌<◌, ◌+◌, ◌⊎◌, ℕ, Bool, true, false, List, [], ◌∷◌, ◌++◌, Option, Some, None, Result, Ok, Err, arith, refl, sym, ap, ap₂, ◌∙◌, subst, length, length-append, map, nat_le, leb-false, append_assoc, append-nil, flat_map, inl, inr}
+use Rattle.std.proofs.Common.{◌≡◌, ◌<◌, ◌⊎◌, ℕ, Bool, true, false, List, [], ◌∷◌, ◌++◌, Option, Some, None, Result, Ok, Err, arith, refl, sym, ap, ap₂, ◌∙◌, subst, length, length-append, map, nat_le, leb-false, append_assoc, append-nil, flat_map, inl, inr}
 use Rattle.std.specs.Bool.{⊤}
 use Rattle.std.specs.List.{All, AllZip}
 use Rattle.std.proofs.lemmas.Grind.{flat_map-append}
