@@ -1,3 +1,2 @@
 pub mod Loops
 pub mod Below
-pub mod Notes

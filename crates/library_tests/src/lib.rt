@@ -34,8 +34,6 @@ mod name_rows;
 #[cfg(test)]
 mod notation;
 #[cfg(test)]
-mod notes;
-#[cfg(test)]
 mod numbers;
 #[cfg(test)]
 mod orders;
