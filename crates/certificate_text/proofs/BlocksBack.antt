@@ -1,49 +1,44 @@
 -- A certificate of format 1 that is written is a block of evidence text.
-use Rattle.std.proofs.Common.{◌≡◌, ◌<◌, ◌^◌, ℕ, true, List, [], ◌∷◌, Some, Ok, arith, refl, IsTrue}
+use Rattle.std.proofs.Common.{◌++◌, ◌∷◌, ◌≡◌, ◌<◌, ◌^◌, List, [], Some, Ok, arith, refl, IsTrue}
 use Rattle.std.specs.Prelude.{decimal}
 use Rattle.std.specs.Fmt.{signed_decimal}
-use Rattle.std.specs.List.{All, AllByRecursion, list_all}
+use Rattle.std.specs.List.{All, list_all}
 use Rattle.std.proofs.lemmas.List.{length-map}
-use Rattle.std.proofs.lemmas.List.Elements.{All-head, All-tail, All-weaker, All-map, recursion_from_All}
-use Rattle.word_core.specs.Letters.{IsOver}
-use Rattle.quiver.specs.Declarations.{Declaration, letter_count, IsDeclared}
+use Rattle.std.proofs.lemmas.List.Elements.{All-weaker, All-map, recursion_from_All}
+use Rattle.quiver.specs.Declarations.{Declaration, IsDeclared}
 use Rattle.cofactor_trace.specs.declared.CertRow.{CertRow}
 use Rattle.cofactor_trace.specs.declared.Certificate.{Certificate}
 use Rattle.cofactor_trace.specs.declared.evidence.LemmaRow.{LemmaRow}
 use Rattle.cofactor_trace.specs.declared.evidence.Evidence.TheVariants as evidence
 use Rattle.cofactor_trace.specs.declared.evidence.Format.{Format}
 use Rattle.cofactor_trace.specs.declared.evidence.Format.TheVariants as format
-use Rattle.certificate_text.specs.Letters.{number_within}
-use Rattle.certificate_text.specs.Lines.{RowTokens, number_limit, row_values}
-use Rattle.certificate_text.specs.Blocks.{PlainTokens, plain, block_lines, IsPlainRow, IsPlainBlock}
-use Rattle.certificate_text.specs.Bounds.{Bound, names, numbers, words, rows, letters, blocks, IsPlainOf, KeepsOne}
-use Rattle.certificate_text.specs.Evidence.{HasCertificates}
+use Rattle.block_text.specs.Letters.{number_within}
+use Rattle.block_text.specs.Lines.{number_limit}
+use Rattle.certificate_text.specs.Lines.{RowTokens, row_values}
+use Rattle.certificate_text.specs.Blocks.{PlainTokens, plain, certificate_lines, IsPlainRow, IsPlainBlock}
+use Rattle.certificate_text.specs.Bounds.{Bound, names, numbers, words, rows, letters, IsPlainOf, KeepsOne}
+use Rattle.certificate_text.specs.Evidence.{certificate_kind}
 use Rattle.certificate_text.specs.Written.{certificate_text}
-use Rattle.certificate_text.specs.Back.{IsWritableRow, IsWritable, IsWritableLemmaRow, is_named, is_whole}
-use Rattle.certificate_text.proofs.ContentBack.{IsTextOf, text-append}
-use Rattle.certificate_text.proofs.Joined.{text_of_block}
-use Rattle.certificate_text.proofs.LetterNames.{letter_is_spelled}
-use Rattle.certificate_text.proofs.NumbersBack.{integer_read, decimal_number, decimal_within}
+use Rattle.block_text.specs.Back.{is_named}
+use Rattle.certificate_text.specs.Back.{IsWritableRow, IsWritable, IsWritableLemmaRow}
+use Rattle.block_text.proofs.ContentBack.{IsTextOf, text-append}
+use Rattle.block_text.specs.Lines.{end_line}
+use Rattle.block_text.proofs.PartsBack.{IsWritten}
+use Rattle.block_text.proofs.NumbersBack.{integer_read, decimal_number, decimal_within}
 use Rattle.certificate_text.proofs.RowsBack.{row_tree, over_generator, IsWrittenRow, row_is_row, row_says, AreRows, zip_by, trees, rows_are_text, rows_are_rows, letters_in-trees}
-use Rattle.certificate_text.proofs.SizesBack.{IsSize, size_written, opening_is_text, end_is_text}
-use Rattle.certificate_text.proofs.TextsBack.{IsWrittenLetter, letter_written, word_written}
+use Rattle.block_text.proofs.NumberLines.{end_is_text}
+use Rattle.certificate_text.proofs.SizesBack.{IsSize, size_written, opening_is_text}
+use Rattle.block_text.proofs.TextsBack.{word_written, letters_written}
 
 -- ---- rows
 
 module _ (ds : List Declaration) (declared : IsDeclared ds) (known : IsTrue (list_all is_named ds)) where
-  pub letters_written : (w : List ℕ) → IsOver (letter_count ds) w → AllByRecursion (IsWrittenLetter ds) w
-  letters_written [] over = tt
-  letters_written (a ∷ w) over = (
-    letter_written ds a (letter_is_spelled ds a declared known (All-head (λ b. b < letter_count ds) a w over)),
-    letters_written w (All-tail (λ b. b < letter_count ds) a w over),
-  )
-
   pub lemma_row_written : (row : LemmaRow) → IsWritableLemmaRow ds row → IsWrittenRow ds row
   lemma_row_written row writable = record {
     coefficient = integer_read row.coef writable.coefficient;
     number = writable.number;
-    left = word_written ds row.left (letters_written row.left writable.letters.left);
-    right = word_written ds row.right (letters_written row.right writable.letters.right);
+    left = word_written ds row.left (letters_written ds declared known row.left writable.letters.left);
+    right = word_written ds row.right (letters_written ds declared known row.right writable.letters.right);
     short_left = writable.short_left;
     short_right = writable.short_right;
   }
@@ -79,7 +74,7 @@ module _ (ds : List Declaration) (c : Certificate) (writable : IsWritable ds c) 
   of_rows : AreRows ds (trees ds over_generator c.rows)
   of_rows = rows_are_rows ds over_generator c.rows each
 
-  block_is_text : IsTextOf (certificate_text ds c) (block_lines (plain (plain_tree ds c)))
+  block_is_text : IsTextOf (certificate_text ds c) (certificate_lines (plain (plain_tree ds c)) ++ end_line ∷ [])
   block_is_text =
       let listed = rows_are_text ds over_generator c.rows (recursion_from_All (λ row. IsWrittenRow ds (over_generator row)) c.rows each) in
       text-append _ _ _ _ (text-append _ _ _ _ (opening_is_text format.Plain c.claim c.denominator writable.claim size) listed) end_is_text
@@ -99,7 +94,6 @@ module _ (ds : List Declaration) (c : Certificate) (writable : IsWritable ds c) 
   keeps words = of_rows.words
   keeps rows = (rw length-map writable.few, omega arith)
   keeps letters = rw (letters_in-trees ds over_generator c.rows) writable.letters
-  keeps blocks = tt
 
   says : IsPlainOf ds (plain_tree ds c) c
   says = record {
@@ -110,8 +104,5 @@ module _ (ds : List Declaration) (c : Certificate) (writable : IsWritable ds c) 
         (recursion_from_All _ c.rows (All-weaker (λ row. IsWrittenRow ds (over_generator row)) _ (λ row. row_says ds (over_generator row)) c.rows each));
   }
 
-  pub plain_has : (most : Format) → HasCertificates most ds (certificate_text ds c) (evidence.Plain c ∷ [])
-  plain_has most = text_of_block most ds (certificate_text ds c) (plain (plain_tree ds c)) (evidence.Plain c ∷ []) block_is_text is_block keeps (says, tt) (omega arith)
-
-  pub plain_is_whole : is_whole (certificate_text ds c) ≡ true
-  plain_is_whole = block_is_text.whole
+  pub plain_written : (most : Format) → IsWritten (certificate_kind most ds) (certificate_text ds c) (evidence.Plain c)
+  plain_written most = record { tree = plain (plain_tree ds c); text_is = block_is_text; is_tree = is_block; keeps = keeps; says = says }

@@ -1,10 +1,9 @@
 -- The certificates that are read can be checked.
-use Rattle.std.proofs.Common.{◌≡◌, ◌<◌, ◌≤◌, ◌+◌, ℕ, zero, suc, ℤ, pos, Bool, true, false, cond, ◌||◌, List, [], ◌∷◌, ◌++◌, Option, Some, None, Ok, arith, refl, sym, ap, ◌∙◌, subst, length, nat_lt, nat_le, codes}
+use Rattle.std.proofs.Common.{◌≡◌, ◌<◌, ◌≤◌, ◌+◌, ℕ, zero, suc, ℤ, pos, Bool, true, false, cond, List, [], ◌∷◌, Option, Some, None, Ok, arith, refl, sym, ap₂, ◌∙◌, subst, length, map, IfOk, Result, nat_le}
 use Rattle.std.specs.List.{All, flat_map}
-use Rattle.std.proofs.lemmas.Bool.{leb-true, leb-false}
-use Rattle.std.proofs.lemmas.Grind.{flat_map-append}
-use Rattle.std.proofs.lemmas.List.{length-append, append-nil}
-use Rattle.std.proofs.lemmas.List.Elements.{All-nil, All-cons, All-push}
+use Rattle.std.proofs.lemmas.Bool.{leb-true}
+use Rattle.std.proofs.lemmas.List.{length-append}
+use Rattle.std.proofs.lemmas.List.Elements.{All-nil, All-cons, All-head, All-tail, All-weaker}
 use Rattle.std.proofs.lemmas.Option.{option_and_then_some}
 use Rattle.coef_int.specs.Range.{IsCoefficient}
 use Rattle.word_core.specs.Letters.{IsOver}
@@ -17,25 +16,32 @@ use Rattle.cofactor_trace.specs.declared.CertRow.{CertRow}
 use Rattle.cofactor_trace.specs.declared.Certificate.{Certificate}
 use Rattle.cofactor_trace.specs.declared.evidence.LemmaRow.{LemmaRow}
 use Rattle.cofactor_trace.specs.declared.evidence.Lemma.{Lemma}
+use Rattle.cofactor_trace.specs.declared.evidence.LemmaCertificate.{LemmaCertificate}
 use Rattle.cofactor_trace.specs.declared.evidence.Evidence.{Evidence}
 use Rattle.cofactor_trace.specs.declared.evidence.Evidence.TheVariants as block
 use Rattle.cofactor_trace.specs.declared.evidence.Format.{Format}
 use Rattle.cofactor_trace.specs.declared.evidence.Format.TheVariants as format
 use Rattle.cofactor_trace.specs.Limits.{row_limit}
-use Rattle.certificate_text.specs.declared.fault.Flaw.TheVariants.{BadLine, UnknownName, NumberTooLarge}
-use Rattle.certificate_text.specs.declared.place.Size.{Size}
-use Rattle.certificate_text.specs.declared.place.Opened.{Opened}
-use Rattle.certificate_text.specs.declared.place.Place.{Place}
-use Rattle.certificate_text.specs.declared.place.Place.TheVariants as at
-use Rattle.certificate_text.specs.declared.place.Progress.{Progress}
-use Rattle.certificate_text.specs.Fault.{asked}
-use Rattle.certificate_text.specs.Letters.{spelled_by, letter_named, starred, letter_of, number_within, is_negative, digits_of, signed, integer_within}
-use Rattle.certificate_text.specs.Lines.{RowTokens, begins, is_plain_head, is_lemmas_head, is_other_head, is_end, number_behind, claim_of, integer_of, denominator_of, lemma_digits, lemma_scale_of, goal_digits, goal_scale_of, integer_limit, number_limit, row_limit, word_limit, letter_limit, block_limit, row_tokens, word_of, row_values, row_of, over_lemma, lemma_row_of, grown}
-use Rattle.certificate_text.specs.Reading.{progress, headed, lemmas_headed, outside, certificate_of, begun, in_rows, lemma_of, closed_by, resized, scaled, lemma_row, in_lemma, lemma_certificate_of, in_goal, step, evidence_of}
+use Rattle.block_text.specs.declared.fault.Flaw.TheVariants.{UnknownName, NumberTooLarge}
+use Rattle.block_text.specs.Fault.{asked}
+use Rattle.block_text.specs.Letters.{spelled_by, letter_named, starred, letter_of, number_within, is_negative, digits_of, signed, integer_within, word_of}
+use Rattle.block_text.specs.Lines.{integer_of, integer_limit, number_limit}
+use Rattle.certificate_text.specs.Lines.{RowTokens, row_limit, row_values}
 use Rattle.certificate_text.specs.Evidence.{IsRowOver, IsLemmaRowOver, IsCheckable, IsCheckableLemma, IsCheckableByLemmas, IsCheckableEvidence}
-use Rattle.certificate_text.proofs.Results.{bind_ok, asked_ok, by_test, else_ok, ok_has, option_map_some}
-use Rattle.certificate_text.proofs.Kept.{kept_by_text}
-use Rattle.certificate_text.proofs.Stars.{star_in_range}
+use Rattle.block_text.proofs.Results.{bind_ok, asked_ok, ok_has, option_map_some}
+use Rattle.block_text.proofs.Stars.{star_in_range}
+use Rattle.std.specs.List.{AllZip}
+use Rattle.block_text.specs.declared.fault.CertFault.{CertFault}
+use Rattle.block_text.specs.Fault.{ReadsText}
+use Rattle.block_text.specs.Steps.{all_values}
+use Rattle.certificate_text.specs.Blocks as tokens
+use Rattle.certificate_text.specs.Blocks.{ScaledTokens, LemmaTokens, PlainTokens, LemmasTokens, BlockTokens, IsBlock}
+use Rattle.certificate_text.specs.Bounds.{Bound, rows, rows_in, KeepsOne, IsLemmaRowOf, IsScaledOf, IsPlainOf, IsLemmasOf, IsCertificateOf}
+use Rattle.certificate_text.specs.Evidence.{certificate_kind, IsEvidence}
+use Rattle.certificate_text.specs.Reading.{IsPlain, certificate_steps}
+use Rattle.block_text.proofs.EachText.{values_are, read_values_are}
+use Rattle.block_text.proofs.Zips.{zip_length}
+use Rattle.certificate_text.proofs.Reader.{reader}
 
 -- ---- numbers
 
@@ -60,24 +66,6 @@ positive_in_range : (digits : List ℕ) (z : ℤ) → integer_of digits ≡ Ok z
 positive_in_range digits z read =
     option_map_some pos (number_within integer_limit digits) z (asked_ok NumberTooLarge _ z read)
     (λ n within same. subst IsCoefficient same (signed_in_range false n (number_is_within integer_limit digits n within)))
-
-denominator_in_range : (line : List (List ℕ)) (d : ℤ) → denominator_of line ≡ Ok d → IsCoefficient d
-denominator_in_range line d read = bind_ok (asked BadLine (number_behind (codes "denominator") line)) _ d read (λ digits there is. positive_in_range digits d is)
-
-goal_scale_in_range : (line : List (List ℕ)) (s : ℤ) → goal_scale_of line ≡ Ok s → IsCoefficient s
-goal_scale_in_range line s read = bind_ok (asked BadLine (goal_digits line)) _ s read (λ digits there is. positive_in_range digits s is)
-
--- the scale of a lemma, before which there was room for one more
-record IsLemmaScale (before : ℕ) (s : ℤ) : Type 0 where
-  room : before < row_limit
-  scale : IsCoefficient s
-
-lemma_scale_in_range : (before : ℕ) (line : List (List ℕ)) (s : ℤ) → lemma_scale_of before line ≡ Ok s → IsLemmaScale before s
-lemma_scale_in_range before line s read =
-    bind_ok (asked BadLine (lemma_digits (before + 1) line)) _ s read (λ digits there read_on.
-    bind_ok (integer_of digits) _ s read_on (λ scale scale_is counted.
-    else_ok (nat_le row_limit before) _ _ s counted (λ few made.
-    ok_has (IsLemmaScale before) scale s made (record { room = leb-false row_limit before few; scale = positive_in_range digits scale scale_is }))))
 
 -- ---- letters
 
@@ -126,225 +114,91 @@ values_are_good ds r row read_left =
       };
     })))))
 
-row_is_good : (ds : List Declaration) (line : List (List ℕ)) (row : CertRow) → row_of ds line ≡ Ok row → IsGoodRow ds row
-row_is_good ds line row read = bind_ok (asked BadLine (row_tokens format.Plain line)) _ row read (λ r there values. values_are_good ds r row values)
-
 record IsGoodLemmaRow (ds : List Declaration) (row : LemmaRow) : Type 0 where
   coefficient : IsCoefficient row.coef
   letters : IsLemmaRowOver ds row
 
-lemma_row_is_good : (ds : List Declaration) (line : List (List ℕ)) (row : LemmaRow) → lemma_row_of ds line ≡ Ok row → IsGoodLemmaRow ds row
-lemma_row_is_good ds line row read =
-    bind_ok (asked BadLine (row_tokens format.Lemmas line)) _ row read (λ r there values.
-    bind_ok (row_values ds r) _ row values (λ plain plain_is made.
-    let good = values_are_good ds r plain plain_is in
-    ok_has (IsGoodLemmaRow ds) (over_lemma r.lemma plain) row made (record { coefficient = good.coefficient; letters = record { left = good.letters.left; right = good.letters.right } })))
+lemma_row_is_good : (ds : List Declaration) (r : RowTokens) (row : LemmaRow) → IsLemmaRowOf ds r row → IsGoodLemmaRow ds row
+lemma_row_is_good ds r row says =
+    let good = values_are_good ds r says.0 says.1 in
+    subst (IsGoodLemmaRow ds) (sym says.2) (record { coefficient = good.coefficient; letters = record { left = good.letters.left; right = good.letters.right } })
 
--- one row more, within the limit
-record HasGrown (size next : Size) : Type 0 where
-  more : next.rows ≡ size.rows + 1
-  few : next.rows ≤ row_limit
+-- ---- what a tree says
 
-has_grown : (size : Size) (left right : List ℕ) (next : Size) → grown size left right ≡ Ok next → HasGrown size next
-has_grown size left right next read =
-    else_ok (nat_lt word_limit (length left) || nat_lt word_limit (length right)) _ _ next read (λ short read_on.
-    else_ok (nat_le row_limit size.rows) _ _ next read_on (λ room counted.
-    else_ok (nat_lt letter_limit (size.letters + (length left + length right))) _ _ next counted (λ fits made.
-    let below : size.rows < row_limit = leb-false row_limit size.rows room in
-    ok_has (HasGrown size) _ next made (record { more = refl; few = omega (arith, below) }))))
+-- what holds of what each says holds of all
+zip_all : {X Y : Type 0} (R : X → Y → Type 0) (P : Y → Type 0) → ((x : X) (y : Y) → R x y → P y) → (xs : List X) (ys : List Y) → AllZip R xs ys → All P ys
+zip_all R P each [] [] zipped = All-nil P
+zip_all R P each [] (y ∷ ys) zipped = absurd zipped
+zip_all R P each (x ∷ xs) [] zipped = absurd zipped
+zip_all R P each (x ∷ xs) (y ∷ ys) zipped = All-cons P y ys (each x y zipped.0) (zip_all R P each xs ys zipped.1)
 
--- ---- certificates without lemmas
+module _ (ds : List Declaration) where
+  plain_checkable : (b : PlainTokens) (c : Certificate) → length b.rows ≤ row_limit → IsPlainOf ds b c → IsCheckable ds c
+  plain_checkable b c few says =
+      let good : All (IsGoodRow ds) c.rows = zip_all (λ r row. row_values ds r ≡ Ok row) (IsGoodRow ds) (values_are_good ds) b.rows c.rows says.rows in
+      record {
+        few = omega (arith, few, zip_length (λ r row. row_values ds r ≡ Ok row) b.rows c.rows says.rows);
+        denominator = positive_in_range b.denominator c.denominator says.denominator;
+        coefficients = All-weaker (IsGoodRow ds) (λ row. IsCoefficient row.coef) (λ row fits. fits.coefficient) c.rows good;
+        letters = All-weaker (IsGoodRow ds) (IsRowOver ds) (λ row fits. fits.letters) c.rows good;
+      }
 
--- with as many rows as its size says
-record IsGoodPlain (ds : List Declaration) (c : Certificate) (size : Size) : Type 0 where
-  checkable : IsCheckable ds c
-  counted : length c.rows ≡ size.rows
+  scaled_checkable : (s : ScaledTokens) (l : Lemma) → IsScaledOf ds s l → IsCheckableLemma ds l
+  scaled_checkable s l says =
+      let good : All (IsGoodLemmaRow ds) l.rows = zip_all (IsLemmaRowOf ds) (IsGoodLemmaRow ds) (lemma_row_is_good ds) s.rows l.rows says.rows in
+      record {
+        scale = positive_in_range s.scale l.scale says.scale;
+        coefficients = All-weaker (IsGoodLemmaRow ds) (λ row. IsCoefficient row.coef) (λ row fits. fits.coefficient) l.rows good;
+        letters = All-weaker (IsGoodLemmaRow ds) (IsLemmaRowOver ds) (λ row fits. fits.letters) l.rows good;
+      }
 
-with_row : (ds : List Declaration) (c : Certificate) (size : Size) (row : CertRow) (next : Size) → IsGoodPlain ds c size → IsGoodRow ds row → HasGrown size next
-    → IsGoodPlain ds (certificate_of c.claim c.denominator (c.rows ++ row ∷ [])) next
-with_row ds c size row next good fits more = record {
-  checkable = record {
-    few = omega (arith, length-append c.rows (row ∷ []), good.counted, more.more, more.few);
-    denominator = good.checkable.denominator;
-    coefficients = All-push (λ r. IsCoefficient r.coef) c.rows row good.checkable.coefficients fits.coefficient;
-    letters = All-push (IsRowOver ds) c.rows row good.checkable.letters fits.letters;
-  };
-  counted = omega (arith, length-append c.rows (row ∷ []), good.counted, more.more);
-}
+  abbrev Each : LemmaTokens → Lemma → Type 0
+  Each l lemma = IsScaledOf ds l.scaled lemma
 
--- ---- certificates with lemmas
+  -- there are as many rows in the lemmas as in their tokens
+  rows_count : (ls : List LemmaTokens) (lemmas : List Lemma) → AllZip Each ls lemmas → length (flat_map (λ l. l.scaled.rows) ls) ≡ length (flat_map (λ l. l.rows) lemmas)
+  rows_count [] [] zipped = refl
+  rows_count [] (l ∷ lemmas) zipped = absurd zipped
+  rows_count (l ∷ ls) [] zipped = absurd zipped
+  rows_count (l ∷ ls) (lemma ∷ lemmas) zipped =
+      length-append l.scaled.rows (flat_map (λ k. k.scaled.rows) ls)
+      ∙ ap₂ (λ (m n : ℕ). m + n) (zip_length (IsLemmaRowOf ds) l.scaled.rows lemma.rows zipped.0.rows) (rows_count ls lemmas zipped.1)
+      ∙ sym (length-append lemma.rows (flat_map (λ k. k.rows) lemmas))
 
--- how many rows the lemmas have
-abbrev rows_in : List Lemma → ℕ
-rows_in lemmas = length (flat_map (λ l. l.rows) lemmas)
-
-rows_in-push : (lemmas : List Lemma) (l : Lemma) → rows_in (lemmas ++ l ∷ []) ≡ rows_in lemmas + length l.rows
-rows_in-push lemmas l = ap length (flat_map-append (λ l. l.rows) lemmas (l ∷ [])) ∙ length-append _ _ ∙ ap (λ n. rows_in lemmas + n) (ap length (append-nil l.rows))
-
--- what was read of one, whose rows that are not those of its lemmas are as many as this
-record IsGoodOpened (ds : List Declaration) (o : Opened) (rows : ℕ) : Type 0 where
-  few_lemmas : length o.lemmas ≤ row_limit
-  few_rows : o.size.rows ≤ row_limit
-  counted : rows_in o.lemmas + rows ≡ o.size.rows
-  denominator : IsCoefficient o.denominator
-  lemmas : All (IsCheckableLemma ds) o.lemmas
-
--- the same where the rows are those of a lemma or of the goal
-record IsGoodAt (ds : List Declaration) (o : Opened) (l : Lemma) : Type 0 where
-  opened : IsGoodOpened ds o (length l.rows)
-  lemma : IsCheckableLemma ds l
-
--- the same of a lemma for which there is room
-record IsGoodLemma (ds : List Declaration) (o : Opened) (l : Lemma) : Type 0 where
-  here : IsGoodAt ds o l
-  room : length o.lemmas < row_limit
-
-without_rows : (ds : List Declaration) (s : ℤ) → IsCoefficient s → IsCheckableLemma ds (lemma_of s [])
-without_rows ds s scale = record { scale = scale; coefficients = All-nil (λ r. IsCoefficient r.coef); letters = All-nil (IsLemmaRowOver ds) }
-
--- a row more
-record IsNextOf (ds : List Declaration) (o : Opened) (next : Opened × Lemma) : Type 0 where
-  here : IsGoodAt ds next.0 next.1
-  lemmas : next.0.lemmas ≡ o.lemmas
-
-with_lemma_row : (ds : List Declaration) (o : Opened) (l : Lemma) (row : LemmaRow) (size : Size) → IsGoodAt ds o l → IsGoodLemmaRow ds row → HasGrown o.size size
-    → IsNextOf ds o (resized o size, lemma_of l.scale (l.rows ++ row ∷ []))
-with_lemma_row ds o l row size good fits more = record {
-  here = record {
-    opened = record {
-      few_lemmas = good.opened.few_lemmas;
-      few_rows = more.few;
-      counted = omega (arith, length-append l.rows (row ∷ []), good.opened.counted, more.more);
-      denominator = good.opened.denominator;
-      lemmas = good.opened.lemmas;
-    };
-    lemma = record {
-      scale = good.lemma.scale;
-      coefficients = All-push (λ r. IsCoefficient r.coef) l.rows row good.lemma.coefficients fits.coefficient;
-      letters = All-push (IsLemmaRowOver ds) l.rows row good.lemma.letters fits.letters;
-    };
-  };
-  lemmas = refl;
-}
-
-lemma_row_good : (ds : List Declaration) (o : Opened) (l : Lemma) (line : List (List ℕ)) (next : Opened × Lemma) → IsGoodAt ds o l → lemma_row ds o l line ≡ Ok next → IsNextOf ds o next
-lemma_row_good ds o l line next good read =
-    bind_ok (lemma_row_of ds line) _ next read (λ row row_is read_on.
-    bind_ok (grown o.size row.left row.right) _ next read_on (λ size size_is made.
-    ok_has (IsNextOf ds o) _ next made (with_lemma_row ds o l row size good (lemma_row_is_good ds line row row_is) (has_grown o.size row.left row.right size size_is))))
-
--- the lemma is one of those whose rows were read
-closed_good : (ds : List Declaration) (o : Opened) (l : Lemma) → IsGoodLemma ds o l → IsGoodOpened ds (closed_by o l) 0
-closed_good ds o l good = record {
-  few_lemmas = omega (arith, length-append o.lemmas (l ∷ []), good.room);
-  few_rows = good.here.opened.few_rows;
-  counted = omega (arith, rows_in-push o.lemmas l, good.here.opened.counted);
-  denominator = good.here.opened.denominator;
-  lemmas = All-push (IsCheckableLemma ds) o.lemmas l good.here.opened.lemmas good.here.lemma;
-}
-
-made_checkable : (ds : List Declaration) (o : Opened) (goal : Lemma) → IsGoodAt ds o goal → IsCheckableByLemmas ds (lemma_certificate_of o goal)
-made_checkable ds o goal good = record {
-  few_lemmas = good.opened.few_lemmas;
-  few_rows = omega (arith, good.opened.counted, good.opened.few_rows);
-  denominator = good.opened.denominator;
-  lemmas = good.opened.lemmas;
-  goal = good.lemma;
-}
-
--- ---- lines
-
--- what is read of a block
-abbrev IsGoodPlace : List Declaration → Place → Type 0
-IsGoodPlace ds (at.Rows c size) = IsGoodPlain ds c size
-IsGoodPlace ds (at.Opened o) = IsGoodOpened ds o 0
-IsGoodPlace ds (at.Lemma o l) = IsGoodLemma ds o l
-IsGoodPlace ds (at.Goal o goal) = IsGoodAt ds o goal
-IsGoodPlace ds place = Unit {0}
-
-record IsGood (ds : List Declaration) (p : Progress) : Type 0 where
-  done : All (IsCheckableEvidence ds) p.blocks
-  place : IsGoodPlace ds p.place
-
-module _ (ds : List Declaration) (done : List Evidence) (good : All (IsCheckableEvidence ds) done) where
-  good_at : (place : Place) → IsGoodPlace ds place → IsGood ds (progress done place)
-  good_at place here = record { done = good; place = here }
-
-  one_more : (e : Evidence) → IsCheckableEvidence ds e → IsGood ds (progress (done ++ e ∷ []) at.Outside)
-  one_more e checkable = record { done = All-push (IsCheckableEvidence ds) done e good checkable; place = tt }
-
-  headed_good : (form : Format) (q : Progress) → headed done form ≡ Ok q → IsGood ds q
-  headed_good form q read = else_ok (nat_le block_limit (length done)) _ _ q read (λ room made. ok_has (IsGood ds) _ q made (good_at (at.Headed form) tt))
-
-  lemmas_headed_good : (most : Format) (q : Progress) → lemmas_headed most done ≡ Ok q → IsGood ds q
-  lemmas_headed_good format.Plain q read = absurd (cc)
-  lemmas_headed_good format.Lemmas q read = headed_good format.Lemmas q read
-
-  outside_good : (most : Format) (line : List (List ℕ)) (q : Progress) → outside most done line ≡ Ok q → IsGood ds q
-  outside_good most line q read =
-      by_test (is_plain_head line) _ _ (Ok q) read (λ head made. headed_good format.Plain q made) (λ not_plain others.
-      by_test (is_lemmas_head line) _ _ (Ok q) others (λ head made. lemmas_headed_good most q made) (λ not_lemmas other.
-      by_test (is_other_head line) _ _ (Ok q) other (λ head made. ok_has (IsGood ds) _ q made (good_at at.Skipped tt)) (λ neither refused. absurd (cc))))
-
-  skipped_good : (end : Bool) → IsGoodPlace ds (cond end at.Outside at.Skipped)
-  skipped_good true = tt
-  skipped_good false = tt
-
-  begun_good : (form : Format) (n : ℕ) (d : ℤ) → IsCoefficient d → IsGoodPlace ds (begun form n d)
-  begun_good format.Plain n d denominator = record {
-    checkable = record { few = omega arith; denominator = denominator; coefficients = All-nil (λ r. IsCoefficient r.coef); letters = All-nil (IsRowOver ds) };
-    counted = refl;
+  lemmas_checkable : (b : LemmasTokens) (c : LemmaCertificate) → length (rows_in (tokens.lemmas b)) ≤ row_limit → length b.lemmas ≤ row_limit → IsLemmasOf ds b c → IsCheckableByLemmas ds c
+  lemmas_checkable b c few few_lemmas says = record {
+    few_lemmas = omega (arith, few_lemmas, zip_length Each b.lemmas c.lemmas says.lemmas);
+    few_rows =
+        omega (arith, few, length-append (flat_map (λ l. l.scaled.rows) b.lemmas) b.goal.rows, rows_count b.lemmas c.lemmas says.lemmas, zip_length (IsLemmaRowOf ds) b.goal.rows c.goal.rows says.goal.rows);
+    denominator = positive_in_range b.denominator c.denominator says.denominator;
+    lemmas = zip_all Each (IsCheckableLemma ds) (λ l lemma scaled. scaled_checkable l.scaled lemma scaled) b.lemmas c.lemmas says.lemmas;
+    goal = scaled_checkable b.goal c.goal says.goal;
   }
-  begun_good format.Lemmas n d denominator = record { few_lemmas = omega arith; few_rows = omega arith; counted = refl; denominator = denominator; lemmas = All-nil (IsCheckableLemma ds) }
 
-  rows_good : (c : Certificate) (size : Size) (line : List (List ℕ)) (q : Progress) → IsGoodPlain ds c size → in_rows ds done c size line ≡ Ok q → IsGood ds q
-  rows_good c size line q here read =
-      by_test (is_end line) _ _ (Ok q) read (λ ends made. ok_has (IsGood ds) _ q made (one_more (block.Plain c) here.checkable)) (λ goes_on another.
-      bind_ok (row_of ds line) _ q another (λ row row_is read_on.
-      bind_ok (grown size row.left row.right) _ q read_on (λ next next_is made.
-      ok_has (IsGood ds) _ q made (good_at (at.Rows (certificate_of c.claim c.denominator (c.rows ++ row ∷ [])) next)
-      (with_row ds c size row next here (row_is_good ds line row row_is) (has_grown size row.left row.right next next_is))))))
+  pub tree_checkable : (b : BlockTokens) (e : Evidence) → ((bound : Bound) → KeepsOne ds bound b) → IsCertificateOf ds b e → IsCheckableEvidence ds e
+  tree_checkable (tokens.plain b) (block.Plain c) keeps says = plain_checkable b c (keeps rows).0 says
+  tree_checkable (tokens.plain b) (block.Lemmas c) keeps says = absurd says
+  tree_checkable (tokens.lemmas b) (block.Lemmas c) keeps says = lemmas_checkable b c (keeps rows).0 (keeps rows).1 says
+  tree_checkable (tokens.lemmas b) (block.Plain c) keeps says = absurd says
 
-  scaled_good : (o : Opened) (line : List (List ℕ)) (q : Progress) → IsGoodOpened ds o 0 → scaled done o line ≡ Ok q → IsGood ds q
-  scaled_good o line q here read =
-      by_test (begins (codes "goal") line) _ _ (Ok q) read
-      (λ goal goal_read.
-      bind_ok (goal_scale_of line) _ q goal_read (λ s s_is made.
-      ok_has (IsGood ds) _ q made (good_at (at.Goal o (lemma_of s [])) (record { opened = here; lemma = without_rows ds s (goal_scale_in_range line s s_is) }))))
-      (λ other lemma_read.
-      bind_ok (lemma_scale_of (length o.lemmas) line) _ q lemma_read (λ s s_is made.
-      let fits = lemma_scale_in_range (length o.lemmas) line s s_is in
-      ok_has (IsGood ds) _ q made (good_at (at.Lemma o (lemma_of s [])) (record { here = record { opened = here; lemma = without_rows ds s fits.scale }; room = fits.room }))))
+  pub are_checkable : (most : Format) (bytes : List ℕ) (es : List Evidence) → IsEvidence most ds bytes es → All (IsCheckableEvidence ds) es
+  are_checkable most bytes es is = values_are (certificate_kind most ds) (certificate_steps most ds) (reader most ds) (IsCheckableEvidence ds) (λ b e block keeps says. tree_checkable b e keeps says) bytes es is
 
-  in_lemma_good : (o : Opened) (l : Lemma) (line : List (List ℕ)) (q : Progress) → IsGoodLemma ds o l → in_lemma ds done o l line ≡ Ok q → IsGood ds q
-  in_lemma_good o l line q here read =
-      by_test (begins (codes "row") line) _ _ (Ok q) read
-      (λ row row_read.
-      bind_ok (lemma_row ds o l line) _ q row_read (λ next next_is made.
-      let good_next = lemma_row_good ds o l line next here.here next_is in
-      ok_has (IsGood ds) _ q made (good_at (at.Lemma next.0 next.1) (record { here = good_next.here; room = subst (λ (ls : List Lemma). length ls < row_limit) (sym good_next.lemmas) here.room }))))
-      (λ other closed. scaled_good (closed_by o l) line q (closed_good ds o l here) closed)
+  pub checkable_told : (most : Format) (bytes : List ℕ) (r : Result (List Evidence) CertFault) → ReadsText (λ es. es) r (all_values (certificate_steps most ds) bytes) → IfOk r (All (IsCheckableEvidence ds))
+  checkable_told most bytes r read =
+      read_values_are (certificate_kind most ds) (certificate_steps most ds) (reader most ds) (IsCheckableEvidence ds) (λ b e block keeps says. tree_checkable b e keeps says) bytes r read
 
-  in_goal_good : (o : Opened) (goal : Lemma) (line : List (List ℕ)) (q : Progress) → IsGoodAt ds o goal → in_goal ds done o goal line ≡ Ok q → IsGood ds q
-  in_goal_good o goal line q here read =
-      by_test (is_end line) _ _ (Ok q) read (λ ends made. ok_has (IsGood ds) _ q made (one_more (block.Lemmas (lemma_certificate_of o goal)) (made_checkable ds o goal here))) (λ goes_on another.
-      bind_ok (lemma_row ds o goal line) _ q another (λ next next_is made.
-      ok_has (IsGood ds) _ q made (good_at (at.Goal next.0 next.1) (lemma_row_good ds o goal line next here next_is).here)))
+  -- where format 1 alone is read, each block is of format 1
+  tree_plain : (b : BlockTokens) (e : Evidence) → IsBlock format.Plain b → IsCertificateOf ds b e → IsPlain e
+  tree_plain (tokens.plain b) (block.Plain c) is says = tt
+  tree_plain (tokens.plain b) (block.Lemmas c) is says = absurd says
+  tree_plain (tokens.lemmas b) e is says = absurd is
 
-  step_good : (most : Format) (place : Place) (line : List (List ℕ)) (q : Progress) → IsGoodPlace ds place → step most ds done place line ≡ Ok q → IsGood ds q
-  step_good most at.Outside line q here read = outside_good most line q read
-  step_good most at.Skipped line q here read = ok_has (IsGood ds) _ q read (good_at (cond (is_end line) at.Outside at.Skipped) (skipped_good (is_end line)))
-  step_good most (at.Headed form) line q here read = bind_ok (claim_of line) _ q read (λ n n_is made. ok_has (IsGood ds) _ q made (good_at (at.Claimed form n) tt))
-  step_good most (at.Claimed form n) line q here read =
-      bind_ok (denominator_of line) _ q read (λ d d_is made. ok_has (IsGood ds) _ q made (good_at (begun form n d) (begun_good form n d (denominator_in_range line d d_is))))
-  step_good most (at.Rows c size) line q here read = rows_good c size line q here read
-  step_good most (at.Opened o) line q here read = scaled_good o line q here read
-  step_good most (at.Lemma o l) line q here read = in_lemma_good o l line q here read
-  step_good most (at.Goal o goal) line q here read = in_goal_good o goal line q here read
+  pub are_plain : (bytes : List ℕ) (es : List Evidence) → IsEvidence format.Plain ds bytes es → All IsPlain es
+  are_plain bytes es is = values_are (certificate_kind format.Plain ds) (certificate_steps format.Plain ds) (reader format.Plain ds) IsPlain (λ b e block keeps says. tree_plain b e block says) bytes es is
 
--- ---- the text
-
-pub are_checkable : (most : Format) (ds : List Declaration) (bytes : List ℕ) (es : List Evidence) → evidence_of most ds bytes ≡ Ok es → All (IsCheckableEvidence ds) es
-are_checkable most ds =
-    kept_by_text most ds (IsGood ds) (λ p q line fine. step_good ds p.blocks fine.done most p.place line q fine.place) (All (IsCheckableEvidence ds)) (λ p fine. fine.done)
-    (record { done = All-nil (IsCheckableEvidence ds); place = tt })
+-- what holds of the blocks of format 1 holds of their certificates
+pub all_plain : (ds : List Declaration) (cs : List Certificate) → All (IsCheckableEvidence ds) (map block.Plain cs) → All (IsCheckable ds) cs
+all_plain ds [] each = All-nil (IsCheckable ds)
+all_plain ds (c ∷ cs) each =
+    All-cons (IsCheckable ds) c cs (All-head (IsCheckableEvidence ds) (block.Plain c) (map block.Plain cs) each) (all_plain ds cs (All-tail (IsCheckableEvidence ds) (block.Plain c) (map block.Plain cs) each))

@@ -1,6 +1,6 @@
 -- Worked texts, over the objects U and V and a map a : U -> V.
 use lib.Utf8.{encode}
-use Rattle.std.proofs.Common.{◌≡◌, pos, negsuc, false, List, [], ◌∷◌, Result, Ok, Err, arith, refl, codes}
+use Rattle.std.proofs.Common.{◌≡◌, ℕ, pos, negsuc, false, List, [], ◌∷◌, Result, Ok, Err, arith, refl, codes}
 use Rattle.std.proofs.lemmas.Fmt.{decimal_digit}
 use Rattle.std.specs.Str.{is_utf8, chars}
 use Rattle.std.specs.Str.Lines.{lines}
@@ -8,11 +8,14 @@ use Rattle.quiver.specs.Declarations.{Declaration, object, arrow}
 use Rattle.cofactor_trace.specs.declared.evidence.CertFrom.TheVariants as over
 use Rattle.cofactor_trace.specs.declared.evidence.Evidence.{Evidence}
 use Rattle.cofactor_trace.specs.declared.evidence.Evidence.TheVariants as block
+use Rattle.cofactor_trace.specs.declared.evidence.Format.{Format}
 use Rattle.cofactor_trace.specs.declared.evidence.Format.TheVariants.{Plain, Lemmas}
-use Rattle.certificate_text.specs.Fault.{Fault, truncated, no_block}
-use Rattle.certificate_text.specs.Tokens.{tokens_of}
-use Rattle.certificate_text.specs.Reading.{evidence_of}
-use Rattle.certificate_text.specs.Written.{word_text, poly_text, certificate_text}
+use Rattle.block_text.specs.Fault.{Fault, truncated, no_block}
+use Rattle.block_text.specs.Tokens.{tokens_of}
+use Rattle.block_text.specs.Steps.{all_values}
+use Rattle.certificate_text.specs.Reading.{certificate_steps}
+use Rattle.block_text.specs.Written.{word_text, poly_text}
+use Rattle.certificate_text.specs.Written.{certificate_text}
 
 abbrev declared : List Declaration
 declared = object (codes "U") ∷ object (codes "V") ∷ arrow (codes "a") 0 1 false ∷ []
@@ -28,15 +31,18 @@ tight = refl
 
 -- ---- reading
 
+abbrev read_of : Format → List ℕ → Result (List Evidence) Fault
+read_of most text = all_values (certificate_steps most declared) text
+
 abbrev answer : Result (List Evidence) Fault → Type 0
-answer found = evidence_of Plain declared (codes "certificate 1\nclaim 07\ndenominator 0\n# rows\nrow -3 () 2 ()\nend\nbasis 1\nrest ( x\nend\n") ≡ found
+answer found = read_of Plain (codes "certificate 1\nclaim 07\ndenominator 0\n# rows\nrow -3 () 2 ()\nend\nbasis 1\nrest ( x\nend\n") ≡ found
 
 read : answer (Ok (block.Plain (record { claim = 7; denominator = pos 0; rows = record { coef = negsuc 2; left = []; generator = 2; right = [] } ∷ [] }) ∷ []))
 unfolding is_utf8 chars encode
 read = refl
 
 -- a lemma, of one row over a generator, and a goal over it
-with_lemmas : evidence_of Lemmas declared (codes "certificate 2\nclaim 1\ndenominator 2\nlemma 1 scale 2\nrow 1 () 3 ()\ngoal scale 1\nrow 2 () lemma 1 ()\nend\n")
+with_lemmas : read_of Lemmas (codes "certificate 2\nclaim 1\ndenominator 2\nlemma 1 scale 2\nrow 1 () 3 ()\ngoal scale 1\nrow 2 () lemma 1 ()\nend\n")
     ≡ Ok (block.Lemmas (record {
       claim = 1;
       denominator = pos 2;
@@ -47,30 +53,30 @@ unfolding is_utf8 chars encode
 with_lemmas = refl
 
 -- where format 1 alone is read
-not_read : evidence_of Plain declared (codes "certificate 2\nclaim 1\n") ≡ Err (record { code = 2; line = 1; limit = 0 })
+not_read : read_of Plain (codes "certificate 2\nclaim 1\n") ≡ Err (record { code = 2; line = 1; limit = 0 })
 unfolding is_utf8 chars encode
 not_read = refl
 
 -- the first lemma has the number 1
-not_numbered : evidence_of Lemmas declared (codes "certificate 2\nclaim 1\ndenominator 2\nlemma 2 scale 1\n") ≡ Err (record { code = 2; line = 4; limit = 0 })
+not_numbered : read_of Lemmas (codes "certificate 2\nclaim 1\ndenominator 2\nlemma 2 scale 1\n") ≡ Err (record { code = 2; line = 4; limit = 0 })
 unfolding is_utf8 chars encode
 not_numbered = refl
 
 -- a minus at a denominator, after a comment
-bad_line : evidence_of Plain declared (codes "#\ncertificate 1\nclaim 1\ndenominator -1\n") ≡ Err (record { code = 2; line = 4; limit = 0 })
+bad_line : read_of Plain (codes "#\ncertificate 1\nclaim 1\ndenominator -1\n") ≡ Err (record { code = 2; line = 4; limit = 0 })
 unfolding is_utf8 chars encode
 bad_line = refl
 
-too_large : evidence_of Plain declared (codes "certificate 1\nclaim 4294967296\nend\n") ≡ Err (record { code = 4; line = 2; limit = 0 })
+too_large : read_of Plain (codes "certificate 1\nclaim 4294967296\nend\n") ≡ Err (record { code = 4; line = 2; limit = 0 })
 unfolding is_utf8 chars encode
 too_large = refl
 
 -- a skipped block that is not ended, and no certificate
-not_ended : evidence_of Plain declared (codes "model 1\nend 1\n") ≡ Err truncated
+not_ended : read_of Plain (codes "model 1\nend 1\n") ≡ Err truncated
 unfolding is_utf8 chars encode
 not_ended = refl
 
-none : evidence_of Plain declared (codes "model 1\nend\n") ≡ Err no_block
+none : read_of Plain (codes "model 1\nend\n") ≡ Err no_block
 unfolding is_utf8 chars encode
 none = refl
 

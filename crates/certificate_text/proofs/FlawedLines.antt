@@ -8,40 +8,59 @@ use Rattle.cofactor_trace.specs.declared.CertRow.{CertRow}
 use Rattle.cofactor_trace.specs.declared.Certificate.{Certificate}
 use Rattle.cofactor_trace.specs.declared.evidence.Lemma.{Lemma}
 use Rattle.cofactor_trace.specs.declared.evidence.LemmaRow.{LemmaRow}
-use Rattle.cofactor_trace.specs.declared.evidence.Evidence.{Evidence}
 use Rattle.cofactor_trace.specs.declared.evidence.Format.{Format}
 use Rattle.cofactor_trace.specs.declared.evidence.Format.TheVariants.{Plain, Lemmas}
-use Rattle.certificate_text.specs.declared.fault.Flaw.{Flaw}
-use Rattle.certificate_text.specs.declared.fault.Flaw.TheVariants.{BadLine, NumberTooLarge, TooMany}
+use Rattle.block_text.specs.declared.fault.Flaw.{Flaw}
+use Rattle.block_text.specs.declared.fault.Flaw.TheVariants.{BadLine, NumberTooLarge, TooMany}
 use Rattle.certificate_text.specs.declared.place.Size.{Size}
 use Rattle.certificate_text.specs.declared.place.Opened.{Opened}
-use Rattle.certificate_text.specs.declared.place.Place.{Place}
-use Rattle.certificate_text.specs.declared.place.Place.TheVariants as at
-use Rattle.certificate_text.specs.Fault.{asked}
-use Rattle.certificate_text.specs.Letters.{is_number, number_within}
-use Rattle.certificate_text.specs.Lines.{RowTokens, block_limit, begins, is_plain_head, is_lemmas_head, is_other_head, is_end, number_limit, integer_limit, row_limit, is_value, is_row, integer_of, number_behind, claim_of, denominator_of, lemma_digits, lemma_scale_of, goal_digits, goal_scale_of, row_tokens, row_values, row_of, over_lemma, lemma_row_of, grown}
-use Rattle.certificate_text.specs.Blocks.{Line, ScaledTokens, PlainTokens, BlockTokens, plain, lemmas, row_line, head_line, IsPlainRow, IsPlainBlock}
-use Rattle.certificate_text.specs.Bounds.{Bound, names, numbers, words, rows, blocks, rows_in, HasNames, IsScaledOf, flaw_of, before, KeepsOne}
-use Rattle.certificate_text.specs.Reading.{headed, lemmas_headed, outside, in_rows, closed_by, scaled, lemma_row, in_lemma, in_goal, step}
-use Rattle.certificate_text.proofs.Results.{by_test, bind_ok, bind_err, asked_ok, asked_err}
-use Rattle.certificate_text.proofs.LineTrees.{plain_head_is, lemmas_head_is, number_is, lemma_is, goal_is, plain_row_is, lemma_row_is}
-use Rattle.certificate_text.proofs.RowTrees.{RowsWithin, Pass, passes_unvalued, passes_full, integer_is_within}
-use Rattle.certificate_text.proofs.Zips.{zip_length}
-use Rattle.certificate_text.proofs.BlockTrees.{keeps_one, Begin}
-use Rattle.certificate_text.proofs.OpenBlocks.{IsRead, lemmas_read, IsOpen, begin_headed, IsHeaded, IsClaimed, IsInPlain, IsOpened, IsInside, Lead, lead_lines, IsNext, rows_of, lemmas_front, rows_behind, rows_are, rows_outside, rows_keep_one, begin_rows, begin_plain, begin_claimed, begin_shortest, shortest, plain_outside}
+use Rattle.certificate_text.specs.declared.place.Stage.{Stage}
+use Rattle.certificate_text.specs.declared.place.Stage.TheVariants as at
+use Rattle.block_text.specs.Fault.{asked}
+use Rattle.block_text.specs.Letters.{is_number, number_within}
+use Rattle.block_text.specs.Lines.{begins, number_limit, integer_limit, integer_of, number_behind, claim_of, Line}
+use Rattle.certificate_text.specs.Lines.{RowTokens, row_limit, is_value, is_row, denominator_of, lemma_digits, lemma_scale_of, goal_digits, goal_scale_of, row_tokens, row_values, row_of, over_lemma, lemma_row_of, grown}
+use Rattle.certificate_text.specs.Blocks.{ScaledTokens, PlainTokens, BlockTokens, plain, lemmas, row_line, IsPlainRow, IsPlainBlock}
+use Rattle.certificate_text.specs.Bounds.{Bound, names, numbers, words, rows, letters, rows_in, HasNames, IsScaledOf, flaw_of, KeepsOne}
+use Rattle.certificate_text.specs.Reading.{in_rows, closed_by, scaled, lemma_row, in_lemma, in_goal, next}
+use Rattle.block_text.proofs.Results.{by_test, bind_ok, bind_err, asked_ok, asked_err}
+use Rattle.block_text.proofs.LineTrees.{number_is}
+use Rattle.certificate_text.proofs.LineTrees.{lemma_is, goal_is, plain_row_is, lemma_row_is}
+use Rattle.certificate_text.proofs.RowTrees.{before, RowsWithin, Pass, passes_unvalued, passes_full, integer_is_within}
+use Rattle.block_text.proofs.Zips.{zip_length}
+use Rattle.block_text.proofs.Owed.{Begins, IsStopped, misfit, passes, IsListed}
+use Rattle.certificate_text.specs.Evidence.{certificate_kind}
+use Rattle.certificate_text.proofs.OpenBlocks.{keeps_one, IsOpen, IsHeaded, IsClaimed, IsInPlain, IsOpened, IsInside, Lead, lead_lines, IsNext, rows_of, lemmas_front, rows_behind, rows_are, rows_outside, rows_keep_one, begin_rows, begin_plain, begin_claimed, begin_shortest, shortest, plain_outside}
 use Rattle.certificate_text.proofs.NextLines.{lemma_finished, plain_push, plain_front-push, scaled_push, lead_lines-push}
 
--- a line that doesn't fit, or with which a block begins that keeps the bounds before one
-pub data IsStopped (most : Format) (ds : List Declaration) (flaw : Flaw) (front : List Line) : Type 0 where
-  misfit : flaw ≡ BadLine → IsStopped most ds flaw front
-  passes : (bound : Bound) → flaw ≡ flaw_of bound → Begin most ds (before bound) front → IsStopped most ds flaw front
+-- where the bound stands among all
+pub placed : (most : Format) (ds : List Declaration) (bound : Bound) → IsListed (certificate_kind most ds) bound
+placed most ds names = record { earlier = []; later = numbers ∷ words ∷ rows ∷ letters ∷ []; splits = refl }
+placed most ds numbers = record { earlier = names ∷ []; later = words ∷ rows ∷ letters ∷ []; splits = refl }
+placed most ds words = record { earlier = names ∷ numbers ∷ []; later = rows ∷ letters ∷ []; splits = refl }
+placed most ds rows = record { earlier = names ∷ numbers ∷ words ∷ []; later = letters ∷ []; splits = refl }
+placed most ds letters = record { earlier = names ∷ numbers ∷ words ∷ rows ∷ []; later = []; splits = refl }
+
+earlier_is : (most : Format) (ds : List Declaration) (bound : Bound) → (placed most ds bound).earlier ≡ before bound
+unfolding placed
+earlier_is most ds names = refl
+earlier_is most ds numbers = refl
+earlier_is most ds words = refl
+earlier_is most ds rows = refl
+earlier_is most ds letters = refl
+
+-- a block begins with the lines that keeps the bounds before one
+stopped_at : (most : Format) (ds : List Declaration) (flaw : Flaw) (front : List Line) (bound : Bound) → flaw ≡ flaw_of bound → Begins (certificate_kind most ds) (before bound) front → IsStopped (certificate_kind most ds) flaw front
+stopped_at most ds flaw front bound told begins =
+    passes (placed most ds bound).earlier (placed most ds bound).later bound (placed most ds bound).splits told
+    (subst (λ (bs : List Bound). Begins (certificate_kind most ds) bs front) (sym (earlier_is most ds bound)) begins)
 
 too_large : (digits : List ℕ) (flaw : Flaw) → integer_of digits ≡ Err flaw → flaw ≡ NumberTooLarge
 too_large digits flaw read = asked_err NumberTooLarge (option_map pos (number_within integer_limit digits)) flaw read
 
 module _ (most : Format) (ds : List Declaration) (flaw : Flaw) (front : List Line) (line : Line) where
   abbrev Stopped : Type 0
-  Stopped = IsStopped most ds flaw (front ++ line ∷ [])
+  Stopped = IsStopped (certificate_kind most ds) flaw (front ++ line ∷ [])
 
   -- ---- the head
 
@@ -53,16 +72,16 @@ module _ (most : Format) (ds : List Declaration) (flaw : Flaw) (front : List Lin
   stopped_headed form headed read =
       bind_err (asked BadLine (number_behind (codes "claim") line)) _ flaw read (λ e. misfit (asked_err BadLine (number_behind (codes "claim") line) flaw e)) (λ digits there large.
       let known = number_is (codes "claim") line digits (asked_ok BadLine (number_behind (codes "claim") line) digits there) in
-      passes numbers (asked_err NumberTooLarge (number_within number_limit digits) flaw large)
-      (subst (Begin most ds (before numbers)) (ap₂ (λ (ls : List Line) (l : Line). ls ++ l ∷ []) (sym headed.are) (sym known.0))
+      stopped_at most ds flaw _ numbers (asked_err NumberTooLarge (number_within number_limit digits) flaw large)
+      (subst (Begins (certificate_kind most ds) (before numbers)) (ap₂ (λ (ls : List Line) (l : Line). ls ++ l ∷ []) (sym headed.are) (sym known.0))
       (begin_claimed most ds form digits (before numbers) headed.read known.1 (shortest_names form digits (codes "1")))))
 
   stopped_claimed : (form : Format) (n : ℕ) → IsClaimed most form n front → denominator_of line ≡ Err flaw → Stopped
   stopped_claimed form n claimed read =
       bind_err (asked BadLine (number_behind (codes "denominator") line)) _ flaw read (λ e. misfit (asked_err BadLine (number_behind (codes "denominator") line) flaw e)) (λ digits there large.
       let known = number_is (codes "denominator") line digits (asked_ok BadLine (number_behind (codes "denominator") line) digits there) in
-      passes numbers (too_large digits flaw large)
-      (subst (Begin most ds (before numbers)) (ap₂ (λ (ls : List Line) (l : Line). ls ++ l ∷ []) (sym claimed.are) (sym known.0))
+      stopped_at most ds flaw _ numbers (too_large digits flaw large)
+      (subst (Begins (certificate_kind most ds) (before numbers)) (ap₂ (λ (ls : List Line) (l : Line). ls ++ l ∷ []) (sym claimed.are) (sym known.0))
       (begin_shortest most ds form claimed.claim digits (before numbers) claimed.read claimed.claim_number known.1 (shortest_names form claimed.claim digits))))
 
   -- ---- rows
@@ -78,8 +97,8 @@ module _ (most : Format) (ds : List Declaration) (flaw : Flaw) (front : List Lin
         denominator = inside.is_block.denominator;
         rows = All-push IsPlainRow b.rows r inside.is_block.rows (record { row = known.1; generator = known.2 });
       } in
-      passes pass.bound pass.flaw_is
-      (subst (Begin most ds (before pass.bound)) (sym (plain_front-push b r) ∙ ap₂ (λ (ls : List Line) (l : Line). ls ++ l ∷ []) (sym inside.are) (sym known.0))
+      stopped_at most ds flaw _ pass.bound pass.flaw_is
+      (subst (Begins (certificate_kind most ds) (before pass.bound)) (sym (plain_front-push b r) ∙ ap₂ (λ (ls : List Line) (l : Line). ls ++ l ∷ []) (sym inside.are) (sym known.0))
       (begin_plain most ds (before pass.bound) pushed is_block
       (λ k d below. keeps_one ds (plain pushed) (plain_outside ds b c inside.values) (omega arith) _ (pass.keep k d below))))
 
@@ -109,8 +128,8 @@ module _ (most : Format) (ds : List Declaration) (flaw : Flaw) (front : List Lin
         ∙ ap₂ (λ (ls : List Line) (x : Line). ls ++ x ∷ []) (sym inside.are) (sym known.0) in
         let keep : All (RowsWithin ds (rows_of inside.finished ++ (s.rows ++ r ∷ []))) (before pass.bound) =
         subst (λ rs. All (RowsWithin ds rs) (before pass.bound)) (append_assoc (rows_of inside.finished) s.rows (r ∷ [])) pass.keep in
-        passes pass.bound pass.flaw_is
-        (subst (Begin most ds (before pass.bound)) fronts
+        stopped_at most ds flaw _ pass.bound pass.flaw_is
+        (subst (Begins (certificate_kind most ds) (before pass.bound)) fronts
         (begin_rows most ds claim denominator inside.finished (before pass.bound) lead (scaled_push s r) inside.read inside.begun.head inside.next
         (record { scale = inside.scaled.scale; rows = All-push (λ t. IsTrue (is_row t)) s.rows r inside.scaled.rows known.1 })
         (λ k d below. rows_keep_one most ds claim denominator inside.finished lead (scaled_push s r) inside.begun.within inside.few
@@ -143,8 +162,8 @@ module _ (most : Format) (ds : List Declaration) (flaw : Flaw) (front : List Lin
     stopped_by_lead : (lead : Lead) (digits : List ℕ) (bound : Bound) → IsNext lead opened.finished → IsTrue (is_number digits) → line ∷ [] ≡ lead_lines lead (record { scale = digits; rows = [] })
         → flaw ≡ flaw_of bound → All (λ k. KeepsOne ds k (lemmas (rows_behind opened.claim opened.denominator opened.finished lead (record { scale = digits; rows = [] })))) (before bound) → Stopped
     stopped_by_lead lead digits bound next number line_is flaw_is keeps =
-        passes bound flaw_is
-        (subst (Begin most ds (before bound)) (ap₂ (λ (ls ms : List Line). ls ++ ms) (sym opened.are) (sym line_is))
+        stopped_at most ds flaw _ bound flaw_is
+        (subst (Begins (certificate_kind most ds) (before bound)) (ap₂ (λ (ls ms : List Line). ls ++ ms) (sym opened.are) (sym line_is))
         (begin_rows most ds opened.claim opened.denominator opened.finished (before bound) lead (record { scale = digits; rows = [] }) opened.read opened.begun.head next
         (record { scale = number; rows = All-nil (λ t. IsTrue (is_row t)) }) keeps))
 
@@ -185,52 +204,31 @@ module _ (most : Format) (ds : List Declaration) (flaw : Flaw) (front : List Lin
 
 -- ---- at each place
 
-module _ (most : Format) (ds : List Declaration) (done : List Evidence) (flaw : Flaw) (line : Line) where
+module _ (most : Format) (ds : List Declaration) (flaw : Flaw) (line : Line) where
   abbrev StoppedBehind : List Line → Type 0
-  StoppedBehind front = IsStopped most ds flaw (front ++ line ∷ [])
+  StoppedBehind front = IsStopped (certificate_kind most ds) flaw (front ++ line ∷ [])
 
-  head_stops : (form : Format) (front : List Line) → front ≡ [] → IsRead most form → line ≡ head_line form → headed done form ≡ Err flaw → StoppedBehind front
-  head_stops form front none is_read line_is read =
-      by_test (nat_le block_limit (length done)) _ _ (Err flaw) read
-      (λ full e. passes blocks (cc) (subst (Begin most ds (before blocks)) (ap₂ (λ (ls : List Line) (l : Line). ls ++ l ∷ []) (sym none) (sym line_is)) (begin_headed most ds form (before blocks) is_read)))
-      (λ room e. absurd (cc))
-
-  lemmas_head_stops : (form : Format) (front : List Line) → most ≡ form → front ≡ [] → line ≡ head_line Lemmas → lemmas_headed form done ≡ Err flaw → StoppedBehind front
-  lemmas_head_stops Plain front is none line_is read = misfit (cc)
-  lemmas_head_stops Lemmas front is none line_is read = head_stops Lemmas front none (lemmas_read most is) line_is read
-
-  outside_stops : (front : List Line) → front ≡ [] → outside most done line ≡ Err flaw → StoppedBehind front
-  outside_stops front none read =
-      by_test (is_plain_head line) _ _ (Err flaw) read (λ is. head_stops Plain front none tt (plain_head_is line is)) (λ no_plain read_lemmas.
-      by_test (is_lemmas_head line) _ _ (Err flaw) read_lemmas (λ is. lemmas_head_stops most front refl none (lemmas_head_is line is)) (λ no_lemmas read_other.
-      by_test (is_other_head line) _ _ (Err flaw) read_other (λ is e. absurd (cc)) (λ no_other e. misfit (cc))))
-
-  rows_stop : (c : Certificate) (size : Size) (front : List Line) → IsInPlain ds c size front → in_rows ds done c size line ≡ Err flaw → StoppedBehind front
+  rows_stop : (c : Certificate) (size : Size) (front : List Line) → IsInPlain ds c size front → in_rows ds c size line ≡ Err flaw → StoppedBehind front
   rows_stop c size front inside read =
-      by_test (is_end line) _ _ (Err flaw) read (λ is e. absurd (cc)) (λ more read_row.
-      bind_err (row_of ds line) _ flaw read_row (stopped_unread most ds flaw front line c size inside) (λ row row_is read_size.
-      bind_err (grown size row.left row.right) _ flaw read_size (stopped_full most ds flaw front line c size row inside row_is) (λ next fits made. absurd (cc))))
+      bind_err (row_of ds line) _ flaw read (stopped_unread most ds flaw front line c size inside) (λ row row_is read_size.
+      bind_err (grown size row.left row.right) _ flaw read_size (stopped_full most ds flaw front line c size row inside row_is) (λ size fits made. absurd (cc)))
 
-  scaled_stops : (o : Opened) (front : List Line) → IsOpened most ds o front → scaled done o line ≡ Err flaw → StoppedBehind front
+  scaled_stops : (o : Opened) (front : List Line) → IsOpened most ds o front → scaled o line ≡ Err flaw → StoppedBehind front
   scaled_stops o front opened read =
       by_test (begins (codes "goal") line) _ _ (Err flaw) read
       (λ is read_goal. bind_err (goal_scale_of line) _ flaw read_goal (stopped_goal most ds flaw front line o opened) (λ scale scale_is made. absurd (cc)))
       (λ more read_lemma. bind_err (lemma_scale_of (length o.lemmas) line) _ flaw read_lemma (stopped_lemma most ds flaw front line o opened) (λ scale scale_is made. absurd (cc)))
 
-  lemma_stops : (o : Opened) (l : Lemma) (front : List Line) (number : List ℕ) → IsInside most ds o l (Some number) front → in_lemma ds done o l line ≡ Err flaw → StoppedBehind front
+  lemma_stops : (o : Opened) (l : Lemma) (front : List Line) (number : List ℕ) → IsInside most ds o l (Some number) front → in_lemma ds o l line ≡ Err flaw → StoppedBehind front
   lemma_stops o l front number inside read =
       by_test (begins (codes "row") line) _ _ (Err flaw) read
-      (λ is read_row. bind_err (lemma_row ds o l line) _ flaw read_row (stopped_row most ds flaw front line o l (Some number) inside) (λ next row_is made. absurd (cc)))
+      (λ is read_row. bind_err (lemma_row ds o l line) _ flaw read_row (stopped_row most ds flaw front line o l (Some number) inside) (λ behind row_is made. absurd (cc)))
       (λ more. scaled_stops (closed_by o l) front (lemma_finished most ds o l number front inside))
 
-  goal_stops : (o : Opened) (goal : Lemma) (front : List Line) → IsInside most ds o goal None front → in_goal ds done o goal line ≡ Err flaw → StoppedBehind front
-  goal_stops o goal front inside read =
-      by_test (is_end line) _ _ (Err flaw) read (λ is e. absurd (cc)) (λ more read_row.
-      bind_err (lemma_row ds o goal line) _ flaw read_row (stopped_row most ds flaw front line o goal None inside) (λ next row_is made. absurd (cc)))
+  goal_stops : (o : Opened) (goal : Lemma) (front : List Line) → IsInside most ds o goal None front → in_goal ds o goal line ≡ Err flaw → StoppedBehind front
+  goal_stops o goal front inside read = bind_err (lemma_row ds o goal line) _ flaw read (stopped_row most ds flaw front line o goal None inside) (λ behind row_is made. absurd (cc))
 
-  pub stops_at : (place : Place) (front : List Line) → IsOpen most ds place front → step most ds done place line ≡ Err flaw → StoppedBehind front
-  stops_at at.Outside front is_open read = outside_stops front is_open read
-  stops_at at.Skipped front is_open read = absurd (cc)
+  pub stops_at : (stage : Stage) (front : List Line) → IsOpen most ds stage front → next ds stage line ≡ Err flaw → StoppedBehind front
   stops_at (at.Headed form) front is_open read = bind_err (claim_of line) _ flaw read (stopped_headed most ds flaw front line form is_open) (λ n n_is made. absurd (cc))
   stops_at (at.Claimed form n) front is_open read = bind_err (denominator_of line) _ flaw read (stopped_claimed most ds flaw front line form n is_open) (λ d d_is made. absurd (cc))
   stops_at (at.Rows c size) front is_open read = rows_stop c size front is_open read

@@ -1,5 +1,5 @@
 -- A certificate of format 2 that is written is a block of evidence text.
-use Rattle.std.proofs.Common.{◌≡◌, ◌<◌, ◌+◌, ◌^◌, ℕ, suc, true, false, List, [], ◌∷◌, ◌++◌, Some, arith, refl, sym, ap, ◌∙◌, subst, length, map, codes, IsTrue}
+use Rattle.std.proofs.Common.{◌≡◌, ◌<◌, ◌+◌, ◌^◌, ℕ, suc, false, List, [], ◌∷◌, ◌++◌, Some, arith, refl, sym, ap, ◌∙◌, subst, length, map, codes, IsTrue}
 use Rattle.std.specs.Prelude.{decimal}
 use Rattle.std.specs.Fmt.{signed_decimal}
 use Rattle.std.specs.List.{All, AllZip, list_all, flat_map, sum_by}
@@ -13,22 +13,25 @@ use Rattle.cofactor_trace.specs.declared.evidence.LemmaCertificate.{LemmaCertifi
 use Rattle.cofactor_trace.specs.declared.evidence.Evidence.TheVariants as evidence
 use Rattle.cofactor_trace.specs.declared.evidence.Format.TheVariants as format
 use Rattle.cofactor_trace.specs.Lemmas.{row_count, letter_count as letters_of_lemmas}
-use Rattle.certificate_text.specs.Tokens.{tokens_of, is_skipped}
-use Rattle.certificate_text.specs.Letters.{number_within}
-use Rattle.certificate_text.specs.Lines.{RowTokens, number_limit, integer_limit}
-use Rattle.certificate_text.specs.Blocks.{Line, ScaledTokens, LemmaTokens, LemmasTokens, lemmas, row_line, lemma_lines, goal_lines, end_line, block_lines, IsScaled, AreLemmas, IsLemmasBlock}
-use Rattle.certificate_text.specs.Bounds.{Bound, names, numbers, words, rows, letters, blocks, letters_in, IsWithin, IsLemmaRowOf, IsScaledOf, IsLemmasOf, KeepsOne}
-use Rattle.certificate_text.specs.Evidence.{HasCertificates}
+use Rattle.block_text.specs.Tokens.{tokens_of, is_skipped}
+use Rattle.block_text.specs.Letters.{number_within}
+use Rattle.block_text.specs.Lines.{number_limit, integer_limit, Line, claim_line, end_line}
+use Rattle.certificate_text.specs.Lines.{RowTokens}
+use Rattle.certificate_text.specs.Blocks.{ScaledTokens, LemmaTokens, LemmasTokens, lemmas, row_line, lemma_lines, goal_lines, certificate_lines, head_line, denominator_line, IsScaled, AreLemmas, IsLemmasBlock}
+use Rattle.certificate_text.specs.Bounds.{Bound, names, numbers, words, rows, letters, letters_in, IsWithin, IsLemmaRowOf, IsScaledOf, IsLemmasOf, KeepsOne}
+use Rattle.certificate_text.specs.Evidence.{certificate_kind}
 use Rattle.certificate_text.specs.Written.{lemma_row_text, scaled_text, lemma_text, lemmas_text, goal_text, lemma_certificate_text}
-use Rattle.certificate_text.specs.Back.{IsWritableLemmaRow, IsWritableLemma, IsWritableByLemmas, is_named, is_whole, IsLineText}
+use Rattle.block_text.specs.Back.{is_named, IsLineText}
+use Rattle.certificate_text.specs.Back.{IsWritableLemmaRow, IsWritableLemma, IsWritableByLemmas}
 use Rattle.certificate_text.proofs.BlocksBack.{lemma_row_written}
-use Rattle.certificate_text.proofs.ContentBack.{IsTextOf, no_text, text-append}
-use Rattle.certificate_text.proofs.Joined.{text_of_block}
-use Rattle.certificate_text.proofs.NumbersBack.{decimal_text, decimal_number, decimal_within}
+use Rattle.block_text.proofs.ContentBack.{IsTextOf, no_text, text-append}
+use Rattle.block_text.proofs.PartsBack.{IsWritten}
+use Rattle.block_text.proofs.NumbersBack.{decimal_text, decimal_number, decimal_within}
 use Rattle.certificate_text.proofs.RowsBack.{row_tree, IsWrittenRow, lemma_row_says, AreRows, rows-append, letters_in-append, zip_by, trees, rows_are_text, rows_are_rows, letters_in-trees}
-use Rattle.certificate_text.proofs.SizesBack.{IsSize, size_written, number_is_value, text_of_number, opening_is_text, end_is_text}
-use Rattle.certificate_text.proofs.TextsBack.{line_text-append, literal, plain_name}
-use Rattle.certificate_text.proofs.TokensBack.{token_read, name_token}
+use Rattle.block_text.proofs.NumberLines.{text_of_number, end_is_text}
+use Rattle.certificate_text.proofs.SizesBack.{IsSize, size_written, number_is_value, opening_is_text}
+use Rattle.block_text.proofs.TextsBack.{line_text-append, literal, plain_name}
+use Rattle.block_text.proofs.TokensBack.{token_read, name_token}
 
 -- ---- a lemma, or the goal
 
@@ -174,10 +177,12 @@ module _ (ds : List Declaration) (c : LemmaCertificate) (writable : IsWritableBy
   all_rows : AreRows ds (rows_of ds 1 c.lemmas ++ (scaled_tree ds c.goal).rows)
   all_rows = rows-append ds (rows_of ds 1 c.lemmas) (scaled_tree ds c.goal).rows (rows_of_lemmas ds 1 c.lemmas written.lemmas) (of_rows ds c.goal written.goal)
 
-  block_is_text : IsTextOf (lemma_certificate_text ds c) (block_lines (lemmas (lemmas_tree ds c)))
+  block_is_text : IsTextOf (lemma_certificate_text ds c) (certificate_lines (lemmas (lemmas_tree ds c)) ++ end_line ∷ [])
   block_is_text =
-      text-append _ _ _ _ (text-append _ _ _ _ (opening_is_text format.Lemmas c.claim c.denominator writable.claim size) (lemmas_are_text ds 1 c.lemmas counted written.lemmas))
-      (goal_is_text ds c.goal written.goal)
+      let tree : LemmasTokens = lemmas_tree ds c in
+      let whole = text-append _ _ _ _ (text-append _ _ _ _ (opening_is_text format.Lemmas c.claim c.denominator writable.claim size) (lemmas_are_text ds 1 c.lemmas counted written.lemmas)) (goal_is_text ds c.goal written.goal) in
+      subst (λ (ls : List Line). IsTextOf (lemma_certificate_text ds c) (head_line format.Lemmas ∷ claim_line tree.claim ∷ denominator_line tree.denominator ∷ ls))
+      (sym (append_assoc (flat_map lemma_lines tree.lemmas) (goal_lines tree.goal) (end_line ∷ []))) whole
 
   is_block : IsLemmasBlock (lemmas_tree ds c)
   is_block = record {
@@ -207,7 +212,6 @@ module _ (ds : List Declaration) (c : LemmaCertificate) (writable : IsWritableBy
   keeps words = all_rows.words
   keeps rows = (rw row_total writable.few_rows, rw (count_lemmas ds 1 c.lemmas) writable.few_lemmas)
   keeps letters = rw letter_total writable.letters
-  keeps blocks = tt
 
   meant : IsLemmasOf ds (lemmas_tree ds c) c
   meant = record {
@@ -217,8 +221,5 @@ module _ (ds : List Declaration) (c : LemmaCertificate) (writable : IsWritableBy
     goal = says ds c.goal written.goal;
   }
 
-  pub lemmas_have : HasCertificates format.Lemmas ds (lemma_certificate_text ds c) (evidence.Lemmas c ∷ [])
-  lemmas_have = text_of_block format.Lemmas ds (lemma_certificate_text ds c) (lemmas (lemmas_tree ds c)) (evidence.Lemmas c ∷ []) block_is_text is_block keeps (meant, tt) (omega arith)
-
-  pub lemmas_are_whole : is_whole (lemma_certificate_text ds c) ≡ true
-  lemmas_are_whole = block_is_text.whole
+  pub certificate_written : IsWritten (certificate_kind format.Lemmas ds) (lemma_certificate_text ds c) (evidence.Lemmas c)
+  certificate_written = record { tree = lemmas (lemmas_tree ds c); text_is = block_is_text; is_tree = is_block; keeps = keeps; says = meant }

@@ -3,25 +3,15 @@ use Rattle.std.proofs.Common.{◌≡◌, ℕ, Bool, true, false, not, cond, ◌&
 use Rattle.std.specs.Option.{option_and_then}
 use Rattle.std.proofs.lemmas.Bool.{and_parts}
 use Rattle.std.proofs.lemmas.Option.{option_and_then_some, cond_some}
-use Rattle.std.proofs.lemmas.Slice.Eq.{bytes_eq-Decides}
 use Rattle.cofactor_trace.specs.declared.evidence.Format.TheVariants.{Plain, Lemmas}
-use Rattle.certificate_text.specs.Letters.{is_number}
-use Rattle.certificate_text.specs.Lines.{RowTokens, is, is_pair, is_plain_head, is_lemmas_head, is_end, number_behind, is_value, scale_digits, lemma_digits, goal_digits, is_open, is_close, closed, bracketed, row_end, number_part, origin_part, row_parts, is_row, row_tokens}
-use Rattle.certificate_text.specs.Blocks.{Line, origin_tokens, row_line, head_line, end_line}
-use Rattle.certificate_text.proofs.Results.{by_test, option_map_some, cond_option}
+use Rattle.block_text.specs.Letters.{is_number}
+use Rattle.block_text.specs.Lines.{is, bracketed, Line}
+use Rattle.certificate_text.specs.Lines.{RowTokens, is_plain_head, is_lemmas_head, is_value, scale_digits, lemma_digits, goal_digits, row_end, number_part, origin_part, row_parts, is_row, row_tokens}
+use Rattle.certificate_text.specs.Blocks.{origin_tokens, row_line, head_line}
+use Rattle.block_text.proofs.Results.{by_test, cond_option}
+use Rattle.block_text.proofs.LineTrees.{Parts, is_word, pair_is, number_is, bracketed_is}
 
 -- ---- words
-
-pub is_word : (word token : List ℕ) → is word token ≡ true → token ≡ word
-is_word word token same = (bytes_eq-Decides token word).0 same
-
-pub pair_is : (first second : List ℕ) (line : Line) → is_pair first second line ≡ true → line ≡ first ∷ second ∷ []
-pair_is first second [] same = absurd (cc)
-pair_is first second (a ∷ []) same = absurd (cc)
-pair_is first second (a ∷ b ∷ []) same =
-    let parts = and_parts (is first a) (is second b) same in
-    ap₂ (λ x y. x ∷ y ∷ []) (is_word first a parts.0) (is_word second b parts.1)
-pair_is first second (a ∷ b ∷ c ∷ tokens) same = absurd (cc)
 
 pub plain_head_is : (line : Line) → is_plain_head line ≡ true → line ≡ head_line Plain
 plain_head_is line same = pair_is (codes "certificate") (codes "1") line same
@@ -29,22 +19,7 @@ plain_head_is line same = pair_is (codes "certificate") (codes "1") line same
 pub lemmas_head_is : (line : Line) → is_lemmas_head line ≡ true → line ≡ head_line Lemmas
 lemmas_head_is line same = pair_is (codes "certificate") (codes "2") line same
 
-pub end_is : (line : Line) → is_end line ≡ true → line ≡ end_line
-end_is [] same = absurd (cc)
-end_is (token ∷ []) same = ap (λ t. t ∷ []) (is_word (codes "end") token same)
-end_is (token ∷ other ∷ tokens) same = absurd (cc)
-
 -- ---- numbers behind words
-
--- a word and a number
-pub number_is : (word : List ℕ) (line : Line) (n : List ℕ) → number_behind word line ≡ Some n → (line ≡ word ∷ n ∷ []) × IsTrue (is_number n)
-number_is word [] n read = absurd (cc)
-number_is word (a ∷ []) n read = absurd (cc)
-number_is word (a ∷ b ∷ []) n read =
-    let found : ((is word a && is_number b) ≡ true) × (b ≡ n) = cond_some (is word a && is_number b) b n read in
-    let parts = and_parts (is word a) (is_number b) found.0 in
-    (ap₂ (λ x y. x ∷ y ∷ []) (is_word word a parts.0) found.1, subst (λ m. IsTrue (is_number m)) found.1 parts.1)
-number_is word (a ∷ b ∷ c ∷ tokens) n read = absurd (cc)
 
 -- lemma K scale S, with this K
 pub lemma_is : (number : ℕ) (line : Line) (s : List ℕ) → lemma_digits number line ≡ Some s
@@ -66,26 +41,6 @@ goal_is (word ∷ tokens) s read =
     (ap₂ (λ x y. x ∷ y) (is_word (codes "goal") word found.0) scale.0, scale.1)
 
 -- ---- rows
-
-abbrev Parts : Type 0
-Parts = List (List ℕ) × List (List ℕ)
-
-closed_is : (tokens : Line) (parts : Parts) → closed tokens ≡ Some parts → tokens ≡ parts.0 ++ codes ")" ∷ parts.1
-closed_is [] parts read = absurd (cc)
-closed_is (token ∷ tokens) parts read =
-    by_test (is_close token) _ _ (Some parts) read
-    (λ close read_on.
-    let same : ([], tokens) ≡ parts = cc in
-    subst (λ (p : Parts). token ∷ tokens ≡ p.0 ++ codes ")" ∷ p.1) same (ap (λ t. t ∷ tokens) (is_word (codes ")") token close)))
-    (λ inside read_on.
-    option_map_some (λ (inner : Parts). (token ∷ inner.0, inner.1)) (closed tokens) parts read_on (λ inner found same.
-    subst (λ (p : Parts). token ∷ tokens ≡ p.0 ++ codes ")" ∷ p.1) same (ap (λ ts. token ∷ ts) (closed_is tokens inner found))))
-
-bracketed_is : (tokens : Line) (parts : Parts) → bracketed tokens ≡ Some parts → tokens ≡ codes "(" ∷ (parts.0 ++ codes ")" ∷ parts.1)
-bracketed_is [] parts read = absurd (cc)
-bracketed_is (token ∷ tokens) parts read =
-    let found = cond_option (is_open token) (closed tokens) parts read in
-    ap₂ (λ t ts. t ∷ ts) (is_word (codes "(") token found.0) (closed_is tokens parts found.1)
 
 abbrev made : List ℕ → List (List ℕ) → Bool → List ℕ → List (List ℕ) → RowTokens
 made coefficient left lemma number right = record { coefficient = coefficient; left = left; lemma = lemma; number = number; right = right }

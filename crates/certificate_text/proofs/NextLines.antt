@@ -11,19 +11,21 @@ use Rattle.cofactor_trace.specs.declared.evidence.Lemma.{Lemma}
 use Rattle.cofactor_trace.specs.declared.evidence.LemmaRow.{LemmaRow}
 use Rattle.cofactor_trace.specs.declared.evidence.Format.{Format}
 use Rattle.cofactor_trace.specs.declared.evidence.Format.TheVariants.{Plain, Lemmas}
-use Rattle.certificate_text.specs.declared.fault.Flaw.TheVariants.{BadLine, NumberTooLarge}
+use Rattle.block_text.specs.declared.fault.Flaw.TheVariants.{BadLine, NumberTooLarge}
 use Rattle.certificate_text.specs.declared.place.Size.{Size}
 use Rattle.certificate_text.specs.declared.place.Opened.{Opened}
-use Rattle.certificate_text.specs.Fault.{asked}
-use Rattle.certificate_text.specs.Letters.{is_number, number_within}
-use Rattle.certificate_text.specs.Lines.{RowTokens, number_limit, integer_limit, row_limit, is_value, is_row, integer_of, number_behind, claim_of, denominator_of, lemma_digits, lemma_scale_of, goal_digits, goal_scale_of, row_tokens, row_values, row_of, over_lemma, lemma_row_of, grown}
-use Rattle.certificate_text.specs.Blocks.{Line, ScaledTokens, LemmaTokens, PlainTokens, row_line, head_line, claim_line, denominator_line, lemma_lines, IsPlainRow}
+use Rattle.block_text.specs.Fault.{asked}
+use Rattle.block_text.specs.Letters.{is_number, number_within}
+use Rattle.block_text.specs.Lines.{number_limit, integer_limit, integer_of, number_behind, claim_of, Line, claim_line}
+use Rattle.certificate_text.specs.Lines.{RowTokens, row_limit, is_value, is_row, denominator_of, lemma_digits, lemma_scale_of, goal_digits, goal_scale_of, row_tokens, row_values, row_of, over_lemma, lemma_row_of, grown}
+use Rattle.certificate_text.specs.Blocks.{ScaledTokens, LemmaTokens, PlainTokens, row_line, head_line, denominator_line, lemma_lines, IsPlainRow}
 use Rattle.certificate_text.specs.Bounds.{IsWithin, IsScaledOf, IsLemmaRowOf}
 use Rattle.certificate_text.specs.Reading.{certificate_of, begun, lemma_of, closed_by, resized, lemma_row}
-use Rattle.certificate_text.proofs.Results.{by_test, bind_ok, asked_ok}
-use Rattle.certificate_text.proofs.LineTrees.{number_is, lemma_is, goal_is, plain_row_is, lemma_row_is}
+use Rattle.block_text.proofs.Results.{by_test, bind_ok, asked_ok}
+use Rattle.block_text.proofs.LineTrees.{number_is}
+use Rattle.certificate_text.proofs.LineTrees.{lemma_is, goal_is, plain_row_is, lemma_row_is}
 use Rattle.certificate_text.proofs.RowTrees.{HaveSize, no_rows_size, size_push, integer_is_within}
-use Rattle.certificate_text.proofs.Zips.{zip_push, zip_length}
+use Rattle.block_text.proofs.Zips.{zip_push, zip_length}
 use Rattle.certificate_text.proofs.OpenBlocks.{IsHeaded, IsClaimed, IsInPlain, IsBegun, IsOpened, IsInside, IsOpen, Lead, lemma_tokens, lead_lines, IsNext, IsFew, rows_of, lemmas_front, are_lemmas-push, plain_front}
 
 -- two lists of lines with one line more

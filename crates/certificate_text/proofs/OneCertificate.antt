@@ -1,4 +1,4 @@
--- Blocks say one list of certificates.
+-- A block says one certificate.
 use Rattle.std.proofs.Common.{◌≡◌, List, Option, Some, Result, Ok, refl, sym, ap, ◌∙◌}
 use Rattle.quiver.specs.Declarations.{Declaration}
 use Rattle.cofactor_trace.specs.declared.Certificate.{Certificate}
@@ -7,12 +7,13 @@ use Rattle.cofactor_trace.specs.declared.evidence.Lemma.{Lemma}
 use Rattle.cofactor_trace.specs.declared.evidence.LemmaCertificate.{LemmaCertificate}
 use Rattle.cofactor_trace.specs.declared.evidence.Evidence.{Evidence}
 use Rattle.cofactor_trace.specs.declared.evidence.Evidence.TheVariants as evidence
-use Rattle.certificate_text.specs.declared.fault.Flaw.{Flaw}
-use Rattle.certificate_text.specs.Lines.{RowTokens, number_limit, row_values, over_lemma, integer_of}
-use Rattle.certificate_text.specs.Letters.{number_within}
-use Rattle.certificate_text.specs.Blocks.{ScaledTokens, PlainTokens, LemmasTokens, BlockTokens, plain, lemmas, other}
-use Rattle.certificate_text.specs.Bounds.{IsLemmaRowOf, IsScaledOf, IsPlainOf, IsLemmasOf, IsCertificateOf, AreCertificatesOf, certificates_in}
-use Rattle.certificate_text.proofs.Zips.{AllZip-unique}
+use Rattle.block_text.specs.declared.fault.Flaw.{Flaw}
+use Rattle.block_text.specs.Lines.{number_limit, integer_of}
+use Rattle.certificate_text.specs.Lines.{RowTokens, row_values, over_lemma}
+use Rattle.block_text.specs.Letters.{number_within}
+use Rattle.certificate_text.specs.Blocks.{ScaledTokens, PlainTokens, LemmasTokens, BlockTokens, plain, lemmas}
+use Rattle.certificate_text.specs.Bounds.{IsLemmaRowOf, IsScaledOf, IsPlainOf, IsLemmasOf, IsCertificateOf}
+use Rattle.block_text.proofs.Zips.{AllZip-unique}
 
 same_value : {A : Type 0} (o : Option A) (x y : A) → o ≡ Some x → o ≡ Some y → x ≡ y
 same_value o x y left right = cc
@@ -46,14 +47,10 @@ module _ (ds : List Declaration) where
       let same : ◌≡◌ {A = LemmaCertificate} (record { claim = x.claim; denominator = x.denominator; lemmas = x.lemmas; goal = x.goal }) (record { claim = y.claim; denominator = y.denominator; lemmas = y.lemmas; goal = y.goal }) =
       rw (claim, denominator, each, goal) refl in same
 
-  same_certificate : (b : BlockTokens) (x y : Evidence) → IsCertificateOf ds b x → IsCertificateOf ds b y → x ≡ y
+  pub same_certificate : (b : BlockTokens) (x y : Evidence) → IsCertificateOf ds b x → IsCertificateOf ds b y → x ≡ y
   same_certificate (plain b) (evidence.Plain x) (evidence.Plain y) left right = ap evidence.Plain (same_plain b x y left right)
   same_certificate (plain b) (evidence.Plain x) (evidence.Lemmas y) left right = absurd right
   same_certificate (plain b) (evidence.Lemmas x) y left right = absurd left
   same_certificate (lemmas b) (evidence.Lemmas x) (evidence.Lemmas y) left right = ap evidence.Lemmas (same_lemmas b x y left right)
   same_certificate (lemmas b) (evidence.Lemmas x) (evidence.Plain y) left right = absurd right
   same_certificate (lemmas b) (evidence.Plain x) y left right = absurd left
-  same_certificate (other b) x y left right = absurd left
-
-  pub same_certificates : (text : List BlockTokens) (xs ys : List Evidence) → AreCertificatesOf ds text xs → AreCertificatesOf ds text ys → xs ≡ ys
-  same_certificates text xs ys left right = AllZip-unique (IsCertificateOf ds) same_certificate (certificates_in text) xs ys left right

@@ -12,15 +12,26 @@ use Rattle.cofactor_trace.specs.declared.evidence.Format.{Format}
 use Rattle.cofactor_trace.specs.declared.evidence.Format.TheVariants.{Plain, Lemmas}
 use Rattle.certificate_text.specs.declared.place.Size.{Size}
 use Rattle.certificate_text.specs.declared.place.Opened.{Opened}
-use Rattle.certificate_text.specs.declared.place.Place.{Place}
-use Rattle.certificate_text.specs.declared.place.Place.TheVariants as at
-use Rattle.certificate_text.specs.Letters.{is_number, number_within}
-use Rattle.certificate_text.specs.Lines.{RowTokens, number_limit, integer_limit, row_limit, is_value, is_row, integer_of}
-use Rattle.certificate_text.specs.Blocks.{Line, ScaledTokens, LemmaTokens, PlainTokens, LemmasTokens, OtherTokens, BlockTokens, plain, lemmas, row_line, head_line, claim_line, denominator_line, lemma_lines, goal_lines, end_line, block_lines, IsPlainRow, IsScaled, AreLemmas, IsPlainBlock, IsLemmasBlock, IsOtherBlock, IsBlock}
-use Rattle.certificate_text.specs.Bounds.{Bound, rows_in, lemmas_in, IsWithin, IsScaledOf, IsPlainOf, IsLemmasOf, HasNumbersOutside, KeepsOne}
+use Rattle.certificate_text.specs.declared.place.Stage.{Stage}
+use Rattle.certificate_text.specs.declared.place.Stage.TheVariants as at
+use Rattle.block_text.specs.Letters.{is_number, number_within}
+use Rattle.block_text.specs.Lines.{number_limit, integer_limit, integer_of, Line, claim_line}
+use Rattle.certificate_text.specs.Lines.{RowTokens, row_limit, is_value, is_row}
+use Rattle.certificate_text.specs.Blocks.{ScaledTokens, LemmaTokens, PlainTokens, LemmasTokens, BlockTokens, plain, lemmas, row_line, head_line, denominator_line, lemma_lines, goal_lines, certificate_lines, IsPlainRow, IsScaled, AreLemmas, IsPlainBlock, IsLemmasBlock, IsBlock}
+use Rattle.certificate_text.specs.Bounds.{Bound, names, numbers, words, rows, letters, rows_in, lemmas_in, IsWithin, IsScaledOf, IsPlainOf, IsLemmasOf, HasNumbersOutside, KeepsOne}
 use Rattle.certificate_text.specs.Reading.{lemma_certificate_of}
 use Rattle.certificate_text.proofs.RowTrees.{RowsWithin, HaveSize, no_rows_keep, integer_is_within}
-use Rattle.certificate_text.proofs.BlockTrees.{keeps_one, Begin}
+use Rattle.block_text.proofs.Owed.{Begins}
+use Rattle.block_text.proofs.Standing.{everywhere}
+use Rattle.certificate_text.specs.Evidence.{certificate_kind}
+
+-- the bounds on a block are those on its rows, on the other numbers, and on the count of its lemmas
+pub keeps_one : (ds : List Declaration) (b : BlockTokens) → HasNumbersOutside b → length (lemmas_in b) ≤ row_limit → (bound : Bound) → RowsWithin ds (rows_in b) bound → KeepsOne ds bound b
+keeps_one ds b outside few names keep = keep
+keeps_one ds b outside few numbers keep = (outside, keep)
+keeps_one ds b outside few words keep = keep
+keeps_one ds b outside few rows keep = (keep, few)
+keeps_one ds b outside few letters keep = keep
 
 -- certificates of this format are read
 abbrev pub IsRead : Format → Format → Type 0
@@ -40,8 +51,8 @@ lemmas_block Lemmas b read is_block = is_block
 abbrev pub plain_front : PlainTokens → List Line
 plain_front b = head_line Plain ∷ claim_line b.claim ∷ denominator_line b.denominator ∷ map row_line b.rows
 
-pub begin_plain : (most : Format) (ds : List Declaration) (within : List Bound) (b : PlainTokens) → IsPlainBlock b → All (λ bound. KeepsOne ds bound (plain b)) within → Begin most ds within (plain_front b)
-begin_plain most ds within b is_block keeps = record { block = plain b; more = end_line ∷ []; are = refl; is_block = is_block; keeps = keeps }
+pub begin_plain : (most : Format) (ds : List Declaration) (within : List Bound) (b : PlainTokens) → IsPlainBlock b → All (λ bound. KeepsOne ds bound (plain b)) within → Begins (certificate_kind most ds) within (plain_front b)
+begin_plain most ds within b is_block keeps = record { tree = plain b; more = []; are = sym (append-nil (plain_front b)); is_tree = is_block; keeps = keeps }
 
 -- in the rows
 pub record IsInPlain (ds : List Declaration) (c : Certificate) (size : Size) (front : List Line) : Type 0 where
@@ -102,11 +113,11 @@ module _ (claim denominator : List ℕ) (finished : List LemmaTokens) where
   rows_behind (Some number) s = with_goal (finished ++ lemma_tokens number s ∷ []) unit_goal
 
   abbrev more_lines : Lead → List Line
-  more_lines None = end_line ∷ []
-  more_lines (Some number) = goal_lines unit_goal ++ end_line ∷ []
+  more_lines None = []
+  more_lines (Some number) = goal_lines unit_goal
 
-  lines_are : (lead : Lead) (s : ScaledTokens) → block_lines (lemmas (rows_behind lead s)) ≡ (lemmas_front ++ lead_lines lead s) ++ more_lines lead
-  lines_are None s = ap (λ ls. head_line Lemmas ∷ claim_line claim ∷ denominator_line denominator ∷ ls) (sym (append_assoc (flat_map lemma_lines finished) (goal_lines s) (end_line ∷ [])))
+  lines_are : (lead : Lead) (s : ScaledTokens) → certificate_lines (lemmas (rows_behind lead s)) ≡ (lemmas_front ++ lead_lines lead s) ++ more_lines lead
+  lines_are None s = sym (append-nil (lemmas_front ++ goal_lines s))
   lines_are (Some number) s =
       let last : LemmaTokens = lemma_tokens number s in
       let pushed : flat_map lemma_lines (finished ++ last ∷ []) ≡ flat_map lemma_lines finished ++ lemma_lines last =
@@ -162,12 +173,12 @@ module _ (most : Format) (ds : List Declaration) (claim denominator : List ℕ) 
 
   -- rows behind finished lemmas
   pub begin_rows : (within : List Bound) (lead : Lead) (s : ScaledTokens) → IsRead most Lemmas → IsHead claim denominator finished → IsNext lead finished → IsScaled s
-      → All (λ bound. KeepsOne ds bound (lemmas (rows_behind claim denominator finished lead s))) within → Begin most ds within (lemmas_front claim denominator finished ++ lead_lines lead s)
+      → All (λ bound. KeepsOne ds bound (lemmas (rows_behind claim denominator finished lead s))) within → Begins (certificate_kind most ds) within (lemmas_front claim denominator finished ++ lead_lines lead s)
   begin_rows within lead s read head next scaled keeps = record {
-    block = lemmas (rows_behind claim denominator finished lead s);
+    tree = lemmas (rows_behind claim denominator finished lead s);
     more = more_lines claim denominator finished lead;
     are = lines_are claim denominator finished lead s;
-    is_block = lemmas_block most (rows_behind claim denominator finished lead s) read (rows_block lead s head next scaled);
+    is_tree = lemmas_block most (rows_behind claim denominator finished lead s) read (rows_block lead s head next scaled);
     keeps = keeps;
   }
 
@@ -178,12 +189,6 @@ module _ (most : Format) (ds : List Declaration) (claim denominator : List ℕ) 
       (subst (λ rs. RowsWithin ds rs bound) (sym (rows_are claim denominator finished lead s)) keep)
 
 -- ---- what stands at each place
-
--- behind the head of another kind
-pub record IsInOther (front : List Line) : Type 0 where
-  pub tokens : OtherTokens
-  pub is_block : IsOtherBlock tokens
-  pub are : front ≡ tokens.head ∷ tokens.lines
 
 -- behind the head
 pub record IsHeaded (most form : Format) (front : List Line) : Type 0 where
@@ -232,9 +237,7 @@ pub record IsInside (most : Format) (ds : List Declaration) (o : Opened) (l : Le
   pub have : HaveSize ds o.size (rows_of finished ++ tokens.rows)
   pub are : front ≡ lemmas_front claim denominator finished ++ lead_lines lead tokens
 
-abbrev pub IsOpen : Format → List Declaration → Place → List Line → Type 0
-IsOpen most ds at.Outside front = front ≡ []
-IsOpen most ds at.Skipped front = IsInOther front
+abbrev pub IsOpen : Format → List Declaration → Stage → List Line → Type 0
 IsOpen most ds (at.Headed form) front = IsHeaded most form front
 IsOpen most ds (at.Claimed form n) front = IsClaimed most form n front
 IsOpen most ds (at.Rows c size) front = IsInPlain ds c size front
@@ -244,15 +247,12 @@ IsOpen most ds (at.Goal o goal) front = IsInside most ds o goal None front
 
 -- ---- and the blocks that go on with it
 
-pub everywhere : {X : Type 0} (P : X → Type 0) → ((x : X) → P x) → (xs : List X) → All P xs
-everywhere P each xs = λ k d below. each _
-
-begin_shorter : (most : Format) (ds : List Declaration) (within : List Bound) (front behind : List Line) → Begin most ds within (front ++ behind) → Begin most ds within front
+begin_shorter : (most : Format) (ds : List Declaration) (within : List Bound) (front behind : List Line) → Begins (certificate_kind most ds) within (front ++ behind) → Begins (certificate_kind most ds) within front
 begin_shorter most ds within front behind begin = record {
-  block = begin.block;
+  tree = begin.tree;
   more = behind ++ begin.more;
   are = begin.are ∙ append_assoc front behind begin.more;
-  is_block = begin.is_block;
+  is_tree = begin.is_tree;
   keeps = begin.keeps;
 }
 
@@ -268,28 +268,28 @@ module _ (most : Format) (ds : List Declaration) where
       keeps_one ds (shortest Lemmas claim denominator) (n, d, All-nil (λ (l : LemmaTokens). IsWithin integer_limit l.scaled.scale), unit_within) (omega arith) bound (no_rows_keep ds bound)
 
   pub begin_shortest : (form : Format) (claim denominator : List ℕ) (within : List Bound) → IsRead most form → IsTrue (is_number claim) → IsTrue (is_number denominator)
-      → All (λ bound. KeepsOne ds bound (shortest form claim denominator)) within → Begin most ds within (head_line form ∷ claim_line claim ∷ denominator_line denominator ∷ [])
+      → All (λ bound. KeepsOne ds bound (shortest form claim denominator)) within → Begins (certificate_kind most ds) within (head_line form ∷ claim_line claim ∷ denominator_line denominator ∷ [])
   begin_shortest Plain claim denominator within read n d keeps = record {
-    block = shortest Plain claim denominator;
-    more = end_line ∷ [];
+    tree = shortest Plain claim denominator;
+    more = [];
     are = refl;
-    is_block = record { claim = n; denominator = d; rows = All-nil IsPlainRow };
+    is_tree = record { claim = n; denominator = d; rows = All-nil IsPlainRow };
     keeps = keeps;
   }
   begin_shortest Lemmas claim denominator within read n d keeps = record {
-    block = shortest Lemmas claim denominator;
-    more = goal_lines unit_goal ++ end_line ∷ [];
+    tree = shortest Lemmas claim denominator;
+    more = goal_lines unit_goal;
     are = refl;
-    is_block = lemmas_block most (with_goal claim denominator [] [] unit_goal) read (record { claim = n; denominator = d; lemmas = tt; goal = unit_scaled });
+    is_tree = lemmas_block most (with_goal claim denominator [] [] unit_goal) read (record { claim = n; denominator = d; lemmas = tt; goal = unit_scaled });
     keeps = keeps;
   }
 
   pub begin_claimed : (form : Format) (claim : List ℕ) (within : List Bound) → IsRead most form → IsTrue (is_number claim)
-      → All (λ bound. KeepsOne ds bound (shortest form claim (codes "1"))) within → Begin most ds within (head_line form ∷ claim_line claim ∷ [])
+      → All (λ bound. KeepsOne ds bound (shortest form claim (codes "1"))) within → Begins (certificate_kind most ds) within (head_line form ∷ claim_line claim ∷ [])
   begin_claimed form claim within read n keeps =
       begin_shorter most ds within (head_line form ∷ claim_line claim ∷ []) (denominator_line (codes "1") ∷ []) (begin_shortest form claim (codes "1") within read n refl keeps)
 
-  pub begin_headed : (form : Format) (within : List Bound) → IsRead most form → Begin most ds within (head_line form ∷ [])
+  pub begin_headed : (form : Format) (within : List Bound) → IsRead most form → Begins (certificate_kind most ds) within (head_line form ∷ [])
   begin_headed form within read =
       begin_shorter most ds within (head_line form ∷ []) (claim_line (codes "1") ∷ []) (begin_claimed form (codes "1") within read refl
       (everywhere (λ bound. KeepsOne ds bound (shortest form (codes "1") (codes "1"))) (shortest_keeps form (codes "1") (codes "1") (1, refl) unit_within) within))
@@ -300,15 +300,15 @@ module _ (most : Format) (ds : List Declaration) where
       rows_keep_one most ds inside.claim inside.denominator inside.finished lead inside.tokens inside.begun.within inside.few
       (integer_is_within inside.tokens.scale l.scale inside.values.scale) bound (inside.have.keep bound)
 
-  pub begin_inside : (o : Opened) (l : Lemma) (lead : Lead) (front : List Line) (within : List Bound) → IsInside most ds o l lead front → Begin most ds within front
+  pub begin_inside : (o : Opened) (l : Lemma) (lead : Lead) (front : List Line) (within : List Bound) → IsInside most ds o l lead front → Begins (certificate_kind most ds) within front
   begin_inside o l lead front within inside =
-      subst (Begin most ds within) (sym inside.are)
+      subst (Begins (certificate_kind most ds) within) (sym inside.are)
       (begin_rows most ds inside.claim inside.denominator inside.finished within lead inside.tokens inside.read inside.begun.head inside.next inside.scaled
       (everywhere (λ bound. KeepsOne ds bound (lemmas (rows_behind inside.claim inside.denominator inside.finished lead inside.tokens))) (inside_keeps o l lead front inside) within))
 
-  pub begin_opened : (o : Opened) (front : List Line) (within : List Bound) → IsOpened most ds o front → Begin most ds within front
+  pub begin_opened : (o : Opened) (front : List Line) (within : List Bound) → IsOpened most ds o front → Begins (certificate_kind most ds) within front
   begin_opened o front within opened =
-      subst (Begin most ds within) (sym opened.are)
+      subst (Begins (certificate_kind most ds) within) (sym opened.are)
       (begin_shorter most ds within (lemmas_front opened.claim opened.denominator opened.finished) (goal_lines unit_goal)
       (begin_rows most ds opened.claim opened.denominator opened.finished within None unit_goal opened.read opened.begun.head tt unit_scaled
       (everywhere (λ bound. KeepsOne ds bound (lemmas (rows_behind opened.claim opened.denominator opened.finished None unit_goal))) keeps within)))
@@ -321,9 +321,9 @@ module _ (most : Format) (ds : List Declaration) where
   pub plain_keeps : (c : Certificate) (size : Size) (b : PlainTokens) → IsPlainOf ds b c → HaveSize ds size b.rows → (bound : Bound) → KeepsOne ds bound (plain b)
   plain_keeps c size b values have bound = keeps_one ds (plain b) (plain_outside ds b c values) (omega arith) bound (have.keep bound)
 
-  pub begin_in_plain : (c : Certificate) (size : Size) (front : List Line) (within : List Bound) → IsInPlain ds c size front → Begin most ds within front
+  pub begin_in_plain : (c : Certificate) (size : Size) (front : List Line) (within : List Bound) → IsInPlain ds c size front → Begins (certificate_kind most ds) within front
   begin_in_plain c size front within inside =
-      subst (Begin most ds within) (sym inside.are) (begin_plain most ds within inside.tokens inside.is_block
+      subst (Begins (certificate_kind most ds) within) (sym inside.are) (begin_plain most ds within inside.tokens inside.is_block
       (everywhere (λ bound. KeepsOne ds bound (plain inside.tokens)) (plain_keeps c size inside.tokens inside.values inside.have) within))
 
   -- ---- a goal that ends
@@ -334,9 +334,6 @@ module _ (most : Format) (ds : List Declaration) where
 
     pub goal_is_block : IsBlock most (lemmas goal_block)
     goal_is_block = lemmas_block most goal_block inside.read (rows_block most ds inside.claim inside.denominator inside.finished None inside.tokens inside.begun.head tt inside.scaled)
-
-    pub goal_ends : block_lines (lemmas goal_block) ≡ front ++ end_line ∷ []
-    goal_ends = lines_are inside.claim inside.denominator inside.finished None inside.tokens ∙ ap (λ ls. ls ++ end_line ∷ []) (sym inside.are)
 
     pub goal_value : IsLemmasOf ds goal_block (lemma_certificate_of o goal)
     goal_value = record { claim = inside.begun.claim_value; denominator = inside.begun.denominator_value; lemmas = inside.begun.values; goal = inside.values }

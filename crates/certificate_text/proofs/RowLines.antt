@@ -1,27 +1,22 @@
 -- The line of a row is read as the row.
-use Rattle.std.proofs.Common.{◌≡◌, ℕ, Bool, true, false, not, ◌&&◌, List, [], ◌∷◌, ◌++◌, Some, None, Result, Ok, Err, IsTrue, arith, refl, subst, codes, if◌then◌else◌}
+use Rattle.std.proofs.Common.{◌≡◌, ℕ, Bool, true, false, not, ◌&&◌, List, [], ◌∷◌, ◌++◌, Some, None, Result, Ok, Err, IsTrue, arith, refl, codes, if◌then◌else◌}
 use Rattle.std.specs.List.{AllByRecursion, list_all}
 use Rattle.std.specs.Str.{is_utf8, chars}
-use Rattle.std.proofs.lemmas.Bool.{and_parts, false_from_ne_true}
-use Rattle.std.proofs.lemmas.Slice.Eq.{bytes_eq-Decides}
+use Rattle.std.proofs.lemmas.Bool.{and_parts}
 use Rattle.unicode_ident.proofs.IdentLemmas.{is_xid_start-ascii}
 use Rattle.quiver.specs.Declarations.{Declaration}
-use Rattle.certificate_text.specs.declared.fault.Flaw.{Flaw}
-use Rattle.certificate_text.specs.declared.fault.Flaw.TheVariants.{BadLine}
+use Rattle.block_text.specs.declared.fault.Flaw.{Flaw}
+use Rattle.block_text.specs.declared.fault.Flaw.TheVariants.{BadLine}
 use Rattle.cofactor_trace.specs.declared.CertRow.{CertRow}
-use Rattle.certificate_text.specs.Fault.{◌>>=◌, asked}
-use Rattle.certificate_text.specs.Letters.{is_letter, is_number, is_integer}
-use Rattle.certificate_text.specs.Lines.{RowTokens, is, is_close, number_part, origin_part, row_parts, is_row, row_of, row_values, lemma_row_of, over_lemma}
+use Rattle.block_text.specs.Fault.{◌>>=◌, asked}
+use Rattle.block_text.specs.Letters.{is_letter, is_number, is_integer}
+use Rattle.block_text.specs.Lines.{is, is_close}
+use Rattle.certificate_text.specs.Lines.{RowTokens, number_part, origin_part, row_parts, is_row, row_of, row_values, lemma_row_of, over_lemma}
 use Rattle.certificate_text.specs.Blocks.{origin_tokens, row_line, IsPlainRow}
-use Rattle.certificate_text.proofs.Closing.{closed_behind}
+use Rattle.block_text.proofs.Closing.{closed_behind}
+use Rattle.block_text.proofs.LineTrees.{other_word}
 
 -- ---- tokens that are no words
-
--- a token of which a test is true is no word of which it is false
-pub other_word : (test : List ℕ → Bool) (word token : List ℕ) → test token ≡ true → test word ≡ false → is word token ≡ false
-other_word test word token passed failed = false_from_ne_true (is word token) (λ same.
-    let equal : token ≡ word = (bytes_eq-Decides token word).0 same in
-    let both : test word ≡ true = subst (λ (t : List ℕ). test t ≡ true) equal passed in absurd (cc))
 
 no_letter : is_letter (codes ")") ≡ false
 unfolding is_utf8 chars lib.Utf8.encode

@@ -1,24 +1,21 @@
 -- What a row of a certificate comes to: it is added, or its fault is told.
-use Rattle.std.proofs.Common.{◌≡◌, ℕ, false, List, [], ◌∷◌, ◌++◌, Result, Ok, Err, sym, ap, subst, ◌∙◌}
-use Rattle.std.specs.Prelude.{if◌then◌else◌}
+use Rattle.std.proofs.Common.{◌≡◌, ℕ, List, [], ◌∷◌, ◌++◌, Result, Ok, Err, sym, ap, subst, ◌∙◌}
 use Rattle.std.specs.Result.{IsErrAnd}
 use Rattle.quiver.specs.Declarations.{Declaration}
 use Rattle.cofactor_trace.specs.declared.CertRow.{CertRow}
 use Rattle.cofactor_trace.specs.declared.Certificate.{Certificate}
 use Rattle.cofactor_trace.specs.declared.evidence.Lemma.{Lemma}
 use Rattle.cofactor_trace.specs.declared.evidence.LemmaRow.{LemmaRow}
-use Rattle.cofactor_trace.specs.declared.evidence.Evidence.{Evidence}
-use Rattle.cofactor_trace.specs.declared.evidence.Evidence.TheVariants as block
-use Rattle.certificate_text.specs.declared.fault.Flaw.{Flaw}
-use Rattle.certificate_text.specs.declared.fault.LineFault.{LineFault}
-use Rattle.certificate_text.specs.declared.fault.LineFault.TheVariants as line_fault
+use Rattle.block_text.specs.declared.fault.Flaw.{Flaw}
+use Rattle.block_text.specs.declared.fault.LineFault.{LineFault}
+use Rattle.block_text.specs.declared.fault.LineFault.TheVariants as line_fault
 use Rattle.certificate_text.specs.declared.place.Size.{Size}
 use Rattle.certificate_text.specs.declared.place.Opened.{Opened}
-use Rattle.certificate_text.specs.declared.place.Place.TheVariants as at
-use Rattle.certificate_text.specs.declared.place.Progress.{Progress}
-use Rattle.certificate_text.specs.Fault.{◌>>=◌, ExplainsLine, Reads, IsLineMemory}
-use Rattle.certificate_text.specs.Lines.{is_end, row_of, lemma_row_of, grown}
-use Rattle.certificate_text.specs.Reading.{progress, certificate_of, lemma_of, resized, in_rows, lemma_row}
+use Rattle.certificate_text.specs.declared.place.Stage.{Stage}
+use Rattle.certificate_text.specs.declared.place.Stage.TheVariants as at
+use Rattle.block_text.specs.Fault.{◌>>=◌, ExplainsLine, Reads, IsLineMemory}
+use Rattle.certificate_text.specs.Lines.{row_of, lemma_row_of, grown}
+use Rattle.certificate_text.specs.Reading.{certificate_of, lemma_of, resized, in_rows, lemma_row}
 
 -- ---- what a `?` returns
 
@@ -41,30 +38,24 @@ told_on view (Err x) read f e told is = subst (λ y. ExplainsLine (read >>= f) y
 
 -- ---- a row without lemmas
 
-abbrev behind_row : List Evidence → Certificate → Size → CertRow → Result Progress Flaw
-behind_row done c size row = grown size row.left row.right >>= λ size. Ok (progress done (at.Rows (certificate_of c.claim c.denominator (c.rows ++ row ∷ [])) size))
+abbrev behind_row : Certificate → Size → CertRow → Result Stage Flaw
+behind_row c size row = grown size row.left row.right >>= λ size. Ok (at.Rows (certificate_of c.claim c.denominator (c.rows ++ row ∷ [])) size)
 
-in_rows_row : (ds : List Declaration) (done : List Evidence) (c : Certificate) (size : Size) (line : List (List ℕ)) → is_end line ≡ false → in_rows ds done c size line ≡ (row_of ds line >>= behind_row done c size)
-in_rows_row ds done c size line goes =
-    ap (λ b. if b then Ok (progress (done ++ block.Plain c ∷ []) at.Outside) else row_of ds line >>= behind_row done c size) goes
+pub row_told : {X : Type 0} (view : X → Stage) (r : Result X LineFault) (ds : List Declaration) (c : Certificate) (size : Size) (line : List (List ℕ)) (e : LineFault)
+    → IsErrAnd r (λ x. x ≡ e) → ExplainsLine (row_of ds line) e → Reads view r (in_rows ds c size line)
+row_told view r ds c size line e told is = told_on view r (row_of ds line) (behind_row c size) e told is
 
-pub row_told : {X : Type 0} (view : X → Progress) (r : Result X LineFault) (ds : List Declaration) (done : List Evidence) (c : Certificate) (size : Size) (line : List (List ℕ)) (e : LineFault) → is_end line ≡ false
-    → IsErrAnd r (λ x. x ≡ e) → ExplainsLine (row_of ds line) e → Reads view r (in_rows ds done c size line)
-row_told view r ds done c size line e goes told is =
-    subst (λ x. Reads view r x) (sym (in_rows_row ds done c size line goes)) (told_on view r (row_of ds line) (behind_row done c size) e told is)
+pub row_too_large : (ds : List Declaration) (c : Certificate) (size : Size) (line : List (List ℕ)) (row : CertRow) (f : Flaw)
+    → row_of ds line ≡ Ok row → grown size row.left row.right ≡ Err f → in_rows ds c size line ≡ Err f
+row_too_large ds c size line row f read large =
+    ap (λ r. r >>= behind_row c size) read ∙ ap (λ r. r >>= λ size. Ok (at.Rows (certificate_of c.claim c.denominator (c.rows ++ row ∷ [])) size)) large
 
-pub row_too_large : (ds : List Declaration) (done : List Evidence) (c : Certificate) (size : Size) (line : List (List ℕ)) (row : CertRow) (f : Flaw) → is_end line ≡ false
-    → row_of ds line ≡ Ok row → grown size row.left row.right ≡ Err f → in_rows ds done c size line ≡ Err f
-row_too_large ds done c size line row f goes read large =
-    in_rows_row ds done c size line goes ∙ ap (λ r. r >>= behind_row done c size) read
-    ∙ ap (λ r. r >>= λ size. Ok (progress done (at.Rows (certificate_of c.claim c.denominator (c.rows ++ row ∷ [])) size))) large
-
-pub row_added : (ds : List Declaration) (done : List Evidence) (c : Certificate) (size now : Size) (line : List (List ℕ)) (row : CertRow) (rows : List CertRow) → is_end line ≡ false
-    → row_of ds line ≡ Ok row → grown size row.left row.right ≡ Ok now → rows ≡ c.rows ++ row ∷ [] → in_rows ds done c size line ≡ Ok (progress done (at.Rows (certificate_of c.claim c.denominator rows) now))
-row_added ds done c size now line row rows goes read grows is =
-    in_rows_row ds done c size line goes ∙ ap (λ r. r >>= behind_row done c size) read
-    ∙ ap (λ r. r >>= λ size. Ok (progress done (at.Rows (certificate_of c.claim c.denominator (c.rows ++ row ∷ [])) size))) grows
-    ∙ ap (λ rs. Ok (progress done (at.Rows (certificate_of c.claim c.denominator rs) now))) (sym is)
+pub row_added : (ds : List Declaration) (c : Certificate) (size now : Size) (line : List (List ℕ)) (row : CertRow) (rows : List CertRow)
+    → row_of ds line ≡ Ok row → grown size row.left row.right ≡ Ok now → rows ≡ c.rows ++ row ∷ [] → in_rows ds c size line ≡ Ok (at.Rows (certificate_of c.claim c.denominator rows) now)
+row_added ds c size now line row rows read grows is =
+    ap (λ r. r >>= behind_row c size) read
+    ∙ ap (λ r. r >>= λ size. Ok (at.Rows (certificate_of c.claim c.denominator (c.rows ++ row ∷ [])) size)) grows
+    ∙ ap (λ rs. Ok (at.Rows (certificate_of c.claim c.denominator rs) now)) (sym is)
 
 -- ---- a row of a lemma or of the goal
 

@@ -1,6 +1,5 @@
 -- The rows of a block that goes on: what their tokens say, the bounds that they keep, and how they grow.
 use Rattle.std.proofs.Common.{◌≡◌, ◌<◌, ◌≤◌, ◌+◌, ◌⊎◌, ℕ, ℤ, pos, suc, Bool, false, ◌||◌, List, [], ◌∷◌, ◌++◌, Some, Ok, Err, arith, refl, sym, ap, ◌∙◌, subst, length, nat_lt, nat_le, ltb-false, leb-false, inl, inr}
-use Rattle.std.specs.Bool.{⊤}
 use Rattle.std.specs.List.{All}
 use Rattle.std.specs.Option.{option_map}
 use Rattle.std.proofs.lemmas.Bool.{or_parts}
@@ -9,14 +8,23 @@ use Rattle.std.proofs.lemmas.List.Elements.{All-nil, All-push, All-from_recursio
 use Rattle.std.proofs.lemmas.Option.{option_and_then_some}
 use Rattle.quiver.specs.Declarations.{Declaration}
 use Rattle.cofactor_trace.specs.declared.CertRow.{CertRow}
-use Rattle.certificate_text.specs.declared.fault.Flaw.{Flaw}
-use Rattle.certificate_text.specs.declared.fault.Flaw.TheVariants.{UnknownName, NumberTooLarge, TooMany}
+use Rattle.block_text.specs.declared.fault.Flaw.{Flaw}
+use Rattle.block_text.specs.declared.fault.Flaw.TheVariants.{UnknownName, NumberTooLarge, TooMany}
 use Rattle.certificate_text.specs.declared.place.Size.{Size}
-use Rattle.certificate_text.specs.Fault.{asked}
-use Rattle.certificate_text.specs.Letters.{letter_of, number_within, integer_within}
-use Rattle.certificate_text.specs.Lines.{RowTokens, number_limit, integer_limit, word_limit, row_limit, letter_limit, word_of, row_values, integer_of, no_rows, grown}
-use Rattle.certificate_text.specs.Bounds.{Bound, names, numbers, words, rows, letters, blocks, letters_in, IsWithin, HasNames, HasNumbers, HasShortWords, flaw_of, before}
-use Rattle.certificate_text.proofs.Results.{by_test, bind_ok, bind_err, asked_ok, asked_err, option_map_some}
+use Rattle.block_text.specs.Fault.{asked}
+use Rattle.block_text.specs.Letters.{letter_of, number_within, integer_within, word_of}
+use Rattle.block_text.specs.Lines.{number_limit, integer_limit, integer_of}
+use Rattle.certificate_text.specs.Lines.{RowTokens, word_limit, row_limit, letter_limit, row_values, no_rows, grown}
+use Rattle.certificate_text.specs.Bounds.{Bound, names, numbers, words, rows, letters, letters_in, IsWithin, HasNames, HasNumbers, HasShortWords, flaw_of}
+use Rattle.block_text.proofs.Results.{by_test, bind_ok, bind_err, asked_ok, asked_err, option_map_some}
+
+-- the bounds that count before it
+abbrev pub before : Bound → List Bound
+before names = []
+before numbers = names ∷ []
+before words = names ∷ numbers ∷ []
+before rows = names ∷ numbers ∷ words ∷ []
+before letters = names ∷ numbers ∷ words ∷ rows ∷ []
 
 -- ---- values
 
@@ -133,7 +141,6 @@ RowsWithin ds rs numbers = All HasNumbers rs
 RowsWithin ds rs words = All HasShortWords rs
 RowsWithin ds rs rows = length rs ≤ row_limit
 RowsWithin ds rs letters = letters_in rs ≤ letter_limit
-RowsWithin ds rs blocks = ⊤
 
 -- the rows keep all bounds, and this is their size
 pub record HaveSize (ds : List Declaration) (size : Size) (rs : List RowTokens) : Type 0 where
@@ -153,7 +160,6 @@ no_rows_keep ds numbers = All-nil HasNumbers
 no_rows_keep ds words = All-nil HasShortWords
 no_rows_keep ds rows = omega arith
 no_rows_keep ds letters = omega arith
-no_rows_keep ds blocks = tt
 
 pub no_rows_size : (ds : List Declaration) → HaveSize ds no_rows []
 no_rows_size ds = record { keep = no_rows_keep ds; count = refl; count_letters = refl }
@@ -210,7 +216,6 @@ module _ (ds : List Declaration) (size : Size) (rs : List RowTokens) (have : Hav
         each words = words_push grows.short
         each rows = rows_push grows.few
         each letters = omega (arith, grows.fit, have.count_letters, valued.left, valued.right, letters_in-push rs r)
-        each blocks = tt
 
     -- where there is no room for it
     pub passes_full : (flaw : Flaw) → grown size row.left row.right ≡ Err flaw → Pass ds flaw (rs ++ r ∷ [])

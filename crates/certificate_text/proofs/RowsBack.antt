@@ -12,16 +12,19 @@ use Rattle.cofactor_trace.specs.declared.evidence.CertFrom.{CertFrom}
 use Rattle.cofactor_trace.specs.declared.evidence.CertFrom.TheVariants.{Generator, Lemma}
 use Rattle.cofactor_trace.specs.declared.evidence.LemmaRow.{LemmaRow}
 use Rattle.nc_polynomial.specs.Limits.{word_limit}
-use Rattle.certificate_text.specs.Tokens.{goes_on, tokens_of}
-use Rattle.certificate_text.specs.Lines.{RowTokens, is_row, row_values, from, number_limit}
+use Rattle.block_text.specs.Tokens.{goes_on, tokens_of}
+use Rattle.block_text.specs.Lines.{number_limit}
+use Rattle.certificate_text.specs.Lines.{RowTokens, is_row, row_values, from}
 use Rattle.certificate_text.specs.Blocks.{origin_tokens, row_line}
 use Rattle.certificate_text.specs.Bounds.{letters_in, HasNames, HasNumbers, HasShortWords, IsLemmaRowOf}
-use Rattle.certificate_text.specs.Written.{letter_text, word_text, origin_text, lemma_row_text}
-use Rattle.certificate_text.specs.Back.{number_of, IsLineText}
-use Rattle.certificate_text.proofs.ContentBack.{IsTextOf, no_text, text-append, text_of_tokens}
-use Rattle.certificate_text.proofs.NumbersBack.{IsInteger, decimal_text, decimal_number, decimal_within}
-use Rattle.certificate_text.proofs.TextsBack.{line_text-append, literal, IsWrittenWord, plain_name}
-use Rattle.certificate_text.proofs.TokensBack.{IsToken, token_read, tokens_read, name_token}
+use Rattle.block_text.specs.Written.{letter_text, word_text}
+use Rattle.certificate_text.specs.Written.{origin_text, lemma_row_text}
+use Rattle.block_text.specs.Back.{IsLineText}
+use Rattle.certificate_text.specs.Back.{number_of}
+use Rattle.block_text.proofs.ContentBack.{IsTextOf, no_text, text-append, text_of_tokens}
+use Rattle.block_text.proofs.NumbersBack.{IsInteger, decimal_text, decimal_number, decimal_within}
+use Rattle.block_text.proofs.TextsBack.{line_text-append, literal, IsWrittenWord, plain_name}
+use Rattle.block_text.proofs.TokensBack.{IsToken, token_read, tokens_read, name_token}
 
 -- ---- the tokens of a row
 

@@ -1,24 +1,23 @@
 -- Lines of words and numbers that are written are lines of tokens.
-use Rattle.std.proofs.Common.{◌≡◌, ◌<◌, ◌^◌, ℕ, ℤ, pos, true, false, List, [], ◌∷◌, ◌++◌, Ok, arith, refl, sym, ap, ◌∙◌, subst, codes, eq-eqb}
+use Rattle.std.proofs.Common.{◌≡◌, ◌<◌, ◌^◌, ℕ, ℤ, pos, true, List, [], ◌∷◌, ◌++◌, Ok, arith, refl, sym, subst, codes, eq-eqb}
 use Rattle.std.specs.Prelude.{decimal}
 use Rattle.std.specs.Fmt.{signed_decimal}
 use Rattle.std.specs.Str.Parse.{digits_value}
 use Rattle.std.proofs.lemmas.Fmt.{decimal_is_IsNumeral_wide}
-use Rattle.std.proofs.lemmas.List.{append_assoc, append-nil}
+use Rattle.std.proofs.lemmas.List.{append_assoc}
 use Rattle.cofactor_trace.specs.declared.evidence.Format.{Format}
 use Rattle.cofactor_trace.specs.declared.evidence.Format.TheVariants.{Plain, Lemmas}
-use Rattle.certificate_text.specs.Tokens.{tokens_of, is_skipped}
-use Rattle.certificate_text.specs.Letters.{is_number}
-use Rattle.certificate_text.specs.Lines.{integer_limit, is_value, integer_of}
-use Rattle.certificate_text.specs.Blocks.{Line, head_line, claim_line, denominator_line, end_line}
+use Rattle.block_text.specs.Letters.{is_number}
+use Rattle.block_text.specs.Lines.{integer_limit, integer_of, claim_line}
+use Rattle.certificate_text.specs.Lines.{is_value}
+use Rattle.certificate_text.specs.Blocks.{head_line, denominator_line}
 use Rattle.certificate_text.specs.Bounds.{IsWithin}
 use Rattle.certificate_text.specs.Written.{opening_text}
-use Rattle.certificate_text.specs.Back.{IsLineText}
-use Rattle.certificate_text.proofs.ContentBack.{IsTextOf, text-append, text_of_tokens}
-use Rattle.certificate_text.proofs.NameBytes.{IsNameText}
-use Rattle.certificate_text.proofs.NumbersBack.{decimal_text, decimal_number, decimal_within}
-use Rattle.certificate_text.proofs.TextsBack.{line_text-append, literal, plain_name}
-use Rattle.certificate_text.proofs.TokensBack.{token_read, name_token}
+use Rattle.block_text.proofs.ContentBack.{IsTextOf, text-append, text_of_tokens}
+use Rattle.block_text.proofs.NameBytes.{IsNameText}
+use Rattle.block_text.proofs.NumbersBack.{decimal_text, decimal_number, decimal_within}
+use Rattle.block_text.proofs.TextsBack.{literal}
+use Rattle.block_text.proofs.NumberLines.{text_of_number}
 
 -- ---- numbers
 
@@ -43,14 +42,6 @@ number_is_value n below =
     let value : digits_value 10 (decimal n) ≡ n = (decimal_is_IsNumeral_wide n below).1 in
     rw (decimal_number n below, value) (eq-eqb n n refl)
 
--- ---- lines that end with a number
-
-pub text_of_number : (front : List ℕ) (words : Line) (number : List ℕ) → IsLineText front → IsNameText number → tokens_of (front ++ number) ≡ words ++ tokens_of number
-    → is_skipped (words ++ number ∷ []) ≡ false → IsTextOf ((front ++ number) ++ 10 ∷ []) ((words ++ number ∷ []) ∷ [])
-text_of_number front words number line text split stands =
-    let alone : tokens_of number ≡ number ∷ [] = ap tokens_of (sym (append-nil number)) ∙ token_read number [] (name_token number text) refl in
-    text_of_tokens (front ++ number) (words ++ number ∷ []) (line_text-append front number line (plain_name number text).line) (split ∙ ap (λ ts. words ++ ts) alone) stands
-
 -- ---- the first lines of a certificate, and the last one
 
 abbrev pub head_text : Format → List ℕ
@@ -72,6 +63,3 @@ opening_is_text form claim denominator small size =
     let lines = head_line form ∷ claim_line (decimal claim) ∷ denominator_line (signed_decimal denominator) ∷ [] in
     subst (λ (text : List ℕ). IsTextOf text lines) (sym (opening_is (head_text form) (10 ∷ []) (codes "claim ") (decimal claim) (codes "denominator ") (signed_decimal denominator)))
     (text-append _ _ _ _ (head_is_text form) (text-append _ _ _ _ number multiple))
-
-pub end_is_text : IsTextOf (codes "end\n") (end_line ∷ [])
-end_is_text = text_of_tokens (codes "end") end_line (literal (codes "end") refl refl) refl refl

@@ -1,9 +1,8 @@
 -- What is read of evidence that is written, whatever stands around it.
-use Rattle.std.specs.Prelude.{◌≡◌, ◌<◌, ◌≤◌, ◌+◌, ◌^◌, ◌==◌, ◌&&◌, not, ⊤, ℕ, pos, Bool, true, false, List, [], ◌∷◌, ◌++◌, length, IsTrue, codes}
+use Rattle.std.specs.Prelude.{◌≡◌, ◌<◌, ◌≤◌, ◌+◌, ◌^◌, ⊤, ℕ, pos, List, ◌∷◌, ◌++◌, length, IsTrue}
 use Rattle.std.specs.List.{All, list_all, flat_map}
-use Rattle.std.specs.Str.{IsUtf8}
 use Rattle.coef_int.specs.Range.{IsCoefficient}
-use Rattle.quiver.specs.Declarations.{Declaration, name_of, IsDeclared}
+use Rattle.quiver.specs.Declarations.{Declaration, IsDeclared}
 use Rattle.cofactor_trace.specs.declared.CertRow.{CertRow}
 use Rattle.cofactor_trace.specs.declared.Certificate.{Certificate}
 use Rattle.cofactor_trace.specs.declared.evidence.CertFrom.{CertFrom}
@@ -18,10 +17,10 @@ use Rattle.cofactor_trace.specs.declared.evidence.Format.TheVariants as format
 use Rattle.cofactor_trace.specs.Expansion.{letter_count}
 use Rattle.cofactor_trace.specs.Lemmas.{row_count, letter_count as letters_of_lemmas}
 use Rattle.cofactor_trace.specs.GatheringLaws.{parts_of}
-use Rattle.certificate_text.specs.Letters.{is_name}
-use Rattle.certificate_text.specs.Tokens.{tokens_of}
-use Rattle.certificate_text.specs.Lines.{block_limit, is_other_head, is_end}
-use Rattle.certificate_text.specs.Evidence.{IsRowOver, IsLemmaRowOver, HasCertificates}
+use Rattle.block_text.specs.Back as blocks
+use Rattle.block_text.specs.Back.{values_in, is_whole, is_named}
+use Rattle.block_text.specs.Lines.{block_limit}
+use Rattle.certificate_text.specs.Evidence.{other_words, IsRowOver, IsLemmaRowOver, HasCertificates}
 use Rattle.certificate_text.specs.Written.{evidence_text}
 use Rattle.nc_polynomial.specs.Limits.{word_limit}
 use Rattle.cofactor_trace.specs.Limits.{row_limit, letter_limit}
@@ -93,16 +92,6 @@ IsOfFormat format.Lemmas (evidence.Lemmas c) = ⊤
 
 -- ---- what stands around it
 
--- whether the text is empty or ends with LF
-abbrev pub is_whole : List ℕ → Bool
-is_whole [] = true
-is_whole (c ∷ []) = c == 10
-is_whole (c ∷ d ∷ cs) = is_whole (d ∷ cs)
-
--- each object and map has a name of the language
-abbrev pub is_named : Declaration → Bool
-is_named d = is_name (name_of d)
-
 -- Evidence that is written between whole lines and other lines is read as it is, behind the certificates that those before it
 -- have and before those that the others have.
 abbrev pub IsReadBack : Type 0
@@ -113,46 +102,23 @@ IsReadBack = (most : Format) (ds : List Declaration) (e : Evidence) (before afte
 
 -- ---- texts of several parts
 
--- neither LF nor CR
-abbrev pub is_inside : ℕ → Bool
-is_inside c = not (c == 10) && not (c == 13)
-
--- UTF-8 without line ends
-pub record IsLineText (text : List ℕ) : Type 0 where
-  pub utf8 : IsUtf8 text
-  pub inside : IsTrue (list_all is_inside text)
-
 -- a certificate, a comment without its # and LF, or a block of another kind by its first line and those before `end`
-pub data Part : Type 0 where
-  certificate : Evidence → Part
-  comment : List ℕ → Part
-  other : List ℕ → List (List ℕ) → Part
-
--- a line with its LF
-abbrev pub ended : List ℕ → List ℕ
-ended line = line ++ codes "\n"
+abbrev pub Part : Type 0
+Part = blocks.Part Evidence
 
 abbrev pub part_text : List Declaration → Part → List ℕ
-part_text ds (certificate e) = evidence_text ds e
-part_text ds (comment text) = ended (codes "#" ++ text)
-part_text ds (other head lines) = ended head ++ flat_map ended lines ++ codes "end\n"
+part_text ds p = blocks.part_text (evidence_text ds) p
 
--- the text is a line, and not the line `end`
-pub record IsBodyLine (line : List ℕ) : Type 0 where
-  pub text : IsLineText line
-  pub goes_on : is_end (tokens_of line) ≡ false
+-- evidence of the format within the limits
+abbrev pub IsGood : Format → List Declaration → Evidence → Type 0
+IsGood most ds e = IsOfFormat most e × IsWritableEvidence ds e
 
 abbrev pub IsPart : Format → List Declaration → Part → Type 0
-IsPart most ds (certificate e) = IsOfFormat most e × IsWritableEvidence ds e
-IsPart most ds (comment text) = IsLineText text
-IsPart most ds (other head lines) = IsLineText head × IsTrue (is_other_head (tokens_of head)) × All IsBodyLine lines
+IsPart most ds p = blocks.IsPart other_words (IsGood most ds) p
 
 -- the certificates among the parts
 abbrev pub evidence_in : List Part → List Evidence
-evidence_in [] = []
-evidence_in (certificate e ∷ parts) = e ∷ evidence_in parts
-evidence_in (comment text ∷ parts) = evidence_in parts
-evidence_in (other head lines ∷ parts) = evidence_in parts
+evidence_in parts = values_in parts
 
 -- The certificates of a text of such parts are those among the parts, in their order.
 abbrev pub ArePartsReadBack : Type 0

@@ -3,12 +3,9 @@ use Rattle.std.specs.Prelude.{◌≡◌, ⊤, ℕ, ◌+◌, ◌∷◌, ◌++◌,
 use Rattle.std.specs.List.{All, flat_map}
 use Rattle.cofactor_trace.specs.declared.evidence.Format.{Format}
 use Rattle.cofactor_trace.specs.declared.evidence.Format.TheVariants.{Plain, Lemmas}
-use Rattle.certificate_text.specs.Letters.{is_number}
-use Rattle.certificate_text.specs.Lines.{RowTokens, is_value, is_row, is_other_head, is_end}
-
--- a line is the list of its tokens
-abbrev pub Line : Type 0
-Line = List (List ℕ)
+use Rattle.block_text.specs.Letters.{is_number}
+use Rattle.block_text.specs.Lines.{Line, claim_line}
+use Rattle.certificate_text.specs.Lines.{RowTokens, is_value, is_row}
 
 -- ---- the trees
 
@@ -35,15 +32,10 @@ pub record LemmasTokens : Type 0 where
   pub lemmas : List LemmaTokens
   pub goal : ScaledTokens
 
--- a block of another kind, without the line that ends it
-pub record OtherTokens : Type 0 where
-  pub head : Line
-  pub lines : List Line
-
+-- a certificate of either format
 pub data BlockTokens : Type 0 where
   plain : PlainTokens → BlockTokens
   lemmas : LemmasTokens → BlockTokens
-  other : OtherTokens → BlockTokens
 
 -- ---- the lines that they are
 
@@ -60,10 +52,6 @@ abbrev pub head_line : Format → Line
 head_line Plain = codes "certificate" ∷ codes "1" ∷ []
 head_line Lemmas = codes "certificate" ∷ codes "2" ∷ []
 
--- claim N
-abbrev pub claim_line : List ℕ → Line
-claim_line n = codes "claim" ∷ n ∷ []
-
 -- denominator D
 abbrev pub denominator_line : List ℕ → Line
 denominator_line d = codes "denominator" ∷ d ∷ []
@@ -76,14 +64,10 @@ lemma_lines l = (codes "lemma" ∷ l.number ∷ codes "scale" ∷ l.scaled.scale
 abbrev pub goal_lines : ScaledTokens → List Line
 goal_lines g = (codes "goal" ∷ codes "scale" ∷ g.scale ∷ []) ∷ map row_line g.rows
 
--- end
-abbrev pub end_line : Line
-end_line = codes "end" ∷ []
-
-abbrev pub block_lines : BlockTokens → List Line
-block_lines (plain b) = head_line Plain ∷ claim_line b.claim ∷ denominator_line b.denominator ∷ (map row_line b.rows ++ end_line ∷ [])
-block_lines (lemmas b) = head_line Lemmas ∷ claim_line b.claim ∷ denominator_line b.denominator ∷ (flat_map lemma_lines b.lemmas ++ (goal_lines b.goal ++ end_line ∷ []))
-block_lines (other b) = b.head ∷ (b.lines ++ end_line ∷ [])
+-- all but the line that ends it
+abbrev pub certificate_lines : BlockTokens → List Line
+certificate_lines (plain b) = head_line Plain ∷ claim_line b.claim ∷ denominator_line b.denominator ∷ map row_line b.rows
+certificate_lines (lemmas b) = head_line Lemmas ∷ claim_line b.claim ∷ denominator_line b.denominator ∷ (flat_map lemma_lines b.lemmas ++ goal_lines b.goal)
 
 -- ---- which tokens stand where
 
@@ -115,19 +99,8 @@ pub record IsLemmasBlock (b : LemmasTokens) : Type 0 where
   pub lemmas : AreLemmas 1 b.lemmas
   pub goal : IsScaled b.goal
 
--- the head of another kind, and the first line `end` ends it
-pub record IsOtherBlock (b : OtherTokens) : Type 0 where
-  pub head : IsTrue (is_other_head b.head)
-  pub lines : All (λ line. is_end line ≡ false) b.lines
-
 -- a block of a text in which certificates of this format and of the formats before it may stand
 abbrev pub IsBlock : Format → BlockTokens → Type 0
 IsBlock most (plain b) = IsPlainBlock b
 IsBlock Plain (lemmas b) = ⊥
 IsBlock Lemmas (lemmas b) = IsLemmasBlock b
-IsBlock most (other b) = IsOtherBlock b
-
--- The lines are these blocks, one after another.
-pub record AreBlocks (most : Format) (lines : List Line) (blocks : List BlockTokens) : Type 0 where
-  pub are : lines ≡ flat_map block_lines blocks
-  pub each : All (IsBlock most) blocks

@@ -1,5 +1,5 @@
 -- The bounds of evidence text, in the order in which they count, and the values of its blocks.
-use Rattle.std.specs.Prelude.{◌≡◌, ◌≤◌, ⊤, ℕ, ◌+◌, ℤ, ◌∷◌, ◌++◌, Bool, true, false, List, [], length, Some, Ok, filter}
+use Rattle.std.specs.Prelude.{◌≡◌, ◌≤◌, ℕ, ◌+◌, ℤ, ◌∷◌, ◌++◌, List, [], length, Some, Ok}
 use Rattle.std.specs.List.{All, AllZip, flat_map}
 use Rattle.quiver.specs.Declarations.{Declaration}
 use Rattle.cofactor_trace.specs.declared.CertRow.{CertRow}
@@ -9,38 +9,28 @@ use Rattle.cofactor_trace.specs.declared.evidence.Lemma.{Lemma}
 use Rattle.cofactor_trace.specs.declared.evidence.LemmaCertificate.{LemmaCertificate}
 use Rattle.cofactor_trace.specs.declared.evidence.Evidence.{Evidence}
 use Rattle.cofactor_trace.specs.declared.evidence.Evidence.TheVariants as evidence
-use Rattle.certificate_text.specs.declared.fault.Flaw.{Flaw}
-use Rattle.certificate_text.specs.declared.fault.Flaw.TheVariants.{UnknownName, NumberTooLarge, TooMany}
-use Rattle.certificate_text.specs.Letters.{number_within, integer_within}
-use Rattle.certificate_text.specs.Lines.{RowTokens, number_limit, integer_limit, word_limit, row_limit, letter_limit, block_limit, word_of, integer_of, row_values, over_lemma}
-use Rattle.certificate_text.specs.Blocks.{ScaledTokens, LemmaTokens, PlainTokens, LemmasTokens, BlockTokens, plain, lemmas, other}
+use Rattle.block_text.specs.declared.fault.Flaw.{Flaw}
+use Rattle.block_text.specs.declared.fault.Flaw.TheVariants.{UnknownName, NumberTooLarge, TooMany}
+use Rattle.block_text.specs.Letters.{number_within, integer_within, word_of}
+use Rattle.block_text.specs.Lines.{number_limit, integer_limit, integer_of}
+use Rattle.certificate_text.specs.Lines.{RowTokens, word_limit, row_limit, letter_limit, row_values, over_lemma}
+use Rattle.certificate_text.specs.Blocks.{ScaledTokens, LemmaTokens, PlainTokens, LemmasTokens, BlockTokens, plain, lemmas}
 
 -- ---- what a block has
 
--- the rows of a certificate, of all its lemmas and of its goal; a block of another kind has no rows
+-- the rows of a certificate, of all its lemmas and of its goal
 abbrev pub rows_in : BlockTokens → List RowTokens
 rows_in (plain b) = b.rows
 rows_in (lemmas b) = flat_map (λ l. l.scaled.rows) b.lemmas ++ b.goal.rows
-rows_in (other b) = []
 
 abbrev pub lemmas_in : BlockTokens → List LemmaTokens
 lemmas_in (plain b) = []
 lemmas_in (lemmas b) = b.lemmas
-lemmas_in (other b) = []
 
 -- how many letters stand in the rows
 abbrev pub letters_in : List RowTokens → ℕ
 letters_in [] = 0
 letters_in (r ∷ rows) = length r.left + length r.right + letters_in rows
-
-abbrev pub is_certificate : BlockTokens → Bool
-is_certificate (plain b) = true
-is_certificate (lemmas b) = true
-is_certificate (other b) = false
-
--- the blocks that aren't of another kind
-abbrev pub certificates_in : List BlockTokens → List BlockTokens
-certificates_in blocks = filter is_certificate blocks
 
 -- ---- values
 
@@ -77,22 +67,16 @@ IsCertificateOf ds (plain b) (evidence.Plain c) = IsPlainOf ds b c
 IsCertificateOf ds (lemmas b) (evidence.Lemmas c) = IsLemmasOf ds b c
 IsCertificateOf ds (plain b) (evidence.Lemmas c) = ⊥
 IsCertificateOf ds (lemmas b) (evidence.Plain c) = ⊥
-IsCertificateOf ds (other b) e = ⊥
-
--- the certificates of blocks, in their order
-abbrev pub AreCertificatesOf : List Declaration → List BlockTokens → List Evidence → Type 0
-AreCertificatesOf ds blocks es = AllZip (IsCertificateOf ds) (certificates_in blocks) es
 
 -- ---- bounds
 
--- on names, on numbers, on the letters of a word, on the rows and the lemmas of a block, on the letters in its rows, and on the certificates of a text
+-- on names, on numbers, on the letters of a word, on the rows and the lemmas of a block, and on the letters in its rows
 pub data Bound : Type 0 where
   names : Bound
   numbers : Bound
   words : Bound
   rows : Bound
   letters : Bound
-  blocks : Bound
 
 -- what a line is told for that passes the bound
 abbrev pub flaw_of : Bound → Flaw
@@ -101,20 +85,6 @@ flaw_of numbers = NumberTooLarge
 flaw_of words = TooMany word_limit
 flaw_of rows = TooMany row_limit
 flaw_of letters = TooMany letter_limit
-flaw_of blocks = TooMany block_limit
-
--- the bounds that count before it
-abbrev pub before : Bound → List Bound
-before names = []
-before numbers = names ∷ []
-before words = names ∷ numbers ∷ []
-before rows = names ∷ numbers ∷ words ∷ []
-before letters = names ∷ numbers ∷ words ∷ rows ∷ []
-before blocks = names ∷ numbers ∷ words ∷ rows ∷ letters ∷ []
-
--- all of them
-abbrev pub bounds : List Bound
-bounds = before blocks ++ blocks ∷ []
 
 -- ---- when they are kept
 
@@ -138,7 +108,6 @@ abbrev pub HasNumbersOutside : BlockTokens → Type 0
 HasNumbersOutside (plain b) = IsWithin number_limit b.claim × IsWithin integer_limit b.denominator
 HasNumbersOutside (lemmas b) =
     IsWithin number_limit b.claim × IsWithin integer_limit b.denominator × All (λ l. IsWithin integer_limit l.scaled.scale) b.lemmas × IsWithin integer_limit b.goal.scale
-HasNumbersOutside (other b) = ⊤
 
 -- the block keeps the bound
 abbrev pub KeepsOne : List Declaration → Bound → BlockTokens → Type 0
@@ -147,9 +116,3 @@ KeepsOne ds numbers b = HasNumbersOutside b × All HasNumbers (rows_in b)
 KeepsOne ds words b = All HasShortWords (rows_in b)
 KeepsOne ds rows b = (length (rows_in b) ≤ row_limit) × (length (lemmas_in b) ≤ row_limit)
 KeepsOne ds letters b = letters_in (rows_in b) ≤ letter_limit
-KeepsOne ds blocks b = ⊤
-
--- the text of these blocks keeps the bound
-pub record Keeps (ds : List Declaration) (text : List BlockTokens) (bound : Bound) : Type 0 where
-  pub each : All (KeepsOne ds bound) text
-  pub few : bound ≡ blocks → length (certificates_in text) ≤ block_limit

@@ -1,8 +1,6 @@
 -- Evidence text: the certificates that bytes are, or the first thing that is wrong with them.
-use Rattle.std.specs.Prelude.{◌≡◌, ◌<◌, ◌≤◌, ℕ, ◌+◌, not, true, false, List, [], ◌∷◌, ◌++◌, length, map, filter}
+use Rattle.std.specs.Prelude.{◌≤◌, ℕ, ◌+◌, List, [], ◌∷◌, length, codes}
 use Rattle.std.specs.List.{All, flat_map}
-use Rattle.std.specs.Str.{is_utf8}
-use Rattle.std.specs.Str.Lines.{lines}
 use Rattle.coef_int.specs.Range.{IsCoefficient}
 use Rattle.word_core.specs.Letters.{IsOver}
 use Rattle.quiver.specs.Declarations.{Declaration, letter_count}
@@ -14,78 +12,45 @@ use Rattle.cofactor_trace.specs.declared.evidence.LemmaCertificate.{LemmaCertifi
 use Rattle.cofactor_trace.specs.declared.evidence.Evidence.{Evidence}
 use Rattle.cofactor_trace.specs.declared.evidence.Evidence.TheVariants as block
 use Rattle.cofactor_trace.specs.declared.evidence.Format.{Format}
-use Rattle.certificate_text.specs.declared.fault.Flaw.{Flaw}
-use Rattle.certificate_text.specs.declared.fault.Flaw.TheVariants.{BadLine}
-use Rattle.certificate_text.specs.Fault.{Fault, in_line, not_utf8, truncated, no_block}
-use Rattle.certificate_text.specs.Tokens.{tokens_of, is_skipped}
-use Rattle.certificate_text.specs.Blocks.{Line, BlockTokens, AreBlocks}
-use Rattle.certificate_text.specs.Bounds.{Bound, flaw_of, before, bounds, Keeps, certificates_in, AreCertificatesOf}
+use Rattle.block_text.specs.Fault.{Fault}
+use Rattle.block_text.specs.Kind.{Kind}
+use Rattle.block_text.specs.Texts as texts
+use Rattle.block_text.specs.Texts.{HasBlocks, IsBlocks}
+use Rattle.certificate_text.specs.Blocks.{BlockTokens, certificate_lines, IsBlock}
+use Rattle.certificate_text.specs.Bounds.{Bound, names, numbers, words, rows, letters, flaw_of, KeepsOne, IsCertificateOf}
 use Rattle.cofactor_trace.specs.Limits.{row_limit}
-
--- ---- lines
-
--- the tokens of the lines that are neither blank nor comments
-abbrev pub content : List (List ℕ) → List Line
-content ls = filter (λ line. not (is_skipped line)) (map tokens_of ls)
 
 -- ---- evidence
 
+-- blocks of these kinds aren't read
+abbrev pub other_words : List (List ℕ)
+other_words = codes "model" ∷ codes "basis" ∷ []
+
+-- Certificates of this format and of those before it are a kind of block.
+abbrev pub certificate_kind : Format → List Declaration → Kind Evidence
+certificate_kind most ds = record {
+  Tree = BlockTokens;
+  lines_of = certificate_lines;
+  IsTree = IsBlock most;
+  others = other_words;
+  Bound = Bound;
+  bounds = names ∷ numbers ∷ words ∷ rows ∷ letters ∷ [];
+  flaw_of = flaw_of;
+  Keeps = KeepsOne ds;
+  Says = IsCertificateOf ds;
+}
+
 -- The bytes are UTF-8, their lines are blocks within all bounds, and these are the certificates among them.
-pub record HasCertificates (most : Format) (ds : List Declaration) (bytes : List ℕ) (es : List Evidence) : Type 0 where
-  pub utf8 : is_utf8 bytes ≡ true
-  pub blocks : List BlockTokens
-  pub are_blocks : AreBlocks most (content (lines bytes)) blocks
-  pub within : All (Keeps ds blocks) bounds
-  pub certificates : AreCertificatesOf ds blocks es
+abbrev pub HasCertificates : Format → List Declaration → List ℕ → List Evidence → Type 0
+HasCertificates most ds = HasBlocks (certificate_kind most ds)
 
 -- There is one at least.
-pub record IsEvidence (most : Format) (ds : List Declaration) (bytes : List ℕ) (es : List Evidence) : Type 0 where
-  pub has : HasCertificates most ds bytes es
-  pub some : 0 < length es
+abbrev pub IsEvidence : Format → List Declaration → List ℕ → List Evidence → Type 0
+IsEvidence most ds = IsBlocks (certificate_kind most ds)
 
--- ---- the first fault
-
--- The lines are the first lines of blocks that keep these bounds.
-pub record GoesOn (most : Format) (ds : List Declaration) (within : List Bound) (ls : List Line) : Type 0 where
-  pub more : List Line
-  pub blocks : List BlockTokens
-  pub are_blocks : AreBlocks most (ls ++ more) blocks
-  pub keeps : All (Keeps ds blocks) within
-
--- Behind the lines before it no blocks go on with this line; or some do, but none of those that keep the bounds before this one keeps this one.
-pub data IsFlawed (most : Format) (ds : List Declaration) (front : List Line) (line : Line) (flaw : Flaw) : Type 0 where
-  misfit : flaw ≡ BadLine → (GoesOn most ds [] (front ++ line ∷ []) → ⊥) → IsFlawed most ds front line flaw
-  passes : (bound : Bound) → flaw ≡ flaw_of bound → GoesOn most ds (before bound) (front ++ line ∷ [])
-      → (GoesOn most ds (before bound ++ bound ∷ []) (front ++ line ∷ []) → ⊥) → IsFlawed most ds front line flaw
-
--- A line: the lines in front of it are the first ones of blocks within all bounds, and it is flawed.
-pub record IsFirstFlaw (most : Format) (ds : List Declaration) (ls : List (List ℕ)) (number : ℕ) (flaw : Flaw) : Type 0 where
-  pub front : List (List ℕ)
-  pub line : List ℕ
-  pub behind : List (List ℕ)
-  pub splits : ls ≡ front ++ line ∷ behind
-  pub numbered : number ≡ length front + 1
-  pub stands : is_skipped (tokens_of line) ≡ false
-  pub sound : GoesOn most ds bounds (content front)
-  pub flawed : IsFlawed most ds (content front) (tokens_of line) flaw
-
--- The lines are the first ones of blocks within all bounds, and no blocks by themselves.
-pub record IsCutOff (most : Format) (ds : List Declaration) (ls : List Line) : Type 0 where
-  pub sound : GoesOn most ds bounds ls
-  pub cut : (blocks : List BlockTokens) → AreBlocks most ls blocks → ⊥
-
--- The lines are blocks of other kinds alone.
-pub record HasNoCertificate (most : Format) (ls : List Line) : Type 0 where
-  pub blocks : List BlockTokens
-  pub are_blocks : AreBlocks most ls blocks
-  pub none : certificates_in blocks ≡ []
-
--- the first thing that is wrong with the bytes: their encoding, a line, that they end inside a block, or that they have no certificate
-pub data IsFirstFault (most : Format) (ds : List Declaration) (bytes : List ℕ) (fault : Fault) : Type 0 where
-  encoding : is_utf8 bytes ≡ false → fault ≡ not_utf8 → IsFirstFault most ds bytes fault
-  line : (number : ℕ) (flaw : Flaw) → is_utf8 bytes ≡ true → IsFirstFlaw most ds (lines bytes) number flaw → fault ≡ in_line number flaw → IsFirstFault most ds bytes fault
-  end : is_utf8 bytes ≡ true → IsCutOff most ds (content (lines bytes)) → fault ≡ truncated → IsFirstFault most ds bytes fault
-  certificates : is_utf8 bytes ≡ true → HasNoCertificate most (content (lines bytes)) → fault ≡ no_block → IsFirstFault most ds bytes fault
+-- the first thing that is wrong with the bytes
+abbrev pub IsFirstFault : Format → List Declaration → List ℕ → Fault → Type 0
+IsFirstFault most ds = texts.IsFirstFault (certificate_kind most ds)
 
 -- ---- what holds of each block
 

@@ -1,6 +1,3 @@
-pub mod Fault
-pub mod Tokens
-pub mod Letters
 pub mod Lines
 pub mod Blocks
 pub mod Bounds

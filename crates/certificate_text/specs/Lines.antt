@@ -1,8 +1,7 @@
 -- The lines of certificates of both formats.
-use Rattle.std.specs.Prelude.{ℕ, ◌+◌, ◌-◌, ◌^◌, ◌==◌, ◌&&◌, ◌||◌, Bool, true, false, not, List, [], ◌∷◌, length, nat_le, nat_lt, ℤ, pos, Option, Some, None, Result, Ok, Err, if◌then◌else◌, codes}
+use Rattle.std.specs.Prelude.{ℕ, ◌+◌, ◌==◌, ◌&&◌, ◌||◌, Bool, true, false, not, List, [], ◌∷◌, length, nat_le, nat_lt, ℤ, Option, Some, None, Result, Ok, Err, if◌then◌else◌, codes}
 use Rattle.std.specs.List.{list_all}
-use Rattle.std.specs.Option.{option_map, option_and_then}
-use Rattle.std.specs.Str.{bytes_eq}
+use Rattle.std.specs.Option.{option_and_then}
 use Rattle.std.specs.Str.Parse.{digits_value}
 use Rattle.quiver.specs.Declarations.{Declaration}
 use Rattle.cofactor_trace.specs.declared.CertRow.{CertRow}
@@ -11,44 +10,16 @@ use Rattle.cofactor_trace.specs.declared.evidence.CertFrom.TheVariants as over
 use Rattle.cofactor_trace.specs.declared.evidence.LemmaRow.{LemmaRow}
 use Rattle.cofactor_trace.specs.declared.evidence.Format.{Format}
 use Rattle.cofactor_trace.specs.declared.evidence.Format.TheVariants.{Plain, Lemmas}
-use Rattle.certificate_text.specs.declared.fault.Flaw.{Flaw}
-use Rattle.certificate_text.specs.declared.fault.Flaw.TheVariants.{BadLine, UnknownName, NumberTooLarge, TooMany}
+use Rattle.block_text.specs.declared.fault.Flaw.{Flaw}
+use Rattle.block_text.specs.declared.fault.Flaw.TheVariants.{BadLine, UnknownName, NumberTooLarge, TooMany}
 use Rattle.certificate_text.specs.declared.place.Size.{Size}
-use Rattle.certificate_text.specs.Fault.{◌>>=◌, asked}
-use Rattle.certificate_text.specs.Letters.{is_letter, letter_of, is_number, number_within, is_integer, integer_within}
+use Rattle.block_text.specs.Fault.{◌>>=◌, asked}
+use Rattle.block_text.specs.Lines.{number_limit, integer_limit, is, is_pair, number_behind, integer_of, bracketed}
+use Rattle.block_text.specs.Letters.{is_letter, word_of, is_number, number_within, is_integer, integer_within}
 pub use Rattle.nc_polynomial.specs.Limits.{word_limit}
 pub use Rattle.cofactor_trace.specs.Limits.{row_limit, letter_limit}
 
--- ---- limits
-
--- of a number, and of an integer and its negative
-abbrev pub number_limit : ℕ
-number_limit = 2 ^ 32 - 1
-
-abbrev pub integer_limit : ℕ
-integer_limit = 2 ^ 127 - 1
-
--- of the blocks
-abbrev pub block_limit : ℕ
-block_limit = 100
-
--- ---- words
-
--- whether a token is this word
-abbrev pub is : List ℕ → List ℕ → Bool
-is word token = bytes_eq token word
-
--- whether the line begins with this word
-abbrev pub begins : List ℕ → List (List ℕ) → Bool
-begins word [] = false
-begins word (token ∷ tokens) = is word token
-
--- whether the line is these two words
-abbrev pub is_pair : List ℕ → List ℕ → List (List ℕ) → Bool
-is_pair first second (a ∷ b ∷ []) = is first a && is second b
-is_pair first second [] = false
-is_pair first second (a ∷ []) = false
-is_pair first second (a ∷ b ∷ c ∷ tokens) = false
+-- ---- heads
 
 -- `certificate 1`
 abbrev pub is_plain_head : List (List ℕ) → Bool
@@ -58,31 +29,7 @@ is_plain_head = is_pair (codes "certificate") (codes "1")
 abbrev pub is_lemmas_head : List (List ℕ) → Bool
 is_lemmas_head = is_pair (codes "certificate") (codes "2")
 
--- whether a block of another kind begins
-abbrev pub is_other_head : List (List ℕ) → Bool
-is_other_head line = begins (codes "model") line || begins (codes "basis") line
-
--- `end`
-abbrev pub is_end : List (List ℕ) → Bool
-is_end (token ∷ []) = is (codes "end") token
-is_end [] = false
-is_end (token ∷ other ∷ tokens) = false
-
 -- ---- `claim N` and `denominator D`
-
--- the number behind a word
-abbrev pub number_behind : List ℕ → List (List ℕ) → Option (List ℕ)
-number_behind word (a ∷ b ∷ []) = if is word a && is_number b then Some b else None
-number_behind word [] = None
-number_behind word (a ∷ []) = None
-number_behind word (a ∷ b ∷ c ∷ tokens) = None
-
-abbrev pub claim_of : List (List ℕ) → Result ℕ Flaw
-claim_of line = asked BadLine (number_behind (codes "claim") line) >>= λ digits. asked NumberTooLarge (number_within number_limit digits)
-
--- a number as a positive integer or 0
-abbrev pub integer_of : List ℕ → Result ℤ Flaw
-integer_of digits = asked NumberTooLarge (option_map pos (number_within integer_limit digits))
 
 abbrev pub denominator_of : List (List ℕ) → Result ℤ Flaw
 denominator_of line = asked BadLine (number_behind (codes "denominator") line) >>= integer_of
@@ -130,22 +77,6 @@ pub record RowTokens : Type 0 where
   pub number : List ℕ
   pub right : List (List ℕ)
 
-abbrev pub is_open : List ℕ → Bool
-is_open = is (codes "(")
-
-abbrev pub is_close : List ℕ → Bool
-is_close = is (codes ")")
-
--- what stands before the first ) and what stands behind it
-abbrev pub closed : List (List ℕ) → Option (List (List ℕ) × List (List ℕ))
-closed [] = None
-closed (token ∷ tokens) = if is_close token then Some ([], tokens) else option_map (λ parts. (token ∷ parts.0, parts.1)) (closed tokens)
-
--- what stands in a ( .. ) and what stands behind it
-abbrev pub bracketed : List (List ℕ) → Option (List (List ℕ) × List (List ℕ))
-bracketed [] = None
-bracketed (token ∷ tokens) = if is_open token then closed tokens else None
-
 -- nothing stands behind the second bracket
 abbrev pub row_end : List ℕ → List (List ℕ) → Bool → List ℕ → List (List ℕ) → List (List ℕ) → Option RowTokens
 row_end coefficient left lemma number right [] = Some (record { coefficient = coefficient; left = left; lemma = lemma; number = number; right = right })
@@ -175,11 +106,6 @@ is_row r = is_integer r.coefficient && (list_all is_letter r.left && (is_number 
 abbrev pub row_tokens : Format → List (List ℕ) → Option RowTokens
 row_tokens Plain line = option_and_then (λ r. if not r.lemma && is_row r then Some r else None) (row_parts line)
 row_tokens Lemmas line = option_and_then (λ r. if is_row r then Some r else None) (row_parts line)
-
--- the letters that the tokens spell, if each spells one
-abbrev pub word_of : List Declaration → List (List ℕ) → Option (List ℕ)
-word_of ds [] = Some []
-word_of ds (token ∷ tokens) = option_and_then (λ a. option_map (λ w. a ∷ w) (word_of ds tokens)) (letter_of ds token)
 
 -- the values of the tokens, by the number of the generator or lemma: first the names, and then the numbers
 abbrev pub row_values : List Declaration → RowTokens → Result CertRow Flaw

@@ -1,12 +1,7 @@
 -- The program's values as the definitions see them.
-use Rattle.certificate_text.specs.declared.letter.Spelled as code_letter
 use Rattle.certificate_text.specs.declared.row.RowTokens as code_row
-use Rattle.certificate_text.specs.Letters.{Spelled}
 use Rattle.certificate_text.specs.Lines.{RowTokens}
-use Rattle.certificate_text.specs.Tokens.{tokens_of}
-
-abbrev pub spelled : code_letter.Spelled → Spelled
-spelled s = record { name = s.name.now; identity = s.identity; adjoint = s.adjoint }
+use Rattle.block_text.specs.Tokens.{tokens_of}
 
 -- the letters are the tokens of what stands in brackets
 abbrev pub parts_of : code_row.RowTokens → RowTokens

@@ -1,13 +1,12 @@
 //! Evidence of both formats as bytes.
 
-ghost use Rattle.std.specs.Prelude.{◌≡◌, ◌<◌, ◌+◌, ◌^◌, ◌++◌, IfOk, OnOk, length};
+ghost use Rattle.std.specs.Prelude.{◌≡◌, ◌<◌, ◌+◌, ◌++◌, IfOk, OnOk};
 ghost use Rattle.std.specs.List.{All, flat_map};
 ghost use Rattle.certificate_text.specs.Evidence.{IsLemmaRowOver};
 ghost use Rattle.certificate_text.specs.Written.{IsLemmaOver, IsEvidenceOver, origin_text, lemma_row_text, scaled_text, lemma_text, lemmas_text, goal_text, lemma_certificate_text, evidence_text};
 
-use crate::write::{
-    put, put_certificate, put_integer, put_number, put_opening, put_row_end, put_row_front,
-};
+use crate::write::{put_certificate, put_opening, put_row_end, put_row_front};
+use block_text::{put, put_integer, put_number};
 use cofactor_trace::{CertFrom, Evidence, Lemma, LemmaCertificate, LemmaRow};
 use quiver::Quiver;
 use std::alloc::{AllocError, Global};

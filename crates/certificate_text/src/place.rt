@@ -1,6 +1,6 @@
 //! What a reader has made of the lines before one.
 
-use cofactor_trace::{Certificate, Evidence, Format, Lemma};
+use cofactor_trace::{Certificate, Format, Lemma};
 use lists::Listing;
 
 /// How many rows a block has so far, and how many letters stand in them.
@@ -21,14 +21,10 @@ pub struct Opened {
     pub size: Size,
 }
 
-/// Where a line stands.
+/// How far a certificate was read whose lines go on.
 #[derive(Drop)]
-pub enum Place {
-    /// Outside of all blocks.
-    Outside,
-    /// In a block of another kind.
-    Skipped,
-    /// Behind the head of a certificate.
+pub enum Stage {
+    /// Behind its head.
     Headed {
         form: Format,
     },
@@ -56,11 +52,4 @@ pub enum Place {
         opened: Opened,
         goal: Lemma,
     },
-}
-
-/// The blocks that were read, and where the next line stands.
-#[derive(Drop)]
-pub struct Progress {
-    pub blocks: Listing<Evidence>,
-    pub place: Place,
 }

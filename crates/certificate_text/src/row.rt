@@ -1,21 +1,21 @@
 //! The rows of certificates of both formats.
 
-ghost use Rattle.std.specs.Prelude.{◌≡◌, ◌<◌, ◌&&◌, length, position, IsTrue, IfOk, IfSome, if◌then◌else◌};
+ghost use Rattle.std.specs.Prelude.{◌≡◌, ◌<◌, ◌&&◌, IsTrue, IfOk, if◌then◌else◌};
 ghost use Rattle.std.specs.List.{list_all};
 ghost use Rattle.std.specs.Option.{option_map};
-ghost use Rattle.certificate_text.specs.declared.fault.Flaw.TheVariants as flaw;
-ghost use Rattle.certificate_text.specs.Fault.{Reads, asked};
-ghost use Rattle.certificate_text.specs.Letters.{is_letter};
-ghost use Rattle.certificate_text.specs.Lines.{closed, bracketed, number_part, origin_part, row_parts, is_row, word_of, row_values, row_of, over_lemma, lemma_row_of, grown};
-ghost use Rattle.certificate_text.specs.Tokens.{is_closing, tokens_of};
+ghost use Rattle.block_text.specs.declared.fault.Flaw.TheVariants as flaw;
+ghost use Rattle.block_text.specs.Fault.{Reads, asked};
+ghost use Rattle.block_text.specs.Letters.{is_letter, word_of};
+ghost use Rattle.block_text.specs.Lines.{bracketed};
+ghost use Rattle.certificate_text.specs.Lines.{number_part, origin_part, row_parts, is_row, row_values, row_of, over_lemma, lemma_row_of, grown};
+ghost use Rattle.block_text.specs.Tokens.{tokens_of};
 ghost use Rattle.certificate_text.specs.Views.{parts_of};
 
-use crate::cut::first_token;
-use crate::fault::{Flaw, LineFault};
-use crate::letter::{is_letter, letter_of};
-use crate::line::{INTEGER_LIMIT, NUMBER_LIMIT, is};
-use crate::number::{integer_within, is_integer, is_number, number_within};
 use crate::place::Size;
+use block_text::{
+    Flaw, INTEGER_LIMIT, LineFault, NUMBER_LIMIT, bracketed, first_token, integer_within, is,
+    is_integer, is_letter, is_number, letter_of, number_within,
+};
 use cofactor_trace::{CertFrom, CertRow, LETTER_LIMIT, LemmaRow, ROW_LIMIT};
 use nc_polynomial::WORD_LIMIT;
 use quiver::Quiver;
@@ -31,34 +31,6 @@ struct RowTokens<'a> {
     lemma: bool,
     number: &'a [u8],
     right: &'a [u8],
-}
-
-// The place of the first `)`.
-fn close_place(line: &[u8]) -> Option<usize>
-    ensures first { result ≡ position is_closing line.now }
-    ensures within { IfSome result (λ place. place < length line.now) }
-{
-    line.iter().position(|byte| *byte == b')')
-}
-
-// What stands before the first `)` and what stands behind it.
-fn closed(line: &[u8]) -> Option<(&[u8], &[u8])>
-    ensures { option_map (λ parts. (tokens_of parts.0.now, tokens_of parts.1.now)) result ≡ closed (tokens_of line.now) }
-{
-    match close_place(line) {
-        Some(place) => Some((&line[..place], &line[place + 1..])),
-        None => None,
-    }
-}
-
-// What stands in a `( .. )` that begins the line and what stands behind it.
-fn bracketed(line: &[u8]) -> Option<(&[u8], &[u8])>
-    ensures { option_map (λ parts. (tokens_of parts.0.now, tokens_of parts.1.now)) result ≡ bracketed (tokens_of line.now) }
-{
-    match first_token(line) {
-        Some((first, rest)) if is("(", first) => closed(rest),
-        _ => None,
-    }
 }
 
 // `N ( .. )` at the end of a row, behind `lemma` or not.

@@ -1,95 +1,59 @@
-//! What a line of evidence text comes to at its place.
+//! What is made of the lines of a certificate.
 
-ghost use Rattle.std.specs.Prelude.{◌≡◌, ◌++◌, ◌∷◌, [], List, Ok, false};
-ghost use Rattle.certificate_text.specs.Fault.{Reads};
-ghost use Rattle.certificate_text.specs.Lines.{is_end};
-ghost use Rattle.certificate_text.specs.Reading.{progress, headed, lemmas_headed, outside, begun, scaled, lemma_row, in_rows, in_lemma, in_goal, step};
-ghost use Rattle.certificate_text.specs.Tokens.{tokens_of};
-ghost use Rattle.certificate_text.specs.declared.place.Place.TheVariants as place;
-ghost use Rattle.cofactor_trace.specs.declared.evidence.Format.TheVariants as format;
+ghost use Rattle.std.specs.Prelude.{◌≡◌, [], ⊤};
+ghost use Rattle.block_text.specs.Fault.{Reads};
+ghost use Rattle.block_text.specs.Tokens.{tokens_of};
+ghost use Rattle.certificate_text.specs.Reading.{lemmas_headed, begun, scaled, lemma_row, in_rows, in_lemma, in_goal, lemma_certificate_of, next, certificate_steps};
+ghost use Rattle.cofactor_trace.specs.declared.evidence.Evidence.TheVariants as block;
+ghost use Rattle.certificate_text.specs.declared.place.Stage.TheVariants as stage;
 
-use crate::fault::{Flaw, LineFault};
-use crate::line::{
-    begins, claim_of, denominator_of, goal_scale_of, is_end, is_lemmas_head, is_other_head,
-    is_plain_head, lemma_scale_of,
-};
-use crate::place::{Opened, Place, Progress, Size};
+use crate::line::{denominator_of, goal_scale_of, is_lemmas_head, is_plain_head, lemma_scale_of};
+use crate::place::{Opened, Size, Stage};
 use crate::row::{grown, lemma_row_of, row_of};
+use block_text::{BlockKind, Flaw, LineFault, begins, claim_of};
 use cofactor_trace::{Certificate, Evidence, Format, Lemma, LemmaCertificate};
 use lists::Listing;
 use quiver::Quiver;
-use std::alloc::Global;
+use std::alloc::{AllocError, Global};
 
-/// The greatest number of blocks of a kind.
-pub const BLOCK_LIMIT: u32 = 100;
+/// Certificates of this format and of those before it, over the letters of a quiver.
+#[derive(Clone, Copy)]
+pub struct Certificates<'q> {
+    pub most: Format,
+    pub quiver: &'q Quiver,
+}
 
 const NO_ROWS: Size = Size {
     rows: 0,
     letters: 0,
 };
 
-// A certificate of this format begins, where there may be one more.
-fn headed(blocks: Listing<Evidence>, form: Format) -> Result<Progress, Flaw>
-    ensures { result ≡ headed blocks form }
-{
-    if blocks.len() >= BLOCK_LIMIT as usize {
-        return Err(Flaw::TooMany(BLOCK_LIMIT));
-    }
-    let place = Place::Headed { form };
-    Ok(Progress { blocks, place })
-}
-
 // One of format 2 begins, where that format is read.
-fn lemmas_headed(most: Format, blocks: Listing<Evidence>) -> Result<Progress, Flaw>
-    ensures { result ≡ lemmas_headed most blocks }
+fn lemmas_headed(most: Format) -> Option<Stage>
+    ensures { result ≡ lemmas_headed most }
 {
     match most {
-        Format::Plain => Err(Flaw::BadLine),
-        Format::Lemmas => headed(blocks, Format::Lemmas),
+        Format::Plain => None,
+        Format::Lemmas => Some(Stage::Headed {
+            form: Format::Lemmas,
+        }),
     }
-}
-
-fn outside(most: Format, blocks: Listing<Evidence>, line: &[u8]) -> Result<Progress, Flaw>
-    ensures { result ≡ outside most blocks (tokens_of line.now) }
-{
-    if is_plain_head(line) {
-        headed(blocks, Format::Plain)
-    } else if is_lemmas_head(line) {
-        lemmas_headed(most, blocks)
-    } else if is_other_head(line) {
-        let place = Place::Skipped;
-        Ok(Progress { blocks, place })
-    } else {
-        Err(Flaw::BadLine)
-    }
-}
-
-fn skipped(blocks: Listing<Evidence>, line: &[u8]) -> Progress
-    ensures { step format.Plain [] blocks place.Skipped (tokens_of line.now) ≡ Ok result }
-{
-    let place = if is_end(line) {
-        Place::Outside
-    } else {
-        Place::Skipped
-    };
-    Progress { blocks, place }
 }
 
 // The claim behind the head.
-fn claimed(blocks: Listing<Evidence>, form: Format, line: &[u8]) -> Result<Progress, Flaw>
-    ensures { result ≡ step format.Plain [] blocks (place.Headed form) (tokens_of line.now) }
+fn claimed(form: Format, line: &[u8]) -> Result<Stage, Flaw>
+    ensures { result ≡ next [] (stage.Headed form) (tokens_of line.now) }
 {
     let claim = claim_of(line)?;
-    let place = Place::Claimed { form, claim };
-    Ok(Progress { blocks, place })
+    Ok(Stage::Claimed { form, claim })
 }
 
-// The place behind the denominator.
-fn begun(alloc: Global, form: Format, claim: u32, denominator: i128) -> Place
+// What stands behind the denominator.
+fn begun(alloc: Global, form: Format, claim: u32, denominator: i128) -> Stage
     ensures { result ≡ begun form claim denominator }
 {
     match form {
-        Format::Plain => Place::Rows {
+        Format::Plain => Stage::Rows {
             certificate: Certificate {
                 claim,
                 denominator,
@@ -97,7 +61,7 @@ fn begun(alloc: Global, form: Format, claim: u32, denominator: i128) -> Place
             },
             size: NO_ROWS,
         },
-        Format::Lemmas => Place::Opened {
+        Format::Lemmas => Stage::Opened {
             opened: Opened {
                 claim,
                 denominator,
@@ -109,26 +73,11 @@ fn begun(alloc: Global, form: Format, claim: u32, denominator: i128) -> Place
 }
 
 // The denominator behind the claim.
-fn divided(
-    alloc: Global,
-    blocks: Listing<Evidence>,
-    form: Format,
-    claim: u32,
-    line: &[u8],
-) -> Result<Progress, Flaw>
-    ensures { result ≡ step format.Plain [] blocks (place.Claimed form claim) (tokens_of line.now) }
+fn divided(alloc: Global, form: Format, claim: u32, line: &[u8]) -> Result<Stage, Flaw>
+    ensures { result ≡ next [] (stage.Claimed form claim) (tokens_of line.now) }
 {
     let denominator = denominator_of(line)?;
-    let place = begun(alloc, form, claim, denominator);
-    Ok(Progress { blocks, place })
-}
-
-fn ended_block(mut blocks: Listing<Evidence>, block: Evidence) -> Result<Progress, LineFault>
-    ensures { Reads (λ p. p) result (Ok (progress (blocks ++ block ∷ []) place.Outside)) }
-{
-    blocks.push(block)?;
-    let place = Place::Outside;
-    Ok(Progress { blocks, place })
+    Ok(begun(alloc, form, claim, denominator))
 }
 
 // A row more of a certificate without lemmas, and the size with it.
@@ -139,8 +88,7 @@ fn push_row(
     size: Size,
     line: &[u8],
 ) -> Result<Size, LineFault>
-    requires { is_end (tokens_of line.now) ≡ false }
-    ensures { (blocks : List Evidence) → Reads (λ size. progress blocks (place.Rows certificate.new size)) result (in_rows quiver.now blocks certificate.old size (tokens_of line.now)) }
+    ensures { Reads (λ size. stage.Rows certificate.new size) result (in_rows quiver.now certificate.old size (tokens_of line.now)) }
 {
     let row = row_of(alloc, quiver, line)?;
     let size = grown(size, &row.left, &row.right)?;
@@ -148,33 +96,23 @@ fn push_row(
     Ok(size)
 }
 
-// A row of a certificate without lemmas, or its end.
+// A row of a certificate without lemmas.
 fn in_rows(
     alloc: Global,
     quiver: &Quiver,
-    blocks: Listing<Evidence>,
     mut certificate: Certificate,
     size: Size,
     line: &[u8],
-) -> Result<Progress, LineFault>
-    ensures { Reads (λ p. p) result (in_rows quiver.now blocks certificate size (tokens_of line.now)) }
+) -> Result<Stage, LineFault>
+    ensures { Reads (λ s. s) result (in_rows quiver.now certificate size (tokens_of line.now)) }
 {
-    if is_end(line) {
-        return ended_block(blocks, Evidence::Plain(certificate));
-    }
     let size = push_row(alloc, quiver, &mut certificate, size, line)?;
-    let place = Place::Rows { certificate, size };
-    Ok(Progress { blocks, place })
+    Ok(Stage::Rows { certificate, size })
 }
 
 // The rows of the next lemma, or of the goal, begin.
-fn scaled(
-    alloc: Global,
-    blocks: Listing<Evidence>,
-    opened: Opened,
-    line: &[u8],
-) -> Result<Progress, Flaw>
-    ensures { result ≡ scaled blocks opened (tokens_of line.now) }
+fn scaled(alloc: Global, opened: Opened, line: &[u8]) -> Result<Stage, Flaw>
+    ensures { result ≡ scaled opened (tokens_of line.now) }
 {
     let is_goal = begins("goal", line);
     let scale = if is_goal {
@@ -186,15 +124,14 @@ fn scaled(
         scale: scale?,
         rows: Listing::new(alloc),
     };
-    let place = if is_goal {
-        Place::Goal {
+    Ok(if is_goal {
+        Stage::Goal {
             opened,
             goal: lemma,
         }
     } else {
-        Place::Lemma { opened, lemma }
-    };
-    Ok(Progress { blocks, place })
+        Stage::Lemma { opened, lemma }
+    })
 }
 
 // A row more of the lemma or of the goal.
@@ -217,68 +154,89 @@ fn push_lemma_row(
 fn in_lemma(
     alloc: Global,
     quiver: &Quiver,
-    blocks: Listing<Evidence>,
     mut opened: Opened,
     mut lemma: Lemma,
     line: &[u8],
-) -> Result<Progress, LineFault>
-    ensures { Reads (λ p. p) result (in_lemma quiver.now blocks opened lemma (tokens_of line.now)) }
+) -> Result<Stage, LineFault>
+    ensures { Reads (λ s. s) result (in_lemma quiver.now opened lemma (tokens_of line.now)) }
 {
     if begins("row", line) {
         push_lemma_row(alloc, quiver, &mut opened, &mut lemma, line)?;
-        let place = Place::Lemma { opened, lemma };
-        return Ok(Progress { blocks, place });
+        return Ok(Stage::Lemma { opened, lemma });
     }
     opened.lemmas.push(lemma)?;
-    Ok(scaled(alloc, blocks, opened, line)?)
+    Ok(scaled(alloc, opened, line)?)
 }
 
-// A row of the goal, or the end of its block.
+// A row of the goal.
 fn in_goal(
     alloc: Global,
     quiver: &Quiver,
-    blocks: Listing<Evidence>,
     mut opened: Opened,
     mut goal: Lemma,
     line: &[u8],
-) -> Result<Progress, LineFault>
-    ensures { Reads (λ p. p) result (in_goal quiver.now blocks opened goal (tokens_of line.now)) }
+) -> Result<Stage, LineFault>
+    ensures { Reads (λ s. s) result (in_goal quiver.now opened goal (tokens_of line.now)) }
 {
-    if is_end(line) {
-        let certificate = LemmaCertificate {
-            claim: opened.claim,
-            denominator: opened.denominator,
-            lemmas: opened.lemmas,
-            goal,
-        };
-        return ended_block(blocks, Evidence::Lemmas(certificate));
-    }
     push_lemma_row(alloc, quiver, &mut opened, &mut goal, line)?;
-    let place = Place::Goal { opened, goal };
-    Ok(Progress { blocks, place })
+    Ok(Stage::Goal { opened, goal })
 }
 
-/// What the line comes to at its place. Certificates of this format and of those before it are read.
-pub fn step(
-    alloc: Global,
-    most: Format,
-    quiver: &Quiver,
-    progress: Progress,
-    line: &[u8],
-) -> Result<Progress, LineFault>
-    ensures { Reads (λ p. p) result (step most quiver.now progress.blocks progress.place (tokens_of line.now)) }
+// The certificate with this goal.
+fn lemma_certificate(opened: Opened, goal: Lemma) -> Evidence
+    ensures { result ≡ block.Lemmas (lemma_certificate_of opened goal) }
 {
-    let Progress { blocks, place } = progress;
-    match place {
-        Place::Outside => Ok(outside(most, blocks, line)?),
-        Place::Skipped => Ok(skipped(blocks, line)),
-        Place::Headed { form } => Ok(claimed(blocks, form, line)?),
-        Place::Claimed { form, claim } => Ok(divided(alloc, blocks, form, claim, line)?),
-        Place::Rows { certificate, size } => {
-            in_rows(alloc, quiver, blocks, certificate, size, line)
+    Evidence::Lemmas(LemmaCertificate {
+        claim: opened.claim,
+        denominator: opened.denominator,
+        lemmas: opened.lemmas,
+        goal,
+    })
+}
+
+impl<'q> BlockKind for Certificates<'q> {
+    type Begun = Stage;
+
+    type Value = Evidence;
+
+    ghost steps = { λ kind. certificate_steps kind.most kind.quiver.now };
+
+    ghost is_sound = { λ kind stage. ⊤ };
+
+    fn is_other_head(&self, line: &[u8]) -> bool {
+        begins("model", line) || begins("basis", line)
+    }
+
+    fn begin(&self, _alloc: Global, line: &[u8]) -> Option<Stage> {
+        if is_plain_head(line) {
+            Some(Stage::Headed {
+                form: Format::Plain,
+            })
+        } else if is_lemmas_head(line) {
+            lemmas_headed(self.most)
+        } else {
+            None
         }
-        Place::Opened { opened } => Ok(scaled(alloc, blocks, opened, line)?),
-        Place::Lemma { opened, lemma } => in_lemma(alloc, quiver, blocks, opened, lemma, line),
-        Place::Goal { opened, goal } => in_goal(alloc, quiver, blocks, opened, goal, line),
+    }
+
+    fn next(&self, alloc: Global, stage: Stage, line: &[u8]) -> Result<Stage, LineFault> {
+        match stage {
+            Stage::Headed { form } => Ok(claimed(form, line)?),
+            Stage::Claimed { form, claim } => Ok(divided(alloc, form, claim, line)?),
+            Stage::Rows { certificate, size } => {
+                in_rows(alloc, self.quiver, certificate, size, line)
+            }
+            Stage::Opened { opened } => Ok(scaled(alloc, opened, line)?),
+            Stage::Lemma { opened, lemma } => in_lemma(alloc, self.quiver, opened, lemma, line),
+            Stage::Goal { opened, goal } => in_goal(alloc, self.quiver, opened, goal, line),
+        }
+    }
+
+    fn finish(&self, _alloc: Global, stage: Stage) -> Result<Option<Evidence>, AllocError> {
+        match stage {
+            Stage::Rows { certificate, .. } => Ok(Some(Evidence::Plain(certificate))),
+            Stage::Goal { opened, goal } => Ok(Some(lemma_certificate(opened, goal))),
+            _ => Ok(None),
+        }
     }
 }

@@ -6,7 +6,7 @@ use Rattle.cofactor_checker.specs.declared.refusal.Refusal.{Refusal}
 use Rattle.cofactor_checker.specs.declared.refusal.Refusal.TheVariants as refusal
 use Rattle.cofactor_checker.specs.Rows.{sum_limit}
 use Rattle.cofactor_checker.specs.Lemmas.{kept_limit}
-use Rattle.certificate_text.specs.Written.{word_text}
+use Rattle.block_text.specs.Written.{word_text}
 
 abbrev pub operation_text : Bool → List ℕ
 operation_text product = if product then codes " times " else codes " plus "

@@ -11,7 +11,8 @@ ghost use Rattle.command_shape.specs.Stop.{StopsBy, EndsAs};
 
 use crate::refusal::cause_text;
 use adjoint_rules::Problem;
-use certificate_text::{CertFault, read_evidence};
+use block_text::CertFault;
+use certificate_text::read_evidence;
 use cofactor_checker::{Accepted, check_evidence};
 use cofactor_trace::Evidence;
 use command_shape::{

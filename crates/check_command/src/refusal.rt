@@ -3,12 +3,12 @@ ghost use Rattle.std.specs.Prelude.{◌≡◌, ◌++◌, Some, IfOk, OnOk, codes
 ghost use Rattle.std.specs.Fmt.{signed_decimal};
 ghost use Rattle.quiver.specs.Declarations.{letter_count};
 ghost use Rattle.word_core.specs.Letters.{IsOver};
-ghost use Rattle.certificate_text.specs.Written.{word_text};
+ghost use Rattle.block_text.specs.Written.{word_text};
 ghost use Rattle.command_shape.specs.Judged.{Puts};
 ghost use Rattle.check_command.specs.Letters.{HasLetters};
 ghost use Rattle.check_command.specs.Refusals.{operation_text, cause_text};
 
-use certificate_text::{put, put_integer, put_word};
+use block_text::{put, put_integer, put_word};
 use coef_int::Overflow;
 use cofactor_checker::{KEPT_LIMIT, Refusal, SUM_LIMIT};
 use command_shape::{put_labelled, put_signed};

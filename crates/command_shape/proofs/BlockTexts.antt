@@ -2,7 +2,7 @@
 use Rattle.std.proofs.Common.{◌≡◌, ◌⊎◌, inl, inr, ℕ, ◌+◌, List, [], ◌∷◌, ◌++◌, Option, Some, codes, decimal, refl, sym, ap, subst, ◌∙◌, arith}
 use Rattle.std.proofs.lemmas.List.{append_assoc, append-nil}
 use Rattle.std.specs.List.{AllByRecursion}
-use Rattle.certificate_text.specs.Fault.{Fault}
+use Rattle.block_text.specs.Fault.{Fault}
 use Rattle.command_shape.specs.Ending.{Ending, line, refused_evidence}
 use Rattle.command_shape.specs.Texts.{evidence_fault}
 use Rattle.command_shape.specs.Blocks.{block_text, refused_text, OverEvidence, faulty, read, AcceptsBlock, RefusesBlock, JudgesFrom, Judges, accepted, refused, lines_on}

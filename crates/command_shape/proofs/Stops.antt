@@ -2,7 +2,7 @@
 use Rattle.std.proofs.Common.{◌≡◌, ℕ, List, Result, Ok, Err, IfErr, subst, sym}
 use Rattle.std.specs.Result.{IsErr, IsErrAnd}
 use Rattle.adjoint_rules.specs.declared.problem.Problem.{Problem}
-use Rattle.certificate_text.specs.Fault.{Fault}
+use Rattle.block_text.specs.Fault.{Fault}
 use Rattle.command_shape.specs.declared.stop.Stop.{Stop}
 use Rattle.command_shape.specs.declared.stop.Stop.TheVariants.{Ended, Memory}
 use Rattle.command_shape.specs.Ending.{Ending}

@@ -1,6 +1,6 @@
 -- What an evidence text leads to: its first fault, or its blocks, judged one after another.
 use Rattle.std.specs.Prelude.{ℕ, ◌+◌, ◌≡◌, List, [], ◌∷◌, ◌++◌, Option, Some, codes, decimal}
-use Rattle.certificate_text.specs.Fault.{Fault}
+use Rattle.block_text.specs.Fault.{Fault}
 use Rattle.command_shape.specs.Ending.{Ending, line, refused_evidence}
 use Rattle.command_shape.specs.Texts.{evidence_fault}
 

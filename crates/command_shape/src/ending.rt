@@ -3,7 +3,7 @@ ghost use Rattle.std.specs.Prelude.{◌≡◌, IfOk};
 ghost use Rattle.command_shape.specs.Ending.{usage, load_failed, too_long, refused_statement, refused_evidence};
 
 use crate::write::put_labelled;
-use certificate_text::put;
+use block_text::put;
 use std::alloc::{AllocError, Global};
 use std::marker::Model;
 

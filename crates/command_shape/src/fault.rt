@@ -5,7 +5,7 @@ ghost use Rattle.command_shape.specs.Texts.{limit_text, place_text, ends_text, s
 
 use crate::ending::Ending;
 use crate::write::put_labelled;
-use certificate_text::{put, put_number};
+use block_text::{put, put_number};
 use lists::Text;
 use std::alloc::{AllocError, Global};
 

@@ -11,7 +11,7 @@ use crate::ending::Ending;
 use crate::stop::Stop;
 use crate::write::put_labelled;
 use adjoint_rules::Problem;
-use certificate_text::put;
+use block_text::put;
 use std::alloc::{AllocError, Global};
 
 /// What judging a block comes to.

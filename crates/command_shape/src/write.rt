@@ -2,7 +2,7 @@
 ghost use Rattle.std.specs.Prelude.{◌≡◌, ◌++◌, OnOk, decimal};
 ghost use Rattle.std.specs.Fmt.{signed_decimal};
 
-use certificate_text::{put, put_integer, put_number};
+use block_text::{put, put_integer, put_number};
 use std::alloc::AllocError;
 
 /// A text and then a number.

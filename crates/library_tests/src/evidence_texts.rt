@@ -7,10 +7,11 @@ use crate::evidence_rows::{
     MANY_ROWS_OF_LEMMAS, NOT_UTF8, PLACES, PLAIN, ROWS, Row, WORDS, WRITTEN,
 };
 use crate::texts::{Map, Repeated, poly, poly_text, quiver_of, repeated, same, word, word_text};
+use block_text::CertFault;
 use certificate_text::{
-    CertFault, certificates_are_read_back, each_text_is_read, evidence_has_no_fault,
-    evidence_is_unique, first_fault_is_unique, parts_are_read_back, read_certificates,
-    read_evidence, write_certificate, write_evidence,
+    certificates_are_read_back, each_text_is_read, evidence_has_no_fault, evidence_is_unique,
+    first_fault_is_unique, parts_are_read_back, read_certificates, read_evidence,
+    write_certificate, write_evidence,
 };
 use quiver::Quiver;
 use std::alloc::{AllocError, Global};

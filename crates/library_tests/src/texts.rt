@@ -4,7 +4,7 @@ ghost use Rattle.std.specs.List.{All};
 ghost use Rattle.coef_int.specs.Range.{IsCoefficient};
 ghost use Rattle.word_core.specs.Letters.{IsOver};
 
-use certificate_text::{write_poly, write_word};
+use block_text::{write_poly, write_word};
 use nc_polynomial::{Poly, PolyFault};
 use quiver::Quiver;
 use statement_syntax::{Tree, read_tree};

@@ -9,7 +9,7 @@ ghost use Rattle.model_command.specs.Answers.{ConfirmsModel, RefusesModelBlock, 
 
 use crate::text::{confirmed_text, model_cause};
 use adjoint_rules::Problem;
-use certificate_text::CertFault;
+use block_text::CertFault;
 use command_shape::{Ending, Judge, Judged, Stop, judge_blocks, refused_evidence};
 use lists::Listing;
 use matrix_models::Model;

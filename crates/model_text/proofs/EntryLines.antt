@@ -4,12 +4,10 @@ use Rattle.std.specs.List.{list_all}
 use Rattle.std.specs.Option.{option_and_then}
 use Rattle.std.proofs.lemmas.Bool.{and_parts}
 use Rattle.std.proofs.lemmas.Option.{option_and_then_some, cond_some}
-use Rattle.certificate_text.specs.Letters.{is_number}
-use Rattle.certificate_text.specs.Lines.{is, begins, is_end}
-use Rattle.certificate_text.specs.Blocks.{Line}
-use Rattle.certificate_text.proofs.LineTrees.{is_word}
-use Rattle.certificate_text.proofs.Results.{by_test}
-use Rattle.certificate_text.proofs.RowLines.{other_word}
+use Rattle.block_text.specs.Letters.{is_number}
+use Rattle.block_text.specs.Lines.{is, begins, is_end, Line}
+use Rattle.block_text.proofs.LineTrees.{is_word, other_word}
+use Rattle.block_text.proofs.Results.{by_test}
 use Rattle.model_text.specs.ModelBlocks.{EntryTokens, side, matrix, more_rows, entry_line, is_row, is_row_of, is_entry}
 use Rattle.model_text.specs.Reading.{rows_in, side_tokens, map_tokens, if_entry, entry_tokens}
 

@@ -1,6 +1,5 @@
 -- What a line `side` or `map` says, and the bounds that it keeps.
 use Rattle.std.proofs.Common.{◌≡◌, ◌<◌, ◌≤◌, ◌-◌, ℕ, Bool, true, false, ◌&&◌, List, [], ◌∷◌, ◌++◌, Option, Some, None, Result, Ok, Err, arith, refl, ap, ap₂, ◌∙◌, length, map, nat_le}
-use Rattle.std.specs.Bool.{⊤}
 use Rattle.std.specs.List.{All, AllZip, flat_map, range_with_len}
 use Rattle.std.proofs.lemmas.Bool.{and_parts}
 use Rattle.std.proofs.lemmas.Bool.Decides.{nat_tests}
@@ -8,18 +7,18 @@ use Rattle.std.proofs.lemmas.List.Elements.{All-nil, All-cons, All-head, All-tai
 use Rattle.quiver.specs.declared.named.Named.{Named}
 use Rattle.quiver.specs.declared.named.Named.TheVariants.{Object, Map}
 use Rattle.quiver.specs.Declarations.{Declaration, named_in, object_count, letter_count}
-use Rattle.certificate_text.specs.declared.fault.Flaw.{Flaw}
-use Rattle.certificate_text.specs.declared.fault.Flaw.TheVariants.{NumberTooLarge}
-use Rattle.certificate_text.specs.Blocks.{Line}
-use Rattle.certificate_text.specs.Fault.{asked}
+use Rattle.block_text.specs.declared.fault.Flaw.{Flaw}
+use Rattle.block_text.specs.declared.fault.Flaw.TheVariants.{NumberTooLarge}
+use Rattle.block_text.specs.Lines.{Line}
+use Rattle.block_text.specs.Fault.{asked}
 use Rattle.model_text.specs.declared.place.Begun.{Begun}
 use Rattle.model_text.specs.declared.place.Entry.{Entry}
 use Rattle.model_text.specs.declared.place.Entry.TheVariants as entry
 use Rattle.model_text.specs.ModelBlocks.{EntryTokens, side, matrix, ModelTokens}
 use Rattle.matrix_models.specs.Limits.{side_limit}
-use Rattle.model_text.specs.ModelBounds.{Bound, names, numbers, sizes, blocks, flaw_of, before, value_of, matrix_value, side_of, matrix_of, model_value, HasName, IsBelow, IsSmall}
+use Rattle.model_text.specs.ModelBounds.{Bound, names, numbers, sizes, flaw_of, value_of, matrix_value, side_of, matrix_of, model_value, HasName, IsBelow, IsSmall}
 use Rattle.model_text.specs.Reading.{values_below, matrix_made, side_value, map_value, entry_value, side_in, matrix_in, sides_in, maps_in, model_of}
-use Rattle.certificate_text.proofs.Results.{by_test, bind_ok, asked_ok}
+use Rattle.block_text.proofs.Results.{by_test, bind_ok, asked_ok}
 use Rattle.model_text.proofs.Values.{are_values}
 
 -- the line keeps the bound
@@ -27,7 +26,12 @@ abbrev pub KeepsEntry : List Declaration → ℕ → Bound → EntryTokens → T
 KeepsEntry ds m names e = HasName ds e
 KeepsEntry ds m numbers e = IsBelow m e
 KeepsEntry ds m sizes e = IsSmall e
-KeepsEntry ds m blocks e = ⊤
+
+-- the bounds that count before it
+abbrev pub before : Bound → List Bound
+before names = []
+before numbers = names ∷ []
+before sizes = names ∷ numbers ∷ []
 
 -- the line says this, where all bounds are kept; or one is the first that is passed
 pub data IsJudged (ds : List Declaration) (m : ℕ) (e : EntryTokens) (r : Result Entry Flaw) : Type 0 where
@@ -67,7 +71,6 @@ module _ (ds : List Declaration) (m : ℕ) where
   keeps_all e name below small names = name
   keeps_all e name below small numbers = below
   keeps_all e name below small sizes = small
-  keeps_all e name below small blocks = tt
 
   side_judged : (name number : List ℕ) (named : Option Named) (small : Bool) → named_in ds name ≡ named → nat_le (value_of number) side_limit ≡ small → IsJudged ds m (side name number) (entry_value ds m (side name number))
   side_judged name number None small named_is small_is = fails names (rw named_is refl) (All-nil (λ k. KeepsEntry ds m k (side name number))) (λ known. let is = known.1 in absurd (cc))

@@ -1,14 +1,15 @@
 -- Worked texts, over the objects U and V and maps a : U -> V and b : V -> U.
 use lib.Utf8.{encode}
-use Rattle.std.proofs.Common.{◌≡◌, false, List, [], ◌∷◌, Some, None, Ok, Err, arith, refl, codes}
+use Rattle.std.proofs.Common.{◌≡◌, false, List, [], ◌∷◌, ℕ, Some, None, Result, Ok, Err, arith, refl, codes}
 use Rattle.std.proofs.lemmas.Fmt.{decimal_digit}
 use Rattle.std.specs.Str.{is_utf8, chars}
 use Rattle.quiver.specs.Declarations.{Declaration, object, arrow}
 use Rattle.matrix_models.specs.declared.model.Model.{Model}
-use Rattle.certificate_text.specs.Fault.{truncated, no_block}
-use Rattle.certificate_text.specs.Tokens.{tokens_of}
+use Rattle.block_text.specs.Fault.{Fault, truncated, no_block}
+use Rattle.block_text.specs.Tokens.{tokens_of}
 use Rattle.model_text.specs.ModelBlocks.{side, matrix, entry_line}
-use Rattle.model_text.specs.Reading.{all_models}
+use Rattle.block_text.specs.Steps.{all_values}
+use Rattle.model_text.specs.Reading.{model_steps}
 use Rattle.model_text.specs.Written.{model_text}
 
 abbrev declared : List Declaration
@@ -24,29 +25,32 @@ of_a_side = refl
 
 -- ---- reading
 
+abbrev read_of : List ℕ → Result (List Model) Fault
+read_of text = all_values (model_steps declared) text
+
 -- without lines each side is 1, and no letter has a matrix; blocks of other kinds are skipped
-read : all_models declared (codes "certificate 1\nmodel 1\nend\n# models\nmodel 1\n\nclaim 07\nmodulus 5\nend\n")
+read : read_of (codes "certificate 1\nmodel 1\nend\n# models\nmodel 1\n\nclaim 07\nmodulus 5\nend\n")
     ≡ Ok (record { claim = 7; modulus = 5; sides = 1 ∷ 1 ∷ []; maps = None ∷ None ∷ None ∷ None ∷ None ∷ None ∷ [] } ∷ [])
 unfolding is_utf8 chars encode
 read = refl
 
-small_modulus : all_models declared (codes "model 1\nclaim 1\nmodulus 1\n") ≡ Err (record { code = 2; line = 3; limit = 0 })
+small_modulus : read_of (codes "model 1\nclaim 1\nmodulus 1\n") ≡ Err (record { code = 2; line = 3; limit = 0 })
 unfolding is_utf8 chars encode
 small_modulus = refl
 
-large_modulus : all_models declared (codes "model 1\nclaim 1\nmodulus 2147483648\n") ≡ Err (record { code = 4; line = 3; limit = 0 })
+large_modulus : read_of (codes "model 1\nclaim 1\nmodulus 2147483648\n") ≡ Err (record { code = 4; line = 3; limit = 0 })
 unfolding is_utf8 chars encode
 large_modulus = refl
 
-no_side : all_models declared (codes "model 1\nclaim 1\nmodulus 2\nside U\n") ≡ Err (record { code = 2; line = 4; limit = 0 })
+no_side : read_of (codes "model 1\nclaim 1\nmodulus 2\nside U\n") ≡ Err (record { code = 2; line = 4; limit = 0 })
 unfolding is_utf8 chars encode
 no_side = refl
 
-cut_off : all_models declared (codes "basis 1\nend 1\n") ≡ Err truncated
+cut_off : read_of (codes "basis 1\nend 1\n") ≡ Err truncated
 unfolding is_utf8 chars encode
 cut_off = refl
 
-without_models : all_models declared (codes "basis 1\nend\n") ≡ Err no_block
+without_models : read_of (codes "basis 1\nend\n") ≡ Err no_block
 unfolding is_utf8 chars encode
 without_models = refl
 

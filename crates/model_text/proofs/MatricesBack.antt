@@ -7,12 +7,12 @@ use Rattle.std.proofs.lemmas.Fmt.{decimal_is_IsNumeral_wide}
 use Rattle.std.proofs.lemmas.List.{append_assoc, map-append}
 use Rattle.std.proofs.lemmas.List.FromFn.{length-map-range_with_len, fill_by_all}
 use Rattle.matrix_models.specs.Matrix.{Matrix, entry_at, IsMatrix}
-use Rattle.certificate_text.specs.Blocks.{Line}
-use Rattle.certificate_text.specs.Tokens.{goes_on, tokens_of}
-use Rattle.certificate_text.specs.Back.{IsLineText}
-use Rattle.certificate_text.proofs.NumbersBack.{decimal_text}
-use Rattle.certificate_text.proofs.TextsBack.{line_text-append, literal, plain_name}
-use Rattle.certificate_text.proofs.TokensBack.{IsToken, token_read, name_token}
+use Rattle.block_text.specs.Lines.{Line}
+use Rattle.block_text.specs.Tokens.{goes_on, tokens_of}
+use Rattle.block_text.specs.Back.{IsLineText}
+use Rattle.block_text.proofs.NumbersBack.{decimal_text}
+use Rattle.block_text.proofs.TextsBack.{line_text-append, literal, plain_name}
+use Rattle.block_text.proofs.TokensBack.{IsToken, token_read, name_token}
 use Rattle.model_text.specs.ModelBlocks.{more_rows}
 use Rattle.model_text.specs.ModelBounds.{value_of, matrix_value}
 use Rattle.model_text.specs.Written.{between, entry_text, row_text, part_text, rows_text}

@@ -1,5 +1,5 @@
 -- What holds of the models that are read.
-use Rattle.std.proofs.Common.{◌≡◌, ◌<◌, ◌≤◌, ◌+◌, ◌*◌, ℕ, Bool, true, false, ◌&&◌, cond, List, [], ◌∷◌, Some, None, Result, Ok, Err, IfOk, IsTrue, arith, refl, sym, ap, ◌∙◌, subst, length, map, nat_eq, nat_le, nat_lt}
+use Rattle.std.proofs.Common.{◌≡◌, ◌<◌, ◌≤◌, ◌+◌, ◌*◌, ℕ, Bool, true, false, ◌&&◌, cond, List, [], ◌∷◌, Some, None, Result, IfOk, IsTrue, arith, refl, sym, ap, ◌∙◌, subst, length, map, nat_eq, nat_le, nat_lt}
 use Rattle.std.specs.List.{All, flat_map, list_all, range_with_len}
 use Rattle.std.proofs.lemmas.Bool.{and_parts}
 use Rattle.std.proofs.lemmas.Bool.Decides.{nat_tests}
@@ -10,18 +10,19 @@ use Rattle.quiver.specs.declared.named.Named.TheVariants.{Map}
 use Rattle.quiver.specs.Declarations.{Declaration, object_count, letter_count, named_in}
 use Rattle.matrix_models.specs.Matrix.{IsModulus, IsSide, IsMatrix}
 use Rattle.matrix_models.specs.declared.model.Model.{Model}
-use Rattle.certificate_text.specs.declared.fault.CertFault.{CertFault}
-use Rattle.certificate_text.specs.Blocks.{Line}
-use Rattle.certificate_text.specs.Fault.{ReadsText}
-use Rattle.certificate_text.specs.Letters.{is_name, is_number}
-use Rattle.model_text.specs.ModelBlocks.{EntryTokens, side, matrix, ModelTokens, BlockTokens, model, other, is_row, is_row_of, is_entry, IsModelBlock, IsBlock}
+use Rattle.block_text.specs.declared.fault.CertFault.{CertFault}
+use Rattle.block_text.specs.Lines.{Line}
+use Rattle.block_text.specs.Fault.{ReadsText}
+use Rattle.block_text.specs.Letters.{is_name, is_number}
+use Rattle.model_text.specs.ModelBlocks.{EntryTokens, side, matrix, ModelTokens, is_row, is_row_of, is_entry, IsModelBlock}
 use Rattle.matrix_models.specs.Limits.{side_limit}
-use Rattle.model_text.specs.ModelBounds.{Bound, names, numbers, sizes, value_of, is_map_named, is_object_named, side_of, matrix_value, matrix_of, model_value, values_in, HasName, IsBelow, IsSmall, KeepsOne, Keeps}
-use Rattle.model_text.specs.Models.{HasMap, IsPlaced, IsModel, IsModels}
-use Rattle.model_text.specs.Reading.{all_models}
+use Rattle.model_text.specs.ModelBounds.{Bound, names, numbers, sizes, value_of, is_map_named, is_object_named, side_of, matrix_value, matrix_of, model_value, HasName, IsBelow, IsSmall, KeepsOne}
+use Rattle.model_text.specs.Models.{model_kind, HasMap, IsPlaced, IsModel, IsModels}
+use Rattle.block_text.specs.Steps.{all_values}
+use Rattle.model_text.specs.Reading.{model_steps}
 use Rattle.model_text.proofs.EntryValues.{flat_from}
-use Rattle.model_text.proofs.FirstBounds.{kept_at}
-use Rattle.model_text.proofs.EachText.{models_read}
+use Rattle.block_text.proofs.EachText.{values_are, read_values_are}
+use Rattle.model_text.proofs.Reader.{reader}
 use Rattle.model_text.proofs.Values.{rows_have_length}
 
 all_of : {A B : Type 0} (P : B → Type 0) (f : A → B) → ((x : A) → P (f x)) → (xs : List A) → All P (map f xs)
@@ -95,7 +96,7 @@ module _ (ds : List Declaration) where
 
   -- ---- models
 
-  value_is_model : (b : ModelTokens) → IsModelBlock b → ((bound : Bound) → KeepsOne ds bound (model b)) → IsModel ds (model_value ds b)
+  value_is_model : (b : ModelTokens) → IsModelBlock b → ((bound : Bound) → KeepsOne ds bound b) → IsModel ds (model_value ds b)
   value_is_model b block keeps =
       let m : ℕ = value_of b.modulus in
       let at_least = and_parts (is_number b.modulus) (nat_le 2 m) block.modulus in
@@ -109,18 +110,11 @@ module _ (ds : List Declaration) where
             (placed m is_mod b.entries block.entries (keeps names) (keeps numbers).entries (keeps sizes) a);
       }
 
-  values_are_models : (text : List BlockTokens) → All IsBlock text → ((bound : Bound) → All (KeepsOne ds bound) text) → All (IsModel ds) (values_in ds text)
-  values_are_models [] each keeps = All-nil (IsModel ds)
-  values_are_models (model b ∷ text) each keeps =
-      All-cons (IsModel ds) (model_value ds b) (values_in ds text)
-      (value_is_model b (All-head IsBlock (model b) text each) (λ bound. All-head (KeepsOne ds bound) (model b) text (keeps bound)))
-      (values_are_models text (All-tail IsBlock (model b) text each) (λ bound. All-tail (KeepsOne ds bound) (model b) text (keeps bound)))
-  values_are_models (other b ∷ text) each keeps = values_are_models text (All-tail IsBlock (other b) text each) (λ bound. All-tail (KeepsOne ds bound) (other b) text (keeps bound))
+  tree_says_model : (b : ModelTokens) (m : Model) → IsModelBlock b → ((bound : Bound) → KeepsOne ds bound b) → m ≡ model_value ds b → IsModel ds m
+  tree_says_model b m block keeps says = subst (IsModel ds) (sym says) (value_is_model b block keeps)
 
   pub models_are_models : (bytes : List ℕ) (ms : List Model) → IsModels ds bytes ms → All (IsModel ds) ms
-  models_are_models bytes ms is =
-      subst (All (IsModel ds)) (sym is.has.models) (values_are_models is.has.blocks is.has.are_blocks.each (λ bound. (kept_at (Keeps ds is.has.blocks) is.has.within bound).each))
+  models_are_models bytes ms is = values_are (model_kind ds) (model_steps ds) (reader ds) (IsModel ds) tree_says_model bytes ms is
 
-  pub are_models : (bytes : List ℕ) (r : Result (List Model) CertFault) → ReadsText (λ ms. ms) r (all_models ds bytes) → IfOk r (All (IsModel ds))
-  are_models bytes (Ok ms) read = models_are_models bytes ms (models_read ds bytes ms read)
-  are_models bytes (Err e) read = tt
+  pub are_models : (bytes : List ℕ) (r : Result (List Model) CertFault) → ReadsText (λ ms. ms) r (all_values (model_steps ds) bytes) → IfOk r (All (IsModel ds))
+  are_models bytes r read = read_values_are (model_kind ds) (model_steps ds) (reader ds) (IsModel ds) tree_says_model bytes r read

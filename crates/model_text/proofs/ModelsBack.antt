@@ -4,29 +4,29 @@ use Rattle.std.specs.Prelude.{decimal}
 use Rattle.std.specs.List.{All, flat_map, list_all, range_with_len}
 use Rattle.std.proofs.lemmas.Bool.{le-leb, lt-ltb, ne_eqb}
 use Rattle.std.proofs.lemmas.Bool.Decides.{nat_tests}
-use Rattle.std.proofs.lemmas.List.{append_assoc, length-append, map-append}
+use Rattle.std.proofs.lemmas.List.{append_assoc, map-append}
 use Rattle.std.proofs.lemmas.List.Elements.{All-nil, All-cons, All-head, All-tail, All-append, All-weaker}
 use Rattle.std.proofs.lemmas.List.FromFn.{fill_by_all}
 use Rattle.quiver.specs.Declarations.{Declaration, object_count, letter_count, object_name, letter_name, IsDeclared}
 use Rattle.matrix_models.specs.Matrix.{Matrix, entry_at, IsSide, IsMatrix}
 use Rattle.matrix_models.specs.declared.model.Model.{Model}
-use Rattle.certificate_text.specs.Blocks.{Line, claim_line, end_line}
-use Rattle.certificate_text.specs.Letters.{is_number}
-use Rattle.certificate_text.specs.Tokens.{tokens_of}
-use Rattle.certificate_text.specs.Back.{is_whole, is_named}
-use Rattle.certificate_text.proofs.ContentBack.{IsTextOf, no_text, text-append, text_of_tokens, whole_append}
-use Rattle.certificate_text.proofs.NameBytes.{name_text}
-use Rattle.certificate_text.proofs.NumbersBack.{decimal_text, decimal_number}
-use Rattle.certificate_text.proofs.SizesBack.{text_of_number, end_is_text}
-use Rattle.certificate_text.proofs.TextsBack.{line_text-append, literal, plain_name}
-use Rattle.certificate_text.proofs.TokensBack.{token_read, name_token}
-use Rattle.model_text.specs.ModelBlocks.{EntryTokens, side, matrix, ModelTokens, model, head_line, modulus_line, entry_line, block_lines, name_of, is_row, is_row_of, is_entry, IsModelBlock}
-use Rattle.model_text.specs.ModelBounds.{Bound, names, numbers, sizes, blocks, value_of, side_of, matrix_of, model_value, HasName, IsBelow, IsSmall, KeepsOne}
-use Rattle.model_text.specs.Models.{HasModels, HasMap, IsPlaced}
+use Rattle.block_text.specs.Lines.{Line, claim_line, end_line}
+use Rattle.block_text.specs.Letters.{is_number}
+use Rattle.block_text.specs.Tokens.{tokens_of}
+use Rattle.block_text.specs.Back.{is_whole, is_named}
+use Rattle.block_text.proofs.ContentBack.{IsTextOf, no_text, text-append, text_of_tokens}
+use Rattle.block_text.proofs.NameBytes.{name_text}
+use Rattle.block_text.proofs.NumbersBack.{decimal_text, decimal_number}
+use Rattle.block_text.proofs.NumberLines.{text_of_number, end_is_text}
+use Rattle.block_text.proofs.TextsBack.{line_text-append, literal, plain_name}
+use Rattle.block_text.proofs.TokensBack.{token_read, name_token}
+use Rattle.model_text.specs.ModelBlocks.{EntryTokens, side, matrix, ModelTokens, model_front, head_line, modulus_line, entry_line, name_of, is_row, is_row_of, is_entry, IsModelBlock}
+use Rattle.model_text.specs.ModelBounds.{Bound, names, numbers, sizes, value_of, side_of, matrix_of, model_value, HasName, IsBelow, IsSmall, KeepsOne}
+use Rattle.model_text.specs.Models.{model_kind, HasModels, HasMap, IsPlaced}
 use Rattle.model_text.specs.Written.{rows_text, side_text, map_text, head_text, model_text}
 use Rattle.model_text.specs.Back.{IsWritableModel, ModelsAreReadBack}
 use Rattle.model_text.proofs.MatricesBack.{value_back, row_tokens, later_rows, matrix_read, matrix_line, rows_count, columns_count, matrix_back}
-use Rattle.model_text.proofs.ModelsJoined.{joined, text_of_model}
+use Rattle.block_text.proofs.PartsBack.{IsWritten, text_of_block, written_between}
 use Rattle.model_text.proofs.NamesApart.{Ascend, ascend_lower, ascending_apart}
 use Rattle.model_text.proofs.ObjectNames.{IsObjectName, object_is_named, IsMapName, map_is_named}
 
@@ -326,7 +326,7 @@ module _ (ds : List Declaration) (declared : IsDeclared ds) (known : IsTrue (lis
         distinct = rw (map-append name_of (sides_from 0 (object_count ds)) (maps_from 0 (letter_count ds))) (ascending_apart ds 0 _ ascend);
       }
 
-  keeps : (bound : Bound) → KeepsOne ds bound (model (model_tree ds m))
+  keeps : (bound : Bound) → KeepsOne ds bound (model_tree ds m)
   keeps names = All-weaker Written (HasName ds) (λ e written. written.name) (model_tree ds m).entries entries_written
   keeps numbers =
       let modulus = value_back m.modulus modulus_small in
@@ -336,7 +336,6 @@ module _ (ds : List Declaration) (declared : IsDeclared ds) (known : IsTrue (lis
         entries = subst (λ (n : ℕ). All (IsBelow n) (model_tree ds m).entries) (sym modulus) (All-weaker Written (IsBelow m.modulus) (λ e written. written.below) (model_tree ds m).entries entries_written);
       }
   keeps sizes = All-weaker Written IsSmall (λ e written. written.small) (model_tree ds m).entries entries_written
-  keeps blocks = tt
 
   -- ---- the text
 
@@ -347,7 +346,7 @@ module _ (ds : List Declaration) (declared : IsDeclared ds) (known : IsTrue (lis
       let modulus = text_of_number (codes "modulus ") (codes "modulus" ∷ []) (decimal m.modulus) (literal (codes "modulus ") refl refl) (decimal_text m.modulus modulus_small) refl refl in
       text-append _ _ _ _ (text-append _ _ _ _ first claim) modulus
 
-  model_is_text : IsTextOf (model_text ds m) (block_lines (model (model_tree ds m)))
+  model_is_text : IsTextOf (model_text ds m) (model_front (model_tree ds m) ++ end_line ∷ [])
   model_is_text =
       let entries : map entry_line (sides_from 0 (object_count ds)) ++ map entry_line (maps_from 0 (letter_count ds)) ≡ map entry_line (model_tree ds m).entries =
       sym (map-append entry_line (sides_from 0 (object_count ds)) (maps_from 0 (letter_count ds))) in
@@ -358,17 +357,17 @@ module _ (ds : List Declaration) (declared : IsDeclared ds) (known : IsTrue (lis
       subst (λ (ls : List Line). IsTextOf (model_text ds m) (front ++ ls ++ end_line ∷ [])) entries
       (subst (λ (ls : List Line). IsTextOf (model_text ds m) (ls ++ end_line ∷ [])) (append_assoc front (map entry_line (sides_from 0 (object_count ds))) (map entry_line (maps_from 0 (letter_count ds)))) whole)
 
+  pub model_written : IsWritten (model_kind ds) (model_text ds m) m
+  model_written = record { tree = model_tree ds m; text_is = model_is_text; is_tree = is_block; keeps = keeps; says = sym model_back }
+
   pub model_is_whole : is_whole (model_text ds m) ≡ true
   model_is_whole = model_is_text.whole
 
   pub model_has : HasModels ds (model_text ds m) (m ∷ [])
-  model_has = text_of_model ds (model_text ds m) (model_tree ds m) m model_is_text is_block keeps model_back
+  model_has = text_of_block (model_kind ds) (model_text ds m) m model_written
 
 -- ---- between other lines
 
 pub models_are_read_back : ModelsAreReadBack
 models_are_read_back ds m before after first last declared known writable whole front end few =
-    let own = model_is_whole ds declared known m writable in
-    let start : HasModels ds (before ++ model_text ds m) (first ++ m ∷ []) = joined ds before (model_text ds m) first (m ∷ []) whole front (model_has ds declared known m writable) (omega (arith, few)) in
-    subst (HasModels ds (before ++ model_text ds m ++ after)) (append_assoc first (m ∷ []) last)
-    (joined ds (before ++ model_text ds m) after (first ++ m ∷ []) last (whole_append before (model_text ds m) whole own) start end (omega (arith, few, length-append first (m ∷ []))))
+    written_between (model_kind ds) (model_text ds m) m before after first last (model_written ds declared known m writable) whole front end few

@@ -4,9 +4,9 @@ use Rattle.std.specs.List.{AllPairs, list_all}
 use Rattle.quiver.specs.declared.named.Named.TheVariants.{Object, Map}
 use Rattle.quiver.specs.Declarations.{Declaration, object, arrow, name_of, object_count, name_at, object_name, letter_name, named_in, IsDeclared}
 use Rattle.quiver.proofs.Found.{is_named as is_found}
-use Rattle.certificate_text.specs.Letters.{is_name}
-use Rattle.certificate_text.specs.Back.{is_named}
-use Rattle.certificate_text.proofs.LetterNames.{name_is, object_is, apart, found, named_between, letter_is_spelled}
+use Rattle.block_text.specs.Letters.{is_name}
+use Rattle.block_text.specs.Back.{is_named}
+use Rattle.block_text.proofs.LetterNames.{name_is, object_is, apart, found, named_between, letter_is_spelled}
 use Rattle.model_text.specs.Models.{HasMap}
 
 -- ---- objects

@@ -4,39 +4,34 @@ use Rattle.std.specs.List.{All, AllZip, list_any}
 use Rattle.std.specs.Str.{bytes_eq}
 use Rattle.std.proofs.lemmas.Bool.{and_parts}
 use Rattle.std.proofs.lemmas.Bool.Decides.{nat_tests}
-use Rattle.std.proofs.lemmas.List.{map-append}
+use Rattle.std.proofs.lemmas.List.{map-append, append-nil}
 use Rattle.std.proofs.lemmas.List.Elements.{All-nil, All-push, All-from_recursion}
 use Rattle.std.proofs.lemmas.Option.{cond_some}
 use Rattle.quiver.specs.Declarations.{Declaration}
-use Rattle.certificate_text.specs.declared.fault.Flaw.{Flaw}
-use Rattle.certificate_text.specs.declared.fault.Flaw.TheVariants.{BadLine, NumberTooLarge}
-use Rattle.certificate_text.specs.Fault.{◌>>=◌, asked}
-use Rattle.certificate_text.specs.Letters.{is_number, number_within}
-use Rattle.certificate_text.specs.Lines.{number_limit, is, number_behind, claim_of}
-use Rattle.certificate_text.specs.Blocks.{Line, OtherTokens, claim_line, end_line}
-use Rattle.certificate_text.proofs.LineTrees.{is_word, number_is}
-use Rattle.certificate_text.proofs.Results.{by_test, bind_ok, bind_err, asked_ok, asked_err, else_ok}
-use Rattle.certificate_text.proofs.Zips.{zip_push}
+use Rattle.block_text.specs.declared.fault.Flaw.{Flaw}
+use Rattle.block_text.specs.declared.fault.Flaw.TheVariants.{BadLine, NumberTooLarge}
+use Rattle.block_text.specs.Fault.{◌>>=◌, asked}
+use Rattle.block_text.specs.Letters.{is_number, number_within}
+use Rattle.block_text.specs.Lines.{number_limit, is, number_behind, claim_of, Line, claim_line}
+use Rattle.block_text.proofs.LineTrees.{is_word, number_is}
+use Rattle.block_text.proofs.Results.{by_test, bind_ok, bind_err, asked_ok, asked_err, else_ok}
+use Rattle.block_text.proofs.Zips.{zip_push}
 use Rattle.model_text.specs.declared.place.Begun.{Begun}
 use Rattle.model_text.specs.declared.place.Entry.{Entry}
-use Rattle.model_text.specs.declared.place.Place.{Place}
-use Rattle.model_text.specs.declared.place.Place.TheVariants as at
-use Rattle.model_text.specs.ModelBlocks.{EntryTokens, ModelTokens, model, head_line, modulus_line, entry_line, model_front, name_of, is_entry, is_modulus, IsModelBlock, IsOtherBlock}
+use Rattle.model_text.specs.declared.place.Stage.{Stage}
+use Rattle.model_text.specs.declared.place.Stage.TheVariants as at
+use Rattle.model_text.specs.ModelBlocks.{EntryTokens, ModelTokens, head_line, modulus_line, entry_line, model_front, name_of, is_entry, is_modulus, IsModelBlock}
 use Rattle.matrix_models.specs.Limits.{modulus_limit}
-use Rattle.model_text.specs.ModelBounds.{Bound, names, numbers, sizes, blocks, value_of, HasName, IsBelow, IsSmall, flaw_of, before, KeepsOne}
+use Rattle.model_text.specs.ModelBounds.{Bound, names, numbers, sizes, value_of, HasName, IsBelow, IsSmall, flaw_of, KeepsOne}
 use Rattle.model_text.specs.Reading.{entry_tokens, entry_value, begun_of, modulus_digits, modulus_of, grown, inside}
-use Rattle.model_text.proofs.BlockTrees.{everywhere, Begin}
+use Rattle.block_text.proofs.Owed.{Begins, IsStopped, misfit, passes, IsListed}
+use Rattle.block_text.proofs.Standing.{everywhere}
+use Rattle.model_text.specs.Models.{model_kind}
 use Rattle.model_text.proofs.EntryLines.{entry_is}
-use Rattle.model_text.proofs.EntryValues.{KeepsEntry, IsJudged, fine, fails, entry_judged, IsEntryOf}
+use Rattle.model_text.proofs.EntryValues.{before, KeepsEntry, IsJudged, fine, fails, entry_judged, IsEntryOf}
 use Rattle.model_text.proofs.Names.{distinct_push}
 
 -- ---- what stands at each place
-
--- behind the head of another kind
-pub record IsInOther (front : List Line) : Type 0 where
-  pub tokens : OtherTokens
-  pub is_block : IsOtherBlock tokens
-  pub are : front ≡ tokens.head ∷ tokens.lines
 
 -- behind the claim
 pub record IsClaimed (n : ℕ) (front : List Line) : Type 0 where
@@ -50,7 +45,7 @@ pub record IsClaimed (n : ℕ) (front : List Line) : Type 0 where
 pub record IsInside (ds : List Declaration) (b : Begun) (front : List Line) : Type 0 where
   pub tokens : ModelTokens
   pub is_block : IsModelBlock tokens
-  pub keeps : (bound : Bound) → KeepsOne ds bound (model tokens)
+  pub keeps : (bound : Bound) → KeepsOne ds bound tokens
   pub claim_value : value_of tokens.claim ≡ b.claim
   pub modulus_value : value_of tokens.modulus ≡ b.modulus
   pub some : 1 ≤ b.modulus
@@ -58,9 +53,7 @@ pub record IsInside (ds : List Declaration) (b : Begun) (front : List Line) : Ty
   pub entries_are : AllZip (IsEntryOf ds b.modulus) tokens.entries b.entries
   pub are : front ≡ model_front tokens
 
-abbrev pub IsOpen : List Declaration → Place → List Line → Type 0
-IsOpen ds at.Outside front = front ≡ []
-IsOpen ds at.Skipped front = IsInOther front
+abbrev pub IsOpen : List Declaration → Stage → List Line → Type 0
 IsOpen ds at.Headed front = front ≡ head_line ∷ []
 IsOpen ds (at.Claimed n) front = IsClaimed n front
 IsOpen ds (at.Inside b) front = IsInside ds b front
@@ -80,51 +73,50 @@ shortest_block claim modulus number is_mod = record {
 }
 
 module _ (ds : List Declaration) where
-  shortest_keeps : (claim modulus : List ℕ) → value_of claim ≤ number_limit → value_of modulus ≤ modulus_limit → (bound : Bound) → KeepsOne ds bound (model (shortest claim modulus))
+  shortest_keeps : (claim modulus : List ℕ) → value_of claim ≤ number_limit → value_of modulus ≤ modulus_limit → (bound : Bound) → KeepsOne ds bound (shortest claim modulus)
   shortest_keeps claim modulus n m names = All-nil (HasName ds)
   shortest_keeps claim modulus n m numbers = record { claim = n; modulus = m; entries = All-nil (IsBelow (value_of modulus)) }
   shortest_keeps claim modulus n m sizes = All-nil IsSmall
-  shortest_keeps claim modulus n m blocks = tt
 
   -- without bounds on numbers
-  shortest_names : (claim modulus : List ℕ) → All (λ bound. KeepsOne ds bound (model (shortest claim modulus))) (before numbers)
-  shortest_names claim modulus = All-from_recursion (λ bound. KeepsOne ds bound (model (shortest claim modulus))) (before numbers) (All-nil (HasName ds), tt)
+  shortest_names : (claim modulus : List ℕ) → All (λ bound. KeepsOne ds bound (shortest claim modulus)) (before numbers)
+  shortest_names claim modulus = All-from_recursion (λ bound. KeepsOne ds bound (shortest claim modulus)) (before numbers) (All-nil (HasName ds), tt)
 
-  begin_shortest : (within : List Bound) (claim modulus : List ℕ) → IsTrue (is_number claim) → IsTrue (is_modulus modulus) → All (λ bound. KeepsOne ds bound (model (shortest claim modulus))) within
-      → Begin ds within (head_line ∷ claim_line claim ∷ modulus_line modulus ∷ [])
+  begin_shortest : (within : List Bound) (claim modulus : List ℕ) → IsTrue (is_number claim) → IsTrue (is_modulus modulus) → All (λ bound. KeepsOne ds bound (shortest claim modulus)) within
+      → Begins (model_kind ds) within (head_line ∷ claim_line claim ∷ modulus_line modulus ∷ [])
   begin_shortest within claim modulus number is_mod keeps =
-      record { block = model (shortest claim modulus); more = end_line ∷ []; are = refl; is_block = shortest_block claim modulus number is_mod; keeps = keeps }
+      record { tree = shortest claim modulus; more = []; are = refl; is_tree = shortest_block claim modulus number is_mod; keeps = keeps }
 
-  begin_with_claim : (within : List Bound) (claim : List ℕ) → IsTrue (is_number claim) → All (λ bound. KeepsOne ds bound (model (shortest claim (codes "2")))) within → Begin ds within (head_line ∷ claim_line claim ∷ [])
+  begin_with_claim : (within : List Bound) (claim : List ℕ) → IsTrue (is_number claim) → All (λ bound. KeepsOne ds bound (shortest claim (codes "2"))) within → Begins (model_kind ds) within (head_line ∷ claim_line claim ∷ [])
   begin_with_claim within claim number keeps = record {
-    block = model (shortest claim (codes "2"));
-    more = modulus_line (codes "2") ∷ end_line ∷ [];
+    tree = shortest claim (codes "2");
+    more = modulus_line (codes "2") ∷ [];
     are = refl;
-    is_block = shortest_block claim (codes "2") number refl;
+    is_tree = shortest_block claim (codes "2") number refl;
     keeps = keeps;
   }
 
-  pub begin_headed : (within : List Bound) → Begin ds within (head_line ∷ [])
+  pub begin_headed : (within : List Bound) → Begins (model_kind ds) within (head_line ∷ [])
   begin_headed within = record {
-    block = model (shortest (codes "1") (codes "2"));
-    more = claim_line (codes "1") ∷ modulus_line (codes "2") ∷ end_line ∷ [];
+    tree = shortest (codes "1") (codes "2");
+    more = claim_line (codes "1") ∷ modulus_line (codes "2") ∷ [];
     are = refl;
-    is_block = shortest_block (codes "1") (codes "2") refl refl;
-    keeps = everywhere (λ bound. KeepsOne ds bound (model (shortest (codes "1") (codes "2")))) (shortest_keeps (codes "1") (codes "2") (omega arith) (omega arith)) within;
+    is_tree = shortest_block (codes "1") (codes "2") refl refl;
+    keeps = everywhere (λ bound. KeepsOne ds bound (shortest (codes "1") (codes "2"))) (shortest_keeps (codes "1") (codes "2") (omega arith) (omega arith)) within;
   }
 
-  pub begin_claimed : (within : List Bound) (n : ℕ) (front : List Line) → IsClaimed n front → Begin ds within front
+  pub begin_claimed : (within : List Bound) (n : ℕ) (front : List Line) → IsClaimed n front → Begins (model_kind ds) within front
   begin_claimed within n front claimed =
-      subst (Begin ds within) (sym claimed.are) (begin_with_claim within claimed.claim claimed.number
-      (everywhere (λ bound. KeepsOne ds bound (model (shortest claimed.claim (codes "2")))) (shortest_keeps claimed.claim (codes "2") claimed.within (omega arith)) within))
+      subst (Begins (model_kind ds) within) (sym claimed.are) (begin_with_claim within claimed.claim claimed.number
+      (everywhere (λ bound. KeepsOne ds bound (shortest claimed.claim (codes "2"))) (shortest_keeps claimed.claim (codes "2") claimed.within (omega arith)) within))
 
-  pub begin_inside : (within : List Bound) (b : Begun) (front : List Line) → IsInside ds b front → Begin ds within front
-  begin_inside within b front inside = subst (Begin ds within) (sym inside.are) (record {
-    block = model inside.tokens;
-    more = end_line ∷ [];
-    are = refl;
-    is_block = inside.is_block;
-    keeps = everywhere (λ bound. KeepsOne ds bound (model inside.tokens)) inside.keeps within;
+  pub begin_inside : (within : List Bound) (b : Begun) (front : List Line) → IsInside ds b front → Begins (model_kind ds) within front
+  begin_inside within b front inside = subst (Begins (model_kind ds) within) (sym inside.are) (record {
+    tree = inside.tokens;
+    more = [];
+    are = sym (append-nil (model_front inside.tokens));
+    is_tree = inside.is_block;
+    keeps = everywhere (λ bound. KeepsOne ds bound inside.tokens) inside.keeps within;
   })
 
 -- ---- what the lines say
@@ -180,11 +172,10 @@ module _ (ds : List Declaration) where
         are = ap₂ (λ (ls : List Line) (l : Line). ls ++ l ∷ []) claimed.are known.0;
       })
 
-  keeps_pushed : (b : ModelTokens) (e : EntryTokens) (bound : Bound) → KeepsOne ds bound (model b) → KeepsEntry ds (value_of b.modulus) bound e → KeepsOne ds bound (model (pushed b e))
+  keeps_pushed : (b : ModelTokens) (e : EntryTokens) (bound : Bound) → KeepsOne ds bound b → KeepsEntry ds (value_of b.modulus) bound e → KeepsOne ds bound (pushed b e)
   keeps_pushed b e names keeps one = All-push (HasName ds) b.entries e keeps one
   keeps_pushed b e numbers keeps one = record { claim = keeps.claim; modulus = keeps.modulus; entries = All-push (IsBelow (value_of b.modulus)) b.entries e keeps.entries one }
   keeps_pushed b e sizes keeps one = All-push IsSmall b.entries e keeps one
-  keeps_pushed b e blocks keeps one = tt
 
   module _ (b : Begun) (front : List Line) (inside : IsInside ds b front) (e : EntryTokens) (fresh : list_any (bytes_eq (name_of e)) b.names ≡ false) (kept : IsTrue (is_entry e)) where
     pushed_block : IsModelBlock (pushed inside.tokens e)
@@ -195,7 +186,7 @@ module _ (ds : List Declaration) where
       distinct = rw map-append (distinct_push (map name_of inside.tokens.entries) (name_of e) inside.is_block.distinct (rw inside.names_are at fresh));
     }
 
-    pushed_keeps : (bound : Bound) → KeepsEntry ds b.modulus bound e → KeepsOne ds bound (model (pushed inside.tokens e))
+    pushed_keeps : (bound : Bound) → KeepsEntry ds b.modulus bound e → KeepsOne ds bound (pushed inside.tokens e)
     pushed_keeps bound one = keeps_pushed inside.tokens e bound (inside.keeps bound) (subst (λ m. KeepsEntry ds m bound e) (sym inside.modulus_value) one)
 
     next_by : (line : Line) (value : Entry) → line ≡ entry_line e → entry_value ds b.modulus e ≡ Ok value → IsJudged ds b.modulus e (entry_value ds b.modulus e)
@@ -213,13 +204,13 @@ module _ (ds : List Declaration) where
       are = ap₂ (λ (ls : List Line) (l : Line). ls ++ l ∷ []) inside.are line_is ∙ front-push inside.tokens e;
     }
 
-    begin_pushed : (line : Line) (within : List Bound) → line ≡ entry_line e → All (λ k. KeepsEntry ds b.modulus k e) within → Begin ds within (front ++ line ∷ [])
+    begin_pushed : (line : Line) (within : List Bound) → line ≡ entry_line e → All (λ k. KeepsEntry ds b.modulus k e) within → Begins (model_kind ds) within (front ++ line ∷ [])
     begin_pushed line within line_is keeps =
-        subst (Begin ds within) (sym (ap₂ (λ (ls : List Line) (l : Line). ls ++ l ∷ []) inside.are line_is ∙ front-push inside.tokens e)) (record {
-          block = model (pushed inside.tokens e);
-          more = end_line ∷ [];
-          are = refl;
-          is_block = pushed_block;
+        subst (Begins (model_kind ds) within) (sym (ap₂ (λ (ls : List Line) (l : Line). ls ++ l ∷ []) inside.are line_is ∙ front-push inside.tokens e)) (record {
+          tree = pushed inside.tokens e;
+          more = [];
+          are = sym (append-nil (model_front (pushed inside.tokens e)));
+          is_tree = pushed_block;
           keeps = λ k d below. pushed_keeps _ (keeps k d below);
         })
 
@@ -233,34 +224,49 @@ module _ (ds : List Declaration) where
 
   -- ---- a line that doesn't fit, or with which a block begins that keeps the bounds before one
 
-  pub data IsStopped (flaw : Flaw) (front : List Line) : Type 0 where
-    misfit : flaw ≡ BadLine → IsStopped flaw front
-    passes : (bound : Bound) → flaw ≡ flaw_of bound → Begin ds (before bound) front → IsStopped flaw front
+  -- where the bound stands among all
+  pub placed : (bound : Bound) → IsListed (model_kind ds) bound
+  placed names = record { earlier = []; later = numbers ∷ sizes ∷ []; splits = refl }
+  placed numbers = record { earlier = names ∷ []; later = sizes ∷ []; splits = refl }
+  placed sizes = record { earlier = names ∷ numbers ∷ []; later = []; splits = refl }
+
+  earlier_is : (bound : Bound) → (placed bound).earlier ≡ before bound
+  unfolding placed
+  earlier_is names = refl
+  earlier_is numbers = refl
+  earlier_is sizes = refl
+
+  abbrev pub Stopped : Flaw → List Line → Type 0
+  Stopped flaw front = IsStopped (model_kind ds) flaw front
+
+  stopped_at : (flaw : Flaw) (front : List Line) (bound : Bound) → flaw ≡ flaw_of bound → Begins (model_kind ds) (before bound) front → Stopped flaw front
+  stopped_at flaw front bound told begins =
+      passes (placed bound).earlier (placed bound).later bound (placed bound).splits told (subst (λ (bs : List Bound). Begins (model_kind ds) bs front) (sym (earlier_is bound)) begins)
 
   module _ (flaw : Flaw) (front : List Line) (line : Line) where
-    pub stopped_headed : front ≡ head_line ∷ [] → claim_of line ≡ Err flaw → IsStopped flaw (front ++ line ∷ [])
+    pub stopped_headed : front ≡ head_line ∷ [] → claim_of line ≡ Err flaw → Stopped flaw (front ++ line ∷ [])
     stopped_headed headed read =
         bind_err (asked BadLine (number_behind (codes "claim") line)) _ flaw read (λ e. misfit (asked_err BadLine (number_behind (codes "claim") line) flaw e)) (λ digits there large.
         let known = number_is (codes "claim") line digits (asked_ok BadLine (number_behind (codes "claim") line) digits there) in
-        passes numbers (asked_err NumberTooLarge (number_within number_limit digits) flaw large)
-        (subst (Begin ds (before numbers)) (ap₂ (λ (ls : List Line) (l : Line). ls ++ l ∷ []) (sym headed) (sym known.0)) (begin_with_claim ds (before numbers) digits known.1 (shortest_names ds digits (codes "2")))))
+        stopped_at flaw _ numbers (asked_err NumberTooLarge (number_within number_limit digits) flaw large)
+        (subst (Begins (model_kind ds) (before numbers)) (ap₂ (λ (ls : List Line) (l : Line). ls ++ l ∷ []) (sym headed) (sym known.0)) (begin_with_claim ds (before numbers) digits known.1 (shortest_names ds digits (codes "2")))))
 
-    pub stopped_claimed : (n : ℕ) → IsClaimed n front → modulus_of line ≡ Err flaw → IsStopped flaw (front ++ line ∷ [])
+    pub stopped_claimed : (n : ℕ) → IsClaimed n front → modulus_of line ≡ Err flaw → Stopped flaw (front ++ line ∷ [])
     stopped_claimed n claimed read =
         bind_err (asked BadLine (modulus_digits line)) _ flaw read (λ e. misfit (asked_err BadLine (modulus_digits line) flaw e)) (λ digits there large.
         let known = modulus_is line digits (asked_ok BadLine (modulus_digits line) digits there) in
-        passes numbers (asked_err NumberTooLarge (number_within modulus_limit digits) flaw large)
-        (subst (Begin ds (before numbers)) (ap₂ (λ (ls : List Line) (l : Line). ls ++ l ∷ []) (sym claimed.are) (sym known.0))
+        stopped_at flaw _ numbers (asked_err NumberTooLarge (number_within modulus_limit digits) flaw large)
+        (subst (Begins (model_kind ds) (before numbers)) (ap₂ (λ (ls : List Line) (l : Line). ls ++ l ∷ []) (sym claimed.are) (sym known.0))
         (begin_shortest ds (before numbers) claimed.claim digits claimed.number known.1 (shortest_names ds claimed.claim digits))))
 
     stopped_by : (b : Begun) (inside : IsInside ds b front) (e : EntryTokens) → list_any (bytes_eq (name_of e)) b.names ≡ false → entry_tokens line ≡ Some e → entry_value ds b.modulus e ≡ Err flaw
-        → IsJudged ds b.modulus e (entry_value ds b.modulus e) → IsStopped flaw (front ++ line ∷ [])
+        → IsJudged ds b.modulus e (entry_value ds b.modulus e) → Stopped flaw (front ++ line ∷ [])
     stopped_by b inside e fresh there read (fine value is keeps) = absurd (cc)
     stopped_by b inside e fresh there read (fails bound is keeps passed) =
         let known = entry_is line e there in
-        passes bound (cc) (begin_pushed b front inside e fresh known.1 line (before bound) known.0 keeps)
+        stopped_at flaw _ bound (cc) (begin_pushed b front inside e fresh known.1 line (before bound) known.0 keeps)
 
-    pub stopped_inside : (b : Begun) → IsInside ds b front → (asked BadLine (entry_tokens line) >>= grown ds b) ≡ Err flaw → IsStopped flaw (front ++ line ∷ [])
+    pub stopped_inside : (b : Begun) → IsInside ds b front → (asked BadLine (entry_tokens line) >>= grown ds b) ≡ Err flaw → Stopped flaw (front ++ line ∷ [])
     stopped_inside b inside read =
         bind_err (asked BadLine (entry_tokens line)) (grown ds b) flaw read (λ e. misfit (asked_err BadLine (entry_tokens line) flaw e)) (λ e e_there read_grown.
         by_test (list_any (bytes_eq (name_of e)) b.names) _ _ (Err flaw) read_grown (λ known same. misfit (cc)) (λ fresh read_value.

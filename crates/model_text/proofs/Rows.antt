@@ -4,10 +4,9 @@ use Rattle.std.proofs.lemmas.Bool.Decides.{nat_tests}
 use Rattle.std.proofs.lemmas.List.{take_rest}
 use Rattle.std.proofs.lemmas.Option.{cond_some}
 use Rattle.std.specs.List.{AllByRecursion, position, position_or_len}
-use Rattle.certificate_text.specs.Blocks.{Line}
-use Rattle.certificate_text.specs.Lines.{is}
-use Rattle.certificate_text.specs.Tokens.{tokens_of}
-use Rattle.certificate_text.proofs.Closing.{IsSign, tokens_around, others, front_without, split_at_sign, all_without}
+use Rattle.block_text.specs.Lines.{Line, is}
+use Rattle.block_text.specs.Tokens.{tokens_of}
+use Rattle.block_text.proofs.Closing.{IsSign, tokens_around, others, front_without, split_at_sign, all_without}
 use Rattle.model_text.specs.Reading.{rows_in}
 use Rattle.model_text.specs.Views.{ends_row}
 

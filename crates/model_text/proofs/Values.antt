@@ -9,11 +9,11 @@ use Rattle.std.proofs.lemmas.List.Elements.{All-nil, All-cons}
 use Rattle.std.proofs.lemmas.List.Folds.{list_all-append}
 use Rattle.std.proofs.lemmas.Option.{option_and_then_some, cond_some}
 use Rattle.std.proofs.Math.Nat.{mul-le-mul_left}
-use Rattle.certificate_text.specs.Blocks.{Line}
-use Rattle.certificate_text.specs.Fault.{asked}
-use Rattle.certificate_text.specs.declared.fault.Flaw.TheVariants.{NumberTooLarge}
-use Rattle.certificate_text.specs.Letters.{is_number, number_within}
-use Rattle.certificate_text.proofs.Results.{option_map_some, asked_ok}
+use Rattle.block_text.specs.Lines.{Line}
+use Rattle.block_text.specs.Fault.{asked}
+use Rattle.block_text.specs.declared.fault.Flaw.TheVariants.{NumberTooLarge}
+use Rattle.block_text.specs.Letters.{is_number, number_within}
+use Rattle.block_text.proofs.Results.{option_map_some, asked_ok}
 use Rattle.model_text.specs.ModelBlocks.{is_row, is_row_of}
 use Rattle.model_text.specs.ModelBounds.{value_of}
 use Rattle.model_text.specs.Reading.{AreRows, after, values_below, values_in}

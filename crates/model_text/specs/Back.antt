@@ -3,8 +3,8 @@ use Rattle.std.specs.Prelude.{ℕ, ◌<◌, ◌+◌, ◌^◌, List, ◌∷◌, �
 use Rattle.std.specs.List.{list_all}
 use Rattle.quiver.specs.Declarations.{Declaration, IsDeclared}
 use Rattle.matrix_models.specs.declared.model.Model.{Model}
-use Rattle.certificate_text.specs.Back.{is_whole, is_named}
-use Rattle.certificate_text.specs.Lines.{block_limit}
+use Rattle.block_text.specs.Back.{is_whole, is_named}
+use Rattle.block_text.specs.Lines.{block_limit}
 use Rattle.model_text.specs.Models.{HasModels, IsModel}
 use Rattle.model_text.specs.Written.{model_text}
 

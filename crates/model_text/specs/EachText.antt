@@ -2,7 +2,7 @@
 use Rattle.std.specs.Prelude.{◌≡◌, ◌⊎◌, ℕ, List}
 use Rattle.quiver.specs.Declarations.{Declaration}
 use Rattle.matrix_models.specs.declared.model.Model.{Model}
-use Rattle.certificate_text.specs.Fault.{Fault}
+use Rattle.block_text.specs.Fault.{Fault}
 use Rattle.model_text.specs.Models.{IsModels, IsFirstFault}
 
 -- The bytes have models, or something is the first that is wrong with them.

@@ -1,10 +1,9 @@
 -- The grammar of models in evidence text: blocks as trees of tokens, and the lines that they are.
-use Rattle.std.specs.Prelude.{◌≡◌, ◌≢◌, ℕ, ◌∷◌, ◌++◌, ◌&&◌, ◌||◌, Bool, false, IsTrue, List, [], map, AllPairs, length, nat_eq, nat_lt, nat_le, codes}
+use Rattle.std.specs.Prelude.{◌≢◌, ℕ, ◌∷◌, ◌++◌, ◌&&◌, Bool, IsTrue, List, [], map, AllPairs, length, nat_eq, nat_lt, nat_le, codes}
 use Rattle.std.specs.List.{All, flat_map, list_all}
 use Rattle.std.specs.Str.Parse.{digits_value}
-use Rattle.certificate_text.specs.Letters.{is_name, is_number}
-use Rattle.certificate_text.specs.Lines.{begins, is_end}
-use Rattle.certificate_text.specs.Blocks.{Line, OtherTokens, claim_line, end_line}
+use Rattle.block_text.specs.Letters.{is_name, is_number}
+use Rattle.block_text.specs.Lines.{Line, claim_line}
 
 -- ---- the trees
 
@@ -18,11 +17,6 @@ pub record ModelTokens : Type 0 where
   pub claim : List ℕ
   pub modulus : List ℕ
   pub entries : List EntryTokens
-
--- a model, or a block of another kind without the line that ends it
-pub data BlockTokens : Type 0 where
-  model : ModelTokens → BlockTokens
-  other : OtherTokens → BlockTokens
 
 -- ---- the lines that they are
 
@@ -46,10 +40,6 @@ entry_line (matrix name first rest) = codes "map" ∷ name ∷ codes "=" ∷ (fi
 -- all but the line that ends it
 abbrev pub model_front : ModelTokens → List Line
 model_front b = head_line ∷ claim_line b.claim ∷ modulus_line b.modulus ∷ map entry_line b.entries
-
-abbrev pub block_lines : BlockTokens → List Line
-block_lines (model b) = model_front b ++ end_line ∷ []
-block_lines (other b) = b.head ∷ (b.lines ++ end_line ∷ [])
 
 -- ---- which tokens stand where
 
@@ -80,22 +70,3 @@ pub record IsModelBlock (b : ModelTokens) : Type 0 where
   pub modulus : IsTrue (is_modulus b.modulus)
   pub entries : All (λ entry. IsTrue (is_entry entry)) b.entries
   pub distinct : AllPairs (λ x y. x ≢ y) (map name_of b.entries)
-
--- whether a block of another kind begins
-abbrev pub is_other_head : Line → Bool
-is_other_head line = begins (codes "certificate") line || begins (codes "basis") line
-
--- the head of another kind, and the first line `end` ends it
-pub record IsOtherBlock (b : OtherTokens) : Type 0 where
-  pub head : IsTrue (is_other_head b.head)
-  pub lines : All (λ line. is_end line ≡ false) b.lines
-
--- a block of a text in which models are looked for
-abbrev pub IsBlock : BlockTokens → Type 0
-IsBlock (model b) = IsModelBlock b
-IsBlock (other b) = IsOtherBlock b
-
--- The lines are these blocks, one after another.
-pub record AreBlocks (lines : List Line) (blocks : List BlockTokens) : Type 0 where
-  pub are : lines ≡ flat_map block_lines blocks
-  pub each : All IsBlock blocks

@@ -1,5 +1,5 @@
 -- The bounds of models in evidence text, in the order in which they count, and the values of its blocks.
-use Rattle.std.specs.Prelude.{◌≡◌, ◌<◌, ◌≤◌, ⊤, ℕ, ◌-◌, ◌^◌, ◌∷◌, ◌++◌, Bool, true, false, List, [], length, map, nat_eq, Option, Some, None, filter, if◌then◌else◌}
+use Rattle.std.specs.Prelude.{◌≡◌, ◌<◌, ◌≤◌, ⊤, ℕ, ◌∷◌, Bool, false, List, [], length, map, nat_eq, Option, Some, None, if◌then◌else◌}
 use Rattle.std.specs.List.{All, flat_map, range_with_len}
 use Rattle.std.specs.Str.Parse.{digits_value}
 use Rattle.quiver.specs.declared.named.Named.{Named}
@@ -8,20 +8,10 @@ use Rattle.quiver.specs.Declarations.{Declaration, object_count, letter_count, n
 use Rattle.matrix_models.specs.Limits.{modulus_limit, side_limit}
 use Rattle.matrix_models.specs.Matrix.{Matrix}
 use Rattle.matrix_models.specs.declared.model.Model.{Model}
-use Rattle.certificate_text.specs.declared.fault.Flaw.{Flaw}
-use Rattle.certificate_text.specs.declared.fault.Flaw.TheVariants.{UnknownName, NumberTooLarge, TooMany}
-use Rattle.certificate_text.specs.Lines.{number_limit, block_limit}
-use Rattle.model_text.specs.ModelBlocks.{EntryTokens, side, matrix, ModelTokens, BlockTokens, model, other}
-
--- ---- what a text has
-
-abbrev pub is_model : BlockTokens → Bool
-is_model (model b) = true
-is_model (other b) = false
-
--- the blocks that aren't of another kind
-abbrev pub models_in : List BlockTokens → List BlockTokens
-models_in blocks = filter is_model blocks
+use Rattle.block_text.specs.declared.fault.Flaw.{Flaw}
+use Rattle.block_text.specs.declared.fault.Flaw.TheVariants.{UnknownName, NumberTooLarge, TooMany}
+use Rattle.block_text.specs.Lines.{number_limit}
+use Rattle.model_text.specs.ModelBlocks.{EntryTokens, side, matrix, ModelTokens}
 
 -- ---- values
 
@@ -71,38 +61,19 @@ model_value ds b = record {
   maps = map (matrix_of ds (value_of b.modulus) b.entries) (range_with_len 0 (letter_count ds));
 }
 
--- the models of blocks, in their order
-abbrev pub values_in : List Declaration → List BlockTokens → List Model
-values_in ds [] = []
-values_in ds (model b ∷ blocks) = model_value ds b ∷ values_in ds blocks
-values_in ds (other b ∷ blocks) = values_in ds blocks
-
 -- ---- bounds
 
--- on names, on numbers, on sides, rows and columns, and on the models of a text
+-- on names, on numbers, and on sides, rows and columns
 pub data Bound : Type 0 where
   names : Bound
   numbers : Bound
   sizes : Bound
-  blocks : Bound
 
 -- what a line is told for that passes the bound
 abbrev pub flaw_of : Bound → Flaw
 flaw_of names = UnknownName
 flaw_of numbers = NumberTooLarge
 flaw_of sizes = TooMany side_limit
-flaw_of blocks = TooMany block_limit
-
--- the bounds that count before it
-abbrev pub before : Bound → List Bound
-before names = []
-before numbers = names ∷ []
-before sizes = names ∷ numbers ∷ []
-before blocks = names ∷ numbers ∷ sizes ∷ []
-
--- all of them
-abbrev pub bounds : List Bound
-bounds = before blocks ++ blocks ∷ []
 
 -- ---- when they are kept
 
@@ -127,15 +98,8 @@ pub record HasNumbers (b : ModelTokens) : Type 0 where
   pub modulus : value_of b.modulus ≤ modulus_limit
   pub entries : All (IsBelow (value_of b.modulus)) b.entries
 
--- the block keeps the bound
-abbrev pub KeepsOne : List Declaration → Bound → BlockTokens → Type 0
-KeepsOne ds names (model b) = All (HasName ds) b.entries
-KeepsOne ds numbers (model b) = HasNumbers b
-KeepsOne ds sizes (model b) = All IsSmall b.entries
-KeepsOne ds blocks (model b) = ⊤
-KeepsOne ds bound (other b) = ⊤
-
--- the text of these blocks keeps the bound
-pub record Keeps (ds : List Declaration) (text : List BlockTokens) (bound : Bound) : Type 0 where
-  pub each : All (KeepsOne ds bound) text
-  pub few : bound ≡ blocks → length (models_in text) ≤ block_limit
+-- the model keeps the bound
+abbrev pub KeepsOne : List Declaration → Bound → ModelTokens → Type 0
+KeepsOne ds names b = All (HasName ds) b.entries
+KeepsOne ds numbers b = HasNumbers b
+KeepsOne ds sizes b = All IsSmall b.entries

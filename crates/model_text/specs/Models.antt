@@ -1,79 +1,48 @@
 -- Models in evidence text: those that bytes are, or the first thing that is wrong with the bytes.
-use Rattle.std.specs.Prelude.{◌≡◌, ◌<◌, ⊤, ℕ, ◌+◌, true, false, List, [], ◌∷◌, ◌++◌, length, get_or, Option, Some, None}
+use Rattle.std.specs.Prelude.{◌≡◌, ◌<◌, ⊤, ℕ, List, [], ◌∷◌, length, get_or, Option, Some, None, codes}
 use Rattle.std.specs.List.{All}
-use Rattle.std.specs.Str.{is_utf8}
-use Rattle.std.specs.Str.Lines.{lines}
 use Rattle.quiver.specs.declared.named.Named.TheVariants.{Map}
 use Rattle.quiver.specs.Declarations.{Declaration, object_count, letter_count, named_in}
 use Rattle.matrix_models.specs.Matrix.{Matrix, IsModulus, IsSide, IsMatrix}
 use Rattle.matrix_models.specs.declared.model.Model.{Model}
-use Rattle.certificate_text.specs.declared.fault.Flaw.{Flaw}
-use Rattle.certificate_text.specs.declared.fault.Flaw.TheVariants.{BadLine}
-use Rattle.certificate_text.specs.Fault.{Fault, in_line, not_utf8, truncated, no_block}
-use Rattle.certificate_text.specs.Tokens.{tokens_of, is_skipped}
-use Rattle.certificate_text.specs.Blocks.{Line}
-use Rattle.certificate_text.specs.Evidence.{content}
-use Rattle.model_text.specs.ModelBlocks.{BlockTokens, AreBlocks}
-use Rattle.model_text.specs.ModelBounds.{Bound, flaw_of, before, bounds, Keeps, models_in, values_in}
+use Rattle.block_text.specs.Fault.{Fault}
+use Rattle.block_text.specs.Kind.{Kind}
+use Rattle.block_text.specs.Texts as texts
+use Rattle.block_text.specs.Texts.{HasBlocks, IsBlocks}
+use Rattle.model_text.specs.ModelBlocks.{ModelTokens, model_front, IsModelBlock}
+use Rattle.model_text.specs.ModelBounds.{Bound, names, numbers, sizes, flaw_of, KeepsOne, model_value}
 
 -- ---- models
 
+-- blocks of these kinds aren't read
+abbrev pub other_words : List (List ℕ)
+other_words = codes "certificate" ∷ codes "basis" ∷ []
+
+-- Models are a kind of block.
+abbrev pub model_kind : List Declaration → Kind Model
+model_kind ds = record {
+  Tree = ModelTokens;
+  lines_of = model_front;
+  IsTree = IsModelBlock;
+  others = other_words;
+  Bound = Bound;
+  bounds = names ∷ numbers ∷ sizes ∷ [];
+  flaw_of = flaw_of;
+  Keeps = KeepsOne ds;
+  Says = λ b m. m ≡ model_value ds b;
+}
+
 -- The bytes are UTF-8, their lines are blocks within all bounds, and these are the models among them.
-pub record HasModels (ds : List Declaration) (bytes : List ℕ) (ms : List Model) : Type 0 where
-  pub utf8 : is_utf8 bytes ≡ true
-  pub blocks : List BlockTokens
-  pub are_blocks : AreBlocks (content (lines bytes)) blocks
-  pub within : All (Keeps ds blocks) bounds
-  pub models : ms ≡ values_in ds blocks
+abbrev pub HasModels : List Declaration → List ℕ → List Model → Type 0
+HasModels ds = HasBlocks (model_kind ds)
 
 -- There is one at least.
-pub record IsModels (ds : List Declaration) (bytes : List ℕ) (ms : List Model) : Type 0 where
-  pub has : HasModels ds bytes ms
-  pub some : 0 < length ms
+abbrev pub IsModels : List Declaration → List ℕ → List Model → Type 0
+IsModels ds = IsBlocks (model_kind ds)
 
--- ---- the first fault
-
--- The lines are the first lines of blocks that keep these bounds.
-pub record GoesOn (ds : List Declaration) (within : List Bound) (ls : List Line) : Type 0 where
-  pub more : List Line
-  pub blocks : List BlockTokens
-  pub are_blocks : AreBlocks (ls ++ more) blocks
-  pub keeps : All (Keeps ds blocks) within
-
--- Behind the lines before it no blocks go on with this line; or some do, but none of those that keep the bounds before this one keeps this one.
-pub data IsFlawed (ds : List Declaration) (front : List Line) (line : Line) (flaw : Flaw) : Type 0 where
-  misfit : flaw ≡ BadLine → (GoesOn ds [] (front ++ line ∷ []) → ⊥) → IsFlawed ds front line flaw
-  passes : (bound : Bound) → flaw ≡ flaw_of bound → GoesOn ds (before bound) (front ++ line ∷ [])
-      → (GoesOn ds (before bound ++ bound ∷ []) (front ++ line ∷ []) → ⊥) → IsFlawed ds front line flaw
-
--- A line: the lines in front of it are the first ones of blocks within all bounds, and it is flawed.
-pub record IsFirstFlaw (ds : List Declaration) (ls : List (List ℕ)) (number : ℕ) (flaw : Flaw) : Type 0 where
-  pub front : List (List ℕ)
-  pub line : List ℕ
-  pub behind : List (List ℕ)
-  pub splits : ls ≡ front ++ line ∷ behind
-  pub numbered : number ≡ length front + 1
-  pub stands : is_skipped (tokens_of line) ≡ false
-  pub sound : GoesOn ds bounds (content front)
-  pub flawed : IsFlawed ds (content front) (tokens_of line) flaw
-
--- The lines are the first ones of blocks within all bounds, and no blocks by themselves.
-pub record IsCutOff (ds : List Declaration) (ls : List Line) : Type 0 where
-  pub sound : GoesOn ds bounds ls
-  pub cut : (blocks : List BlockTokens) → AreBlocks ls blocks → ⊥
-
--- The lines are blocks of other kinds alone.
-pub record HasNoModel (ls : List Line) : Type 0 where
-  pub blocks : List BlockTokens
-  pub are_blocks : AreBlocks ls blocks
-  pub none : models_in blocks ≡ []
-
--- the first thing that is wrong with the bytes: their encoding, a line, that they end inside a block, or that they have no model
-pub data IsFirstFault (ds : List Declaration) (bytes : List ℕ) (fault : Fault) : Type 0 where
-  encoding : is_utf8 bytes ≡ false → fault ≡ not_utf8 → IsFirstFault ds bytes fault
-  line : (number : ℕ) (flaw : Flaw) → is_utf8 bytes ≡ true → IsFirstFlaw ds (lines bytes) number flaw → fault ≡ in_line number flaw → IsFirstFault ds bytes fault
-  end : is_utf8 bytes ≡ true → IsCutOff ds (content (lines bytes)) → fault ≡ truncated → IsFirstFault ds bytes fault
-  models : is_utf8 bytes ≡ true → HasNoModel (content (lines bytes)) → fault ≡ no_block → IsFirstFault ds bytes fault
+-- the first thing that is wrong with the bytes
+abbrev pub IsFirstFault : List Declaration → List ℕ → Fault → Type 0
+IsFirstFault ds = texts.IsFirstFault (model_kind ds)
 
 -- ---- what holds of each model
 

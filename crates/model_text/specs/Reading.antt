@@ -2,29 +2,27 @@
 use Rattle.std.specs.Prelude.{⊤, ℕ, ◌+◌, ◌-◌, ◌&&◌, Bool, List, [], ◌∷◌, ◌++◌, length, map, nat_eq, nat_le, Option, Some, None, Result, Ok, Err, IsTrue, if◌then◌else◌, codes}
 use Rattle.std.specs.List.{flat_map, list_all, list_any, range_with_len}
 use Rattle.std.specs.Option.{option_map, option_and_then}
-use Rattle.std.specs.Str.{is_utf8, bytes_eq}
-use Rattle.std.specs.Str.Lines.{lines}
+use Rattle.std.specs.Str.{bytes_eq}
 use Rattle.quiver.specs.declared.named.Named.{Named}
 use Rattle.quiver.specs.declared.named.Named.TheVariants.{Object, Map}
 use Rattle.quiver.specs.Declarations.{Declaration, object_count, letter_count, named_in}
 use Rattle.matrix_models.specs.Matrix.{Matrix, IsModulus}
 use Rattle.matrix_models.specs.declared.model.Model.{Model}
-use Rattle.certificate_text.specs.declared.fault.Flaw.{Flaw}
-use Rattle.certificate_text.specs.declared.fault.Flaw.TheVariants.{BadLine, UnknownName, NumberTooLarge, TooMany}
-use Rattle.certificate_text.specs.Fault.{Fault, ◌>>=◌, asked, at_line, not_utf8, truncated, no_block}
-use Rattle.certificate_text.specs.Tokens.{tokens_of, is_skipped}
-use Rattle.certificate_text.specs.Letters.{number_within}
-use Rattle.certificate_text.specs.Lines.{block_limit, is, begins, is_pair, is_end, claim_of}
-use Rattle.certificate_text.specs.Blocks.{Line}
-use Rattle.model_text.specs.ModelBlocks.{EntryTokens, side, matrix, name_of, is_row, is_row_of, is_entry, is_modulus, is_other_head}
+use Rattle.block_text.specs.declared.fault.Flaw.{Flaw}
+use Rattle.block_text.specs.declared.fault.Flaw.TheVariants.{BadLine, UnknownName, NumberTooLarge, TooMany}
+use Rattle.block_text.specs.Fault.{◌>>=◌, asked}
+use Rattle.block_text.specs.Letters.{number_within}
+use Rattle.block_text.specs.Lines.{is, begins, is_pair, claim_of, Line}
+use Rattle.model_text.specs.ModelBlocks.{EntryTokens, side, matrix, name_of, is_row, is_row_of, is_entry, is_modulus}
 use Rattle.matrix_models.specs.Limits.{modulus_limit, side_limit}
+use Rattle.block_text.specs.Steps.{Steps}
 use Rattle.model_text.specs.ModelBounds.{value_of}
+use Rattle.model_text.specs.Models.{other_words}
 use Rattle.model_text.specs.declared.place.Entry.{Entry}
 use Rattle.model_text.specs.declared.place.Entry.TheVariants as entry
 use Rattle.model_text.specs.declared.place.Begun.{Begun}
-use Rattle.model_text.specs.declared.place.Place.{Place}
-use Rattle.model_text.specs.declared.place.Place.TheVariants as at
-use Rattle.model_text.specs.declared.place.Progress.{Progress}
+use Rattle.model_text.specs.declared.place.Stage.{Stage}
+use Rattle.model_text.specs.declared.place.Stage.TheVariants as at
 
 -- ---- the tokens of a line `side` or `map`
 
@@ -124,24 +122,14 @@ maps_in ds entries = map (matrix_in entries) (range_with_len 0 (letter_count ds)
 abbrev pub model_of : List Declaration → Begun → Model
 model_of ds b = record { claim = b.claim; modulus = b.modulus; sides = sides_in ds b.entries; maps = maps_in ds b.entries }
 
--- ---- what a line comes to at its place
-
-abbrev pub progress : List Model → Place → Progress
-progress done place = record { models = done; place = place }
-
-abbrev pub begun_of : ℕ → ℕ → List (List ℕ) → List Entry → Begun
-begun_of claim modulus names entries = record { claim = claim; modulus = modulus; names = names; entries = entries }
+-- ---- what is made of the lines
 
 -- model 1
 abbrev pub is_head : Line → Bool
 is_head line = is_pair (codes "model") (codes "1") line
 
--- a model begins, where there may be one more, or a block of another kind
-abbrev pub outside : List Model → Line → Result Progress Flaw
-outside done line =
-    if is_head line then (if nat_le block_limit (length done) then Err (TooMany block_limit) else Ok (progress done at.Headed))
-    else if is_other_head line then Ok (progress done at.Skipped)
-    else Err BadLine
+abbrev pub begin : Line → Option Stage
+begin line = if is_head line then Some at.Headed else None
 
 -- modulus M
 abbrev pub modulus_digits : Line → Option (List ℕ)
@@ -153,60 +141,33 @@ modulus_digits (word ∷ m ∷ token ∷ tokens) = None
 abbrev pub modulus_of : Line → Result ℕ Flaw
 modulus_of line = asked BadLine (modulus_digits line) >>= λ digits. asked NumberTooLarge (number_within modulus_limit digits)
 
+abbrev pub begun_of : ℕ → ℕ → List (List ℕ) → List Entry → Begun
+begun_of claim modulus names entries = record { claim = claim; modulus = modulus; names = names; entries = entries }
+
 -- a line more of a model, whose name stands in no line before it
 abbrev pub grown : List Declaration → Begun → EntryTokens → Result Begun Flaw
 grown ds b e =
     if list_any (bytes_eq (name_of e)) b.names then Err BadLine
     else entry_value ds b.modulus e >>= λ value. Ok (begun_of b.claim b.modulus (b.names ++ name_of e ∷ []) (b.entries ++ value ∷ []))
 
-abbrev pub inside : List Declaration → List Model → Begun → Line → Result Progress Flaw
-inside ds done b line =
-    if is_end line then Ok (progress (done ++ model_of ds b ∷ []) at.Outside)
-    else asked BadLine (entry_tokens line) >>= λ e. (grown ds b e >>= λ next. Ok (progress done (at.Inside next)))
+abbrev pub inside : List Declaration → Begun → Line → Result Stage Flaw
+inside ds b line = asked BadLine (entry_tokens line) >>= λ e. (grown ds b e >>= λ next. Ok (at.Inside next))
 
-abbrev pub step : List Declaration → List Model → Place → Line → Result Progress Flaw
-step ds done at.Outside line = outside done line
-step ds done at.Skipped line = Ok (progress done (if is_end line then at.Outside else at.Skipped))
-step ds done at.Headed line = claim_of line >>= λ n. Ok (progress done (at.Claimed n))
-step ds done (at.Claimed n) line = modulus_of line >>= λ m. Ok (progress done (at.Inside (begun_of n m [] [])))
-step ds done (at.Inside b) line = inside ds done b line
+abbrev pub next : List Declaration → Stage → Line → Result Stage Flaw
+next ds at.Headed line = claim_of line >>= λ n. Ok (at.Claimed n)
+next ds (at.Claimed n) line = modulus_of line >>= λ m. Ok (at.Inside (begun_of n m [] []))
+next ds (at.Inside b) line = inside ds b line
+
+abbrev pub finish : List Declaration → Stage → Option Model
+finish ds at.Headed = None
+finish ds (at.Claimed n) = None
+finish ds (at.Inside b) = Some (model_of ds b)
+
+abbrev pub model_steps : List Declaration → Steps Stage Model
+model_steps ds = record { others = other_words; begin = begin; next = next ds; finish = finish ds }
 
 -- in a model, its modulus is one
-abbrev pub HasModulus : Place → Type 0
-HasModulus at.Outside = ⊤
-HasModulus at.Skipped = ⊤
+abbrev pub HasModulus : Stage → Type 0
 HasModulus at.Headed = ⊤
 HasModulus (at.Claimed n) = ⊤
 HasModulus (at.Inside b) = IsModulus b.modulus
-
--- blank lines and comments are skipped everywhere
-abbrev pub read_tokens : List Declaration → Progress → Line → Result Progress Flaw
-read_tokens ds p line = if is_skipped line then Ok p else step ds p.models p.place line
-
--- the lines from this number on
-abbrev pub read_lines : List Declaration → ℕ → Progress → List (List ℕ) → Result Progress Fault
-read_lines ds number p [] = Ok p
-read_lines ds number p (line ∷ rest) = at_line number (read_tokens ds p (tokens_of line)) >>= λ q. read_lines ds (number + 1) q rest
-
--- the text may end outside of blocks alone
-abbrev pub ended : List Model → Place → Result (List Model) Fault
-ended done at.Outside = Ok done
-ended done at.Skipped = Err truncated
-ended done at.Headed = Err truncated
-ended done (at.Claimed n) = Err truncated
-ended done (at.Inside b) = Err truncated
-
-abbrev pub beginning : Progress
-beginning = progress [] at.Outside
-
--- the models of a text that may have none
-abbrev pub models_of : List Declaration → List ℕ → Result (List Model) Fault
-models_of ds bytes = if is_utf8 bytes then (read_lines ds 1 beginning (lines bytes) >>= λ p. ended p.models p.place) else Err not_utf8
-
-abbrev pub one_or_more : List Model → Result (List Model) Fault
-one_or_more [] = Err no_block
-one_or_more (m ∷ ms) = Ok (m ∷ ms)
-
--- the models that the bytes are
-abbrev pub all_models : List Declaration → List ℕ → Result (List Model) Fault
-all_models ds bytes = models_of ds bytes >>= one_or_more

@@ -4,8 +4,8 @@ use Rattle.std.specs.Option.{option_map}
 use Rattle.std.specs.Borrow.{Bor}
 use Rattle.model_text.specs.declared.entry.EntryTokens.{EntryTokens as code_entry}
 use Rattle.model_text.specs.declared.entry.EntryTokens.TheVariants as code
-use Rattle.certificate_text.specs.Blocks.{Line}
-use Rattle.certificate_text.specs.Tokens.{tokens_of}
+use Rattle.block_text.specs.Lines.{Line}
+use Rattle.block_text.specs.Tokens.{tokens_of}
 use Rattle.model_text.specs.ModelBlocks.{EntryTokens, side, matrix}
 use Rattle.model_text.specs.Reading.{rows_behind}
 

@@ -1,17 +1,17 @@
 //! The lines `side` and `map` of a model, as tokens.
 
-ghost use Rattle.std.specs.Prelude.{◌≡◌, ◌<◌, ◌^◌, codes, length, IsTrue, IfOk, IfSome, position, nat_lt, nat_le, true};
+ghost use Rattle.std.specs.Prelude.{◌≡◌, ◌<◌, ◌^◌, length, IsTrue, IfSome, position, nat_lt, true};
 ghost use Rattle.std.specs.List.{list_all};
-ghost use Rattle.std.specs.Option.{option_map, option_and_then};
-ghost use Rattle.certificate_text.specs.Letters.{is_name, is_number};
-ghost use Rattle.certificate_text.specs.Lines.{is};
-ghost use Rattle.certificate_text.specs.Tokens.{tokens_of};
+ghost use Rattle.std.specs.Option.{option_map};
+ghost use Rattle.block_text.specs.Letters.{is_name, is_number};
+ghost use Rattle.block_text.specs.Lines.{is};
+ghost use Rattle.block_text.specs.Tokens.{tokens_of};
 ghost use Rattle.model_text.specs.ModelBlocks.{name_of, is_row, is_row_of, is_entry, is_modulus};
 ghost use Rattle.model_text.specs.ModelBounds.{value_of};
-ghost use Rattle.model_text.specs.Reading.{rows_in, rows_behind, side_tokens, map_tokens, if_entry, entry_tokens};
+ghost use Rattle.model_text.specs.Reading.{rows_in, rows_behind, side_tokens, map_tokens, entry_tokens};
 ghost use Rattle.model_text.specs.Views.{ends_row, line_in, tokens_in};
 
-use certificate_text::{begins, first_token, is, is_number, name_in, number_within, two_tokens};
+use block_text::{begins, first_token, is, is_number, name_in, number_within, two_tokens};
 
 /// The name of a line with its side, or with its rows of numbers.
 #[derive(Drop)]

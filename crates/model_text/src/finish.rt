@@ -1,7 +1,6 @@
 //! The model that the lines of a block make.
 
-ghost use Rattle.std.specs.Prelude.{◌≡◌, ◌<◌, length, map, IfOk};
-ghost use Rattle.std.specs.List.{range_with_len};
+ghost use Rattle.std.specs.Prelude.{◌≡◌, ◌<◌, IfOk};
 ghost use Rattle.std.specs.Option.{option_copied};
 ghost use Rattle.model_text.specs.Reading.{side_in, matrix_in, sides_in, maps_in, model_of};
 

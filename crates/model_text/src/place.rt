@@ -1,7 +1,7 @@
 //! What a reader has made of the lines before one.
 
 use lists::{Listing, Text};
-use matrix_models::{Matrix, Model};
+use matrix_models::Matrix;
 use word_core::{Letter, Object};
 
 /// What a line of a model says.
@@ -23,24 +23,13 @@ pub struct Begun {
     pub entries: Listing<Entry>,
 }
 
-/// Where a line stands.
+/// How far a model was read whose lines go on.
 #[derive(Drop)]
-pub enum Place {
-    /// Outside of all blocks.
-    Outside,
-    /// In a block of another kind.
-    Skipped,
-    /// Behind the head of a model.
+pub enum Stage {
+    /// Behind its head.
     Headed,
     /// Behind its claim.
     Claimed { claim: u32 },
     /// Behind its modulus.
     Inside { begun: Begun },
-}
-
-/// The models that were read, and where the next line stands.
-#[derive(Drop)]
-pub struct Progress {
-    pub models: Listing<Model>,
-    pub place: Place,
 }

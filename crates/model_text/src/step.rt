@@ -1,79 +1,46 @@
-//! What a line of evidence text comes to at its place, where models are read.
+//! What is made of the lines of a model.
 
-ghost use Rattle.std.specs.Prelude.{◌≡◌, [], Ok, IfOk, IsTrue};
+ghost use Rattle.std.specs.Prelude.{◌≡◌, [], IfOk, IsTrue};
 ghost use Rattle.std.specs.List.{list_any};
 ghost use Rattle.std.specs.Str.{bytes_eq};
-ghost use Rattle.certificate_text.specs.Fault.{Reads};
-ghost use Rattle.certificate_text.specs.Tokens.{tokens_of};
+ghost use Rattle.block_text.specs.Fault.{Reads};
+ghost use Rattle.block_text.specs.Tokens.{tokens_of};
 ghost use Rattle.matrix_models.specs.Matrix.{IsModulus};
-ghost use Rattle.model_text.specs.ModelBlocks.{name_of, is_entry, is_other_head};
-ghost use Rattle.model_text.specs.Reading.{is_head, outside, modulus_of, grown, inside, step, HasModulus};
+ghost use Rattle.model_text.specs.ModelBlocks.{is_entry};
+ghost use Rattle.model_text.specs.Reading.{is_head, modulus_of, grown, inside, next, model_steps, HasModulus};
 ghost use Rattle.model_text.specs.Views.{tokens_in};
-ghost use Rattle.model_text.specs.declared.place.Place.TheVariants as place;
+ghost use Rattle.model_text.specs.declared.place.Stage.TheVariants as stage;
 
 use crate::entry::{EntryTokens, entry_tokens, is_modulus};
 use crate::finish::model_of;
-use crate::place::{Begun, Place, Progress};
+use crate::place::{Begun, Stage};
 use crate::value::{entry_value, name_text};
-use certificate_text::{
-    BLOCK_LIMIT, Flaw, LineFault, begins, claim_of, is, is_end, number_within, two_tokens,
+use block_text::{
+    BlockKind, Flaw, LineFault, begins, claim_of, is, is_pair, number_within, two_tokens,
 };
 use lists::{Listing, Text};
 use matrix_models::{MODULUS_LIMIT, Model};
 use quiver::Quiver;
-use std::alloc::Global;
+use std::alloc::{AllocError, Global};
+
+/// Models over the objects and the maps of a quiver.
+#[derive(Clone, Copy)]
+pub struct Models<'q> {
+    pub quiver: &'q Quiver,
+}
 
 fn is_head(line: &[u8]) -> bool
     ensures { result ≡ is_head (tokens_of line.now) }
 {
-    match two_tokens(line) {
-        Some((word, number)) => is("model", word) && is("1", number),
-        None => false,
-    }
-}
-
-// Whether a block of another kind begins.
-fn is_other_head(line: &[u8]) -> bool
-    ensures { result ≡ is_other_head (tokens_of line.now) }
-{
-    begins("certificate", line) || begins("basis", line)
-}
-
-fn outside(models: Listing<Model>, line: &[u8]) -> Result<Progress, Flaw>
-    ensures { result ≡ outside models (tokens_of line.now) }
-{
-    if is_head(line) {
-        if models.len() >= BLOCK_LIMIT as usize {
-            return Err(Flaw::TooMany(BLOCK_LIMIT));
-        }
-        let place = Place::Headed;
-        Ok(Progress { models, place })
-    } else if is_other_head(line) {
-        let place = Place::Skipped;
-        Ok(Progress { models, place })
-    } else {
-        Err(Flaw::BadLine)
-    }
-}
-
-fn skipped(models: Listing<Model>, line: &[u8]) -> Progress
-    ensures { step [] models place.Skipped (tokens_of line.now) ≡ Ok result }
-{
-    let place = if is_end(line) {
-        Place::Outside
-    } else {
-        Place::Skipped
-    };
-    Progress { models, place }
+    is_pair("model", "1", line)
 }
 
 // The claim behind the head.
-fn claimed(models: Listing<Model>, line: &[u8]) -> Result<Progress, Flaw>
-    ensures { result ≡ step [] models place.Headed (tokens_of line.now) }
+fn claimed(line: &[u8]) -> Result<Stage, Flaw>
+    ensures { result ≡ next [] stage.Headed (tokens_of line.now) }
 {
     let claim = claim_of(line)?;
-    let place = Place::Claimed { claim };
-    Ok(Progress { models, place })
+    Ok(Stage::Claimed { claim })
 }
 
 fn modulus_of(line: &[u8]) -> Result<u32, Flaw>
@@ -93,9 +60,9 @@ fn modulus_of(line: &[u8]) -> Result<u32, Flaw>
 }
 
 // The modulus behind the claim.
-fn begun(alloc: Global, models: Listing<Model>, claim: u32, line: &[u8]) -> Result<Progress, Flaw>
-    ensures exact { result ≡ step [] models (place.Claimed claim) (tokens_of line.now) }
-    ensures modulus { IfOk result (λ p. HasModulus p.place) }
+fn opened(alloc: Global, claim: u32, line: &[u8]) -> Result<Stage, Flaw>
+    ensures exact { result ≡ next [] (stage.Claimed claim) (tokens_of line.now) }
+    ensures modulus { IfOk result HasModulus }
 {
     let begun = Begun {
         claim,
@@ -103,8 +70,7 @@ fn begun(alloc: Global, models: Listing<Model>, claim: u32, line: &[u8]) -> Resu
         names: Listing::new(alloc),
         entries: Listing::new(alloc),
     };
-    let place = Place::Inside { begun };
-    Ok(Progress { models, place })
+    Ok(Stage::Inside { begun })
 }
 
 fn is_known(names: &[Text], name: &str) -> bool
@@ -135,48 +101,52 @@ fn grown(
     Ok(begun)
 }
 
-// The end of a model, or a line more.
-fn inside(
-    alloc: Global,
-    quiver: &Quiver,
-    mut models: Listing<Model>,
-    begun: Begun,
-    line: &[u8],
-) -> Result<Progress, LineFault>
+// A line `side` or `map`.
+fn inside(alloc: Global, quiver: &Quiver, begun: Begun, line: &[u8]) -> Result<Stage, LineFault>
     requires { IsModulus begun.modulus }
-    ensures exact { Reads (λ p. p) result (inside quiver.now models begun (tokens_of line.now)) }
-    ensures modulus { IfOk result (λ p. HasModulus p.place) }
+    ensures exact { Reads (λ s. s) result (inside quiver.now begun (tokens_of line.now)) }
+    ensures modulus { IfOk result HasModulus }
 {
-    if is_end(line) {
-        models.push(model_of(alloc, quiver, &begun)?)?;
-        let place = Place::Outside;
-        return Ok(Progress { models, place });
-    }
     let Some(entry) = entry_tokens(line) else {
         return Err(LineFault::Flaw(Flaw::BadLine));
     };
     let begun = grown(alloc, quiver, begun, &entry)?;
-    let place = Place::Inside { begun };
-    Ok(Progress { models, place })
+    Ok(Stage::Inside { begun })
 }
 
-/// What the line comes to at its place.
-pub fn step(
-    alloc: Global,
-    quiver: &Quiver,
-    progress: Progress,
-    line: &[u8],
-) -> Result<Progress, LineFault>
-    requires { HasModulus progress.place }
-    ensures exact { Reads (λ p. p) result (step quiver.now progress.models progress.place (tokens_of line.now)) }
-    ensures modulus { IfOk result (λ p. HasModulus p.place) }
-{
-    let Progress { models, place } = progress;
-    match place {
-        Place::Outside => Ok(outside(models, line)?),
-        Place::Skipped => Ok(skipped(models, line)),
-        Place::Headed => Ok(claimed(models, line)?),
-        Place::Claimed { claim } => Ok(begun(alloc, models, claim, line)?),
-        Place::Inside { begun } => inside(alloc, quiver, models, begun, line),
+impl<'q> BlockKind for Models<'q> {
+    type Begun = Stage;
+
+    type Value = Model;
+
+    ghost steps = { λ kind. model_steps kind.quiver.now };
+
+    ghost is_sound = { λ kind. HasModulus };
+
+    fn is_other_head(&self, line: &[u8]) -> bool {
+        begins("certificate", line) || begins("basis", line)
+    }
+
+    fn begin(&self, _alloc: Global, line: &[u8]) -> Option<Stage> {
+        if is_head(line) {
+            Some(Stage::Headed)
+        } else {
+            None
+        }
+    }
+
+    fn next(&self, alloc: Global, stage: Stage, line: &[u8]) -> Result<Stage, LineFault> {
+        match stage {
+            Stage::Headed => Ok(claimed(line)?),
+            Stage::Claimed { claim } => Ok(opened(alloc, claim, line)?),
+            Stage::Inside { begun } => inside(alloc, self.quiver, begun, line),
+        }
+    }
+
+    fn finish(&self, alloc: Global, stage: Stage) -> Result<Option<Model>, AllocError> {
+        match stage {
+            Stage::Inside { begun } => Ok(Some(model_of(alloc, self.quiver, &begun)?)),
+            _ => Ok(None),
+        }
     }
 }

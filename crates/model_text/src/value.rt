@@ -1,21 +1,19 @@
 //! What a line `side` or `map` says.
 
-ghost use Rattle.std.specs.Prelude.{◌≡◌, ◌<◌, ◌≤◌, ◌^◌, ◌*◌, ◌∷◌, length, IsTrue, IfOk, IfSome};
+ghost use Rattle.std.specs.Prelude.{◌≡◌, ◌<◌, ◌≤◌, ◌*◌, ◌∷◌, length, IsTrue};
 ghost use Rattle.std.specs.List.{All, flat_map, list_all};
-ghost use Rattle.quiver.specs.Declarations.{named_in};
 ghost use Rattle.matrix_models.specs.Matrix.{IsModulus};
-ghost use Rattle.certificate_text.specs.Fault.{Reads, asked};
-ghost use Rattle.certificate_text.specs.Letters.{is_name, is_number};
-ghost use Rattle.certificate_text.specs.Tokens.{tokens_of};
-ghost use Rattle.certificate_text.specs.declared.fault.Flaw.TheVariants as flaw;
-ghost use Rattle.model_text.specs.ModelBlocks.{name_of, is_entry};
-ghost use Rattle.model_text.specs.ModelBounds.{value_of};
+ghost use Rattle.block_text.specs.Fault.{Reads, asked};
+ghost use Rattle.block_text.specs.Letters.{is_name, is_number};
+ghost use Rattle.block_text.specs.Tokens.{tokens_of};
+ghost use Rattle.block_text.specs.declared.fault.Flaw.TheVariants as flaw;
+ghost use Rattle.model_text.specs.ModelBlocks.{is_entry};
 ghost use Rattle.model_text.specs.Reading.{AreRows, after, rows_behind, values_below, values_in, matrix_made, side_value, map_value, entry_value};
 ghost use Rattle.model_text.specs.Views.{line_in, tokens_in};
 
 use crate::entry::{EntryTokens, first_row, row_length};
 use crate::place::Entry;
-use certificate_text::{Flaw, LineFault, first_token, name_in, number_within};
+use block_text::{Flaw, LineFault, first_token, name_in, number_within};
 use matrix_models::{Matrix, MatrixFault, SIDE_LIMIT};
 use quiver::{Named, Quiver};
 use std::alloc::Global;

@@ -7,12 +7,13 @@ use Rattle.std.proofs.lemmas.List.Elements.{All-nil, All-cons, All-append, All-m
 use Rattle.nc_polynomial.specs.declared.poly.Poly.{Poly}
 use Rattle.quiver.specs.Declarations.{Declaration, IsDeclared}
 use Rattle.cofactor_trace.specs.declared.evidence.Format.TheVariants.{Lemmas}
-use Rattle.certificate_text.specs.Tokens.{tokens_of}
-use Rattle.certificate_text.specs.Written.{poly_text}
-use Rattle.certificate_text.specs.Back.{is_named, IsLineText, other, ended, part_text, IsBodyLine, IsPart}
-use Rattle.certificate_text.proofs.PartsBack.{begins_no_end}
-use Rattle.certificate_text.proofs.PolysBack.{poly_is_line}
-use Rattle.certificate_text.proofs.TextsBack.{literal, line_text-append}
+use Rattle.block_text.specs.Tokens.{tokens_of}
+use Rattle.block_text.specs.Written.{poly_text}
+use Rattle.block_text.specs.Back.{other, is_named, IsLineText, ended, IsBodyLine}
+use Rattle.certificate_text.specs.Back.{part_text, IsPart}
+use Rattle.block_text.proofs.PartsBack.{begins_no_end}
+use Rattle.block_text.proofs.PolysBack.{poly_is_line}
+use Rattle.block_text.proofs.TextsBack.{literal, line_text-append}
 use Rattle.report_text.specs.Report.{rule_line, basis_text, IsPolyOver}
 use Rattle.report_readback.proofs.Numerals.{decimal_is_line}
 

@@ -1,30 +1,30 @@
 -- A report is read as the models of the claims that are refuted.
-use Rattle.std.proofs.Common.{◌≡◌, ◌≤◌, ◌+◌, ◌==◌, ℕ, suc, true, not, List, [], ◌∷◌, ◌++◌, arith, refl, sym, ap, ◌∙◌, subst, length, IsTrue}
+use Rattle.std.proofs.Common.{◌≡◌, ◌≤◌, ◌+◌, ℕ, suc, true, List, [], ◌∷◌, ◌++◌, arith, refl, sym, ap, ◌∙◌, subst, length, IsTrue}
 use Rattle.std.specs.List.{All, list_all}
-use Rattle.std.proofs.lemmas.Bool.{and_parts}
-use Rattle.std.proofs.lemmas.List.{length-append}
+use Rattle.std.proofs.lemmas.List.{length-append, nil_from_length}
 use Rattle.std.proofs.lemmas.List.Elements.{All-nil, All-cons, All-head, All-tail}
-use Rattle.std.proofs.lemmas.Str.{is_utf8-from_IsUtf8}
 use Rattle.nc_polynomial.specs.declared.poly.Poly.{Poly}
 use Rattle.quiver.specs.Declarations.{Declaration, IsDeclared}
 use Rattle.matrix_models.specs.declared.model.Model.{Model}
-use Rattle.certificate_text.specs.Fault.{no_block}
-use Rattle.certificate_text.specs.Evidence.{content}
-use Rattle.certificate_text.specs.Tokens.{tokens_of}
-use Rattle.certificate_text.specs.Back.{is_whole, is_named, is_inside, comment, other, part_text}
-use Rattle.certificate_text.proofs.ContentBack.{IsTextOf, no_text, whole_append}
-use Rattle.certificate_text.proofs.PartsBack.{is_before_end, comment_is_text, other_is_text}
-use Rattle.model_text.specs.ModelBlocks.{BlockTokens, model, other as other_block, IsBlock}
-use Rattle.model_text.specs.ModelBounds.{models_in, values_in, KeepsOne}
-use Rattle.model_text.specs.Models.{HasModels, IsFirstFault, models}
+use Rattle.block_text.specs.Fault.{no_block}
+use Rattle.block_text.specs.Lines.{content, block_limit}
+use Rattle.block_text.specs.Tokens.{tokens_of}
+use Rattle.block_text.specs.Back.{is_whole, is_named, comment, other}
+use Rattle.certificate_text.specs.Back.{part_text}
+use Rattle.block_text.proofs.ContentBack.{no_text, whole_append}
+use Rattle.block_text.specs.Blocks.{own_in}
+use Rattle.block_text.specs.Texts.{none}
+use Rattle.block_text.proofs.PartsBack.{text_without_blocks, joined, inside_is_before_end, comment_is_text, other_is_text}
+use Rattle.block_text.proofs.Zips.{zip_length}
+use Rattle.model_text.specs.ModelBounds.{model_value}
+use Rattle.model_text.specs.Models.{other_words, model_kind, HasModels, IsFirstFault}
 use Rattle.model_text.specs.Back.{IsWritableModel}
 use Rattle.model_text.proofs.ModelsBack.{model_is_whole, model_has}
-use Rattle.model_text.proofs.ModelsJoined.{joined}
+use Rattle.model_text.proofs.Reader.{reader}
 use Rattle.report_text.specs.declared.verdict.Verdict.{Verdict}
 use Rattle.report_text.specs.declared.verdict.Verdict.TheVariants as verdict
 use Rattle.report_text.specs.Heads.{head_line}
 use Rattle.report_text.specs.Report.{basis_text, block_text, report_from, report_of, IsPolyOver}
-use Rattle.certificate_text.specs.Lines.{block_limit}
 use Rattle.report_readback.specs.ReadBack.{IsWritableVerdict}
 use Rattle.report_readback.specs.ModelsReadBack.{IsReadAsModels, refuted_in, ReportsReadBackAsModels}
 use Rattle.report_readback.proofs.Heads.{told_of, told_is_line}
@@ -38,20 +38,11 @@ record IsTextWith (ds : List Declaration) (text : List ℕ) (ms : List Model) : 
   whole : is_whole text ≡ true
   has : HasModels ds text ms
 
-text_without_blocks : (ds : List Declaration) (text : List ℕ) → IsTextOf text [] → HasModels ds text []
-text_without_blocks ds text is = record {
-  utf8 = is_utf8-from_IsUtf8 text is.utf8;
-  blocks = [];
-  are_blocks = record { are = is.are; each = All-nil IsBlock };
-  within = λ k d inside. record { each = All-nil (KeepsOne ds _); few = λ last. omega arith };
-  models = refl;
-}
-
 skipped : (ds : List Declaration) (text : List ℕ) → IsSkipped text → IsTextWith ds text []
 skipped ds text is = record { whole = is.is.whole; has = skipped_has_none ds text is }
 
 with-append : (ds : List Declaration) (xs ys : List ℕ) (first last : List Model) → IsTextWith ds xs first → IsTextWith ds ys last → length first + length last ≤ block_limit → IsTextWith ds (xs ++ ys) (first ++ last)
-with-append ds xs ys first last left right few = record { whole = whole_append xs ys left.whole right.whole; has = joined ds xs ys first last left.whole left.has right.has few }
+with-append ds xs ys first last left right few = record { whole = whole_append xs ys left.whole right.whole; has = joined (model_kind ds) xs ys first last left.whole left.has right.has few }
 
 -- ---- one claim
 
@@ -85,18 +76,12 @@ later_models ds (verdict.Refuted m) verdicts each = All-tail (IsWritableModel ds
 later_models ds (verdict.Undecided h) verdicts each = each
 later_models ds (verdict.NotRefuted candidates) verdicts each = each
 
-inside_is_before_end : (text : List ℕ) → list_all is_inside text ≡ true → list_all is_before_end text ≡ true
-inside_is_before_end [] all = refl
-inside_is_before_end (c ∷ cs) all =
-    let parts : (is_inside c ≡ true) × (list_all is_inside cs ≡ true) = and_parts _ _ all in
-    rw ((and_parts (is_before_end c) (not (c == 13)) parts.0).0, inside_is_before_end cs parts.1) refl
-
 module _ (ds : List Declaration) (rules : List Poly) (declared : IsDeclared ds) (known : IsTrue (list_all is_named ds)) (over : All (IsPolyOver ds) rules) where
   head_has : (claim : ℕ) (v : Verdict) → IsWritableVerdict ds v → IsTextWith ds (head_line ds (length rules) claim v) []
   head_has claim v writable =
       let line = told_is_line ds declared known (length rules) claim v writable in
       let is = comment_is_text (told_of ds (length rules) claim v) line.utf8 (inside_is_before_end (told_of ds (length rules) claim v) line.inside) in
-      record { whole = is.whole; has = text_without_blocks ds (part_text ds (comment (told_of ds (length rules) claim v))) is }
+      record { whole = is.whole; has = text_without_blocks (model_kind ds) (part_text ds (comment (told_of ds (length rules) claim v))) is }
 
   basis_has : (claim : ℕ) (rest : Poly) → IsPolyOver ds rest → IsTextWith ds (basis_text ds rules claim rest) []
   basis_has claim rest rest_over =
@@ -104,7 +89,7 @@ module _ (ds : List Declaration) (rules : List Poly) (declared : IsDeclared ds) 
       let lines = basis_lines ds rules claim rest in
       subst (λ (text : List ℕ). IsTextWith ds text []) (sym (basis_is_part ds rules claim rest))
       (skipped ds (part_text ds (other basis_head lines))
-      (record { block = record { head = tokens_of basis_head; lines = content lines }; is = other_is_text ds basis_head lines is.0 is.1 is.2; of_other_kind = record { head = refl; lines = lines_go_on lines is.2 } }))
+      (record { block = record { head = tokens_of basis_head; lines = content lines }; is = other_is_text other_words basis_head lines (reader ds).words is.0 refl is.2; of_other_kind = record { head = refl; lines = lines_go_on lines is.2 } }))
 
   block_has : (claim : ℕ) (v : Verdict) → IsWritableVerdict ds v → All (IsWritableModel ds) (refuted_in (v ∷ [])) → IsTextWith ds (block_text ds rules claim v) (refuted_in (v ∷ []))
   block_has claim (verdict.Proved e) writable each = skipped ds _ (evidence_is_skipped ds e declared known writable)
@@ -112,12 +97,12 @@ module _ (ds : List Declaration) (rules : List Poly) (declared : IsDeclared ds) 
   block_has claim (verdict.Refuted m) writable each =
       let is = All-head (IsWritableModel ds) m [] each in
       record { whole = model_is_whole ds declared known m is; has = model_has ds declared known m is }
-  block_has claim (verdict.Undecided h) writable each = record { whole = refl; has = text_without_blocks ds [] no_text }
-  block_has claim (verdict.NotRefuted candidates) writable each = record { whole = refl; has = text_without_blocks ds [] no_text }
+  block_has claim (verdict.Undecided h) writable each = record { whole = refl; has = text_without_blocks (model_kind ds) [] no_text }
+  block_has claim (verdict.NotRefuted candidates) writable each = record { whole = refl; has = text_without_blocks (model_kind ds) [] no_text }
 
   report_has : (claim : ℕ) (verdicts : List Verdict) → All (IsWritableVerdict ds) verdicts → All (IsWritableModel ds) (refuted_in verdicts) → length (refuted_in verdicts) ≤ block_limit
       → IsTextWith ds (report_from ds rules claim verdicts) (refuted_in verdicts)
-  report_has claim [] writable each few = record { whole = refl; has = text_without_blocks ds [] no_text }
+  report_has claim [] writable each few = record { whole = refl; has = text_without_blocks (model_kind ds) [] no_text }
   report_has claim (v ∷ verdicts) writable each few =
       let here = All-head (IsWritableVerdict ds) v verdicts writable in
       let head = head_line ds (length rules) claim v in
@@ -130,20 +115,17 @@ module _ (ds : List Declaration) (rules : List Poly) (declared : IsDeclared ds) 
 
 -- ---- what is read
 
-no_values : (ds : List Declaration) (blocks : List BlockTokens) → [] ≡ values_in ds blocks → models_in blocks ≡ []
-no_values ds [] none = refl
-no_values ds (model b ∷ blocks) none = absurd (cc)
-no_values ds (other_block b ∷ blocks) none = no_values ds blocks none
-
 no_model : (ds : List Declaration) (bytes : List ℕ) → HasModels ds bytes [] → IsFirstFault ds bytes no_block
-no_model ds bytes has = models has.utf8 (record { blocks = has.blocks; are_blocks = has.are_blocks; none = no_values ds has.blocks has.models }) refl
+no_model ds bytes has =
+    let nothing : own_in has.blocks ≡ [] = nil_from_length (own_in has.blocks) (zip_length (λ b m. m ≡ model_value ds b) (own_in has.blocks) [] has.says) in
+    none has.utf8 (record { blocks = has.blocks; are_blocks = has.are_blocks; none = nothing }) refl
 
 -- models are what is read, or that there are none
 read_as_models : (ds : List Declaration) (bytes : List ℕ) (ms : List Model) → HasModels ds bytes ms → IsReadAsModels ds bytes ms
 read_as_models ds bytes ms has = record {
   has = has;
   some = λ some. record { has = has; some = some };
-  none = λ none. no_model ds bytes (subst (HasModels ds bytes) none has);
+  none = λ nothing. no_model ds bytes (subst (HasModels ds bytes) nothing has);
 }
 
 pub reports_read_back_as_models : ReportsReadBackAsModels

@@ -11,14 +11,15 @@ use Rattle.quiver.specs.Declarations.{Declaration, IsDeclared, object_count, let
 use Rattle.cofactor_trace.specs.declared.evidence.Format.TheVariants.{Lemmas}
 use Rattle.matrix_models.specs.Matrix.{Matrix, entry_at}
 use Rattle.matrix_models.specs.declared.model.Model.{Model}
-use Rattle.certificate_text.specs.Letters.{is_name}
-use Rattle.certificate_text.specs.Tokens.{tokens_of}
-use Rattle.certificate_text.specs.Back.{is_named, IsLineText, other, ended, part_text, IsBodyLine, IsPart}
-use Rattle.certificate_text.proofs.LetterNames.{letter_is_spelled}
-use Rattle.certificate_text.proofs.NameBytes.{name_text}
-use Rattle.certificate_text.proofs.PartsBack.{begins_no_end}
-use Rattle.certificate_text.proofs.PolysBack.{nothing_is_line}
-use Rattle.certificate_text.proofs.TextsBack.{literal, line_text-append, plain_name}
+use Rattle.block_text.specs.Letters.{is_name}
+use Rattle.block_text.specs.Tokens.{tokens_of}
+use Rattle.block_text.specs.Back.{other, is_named, IsLineText, ended, IsBodyLine}
+use Rattle.certificate_text.specs.Back.{part_text, IsPart}
+use Rattle.block_text.proofs.LetterNames.{letter_is_spelled}
+use Rattle.block_text.proofs.NameBytes.{name_text}
+use Rattle.block_text.proofs.PartsBack.{begins_no_end}
+use Rattle.block_text.proofs.PolysBack.{nothing_is_line}
+use Rattle.block_text.proofs.TextsBack.{literal, line_text-append, plain_name}
 use Rattle.model_text.specs.Written.{between, entry_text, row_text, part_text as row_part, rows_text, sides_text, is_map, map_text, maps_text, model_text}
 use Rattle.model_text.proofs.ObjectNames.{object_is_named}
 use Rattle.report_readback.proofs.Bases.{claim_body, claim_is_body}

@@ -4,8 +4,8 @@ use Rattle.std.specs.Prelude.{decimal}
 use Rattle.std.specs.Fmt.{signed_decimal, digits, digits_onto, digit_glyph}
 use Rattle.std.specs.List.{list_all}
 use Rattle.std.proofs.lemmas.Bool.{lt-ltb, ne_eqb}
-use Rattle.certificate_text.specs.Back.{is_inside, IsLineText}
-use Rattle.certificate_text.proofs.TextsBack.{are_low, literal, line_text-append}
+use Rattle.block_text.specs.Back.{is_inside, IsLineText}
+use Rattle.block_text.proofs.TextsBack.{are_low, literal, line_text-append}
 
 -- low characters and no line ends
 record IsLow (text : List ℕ) : Type 0 where

@@ -10,10 +10,13 @@ use Rattle.quiver.specs.Declarations.{Declaration, IsDeclared}
 use Rattle.cofactor_trace.specs.declared.evidence.Evidence.{Evidence}
 use Rattle.cofactor_trace.specs.declared.evidence.Evidence.TheVariants as evidence
 use Rattle.cofactor_trace.specs.declared.evidence.Format.TheVariants.{Lemmas}
-use Rattle.certificate_text.specs.Fault.{no_block}
-use Rattle.certificate_text.specs.Bounds.{certificates_in, IsCertificateOf}
-use Rattle.certificate_text.specs.Evidence.{HasCertificates, IsFirstFault, certificates}
-use Rattle.certificate_text.specs.Back.{IsOfFormat, is_named, Part, certificate, comment, other, part_text, IsPart, evidence_in}
+use Rattle.block_text.specs.Fault.{no_block}
+use Rattle.block_text.specs.Blocks.{own_in}
+use Rattle.block_text.specs.Texts.{none}
+use Rattle.certificate_text.specs.Bounds.{IsCertificateOf}
+use Rattle.certificate_text.specs.Evidence.{HasCertificates, IsFirstFault}
+use Rattle.block_text.specs.Back.{is_named, block as certificate, comment, other}
+use Rattle.certificate_text.specs.Back.{IsOfFormat, Part, part_text, IsPart, evidence_in}
 use Rattle.certificate_text.proofs.PartsBack.{are_parts_read_back}
 use Rattle.report_text.specs.declared.verdict.Verdict.{Verdict}
 use Rattle.report_text.specs.declared.verdict.Verdict.TheVariants as verdict
@@ -95,15 +98,15 @@ module _ (ds : List Declaration) (rules : List Poly) (declared : IsDeclared ds) 
 
 no_certificate : (ds : List Declaration) (bytes : List ℕ) → HasCertificates Lemmas ds bytes [] → IsFirstFault Lemmas ds bytes no_block
 no_certificate ds bytes has =
-    let none : certificates_in has.blocks ≡ [] = nil_from_length (certificates_in has.blocks) (sym (AllZip-long (IsCertificateOf ds) (certificates_in has.blocks) [] has.certificates)) in
-    certificates has.utf8 (record { blocks = has.blocks; are_blocks = has.are_blocks; none = none }) refl
+    let nothing : own_in has.blocks ≡ [] = nil_from_length (own_in has.blocks) (sym (AllZip-long (IsCertificateOf ds) (own_in has.blocks) [] has.says)) in
+    none has.utf8 (record { blocks = has.blocks; are_blocks = has.are_blocks; none = nothing }) refl
 
 -- certificates are what is read, or that there are none
 pub read_as : (ds : List Declaration) (bytes : List ℕ) (es : List Evidence) → HasCertificates Lemmas ds bytes es → IsReadAs ds bytes es
 read_as ds bytes es has = record {
   has = has;
   some = λ some. record { has = has; some = some };
-  none = λ none. no_certificate ds bytes (subst (HasCertificates Lemmas ds bytes) none has);
+  none = λ nothing. no_certificate ds bytes (subst (HasCertificates Lemmas ds bytes) nothing has);
 }
 
 pub reports_read_back : ReportsReadBack

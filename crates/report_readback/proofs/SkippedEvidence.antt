@@ -1,11 +1,10 @@
 -- Evidence that is written is a block of another kind to a reader of models.
-use Rattle.std.proofs.Common.{◌≡◌, ◌<◌, ◌^◌, ℕ, suc, ℤ, true, false, not, List, [], ◌∷◌, ◌++◌, arith, refl, sym, ◌∙◌, subst, map, get_or, codes, IsTrue}
+use Rattle.std.proofs.Common.{◌≡◌, ◌<◌, ◌^◌, ℕ, suc, ℤ, true, false, not, List, [], ◌∷◌, ◌++◌, refl, sym, subst, map, codes, IsTrue}
 use Rattle.std.specs.Prelude.{decimal}
 use Rattle.std.specs.Fmt.{signed_decimal}
 use Rattle.std.specs.List.{All, list_all, flat_map}
-use Rattle.std.proofs.lemmas.List.{append-nil, append_assoc}
+use Rattle.std.proofs.lemmas.List.{append_assoc}
 use Rattle.std.proofs.lemmas.List.Elements.{All-nil, All-cons, All-head, All-tail, All-append, All-map, All-filter, recursion_from_All}
-use Rattle.std.proofs.lemmas.Str.{is_utf8-from_IsUtf8}
 use Rattle.quiver.specs.Declarations.{Declaration, IsDeclared}
 use Rattle.cofactor_trace.specs.declared.evidence.Evidence.{Evidence}
 use Rattle.cofactor_trace.specs.declared.evidence.Evidence.TheVariants as evidence
@@ -13,22 +12,22 @@ use Rattle.cofactor_trace.specs.declared.evidence.Format.{Format}
 use Rattle.cofactor_trace.specs.declared.evidence.Format.TheVariants as format
 use Rattle.cofactor_trace.specs.declared.evidence.Lemma.{Lemma}
 use Rattle.cofactor_trace.specs.declared.evidence.LemmaRow.{LemmaRow}
-use Rattle.certificate_text.specs.Tokens.{tokens_of, is_skipped}
-use Rattle.certificate_text.specs.Lines.{is_end}
-use Rattle.certificate_text.specs.Blocks.{Line, OtherTokens, row_line, head_line, claim_line, denominator_line}
-use Rattle.certificate_text.specs.Evidence.{content}
+use Rattle.block_text.specs.Tokens.{tokens_of, is_skipped}
+use Rattle.block_text.specs.Lines.{is_end, Line, OtherTokens, claim_line, content, end_line}
+use Rattle.certificate_text.specs.Blocks.{row_line, head_line, denominator_line}
 use Rattle.certificate_text.specs.Written.{opening_text, lemma_row_text, scaled_text, lemmas_text, evidence_text}
-use Rattle.certificate_text.specs.Back.{is_named, IsLineText, ended, IsBodyLine, IsWritableEvidence}
+use Rattle.block_text.specs.Back.{is_named, IsLineText, ended, IsBodyLine}
+use Rattle.certificate_text.specs.Back.{IsWritableEvidence}
 use Rattle.certificate_text.proofs.BlocksBack.{rows_written}
-use Rattle.certificate_text.proofs.ContentBack.{IsTextOf, no_text, text-append, text_of_line}
+use Rattle.block_text.proofs.ContentBack.{IsTextOf, no_text, text-append, text_of_line}
 use Rattle.certificate_text.proofs.LemmasBack.{IsWrittenLemma, lemmas_written}
-use Rattle.certificate_text.proofs.PartsBack.{begins_no_end}
+use Rattle.block_text.proofs.PartsBack.{begins_no_end, text_of_other}
 use Rattle.certificate_text.proofs.RowsBack.{over_generator, IsWrittenRow, trees, rows_are_text}
-use Rattle.certificate_text.proofs.SizesBack.{IsSize, size_written, head_text, opening_is_text, end_is_text}
-use Rattle.certificate_text.proofs.TextsBack.{literal, line_text-append}
-use Rattle.model_text.specs.ModelBlocks.{other, block_lines, is_other_head, IsBlock, IsOtherBlock}
-use Rattle.model_text.specs.ModelBounds.{Bound, names, numbers, sizes, blocks, bounds, KeepsOne}
-use Rattle.model_text.specs.Models.{HasModels}
+use Rattle.block_text.proofs.NumberLines.{end_is_text}
+use Rattle.certificate_text.proofs.SizesBack.{IsSize, size_written, head_text, opening_is_text}
+use Rattle.block_text.proofs.TextsBack.{literal, line_text-append}
+use Rattle.block_text.specs.Blocks.{is_other_head, IsOtherBlock}
+use Rattle.model_text.specs.Models.{other_words, model_kind, HasModels}
 use Rattle.report_readback.proofs.Numerals.{decimal_is_line, signed_is_line}
 
 -- ---- blocks of other kinds
@@ -36,26 +35,11 @@ use Rattle.report_readback.proofs.Numerals.{decimal_is_line, signed_is_line}
 -- the text is one such block
 pub record IsSkipped (text : List ℕ) : Type 0 where
   pub block : OtherTokens
-  pub is : IsTextOf text (block_lines (other block))
-  pub of_other_kind : IsOtherBlock block
-
-other_keeps : (ds : List Declaration) (b : OtherTokens) (bound : Bound) → KeepsOne ds bound (other b)
-other_keeps ds b names = tt
-other_keeps ds b numbers = tt
-other_keeps ds b sizes = tt
-other_keeps ds b blocks = tt
+  pub is : IsTextOf text (block.head ∷ (block.lines ++ end_line ∷ []))
+  pub of_other_kind : IsOtherBlock other_words block
 
 pub skipped_has_none : (ds : List Declaration) (text : List ℕ) → IsSkipped text → HasModels ds text []
-skipped_has_none ds text skipped = record {
-  utf8 = is_utf8-from_IsUtf8 text skipped.is.utf8;
-  blocks = other skipped.block ∷ [];
-  are_blocks = record { are = skipped.is.are ∙ sym (append-nil (block_lines (other skipped.block))); each = All-cons IsBlock (other skipped.block) [] skipped.of_other_kind (All-nil IsBlock) };
-  within = λ k d inside. record {
-    each = All-cons (KeepsOne ds _) (other skipped.block) [] (other_keeps ds skipped.block (get_or bounds k d)) (All-nil (KeepsOne ds _));
-    few = λ last. omega arith;
-  };
-  models = refl;
-}
+skipped_has_none ds text skipped = text_of_other (model_kind ds) text skipped.block skipped.is skipped.of_other_kind
 
 -- ---- the lines between the first one and the last one
 
@@ -123,7 +107,7 @@ lemmas_are_body ds number (l ∷ lemmas) written =
 goal_is_body : (ds : List Declaration) (l : Lemma) → IsWrittenLemma ds l → IsBody (codes "goal" ++ scaled_text ds l)
 goal_is_body ds l written = scaled_is_body ds (codes "goal") l written (literal (codes "goal") refl refl) refl
 
-is_other : (form : Format) → is_other_head (head_line form) ≡ true
+is_other : (form : Format) → is_other_head other_words (head_line form) ≡ true
 is_other format.Plain = refl
 is_other format.Lemmas = refl
 

@@ -13,9 +13,9 @@ use Rattle.traced_completion.specs.declared.budget.Budget.{Budget}
 use Rattle.traced_completion.specs.PlainRun.{setting_of}
 use Rattle.claim_decider.specs.declared.outcome.Outcome.{Outcome}
 use Rattle.claim_decider.specs.Decided.{claim_numbers, AreOutcomesOf, AreLastRules}
-use Rattle.certificate_text.specs.Fault.{no_block}
-use Rattle.certificate_text.specs.Lines.{block_limit}
-use Rattle.certificate_text.specs.Back.{is_named}
+use Rattle.block_text.specs.Fault.{no_block}
+use Rattle.block_text.specs.Lines.{block_limit}
+use Rattle.block_text.specs.Back.{is_named}
 use Rattle.model_text.specs.Models.{HasModels, IsModels, IsFirstFault}
 use Rattle.model_text.specs.Back.{IsWritableModel}
 use Rattle.report_text.specs.declared.verdict.Verdict.{Verdict}

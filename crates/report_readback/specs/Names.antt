@@ -10,8 +10,8 @@ use Rattle.statement_syntax.specs.Grammar.{name_token}
 use Rattle.statement_syntax.specs.Fault.{IsTreeOf}
 use Rattle.adjoint_rules.specs.declared.problem.Problem.{Problem}
 use Rattle.signature_typing.specs.Typing.{IsProblemOf}
-use Rattle.certificate_text.specs.Letters.{is_name}
-use Rattle.certificate_text.specs.Back.{is_named}
+use Rattle.block_text.specs.Letters.{is_name}
+use Rattle.block_text.specs.Back.{is_named}
 
 -- in some bytes the statement language has a name token with this text
 pub record IsNameToken (text : List ℕ) : Type 0 where

@@ -17,10 +17,11 @@ use Rattle.traced_completion.specs.PlainRun.{setting_of}
 use Rattle.claim_decider.specs.declared.outcome.Outcome.{Outcome}
 use Rattle.claim_decider.specs.declared.outcome.Outcome.TheVariants as outcome
 use Rattle.claim_decider.specs.Decided.{claim_numbers, AreOutcomesOf, AreLastRules}
-use Rattle.certificate_text.specs.Fault.{no_block}
-use Rattle.certificate_text.specs.Lines.{block_limit}
+use Rattle.block_text.specs.Fault.{no_block}
+use Rattle.block_text.specs.Lines.{block_limit}
 use Rattle.certificate_text.specs.Evidence.{HasCertificates, IsEvidence, IsFirstFault}
-use Rattle.certificate_text.specs.Back.{IsWritableEvidence, is_named}
+use Rattle.block_text.specs.Back.{is_named}
+use Rattle.certificate_text.specs.Back.{IsWritableEvidence}
 use Rattle.model_text.specs.Written.{HasPlaces}
 use Rattle.report_text.specs.declared.verdict.Verdict.{Verdict}
 use Rattle.report_text.specs.declared.verdict.Verdict.TheVariants as verdict

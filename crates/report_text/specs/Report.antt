@@ -4,7 +4,8 @@ use Rattle.std.specs.List.{All, flat_map, list_all, list_any}
 use Rattle.word_core.specs.Letters.{IsOver}
 use Rattle.nc_polynomial.specs.declared.poly.Poly.{Poly}
 use Rattle.quiver.specs.Declarations.{Declaration, letter_count}
-use Rattle.certificate_text.specs.Written.{poly_text, evidence_text, IsEvidenceOver}
+use Rattle.block_text.specs.Written.{poly_text}
+use Rattle.certificate_text.specs.Written.{evidence_text, IsEvidenceOver}
 use Rattle.model_text.specs.Written.{model_text, HasPlaces}
 use Rattle.report_text.specs.declared.verdict.Verdict.{Verdict}
 use Rattle.report_text.specs.declared.verdict.Verdict.TheVariants as verdict

@@ -4,7 +4,7 @@ ghost use Rattle.std.specs.Prelude.{◌≡◌, ◌<◌, ◌≤◌, ◌+◌, ◌-
 ghost use Rattle.std.specs.List.{flat_map, range_with_len};
 ghost use Rattle.report_text.specs.Bench.{numbered, maps_of_step, assumption_of_step, objects_text, there_and_back, bench_statement};
 
-use certificate_text::{put, put_number};
+use block_text::{put, put_number};
 use std::alloc::{AllocError, Global};
 
 fn put_numbered(out: &mut Vec<u8>, name: &str, number: u32) -> Result<(), AllocError>

@@ -6,7 +6,7 @@ ghost use Rattle.report_text.specs.Heads.{lemma_row_count, denominator_of, row_c
 ghost use Rattle.report_text.specs.Report.{IsLeastOver, IsVerdictOver};
 
 use crate::Verdict;
-use certificate_text::{put, put_integer, put_number, put_word};
+use block_text::{put, put_integer, put_number, put_word};
 use coef_int::Overflow;
 use cofactor_trace::{Cause, Evidence, Halt, LETTER_LIMIT, LemmaCertificate, Place, ROW_LIMIT};
 use nc_polynomial::{TERM_LIMIT, WORD_LIMIT};

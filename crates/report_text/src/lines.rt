@@ -6,7 +6,8 @@ ghost use Rattle.report_text.specs.Report.{rule_line, basis_text, block_text, re
 
 use crate::Verdict;
 use crate::head::put_head;
-use certificate_text::{put, put_evidence, put_number, put_poly};
+use block_text::{put, put_number, put_poly};
+use certificate_text::put_evidence;
 use model_text::put_model;
 use nc_polynomial::Poly;
 use quiver::Quiver;

@@ -4,7 +4,7 @@ use Rattle.std.specs.Fmt.{signed_decimal}
 use Rattle.std.specs.List.{flat_map}
 use Rattle.certificate_text.specs.Written.{lemma_row_text}
 use Rattle.certificate_text.specs.Evidence.{IsLemmaRowOver}
-use Rattle.certificate_text.proofs.Puts.{four_put}
+use Rattle.block_text.proofs.Puts.{four_put}
 use Rattle.certificate_text.proofs.evidence.put_scaled.Goals as goal
 
 pub returns : goal.returns

@@ -1,9 +1,14 @@
 use Rattle.cofactor_trace.specs.declared.evidence.Format.TheVariants as Format
-use Rattle.certificate_text.proofs.Answered.{evidence_told, checkable_told}
+use Rattle.block_text.proofs.EachText.{values_told}
+use Rattle.certificate_text.specs.Evidence.{certificate_kind}
+use Rattle.certificate_text.specs.Reading.{certificate_steps}
+use Rattle.certificate_text.proofs.Checkable.{checkable_told}
+use Rattle.certificate_text.proofs.Reader.{reader}
 use Rattle.certificate_text.proofs.read.read_evidence.Goals as goal
 
 pub returns-clause-exact : goal.returns-clause-exact
-returns-clause-exact c = evidence_told Format.Lemmas c.args.quiver.now c.args.bytes.now c.evidence_of.result c.evidence_of.ensures
+returns-clause-exact c =
+    values_told (certificate_kind Format.Lemmas c.args.quiver.now) (certificate_steps Format.Lemmas c.args.quiver.now) (reader Format.Lemmas c.args.quiver.now) c.args.bytes.now c.read_blocks.result c.read_blocks.ensures
 
 pub returns-clause-checkable : goal.returns-clause-checkable
-returns-clause-checkable c = checkable_told Format.Lemmas c.args.quiver.now c.args.bytes.now c.evidence_of.result c.evidence_of.ensures
+returns-clause-checkable c = checkable_told c.args.quiver.now Format.Lemmas c.args.bytes.now c.read_blocks.result c.read_blocks.ensures

@@ -1,5 +1,5 @@
 use Rattle.std.proofs.Common.{rules}
-use Rattle.certificate_text.specs.Tokens.{tokens_of}
+use Rattle.block_text.specs.Tokens.{tokens_of}
 use Rattle.certificate_text.specs.Views.{parts_of}
 use Rattle.certificate_text.proofs.RowLines.{lemma_row_of_parts}
 use Rattle.certificate_text.proofs.row.lemma_row_of.Goals as goal

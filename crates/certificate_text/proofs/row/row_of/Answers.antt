@@ -1,5 +1,5 @@
 use Rattle.std.proofs.Common.{rules}
-use Rattle.certificate_text.specs.Tokens.{tokens_of}
+use Rattle.block_text.specs.Tokens.{tokens_of}
 use Rattle.certificate_text.specs.Views.{parts_of}
 use Rattle.certificate_text.proofs.RowLines.{row_of_parts}
 use Rattle.certificate_text.proofs.row.row_of.Goals as goal

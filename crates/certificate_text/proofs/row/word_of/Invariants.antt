@@ -1,9 +1,8 @@
 use Rattle.std.proofs.Common.{◌≡◌, length}
 use Rattle.std.specs.List.{list_all}
-use Rattle.certificate_text.specs.Letters.{is_letter}
-use Rattle.certificate_text.specs.Lines.{word_of}
-use Rattle.certificate_text.specs.Tokens.{tokens_of}
-use Rattle.certificate_text.proofs.Fronts.{behind}
+use Rattle.block_text.specs.Letters.{is_letter, word_of}
+use Rattle.block_text.specs.Tokens.{tokens_of}
+use Rattle.block_text.proofs.Fronts.{behind}
 use Rattle.certificate_text.proofs.row.word_of.Given as goal
 
 -- the letters so far, in front of those that are left

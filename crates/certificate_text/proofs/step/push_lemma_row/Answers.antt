@@ -1,5 +1,5 @@
 use Rattle.std.proofs.Common.{sym, ◌∙◌}
-use Rattle.certificate_text.specs.Tokens.{tokens_of}
+use Rattle.block_text.specs.Tokens.{tokens_of}
 use Rattle.certificate_text.proofs.RowSteps.{flaw_told, memory_told, lemma_row_told, lemma_row_too_large, lemma_row_added}
 use Rattle.certificate_text.proofs.step.push_lemma_row.Goals as goal
 

@@ -1,21 +1,21 @@
 use Rattle.std.proofs.Common.{sym, ◌∙◌}
-use Rattle.certificate_text.specs.Tokens.{tokens_of}
+use Rattle.block_text.specs.Tokens.{tokens_of}
 use Rattle.certificate_text.proofs.RowSteps.{flaw_told, memory_told, row_told, row_too_large, row_added}
 use Rattle.certificate_text.proofs.step.push_row.Goals as goal
 
 pub returns-in_err-row : goal.returns-in_err-row
-returns-in_err-row c blocks =
-    row_told _ c.from_residual.result c.args.quiver.now blocks c.args.certificate.now c.args.size (tokens_of c.args.line.now) c.in_err-row.field-0.0 c.requires c.from_residual.ensures.1 c.in_err-row.ensures
+returns-in_err-row c =
+    row_told _ c.from_residual.result c.args.quiver.now c.args.certificate.now c.args.size (tokens_of c.args.line.now) c.in_err-row.field-0.0 c.from_residual.ensures.1 c.in_err-row.ensures
 
 pub returns-in_err-size : goal.returns-in_err-size
-returns-in_err-size c blocks =
+returns-in_err-size c =
     flaw_told _ c.from_residual-in_err-size.result _ c.in_err-size.field-0.0 c.from_residual-in_err-size.ensures.1
-    (row_too_large c.args.quiver.now blocks c.args.certificate.now c.args.size (tokens_of c.args.line.now) c.in_ok-row.row c.in_err-size.field-0.0 c.requires c.in_ok-row.ensures (sym c.grown.ensures ∙ c.in_err-size.was))
+    (row_too_large c.args.quiver.now c.args.certificate.now c.args.size (tokens_of c.args.line.now) c.in_ok-row.row c.in_err-size.field-0.0 c.in_ok-row.ensures (sym c.grown.ensures ∙ c.in_err-size.was))
 
 pub returns-in_err-push : goal.returns-in_err-push
-returns-in_err-push c blocks = memory_told _ c.from_residual-in_err-push.result _ c.from_residual-in_err-push.ensures.1
+returns-in_err-push c = memory_told _ c.from_residual-in_err-push.result _ c.from_residual-in_err-push.ensures.1
 
 pub returns : goal.returns
-returns c blocks =
-    row_added c.args.quiver.now blocks c.args.certificate.now c.args.size c.in_ok-size.size (tokens_of c.args.line.now) c.in_ok-row.row c.push.new.self c.requires c.in_ok-row.ensures
+returns c =
+    row_added c.args.quiver.now c.args.certificate.now c.args.size c.in_ok-size.size (tokens_of c.args.line.now) c.in_ok-row.row c.push.new.self c.in_ok-row.ensures
     (sym c.grown.ensures ∙ c.in_ok-size.was) c.in_ok-push.ensures.ok

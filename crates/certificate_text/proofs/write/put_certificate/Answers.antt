@@ -3,7 +3,7 @@ use Rattle.std.specs.Prelude.{codes}
 use Rattle.std.specs.List.{flat_map}
 use Rattle.certificate_text.specs.Evidence.{IsRowOver}
 use Rattle.certificate_text.specs.Written.{opening_text, row_text}
-use Rattle.certificate_text.proofs.Puts.{three_put}
+use Rattle.block_text.proofs.Puts.{three_put}
 use Rattle.certificate_text.proofs.write.put_certificate.Goals as goal
 
 pub put_rows-requires : goal.put_rows-requires

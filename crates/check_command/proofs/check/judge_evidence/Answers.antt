@@ -2,7 +2,7 @@ use Rattle.std.proofs.Common.{◌≡◌, List, Err, subst, rules}
 use Rattle.cofactor_trace.specs.declared.evidence.Evidence.{Evidence}
 use Rattle.cofactor_trace.specs.declared.evidence.Format.TheVariants.{Lemmas}
 use Rattle.adjoint_rules.specs.declared.problem.Problem.{Problem}
-use Rattle.certificate_text.specs.Fault.{Fault}
+use Rattle.block_text.specs.Fault.{Fault}
 use Rattle.certificate_text.specs.Evidence.{IsEvidence, IsFirstFault}
 use Rattle.command_shape.specs.Ending.{Ending}
 use Rattle.command_shape.specs.Blocks.{Judges}

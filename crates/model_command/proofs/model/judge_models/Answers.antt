@@ -1,7 +1,7 @@
 use Rattle.std.proofs.Common.{◌≡◌, List, Err, subst, rules}
 use Rattle.matrix_models.specs.declared.model.Model.{Model}
 use Rattle.adjoint_rules.specs.declared.problem.Problem.{Problem}
-use Rattle.certificate_text.specs.Fault.{Fault}
+use Rattle.block_text.specs.Fault.{Fault}
 use Rattle.model_text.specs.Models.{IsModels, IsFirstFault}
 use Rattle.command_shape.specs.Ending.{Ending}
 use Rattle.command_shape.specs.Blocks.{Judges}

@@ -1,7 +1,7 @@
 use Rattle.std.proofs.Common.{◌≡◌, length}
 use Rattle.std.specs.List.{list_all}
-use Rattle.certificate_text.specs.Letters.{is_number}
-use Rattle.certificate_text.specs.Tokens.{tokens_of}
+use Rattle.block_text.specs.Letters.{is_number}
+use Rattle.block_text.specs.Tokens.{tokens_of}
 use Rattle.model_text.proofs.entry.are_numbers.Given as goal
 
 -- the tokens so far are numbers

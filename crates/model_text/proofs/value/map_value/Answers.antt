@@ -1,6 +1,6 @@
 use Rattle.std.proofs.Common.{◌<◌, ◌≤◌, ◌+◌, ◌*◌, ◌∙◌, arith, sym, ap, ap₂, subst, length}
 use Rattle.std.specs.List.{All}
-use Rattle.certificate_text.specs.Tokens.{tokens_of}
+use Rattle.block_text.specs.Tokens.{tokens_of}
 use Rattle.model_text.specs.Reading.{rows_behind}
 use Rattle.model_text.specs.Views.{line_in}
 use Rattle.model_text.proofs.Values.{row_values, rows_fit}

@@ -1,5 +1,5 @@
 use Rattle.std.proofs.Common.{◌∷◌}
-use Rattle.certificate_text.specs.Tokens.{tokens_of}
+use Rattle.block_text.specs.Tokens.{tokens_of}
 use Rattle.model_text.specs.Reading.{rows_behind}
 use Rattle.model_text.specs.Views.{line_in}
 use Rattle.model_text.proofs.Values.{values_are, rows_of_numbers}

@@ -1,7 +1,7 @@
 use Rattle.std.proofs.Common.{◌≡◌, true, length}
 use Rattle.std.specs.List.{list_all}
-use Rattle.certificate_text.specs.Letters.{is_number}
-use Rattle.certificate_text.specs.Tokens.{tokens_of}
+use Rattle.block_text.specs.Letters.{is_number}
+use Rattle.block_text.specs.Tokens.{tokens_of}
 use Rattle.model_text.specs.Reading.{after, values_below}
 use Rattle.model_text.proofs.value.with_row.Given as goal
 

@@ -1,5 +1,5 @@
 use Rattle.std.proofs.Common.{◌≡◌, ◌+◌, ◌∷◌, ℕ, List, Option, Some, None, Bor, length}
-use Rattle.certificate_text.specs.Tokens.{tokens_of}
+use Rattle.block_text.specs.Tokens.{tokens_of}
 use Rattle.model_text.specs.Reading.{rows_behind, values_in}
 use Rattle.model_text.specs.Views.{line_in}
 use Rattle.model_text.proofs.Values.{HaveNumbers}

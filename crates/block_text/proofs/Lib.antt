@@ -1,0 +1,29 @@
+pub mod Cuts
+pub mod Closing
+pub mod Numbers
+pub mod Fronts
+pub mod Joins
+pub mod Puts
+pub mod Results
+pub mod Zips
+pub mod LineTrees
+pub mod Meets
+pub mod NumberedLines
+pub mod Stars
+pub mod NameBytes
+pub mod TokensBack
+pub mod LinesBack
+pub mod NumbersBack
+pub mod LettersBack
+pub mod LetterNames
+pub mod TextsBack
+pub mod ContentBack
+pub mod NumberLines
+pub mod PolysBack
+pub mod Owed
+pub mod TextLines
+pub mod Standing
+mod FirstBounds
+mod ReadLines
+pub mod EachText
+pub mod PartsBack

@@ -1,0 +1,12 @@
+pub mod Fault
+pub mod Tokens
+pub mod Letters
+pub mod Lines
+pub mod Kind
+pub mod Blocks
+pub mod Texts
+pub mod Steps
+pub mod Sound
+pub mod Written
+pub mod Back
+pub mod Views

@@ -1,0 +1,43 @@
+//! What a kind of block has to offer to be read.
+
+ghost use Rattle.std.specs.Prelude.{◌≡◌, IfOk, IfSome};
+ghost use Rattle.block_text.specs.Blocks.{is_other_head};
+ghost use Rattle.block_text.specs.Fault.{Reads};
+ghost use Rattle.block_text.specs.Steps.{Steps};
+ghost use Rattle.block_text.specs.Tokens.{tokens_of};
+
+use crate::fault::LineFault;
+use std::alloc::{AllocError, Global};
+
+/// A kind of block, and what is made of its lines.
+pub trait BlockKind {
+    /// What is read of a block whose lines go on.
+    type Begun: Drop;
+    /// What a block says.
+    type Value: Drop;
+
+    ghost steps: { Self → Steps Self.Begun Self.Value };
+
+    // What holds of a block whose lines go on.
+    ghost is_sound: { Self → Self.Begun → Type 0 };
+
+    /// Whether a block of another kind begins.
+    fn is_other_head(&self, line: &[u8]) -> bool
+        ensures { result ≡ is_other_head (steps self.now).others (tokens_of line.now) };
+
+    /// The block that begins with the line, if one of the kind does.
+    fn begin(&self, alloc: Global, line: &[u8]) -> Option<Self::Begun>
+        ensures exact { result ≡ (steps self.now).begin (tokens_of line.now) }
+        ensures sound { IfSome result (is_sound self.now) };
+
+    /// The block with a line more, which is not `end`.
+    fn next(&self, alloc: Global, begun: Self::Begun, line: &[u8]) -> Result<Self::Begun, LineFault>
+        requires { is_sound self.now begun }
+        ensures exact { Reads (λ b. b) result ((steps self.now).next begun (tokens_of line.now)) }
+        ensures sound { IfOk result (is_sound self.now) };
+
+    /// What the block says that ends, if it may.
+    fn finish(&self, alloc: Global, begun: Self::Begun) -> Result<Option<Self::Value>, AllocError>
+        requires { is_sound self.now begun }
+        ensures { IfOk result (λ value. value ≡ (steps self.now).finish begun) };
+}

@@ -1,0 +1,21 @@
+//! What a reader of blocks has made of the lines before one.
+
+use lists::Listing;
+
+/// Where a line stands.
+#[derive(Drop)]
+pub enum Place<B> {
+    /// Outside of all blocks.
+    Outside,
+    /// In a block of another kind.
+    Skipped,
+    /// In a block of the kind.
+    Inside { begun: B },
+}
+
+/// The values that were read, and where the next line stands.
+#[derive(Drop)]
+pub struct Progress<B, V> {
+    pub values: Listing<V>,
+    pub place: Place<B>,
+}
