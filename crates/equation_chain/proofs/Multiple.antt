@@ -1,0 +1,60 @@
+-- The first line is within the limits, since the claim is.
+use Rattle.std.proofs.Common.{◌≡◌, ℕ, zero, suc, ◌≤◌, ℤ, pos, negsuc, ◌*ℤ◌, true, false, ◌||◌, List, [], ◌∷◌, length, None, Ok, Err, refl, sym, ap, subst, ◌∙◌, arith, ltb, ltb-true}
+use Rattle.std.specs.Prelude.{if◌then◌else◌, nat_lt}
+use Rattle.std.specs.List.{AllByRecursion}
+use Rattle.std.proofs.lemmas.Bool.{false_from_ne_true}
+use Rattle.std.proofs.lemmas.List.Elements.{recursion_from_All}
+use Rattle.coef_int.specs.Operations.{first_overflow}
+use Rattle.definitions.specs.Poly.{Term}
+use Rattle.nc_polynomial.specs.declared.fault.PolyFault.{PolyFault}
+use Rattle.nc_polynomial.specs.declared.fault.PolyFault.TheVariants as poly
+use Rattle.nc_polynomial.specs.Shape.{IsCanonical}
+use Rattle.nc_polynomial.specs.Terms.{keep, scaled, products}
+use Rattle.nc_polynomial.specs.Faults.{size_fault, has_long_word, sized, unless_overflow, Explains}
+use Rattle.nc_polynomial.specs.Arithmetic.{multiple_result}
+use Rattle.nc_polynomial.proofs.Chains.{no_error, finished-value}
+use Rattle.nc_polynomial.proofs.Shapes.{all-scaled}
+use Rattle.equation_chain.specs.declared.fault.ChainFault.{ChainFault}
+use Rattle.equation_chain.specs.Faults.{IsMemory}
+use Rattle.equation_chain.specs.Made.{Tells}
+
+length-keep : (z : ℤ) (w : List ℕ) (p : List Term) → length (keep z w p) ≤ suc (length p)
+length-keep (pos zero) w p = omega arith
+length-keep (pos (suc n)) w p = omega arith
+length-keep (negsuc n) w p = omega arith
+
+length-scaled : (k : ℤ) (p : List Term) → length (scaled k p) ≤ length p
+length-scaled k [] = omega arith
+length-scaled k (t ∷ p) =
+    let rest = length-scaled k p in
+    let more = length-keep (k *ℤ t.0) t.1 (scaled k p) in
+    omega (arith, rest, more)
+
+no_long : (p : List Term) → AllByRecursion (λ t. length t.1 ≤ 500) p → has_long_word p ≡ false
+no_long [] all = refl
+no_long (t ∷ p) all =
+    let short = all.0 in
+    let none : ltb 500 (length t.1) ≡ false = false_from_ne_true (ltb 500 (length t.1)) (λ is. let long = ltb-true 500 (length t.1) is in omega (arith, short, long)) in
+    ap (λ b. b || has_long_word p) none ∙ no_long p all.1
+
+fits : (k : ℤ) (p : List Term) → IsCanonical p → sized (scaled k p) ≡ Ok (scaled k p)
+fits k p canonical =
+    let q : List Term = scaled k p in
+    let short : AllByRecursion (λ t. length t.1 ≤ 500) q = all-scaled (λ w. length w ≤ 500) k p (recursion_from_All (λ (t : Term). length t.1 ≤ 500) p canonical.short) in
+    let few = canonical.few in
+    let fewer = length-scaled k p in
+    let none : ltb 20000 (length q) ≡ false = false_from_ne_true (ltb 20000 (length q)) (λ is. let many = ltb-true 20000 (length q) is in omega (arith, few, fewer, many)) in
+    ap (λ b. if b then Err (size_fault true) else (if nat_lt 20000 (length q) then Err (size_fault false) else Ok q)) (no_long q short)
+    ∙ ap (λ b. if b then Err (size_fault false) else Ok q) none
+
+multiple_is : (k : ℤ) (p : List Term) → IsCanonical p → first_overflow (products k p) ≡ None → multiple_result k p ≡ Ok (scaled k p)
+multiple_is k p canonical none = ap (λ o. unless_overflow o (sized (scaled k p))) none ∙ fits k p canonical
+
+-- only memory can fail
+pub multiple_fails : (k : ℤ) (p : List Term) → IsCanonical p → first_overflow (products k p) ≡ None → (number : ℕ) (e : PolyFault) (f : ChainFault) → Explains (multiple_result k p) e → Tells number e f → IsMemory f
+multiple_fails k p canonical none number (poly.Overflow o) f is tells = absurd (no_error (scaled k p) (poly.Overflow o) (sym (multiple_is k p canonical none) ∙ is))
+multiple_fails k p canonical none number (poly.Size s) f is tells = absurd (no_error (scaled k p) (poly.Size s) (sym (multiple_is k p canonical none) ∙ is))
+multiple_fails k p canonical none number (poly.Memory e) f is tells = subst IsMemory (sym tells) tt
+
+pub multiple_value : (k : ℤ) (p v : List Term) → multiple_result k p ≡ Ok v → v ≡ scaled k p
+multiple_value k p v is = sym (finished-value (products k p) (scaled k p) v is)

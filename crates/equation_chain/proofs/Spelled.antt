@@ -1,0 +1,108 @@
+-- Chains are written a letter, a step and a line at a time.
+use Rattle.std.proofs.Common.{◌≡◌, ◌<◌, ◌+◌, ◌==◌, ℕ, false, List, [], ◌∷◌, ◌++◌, arith, refl, sym, ap, ap₂, ◌∙◌, length, take, map, get_or, codes}
+use Rattle.std.proofs.lemmas.Bool.{ne_eqb}
+use Rattle.std.proofs.lemmas.List.{append_assoc, append-nil, take_more, map-append, length-map, length-take-le}
+use Rattle.std.proofs.lemmas.List.Elements.{recursion_from_All}
+use Rattle.std.proofs.lemmas.List.FromFn.{get_or-map-range_with_len, length-map-range_with_len, map-range_with_len_more}
+use Rattle.std.specs.Int.{is_negative}
+use Rattle.std.specs.Int.RustNames.{unsigned_abs}
+use Rattle.std.specs.Fmt.{signed_decimal}
+use Rattle.std.specs.Prelude.{if◌then◌else◌, decimal}
+use Rattle.std.specs.List.{All, AllByRecursion, flat_map, join_with_byte, range_with_len}
+use Rattle.definitions.specs.Poly.{Term, Poly}
+use Rattle.word_core.specs.Letters.{IsOver}
+use Rattle.quiver.specs.Declarations.{Declaration, letter_count}
+use Rattle.cofactor_trace.specs.declared.CertRow.{CertRow}
+use Rattle.certificate_text.specs.Evidence.{IsRowOver}
+use Rattle.certificate_text.specs.Written.{letter_text, gap_text, word_text, factor_text, later_text, poly_text}
+use Rattle.equation_chain.specs.Written.{line_text, use_text, steps_text, lines_text}
+use Rattle.equation_chain.specs.Spelled.{AreTexts, word_by, later_by, poly_by, line_by, use_by}
+
+-- ---- letter by letter
+
+-- a part more behind others
+join_behind : (x : List ℕ) (xs : List (List ℕ)) (y : List ℕ) → join_with_byte 32 ((x ∷ xs) ++ y ∷ []) ≡ join_with_byte 32 (x ∷ xs) ++ (32 ∷ []) ++ y
+join_behind x [] y = rw append_assoc refl
+join_behind x (z ∷ xs) y = rw (join_behind z xs y) (simp append_assoc refl)
+
+join_more : (xs : List (List ℕ)) (y : List ℕ) → join_with_byte 32 (xs ++ y ∷ []) ≡ join_with_byte 32 xs ++ gap_text (length xs) ++ y
+join_more [] y = refl
+join_more (x ∷ xs) y =
+    let some : (length (x ∷ xs) == 0) ≡ false = ne_eqb (length (x ∷ xs)) 0 (λ e. omega (arith, e)) in
+    rw some (join_behind x xs y)
+
+word_more : (texts : List (List ℕ)) (w : List ℕ) (place a : ℕ) → place < length w → a ≡ get_or w place 0
+    → word_by texts (take (place + 1) w) ≡ word_by texts (take place w) ++ gap_text place ++ get_or texts a []
+word_more texts w place a within read =
+    let split : take (place + 1) w ≡ take place w ++ get_or w place 0 ∷ [] = take_more w place 0 within in
+    let count : length (map (λ b. get_or texts b []) (take place w)) ≡ place = rw length-map (length-take-le place w (omega (arith, within))) in
+    rw (split, ← read, map-append, join_more, count) refl
+
+-- the blank and then the letter are put behind what is written
+pub letter_put : (texts : List (List ℕ)) (w : List ℕ) (place a : ℕ) (front before with_gap after : List ℕ)
+    → before ≡ front ++ word_by texts (take place w) → with_gap ≡ before ++ gap_text place → after ≡ with_gap ++ get_or texts a []
+    → place < length w → a ≡ get_or w place 0 → after ≡ front ++ word_by texts (take (place + 1) w)
+letter_put texts w place a front before with_gap after before_is gap_is after_is within read =
+    rw (after_is, gap_is, before_is, word_more texts w place a within read) (simp append_assoc refl)
+
+-- ---- the table is that of the quiver
+
+pub table_more : (ds : List Declaration) (n : ℕ) (texts more : List (List ℕ)) (text : List ℕ) → texts ≡ map (letter_text ds) (range_with_len 0 n) → text ≡ word_text ds (n ∷ []) → more ≡ texts ++ text ∷ []
+    → more ≡ map (letter_text ds) (range_with_len 0 (n + 1))
+table_more ds n texts more text is one more_is =
+    more_is ∙ ap₂ (λ (ts : List (List ℕ)) (t : List ℕ). ts ++ t ∷ []) is one ∙ sym (map-range_with_len_more (letter_text ds) 0 n n (omega arith))
+
+module _ (ds : List Declaration) (texts : List (List ℕ)) (are : AreTexts ds texts) where
+  pub texts_long : length texts ≡ letter_count ds
+  texts_long = ap length are ∙ length-map-range_with_len (letter_text ds) 0 (letter_count ds)
+
+  letter_is : (a : ℕ) → a < letter_count ds → get_or texts a [] ≡ letter_text ds a
+  letter_is a inside = ap (λ (ts : List (List ℕ)). get_or ts a []) are ∙ get_or-map-range_with_len (letter_text ds) 0 (letter_count ds) a a [] inside (omega arith)
+
+  letters_are : (w : List ℕ) → AllByRecursion (λ a. a < letter_count ds) w → map (λ a. get_or texts a []) w ≡ map (letter_text ds) w
+  letters_are [] all = refl
+  letters_are (a ∷ w) all = ap₂ (λ (t : List ℕ) (ts : List (List ℕ)). t ∷ ts) (letter_is a all.0) (letters_are w all.1)
+
+  word_is : (w : List ℕ) → IsOver (letter_count ds) w → word_by texts w ≡ word_text ds w
+  word_is w over = ap (join_with_byte 32) (letters_are w (recursion_from_All (λ a. a < letter_count ds) w over))
+
+  later_is : (t : Term) → IsOver (letter_count ds) t.1 → later_by texts t ≡ later_text ds t
+  later_is t over = ap (λ (w : List ℕ). (if is_negative t.0 then codes " - " else codes " + ") ++ (factor_text (unsigned_abs t.0) ++ w)) (word_is t.1 over)
+
+  terms_are : (terms : List Term) → AllByRecursion (λ t. IsOver (letter_count ds) t.1) terms → flat_map (later_by texts) terms ≡ flat_map (later_text ds) terms
+  terms_are [] all = refl
+  terms_are (t ∷ terms) all = ap₂ ◌++◌ (later_is t all.0) (terms_are terms all.1)
+
+  poly_is : (terms : List Term) → AllByRecursion (λ t. IsOver (letter_count ds) t.1) terms → poly_by texts terms ≡ poly_text ds terms
+  poly_is [] all = refl
+  poly_is (t ∷ terms) all =
+      ap₂ ◌++◌ (ap (λ (w : List ℕ). (if is_negative t.0 then codes "- " else []) ++ (factor_text (unsigned_abs t.0) ++ w)) (word_is t.1 all.0)) (terms_are terms all.1)
+
+  pub line_is_text : (line : List Term) → All (λ (t : Term). IsOver (letter_count ds) t.1) line → line_by texts line ≡ line_text ds line
+  line_is_text line all = ap (λ (p : List ℕ). codes "line " ++ (p ++ codes "\n")) (poly_is line (recursion_from_All (λ (t : Term). IsOver (letter_count ds) t.1) line all))
+
+  pub use_is_text : (step : CertRow) → IsRowOver ds step → use_by texts step ≡ use_text ds step
+  use_is_text step over =
+      ap₂ (λ (l r : List ℕ). codes "use " ++ signed_decimal step.coef ++ codes " (" ++ l ++ codes ") " ++ decimal step.generator ++ codes " (" ++ r ++ codes ")\n")
+      (word_is step.left over.left) (word_is step.right over.right)
+
+-- ---- step by step
+
+steps_more : (ds : List Declaration) (steps : List CertRow) (lines : List Poly) (step : CertRow) (line : Poly) → length steps ≡ length lines
+    → steps_text ds (steps ++ step ∷ []) (lines ++ line ∷ []) ≡ steps_text ds steps lines ++ (use_text ds step ++ line_text ds line)
+steps_more ds [] [] step line same = ap (λ (t : List ℕ). use_text ds step ++ t) (append-nil (line_text ds line))
+steps_more ds [] (l ∷ lines) step line same = absurd (omega (arith, same))
+steps_more ds (s ∷ steps) [] step line same = absurd (omega (arith, same))
+steps_more ds (s ∷ steps) (l ∷ lines) step line same =
+    let rest = steps_more ds steps lines step line (omega (arith, same)) in
+    ap (λ (t : List ℕ). use_text ds s ++ (line_text ds l ++ t)) rest
+    ∙ ap (λ (t : List ℕ). use_text ds s ++ t) (sym (append_assoc (line_text ds l) (steps_text ds steps lines) (use_text ds step ++ line_text ds line)))
+    ∙ sym (append_assoc (use_text ds s) (line_text ds l ++ steps_text ds steps lines) (use_text ds step ++ line_text ds line))
+
+-- a step more is written behind the others
+pub lines_text_more : (ds : List Declaration) (steps : List CertRow) (lines : List Poly) (step : CertRow) (line : Poly) → length lines ≡ length steps + 1
+    → lines_text ds (steps ++ step ∷ []) (lines ++ line ∷ []) ≡ lines_text ds steps lines ++ (use_text ds step ++ line_text ds line)
+lines_text_more ds steps [] step line long = absurd (omega (arith, long))
+lines_text_more ds steps (first ∷ lines) step line long =
+    ap (λ (t : List ℕ). line_text ds first ++ t) (steps_more ds steps lines step line (omega (arith, long)))
+    ∙ sym (append_assoc (line_text ds first) (steps_text ds steps lines) (use_text ds step ++ line_text ds line))

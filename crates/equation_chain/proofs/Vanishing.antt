@@ -1,0 +1,154 @@
+-- Each line has the claim's signature, and is zero wherever the generators are.
+use Rattle.std.proofs.Common.{◌≡◌, ◌≢◌, ℕ, zero, suc, ◌+◌, ℤ, pos, negsuc, ◌+ℤ◌, ◌*ℤ◌, Bool, true, false, List, [], ◌∷◌, ◌++◌, map, take, drop, length, sym, refl, ap, ap₂, ◌∙◌, arith, true≢false}
+use Rattle.std.specs.List.{AllByRecursion, range_with_len}
+use Rattle.std.proofs.lemmas.Bool.{false_from_ne_true}
+use Rattle.std.proofs.lemmas.Int.{ints}
+use Rattle.std.proofs.lemmas.List.{take-append-drop}
+use Rattle.std.proofs.Math.IntN.{*ℤ-zero, ℤ_discrete}
+use Rattle.definitions.specs.Category.{Structure, PreadditiveLaws}
+use Rattle.definitions.specs.Poly.{Term, word_eq, coefficient_of, poly_between}
+use Rattle.definitions.specs.Quiver.{Quiver, is_path, IsTyped}
+use Rattle.definitions.specs.Combination.{row_poly, row_sum, IsCombination}
+use Rattle.definitions.specs.Soundness.{MakesZero}
+use Rattle.definitions.proofs.Coefficients.{coefficient_of-append, coefficient_of-multiple}
+use Rattle.definitions.proofs.Linear.{word_eq-true}
+use Rattle.definitions.proofs.Projection.{coefficient_of-between_zero}
+use Rattle.definitions.proofs.Sound.{sound}
+use Rattle.quiver.specs.Declarations.{quiver_of}
+use Rattle.cofactor_trace.specs.declared.CertRow.{CertRow}
+use Rattle.cofactor_trace.specs.declared.Certificate.{Certificate}
+use Rattle.cofactor_trace.specs.Rows.{row_of, rows_of}
+use Rattle.adjoint_rules.specs.declared.problem.Problem.{Problem}
+use Rattle.adjoint_rules.specs.Problem.{polynomials}
+use Rattle.adjoint_rules.proofs.Generators.{posed_quiver, generators_have_signatures}
+use Rattle.equation_chain.specs.Steps.{claim_ends, generator_of, is_typed, is_step, counts, steps_of}
+use Rattle.equation_chain.specs.Lines.{claim_in, line_less}
+use Rattle.equation_chain.specs.Faults.{IsAccepted}
+use Rattle.equation_chain.specs.Laws.{LinesAreTyped, LinesVanish}
+use Rattle.equation_chain.proofs.Typed.{words_are_paths, all_kept}
+use Rattle.equation_chain.proofs.Sums.{claim_typed, steps_add_up}
+use Rattle.equation_chain.proofs.Lines.{less_at}
+use Rattle.std.proofs.lemmas.Bool.{and_parts}
+
+-- what holds at each place of a range
+pub all_in_range : {X : Type 0} (P : X → Type 0) (f : ℕ → X) → ((k : ℕ) → P (f k)) → (a n : ℕ) → AllByRecursion P (map f (range_with_len a n))
+all_in_range P f each a zero = tt
+all_in_range P f each a (suc n) = (each a, all_in_range P f each (a + 1) n)
+
+pub all_taken : {X : Type 0} (P : X → Type 0) (k : ℕ) (xs : List X) → AllByRecursion P xs → AllByRecursion P (take k xs)
+all_taken P zero xs all = tt
+all_taken P (suc k) [] all = tt
+all_taken P (suc k) (x ∷ xs) all = (all.0, all_taken P k xs all.1)
+
+module _ (problem : Problem) (c : Certificate) where
+  abbrev q : Quiver
+  q = quiver_of problem.parts.quiver
+
+  abbrev u : ℕ
+  u = (claim_ends problem c.claim).0
+
+  abbrev v : ℕ
+  v = (claim_ends problem c.claim).1
+
+  abbrev gs : List (List Term)
+  gs = polynomials problem.generators
+
+  -- ---- signatures
+
+  -- a word that is no path of the signature has no coefficient
+  abbrev Stays : List Term → Type 0
+  Stays p = (x : List ℕ) → is_path q u v x ≡ false → coefficient_of p x ≡ pos 0
+
+  stays_typed : (p : List Term) → Stays p → IsTyped q u v p
+  stays_typed p stays = record { at = λ w there. go w there (is_path q u v w) refl }
+    where
+      go : (w : List ℕ) → coefficient_of p w ≢ pos 0 → (b : Bool) → is_path q u v w ≡ b → is_path q u v w ≡ true
+      go w there true is = is
+      go w there false is = absurd (there (stays w is))
+
+  typed_stays : (p : List Term) → IsTyped q u v p → Stays p
+  typed_stays p typed x no_path = go (ℤ_discrete (coefficient_of p x) (pos 0))
+    where
+      go : Dec (coefficient_of p x ≡ pos 0) → coefficient_of p x ≡ pos 0
+      go (yes nothing) = nothing
+      go (no there) = absurd (true≢false (sym (typed.at x there) ∙ no_path))
+
+  row_stays : (row : CertRow) → is_typed problem c.claim row ≡ true → Stays (row_poly gs (row_of row))
+  row_stays row typed x no_path =
+      let g : List Term = generator_of problem row in
+      coefficient_of-multiple row.coef (poly_between row.left g row.right) x
+      ∙ ap (λ k. row.coef *ℤ k) (coefficient_of-between_zero row.left row.right x g (λ w there. false_from_ne_true (word_eq (row.left ++ (w ++ row.right)) x) (λ same.
+      true≢false (sym (words_are_paths q u v gs (row_of row) typed w there) ∙ ap (is_path q u v) (word_eq-true (row.left ++ (w ++ row.right)) x same) ∙ no_path))))
+      ∙ *ℤ-zero row.coef
+
+  sum_stays : (rows : List CertRow) → AllByRecursion (λ r. is_typed problem c.claim r ≡ true) rows → Stays (row_sum gs (rows_of rows))
+  sum_stays [] all x no_path = refl
+  sum_stays (r ∷ rows) all x no_path =
+      coefficient_of-append (row_poly gs (row_of r)) (row_sum gs (rows_of rows)) x ∙ ap₂ ◌+ℤ◌ (row_stays r all.0 x no_path) (sum_stays rows all.1 x no_path)
+
+  typed_steps : AllByRecursion (λ r. is_typed problem c.claim r ≡ true) (steps_of problem c)
+  typed_steps =
+      all_kept (λ r. is_typed problem c.claim r ≡ true) (is_step problem c.claim) (λ r is. (and_parts (counts gs (row_of r)) (is_typed problem c.claim r) is).1) c.rows
+
+  pub line_typed : (steps : List CertRow) → AllByRecursion (λ r. is_typed problem c.claim r ≡ true) steps → IsTyped q u v (line_less problem c steps)
+  line_typed steps all = stays_typed (line_less problem c steps) (λ x no_path.
+      less_at problem c steps x
+      ∙ ap₂ (λ a b. c.denominator *ℤ a +ℤ negsuc 0 *ℤ b) (typed_stays (claim_in problem c) (claim_typed problem c.claim) x no_path) (sum_stays steps all x no_path)
+      ∙ ap (λ k. k +ℤ pos 0) (*ℤ-zero c.denominator))
+
+  pub typed_line : (k : ℕ) → IsTyped q u v (line_less problem c (take k (steps_of problem c)))
+  typed_line k = line_typed (take k (steps_of problem c)) (all_taken (λ r. is_typed problem c.claim r ≡ true) k (steps_of problem c) typed_steps)
+
+  -- ---- values
+
+  -- a line is the sum of the steps that are left
+  rest_at : (front back : List CertRow) (w : List ℕ)
+      → coefficient_of (row_sum gs (rows_of (front ++ back))) w ≡ coefficient_of (row_sum gs (rows_of front)) w +ℤ coefficient_of (row_sum gs (rows_of back)) w
+  rest_at [] back w = alone (coefficient_of (row_sum gs (rows_of back)) w)
+    where
+      alone : (k : ℤ) → k ≡ pos 0 +ℤ k
+      alone k = omega (arith, ints)
+  rest_at (r ∷ front) back w =
+      coefficient_of-append (row_poly gs (row_of r)) (row_sum gs (rows_of (front ++ back))) w
+      ∙ ap (λ k. coefficient_of (row_poly gs (row_of r)) w +ℤ k) (rest_at front back w)
+      ∙ group (coefficient_of (row_poly gs (row_of r)) w) (coefficient_of (row_sum gs (rows_of front)) w) (coefficient_of (row_sum gs (rows_of back)) w)
+      ∙ ap (λ k. k +ℤ coefficient_of (row_sum gs (rows_of back)) w) (sym (coefficient_of-append (row_poly gs (row_of r)) (row_sum gs (rows_of front)) w))
+    where
+      group : (a b k : ℤ) → a +ℤ (b +ℤ k) ≡ (a +ℤ b) +ℤ k
+      group a b k = omega (arith, ints)
+
+  left_over : (a b k : ℤ) → b +ℤ k ≡ a → k ≡ pos 1 *ℤ (a +ℤ negsuc 0 *ℤ b)
+  left_over a b k is = omega (arith, ints, is)
+
+  line_combines : IsAccepted problem c → (k : ℕ) → IsCombination gs (rows_of (drop k (steps_of problem c))) (pos 1) (line_less problem c (take k (steps_of problem c)))
+  line_combines accepted k =
+      let steps : List CertRow = steps_of problem c in
+      let line : List Term = line_less problem c (take k steps) in
+      let whole = steps_add_up problem c accepted in
+      record {
+        positive = omega (arith, ints);
+        sum = record {
+          at = λ w.
+              left_over (c.denominator *ℤ coefficient_of (claim_in problem c) w) (coefficient_of (row_sum gs (rows_of (take k steps))) w) (coefficient_of (row_sum gs (rows_of (drop k steps))) w)
+              (sym (rest_at (take k steps) (drop k steps) w) ∙ ap (λ rows. coefficient_of (row_sum gs (rows_of rows)) w) (take-append-drop k steps) ∙ whole.sum.at w
+              ∙ coefficient_of-multiple c.denominator (claim_in problem c) w)
+              ∙ ap (λ n. pos 1 *ℤ n) (sym (less_at problem c (take k steps) w)) ∙ sym (coefficient_of-multiple (pos 1) line w);
+        };
+      }
+
+  pub line_vanishes : {Object Arrow : Type 0} {s : Structure Object Arrow} → PreadditiveLaws s → IsAccepted problem c → (k : ℕ) → MakesZero s q gs (pos 1) (line_less problem c (take k (steps_of problem c)))
+  line_vanishes laws accepted k =
+      (sound laws).certificate q gs (rows_of (drop k (steps_of problem c))) (pos 1) (line_less problem c (take k (steps_of problem c)))
+      (posed_quiver problem.parts problem.posed) (generators_have_signatures problem.parts problem.posed problem.generators problem.closed) (line_combines accepted k)
+
+-- ---- the laws
+
+pub lines_typed : LinesAreTyped
+lines_typed problem c accepted =
+    all_in_range (λ line. IsTyped (quiver_of problem.parts.quiver) (claim_ends problem c.claim).0 (claim_ends problem c.claim).1 line) (λ k. line_less problem c (take k (steps_of problem c)))
+    (typed_line problem c) 0 (length (steps_of problem c) + 1)
+
+pub lines_vanish : {Object Arrow : Type 0} {s : Structure Object Arrow} → PreadditiveLaws s → LinesVanish s
+lines_vanish {s} laws problem c accepted =
+    all_in_range (λ line. MakesZero s (quiver_of problem.parts.quiver) (polynomials problem.generators) (pos 1) line) (λ k. line_less problem c (take k (steps_of problem c)))
+    (line_vanishes problem c laws accepted) 0 (length (steps_of problem c) + 1)

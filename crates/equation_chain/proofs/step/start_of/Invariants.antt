@@ -1,0 +1,8 @@
+use Rattle.std.proofs.Common.{◌≡◌, ℕ, List, ◌++◌, drop}
+use Rattle.definitions.specs.Quiver.{leads}
+use Rattle.quiver.specs.Declarations.{quiver_of}
+use Rattle.equation_chain.proofs.step.start_of.Given as goal
+
+-- from the object on the letters that are left lead as all letters lead from the target
+abbrev pub invariant-loop-place : goal.invariant-loop-place
+invariant-loop-place l = (u : ℕ) (rest : List ℕ) → leads (quiver_of l.quiver) u l.fn.target.0 (l.word ++ rest) ≡ leads (quiver_of l.quiver) u l.object.0 (drop l.place l.word ++ rest)

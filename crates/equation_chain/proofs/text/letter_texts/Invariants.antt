@@ -1,0 +1,8 @@
+use Rattle.std.proofs.Common.{◌≡◌, map}
+use Rattle.std.specs.List.{range_with_len}
+use Rattle.certificate_text.specs.Written.{letter_text}
+use Rattle.equation_chain.proofs.text.letter_texts.Given as goal
+
+-- the texts of the letters so far
+abbrev pub invariant-loop-number : goal.invariant-loop-number
+invariant-loop-number l = l.texts ≡ map (letter_text l.quiver) (range_with_len 0 l.number)

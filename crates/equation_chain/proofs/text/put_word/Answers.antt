@@ -1,0 +1,12 @@
+use Rattle.std.proofs.Common.{rules, arith, ◌≡◌, ◌<◌, ◌++◌, [], get_or, length}
+use Rattle.certificate_text.specs.Written.{gap_text}
+use Rattle.equation_chain.proofs.Spelled.{letter_put}
+use Rattle.equation_chain.proofs.text.put_word.Goals as goal
+
+pub loop-place-preserved : goal.loop-place-preserved
+loop-place-preserved c =
+    let put : c.put_letter.new.out.items ≡ c.put_gap.new.out.items ++ get_or c.args.texts.now c.letter.result.0 [] = search rules in
+    let gap : c.put_gap.new.out.items ≡ c.loop-place.out.items ++ gap_text c.loop-place.place = search rules in
+    let within : c.loop-place.place < length c.args.word.now = omega (arith, c.loop-place-test.true, c.len-place-end.ensures.exact) in
+    letter_put c.args.texts.now c.args.word.now c.loop-place.place c.letter.result.0 c.args.out.now.items c.loop-place.out.items c.put_gap.new.out.items c.put_letter.new.out.items
+    c.loop-place.invariant gap put within c.letter.ensures

@@ -1,0 +1,9 @@
+pub mod Limits
+pub mod Steps
+pub mod Lines
+pub mod Chains
+pub mod Faults
+pub mod Written
+pub mod Spelled
+pub mod Made
+pub mod Laws

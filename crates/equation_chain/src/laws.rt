@@ -1,0 +1,45 @@
+//! What users ask of chains.
+ghost use Rattle.equation_chain.specs.Laws.{EachCertificateIsExplained, FirstFaultIsUnique, ExplainedHasNoFault};
+ghost use Rattle.equation_chain.specs.Laws.{StepsAreTyped, StepsAddUp, LinesAreAChain, LinesAreTyped, LinesVanish};
+
+use category_laws::Preadditive;
+
+/// Each certificate has a chain, or something is the first that is wrong with it.
+pub fn each_certificate_is_explained()
+    ensures { EachCertificateIsExplained }
+{}
+
+/// A certificate has one first fault at most, apart from want of memory.
+pub fn first_fault_is_unique()
+    ensures { FirstFaultIsUnique }
+{}
+
+/// A certificate that has a chain has no fault but want of memory.
+pub fn explained_has_no_fault()
+    ensures { ExplainedHasNoFault }
+{}
+
+/// All words of each step are paths of the claim's signature.
+pub fn steps_are_typed()
+    ensures { StepsAreTyped }
+{}
+
+/// The steps of an accepted certificate alone add up to its denominator times its claim.
+pub fn steps_add_up()
+    ensures { StepsAddUp }
+{}
+
+/// The lines of a chain lead from that multiple of the claim to zero, and neighbours differ by one step.
+pub fn lines_are_a_chain()
+    ensures { LinesAreAChain }
+{}
+
+/// Each line has the claim's signature.
+pub fn lines_are_typed()
+    ensures { LinesAreTyped }
+{}
+
+/// In the category that is handed in, each line is zero wherever the generators are.
+pub fn lines_vanish<C: Preadditive>(category: &C)
+    ensures { LinesVanish (C.structure category.now) }
+{}
