@@ -14,7 +14,7 @@ use Rattle.word_core.specs.Letters.{IsOver}
 use Rattle.quiver.specs.Declarations.{Declaration, letter_count}
 use Rattle.cofactor_trace.specs.declared.CertRow.{CertRow}
 use Rattle.certificate_text.specs.Evidence.{IsRowOver}
-use Rattle.certificate_text.specs.Written.{letter_text, gap_text, word_text, factor_text, later_text, poly_text}
+use Rattle.block_text.specs.Written.{letter_text, gap_text, word_text, factor_text, later_text, poly_text}
 use Rattle.equation_chain.specs.Written.{line_text, use_text, steps_text, lines_text}
 use Rattle.equation_chain.specs.Spelled.{AreTexts, word_by, later_by, poly_by, line_by, use_by}
 

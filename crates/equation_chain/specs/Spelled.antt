@@ -7,7 +7,7 @@ use Rattle.std.specs.List.{flat_map, join_with_byte, range_with_len}
 use Rattle.definitions.specs.Poly.{Poly, Term}
 use Rattle.quiver.specs.Declarations.{Declaration, letter_count}
 use Rattle.cofactor_trace.specs.declared.CertRow.{CertRow}
-use Rattle.certificate_text.specs.Written.{letter_text, factor_text}
+use Rattle.block_text.specs.Written.{letter_text, factor_text}
 
 -- the table has the text of each letter of the quiver
 abbrev pub AreTexts : List Declaration → List (List ℕ) → Type 0

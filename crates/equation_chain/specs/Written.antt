@@ -4,7 +4,8 @@ use Rattle.std.specs.Fmt.{signed_decimal}
 use Rattle.definitions.specs.Poly.{Poly}
 use Rattle.quiver.specs.Declarations.{Declaration}
 use Rattle.cofactor_trace.specs.declared.CertRow.{CertRow}
-use Rattle.certificate_text.specs.Written.{word_text, poly_text, opening_text}
+use Rattle.block_text.specs.Written.{word_text, poly_text}
+use Rattle.certificate_text.specs.Written.{opening_text}
 
 abbrev pub line_text : List Declaration → Poly → List ℕ
 line_text ds line = codes "line " ++ (poly_text ds line ++ codes "\n")

@@ -4,10 +4,11 @@ ghost use Rattle.std.specs.Prelude.{◌≡◌, ◌<◌, ◌++◌, [], length, ge
 ghost use Rattle.std.specs.Fmt.{signed_decimal};
 ghost use Rattle.std.specs.List.{All, flat_map};
 ghost use Rattle.word_core.specs.Letters.{IsOver};
-ghost use Rattle.certificate_text.specs.Written.{gap_text, opening_text};
+ghost use Rattle.block_text.specs.Written.{gap_text};
+ghost use Rattle.certificate_text.specs.Written.{opening_text};
 ghost use Rattle.equation_chain.specs.Spelled.{AreTexts, word_by, term_by, first_by, later_by, poly_by, line_by, use_by};
 
-use certificate_text::{put, put_integer, put_number, write_word};
+use block_text::{put, put_integer, put_number, write_word};
 use cofactor_trace::CertRow;
 use lists::Listing;
 use nc_polynomial::Poly;

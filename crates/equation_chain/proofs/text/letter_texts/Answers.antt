@@ -1,5 +1,5 @@
 use Rattle.std.proofs.Common.{◌≡◌, ◌++◌, [], ◌∷◌, List, ℕ, ap, ◌∙◌}
-use Rattle.certificate_text.specs.Written.{word_text}
+use Rattle.block_text.specs.Written.{word_text}
 use Rattle.equation_chain.proofs.Spelled.{table_more}
 use Rattle.equation_chain.proofs.text.letter_texts.Goals as goal
 

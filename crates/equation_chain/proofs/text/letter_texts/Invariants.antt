@@ -1,6 +1,6 @@
 use Rattle.std.proofs.Common.{◌≡◌, map}
 use Rattle.std.specs.List.{range_with_len}
-use Rattle.certificate_text.specs.Written.{letter_text}
+use Rattle.block_text.specs.Written.{letter_text}
 use Rattle.equation_chain.proofs.text.letter_texts.Given as goal
 
 -- the texts of the letters so far

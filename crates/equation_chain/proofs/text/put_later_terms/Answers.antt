@@ -1,5 +1,5 @@
 use Rattle.equation_chain.specs.Spelled.{later_by}
-use Rattle.certificate_text.proofs.Puts.{each_put}
+use Rattle.block_text.proofs.Puts.{each_put}
 use Rattle.equation_chain.proofs.text.put_later_terms.Goals as goal
 
 pub loop-term-preserved : goal.loop-term-preserved

@@ -1,5 +1,5 @@
 use Rattle.std.proofs.Common.{rules, arith, ◌≡◌, ◌<◌, ◌++◌, [], get_or, length}
-use Rattle.certificate_text.specs.Written.{gap_text}
+use Rattle.block_text.specs.Written.{gap_text}
 use Rattle.equation_chain.proofs.Spelled.{letter_put}
 use Rattle.equation_chain.proofs.text.put_word.Goals as goal
 
