@@ -60,13 +60,13 @@ pub fn is_pair(first: &str, second: &str, line: &[u8]) -> bool
     }
 }
 
-/// Whether the line is `end`.
+/// Whether the line is `end`. Of another line the first token alone is cut.
 pub fn is_end(line: &[u8]) -> bool
     ensures { result ≡ is_end (tokens_of line.now) }
 {
-    match one_token(line) {
-        Some(token) => is("end", token),
-        None => false,
+    match first_token(line) {
+        Some((token, rest)) if is("end", token) => first_token(rest).is_none(),
+        _ => false,
     }
 }
 

@@ -10,7 +10,7 @@ use Rattle.block_text.specs.declared.fault.Flaw.TheVariants.{BadLine}
 use Rattle.cofactor_trace.specs.declared.CertRow.{CertRow}
 use Rattle.block_text.specs.Fault.{◌>>=◌, asked}
 use Rattle.block_text.specs.Letters.{is_letter, is_number, is_integer}
-use Rattle.block_text.specs.Lines.{is, is_close}
+use Rattle.block_text.specs.Lines.{is_close}
 use Rattle.certificate_text.specs.Lines.{RowTokens, number_part, origin_part, row_parts, is_row, row_of, row_values, lemma_row_of, over_lemma}
 use Rattle.certificate_text.specs.Blocks.{origin_tokens, row_line, IsPlainRow}
 use Rattle.block_text.proofs.Closing.{closed_behind}

@@ -1,5 +1,5 @@
 -- What a reader makes of the lines of a certificate. Only the reader's functions and proofs use it: what an evidence text is, Evidence says.
-use Rattle.std.specs.Prelude.{⊤, ℕ, ◌+◌, List, [], ◌∷◌, ◌++◌, length, ℤ, Option, Some, None, Result, Ok, if◌then◌else◌, codes}
+use Rattle.std.specs.Prelude.{⊤, ℕ, List, [], ◌∷◌, ◌++◌, length, ℤ, Option, Some, None, Result, Ok, if◌then◌else◌, codes}
 use Rattle.quiver.specs.Declarations.{Declaration}
 use Rattle.cofactor_trace.specs.declared.CertRow.{CertRow}
 use Rattle.cofactor_trace.specs.declared.Certificate.{Certificate}

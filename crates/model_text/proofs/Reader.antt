@@ -7,7 +7,7 @@ use Rattle.block_text.specs.declared.fault.Flaw.{Flaw}
 use Rattle.block_text.specs.declared.fault.Flaw.TheVariants.{BadLine, TooMany}
 use Rattle.block_text.specs.Fault.{limit_of, asked}
 use Rattle.block_text.specs.Tokens.{begins_comment}
-use Rattle.block_text.specs.Lines.{Line, block_limit, is, is_end, claim_of}
+use Rattle.block_text.specs.Lines.{Line, block_limit, is_end, claim_of}
 use Rattle.block_text.specs.Blocks.{is_other_head}
 use Rattle.block_text.proofs.LineTrees.{pair_is}
 use Rattle.block_text.proofs.Owed.{Begins, IsWhole, IsStopped, IsReader}
