@@ -63,7 +63,6 @@ fn report(tree: &Tree, seed: u64) -> (String, u8) {
 // ---- Draws
 
 /// The words of a stream of PCG32 (XSH RR over 64 bits).
-#[derive(Clone)]
 struct Stream {
     state: u64,
     increment: u64,
@@ -137,6 +136,7 @@ struct Block {
     /// Of each unknown, the factors of those before it and behind them a constant, where some equation fixes it.
     pivots: Vec<Vec<u32>>,
     has_pivot: Vec<bool>,
+    values: Vec<u32>,
 }
 
 /// The candidates of a shape, one after another.
@@ -155,6 +155,10 @@ struct Search<'a> {
     /// The cells that show each entry.
     shown: Vec<Vec<usize>>,
     values: Vec<u32>,
+    /// The words that a candidate is drawn by, one for each entry.
+    words: Vec<u32>,
+    /// The entries that are looked at and stand in no block.
+    drawn: Vec<usize>,
     /// The assumptions that hold drawn maps alone, or all of them where all values are tried.
     tests: Vec<Value>,
     blocks: Vec<Block>,
@@ -167,7 +171,8 @@ impl<'a> Search<'a> {
         let modulus = u64::from(shape.modulus);
         let mut search = Search {
             tree, shape, modulus, first, entries: 0, is_exhaustive: false, count: DRAWN_COUNT, matrices, cells: Vec::new(),
-            shown: Vec::new(), values: Vec::new(), tests: Vec::new(), blocks: Vec::new(), claims: Vec::new(),
+            shown: Vec::new(), values: Vec::new(), words: Vec::new(), drawn: Vec::new(), tests: Vec::new(), blocks: Vec::new(),
+            claims: Vec::new(),
         };
         search.number_entries();
         search.place_matrices();
@@ -209,6 +214,7 @@ impl<'a> Search<'a> {
             (self.is_exhaustive, self.count) = (true, count);
         }
         self.values = vec![0; self.entries];
+        self.words = vec![0; self.entries];
         self.shown = vec![Vec::new(); self.entries];
     }
 
@@ -303,6 +309,9 @@ impl<'a> Search<'a> {
             let equations: Vec<&Polynomial> = linear.iter().filter(of_block).copied().collect();
             self.blocks.push(self.block(&maps, &equations));
         }
+        let mut is_solved = vec![false; self.entries];
+        self.blocks.iter().flat_map(|block| &block.unknowns).for_each(|entry| is_solved[*entry] = true);
+        self.drawn = (0..self.entries).filter(|entry| !is_solved[*entry] && !self.shown[*entry].is_empty()).collect();
         let drawn = linear.iter().filter(|polynomial| self.solved_maps(polynomial).is_empty());
         self.tests = drawn.map(|polynomial| self.value(polynomial)).collect();
         for polynomial in others {
@@ -336,7 +345,7 @@ impl<'a> Search<'a> {
         let equations = assumptions.iter().map(|polynomial| self.equation(polynomial, &place_of)).collect();
         let (count, has_pivot) = (unknowns.len(), vec![false; unknowns.len()]);
         let pivots = vec![vec![0; count + 1]; count];
-        Block { unknowns, equations, tests: Vec::new(), is_fixed, is_eliminated: false, pivots, has_pivot }
+        Block { unknowns, equations, tests: Vec::new(), is_fixed, is_eliminated: false, pivots, has_pivot, values: Vec::new() }
     }
 
     fn equation(&self, polynomial: &Polynomial, place_of: &[usize]) -> Equation {
@@ -371,7 +380,6 @@ impl<'a> Search<'a> {
         let mut system = Vec::new();
         let mut blocks = std::mem::take(&mut self.blocks);
         for candidate in 0..self.count {
-            let start = stream.clone();
             let is_model = if self.is_exhaustive {
                 self.count_up(candidate);
                 self.pass(&self.tests)
@@ -385,7 +393,7 @@ impl<'a> Search<'a> {
             let broken = |(claim, found): &(&Value, &mut Option<String>)| found.is_none() && !self.is_zero(claim);
             let broken: Vec<_> = self.claims.iter().zip(found.iter_mut()).filter(broken).map(|(_, found)| found).collect();
             if !broken.is_empty() {
-                let text = self.model(start);
+                let text = self.model();
                 broken.into_iter().for_each(|found| *found = Some(text.clone()));
                 if found.iter().all(|found| found.is_some()) {
                     return;
@@ -405,13 +413,12 @@ impl<'a> Search<'a> {
         }
     }
 
-    /// Draws all entries, and reads those that matter.
+    /// Draws all entries, and reads those that matter at once.
     fn draw(&mut self, stream: &mut Stream) {
-        for entry in 0..self.entries {
-            let word = stream.next();
-            if !self.shown[entry].is_empty() {
-                self.set(entry, word % self.shape.modulus);
-            }
+        self.words.iter_mut().for_each(|word| *word = stream.next());
+        for place in 0..self.drawn.len() {
+            let entry = self.drawn[place];
+            self.set(entry, self.words[entry] % self.shape.modulus);
         }
     }
 
@@ -470,15 +477,17 @@ impl<'a> Search<'a> {
             }
             block.is_eliminated = block.is_fixed;
         }
-        let mut values: Vec<u32> = Vec::with_capacity(size);
+        block.values.clear();
         for (place, entry) in block.unknowns.iter().enumerate() {
+            let mut value = self.words[*entry] % self.shape.modulus;
             if block.has_pivot[place] {
                 let pivot = &block.pivots[place];
-                let sum: u64 = pivot.iter().zip(&values).map(|(factor, value)| u64::from(*factor) * u64::from(*value)).sum();
-                let rest = (sum + u64::from(pivot[size - 1])) % self.modulus;
-                self.set(*entry, ((self.modulus - rest) % self.modulus) as u32);
+                let products = pivot.iter().zip(&block.values).map(|(factor, value)| u64::from(*factor) * u64::from(*value));
+                let rest = (products.sum::<u64>() + u64::from(pivot[size - 1])) % self.modulus;
+                value = ((self.modulus - rest) % self.modulus) as u32;
             }
-            values.push(self.values[*entry]);
+            block.values.push(value);
+            self.set(*entry, value);
         }
         self.pass(&block.tests)
     }
@@ -512,15 +521,10 @@ impl<'a> Search<'a> {
 
     // ---- Models
 
-    /// The text of a model, behind its claim. Entries that nothing looked at are drawn again.
-    fn model(&mut self, mut stream: Stream) -> String {
-        if !self.is_exhaustive {
-            for entry in 0..self.entries {
-                let word = stream.next();
-                if self.shown[entry].is_empty() {
-                    self.values[entry] = word % self.shape.modulus;
-                }
-            }
+    /// The text of a model, behind its claim. Entries that nothing looked at are read from their words.
+    fn model(&mut self) -> String {
+        for entry in (0..self.entries).filter(|entry| !self.is_exhaustive && self.shown[*entry].is_empty()) {
+            self.values[entry] = self.words[entry] % self.shape.modulus;
         }
         let mut text = format!("modulus {}\n", self.modulus);
         for (name, side) in self.tree.names.iter().zip(&self.shape.sides) {
