@@ -72,5 +72,5 @@ def told(usage: Usage) -> str:
 
 
 def quotient(own: Usage, other: Usage) -> float:
-    """Of the times, and 0 where there is none; times are counted by the clock of the machine, some milliseconds at least."""
-    return 0.0 if NO_MEMORY in (own.status, other.status) else own.seconds / max(other.seconds, 0.001)
+    """Of the times, and 0 where there is none."""
+    return 0.0 if NO_MEMORY in (own.status, other.status) or not other.seconds else own.seconds / other.seconds
