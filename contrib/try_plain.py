@@ -185,6 +185,41 @@ RUN: List[Tuple[Callable[..., str], Tuple[int, ...]]] = [
 ]  # fmt: skip
 
 
+ONE = "object U\nmap a : U -> U\n"
+TWO = "object V\nmap a b : V -> V\n"
+PAIR = "object U V\nmap a : U -> V\nmap x : V -> U\n"
+GREATEST = 2**127 - 1
+POWER = f"{ONE}assume {'a ' * 34}= 0\nclaim a = 0\n"
+
+# Statements with words of the run, and the head lines: worked out by hand.
+HEADS: List[Tuple[str, str, List[str]]] = [
+    (f"{ONE}claim a = a\n", "", ["proved denominator 1 rows 0"]),
+    (f"{ONE}assume 2 a = 0\nclaim a = 0\nclaim a a = 0\n", "--format 1", ["proved denominator 2 rows 1"] * 2),
+    (f"{ONE}assume 2 a = 0\nclaim a = 0\n", "", ["proved denominator 2 rows 2"]),
+    (f"{PAIR}pinv a x\nclaim a' x' a' = a'\n", "", ["proved denominator 1 rows 4"]),
+    (f"{PAIR}pinv a x\nclaim a' x' a' = a'\n", "--format 1", ["proved denominator 1 rows 1"]),
+    (f"{TWO}order weight b 3\nassume a a = b\nclaim b b = a a a a\n", "--format 1", ["proved denominator 1 rows 2"]),
+    (f"{PAIR}assume a x = [V]\nclaim x a = [U]\n", "", ["not derivable rules 7"]),
+    (POWER, "--pairs 33", ["not derivable rules 1"]),
+    (POWER, "--pairs 32", [f"undecided pairs 32 least {' '.join('a' * 67)}"]),
+    (f"{TWO}assume b a b = a b a\nclaim a = b\nclaim b a b = a b a\n", "--pairs 1", ["undecided pairs 1 least b a a b a b", "proved denominator 1 rows 1"]),
+    (f"{TWO}assume {GREATEST} a = b\nclaim b b = 0\n", "", [f"undecided overflow {GREATEST} times -{GREATEST} at claim after round 0"]),
+    (f"{ONE}assume a a = a\nclaim a a a = a\n", "--steps 1", ["undecided steps 1 at claim after round 0"]),
+    (f"{ONE}assume a a = a\nassume a a a a = a\nclaim a = 0\n", "--steps 1", ["undecided steps 1 at round 0"]),
+    (f"{ONE}assume {'a ' * 300}= 0\nclaim a = 0\n", "", [f"undecided size letters 500 at round 7 least {' '.join('a' * 493)}"]),
+]  # fmt: skip
+
+
+def by_hand(folder: Path) -> str:
+    """The table of head lines."""
+    plain, statement = build("plain_run", folder), folder / "statement.op"
+    for text, words, want in HEADS:
+        statement.write_text(text, encoding="utf-8")
+        answer = run(plain, write_tree(statement, folder), *words.split())
+        need(heads(answer.out) == [f"# claim {number} {said}" for number, said in enumerate(want, 1)], (text, words, want, answer))
+    return f"{len(HEADS)} runs of plain_run.rs have the head lines that were worked out by hand"
+
+
 def heads(text: str) -> List[str]:
     return [line for line in text.split("\n") if line.startswith("# claim ")]
 
@@ -224,13 +259,13 @@ def words(folder: Path) -> str:
     return f"{len(cases) + 1} faulty calls of presentations.py and tree.py are told"
 
 
-CHECKS: List[Callable[[Path], str]] = [words, runs, searches]
+CHECKS: List[Callable[[Path], str]] = [words, by_hand, runs, searches]
 
 
 def main(arguments: List[str]) -> int:
     count = int(arguments[0]) if len(arguments) == 1 and arguments[0].isdecimal() else COUNT
     with tempfile.TemporaryDirectory() as name:
-        for check in (words, lambda folder: runs(folder, count), lambda folder: searches(folder, count)):
+        for check in (words, by_hand, lambda folder: runs(folder, count), lambda folder: searches(folder, count)):
             try:
                 print(f"contrib: {check(Path(name))}", flush=True)
             except (Failed, Skipped) as what:
