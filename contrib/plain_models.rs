@@ -144,6 +144,8 @@ struct Search<'a> {
     tree: &'a Tree,
     shape: &'a Shape,
     modulus: u64,
+    /// Whether each letter is a map that is solved for, or the adjoint of one.
+    solved: Vec<bool>,
     /// The first entry of each declared map, and how many entries there are.
     first: Vec<usize>,
     entries: usize,
@@ -169,9 +171,27 @@ impl<'a> Search<'a> {
     fn new(tree: &'a Tree, shape: &'a Shape) -> Search<'a> {
         let (matrices, first) = (vec![None; tree.names.len()], vec![0; tree.names.len()]);
         let modulus = u64::from(shape.modulus);
+        let mut solved = vec![false; tree.names.len()];
+        for letter in &tree.solved {
+            (solved[*letter as usize], solved[tree.stars[*letter as usize] as usize]) = (true, true);
+        }
         let mut search = Search {
-            tree, shape, modulus, first, entries: 0, is_exhaustive: false, count: DRAWN_COUNT, matrices, cells: Vec::new(),
-            shown: Vec::new(), values: Vec::new(), words: Vec::new(), drawn: Vec::new(), tests: Vec::new(), blocks: Vec::new(),
+            tree,
+            shape,
+            modulus,
+            solved,
+            first,
+            entries: 0,
+            is_exhaustive: false,
+            count: DRAWN_COUNT,
+            matrices,
+            cells: Vec::new(),
+            shown: Vec::new(),
+            values: Vec::new(),
+            words: Vec::new(),
+            drawn: Vec::new(),
+            tests: Vec::new(),
+            blocks: Vec::new(),
             claims: Vec::new(),
         };
         search.number_entries();
@@ -195,7 +215,9 @@ impl<'a> Search<'a> {
 
     fn declared_maps(&self) -> impl Iterator<Item = Letter> {
         let stars = self.tree.stars.clone();
-        (self.objects()..stars.len()).map(|letter| letter as Letter).filter(move |letter| *letter <= stars[*letter as usize])
+        (self.objects()..stars.len())
+            .map(|letter| letter as Letter)
+            .filter(move |letter| *letter <= stars[*letter as usize])
     }
 
     /// The rows and the columns of a letter's matrix.
@@ -210,7 +232,9 @@ impl<'a> Search<'a> {
             self.first[letter as usize] = self.entries;
             self.entries += if self.star(letter) == letter { rows * (rows + 1) / 2 } else { rows * columns };
         }
-        if let Some(count) = self.shape.modulus.checked_pow(self.entries as u32).filter(|count| *count <= EXHAUSTIVE_LIMIT) {
+        if let Some(count) =
+            self.shape.modulus.checked_pow(self.entries as u32).filter(|count| *count <= EXHAUSTIVE_LIMIT)
+        {
             (self.is_exhaustive, self.count) = (true, count);
         }
         self.values = vec![0; self.entries];
@@ -267,15 +291,16 @@ impl<'a> Search<'a> {
 
     fn value(&self, polynomial: &Polynomial) -> Value {
         let (rows, columns) = self.value_sides(polynomial);
-        let term = |(coefficient, word): &(i128, plain_tree::Word)| {
-            Term { coefficient: self.reduced(*coefficient), word: self.matrices_of(word) }
+        let term = |(coefficient, word): &(i128, plain_tree::Word)| Term {
+            coefficient: self.reduced(*coefficient),
+            word: self.matrices_of(word),
         };
         let terms = polynomial.iter().map(term).filter(|term| term.coefficient != 0).collect();
         Value { rows, columns, terms }
     }
 
     fn is_solved(&self, letter: Letter) -> bool {
-        self.tree.solved.contains(&letter) || self.tree.solved.contains(&self.star(letter))
+        self.solved[letter as usize]
     }
 
     /// The maps of a polynomial that are solved for, in the terms that aren't zero.
@@ -293,7 +318,8 @@ impl<'a> Search<'a> {
     fn plan(&mut self) {
         let mut block_of: Vec<usize> = (0..self.tree.names.len()).collect();
         let mut is_bound = vec![false; self.tree.names.len()];
-        let (linear, others): (Vec<_>, Vec<_>) = self.tree.assumptions.iter().partition(|poly| self.is_linear(poly));
+        let (linear, others): (Vec<_>, Vec<_>) =
+            self.tree.assumptions.iter().partition(|poly| self.is_linear(poly));
         for maps in linear.iter().map(|polynomial| self.solved_maps(polynomial)).filter(|maps| !maps.is_empty()) {
             let (least, blocks) = self.joined(&block_of, &maps);
             block_of.iter_mut().filter(|block| blocks.contains(block)).for_each(|block| *block = least);
@@ -304,19 +330,23 @@ impl<'a> Search<'a> {
         numbers.sort_unstable();
         numbers.dedup();
         for number in &numbers {
-            let maps: Vec<Letter> = bound.iter().copied().filter(|map| block_of[*map as usize] == *number).collect();
-            let of_block = |poly: &&&Polynomial| self.solved_maps(poly).first().is_some_and(|map| maps.contains(map));
+            let maps: Vec<Letter> =
+                bound.iter().copied().filter(|map| block_of[*map as usize] == *number).collect();
+            let of_block =
+                |poly: &&&Polynomial| self.solved_maps(poly).first().is_some_and(|map| maps.contains(map));
             let equations: Vec<&Polynomial> = linear.iter().filter(of_block).copied().collect();
             self.blocks.push(self.block(&maps, &equations));
         }
         let mut is_solved = vec![false; self.entries];
         self.blocks.iter().flat_map(|block| &block.unknowns).for_each(|entry| is_solved[*entry] = true);
-        self.drawn = (0..self.entries).filter(|entry| !is_solved[*entry] && !self.shown[*entry].is_empty()).collect();
+        self.drawn =
+            (0..self.entries).filter(|entry| !is_solved[*entry] && !self.shown[*entry].is_empty()).collect();
         let drawn = linear.iter().filter(|polynomial| self.solved_maps(polynomial).is_empty());
         self.tests = drawn.map(|polynomial| self.value(polynomial)).collect();
         for polynomial in others {
             let maps = self.solved_maps(polynomial).into_iter().filter(|map| is_bound[*map as usize]);
-            let last = maps.filter_map(|map| numbers.iter().position(|number| *number == block_of[map as usize])).max();
+            let last =
+                maps.filter_map(|map| numbers.iter().position(|number| *number == block_of[map as usize])).max();
             let value = self.value(polynomial);
             last.map_or(&mut self.tests, |block| &mut self.blocks[block].tests).push(value);
         }
@@ -345,7 +375,16 @@ impl<'a> Search<'a> {
         let equations = assumptions.iter().map(|polynomial| self.equation(polynomial, &place_of)).collect();
         let (count, has_pivot) = (unknowns.len(), vec![false; unknowns.len()]);
         let pivots = vec![vec![0; count + 1]; count];
-        Block { unknowns, equations, tests: Vec::new(), is_fixed, is_eliminated: false, pivots, has_pivot, values: Vec::new() }
+        Block {
+            unknowns,
+            equations,
+            tests: Vec::new(),
+            is_fixed,
+            is_eliminated: false,
+            pivots,
+            has_pivot,
+            values: Vec::new(),
+        }
     }
 
     fn equation(&self, polynomial: &Polynomial, place_of: &[usize]) -> Equation {
@@ -357,7 +396,8 @@ impl<'a> Search<'a> {
         let factors = factors.filter_map(|(coefficient, word)| {
             let cut = word.iter().position(|letter| self.is_solved(*letter))?;
             let (rows, columns) = self.sides(word[cut]);
-            let entries = (0..rows).flat_map(|row| (0..columns).map(move |column| self.entry(word[cut], row, column)));
+            let entries =
+                (0..rows).flat_map(|row| (0..columns).map(move |column| self.entry(word[cut], row, column)));
             let (left, right) = (self.matrices_of(&word[..cut]), self.matrices_of(&word[cut + 1..]));
             let places = entries.map(|entry| place_of[entry]).collect();
             Some(Factor { coefficient: self.reduced(*coefficient), left, rows, columns, places, right })
@@ -391,7 +431,8 @@ impl<'a> Search<'a> {
                 continue;
             }
             let broken = |(claim, found): &(&Value, &mut Option<String>)| found.is_none() && !self.is_zero(claim);
-            let broken: Vec<_> = self.claims.iter().zip(found.iter_mut()).filter(broken).map(|(_, found)| found).collect();
+            let broken: Vec<_> =
+                self.claims.iter().zip(found.iter_mut()).filter(broken).map(|(_, found)| found).collect();
             if !broken.is_empty() {
                 let text = self.model();
                 broken.into_iter().for_each(|found| *found = Some(text.clone()));
@@ -461,7 +502,8 @@ impl<'a> Search<'a> {
     }
 
     fn is_zero(&self, value: &Value) -> bool {
-        (0..value.rows).all(|row| self.value_row(value, row)[..value.columns].iter().all(|number| number % self.modulus == 0))
+        (0..value.rows)
+            .all(|row| self.value_row(value, row)[..value.columns].iter().all(|number| number % self.modulus == 0))
     }
 
     /// Solves for the maps of a block, and tests the assumptions behind it.
@@ -482,7 +524,8 @@ impl<'a> Search<'a> {
             let mut value = self.words[*entry] % self.shape.modulus;
             if block.has_pivot[place] {
                 let pivot = &block.pivots[place];
-                let products = pivot.iter().zip(&block.values).map(|(factor, value)| u64::from(*factor) * u64::from(*value));
+                let products =
+                    pivot.iter().zip(&block.values).map(|(factor, value)| u64::from(*factor) * u64::from(*value));
                 let rest = (products.sum::<u64>() + u64::from(pivot[size - 1])) % self.modulus;
                 value = ((self.modulus - rest) % self.modulus) as u32;
             }

@@ -70,7 +70,9 @@ fn report(tree: &Tree, budget: &Budget) -> String {
     let (rules, treated, pending) = (run.rules.list.len(), run.treated, run.pending.len());
     text += &format!("rules {rules} pairs {treated} rounds {} pending {pending}\n", run.rounds);
     let [first, second, ambiguities, claims] = run.seconds;
-    text + &format!("seconds first {first:.3} second {second:.3} ambiguities {ambiguities:.3} claims {claims:.3}\n")
+    text + &format!(
+        "seconds first {first:.3} second {second:.3} ambiguities {ambiguities:.3} claims {claims:.3}\n"
+    )
 }
 
 // ---- Coefficients and faults
@@ -278,8 +280,10 @@ impl Rules {
 
     /// A polynomial of the tree, in the order of the run.
     fn ordered(&self, polynomial: &Polynomial) -> Poly {
-        let term = |(coefficient, word): &(i128, Word)| {
-            Term { measure: self.measure(word), word: word.clone(), coefficient: *coefficient }
+        let term = |(coefficient, word): &(i128, Word)| Term {
+            measure: self.measure(word),
+            word: word.clone(),
+            coefficient: *coefficient,
         };
         let mut poly: Poly = polynomial.iter().map(term).collect();
         poly.sort_by(|left, right| compare(right, left));
@@ -328,7 +332,12 @@ impl Rules {
             let may_be_long = has_long_word(&taken);
             left = sum(left, taken.into_iter())?.into_iter();
             check_size(may_be_long && has_long_word(left.as_slice()), rest.len() + left.len())?;
-            rows.push(Row { coefficient: share, left: front.into(), origin: Origin::Rule(number), right: behind.into() });
+            rows.push(Row {
+                coefficient: share,
+                left: front.into(),
+                origin: Origin::Rule(number),
+                right: behind.into(),
+            });
         }
         Ok(Reduced { multiplier, rest, rows })
     }
@@ -461,8 +470,11 @@ impl Rules {
         let right = self.multiple(by_second, front, &two.poly, behind_second)?.into_iter();
         let poly = sum(left, right)?;
         check_size(false, poly.len())?;
-        let row = |coefficient, left: &[Letter], number, right: &[Letter]| {
-            Row { coefficient, left: left.into(), origin: Origin::Rule(number), right: right.into() }
+        let row = |coefficient, left: &[Letter], number, right: &[Letter]| Row {
+            coefficient,
+            left: left.into(),
+            origin: Origin::Rule(number),
+            right: right.into(),
         };
         Ok((poly, vec![row(by, &[], waiting.first, behind), row(by_second, front, waiting.second, behind_second)]))
     }
@@ -530,11 +542,14 @@ impl<'a> Run<'a> {
 
     fn round(&mut self) -> Step {
         let known = self.rules.list.len();
-        let least = self.pending.first().map_or(String::new(), |waiting| format!(" least {}", self.text(&waiting.word)));
+        let least =
+            self.pending.first().map_or(String::new(), |waiting| format!(" least {}", self.text(&waiting.word)));
         let taken = match self.rounds {
             0 => Vec::new(),
             _ if self.pending.is_empty() => return Step::Closed,
-            _ if self.treated >= self.budget.pairs => return Step::Stopped(format!("pairs {}{least}", self.treated)),
+            _ if self.treated >= self.budget.pairs => {
+                return Step::Stopped(format!("pairs {}{least}", self.treated))
+            }
             _ => self.take(),
         };
         let done = if self.rounds == 0 { self.take_generators() } else { self.treat(&taken) };
@@ -573,7 +588,8 @@ impl<'a> Run<'a> {
         for place in (others..count).chain(0..others) {
             let reduced = self.rules.reduce(self.rules.ordered(&self.tree.generators[place]))?;
             let origin = Origin::Generator(place as u32 + 1);
-            let row = Row { coefficient: reduced.multiplier, left: Word::default(), origin, right: Word::default() };
+            let row =
+                Row { coefficient: reduced.multiplier, left: Word::default(), origin, right: Word::default() };
             self.rules.add(reduced.rest, less_rows(vec![row], 1, reduced.rows)?);
         }
         Ok(())
