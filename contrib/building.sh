@@ -33,7 +33,7 @@ sources() {
 
 # The crates that the program stands on and the program, first those with the longest chain of lines above them, so each before
 # those that stand on it; behind each the seconds that it takes by itself, and the crates that it stands on. The seconds are those of
-# the table in docs/ARCHITECTURE.md, on whose figures the lines of code were fitted; the program's go into compiling and linking.
+# the table in docs/MEASUREMENTS.md, on whose figures the lines of code were fitted; the program's go into compiling and linking.
 closure() {
   (cd "$top" && awk '
     FNR == 1 { split(FILENAME, parts, "/") }

@@ -1,36 +1,37 @@
 #!/usr/bin/env python3
-"""Measures opprove beside a plain program: measure.py [WORD]
+"""Measures opprove beside plain programs: measure.py [WORD | prove [PAIRS | NAME] .. | workers [COUNT] | refute [NAME]]
 
 Makes statements and certificates that are small and cost much, or are as large as may be, runs `opprove check` and
 contrib/plain.rs on each, and prints a table in Markdown: processor time and peak memory of both, the least of three
-runs or of those that begin within ten seconds, and the quotient of the times. A second table has runs of other commands,
-some beside a run on another statement, whose report has to be the same. With a word it makes the rows alone whose name
-begins with it: `powers`, `order` and `maps` are those of language 2. It wants rustc and the program that is built, or
-another one that the variable OPPROVE names. A run may take 8 GB of memory. Memory is seen from that of this script upwards.
+runs or of those that begin within ten seconds, and the quotient of the times. With a word it makes the rows alone whose
+name begins with it: those that begin with `powers`, and `order` and `maps` of `measure_commands.py`, are of language 2. It
+wants rustc and the program that is built, or another one that the variable OPPROVE names. A run may take 8 GB of memory.
+Memory is seen from that of this script upwards. `measure_commands.py`, `measure_prove.py` and `measure_refute.py` have the
+tables of the other commands.
 """
 from __future__ import annotations
 
 import itertools
 import os
-import resource
 import string
+import subprocess
 import sys
 import tempfile
 from pathlib import Path
-from typing import Callable, Iterator, List, NamedTuple, Optional, Tuple
+from typing import Callable, List, NamedTuple, Optional, Tuple
 
 sys.dont_write_bytecode = True
-from trying import CONTRIB, PROGRAM, Failed, Skipped, installed, need, run
+import measure_commands
+import measure_prove
+import measure_refute
+from measuring import OPPROVE, Text, bound, build, least, quotient, told, write
+from trying import Failed, Skipped, need
 
-OPPROVE = Path(os.environ.get("OPPROVE", PROGRAM))
-RUNS, PATIENCE, MEMORY_LIMIT = 3, 10, 8 * 10**9
 STATEMENT_LIMIT, EVIDENCE_LIMIT = 2**20, 2**26
-FINE, FAULTY, NO_MEMORY, REFUSED, UNDECIDED = 0, 3, 6, 7, 12
+FINE, FAULTY, REFUSED = 0, 3, 7
 MAPS = string.ascii_lowercase + "A"
 HEAD = f"object U\nmap {' '.join(MAPS)} : U -> U\n"
 ZERO_CLAIM = "claim a = a\n"
-
-Text = Iterator[str]
 
 
 class Case(NamedTuple):
@@ -39,24 +40,6 @@ class Case(NamedTuple):
     evidence: Optional[Callable[[], Text]] = None
     answer: str = "# refused K7\n"  # how the report of opprove begins
     plain_status: int = FINE
-
-
-class Command(NamedTuple):
-    """A run that the plain program doesn't make, and a statement on which the same words give the same report."""
-
-    name: str
-    words: List[str]  # the command, and what stands behind its files
-    statement: Callable[[], Text]
-    status: int
-    answer: str
-    evidence: Optional[Callable[[], Text]] = None
-    beside: Optional[Callable[[], Text]] = None
-
-
-class Usage(NamedTuple):
-    status: int
-    seconds: float
-    megabytes: float
 
 
 # ---- Statements
@@ -147,39 +130,6 @@ POWERS = [
     Case("powers: `(a+b)^500`", second("(a+b)^500"), None, TOO_LARGE, REFUSED),
     Case("powers: 500 assumptions `(a+b)^14 c^486 = 0`", assumed_powers),
 ]
-
-
-def many_maps(claimed: str) -> Callable[[], Text]:
-    names = " ".join(f"k{number}" for number in range(1, 1001))
-    return lambda: iter([f"language 2\nobject U\nmap {names} : U -> U\nclaim {claimed}\n"])
-
-
-def many_models() -> Text:
-    """A hundred models, in which all maps are 1."""
-    maps = "".join(f"map k{number} = 1\n" for number in range(1, 1001))
-    return itertools.repeat(f"model 1\nclaim 1\nmodulus 2\nside U 1\n{maps}end\n", 100)
-
-
-def braids(line: str) -> Callable[[], Text]:
-    return lambda: iter(["language 2\nobject V\nmap a b : V -> V\n", line, "assume b a b = a b a\nclaim a = b\n"])
-
-
-LONG = ["prove", "--pairs", "5000", "--no-models", "--workers", "1"]
-COMMANDS = [
-    Command(
-        "order: `eliminate` of all maps beside the order by degrees, 5,000 pairs", LONG,
-        braids("eliminate a b\n"), UNDECIDED, "# claim 1 undecided pairs 5000 least ", beside=braids("order degree\n"),
-    ),
-    Command(
-        "maps: one `[U]` among 1,000 maps, 5,000 pairs", LONG,
-        many_maps("[U] k1 k2 = k2 k1"), UNDECIDED, "# claim 1 undecided pairs 5000 least k3 [U] k997\n",
-    ),
-    Command(
-        "maps: the same, starred", LONG,
-        many_maps("[U] k1' k2 = k2 k1'"), UNDECIDED, "# claim 1 undecided pairs 5000 least ",
-    ),
-    Command("maps: 100 models of 1,000 maps", ["model"], many_maps("k1 = 0"), FINE, "# block 1 confirmed claim 1\n", many_models),
-]  # fmt: skip
 
 
 # ---- Evidence
@@ -279,88 +229,46 @@ CASES = STATEMENTS + EVIDENCE + POWERS
 # ---- Runs
 
 
-def write(path: Path, text: Text) -> int:
-    with path.open("w", newline="\n") as file:
-        file.writelines(text)
-    return path.stat().st_size
-
-
-def measured(words: List[str], out: Path) -> Usage:
-    """One run, whose answer goes to a file. A program that is ended by a signal found no memory."""
-    to_file = (os.POSIX_SPAWN_OPEN, 1, str(out), os.O_WRONLY | os.O_CREAT | os.O_TRUNC, 0o600)
-    silent = (os.POSIX_SPAWN_OPEN, 2, os.devnull, os.O_WRONLY, 0)
-    process = os.posix_spawn(words[0], words, os.environ, file_actions=[to_file, silent])
-    _, ending, usage = os.wait4(process, 0)
-    status = os.WEXITSTATUS(ending) if os.WIFEXITED(ending) else NO_MEMORY
-    return Usage(status, usage.ru_utime + usage.ru_stime, usage.ru_maxrss / 1000)
-
-
-def least(words: List[str], out: Path, status: int, answer: str) -> Usage:
-    """The least of some runs, each of which ends with this status and an answer that begins so, or without memory."""
-    runs: List[Usage] = []
-    while len(runs) < RUNS and sum(usage.seconds for usage in runs) < PATIENCE:
-        runs.append(measured(words, out))
-        text = out.read_text()
-        is_right = runs[-1].status == status and text.startswith(answer)
-        need(is_right or runs[-1].status == NO_MEMORY, (words, runs[-1], text[:200]))
-    return Usage(runs[-1].status, min(usage.seconds for usage in runs), min(usage.megabytes for usage in runs))
-
-
-def told(usage: Usage) -> str:
-    if usage.status == NO_MEMORY:
-        return f"{usage.seconds:.3f} | none left"
-    floor = resource.getrusage(resource.RUSAGE_SELF).ru_maxrss / 1000
-    return f"{usage.seconds:.3f} | {'' if usage.megabytes > 1.05 * floor else 'below '}{usage.megabytes:.0f}"
-
-
 def row(case: Case, plain: str, folder: Path) -> str:
     """A line of the table."""
     statement, evidence, out = folder / "statement.op", folder / "evidence.cert", folder / "out"
     size = write(statement, case.statement()) + write(evidence, case.evidence() if case.evidence else iter(()))
     files = [str(statement)] + ([str(evidence)] if case.evidence else [])
-    other = least([plain, *files], out, case.plain_status, "")
-    status = FINE if case.answer == ACCEPTED else FAULTY if case.answer.startswith("# refused S") else REFUSED
-    own = least([str(OPPROVE), "check", str(statement), str(evidence)], out, status, case.answer)
-    quotient = "" if NO_MEMORY in (own.status, other.status) else f"{own.seconds / other.seconds:.2f}"
-    return f"| {case.name} | {size:,} | {told(own)} | {told(other)} | {quotient} |"
-
-
-def command_row(command: Command, folder: Path) -> str:
-    """A line of the second table. The same report is asked of the statement beside it."""
-    paths, out = [folder / "statement.op", folder / "evidence.cert"], folder / "out"
-    size = write(paths[0], command.statement())
-    size += write(paths[1], command.evidence()) if command.evidence else 0
-    words = [str(OPPROVE), command.words[0], *map(str, paths if command.evidence else paths[:1]), *command.words[1:]]
-    own = least(words, out, command.status, command.answer)
-    report, beside, quotient = out.read_text(), "| ", ""
-    if command.beside:
-        write(paths[0], command.beside())
-        other = least(words, out, command.status, report)
-        beside, quotient = told(other), f"{own.seconds / other.seconds:.2f}"
-    return f"| {command.name} | {size:,} | {told(own)} | {beside} | {quotient} |"
+    other = least([plain, *files], out, lambda status, text: status == case.plain_status)
+    want = FINE if case.answer == ACCEPTED else FAULTY if case.answer.startswith("# refused S") else REFUSED
+    is_right = lambda status, text: status == want and text.startswith(case.answer)
+    own = least([str(OPPROVE), "check", str(statement), str(evidence)], out, is_right)
+    share = quotient(own, other)
+    return f"| {case.name} | {size:,} | {told(own)} | {told(other)} | {f'{share:.2f}' if share else ''} |"
 
 
 def build_plain(folder: Path) -> str:
-    program = folder / "plain"
-    answer = run(installed("rustc"), "-O", CONTRIB / "plain.rs", "-o", program)
-    need(answer.status == 0, answer.error)
-    return str(program)
+    return build("plain", folder)
+
+
+def check_rows(words: List[str], folder: Path) -> Text:
+    """The table of `check` and that of other commands, or the rows whose names begin with the word."""
+    cases = [case for case in CASES if case.name.startswith("".join(words[:1]))]
+    plain = build_plain(folder) if cases else ""
+    bound()
+    if cases:
+        yield "| | bytes | `opprove` s | MB | plain s | MB | quotient |\n|---|---|---|---|---|---|---|"
+    yield from (row(case, plain, folder) for case in cases)
+    yield from [""] * (not words)
+    yield from measure_commands.rows(words, folder)
+
+
+TABLES = {"prove": measure_prove.rows, "workers": measure_prove.worker_rows, "refute": measure_refute.rows}
 
 
 def main(words: List[str]) -> int:
+    rows = TABLES.get(words[0], check_rows) if words else check_rows
     try:
         need(os.access(OPPROVE, os.X_OK), f"{OPPROVE} is not built")
         with tempfile.TemporaryDirectory() as name:
-            plain = build_plain(Path(name))
-            resource.setrlimit(resource.RLIMIT_AS, (MEMORY_LIMIT, MEMORY_LIMIT))
-            cases, commands = ([one for one in table if one.name.startswith("".join(words[:1]))] for table in (CASES, COMMANDS))
-            print("| | bytes | `opprove` s | MB | plain s | MB | quotient |\n|---|---|---|---|---|---|---|" * bool(cases))
-            for case in cases:
-                print(row(case, plain, Path(name)), flush=True)
-            print("\n| | bytes | `opprove` s | MB | beside s | MB | quotient |\n|---|---|---|---|---|---|---|\n" * bool(commands), end="")
-            for command in commands:
-                print(command_row(command, Path(name)), flush=True)
-    except (Failed, Skipped) as reason:
+            for line in rows(words if rows is check_rows else words[1:], Path(name)):
+                print(line, flush=True)
+    except (Failed, Skipped, subprocess.TimeoutExpired) as reason:
         print(reason, file=sys.stderr)
         return 1
     return 0

@@ -27,12 +27,12 @@ class Answer(NamedTuple):
     error: str
 
 
-def run(*words: object, folder: Path = TOP) -> Answer:
-    """The answer of a program, which gets no input and two minutes."""
+def run(*words: object, folder: Path = TOP, seconds: int = 120) -> Answer:
+    """The answer of a program, which gets no input, and two minutes where nothing else is said."""
     command = [str(word) for word in words]
     environment = {**os.environ, "LC_ALL": "C.UTF-8", "PYTHONDONTWRITEBYTECODE": "1"}
     done = subprocess.run(
-        command, cwd=folder, env=environment, stdin=subprocess.DEVNULL, capture_output=True, timeout=120
+        command, cwd=folder, env=environment, stdin=subprocess.DEVNULL, capture_output=True, timeout=seconds
     )
     return Answer(done.returncode, done.stdout.decode(), done.stderr.decode())
 
