@@ -11,3 +11,4 @@ pub mod Going
 pub mod Multiple
 pub mod Making
 pub mod Spelled
+pub mod Letters
