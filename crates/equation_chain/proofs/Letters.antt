@@ -58,6 +58,15 @@ ends_are_objects problem (suc n) number =
     let sigs = AllZip-long _ problem.parts.claims problem.parts.claim_sigs problem.posed.claims_typed in
     objects_at problem.parts.quiver problem.parts.claim_sigs n (recursion_from_All (HasObjects problem.parts.quiver) problem.parts.claim_sigs problem.posed.claim_ends) (omega (arith, most, claims, sigs))
 
+-- what holds of the terms of each polynomial holds of each list of terms
+pub lines_listed : (ds : List Declaration) (lines : List Poly) → All (λ (p : Poly). All (λ (t : Term). IsOver (letter_count ds) t.1) p.terms) lines
+    → AllByRecursion (λ (l : List Term). All (λ (t : Term). IsOver (letter_count ds) t.1) l) (polynomials lines)
+lines_listed ds lines all = go lines (recursion_from_All (λ (p : Poly). All (λ (t : Term). IsOver (letter_count ds) t.1) p.terms) lines all)
+  where
+    go : (ls : List Poly) → AllByRecursion (λ (p : Poly). All (λ (t : Term). IsOver (letter_count ds) t.1) p.terms) ls → AllByRecursion (λ (l : List Term). All (λ (t : Term). IsOver (letter_count ds) t.1) l) (polynomials ls)
+    go [] none = tt
+    go (p ∷ ls) each = (each.0, go ls each.1)
+
 module _ (problem : Problem) (c : Certificate) where
   abbrev ds : List Declaration
   ds = problem.parts.quiver

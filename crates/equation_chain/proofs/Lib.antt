@@ -12,3 +12,4 @@ pub mod Multiple
 pub mod Making
 pub mod Spelled
 pub mod Letters
+pub mod Blocks

@@ -10,8 +10,6 @@ use Rattle.std.specs.Fmt.{signed_decimal}
 use Rattle.std.specs.Prelude.{if◌then◌else◌, decimal}
 use Rattle.std.specs.List.{All, AllByRecursion, flat_map, zip, join_with_byte, range_with_len}
 use Rattle.std.proofs.lemmas.Grind.{flat_map-append}
-use Rattle.std.proofs.lemmas.Slice.Zip.{length-zip, get_or-zip}
-use Rattle.block_text.proofs.Puts.{each_put}
 use Rattle.definitions.specs.Poly.{Term, Poly}
 use Rattle.word_core.specs.Letters.{IsOver}
 use Rattle.quiver.specs.Declarations.{Declaration, letter_count}
@@ -134,17 +132,3 @@ lines_text_more ds steps [] step line long = absurd (omega (arith, long))
 lines_text_more ds steps (first ∷ lines) step line long =
     ap (λ (t : List ℕ). line_text ds first ++ t) (steps_more ds steps lines step line (omega (arith, long)))
     ∙ sym (append_assoc (line_text ds first) (steps_text ds steps lines) (use_text ds step ++ line_text ds line))
-
--- ---- the steps that are put
-
--- a step and its line are put behind those before
-pub step_put : (texts : List (List ℕ)) (steps : List CertRow) (lines : List Poly) (place : ℕ) (step : CertRow) (line : Poly) (before so_far used now : List ℕ)
-    → place < length steps → place < length lines → step ≡ get_or steps place step → line ≡ get_or lines place line
-    → so_far ≡ before ++ flat_map (λ s. use_by texts s.0 ++ line_by texts s.1) (take place (zip steps lines)) → used ≡ so_far ++ use_by texts step → now ≡ used ++ line_by texts line
-    → now ≡ before ++ flat_map (λ s. use_by texts s.0 ++ line_by texts s.1) (take (place + 1) (zip steps lines))
-step_put texts steps lines place step line before so_far used now in_steps in_lines is_step is_line far use_put line_put =
-    let long = length-zip steps lines in
-    each_put (λ s. use_by texts s.0 ++ line_by texts s.1) (zip steps lines) place (step, line) before so_far now (omega (arith, long))
-    (ap₂ (λ (s : CertRow) (l : Poly). (s, l)) is_step is_line ∙ sym (get_or-zip steps lines place (step, line) in_steps in_lines))
-    far
-    (line_put ∙ ap (λ (t : List ℕ). t ++ line_by texts line) use_put ∙ append_assoc so_far (use_by texts step) (line_by texts line))

@@ -40,6 +40,17 @@ module _ (problem : Problem) (c : Certificate) where
         ∙ lines_text_more ds done (lines_by problem c done) row _ (lines_long problem c done)
         ∙ ap (λ (line : Poly). text_before problem c i ++ (use_text ds row ++ line_text ds line)) (ap (line_less problem c) (sym more))
 
+    pub next_put : is_step problem c.claim row ≡ true → (front old used now : List ℕ) → old ≡ front ++ text_before problem c i → used ≡ old ++ use_text problem.parts.quiver row
+        → now ≡ used ++ line_text problem.parts.quiver (line_before problem c (i + 1)) → now ≡ front ++ text_before problem c (i + 1)
+    next_put is front old used now old_is used_is now_is =
+        let step : List ℕ = use_text problem.parts.quiver row in
+        let line : List ℕ = line_text problem.parts.quiver (line_before problem c (i + 1)) in
+        now_is
+        ∙ ap (λ (t : List ℕ). t ++ line) (used_is ∙ ap (λ (t : List ℕ). t ++ step) old_is)
+        ∙ append_assoc (front ++ text_before problem c i) step line
+        ∙ append_assoc front (text_before problem c i) (step ++ line)
+        ∙ ap (λ (t : List ℕ). front ++ t) (sym (next_text is))
+
   -- behind all rows
   pub whole_text : (i : ℕ) → length c.rows ≤ i → text_before problem c i ≡ lines_text problem.parts.quiver (steps_of problem c) (lines_of problem c)
   whole_text i past = ap (λ (rows : List CertRow). lines_text_of (steps_in problem c.claim rows)) (take_all i c.rows past)
