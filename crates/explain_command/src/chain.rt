@@ -105,10 +105,12 @@ fn put_next(
     ensures passed { OnOk result (StepsPass problem.now certificate.now (place + 1)) }
     ensures fault { IfErr result (IsFirstFault problem.now certificate.now) }
 {
-    match next_line(problem, certificate, place, &line)? {
+    let row = certificate.rows.at(place);
+    let next = next_line(problem, certificate, place, &line)?;
+    match next {
         None => Ok(line),
         Some(next) => {
-            put_use(out, texts, certificate.rows.at(place))?;
+            put_use(out, texts, row)?;
             put_line(out, texts, &next.poly)?;
             Ok(next)
         }
