@@ -745,7 +745,7 @@ pub const REFUSALS: &[LimitRow] = &[
     (
         EXPLAIN,
         INVERSES,
-        &[BLOCK, CHAIN],
+        &[Plain("# block 1"), CHAIN],
         &[Plain("7 # refused K2 line 2\n")],
     ),
     (
@@ -829,26 +829,7 @@ const MANY: &[Part] = &[
     Plain(") = 0\nassume m1 = m2\nclaim m1 = m2\nclaim m1 m1 = m1 m1\n"),
 ];
 
-// The same terms, each with 498 letters behind it, are 10,000,000 letters.
-const LONG: &[Part] = &[
-    Plain("object P\nmap "),
-    Numbers("m", 1, 200, "", " "),
-    Plain(" : P -> P\nassume ("),
-    Numbers("m", 1, 100, "", " + "),
-    Plain(") ("),
-    Numbers("m", 1, 200, "", " + "),
-    Plain(") "),
-    Times("m1 ", 498),
-    Plain("= 0\nclaim ("),
-    Numbers("m", 1, 100, "", " + "),
-    Plain(") ("),
-    Numbers("m", 1, 200, "", " + "),
-    Plain(") "),
-    Times("m1 ", 498),
-    Plain("= 0\n"),
-];
-
-/// Lines of 20,000 terms and of 10,000,000 letters, and one more.
+/// Lines of 20,000 terms, and of more.
 pub const SIZES: &[LimitRow] = &[
     (
         EXPLAIN,
@@ -894,6 +875,29 @@ pub const SIZES: &[LimitRow] = &[
         ],
         &[REFUSED, Plain("E3 row 1\n")],
     ),
+];
+
+// The same terms, each with 498 letters behind it, are 10,000,000 letters.
+const LONG: &[Part] = &[
+    Plain("object P\nmap "),
+    Numbers("m", 1, 200, "", " "),
+    Plain(" : P -> P\nassume ("),
+    Numbers("m", 1, 100, "", " + "),
+    Plain(") ("),
+    Numbers("m", 1, 200, "", " + "),
+    Plain(") "),
+    Times("m1 ", 498),
+    Plain("= 0\nclaim ("),
+    Numbers("m", 1, 100, "", " + "),
+    Plain(") ("),
+    Numbers("m", 1, 200, "", " + "),
+    Plain(") "),
+    Times("m1 ", 498),
+    Plain("= 0\n"),
+];
+
+/// Lines of 10,000,000 letters, and of more.
+pub const LENGTHS: &[LimitRow] = &[
     (
         EXPLAIN,
         LONG,

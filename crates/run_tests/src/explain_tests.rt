@@ -1,11 +1,13 @@
 //! Runs of `explain`.
 use crate::calls::{owned, shelf_of};
-use crate::explain_rows::{REFUSALS, REPORTS, ROWS, SIZES};
+use crate::explain_rows::{LENGTHS, REFUSALS, REPORTS, ROWS, SIZES};
+use crate::limit_rows::LimitRow;
 use crate::limit_tests::{tell_limits, text_of};
 use crate::tests::{answer, answer_over, tell};
 use flow_io::MemorySink;
 use lists::Listing;
 use std::alloc::Global;
+use std::process::Abort;
 use std::test::Fail;
 use std::thread::Threads;
 
@@ -59,15 +61,28 @@ fn long_answer<R: Threads + Sync>(
     answer_over(rt, alloc, &words, &mut shelf, &mut sink)
 }
 
-#[test]
-fn long_lines_are_printed(rt: HostRuntime) -> Result<(), Fail> {
-    let alloc = rt.alloc();
-    for (place, (words, statement, evidence, want)) in SIZES.iter().enumerate() {
+// Asserts that the words of each row are answered so over its files, by a long report.
+fn tell_long<R: Threads + Sync + Abort>(
+    rt: &R,
+    alloc: Global,
+    rows: &[LimitRow],
+) -> Result<(), Fail> {
+    for (place, (words, statement, evidence, want)) in rows.iter().enumerate() {
         let statement = text_of(alloc, statement)?;
         let evidence = text_of(alloc, evidence)?;
-        let got = long_answer(&rt, alloc, words, statement.as_bytes(), evidence.as_bytes())?;
+        let got = long_answer(rt, alloc, words, statement.as_bytes(), evidence.as_bytes())?;
         let want = text_of(alloc, want)?;
         assert!(rt; got.as_str() == want.as_str(), "row {place}");
     }
     Ok(())
+}
+
+#[test]
+fn lines_have_20000_terms_at_most(rt: HostRuntime) -> Result<(), Fail> {
+    tell_long(&rt, rt.alloc(), SIZES)
+}
+
+#[test]
+fn chains_have_10000000_letters_at_most(rt: HostRuntime) -> Result<(), Fail> {
+    tell_long(&rt, rt.alloc(), LENGTHS)
 }
