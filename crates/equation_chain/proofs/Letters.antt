@@ -1,10 +1,11 @@
 -- Steps and lines have letters of the quiver alone, and each line has a signature.
-use Rattle.std.proofs.Common.{◌≡◌, ◌≢◌, ℕ, zero, suc, ◌+◌, ◌<◌, ℤ, pos, true, List, [], ◌∷◌, take, length, get_or, map, Result, Ok, Err, IfOk, refl, sym, subst, ◌∙◌, arith}
+use Rattle.std.proofs.Common.{◌≡◌, ◌≢◌, ℕ, zero, suc, ◌+◌, ◌<◌, negsuc, true, List, [], ◌∷◌, take, length, get_or, map, Result, Ok, Err, IfOk, refl, sym, subst, ◌∙◌, arith}
 use Rattle.std.specs.List.{All, AllByRecursion, AllZip}
 use Rattle.std.proofs.lemmas.Bool.{and_parts}
 use Rattle.std.proofs.lemmas.List.Elements.{All-filter, All-from_recursion, recursion_from_All}
 use Rattle.std.proofs.lemmas.Slice.Zip.{AllZip-long}
-use Rattle.definitions.specs.Poly.{Term, coefficient_of}
+use Rattle.definitions.specs.Poly.{Term, poly_sum, poly_multiple}
+use Rattle.definitions.specs.Combination.{row_sum}
 use Rattle.definitions.specs.Quiver.{Quiver, letters, source, leads, is_path, IsTyped}
 use Rattle.definitions.specs.Soundness.{HasSignature}
 use Rattle.definitions.proofs.Paths.{step}
@@ -18,7 +19,7 @@ use Rattle.quiver.specs.Signatures.{ends_of}
 use Rattle.quiver.proofs.Counts.{letters-quiver_of}
 use Rattle.cofactor_trace.specs.declared.CertRow.{CertRow}
 use Rattle.cofactor_trace.specs.declared.Certificate.{Certificate}
-use Rattle.cofactor_trace.specs.Rows.{row_of}
+use Rattle.cofactor_trace.specs.Rows.{row_of, rows_of}
 use Rattle.adjoint_rules.specs.declared.problem.Problem.{Problem}
 use Rattle.adjoint_rules.specs.Problem.{polynomials, HasObjects}
 use Rattle.certificate_text.specs.Evidence.{IsRowOver}
@@ -27,7 +28,7 @@ use Rattle.cofactor_checker.proofs.RowSums.{length-polynomials}
 use Rattle.equation_chain.specs.declared.chain.Chain.{Chain}
 use Rattle.equation_chain.specs.declared.fault.ChainFault.{ChainFault}
 use Rattle.equation_chain.specs.Steps.{claim_ends, counts, is_typed, is_step, steps_in, steps_of}
-use Rattle.equation_chain.specs.Lines.{line_less, lines_of}
+use Rattle.equation_chain.specs.Lines.{claim_in, line_less, lines_of}
 use Rattle.equation_chain.specs.Faults.{IsAccepted, line_before, steps_before}
 use Rattle.equation_chain.specs.Made.{IsChainOf, IsWritable}
 use Rattle.equation_chain.proofs.Typed.{all_kept}
@@ -83,9 +84,10 @@ module _ (problem : Problem) (c : Certificate) where
   less_over : (steps : List CertRow) → AllByRecursion (λ r. is_typed problem c.claim r ≡ true) steps → IsLineOver (line_less problem c steps)
   less_over steps all =
       let line : List Term = line_less problem c steps in
+      let terms : List Term = poly_sum (poly_multiple c.denominator (claim_in problem c)) (poly_multiple (negsuc 0) (row_sum (polynomials problem.generators) (rows_of steps))) in
       let typed : IsTyped (quiver_of ds) (claim_ends problem c.claim).0 (claim_ends problem c.claim).1 line = line_typed problem c steps all in
       All-from_recursion (λ (t : Term). IsOver (letter_count ds) t.1) line
-      (words_listed (IsOver (letter_count ds)) line (distinct-descending line (descending-collected _)) (nonzero-collected _)
+      (words_listed (IsOver (letter_count ds)) line (distinct-descending line (descending-collected terms)) (nonzero-collected terms)
       (λ w there. subst (λ (n : ℕ). IsOver n w) (letters-quiver_of ds) (path_over (quiver_of ds) (claim_ends problem c.claim).0 (claim_ends problem c.claim).1 w (typed.at w there))))
 
   pub line_over : (i : ℕ) → IsLineOver (line_before problem c i)

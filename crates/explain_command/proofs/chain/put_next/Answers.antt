@@ -67,3 +67,23 @@ put_line-requires c =
     let it = some (goal.at.put_line-requires c).In-Some in
     subst (λ (line : List Term). IsLineSpelled c.args.texts.now line) (sym it.1.terms)
     (line_spelled problem.parts.quiver c.args.texts.now c.requires.texts (line_before problem certificate (c.args.place + 1)) (line_over problem certificate (c.args.place + 1)))
+
+pub returns-in_ok-put_line-in-Some-clause-line : goal.returns-in_ok-put_line-in-Some-clause-line
+returns-in_ok-put_line-in-Some-clause-line c = (some (goal.at.returns-in_ok-put_line-in-Some-clause-line c).In-Some).1
+
+pub returns-in_ok-put_line-in-Some-clause-written : goal.returns-in_ok-put_line-in-Some-clause-written
+returns-in_ok-put_line-in-Some-clause-written c =
+    let problem = c.args.problem.now in
+    let certificate = c.args.certificate.now in
+    let ds = problem.parts.quiver in
+    let row = c.at-row.result.now in
+    let it = some (goal.at.returns-in_ok-put_line-in-Some-clause-written c).In-Some in
+    let used : c.put_use.new.out.items ≡ c.args.out.now.items ++ use_by c.args.texts.now row = search rules in
+    let put : c.put_line.new.out.items ≡ c.put_use.new.out.items ++ line_by c.args.texts.now c.in-Some.next.poly.terms = search rules in
+    let use_is : use_by c.args.texts.now row ≡ use_text ds row = use_is_text ds c.args.texts.now c.requires.texts row (over (goal.at.returns-in_ok-put_line-in-Some-clause-written c).In_ok-next) in
+    let line_is : line_by c.args.texts.now c.in-Some.next.poly.terms ≡ line_text ds (line_before problem certificate (c.args.place + 1)) =
+    ap (line_by c.args.texts.now) it.1.terms
+    ∙ line_is_text ds c.args.texts.now c.requires.texts (line_before problem certificate (c.args.place + 1)) (line_over problem certificate (c.args.place + 1)) in
+    λ front is.
+    next_put problem certificate c.args.place row c.at-row.ensures it.0 front c.args.out.now.items c.put_use.new.out.items c.put_line.new.out.items is
+    (used ∙ ap (λ (t : List ℕ). c.args.out.now.items ++ t) use_is) (put ∙ ap (λ (t : List ℕ). c.put_use.new.out.items ++ t) line_is)
