@@ -1,15 +1,17 @@
 //! Runs of `explain`.
 use crate::calls::{owned, shelf_of};
-use crate::explain_rows::{LENGTHS, REFUSALS, REPORTS, ROWS, SIZES};
+use crate::explain_rows::{CALLS, EXPLAINED, LENGTHS, LONG_WORDS, REPORTS, SIZES, UNEXPLAINED};
 use crate::limit_rows::LimitRow;
 use crate::limit_tests::{tell_limits, text_of};
-use crate::tests::{answer, answer_over, tell};
+use crate::tests::{answer, answer_over, tell, tell_all};
 use flow_io::MemorySink;
 use lists::Listing;
 use std::alloc::Global;
 use std::process::Abort;
 use std::test::Fail;
 use std::thread::Threads;
+
+const EXPLAIN: &[&str] = &["explain", "s", "c"];
 
 // How many bytes a put takes at most, and all of them.
 const MOST_PER_PUT: usize = 65_536;
@@ -18,31 +20,29 @@ const ROOM: usize = 50_000_000;
 
 #[test]
 fn certificates_are_explained(rt: HostRuntime) -> Result<(), Fail> {
-    tell_limits(&rt, rt.alloc(), ROWS)
+    tell_all(&rt, rt.alloc(), EXPLAIN, EXPLAINED)
 }
 
 #[test]
 fn what_has_no_chain_is_refused(rt: HostRuntime) -> Result<(), Fail> {
-    tell_limits(&rt, rt.alloc(), REFUSALS)
+    tell_all(&rt, rt.alloc(), EXPLAIN, UNEXPLAINED)?;
+    for (words, want) in CALLS {
+        tell(&rt, rt.alloc(), words, b"", b"", want)?;
+    }
+    Ok(())
+}
+
+#[test]
+fn long_words_and_many_blocks_are_explained(rt: HostRuntime) -> Result<(), Fail> {
+    tell_limits(&rt, rt.alloc(), LONG_WORDS)
 }
 
 #[test]
 fn reports_are_explained(rt: HostRuntime) -> Result<(), Fail> {
-    let alloc = rt.alloc();
-    for (statement, words, want) in REPORTS {
-        let statement = text_of(alloc, statement)?;
-        let told = answer(&rt, alloc, words, statement.as_bytes(), b"", &[])?;
+    for (words, statement, want) in REPORTS {
+        let told = answer(&rt, rt.alloc(), words, statement, b"", &[])?;
         let report = told.as_str().strip_prefix("0 ").unwrap_or("");
-        let words = &["explain", "s", "c"];
-        let want = text_of(alloc, want)?;
-        tell(
-            &rt,
-            alloc,
-            words,
-            statement.as_bytes(),
-            report.as_bytes(),
-            want.as_str(),
-        )?;
+        tell(&rt, rt.alloc(), EXPLAIN, statement, report.as_bytes(), want)?;
     }
     Ok(())
 }
