@@ -5,7 +5,7 @@ use Rattle.nc_polynomial.specs.declared.fault.PolyFault.TheVariants as fault
 use Rattle.coef_int.specs.Operations.{product_of}
 use Rattle.expressions.specs.Repeated.{repeated_word}
 use Rattle.expressions.proofs.TermPowers.{coefficient-alone, length-repeated-next, term-overflows, term-next, canonical-next}
-use Rattle.expressions.proofs.powers.coefficient_and_letters.Goals as goal
+use Rattle.expressions.proofs.powers.coefficient_of_power.Goals as goal
 
 pub times-requires-clause-left_in : goal.times-requires-clause-left_in
 times-requires-clause-left_in c = coefficient-alone (to_z w128 c.loop.coefficient-bits, repeated_word c.loop.counter c.args.term.now.1) c.loop.invariant.canonical

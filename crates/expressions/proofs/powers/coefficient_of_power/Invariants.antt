@@ -2,7 +2,7 @@ use Rattle.std.proofs.Common.{◌≡◌, ◌≤◌, ◌-◌, [], ◌∷◌, leng
 use Rattle.nc_polynomial.specs.Shape.{IsCanonical}
 use Rattle.expressions.specs.Polynomials.{product_from, product_poly}
 use Rattle.expressions.specs.Repeated.{repeated_word}
-use Rattle.expressions.proofs.powers.coefficient_and_letters.Given as goal
+use Rattle.expressions.proofs.powers.coefficient_of_power.Given as goal
 
 -- the factors that are left, behind the power so far, make the whole power
 abbrev pub invariant-loop : goal.invariant-loop
