@@ -1,5 +1,5 @@
 -- The power of one term whose coefficient is 1 or -1: no product is too large.
-use Rattle.std.proofs.Common.{◌≡◌, ◌≢◌, ◌⊎◌, inl, inr, ℕ, zero, suc, ◌+◌, ◌-◌, ◌*◌, ◌%◌, ◌<◌, ◌≤◌, ◌^◌, ℤ, pos, negsuc, ◌*ℤ◌, Bool, true, false, nat_lt, List, [], ◌∷◌, ◌++◌, length, replicate, unsigned_abs, Result, Ok, refl, sym, ap, ap₂, subst, ◌∙◌, arith}
+use Rattle.std.proofs.Common.{◌≡◌, ◌≢◌, ◌⊎◌, inl, inr, ℕ, zero, suc, ◌+◌, ◌-◌, ◌*◌, ◌%◌, ◌<◌, ◌≤◌, ◌^◌, ℤ, pos, negsuc, ◌*ℤ◌, Bool, true, false, nat_lt, [], ◌∷◌, length, replicate, unsigned_abs, Result, Ok, refl, sym, ap, ap₂, subst, ◌∙◌, arith}
 use Rattle.std.proofs.lemmas.Bool.Decides.{nat_tests}
 use Rattle.std.proofs.lemmas.Int.{ints}
 use Rattle.coef_int.specs.Range.{IsCoefficient}
@@ -10,7 +10,7 @@ use Rattle.nc_polynomial.specs.Shape.{IsCanonical}
 use Rattle.expressions.specs.Polynomials.{product_from, product_poly}
 use Rattle.expressions.specs.Repeated.{repeated_word}
 use Rattle.expressions.proofs.RepeatedWords.{length-repeated}
-use Rattle.expressions.proofs.TermPowers.{coefficient-alone, short-alone, length-repeated-next, term-too_long, term-next, canonical-next}
+use Rattle.expressions.proofs.TermPowers.{short-alone, term-too_long, term-next, canonical-next}
 
 -- ---- the coefficient
 abbrev pub unit_after : ℤ → ℕ → ℤ

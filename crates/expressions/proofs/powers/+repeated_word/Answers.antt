@@ -1,5 +1,4 @@
-use Rattle.std.proofs.Common.{rules, ◌≡◌, ◌++◌, ◌/◌, IfOk, ap, ap₂, sym, ◌∙◌}
-use Rattle.expressions.specs.Repeated.{repeated_word}
+use Rattle.std.proofs.Common.{rules}
 use Rattle.expressions.proofs.RepeatedWords.{repeated-even, repeated-odd}
 use Rattle.expressions.proofs.powers.+repeated_word.Goals as goal
 
