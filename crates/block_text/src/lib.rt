@@ -10,6 +10,7 @@ mod line;
 mod number;
 mod place;
 mod poly;
+mod polynomial;
 mod read;
 mod write;
 
@@ -25,5 +26,6 @@ pub use number::{
     INTEGER_LIMIT, NUMBER_LIMIT, integer_within, is_integer, is_number, number_within,
 };
 pub use poly::{put_poly, write_poly};
+pub use polynomial::read_polynomial;
 pub use read::read_blocks;
 pub use write::{put, put_integer, put_number, put_word, write_word};
