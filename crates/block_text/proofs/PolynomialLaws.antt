@@ -1,6 +1,7 @@
 -- A line is read as the polynomial that it spells within all bounds, or by the first that is wrong with it.
-use Rattle.std.proofs.Common.{◌≡◌, ◌<◌, ◌≤◌, ◌+◌, ◌-◌, ◌==◌, ℕ, suc, ℤ, Bool, true, false, not, cond, ◌&&◌, List, [], ◌∷◌, ◌++◌, Option, Some, None, Result, Ok, Err, arith, refl, sym, ap, ap₂, ◌∙◌, subst, length, IsTrue, nat_le}
+use Rattle.std.proofs.Common.{◌≡◌, ◌<◌, ◌≤◌, ◌+◌, ◌-◌, ◌≢◌, ◌==◌, ℕ, zero, suc, ℤ, pos, negsuc, Bool, true, false, not, cond, ◌&&◌, List, [], ◌∷◌, ◌++◌, Option, Some, None, Result, Ok, Err, arith, refl, sym, ap, ap₂, ◌∙◌, subst, length, IsTrue, nat_le}
 use Rattle.std.specs.Prelude.{is_some}
+use Rattle.std.specs.Int.RustNames.{unsigned_abs}
 use Rattle.std.specs.List.{All, AllZip, list_all, flat_map}
 use Rattle.std.specs.Str.Parse.{digits_value}
 use Rattle.std.proofs.lemmas.Bool.{and_parts, false_from_ne_true, leb-true, le-leb, ne_eqb}
@@ -9,9 +10,10 @@ use Rattle.word_core.specs.Letters.{IsOver}
 use Rattle.coef_int.specs.Range.{IsCoefficient}
 use Rattle.definitions.specs.Poly.{Poly, Term}
 use Rattle.nc_polynomial.specs.Limits.{word_limit, term_limit}
+use Rattle.nc_polynomial.specs.Shape.{IsCanonical}
 use Rattle.nc_polynomial.specs.Terms.{IsDescending}
 use Rattle.nc_polynomial.proofs.Shapes.{IsDescending-from_recursion, recursion_from_IsDescending, Descends}
-use Rattle.quiver.specs.Declarations.{Declaration}
+use Rattle.quiver.specs.Declarations.{Declaration, letter_count}
 use Rattle.block_text.specs.declared.fault.Flaw.{Flaw}
 use Rattle.block_text.specs.declared.fault.Flaw.TheVariants.{BadLine, UnknownName, NotAsWritten, NumberTooLarge, TooMany}
 use Rattle.block_text.specs.declared.polynomial.Asked.{Asked}
@@ -20,10 +22,11 @@ use Rattle.block_text.specs.Fault.{asked}
 use Rattle.block_text.specs.Letters.{is_number, number_within, letter_of, word_of, signed}
 use Rattle.block_text.specs.Lines.{Line, integer_limit}
 use Rattle.block_text.specs.PolynomialBack.{IsPolynomialLine}
-use Rattle.block_text.specs.PolynomialLines.{TermTokens, PolynomialTokens, zero, terms, first_line, later_line, polynomial_line, is_term_letter, IsFactor, IsTerm, IsPolynomialTokens, terms_in, factor_value, coefficient_value, IsTermOf, IsPolynomialOf, IsWrittenLetter, HasKnownLetters, IsAsWritten, HasNumbersWithin, HasFewTerms, HasShortWords}
+use Rattle.block_text.specs.PolynomialLines.{TermTokens, PolynomialTokens, zero as zero_line, terms, first_line, later_line, polynomial_line, is_term_letter, IsFactor, IsTerm, IsPolynomialTokens, terms_in, factor_value, coefficient_value, IsTermOf, IsPolynomialOf, IsWrittenLetter, HasKnownLetters, IsAsWritten, HasNumbersWithin, HasFewTerms, HasShortWords}
 use Rattle.block_text.specs.PolynomialReading.{terms_of, is_zero, poly_behind, passes_letter, passes_number, is_some_token, pass_letters, passes, descend, at_most, first_flaw, polynomial_of, written_letter}
 use Rattle.block_text.proofs.PolynomialBounds.{all_from, all_to, all_with, some_of, above_one, above_one_from, within_by, written_is, written_there}
-use Rattle.block_text.proofs.PolynomialTerms.{some_same, MakesTerm, MakesPoly, poly_is, poly_there}
+use Rattle.block_text.proofs.LetterRange.{word_is_over}
+use Rattle.block_text.proofs.PolynomialTerms.{some_same, word_count, MakesTerm, MakesPoly, poly_is, poly_there}
 use Rattle.block_text.proofs.PolynomialTokens.{terms_back, terms_no_zero, HasTerms, has_terms}
 use Rattle.block_text.proofs.PolynomialWords.{descends_is, descends_there}
 use Rattle.block_text.proofs.Results.{by_test, asked_ok, asked_err}
@@ -133,7 +136,7 @@ at_most_is n [] known = omega arith
 at_most_is n (x ∷ xs) known = by_test (n == 0) _ _ true known (λ none e. absurd (cc)) (λ some e. let rest = at_most_is (n - 1) xs e in omega (arith, rest, not_zero n some))
   where
     not_zero : (n : ℕ) → (n == 0) ≡ false → 0 < n
-    not_zero 0 some = absurd (cc)
+    not_zero zero some = absurd (cc)
     not_zero (suc n) some = omega arith
 
 at_most_there : {X : Type 0} (n : ℕ) (xs : List X) → length xs ≤ n → at_most n xs ≡ true
@@ -228,7 +231,7 @@ module _ (ds : List Declaration) where
 
   nought_read : (line : Line) → IsNought line → IsPolynomialLine ds line []
   nought_read line nought = record {
-    tokens = zero nought.digits;
+    tokens = zero_line nought.digits;
     are = nought.is;
     fit = (nought.number, nought.value);
     known = record { known = All-nil _ };
@@ -294,7 +297,7 @@ module _ (ds : List Declaration) where
 
   spelled_there : (tokens : PolynomialTokens) (p : Poly) → IsPolynomialTokens tokens → IsAsWritten ds tokens → HasNumbersWithin tokens → HasFewTerms tokens → HasShortWords tokens → IsPolynomialOf ds tokens p
       → polynomial_of ds (polynomial_line tokens) ≡ Ok p
-  spelled_there (zero digits) p fit written numbers few short says = rw (nought_there digits fit.0 fit.1) (ap Ok (no_poly p says))
+  spelled_there (zero_line digits) p fit written numbers few short says = rw (nought_there digits fit.0 fit.1) (ap Ok (no_poly p says))
   spelled_there (terms first later) p fit written numbers few short says =
       let ts = first ∷ later in
       let made = made_there ts p (All-cons IsTerm first later fit.0 fit.1) (bounds_are ts written.letters numbers.within short.short) says (written.descends p says) few.few in
@@ -321,3 +324,153 @@ module _ (ds : List Declaration) where
         → IsPolynomialFlaw line flaw
     long : (tokens : PolynomialTokens) → flaw ≡ TooMany word_limit → Fits line tokens → HasKnownLetters ds tokens → IsAsWritten ds tokens → HasNumbersWithin tokens → HasFewTerms tokens → (HasShortWords tokens → ⊥)
         → IsPolynomialFlaw line flaw
+
+  none_is : (o : Option Poly) (f g : Flaw) → asked f o ≡ Err g → (o ≡ None) × (f ≡ g)
+  none_is (Some p) f g read = absurd (cc)
+  none_is None f g read = (refl, cc)
+
+  all_terms : (tokens : PolynomialTokens) → IsPolynomialTokens tokens → All IsTerm (terms_in tokens)
+  all_terms (zero_line digits) fit = All-nil IsTerm
+  all_terms (terms first later) fit = All-cons IsTerm first later fit.0 fit.1
+
+  -- tokens that fit a line that isn't a number of value 0 are its terms
+  terms_fit : (line : Line) (tokens : PolynomialTokens) → is_zero line ≡ false → Fits line tokens → (terms_of line ≡ terms_in tokens) × All IsTerm (terms_of line)
+  terms_fit line (zero_line digits) some fits =
+      let nought : is_zero line ≡ true = subst (λ l. is_zero l ≡ true) fits.are (nought_there digits fits.fit.0 fits.fit.1) in absurd (cc)
+  terms_fit line (terms first later) some fits =
+      let are : terms_of line ≡ first ∷ later = subst (λ l. terms_of l ≡ first ∷ later) fits.are (terms_back first later fits.fit.0 fits.fit.1) in
+      (are, subst (All IsTerm) (sym are) (All-cons IsTerm first later fits.fit.0 fits.fit.1))
+
+  -- by the tests in turn, of terms that are not read
+  flaw_by : (line : Line) (first : TermTokens) (later : List TermTokens) (flaw : Flaw) (a b c d e : Bool)
+      → is_zero line ≡ false → terms_of line ≡ first ∷ later → polynomial_line (terms first later) ≡ line → poly_behind ds [] (first ∷ later) ≡ None
+      → list_all (passes ds Form) (first ∷ later) ≡ a → list_all (passes ds Known) (first ∷ later) ≡ b → (list_all (passes ds Written) (first ∷ later) && descend ds (first ∷ later)) ≡ c
+      → list_all (passes ds Within) (first ∷ later) ≡ d → at_most term_limit (first ∷ later) ≡ e
+      → cond (not a) BadLine (cond (not b) UnknownName (cond (not c) NotAsWritten (cond (not d) NumberTooLarge (cond (not e) (TooMany term_limit) (TooMany word_limit))))) ≡ flaw
+      → IsPolynomialFlaw line flaw
+  flaw_by line first later flaw false b c d e some are spelled none form known written within few told = misfit (sym told) (λ tokens fits.
+      let fit : All IsTerm (first ∷ later) = subst (All IsTerm) are (terms_fit line tokens some fits).1 in
+      let passed : list_all (passes ds Form) (first ∷ later) ≡ true = all_to (passes ds Form) IsTerm (form_there ds) (first ∷ later) fit in
+      cc)
+  flaw_by line first later flaw true false c d e some are spelled none form known written within few told =
+      let fit = all_from (passes ds Form) IsTerm (form_is ds) (first ∷ later) form in
+      unknown (terms first later) (sym told) (record { are = spelled; fit = (All-head IsTerm first later fit, All-tail IsTerm first later fit) }) (λ kept.
+      let both = all_with IsTerm (λ t. All (IsKnown ds) t.letters) (λ t. IsTerm t × All (IsKnown ds) t.letters) (λ t i k. (i, k)) (first ∷ later) fit kept.known in
+      let passed : list_all (passes ds Known) (first ∷ later) ≡ true = all_to (passes ds Known) (λ t. IsTerm t × All (IsKnown ds) t.letters) (λ t h. known_there ds t h.0 h.1) (first ∷ later) both in
+      cc)
+  flaw_by line first later flaw true true false d e some are spelled none form known written within few told =
+      let ts = first ∷ later in
+      let fit = all_from (passes ds Form) IsTerm (form_is ds) ts form in
+      let knows = all_from (passes ds Known) (λ t. All (IsKnown ds) t.letters) (known_is ds) ts known in
+      unwritten (terms first later) (sym told) (record { are = spelled; fit = (All-head IsTerm first later fit, All-tail IsTerm first later fit) }) (record { known = knows }) (λ kept.
+      let both = all_with IsTerm (λ t. All (IsWrittenLetter ds) t.letters) (λ t. IsTerm t × All (IsWrittenLetter ds) t.letters) (λ t i w. (i, w)) ts fit kept.letters in
+      let letters : list_all (passes ds Written) ts ≡ true = all_to (passes ds Written) (λ t. IsTerm t × All (IsWrittenLetter ds) t.letters) (λ t h. writing_there ds t h.0 h.1) ts both in
+      let said = poly_said ts knows in
+      let falls : descend ds ts ≡ true = descends_there ds ts said.0 said.1 (recursion_from_IsDescending said.0 (kept.descends said.0 said.1)) in
+      let passed : (list_all (passes ds Written) ts && descend ds ts) ≡ true = rw (letters, falls) refl in
+      cc)
+  flaw_by line first later flaw true true true d e some are spelled none form known written within few told =
+      let ts = first ∷ later in
+      let fit = all_from (passes ds Form) IsTerm (form_is ds) ts form in
+      let knows = all_from (passes ds Known) (λ t. All (IsKnown ds) t.letters) (known_is ds) ts known in
+      let parts : (list_all (passes ds Written) ts ≡ true) × (descend ds ts ≡ true) = and_parts _ _ written in
+      let letters = all_from (passes ds Written) (λ t. All (IsWrittenLetter ds) t.letters) (writing_is ds) ts parts.0 in
+      let descends : (p : Poly) → IsPolynomialOf ds (terms first later) p → IsDescending p = λ p says. IsDescending-from_recursion p (descends_is ds ts p says parts.1) in
+      later_flaw line first later flaw d e (record { are = spelled; fit = (All-head IsTerm first later fit, All-tail IsTerm first later fit) }) (record { known = knows }) (record { letters = letters; descends = descends }) none within few told
+    where
+      later_flaw : (line : Line) (first : TermTokens) (later : List TermTokens) (flaw : Flaw) (d e : Bool) → Fits line (terms first later) → HasKnownLetters ds (terms first later) → IsAsWritten ds (terms first later)
+          → poly_behind ds [] (first ∷ later) ≡ None → list_all (passes ds Within) (first ∷ later) ≡ d → at_most term_limit (first ∷ later) ≡ e
+          → cond (not d) NumberTooLarge (cond (not e) (TooMany term_limit) (TooMany word_limit)) ≡ flaw → IsPolynomialFlaw line flaw
+      later_flaw line first later flaw false e fits known written none within few told =
+          large (terms first later) (sym told) fits known written (λ kept.
+          let ts = first ∷ later in
+          let both = all_with IsTerm (λ t. factor_value t.factor ≤ integer_limit) (λ t. IsTerm t × (factor_value t.factor ≤ integer_limit)) (λ t i w. (i, w)) ts (all_terms (terms first later) fits.fit) kept.within in
+          let passed : list_all (passes ds Within) ts ≡ true = all_to (passes ds Within) (λ t. IsTerm t × (factor_value t.factor ≤ integer_limit)) (λ t h. within_there ds t h.0 h.1) ts both in
+          cc)
+      later_flaw line first later flaw true false fits known written none within few told =
+          many (terms first later) (sym told) fits known written (record { within = all_from (passes ds Within) (λ t. factor_value t.factor ≤ integer_limit) (within_is ds) (first ∷ later) within }) (λ kept.
+          let passed : at_most term_limit (first ∷ later) ≡ true = at_most_there term_limit (first ∷ later) kept.few in cc)
+      later_flaw line first later flaw true true fits known written none within few told =
+          let ts = first ∷ later in
+          let numbers = all_from (passes ds Within) (λ t. factor_value t.factor ≤ integer_limit) (within_is ds) ts within in
+          let count = at_most_is term_limit ts few in
+          long (terms first later) (sym told) fits known written (record { within = numbers }) (record { few = count }) (λ kept.
+          let said = poly_said ts known.known in
+          let made : poly_behind ds [] ts ≡ Some said.0 = made_there ts said.0 (all_terms (terms first later) fits.fit) (bounds_are ts written.letters numbers kept.short) said.1 (written.descends said.0 said.1) count in
+          cc)
+
+  -- a line that isn't read has this as the first that is wrong with it
+  pub flaw_is : (line : Line) (flaw : Flaw) → polynomial_of ds line ≡ Err flaw → IsPolynomialFlaw line flaw
+  flaw_is line flaw read =
+      by_test (is_zero line) _ _ (Err flaw) read (λ nought same. absurd (cc)) (λ some made.
+      let there = has_terms line in
+      let refused = none_is (poly_behind ds [] (terms_of line)) (first_flaw ds (terms_of line)) flaw made in
+      let none : poly_behind ds [] (there.first ∷ there.later) ≡ None = subst (λ ts. poly_behind ds [] ts ≡ None) there.are refused.0 in
+      let told : first_flaw ds (there.first ∷ there.later) ≡ flaw = subst (λ ts. first_flaw ds ts ≡ flaw) there.are refused.1 in
+      flaw_by line there.first there.later flaw _ _ _ _ _ some there.are there.spelled none refl refl refl refl refl told)
+
+  -- ---- the polynomial of a line
+
+  signed_nonzero : (negative : Bool) (n : ℕ) → 0 < n → signed negative n ≢ pos 0
+  signed_nonzero negative zero some = absurd (omega (arith, some))
+  signed_nonzero true (suc n) some = λ e. let same : suc n ≡ 0 = ap unsigned_abs e in omega (arith, same)
+  signed_nonzero false (suc n) some = λ e. let same : suc n ≡ 0 = ap unsigned_abs e in omega (arith, same)
+
+  signed_in_range : (negative : Bool) (n : ℕ) → n ≤ integer_limit → IsCoefficient (signed negative n)
+  signed_in_range true zero small = omega (arith, small)
+  signed_in_range true (suc n) small = omega (arith, small)
+  signed_in_range false n small = omega (arith, small)
+
+  factor_some : (factor : Option (List ℕ)) → IsFactor factor → 0 < factor_value factor
+  factor_some None is = omega arith
+  factor_some (Some digits) is = omega (arith, is.1)
+
+  record GoodTerm (t : TermTokens) (x : Term) : Type 0 where
+    nonzero : x.0 ≢ pos 0
+    in_range : IsCoefficient x.0
+    short : length x.1 ≤ word_limit
+    over : IsOver (letter_count ds) x.1
+    some : 0 < length x.1
+
+  good_term : (t : TermTokens) (x : Term) → IsTermOf ds t x → IsTerm t → Bounds t → GoodTerm t x
+  good_term t x says is bound =
+      let count = word_count ds t.letters x.1 says.letters in
+      record {
+        nonzero = subst (λ (z : ℤ). z ≢ pos 0) (sym says.coefficient) (signed_nonzero t.negative (factor_value t.factor) (factor_some t.factor is.factor));
+        in_range = subst IsCoefficient (sym says.coefficient) (signed_in_range t.negative (factor_value t.factor) bound.within);
+        short = omega (arith, count, bound.short);
+        over = word_is_over ds t.letters x.1 says.letters;
+        some = omega (arith, count, is.some);
+      }
+
+  good_terms : (line : Line) (p : Poly) (is : IsPolynomialLine ds line p) → AllZip GoodTerm (terms_in is.tokens) p
+  good_terms line p is =
+      zip_with (IsTermOf ds) IsTerm Bounds GoodTerm good_term (terms_in is.tokens) p is.says (all_terms is.tokens is.fit)
+      (bounds_are (terms_in is.tokens) is.written.letters is.numbers.within is.short.short)
+
+  -- it is canonical, in the letters of the quiver, and without the empty word
+  pub is_canonical : (line : Line) (p : Poly) → IsPolynomialLine ds line p → IsCanonical p
+  is_canonical line p is =
+      let each = good_terms line p is in
+      record {
+        shaped = record {
+          descending = is.written.descends p is.says;
+          nonzero = zip_right GoodTerm (λ x. x.0 ≢ pos 0) (λ t x good. good.nonzero) (terms_in is.tokens) p each;
+          in_range = zip_right GoodTerm (λ x. IsCoefficient x.0) (λ t x good. good.in_range) (terms_in is.tokens) p each;
+        };
+        short = zip_right GoodTerm (λ x. length x.1 ≤ word_limit) (λ t x good. good.short) (terms_in is.tokens) p each;
+        few = subst (λ n. n ≤ term_limit) (zip_length GoodTerm (terms_in is.tokens) p each) is.few.few;
+      }
+
+  pub is_over : (line : Line) (p : Poly) → IsPolynomialLine ds line p → All (λ x. IsOver (letter_count ds) x.1) p
+  is_over line p is = zip_right GoodTerm (λ x. IsOver (letter_count ds) x.1) (λ t x good. good.over) (terms_in is.tokens) p (good_terms line p is)
+
+  pub has_letters : (line : Line) (p : Poly) → IsPolynomialLine ds line p → All (λ x. 0 < length x.1) p
+  has_letters line p is = zip_right GoodTerm (λ x. 0 < length x.1) (λ t x good. good.some) (terms_in is.tokens) p (good_terms line p is)
+
+  -- the same of terms that are read
+  pub made_canonical : (line : Line) (p : Poly) → ◌≡◌ {A = Option Poly} (Some p) (poly_behind ds [] (terms_of line)) → IsCanonical p
+  made_canonical line p made = is_canonical line p (made_of line p (sym made))
+
+  pub made_over : (line : Line) (p : Poly) → ◌≡◌ {A = Option Poly} (Some p) (poly_behind ds [] (terms_of line)) → All (λ x. IsOver (letter_count ds) x.1) p
+  made_over line p made = is_over line p (made_of line p (sym made))

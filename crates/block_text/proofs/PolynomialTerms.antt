@@ -40,10 +40,10 @@ module _ (ds : List Declaration) where
       option_map_word a o = option_map (λ v. a ∷ v) o
 
   -- letters as they are written, and their word
-  pub record MakesWord (letters : Line) (w : List ℕ) : Type 0 where
-    pub letters : All (λ token. IsTrue (is_term_letter token)) letters
-    pub written : All (IsWrittenLetter ds) letters
-    pub says : word_of ds letters ≡ Some w
+  pub record MakesWord (tokens : Line) (w : List ℕ) : Type 0 where
+    pub letters : All (λ token. IsTrue (is_term_letter token)) tokens
+    pub written : All (IsWrittenLetter ds) tokens
+    pub says : word_of ds tokens ≡ Some w
 
   more_word : (token : List ℕ) (tokens : Line) (a : ℕ) (w : List ℕ) → IsWritten ds token a → MakesWord tokens w → MakesWord (token ∷ tokens) (a ∷ w)
   more_word token tokens a w here rest = record {
@@ -102,10 +102,10 @@ module _ (ds : List Declaration) where
 
 -- ---- numbers
 
-record HasValue (factor : Option (List ℕ)) (n : ℕ) : Type 0 where
-  factor : IsFactor factor
-  is : n ≡ factor_value factor
-  within : factor_value factor ≤ integer_limit
+record HasValue (number : Option (List ℕ)) (n : ℕ) : Type 0 where
+  factor : IsFactor number
+  is : n ≡ factor_value number
+  within : factor_value number ≤ integer_limit
 
 value_is : (factor : Option (List ℕ)) (n : ℕ) → value_within factor ≡ Some n → HasValue factor n
 value_is None n read = record { factor = tt; is = sym (some_same 1 n read); within = omega arith }

@@ -1,13 +1,15 @@
 -- The terms that a reader finds in a line are those that the line spells.
-use Rattle.std.proofs.Common.{◌≡◌, ◌<◌, ◌≤◌, ℕ, Bool, true, false, cond, ◌||◌, ◌&&◌, List, [], ◌∷◌, ◌++◌, Option, Some, None, arith, refl, sym, ap, ap₂, ◌∙◌, subst, length, codes, IsTrue, ltb-true, nat_lt, nat_le}
+use Rattle.std.proofs.Common.{◌≡◌, ◌<◌, ◌≤◌, ℕ, Bool, true, false, cond, ◌||◌, ◌&&◌, List, [], ◌∷◌, ◌++◌, Option, Some, None, arith, refl, sym, ap, ap₂, ◌∙◌, subst, length, codes, IsTrue, ltb-true, nat_lt, nat_le, drop}
 use Rattle.std.specs.Char.{is_ascii_digit}
 use Rattle.std.specs.List.{All, AllByRecursion, list_all, flat_map}
-use Rattle.std.specs.Str.{chars}
+use Rattle.std.specs.Str.{chars, is_utf8}
 use Rattle.std.proofs.lemmas.Bool.{and_parts, false_from_ne_true, leb-true, lt-leb, lt-ltb, ne_eqb}
 use Rattle.std.proofs.lemmas.List.{append_assoc}
 use Rattle.std.proofs.lemmas.List.Elements.{All-head, All-tail}
 use Rattle.std.proofs.lemmas.Str.{chars-IsAscii}
+use Rattle.unicode_ident.specs.Ident.{is_xid_continue}
 use Rattle.unicode_ident.proofs.IdentLemmas.{is_xid_start-ascii}
+use Rattle.statement_tokens.specs.Limits.{name_limit}
 use Rattle.block_text.specs.Letters.{starts_name, begins_name, is_name, is_number, spelled_by}
 use Rattle.block_text.specs.Lines.{Line, is}
 use Rattle.block_text.specs.PolynomialLines.{TermTokens, PolynomialTokens, zero, terms, factor_line, term_line, first_line, later_line, polynomial_line, is_term_letter, IsFactor, IsTerm, IsPolynomialTokens, terms_in}
@@ -48,10 +50,9 @@ number_begins (d ∷ ds) number =
 
 no_name : (token : List ℕ) → is_number token ≡ true → is_name token ≡ false
 no_name token number = false_from_ne_true (is_name token) (λ name. absurd (
-    let parts = and_parts _ _ name in
-    let inner = and_parts _ _ parts.1 in
-    let last = and_parts _ _ inner.1 in
-    let begins : begins_name (chars token) ≡ true = last.0 in
+    let parts = and_parts (nat_le (length token) name_limit) (is_utf8 token && (begins_name (chars token) && list_all is_xid_continue (drop 1 (chars token)))) name in
+    let inner = and_parts (is_utf8 token) (begins_name (chars token) && list_all is_xid_continue (drop 1 (chars token))) parts.1 in
+    let begins = (and_parts (begins_name (chars token)) (list_all is_xid_continue (drop 1 (chars token))) inner.1).0 in
     let none : begins_name (chars token) ≡ false = number_begins token number in cc))
 
 pub number_no_letter : (token : List ℕ) → is_number token ≡ true → is_term_letter token ≡ false
@@ -193,13 +194,12 @@ sign_there token sign = sign_is (λ t. cond (is_minus t) (codes "-") (codes "+")
 
 rest_there : (line : Line) → part_in line ++ flat_map later_line (later_in line) ≡ line
 rest_there [] = refl
-rest_there (token ∷ tokens) = by_sign _ refl
+rest_there (token ∷ tokens) = by_sign _ refl (rest_there tokens)
   where
-    by_sign : (b : Bool) → is_term_sign token ≡ b → part_in (token ∷ tokens) ++ flat_map later_line (later_in (token ∷ tokens)) ≡ token ∷ tokens
-    by_sign true sign =
-        rw (sign, negative_there (is_minus token) (part_in tokens), factor_there (is_minus token) (part_in tokens))
-        (ap₂ (λ t ts. t ∷ ts) (sign_there token sign) (rest_there tokens))
-    by_sign false sign = rw sign (ap (λ ts. token ∷ ts) (rest_there tokens))
+    by_sign : (b : Bool) → is_term_sign token ≡ b → part_in tokens ++ flat_map later_line (later_in tokens) ≡ tokens → part_in (token ∷ tokens) ++ flat_map later_line (later_in (token ∷ tokens)) ≡ token ∷ tokens
+    by_sign true sign rest =
+        rw (sign, negative_there (is_minus token) (part_in tokens), factor_there (is_minus token) (part_in tokens)) (ap₂ (λ t ts. t ∷ ts) (sign_there token sign) rest)
+    by_sign false sign rest = rw sign (ap (λ ts. token ∷ ts) rest)
 
 -- the terms of a line, and that they spell it
 pub record HasTerms (line : Line) : Type 0 where
@@ -232,7 +232,7 @@ has_terms (token ∷ tokens) = by_minus _ refl
 zero_terms : (digits : List ℕ) → is_number digits ≡ true → terms_of (digits ∷ []) ≡ record { negative = false; factor = Some digits; letters = [] } ∷ []
 zero_terms digits number =
     let no_sign = number_no_sign digits number in
-    rw (no_minus digits no_sign, no_sign, number) refl
+    rw (no_sign, no_minus digits no_sign, number) refl
 
 no_zero : (line : Line) (first : TermTokens) (later : List TermTokens) → terms_of line ≡ first ∷ later → 0 < length first.letters → is_zero line ≡ true → ⊥
 no_zero [] first later are some nought = absurd (cc)

@@ -1,12 +1,12 @@
 -- The order of words, by the tokens of their letters.
-use Rattle.std.proofs.Common.{◌≡◌, ◌<◌, ℕ, suc, Bool, true, false, ◌&&◌, List, [], ◌∷◌, Option, Some, None, arith, refl, sym, ap, ◌∙◌, subst, length}
+use Rattle.std.proofs.Common.{◌≡◌, ◌<◌, ◌==◌, ℕ, suc, Bool, true, false, ◌&&◌, nat_lt, eq-eqb, eqb-true, ltb-true, List, [], ◌∷◌, Option, Some, None, arith, refl, sym, ap, ◌∙◌, subst, length}
 use Rattle.std.specs.List.{AllZip}
 use Rattle.std.specs.Option.{option_map, option_and_then}
 use Rattle.std.specs.Ordering.{nat_cmp, ordering_then}
 use Rattle.std.specs.Cmp.Lexicographic.{slice_cmp}
 use Rattle.std.specs.declared.cmp.Ordering.{Ordering}
 use Rattle.std.specs.declared.cmp.Ordering.TheVariants.{Less, Equal, Greater}
-use Rattle.std.proofs.lemmas.Bool.{and_parts, lt-ltb, ltb-false, le-leb}
+use Rattle.std.proofs.lemmas.Bool.{and_parts, false_from_ne_true, lt-ltb, ltb-false, ne_eqb}
 use Rattle.std.proofs.lemmas.Option.{option_and_then_some}
 use Rattle.definitions.specs.Poly.{Poly, Term}
 use Rattle.word_core.specs.Canonical.{word_cmp}
@@ -33,10 +33,20 @@ less_first : (k : ℕ) → 0 < k → nat_cmp 0 k ≡ Less
 less_first k some = rw (lt-ltb 0 k some) refl
 
 greater_first : (k : ℕ) → nat_cmp (suc k) 0 ≡ Greater
-greater_first k = refl
+greater_first k =
+    let no_less : nat_lt (suc k) 0 ≡ false = false_from_ne_true (nat_lt (suc k) 0) (λ less. omega (arith, ltb-true (suc k) 0 less)) in
+    rw (no_less, ne_eqb (suc k) 0 (λ e. omega (arith, e))) refl
+
+less_more : (m n : ℕ) (b : Bool) → nat_lt m n ≡ b → nat_lt (suc m) (suc n) ≡ nat_lt m n
+less_more m n true less = lt-ltb (suc m) (suc n) (omega (arith, ltb-true m n less)) ∙ sym less
+less_more m n false less = false_from_ne_true (nat_lt (suc m) (suc n)) (λ more. omega (arith, ltb-true (suc m) (suc n) more, ltb-false m n less)) ∙ sym less
+
+same_more : (m n : ℕ) (b : Bool) → (m == n) ≡ b → (suc m == suc n) ≡ (m == n)
+same_more m n true same = eq-eqb (suc m) (suc n) (ap suc (eqb-true m n same)) ∙ sym same
+same_more m n false same = ne_eqb (suc m) (suc n) (λ e. absurd (let equal : (m == n) ≡ true = eq-eqb m n (omega (arith, e)) in cc)) ∙ sym same
 
 both_more : (m n : ℕ) → nat_cmp (suc m) (suc n) ≡ nat_cmp m n
-both_more m n = refl
+both_more m n = rw (less_more m n _ refl, same_more m n _ refl) refl
 
 module _ (ds : List Declaration) where
   -- the word of letters is that of the first one before that of the others

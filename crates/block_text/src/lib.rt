@@ -5,6 +5,7 @@ mod bracket;
 mod cut;
 mod fault;
 mod kind;
+mod laws;
 mod letter;
 mod line;
 mod number;
@@ -18,6 +19,7 @@ pub use bracket::bracketed;
 pub use cut::{first_line, first_token, is_skipped, is_utf8};
 pub use fault::{CertFault, Flaw, LineFault, TextFlaw, at_line};
 pub use kind::BlockKind;
+pub use laws::polynomials_are_read_back;
 pub use letter::{is_letter, letter_of, name_in};
 pub use line::{
     BLOCK_LIMIT, begins, claim_of, integer_of, is, is_end, is_pair, number_behind, two_tokens,

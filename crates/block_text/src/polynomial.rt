@@ -405,11 +405,7 @@ fn first_flaw(quiver: &Quiver, first: TermText<'_>) -> Flaw
 
 /// The polynomial that a line spells behind its first word, or the first that is wrong with it: the form, names that are
 /// unknown, letters or an order of words that are not as it is written, numbers, the number of terms, and of letters.
-pub fn read_polynomial(
-    alloc: Global,
-    quiver: &Quiver,
-    line: &[u8],
-) -> Result<Poly, LineFault>
+pub fn read_polynomial(alloc: Global, quiver: &Quiver, line: &[u8]) -> Result<Poly, LineFault>
     ensures exact { Reads (λ p. p.terms) result (polynomial_of quiver.now (tokens_of line.now)) }
     ensures over { IfOk result (λ p. All (λ t. IsOver (letter_count quiver.now) t.1) p.terms) }
 {
