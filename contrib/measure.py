@@ -22,6 +22,7 @@ from typing import Callable, List, NamedTuple, Optional, Tuple
 
 sys.dont_write_bytecode = True
 import measure_commands
+import measure_explain
 import measure_prove
 import measure_refute
 from measuring import OPPROVE, Text, bound, build, least, quotient, told, write
@@ -258,7 +259,9 @@ def check_rows(words: List[str], folder: Path) -> Text:
     yield from measure_commands.rows(words, folder)
 
 
-TABLES = {"prove": measure_prove.rows, "workers": measure_prove.worker_rows, "refute": measure_refute.rows}
+TABLES = {
+    "prove": measure_prove.rows, "workers": measure_prove.worker_rows, "refute": measure_refute.rows, "explain": measure_explain.rows,
+}  # fmt: skip
 
 
 def main(words: List[str]) -> int:
