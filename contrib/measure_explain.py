@@ -6,22 +6,23 @@ how many times the seconds grow. NAME behind the word makes the rows whose name 
 """
 from __future__ import annotations
 
+import filecmp
 import itertools
 import os
 import sys
 from pathlib import Path
 from typing import Callable, List, NamedTuple, Tuple
 
-import explain_rows
-from measuring import NO_MEMORY, OPPROVE, Text, Usage, bound, build, least, quotient, told, write
+import try_explain_rows
+from measuring import NO_MEMORY, OPPROVE, Text, Usage, bound, build, least_by, quotient, told, write
 
 FINE = 0
 TEN = list("abcdefghij")
 SUM = f"({'+'.join(TEN)})"
 TERMS = f"object U\nmap {' '.join(TEN)} : U -> U\nassume {SUM * 3} = 0\nassume a = b\nclaim a = a\n"  # the first has 1,000
 THIRD = "object U\nmap x y z : U -> U\nassume x = z\nassume z = x\nassume x = y\nclaim x = y\n"
-PRODUCT = f"{explain_rows.SUMS[0]} {explain_rows.SUMS[1]}{explain_rows.LAST}"  # 10,000,000 letters
-LONG = f"object P\nmap {' '.join(explain_rows.MANY)} : P -> P\nassume {PRODUCT} = 0\nclaim {PRODUCT} = 0\n"
+PRODUCT = f"{try_explain_rows.SUMS[0]} {try_explain_rows.SUMS[1]}{try_explain_rows.LAST}"  # 10,000,000 letters
+LONG = f"object P\nmap {' '.join(try_explain_rows.MANY)} : P -> P\nassume {PRODUCT} = 0\nclaim {PRODUCT} = 0\n"
 OTHERS = "object U V\nmap a b : U -> V\nmap c d e f g h i j : V -> U\nassume a = b\nclaim a = b\n"
 START, END = "certificate 1\nclaim 1\ndenominator 1\n", "end\n"
 
@@ -70,15 +71,15 @@ CASES = [
 
 def runs(case: Case, plain: str, folder: Path) -> Tuple[int, Usage, Usage, Usage]:
     """The bytes of the report, and the runs of `explain`, of `check` and of the plain program."""
-    statement, evidence, out = folder / "statement.op", folder / "evidence.cert", folder / "out"
+    statement, evidence, out, want = (folder / name for name in ("statement.op", "evidence.cert", "out", "want"))
     write(statement, iter([case.statement]))
     write(evidence, case.evidence())
     files = [str(statement), str(evidence)]
-    other = least([plain, "explain", *files], out, lambda status, text: status == FINE)
-    want = out.read_text(encoding="utf-8")
-    own = least([str(OPPROVE), "explain", *files], out, lambda status, text: (status, text) == (FINE, want))
-    checked = least([str(OPPROVE), "check", *files], out, lambda status, text: status == FINE)
-    return len(want.encode()), own, checked, other
+    other = least_by([plain, "explain", *files], want, lambda status: status == FINE)
+    is_same = lambda status: status == FINE and filecmp.cmp(out, want, shallow=False)
+    own = least_by([str(OPPROVE), "explain", *files], out, is_same)
+    checked = least_by([str(OPPROVE), "check", *files], out, lambda status: status == FINE)
+    return want.stat().st_size, own, checked, other
 
 
 def row(case: Case, before: float, plain: str, folder: Path) -> Tuple[str, float]:

@@ -1,7 +1,7 @@
 #!/usr/bin/env python3
 """Tries explain.py, to_chain.py on text of chains, and `explain` of plain.rs: try_explain.py
 
-The reports that explain_rows.py has are asked of explain.py, and with them go the stored certificates, the proofs of the examples
+The reports that try_explain_rows.py has are asked of explain.py, and with them go the stored certificates, the proofs of the examples
 in format 1, random certificates and changed ones. Each of their chains is read by to_chain.py, whose text is read back, and whose
 certificate is explained again; with a changed line it has to be refused by the number of that line. Where opprove is built and has
 `explain`, or the variable OPPROVE names such a program, it prints the same bytes; so does plain.rs, of statements that it reads,
@@ -21,12 +21,12 @@ from typing import Callable, Iterator, List, NamedTuple, Optional, Tuple
 
 sys.dont_write_bytecode = True
 import explain
-import explain_rows
+import try_explain_rows
 import to_chain
 import try_chains
 from check import Certificate, Evidence, Poly, Problem, Refusal, Share, add, judge
 from chain_text import Texts
-from explain_rows import Run
+from try_explain_rows import Run
 from measuring import OPPROVE, build
 from trying import CONTRIB, EXAMPLES, Answer, Failed, Skipped, installed, need, run
 
@@ -104,6 +104,15 @@ def is_plain(files: Files) -> bool:
 # ---- Chains that are read
 
 
+def set_text(statement: Path, chain: Path, *options: str) -> Answer:
+    """What to_chain.py answers, in this process."""
+    try:
+        lines = list(to_chain.written([str(statement), str(chain), *options]))
+    except Refusal as refusal:
+        return Answer(1, "", f"{refusal}\n")
+    return Answer(0, "".join(f"{line}\n" for line in lines), "")
+
+
 def as_certificate(lines: List[str]) -> List[List[str]]:
     """The groups of lines of a chain that was read, as try_chains.py reads them: with what cancels in the head lines."""
     groups = [group.split("\n") for group in "\n".join(lines).split("\n\n")]
@@ -116,29 +125,33 @@ def as_certificate(lines: List[str]) -> List[List[str]]:
     return groups
 
 
+def sums_of(proof: to_chain.Proof) -> List[Poly]:
+    (chain,) = proof.chains
+    return [chain.start(), *(step.total for step in chain.steps)]
+
+
 def told(files: Files, report: str) -> int:
     """Fails unless to_chain.py reads the chains of a report, writes text that is read back, and a certificate that explains the
-    same sums. Gives the number of the chains."""
+    same sums, unless rows of it are merged. Gives the number of the chains."""
     chains = files.folder / "explained.chain"
     chains.write_bytes(report.encode())
     problem = Problem(str(files.statement))
     texts, reader = Texts(problem, str(chains)), to_chain.Reader(problem)
     for number, text in enumerate(texts.chains, 1):
         proof = reader.told(text)
-        claim = reader.claims[text.claim - 1]
-        groups = as_certificate(list(to_chain.text(reader, proof)))
-        try_chains.read_proof(problem, groups, claim.left == {})
+        is_turned = reader.claims[text.claim - 1].left == {}
+        try_chains.read_proof(problem, as_certificate(list(to_chain.text(reader, proof))), is_turned)
         judge(problem, reader.shortened(proof), f"chain {number}")
         files.evidence.write_text("\n".join(to_chain.certificate_text(problem, reader.shortened(proof))), encoding="utf-8")
         again = explained(files)
         need(again.status == 0, (report, again))
         chains.write_bytes(again.out.encode())
-        sums = [reader.told(found) for found in Texts(problem, str(chains)).chains]
-        want = [proof.chains[0].start(), *(step.total for step in proof.chains[0].steps)]
-        need([sums[0].chains[0].start(), *(step.total for step in sums[0].chains[0].steps)] == want, (report, again.out))
+        (other,) = map(reader.told, Texts(problem, str(chains)).chains)
+        is_merged = len({step.row[1:] for step in proof.chains[0].steps}) < len(proof.chains[0].steps)
+        need(is_merged or sums_of(other) == sums_of(proof), (report, again.out))
     chains.write_bytes(report.encode())
-    answer = run(sys.executable, CONTRIB / "to_chain.py", files.statement, chains)
-    need(answer.status == 0 and not answer.error and answer.out.count("\nProof") == len(texts.chains), (report, answer))
+    answer = set_text(files.statement, chains)
+    need(answer.status == 0 and answer.out.count("\nProof") == len(texts.chains), (report, answer))
     return len(texts.chains)
 
 
@@ -161,7 +174,7 @@ def evidence_of(row: Run, files: Files) -> str:
 
 def rows(folder: Path) -> str:
     """The reports that were worked out by hand."""
-    files, chains, found = files_in(folder), 0, explain_rows.runs()
+    files, chains, found = files_in(folder), 0, try_explain_rows.runs()
     for row in found:
         files.write(row.statement, row.evidence)
         files.evidence.write_bytes(evidence_of(row, files).encode())
@@ -176,7 +189,7 @@ def rows(folder: Path) -> str:
 def calls(folder: Path) -> str:
     """Files that aren't there or are too long, and words that aren't taken."""
     files = Files(folder, None)
-    files.write(explain_rows.PAIR, "")
+    files.write(try_explain_rows.PAIR, "")
     programs = [[sys.executable, TOOL]] + ([[OPPROVE, "explain"]] if is_asked() else [])
     with (folder / "long").open("wb") as file:
         file.truncate(2**26 + 1)
@@ -190,7 +203,7 @@ def calls(folder: Path) -> str:
             need(answer.status == explain.USAGE and re.fullmatch("# usage: .*\n", answer.out) is not None, (program, words, answer))
     (folder / "long").unlink()
     with open("/dev/full", "wb") as full:
-        files.evidence.write_text(explain_rows.block(explain_rows.FIVE))
+        files.evidence.write_text(try_explain_rows.block(try_explain_rows.FIVE))
         done = subprocess.run([sys.executable, TOOL, files.statement, files.evidence], stdout=full, stderr=subprocess.PIPE)
         need((done.returncode, done.stderr) == (explain.NO_OUTPUT, b""), done)
     return f"{len(programs) * 5 + 1} faulty calls of explain are told"
@@ -227,9 +240,9 @@ def texts(folder: Path) -> str:
     """What to_chain.py writes of two chains, and that it reads one kind of block alone."""
     files, chain = Files(folder, None), folder / "told.chain"
     for statement, rows_of_it, denominator, text in (
-        (explain_rows.PAIR, explain_rows.FIVE, 1, FIRST_TEXT), (ZERO, ["-1 () 1 ()"], 2, ZERO_TEXT),
+        (try_explain_rows.PAIR, try_explain_rows.FIVE, 1, FIRST_TEXT), (ZERO, ["-1 () 1 ()"], 2, ZERO_TEXT),
     ):  # fmt: skip
-        files.write(statement, explain_rows.block(rows_of_it, 1, denominator))
+        files.write(statement, try_explain_rows.block(rows_of_it, 1, denominator))
         report = explained(files).out
         chain.write_text(report)
         answer = run(sys.executable, CONTRIB / "to_chain.py", files.statement, chain)
@@ -238,14 +251,14 @@ def texts(folder: Path) -> str:
     count = report.count("\n") + 1
     for mixed, place in ((report + certificate, count), (certificate + report, certificate.count("\n") + 2)):
         chain.write_text(mixed)
-        answer = run(sys.executable, CONTRIB / "to_chain.py", files.statement, chain)
+        answer = set_text(files.statement, chain)
         need(answer == Answer(1, "", f"# refused K2 line {place}\n"), answer)
     return "2 chains are set as they were worked out by hand"
 
 
 # ---- Faults of chains
 
-CHAIN = explain_rows.told(*explain_rows.EIGHT, 1, 6)
+CHAIN = try_explain_rows.told(*try_explain_rows.EIGHT, 1, 6)
 FAULTS: List[Tuple[str, str, str]] = [  # what is put in the place of what in a chain, and the line
     ("claim 1\nd", "claim 3\nd", "# block 1 refused C1"),
     ("denominator 6\nl", "denominator 0\nl", "# block 1 refused C3"),
@@ -260,10 +273,10 @@ FAULTS: List[Tuple[str, str, str]] = [  # what is put in the place of what in a 
     ("use 2 () 1 ()", "use 3 () 1 ()", "# block 1 refused line 7 word u want -3 got 0"),
     ("use 2 () 1 ()", "use 2 () 3 ()", "# block 1 refused C2 line 6"),
     ("use 2 () 1 ()", "use 0 () 1 ()", "# block 1 refused line 6 no step"),
-    ("use 2 () 1 ()", f"use {explain_rows.GREATEST} () 1 ()", f"# block 1 refused E2 line 6 -{explain_rows.GREATEST} times -2"),
-    ("use 2 () 1 ()", f"use 2 ({explain_rows.u(500)}) 1 ()", "# block 1 refused E3 line 6"),
-    ("use 2 () 1 ()", f"use 2 ({explain_rows.u(501)}) 1 ()", "# refused K5 line 6 limit 500"),
-    ("use 2 () 1 ()", f"use {explain_rows.GREATEST + 1} () 1 ()", "# refused K4 line 6"),
+    ("use 2 () 1 ()", f"use {try_explain_rows.GREATEST} () 1 ()", f"# block 1 refused E2 line 6 -{try_explain_rows.GREATEST} times -2"),
+    ("use 2 () 1 ()", f"use 2 ({try_explain_rows.u(500)}) 1 ()", "# block 1 refused E3 line 6"),
+    ("use 2 () 1 ()", f"use 2 ({try_explain_rows.u(501)}) 1 ()", "# refused K5 line 6 limit 500"),
+    ("use 2 () 1 ()", f"use {try_explain_rows.GREATEST + 1} () 1 ()", "# refused K4 line 6"),
     ("use 2 () 1 ()", "use 2 () 4294967296 ()", "# refused K4 line 6"),
     ("use 2 () 1 ()", "use 2 (t) 1 ()", "# refused K3 line 6"),
     ("use 2 () 1 ()", "use 2 (u'') 1 ()", "# refused K2 line 6"),
@@ -271,8 +284,8 @@ FAULTS: List[Tuple[str, str, str]] = [  # what is put in the place of what in a 
     ("use 2 () 1 ()", "row 2 () 1 ()", "# refused K2 line 6"),
     ("claim 1\nd", "claim 4294967296\nd", "# refused K4 line 3"),
     ("- 6 u u + 4 v", "- 6 u t + 4 v", "# refused K3 line 7"),
-    ("- 6 u u + 4 v", f"- 6 u u + {explain_rows.GREATEST + 1} v", "# refused K4 line 7"),
-    ("- 6 u u + 4 v", f"- 6 {explain_rows.u(501)} + 4 v", "# refused K5 line 7 limit 500"),
+    ("- 6 u u + 4 v", f"- 6 u u + {try_explain_rows.GREATEST + 1} v", "# refused K4 line 7"),
+    ("- 6 u u + 4 v", f"- 6 {try_explain_rows.u(501)} + 4 v", "# refused K5 line 7 limit 500"),
     ("- 6 u u + 4 v", "+ u" * 20001, "# refused K2 line 7"),
     ("- 6 u u + 4 v", " + ".join(["u"] * 20001), "# refused K5 line 7 limit 20000"),
     *(("- 6 u u + 4 v", text, "# refused K2 line 7") for text in ("6", "- 6 u u + 4", "- - u", "u +", "-", "u + + u", "0 + u", "(u)", "")),
@@ -286,19 +299,15 @@ FAULTS: List[Tuple[str, str, str]] = [  # what is put in the place of what in a 
 def faults(folder: Path) -> str:
     """Chains that something is wrong with."""
     files, chain = Files(folder, None), folder / "faulty.chain"
-    files.write(explain_rows.MULTIPLES, "")
+    files.write(try_explain_rows.MULTIPLES, "")
     for old, new, line in FAULTS:
         need(CHAIN.count(old) >= 1, old)
         chain.write_text(CHAIN.replace(old, new, 1))
-        found = ""
-        try:
-            list(to_chain.written([str(files.statement), str(chain)]))
-        except Refusal as refusal:
-            found = str(refusal)
-        need(found == line, (old, new[:200], line, found))
-    untyped = explain_rows.told(["1 () 1 ()", *explain_rows.FIVE], ["- g + f", *explain_rows.FIVE_LINES])
-    files.write(explain_rows.PAIR, untyped)
-    answer = run(sys.executable, CONTRIB / "to_chain.py", files.statement, files.evidence)
+        found = set_text(files.statement, chain).error
+        need(found == (line and line + "\n"), (old, new[:200], line, found))
+    untyped = try_explain_rows.told(["1 () 1 ()", *try_explain_rows.FIVE], ["- g + f", *try_explain_rows.FIVE_LINES])
+    files.write(try_explain_rows.PAIR, untyped)
+    answer = set_text(files.statement, files.evidence)
     need(answer == Answer(1, "", "# block 1 refused line 6 no step\n"), answer)
     return f"{len(FAULTS) + 1} chains are answered by the line that was worked out by hand"
 
@@ -312,7 +321,7 @@ def changed_lines(files: Files, report: str) -> int:
             continue
         more = f"line {letter}" if line == "line 0" else f"{line} + {letter}"
         chain.write_text("\n".join([*lines[:place], more, *lines[place + 1 :]]), encoding="utf-8")
-        answer = run(sys.executable, CONTRIB / "to_chain.py", files.statement, chain)
+        answer = set_text(files.statement, chain)
         is_told = re.fullmatch(f"# block [0-9]+ refused line {place + 1} word {letter} want .*\n", answer.error)
         need((answer.status, answer.out) == (1, "") and is_told is not None, (more, answer))
         count += 1
@@ -435,7 +444,7 @@ def random_certificates(folder: Path, count: int = COUNT) -> str:
 def latex(folder: Path) -> str:
     """The chains of the rows and of the examples, as pdflatex sets them."""
     program, files, bodies = installed("pdflatex"), Files(folder, None), []
-    cases = [(row.statement, row.evidence) for row in explain_rows.runs() if len(row.report) < LARGE and row.report.endswith("end\n")]
+    cases = [(row.statement, row.evidence) for row in try_explain_rows.runs() if len(row.report) < LARGE and row.report.endswith("end\n")]
     for statement, evidence in stored():
         text = plainly(statement, evidence) if "refused" not in evidence.stem else "certificate 2"
         cases += [] if "certificate 2" in text else [(statement.read_text("utf-8"), text)]
@@ -443,7 +452,7 @@ def latex(folder: Path) -> str:
         files.write(statement, evidence)
         chain = folder / "typeset.chain"
         chain.write_text(explained(files).out, encoding="utf-8")
-        bodies += to_chain.written([str(files.statement), str(chain), "--latex"])
+        bodies += set_text(files.statement, chain, "--latex").out.split("\n")
     head = [r"\documentclass{article}", r"\usepackage{amsmath}", r"\allowdisplaybreaks", r"\begin{document}"]
     (folder / "told.tex").write_text("\n".join([*head, *bodies, r"\end{document}"]))
     answer = run(program, "-interaction=nonstopmode", "-halt-on-error", "told.tex", folder=folder)

@@ -66,7 +66,6 @@ TERMS = text_of(
 LAST = " m1" * 498
 LONG_SUM = f"{SUMS[0]} ({SUMS[1]} ({LAST[1:]}))"  # 10,000,000 letters
 LETTERS = text_of("object P", f"map {' '.join(MANY)} : P -> P", f"assume {LONG_SUM} = 0", f"claim {LONG_SUM} = 0")
-LONG_LINE = " + ".join(word + LAST for word in PRODUCTS)
 
 # ---- Runs
 
@@ -188,7 +187,7 @@ def rows_of_bounds() -> List[Run]:
         Run("36", TERMS, block([one, less], 2), told([one, less], ["0", products, "0"], 2)),
         Run("37", TERMS, block([two, one, less]), told([two, one, less], ["- m2 + m1", "0", products, "0"])),
         Run("38", TERMS, block([one, two, less]), refused("E3 row 1")),
-        Run("39", LETTERS, block([one]), told([one], [LONG_LINE, "0"])),
+        Run("39", LETTERS, block([one]), told([one], [joined([word + LAST for word in PRODUCTS], "+"), "0"])),
         Run("40", LETTERS, block([one, one], 1, 2), refused("E4 row 1 limit 10000000")),
         Run("41", LETTERS, block(["0 () 1 ()", one, less, one]), refused("E4 row 3 limit 10000000")),
     ]
