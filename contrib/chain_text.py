@@ -234,6 +234,7 @@ class Texts(Evidence):
             raise Refusal("# refused K7")
 
     def chain(self) -> ChainText:
+        """A block of a chain."""
         place = self.number
         self.take("chain 1")
         self.limit(place, len(self.chains) + 1, CHAINS)
@@ -287,9 +288,9 @@ class Texts(Evidence):
         # Signs and terms in turn.
         pieces = re.split("(?:^| )([+-]) ", text if text[:2] == "- " else f"+ {text}")[1:] if text != "0" else []
         terms = [re.fullmatch("(?:([0-9]+)(?: |$))?(.*)", piece).groups() for piece in pieces[1::2]]
-        words = self.words(place, [letters for _, letters in terms])
-        if not all(words):
+        if not all(letters for _, letters in terms):
             raise Refusal(f"# refused K2 line {place}")
+        words = self.words(place, [letters for _, letters in terms])
         total: Poly = {}
         for sign, (number, _), word in zip(pieces[::2], terms, words):
             self.bound(place, int(number or 1), MOST)

@@ -190,7 +190,7 @@ def calls(folder: Path) -> str:
     """Files that aren't there or are too long, and words that aren't taken."""
     files = Files(folder, None)
     files.write(try_explain_rows.PAIR, "")
-    programs = [[sys.executable, TOOL]] + ([[OPPROVE, "explain"]] if is_asked() else [])
+    programs = [[sys.executable, TOOL]] + ([[OPPROVE.resolve(), "explain"]] if is_asked() else [])
     with (folder / "long").open("wb") as file:
         file.truncate(2**26 + 1)
     for program in programs:
@@ -455,7 +455,7 @@ def latex(folder: Path) -> str:
         bodies += set_text(files.statement, chain, "--latex").out.split("\n")
     head = [r"\documentclass{article}", r"\usepackage{amsmath}", r"\allowdisplaybreaks", r"\begin{document}"]
     (folder / "told.tex").write_text("\n".join([*head, *bodies, r"\end{document}"]))
-    answer = run(program, "-interaction=nonstopmode", "-halt-on-error", "told.tex", folder=folder)
+    answer = run(program, "-interaction=nonstopmode", "-halt-on-error", "told.tex", folder=folder, seconds=600)
     need(answer.status == 0, answer)
     return f"{sum(line[:8] == '% claim ' for line in bodies)} chains that were read are typeset by pdflatex"
 

@@ -125,6 +125,7 @@ def rows_of_pair() -> List[Run]:
         ("51", block(FIVE) * 100, "".join(told(FIVE, FIVE_LINES, number=number) for number in range(1, 101))),
         ("51, one more", block(FIVE) * 101, "# refused K5 line 901 limit 100\n"),
         ("52", MODEL + block(FIVE) + BASIS, FIRST),
+        ("paths to the target alone", block(["1 () 3 ()", *FIVE, "-1 () 3 ()"]), FIRST),
     ]  # fmt: skip
     proofs = [Run("11", PAIR, block(PROVED), told(PROVED, PROVED_LINES), 1), Run("12", PAIR, LEMMA, refused("E1"), 2)]
     return [Run(name, PAIR, evidence, report) for name, evidence, report in runs] + proofs
@@ -152,6 +153,7 @@ def rows_of_others() -> List[Run]:
             "20", STARRED, block(["1 () 3 (e')", "-1 () 3 (e)", "1 () 3 ()"]),
             told(["1 () 3 (e)", "-1 () 3 (e)", "1 () 3 ()"], ["f' e - f'", "- f' e e + 2 f' e - f'", "f' e - f'", "0"]),
         ),
+        Run("steps of a zero claim", STARRED, block(["1 () 1 ()", "-1 () 1 ()"], 2), told(["1 () 1 ()", "-1 () 1 ()"], ["0", "- e f + f", "0"], 2)),
         Run("21", STARRED, block(["1 () 3 ()", "-1 () 3 ()"], 2), told([], ["0"], 2)),
         Run("30", EQUAL, block(thirty), told(thirty, ["- v + u", f"{v} - {u(500)} - v + u", f"{v} - {u(500)}", "0"])),
         Run("31", EQUAL, block([f"1 ({u(500)}) 1 ()", "1 () 1 ()", f"-1 ({u(500)}) 1 ()"]), refused("E3 row 1")),
