@@ -1,0 +1,5 @@
+mod TextLaws
+mod SaidLines
+mod LetterRange
+mod ShiftReader
+mod ShiftTexts
