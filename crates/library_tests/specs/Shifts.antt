@@ -12,7 +12,7 @@ use Rattle.block_text.specs.Fault.{Fault}
 use Rattle.block_text.specs.Kind.{Kind}
 use Rattle.block_text.specs.Texts as texts
 use Rattle.block_text.specs.Texts.{HasBlocks, IsBlocks}
-use Rattle.small_kind.specs.declared.shifts.Shift.{Shift}
+use Rattle.library_tests.specs.declared.shifts.Shift.{Shift}
 
 -- ---- the grammar
 

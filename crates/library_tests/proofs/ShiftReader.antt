@@ -23,14 +23,14 @@ use Rattle.block_text.proofs.Meets.{Meets, reads, then_meets}
 use Rattle.block_text.proofs.Owed.{Begins, IsWhole, IsStopped, misfit, passes, IsListed, IsReader, read_block}
 use Rattle.block_text.proofs.Results.{bind_ok, bind_err, ok_has, option_map_some}
 use Rattle.block_text.proofs.Standing.{everywhere}
-use Rattle.small_kind.specs.declared.shifts.Shift.{Shift}
-use Rattle.small_kind.specs.declared.shifts.Stage.{Stage}
-use Rattle.small_kind.specs.declared.shifts.Stage.TheVariants as at
-use Rattle.small_kind.specs.Shifts.{ShiftTokens, head_line, letter_line, by_line, may_be_letter, IsShiftBlock, letter_said, shift_value, Bound, names, numbers, flaw_of, Keeps, other_words, shift_kind}
-use Rattle.small_kind.specs.ShiftSteps.{begin, letter_token, letter_at, number_at, shift_of, next, finish, shift_steps}
-use Rattle.small_kind.specs.ShiftTexts.{HasLetter}
-use Rattle.small_kind.proofs.SaidLines.{said_ok, said_err, said_meets, within_limit, number_found}
-use Rattle.small_kind.proofs.LetterRange.{letter_in_range}
+use Rattle.library_tests.specs.declared.shifts.Shift.{Shift}
+use Rattle.library_tests.specs.declared.shifts.Stage.{Stage}
+use Rattle.library_tests.specs.declared.shifts.Stage.TheVariants as at
+use Rattle.library_tests.specs.Shifts.{ShiftTokens, head_line, letter_line, by_line, may_be_letter, IsShiftBlock, letter_said, shift_value, Bound, names, numbers, flaw_of, Keeps, other_words, shift_kind}
+use Rattle.library_tests.specs.ShiftSteps.{begin, letter_token, letter_at, number_at, shift_of, next, finish, shift_steps}
+use Rattle.library_tests.specs.ShiftTexts.{HasLetter}
+use Rattle.library_tests.proofs.SaidLines.{said_ok, said_err, said_meets, within_limit, number_found}
+use Rattle.library_tests.proofs.LetterRange.{letter_in_range}
 
 -- ---- flaws
 

@@ -10,7 +10,7 @@ use Rattle.block_text.specs.Letters.{number_within}
 use Rattle.block_text.specs.Lines.{Line}
 use Rattle.block_text.proofs.Meets.{Meets, asked_meets}
 use Rattle.block_text.proofs.Results.{bind_ok, bind_err, asked_ok, asked_err}
-use Rattle.small_kind.specs.SaidLines.{said}
+use Rattle.library_tests.specs.SaidLines.{said}
 
 module _ {T A : Type 0} (tokens : Line → Option T) (value : T → Option A) where
   pub said_ok : (flaw : Flaw) (line : Line) (x : A) → said tokens value flaw line ≡ Ok x → (t : T) × (tokens line ≡ Some t) × (value t ≡ Some x)

@@ -8,11 +8,11 @@ use Rattle.block_text.specs.Fault.{◌>>=◌}
 use Rattle.block_text.specs.Letters.{is_letter, number_within}
 use Rattle.block_text.specs.Lines.{Line, number_limit, is, is_pair, number_behind}
 use Rattle.block_text.specs.Steps.{Steps}
-use Rattle.small_kind.specs.declared.shifts.Shift.{Shift}
-use Rattle.small_kind.specs.declared.shifts.Stage.{Stage}
-use Rattle.small_kind.specs.declared.shifts.Stage.TheVariants as at
-use Rattle.small_kind.specs.SaidLines.{said}
-use Rattle.small_kind.specs.Shifts.{letter_said, other_words}
+use Rattle.library_tests.specs.declared.shifts.Shift.{Shift}
+use Rattle.library_tests.specs.declared.shifts.Stage.{Stage}
+use Rattle.library_tests.specs.declared.shifts.Stage.TheVariants as at
+use Rattle.library_tests.specs.SaidLines.{said}
+use Rattle.library_tests.specs.Shifts.{letter_said, other_words}
 
 -- shift 1
 abbrev pub begin : Line → Option Stage

@@ -7,7 +7,7 @@ use Rattle.block_text.specs.Steps.{Steps}
 use Rattle.block_text.proofs.Owed.{IsReader}
 use Rattle.block_text.proofs.EachText.{text_is_read, values_are_unique, fault_is_unique, values_have_no_fault}
 use Rattle.block_text.proofs.PartsBack.{IsWritten, written_between, parts_have}
-use Rattle.small_kind.specs.TextLaws.{AreTold, AreReadBack}
+use Rattle.library_tests.specs.TextLaws.{AreTold, AreReadBack}
 
 module _ {Value : Type 0} (kind : Kind Value) where
   pub are_told : {Begun : Type 0} (steps : Steps Begun Value) → IsReader kind steps → AreTold kind

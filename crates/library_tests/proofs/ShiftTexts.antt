@@ -18,14 +18,14 @@ use Rattle.block_text.proofs.NumbersBack.{decimal_text, decimal_number, decimal_
 use Rattle.block_text.proofs.PartsBack.{IsWritten}
 use Rattle.block_text.proofs.TextsBack.{line_text-append, literal, letter_written}
 use Rattle.block_text.proofs.TokensBack.{token_read}
-use Rattle.small_kind.specs.declared.shifts.Shift.{Shift}
-use Rattle.small_kind.specs.Shifts.{head_line, letter_line, by_line, may_be_letter, letter_said, Bound, names, numbers, Keeps, shift_kind}
-use Rattle.small_kind.specs.ShiftTexts.{letter_line_text, shift_text, IsWritable}
-use Rattle.small_kind.specs.TextLaws.{AreTold, AreReadBack}
-use Rattle.small_kind.specs.ShiftSteps.{shift_steps}
-use Rattle.small_kind.proofs.ShiftReader.{reader}
-use Rattle.small_kind.proofs.TextLaws.{are_told, are_read_back}
-use Rattle.small_kind.proofs.SaidLines.{within_limit}
+use Rattle.library_tests.specs.declared.shifts.Shift.{Shift}
+use Rattle.library_tests.specs.Shifts.{head_line, letter_line, by_line, may_be_letter, letter_said, Bound, names, numbers, Keeps, shift_kind}
+use Rattle.library_tests.specs.ShiftTexts.{letter_line_text, shift_text, IsWritable}
+use Rattle.library_tests.specs.TextLaws.{AreTold, AreReadBack}
+use Rattle.library_tests.specs.ShiftSteps.{shift_steps}
+use Rattle.library_tests.proofs.ShiftReader.{reader}
+use Rattle.library_tests.proofs.TextLaws.{are_told, are_read_back}
+use Rattle.library_tests.proofs.SaidLines.{within_limit}
 
 pub shifts_are_told : (ds : List Declaration) → AreTold (shift_kind ds)
 shifts_are_told ds = are_told (shift_kind ds) (shift_steps ds) (reader ds)

@@ -7,10 +7,10 @@ ghost use Rattle.quiver.specs.Declarations.{Declaration, IsDeclared, letter_coun
 ghost use Rattle.block_text.specs.Back.{is_named};
 ghost use Rattle.block_text.specs.Fault.{ExplainsBy};
 ghost use Rattle.block_text.specs.Tokens.{tokens_of};
-ghost use Rattle.small_kind.specs.Shifts.{shift_kind, IsShifts, IsFirstFault};
-ghost use Rattle.small_kind.specs.ShiftSteps.{begin, letter_token, letter_at, number_at, next, finish, shift_steps};
-ghost use Rattle.small_kind.specs.ShiftTexts.{letter_line_text, shift_text, HasLetter, IsWritable};
-ghost use Rattle.small_kind.specs.TextLaws.{AreTold, AreReadBack};
+ghost use Rattle.library_tests.specs.Shifts.{shift_kind, IsShifts, IsFirstFault};
+ghost use Rattle.library_tests.specs.ShiftSteps.{begin, letter_token, letter_at, number_at, next, finish, shift_steps};
+ghost use Rattle.library_tests.specs.ShiftTexts.{letter_line_text, shift_text, HasLetter, IsWritable};
+ghost use Rattle.library_tests.specs.TextLaws.{AreTold, AreReadBack};
 
 use block_text::{
     BlockKind, CertFault, Flaw, LineFault, NUMBER_LIMIT, begins, first_token, is, is_letter,

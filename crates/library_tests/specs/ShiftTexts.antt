@@ -3,7 +3,7 @@ use Rattle.std.specs.Prelude.{◌<◌, ◌^◌, ℕ, List, ◌++◌, decimal, Op
 use Rattle.quiver.specs.Declarations.{Declaration, letter_count}
 use Rattle.word_core.specs.declared.letter.Letter.{Letter}
 use Rattle.block_text.specs.Written.{letter_text}
-use Rattle.small_kind.specs.declared.shifts.Shift.{Shift}
+use Rattle.library_tests.specs.declared.shifts.Shift.{Shift}
 
 abbrev pub letter_line_text : List Declaration → Option Letter → List ℕ
 letter_line_text ds None = codes "letter\n"

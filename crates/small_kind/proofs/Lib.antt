@@ -1,5 +1,0 @@
-mod TextLaws
-mod SaidLines
-mod LetterRange
-mod ShiftReader
-mod ShiftTexts
