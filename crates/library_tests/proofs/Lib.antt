@@ -1,2 +1,7 @@
 pub mod Loops
 pub mod Below
+mod LetterRange
+mod SaidLines
+mod ShiftReader
+mod ShiftTexts
+mod TextLaws
