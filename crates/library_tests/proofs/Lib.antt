@@ -1,6 +1,5 @@
 pub mod Loops
 pub mod Below
-mod LetterRange
 mod SaidLines
 mod ShiftReader
 mod ShiftTexts

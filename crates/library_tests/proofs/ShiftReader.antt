@@ -30,7 +30,7 @@ use Rattle.library_tests.specs.Shifts.{ShiftTokens, head_line, letter_line, by_l
 use Rattle.library_tests.specs.ShiftSteps.{begin, letter_token, letter_at, number_at, shift_of, next, finish, shift_steps}
 use Rattle.library_tests.specs.ShiftTexts.{HasLetter}
 use Rattle.library_tests.proofs.SaidLines.{said_ok, said_err, said_meets, within_limit, number_found}
-use Rattle.library_tests.proofs.LetterRange.{letter_in_range}
+use Rattle.block_text.proofs.LetterRange.{letter_in_range}
 
 -- ---- flaws
 
