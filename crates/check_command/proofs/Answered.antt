@@ -35,12 +35,12 @@ use Rattle.command_shape.proofs.Owed.{OwesEnding, owed_over, zero_or_past}
 -- ---- the tests of certificates
 
 -- a refusal that has a line is no want of memory
-told : (ds : List Declaration) (r : Refusal) (cause : List ℕ) → cause_text ds r ≡ Some cause → IsMemory r → ⊥
+pub told : (ds : List Declaration) (r : Refusal) (cause : List ℕ) → cause_text ds r ≡ Some cause → IsMemory r → ⊥
 told ds (refusal.Memory failed) cause is memory = absurd cc
 told ds other cause is memory = memory
 
 -- a refusal that isn't want of memory has a text
-refusal_text : (ds : List Declaration) (r : Refusal) → (IsMemory r → ⊥) → (cause : List ℕ) × (cause_text ds r ≡ Some cause)
+pub refusal_text : (ds : List Declaration) (r : Refusal) → (IsMemory r → ⊥) → (cause : List ℕ) × (cause_text ds r ≡ Some cause)
 refusal_text ds (refusal.Memory failed) h = absurd (h tt)
 refusal_text ds other h = (_, refl)
 
@@ -96,7 +96,7 @@ module _ {Object Arrow : Type 0} {s : Structure Object Arrow} (laws : Preadditiv
       proved_means laws sound with_lemmas problem (claim_number e) e named.least named.most (adds_up e (accepted_evidence_adds_up (polynomials problem.parts.claims) (polynomials problem.generators) e accepted))
 
 -- what each of them means
-each : (P Q : Evidence → Type 0) → ((e : Evidence) → P e → Q e) → (es : List Evidence) → AllByRecursion P es → AllByRecursion Q es
+pub each : (P Q : Evidence → Type 0) → ((e : Evidence) → P e → Q e) → (es : List Evidence) → AllByRecursion P es → AllByRecursion Q es
 each P Q one [] all = tt
 each P Q one (e ∷ es) all = (one e all.0, each P Q one es all.1)
 

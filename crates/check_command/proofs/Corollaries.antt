@@ -39,7 +39,8 @@ zero_means s statement evidence ending answers says is_zero =
 pub faults_are_answered : FaultsAreAnswered
 faults_are_answered statement evidence text refused = faulty text refused refl
 
-not_three : (n : ℕ) → (n ≡ 0) ⊎ (n ≡ 7) → n ≡ 3 → ⊥
+-- 0 and 7 are not 3
+pub not_three : (n : ℕ) → (n ≡ 0) ⊎ (n ≡ 7) → n ≡ 3 → ⊥
 not_three n (inl is) three = omega arith
 not_three n (inr is) three = omega arith
 

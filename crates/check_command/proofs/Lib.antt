@@ -1,4 +1,4 @@
-mod Letters
-mod Readable
+pub mod Letters
+pub mod Readable
 pub mod Answered
-mod Corollaries
+pub mod Corollaries

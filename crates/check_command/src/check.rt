@@ -31,8 +31,8 @@ pub fn judge_evidence(alloc: Global, problem: &Problem, evidence: &[u8]) -> Resu
     judge_blocks(alloc, &CertificateChecker, problem, certificates.as_slice())
 }
 
-// The certificates of the text, or the ending that tells its first fault.
-fn certificates_of(
+/// The certificates of the text, or the ending that tells its first fault.
+pub fn certificates_of(
     alloc: Global,
     evidence: &[u8],
     quiver: &Quiver,

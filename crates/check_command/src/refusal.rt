@@ -26,7 +26,8 @@ pub fn cause_text(alloc: Global, quiver: &Quiver, refusal: &Refusal) -> Result<V
     Ok(text)
 }
 
-fn put_cause(out: &mut Vec<u8>, quiver: &Quiver, refusal: &Refusal) -> Result<(), AllocError>
+/// Why a certificate is refused, behind bytes. Want of memory has no text.
+pub fn put_cause(out: &mut Vec<u8>, quiver: &Quiver, refusal: &Refusal) -> Result<(), AllocError>
     requires { HasLetters quiver.now refusal.now }
     ensures { OnOk result (Puts (cause_text quiver.now refusal.now) out.old.items out.new.items) }
 {
@@ -34,7 +35,7 @@ fn put_cause(out: &mut Vec<u8>, quiver: &Quiver, refusal: &Refusal) -> Result<()
         Refusal::NoSuchClaim => put(out, "C1"),
         Refusal::NoSuchGenerator { row } => put_labelled(out, "C2 row ", u128::from(*row)),
         Refusal::ZeroDenominator => put(out, "C3"),
-        Refusal::Overflow { row, overflow } => put_overflow(out, *row, overflow),
+        Refusal::Overflow { row, overflow } => put_overflow(out, "C4 row ", *row, overflow),
         Refusal::Size { row } => put_past(out, "C5 row ", *row, SUM_LIMIT),
         Refusal::Differs { word, want, got } => put_difference(out, quiver, word, *want, *got),
         Refusal::NoSuchLemma { row } => put_labelled(out, "C7 row ", u128::from(*row)),
@@ -48,18 +49,24 @@ fn put_cause(out: &mut Vec<u8>, quiver: &Quiver, refusal: &Refusal) -> Result<()
     }
 }
 
-// A place, and the limit that is passed there.
-fn put_past(out: &mut Vec<u8>, place: &str, number: u32, limit: usize) -> Result<(), AllocError>
+/// A place, and the limit that is passed there, behind bytes.
+pub fn put_past(out: &mut Vec<u8>, place: &str, number: u32, limit: usize) -> Result<(), AllocError>
     ensures { OnOk result (out.new.items ≡ out.old.items ++ (place.now ++ (decimal number ++ (codes " limit " ++ decimal limit)))) }
 {
     put_labelled(out, place, u128::from(number))?;
     put_labelled(out, " limit ", limit as u128)
 }
 
-fn put_overflow(out: &mut Vec<u8>, row: u32, overflow: &Overflow) -> Result<(), AllocError>
-    ensures { OnOk result (out.new.items ≡ out.old.items ++ (codes "C4 row " ++ (decimal row ++ (codes " " ++ (signed_decimal overflow.now.left ++ (operation_text overflow.now.product ++ signed_decimal overflow.now.right)))))) }
+/// A place, and the operation that leaves the range there, behind bytes.
+pub fn put_overflow(
+    out: &mut Vec<u8>,
+    place: &str,
+    number: u32,
+    overflow: &Overflow,
+) -> Result<(), AllocError>
+    ensures { OnOk result (out.new.items ≡ out.old.items ++ (place.now ++ (decimal number ++ (codes " " ++ (signed_decimal overflow.now.left ++ (operation_text overflow.now.product ++ signed_decimal overflow.now.right)))))) }
 {
-    put_labelled(out, "C4 row ", u128::from(row))?;
+    put_labelled(out, place, u128::from(number))?;
     put_signed(out, " ", overflow.left)?;
     put_operation(out, overflow.product)?;
     put_integer(out, overflow.right)

@@ -11,3 +11,5 @@ pub mod Going
 pub mod Multiple
 pub mod Making
 pub mod Spelled
+pub mod Letters
+pub mod Blocks

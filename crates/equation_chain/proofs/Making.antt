@@ -13,6 +13,7 @@ use Rattle.equation_chain.specs.declared.fault.ChainFault.TheVariants as fault
 use Rattle.cofactor_checker.specs.declared.refusal.Refusal.TheVariants as refusal
 use Rattle.equation_chain.specs.declared.chain.Chain.{Chain}
 use Rattle.equation_chain.specs.declared.chain.Making.{Making}
+use Rattle.equation_chain.specs.declared.line.Line.{Line}
 use Rattle.equation_chain.specs.Steps.{is_step, steps_of}
 use Rattle.equation_chain.specs.Lines.{line_less, lines_by, lines_of, letters_of}
 use Rattle.equation_chain.specs.Faults.{steps_before, StepsPass, IsAccepted, IsExplained, IsFirstFault, IsMemory}
@@ -35,15 +36,21 @@ module _ (problem : Problem) (c : Certificate) where
     lines = ap (λ (ps : List Poly). polynomials ps ++ m.line.poly.terms ∷ []) nothing ∙ ap (λ (l : List Term). l ∷ []) line.terms;
   }
 
-  -- a row that is no step
+  -- a row that is no step leaves the line as it is
+  pub line_stays : (i : ℕ) (row : CertRow) → slice_get c.rows i ≡ Some row → is_step problem c.claim row ≡ false → (line : Line) → IsLineBefore problem c i line → IsLineBefore problem c (i + 1) line
+  line_stays i row there is line before =
+      let same = none_before problem c i row there is in
+      record {
+        terms = before.terms ∙ ap (line_less problem c) (sym same);
+        letters = before.letters ∙ ap (λ (steps : List CertRow). letters_of (lines_by problem c steps)) (sym same);
+      }
+
+  -- and the chain
   pub making_stays : (i : ℕ) (row : CertRow) → slice_get c.rows i ≡ Some row → is_step problem c.claim row ≡ false → (m : Making) → IsMaking problem c i m → IsMaking problem c (i + 1) m
   making_stays i row there is m making =
       let same = none_before problem c i row there is in
       record {
-        line = record {
-          terms = making.line.terms ∙ ap (line_less problem c) (sym same);
-          letters = making.line.letters ∙ ap (λ (steps : List CertRow). letters_of (lines_by problem c steps)) (sym same);
-        };
+        line = line_stays i row there is m.line making.line;
         steps = making.steps ∙ sym same;
         lines = making.lines ∙ ap (lines_by problem c) (sym same);
       }

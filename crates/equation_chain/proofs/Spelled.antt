@@ -1,5 +1,5 @@
 -- Chains are written a letter, a step and a line at a time.
-use Rattle.std.proofs.Common.{◌≡◌, ◌<◌, ◌+◌, ◌==◌, ℕ, false, List, [], ◌∷◌, ◌++◌, arith, refl, sym, ap, ap₂, ◌∙◌, length, take, map, get_or, codes}
+use Rattle.std.proofs.Common.{◌≡◌, ◌<◌, ◌+◌, ◌==◌, ℕ, false, List, [], ◌∷◌, ◌++◌, arith, refl, sym, ap, ap₂, subst, ◌∙◌, length, take, map, get_or, codes}
 use Rattle.std.proofs.lemmas.Bool.{ne_eqb}
 use Rattle.std.proofs.lemmas.List.{append_assoc, append-nil, take_more, map-append, length-map, length-take-le}
 use Rattle.std.proofs.lemmas.List.Elements.{recursion_from_All}
@@ -8,7 +8,8 @@ use Rattle.std.specs.Int.{is_negative}
 use Rattle.std.specs.Int.RustNames.{unsigned_abs}
 use Rattle.std.specs.Fmt.{signed_decimal}
 use Rattle.std.specs.Prelude.{if◌then◌else◌, decimal}
-use Rattle.std.specs.List.{All, AllByRecursion, flat_map, join_with_byte, range_with_len}
+use Rattle.std.specs.List.{All, AllByRecursion, flat_map, zip, join_with_byte, range_with_len}
+use Rattle.std.proofs.lemmas.Grind.{flat_map-append}
 use Rattle.definitions.specs.Poly.{Term, Poly}
 use Rattle.word_core.specs.Letters.{IsOver}
 use Rattle.quiver.specs.Declarations.{Declaration, letter_count}
@@ -16,7 +17,7 @@ use Rattle.cofactor_trace.specs.declared.CertRow.{CertRow}
 use Rattle.certificate_text.specs.Evidence.{IsRowOver}
 use Rattle.block_text.specs.Written.{letter_text, gap_text, word_text, factor_text, later_text, poly_text}
 use Rattle.equation_chain.specs.Written.{line_text, use_text, steps_text, lines_text}
-use Rattle.equation_chain.specs.Spelled.{AreTexts, word_by, later_by, poly_by, line_by, use_by}
+use Rattle.equation_chain.specs.Spelled.{AreTexts, word_by, later_by, poly_by, line_by, use_by, steps_by, lines_spelled, IsStepSpelled, IsLineSpelled}
 
 -- ---- letter by letter
 
@@ -86,18 +87,43 @@ module _ (ds : List Declaration) (texts : List (List ℕ)) (are : AreTexts ds te
       ap₂ (λ (l r : List ℕ). codes "use " ++ signed_decimal step.coef ++ codes " (" ++ l ++ codes ") " ++ decimal step.generator ++ codes " (" ++ r ++ codes ")\n")
       (word_is step.left over.left) (word_is step.right over.right)
 
+  -- what is over the letters of the quiver has texts
+  spelled : (w : List ℕ) → IsOver (letter_count ds) w → IsOver (length texts) w
+  spelled w over = subst (λ (n : ℕ). IsOver n w) (sym texts_long) over
+
+  pub step_spelled : (step : CertRow) → IsRowOver ds step → IsStepSpelled texts step
+  step_spelled step over = record { left = spelled step.left over.left; right = spelled step.right over.right }
+
+  pub line_spelled : (line : List Term) → All (λ (t : Term). IsOver (letter_count ds) t.1) line → IsLineSpelled texts line
+  line_spelled line over = λ k d below. spelled (get_or line k d).1 (over k d below)
+
+  abbrev AreOver : List (List Term) → Type 0
+  AreOver lines = AllByRecursion (λ l. All (λ (t : Term). IsOver (letter_count ds) t.1) l) lines
+
+  steps_are : (steps : List CertRow) (lines : List (List Term)) → AllByRecursion (IsRowOver ds) steps → AreOver lines → steps_by texts steps lines ≡ steps_text ds steps lines
+  steps_are [] lines over all = refl
+  steps_are (s ∷ steps) [] over all = refl
+  steps_are (s ∷ steps) (l ∷ lines) over all = ap₂ ◌++◌ (ap₂ ◌++◌ (use_is_text s over.0) (line_is_text l all.0)) (steps_are steps lines over.1 all.1)
+
+  pub lines_are : (steps : List CertRow) (lines : List (List Term)) → AllByRecursion (IsRowOver ds) steps → AreOver lines → lines_spelled texts steps lines ≡ lines_text ds steps lines
+  lines_are steps [] over all = refl
+  lines_are steps (l ∷ lines) over all = ap₂ ◌++◌ (line_is_text l all.0) (steps_are steps lines over all.1)
+
 -- ---- step by step
+
+zip_more : (steps : List CertRow) (lines : List Poly) (step : CertRow) (line : Poly) → length steps ≡ length lines → zip (steps ++ step ∷ []) (lines ++ line ∷ []) ≡ zip steps lines ++ (step, line) ∷ []
+zip_more [] [] step line same = refl
+zip_more [] (l ∷ lines) step line same = absurd (omega (arith, same))
+zip_more (s ∷ steps) [] step line same = absurd (omega (arith, same))
+zip_more (s ∷ steps) (l ∷ lines) step line same = ap (λ (ps : List (CertRow × Poly)). (s, l) ∷ ps) (zip_more steps lines step line (omega (arith, same)))
 
 steps_more : (ds : List Declaration) (steps : List CertRow) (lines : List Poly) (step : CertRow) (line : Poly) → length steps ≡ length lines
     → steps_text ds (steps ++ step ∷ []) (lines ++ line ∷ []) ≡ steps_text ds steps lines ++ (use_text ds step ++ line_text ds line)
-steps_more ds [] [] step line same = ap (λ (t : List ℕ). use_text ds step ++ t) (append-nil (line_text ds line))
-steps_more ds [] (l ∷ lines) step line same = absurd (omega (arith, same))
-steps_more ds (s ∷ steps) [] step line same = absurd (omega (arith, same))
-steps_more ds (s ∷ steps) (l ∷ lines) step line same =
-    let rest = steps_more ds steps lines step line (omega (arith, same)) in
-    ap (λ (t : List ℕ). use_text ds s ++ (line_text ds l ++ t)) rest
-    ∙ ap (λ (t : List ℕ). use_text ds s ++ t) (sym (append_assoc (line_text ds l) (steps_text ds steps lines) (use_text ds step ++ line_text ds line)))
-    ∙ sym (append_assoc (use_text ds s) (line_text ds l ++ steps_text ds steps lines) (use_text ds step ++ line_text ds line))
+steps_more ds steps lines step line same =
+    let f : CertRow × Poly → List ℕ = λ s. use_text ds s.0 ++ line_text ds s.1 in
+    ap (flat_map f) (zip_more steps lines step line same)
+    ∙ flat_map-append f (zip steps lines) ((step, line) ∷ [])
+    ∙ ap (λ (t : List ℕ). steps_text ds steps lines ++ t) (append-nil (use_text ds step ++ line_text ds line))
 
 -- a step more is written behind the others
 pub lines_text_more : (ds : List Declaration) (steps : List CertRow) (lines : List Poly) (step : CertRow) (line : Poly) → length lines ≡ length steps + 1

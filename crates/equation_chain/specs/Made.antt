@@ -1,13 +1,17 @@
 -- A chain as it is made, and as it is handed out.
-use Rattle.std.specs.Prelude.{◌≡◌, ⊤, ℕ, ◌+◌, ◌<◌, ◌≤◌, [], ◌∷◌, ◌++◌, true, false, Some, None, Option, Ok, Err}
+use Rattle.std.specs.Prelude.{◌≡◌, ⊤, ℕ, ◌+◌, ◌<◌, ◌≤◌, List, [], ◌∷◌, ◌++◌, true, false, Some, None, Option, Ok, Err}
 use Rattle.definitions.specs.Poly.{Poly}
 use Rattle.nc_polynomial.specs.declared.fault.PolyFault.{PolyFault}
 use Rattle.nc_polynomial.specs.declared.fault.PolyFault.TheVariants as poly
 use Rattle.nc_polynomial.specs.declared.fault.SizeFault.{SizeFault}
+use Rattle.std.specs.List.{All}
+use Rattle.word_core.specs.Letters.{IsOver}
+use Rattle.quiver.specs.Declarations.{Declaration, letter_count}
 use Rattle.cofactor_trace.specs.declared.CertRow.{CertRow}
 use Rattle.cofactor_trace.specs.declared.Certificate.{Certificate}
 use Rattle.adjoint_rules.specs.declared.problem.Problem.{Problem}
 use Rattle.adjoint_rules.specs.Problem.{polynomials}
+use Rattle.certificate_text.specs.Evidence.{IsRowOver}
 use Rattle.equation_chain.specs.declared.chain.Chain.{Chain}
 use Rattle.equation_chain.specs.declared.chain.Making.{Making}
 use Rattle.equation_chain.specs.declared.line.Line.{Line}
@@ -61,3 +65,8 @@ pub record IsChainOf (problem : Problem) (c : Certificate) (chain : Chain) : Typ
   pub denominator : chain.denominator ≡ c.denominator
   pub steps : chain.steps ≡ steps_of problem c
   pub lines : polynomials chain.lines ≡ lines_of problem c
+
+-- It can be written: the letters of its steps and of its lines are letters of the quiver.
+pub record IsWritable (ds : List Declaration) (chain : Chain) : Type 0 where
+  pub steps : All (IsRowOver ds) chain.steps
+  pub lines : All (λ p. All (λ t. IsOver (letter_count ds) t.1) p.terms) chain.lines

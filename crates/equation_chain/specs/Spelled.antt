@@ -1,10 +1,11 @@
 -- Words and polynomials by a table of the texts of letters; for private functions.
-use Rattle.std.specs.Prelude.{◌≡◌, ℕ, List, [], ◌∷◌, ◌++◌, map, get_or, codes, decimal, if◌then◌else◌}
+use Rattle.std.specs.Prelude.{◌≡◌, ℕ, List, [], ◌∷◌, ◌++◌, length, map, get_or, codes, decimal, if◌then◌else◌}
 use Rattle.std.specs.Fmt.{signed_decimal}
 use Rattle.std.specs.Int.{is_negative}
 use Rattle.std.specs.Int.RustNames.{unsigned_abs}
-use Rattle.std.specs.List.{flat_map, join_with_byte, range_with_len}
+use Rattle.std.specs.List.{All, flat_map, zip, join_with_byte, range_with_len}
 use Rattle.definitions.specs.Poly.{Poly, Term}
+use Rattle.word_core.specs.Letters.{IsOver}
 use Rattle.quiver.specs.Declarations.{Declaration, letter_count}
 use Rattle.cofactor_trace.specs.declared.CertRow.{CertRow}
 use Rattle.block_text.specs.Written.{letter_text, factor_text}
@@ -38,3 +39,20 @@ line_by texts line = codes "line " ++ (poly_by texts line ++ codes "\n")
 abbrev pub use_by : List (List ℕ) → CertRow → List ℕ
 use_by texts step =
     codes "use " ++ signed_decimal step.coef ++ codes " (" ++ word_by texts step.left ++ codes ") " ++ decimal step.generator ++ codes " (" ++ word_by texts step.right ++ codes ")\n"
+
+-- each step, with the line behind it
+abbrev pub steps_by : List (List ℕ) → List CertRow → List Poly → List ℕ
+steps_by texts steps lines = flat_map (λ s. use_by texts s.0 ++ line_by texts s.1) (zip steps lines)
+
+-- the first line, and then the steps
+abbrev pub lines_spelled : List (List ℕ) → List CertRow → List Poly → List ℕ
+lines_spelled texts steps [] = []
+lines_spelled texts steps (line ∷ lines) = line_by texts line ++ steps_by texts steps lines
+
+-- the letters of the words of a step, and of a line, have texts
+pub record IsStepSpelled (texts : List (List ℕ)) (step : CertRow) : Type 0 where
+  pub left : IsOver (length texts) step.left
+  pub right : IsOver (length texts) step.right
+
+abbrev pub IsLineSpelled : List (List ℕ) → Poly → Type 0
+IsLineSpelled texts line = All (λ t. IsOver (length texts) t.1) line

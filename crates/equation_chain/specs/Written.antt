@@ -1,6 +1,7 @@
 -- How a chain is written.
 use Rattle.std.specs.Prelude.{ℕ, ℤ, List, [], ◌∷◌, ◌++◌, codes, decimal}
 use Rattle.std.specs.Fmt.{signed_decimal}
+use Rattle.std.specs.List.{flat_map, zip}
 use Rattle.definitions.specs.Poly.{Poly}
 use Rattle.quiver.specs.Declarations.{Declaration}
 use Rattle.cofactor_trace.specs.declared.CertRow.{CertRow}
@@ -16,8 +17,7 @@ use_text ds step =
 
 -- each step, with the line behind it
 abbrev pub steps_text : List Declaration → List CertRow → List Poly → List ℕ
-steps_text ds (step ∷ steps) (line ∷ lines) = use_text ds step ++ (line_text ds line ++ steps_text ds steps lines)
-steps_text ds steps lines = []
+steps_text ds steps lines = flat_map (λ s. use_text ds s.0 ++ line_text ds s.1) (zip steps lines)
 
 -- the first line, and then the steps
 abbrev pub lines_text : List Declaration → List CertRow → List Poly → List ℕ

@@ -1,8 +1,9 @@
 //! The chain of a certificate: its steps and its lines.
 ghost use Rattle.std.specs.Prelude.{◌+◌, ◌<◌, ◌≤◌, length, All, IfOk, IfErr, OnOk};
 ghost use Rattle.coef_int.specs.Range.{IsCoefficient};
+ghost use Rattle.certificate_text.specs.Evidence.{IsRowOver};
 ghost use Rattle.equation_chain.specs.Faults.{IsAccepted, StepsPass, IsExplained, IsFirstFault, IsMemory};
-ghost use Rattle.equation_chain.specs.Made.{IsChainOf, IsMaking};
+ghost use Rattle.equation_chain.specs.Made.{IsChainOf, IsMaking, IsWritable};
 
 use crate::ChainFault;
 use crate::line::{Line, first_line, next_line};
@@ -40,6 +41,7 @@ pub fn explain(
     ensures explained { OnOk result (IsExplained problem.now certificate.now) }
     ensures fault { IfErr result (IsFirstFault problem.now certificate.now) }
     ensures complete { IsExplained problem.now certificate.now → IfErr result IsMemory }
+    ensures writable { All (IsRowOver problem.now.parts.quiver) certificate.now.rows → IfOk result (IsWritable problem.now.parts.quiver) }
 {
     check(alloc, problem, certificate)?;
     made_chain(alloc, problem, certificate)

@@ -1,6 +1,7 @@
 //! A certificate of rows over generators as a chain of equations: from its denominator times its claim down to zero, each line the one before less one step.
 #![tactic(auto)]
 
+mod block;
 mod chain;
 mod fault;
 mod laws;
@@ -8,6 +9,7 @@ mod line;
 mod step;
 mod text;
 
+pub use block::put_chain;
 pub use chain::{Chain, explain};
 pub use fault::ChainFault;
 pub use laws::{

@@ -53,7 +53,7 @@ module _ {Object Arrow : Type 0} {s : Structure Object Arrow} (laws : Preadditiv
       subst P (sym not_starred)
       ((unit_sound laws).generators q (numbers problem.parts.marked) (polynomials problem.parts.assumptions) (posed_quiver problem.parts problem.posed) (marked_are_objects problem.parts problem.posed) f rep vanish)
 
-  means_zero : HasSignature (quiver_of problem.parts.quiver) claim → MeansZero s problem d claim
+  pub means_zero : HasSignature (quiver_of problem.parts.quiver) claim → MeansZero s problem d claim
   means_zero typed = record {
     typed = typed;
     zero = zero_made;

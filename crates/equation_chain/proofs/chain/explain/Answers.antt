@@ -1,4 +1,5 @@
 use Rattle.equation_chain.proofs.Making.{explained_part, complete_part}
+use Rattle.equation_chain.proofs.Letters.{writable_part}
 use Rattle.equation_chain.proofs.chain.explain.Goals as goal
 
 pub returns-clause-explained : goal.returns-clause-explained
@@ -6,3 +7,6 @@ returns-clause-explained c = explained_part c.args.problem.now c.args.certificat
 
 pub returns-clause-complete : goal.returns-clause-complete
 returns-clause-complete c = complete_part c.args.problem.now c.args.certificate.now c.made_chain.result c.made_chain.ensures.fault
+
+pub returns-clause-writable : goal.returns-clause-writable
+returns-clause-writable c = writable_part c.args.problem.now c.args.certificate.now c.made_chain.result c.made_chain.ensures.chain

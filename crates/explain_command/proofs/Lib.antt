@@ -1,0 +1,4 @@
+mod Letters
+mod Texts
+pub mod Answered
+mod Corollaries

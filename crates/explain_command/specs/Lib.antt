@@ -1,0 +1,5 @@
+pub mod Refusals
+pub mod Texts
+pub mod Answers
+pub mod Says
+pub mod Laws
