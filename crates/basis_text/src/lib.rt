@@ -1,0 +1,6 @@
+//! Bases in evidence text: read from bytes and written back.
+#![tactic(auto)]
+
+mod basis;
+
+pub use basis::Basis;
