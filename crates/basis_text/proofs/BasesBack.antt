@@ -1,5 +1,5 @@
 -- A basis that is written is read back, whatever stands around it.
-use Rattle.std.proofs.Common.{◌≡◌, ◌<◌, ◌≤◌, ◌+◌, ◌^◌, ⊤, ℕ, true, List, [], ◌∷◌, ◌++◌, IsTrue, arith, refl, sym, ap, ap₂, ◌∙◌, subst, length, map, codes}
+use Rattle.std.proofs.Common.{◌≡◌, ◌<◌, ◌≤◌, ◌+◌, ◌^◌, ℕ, true, List, [], ◌∷◌, ◌++◌, IsTrue, arith, refl, sym, ap, ap₂, ◌∙◌, subst, length, map, codes}
 use Rattle.std.specs.Prelude.{decimal}
 use Rattle.std.specs.List.{All, AllZip, flat_map, list_all}
 use Rattle.std.specs.Str.Parse.{digits_value}
@@ -33,7 +33,7 @@ use Rattle.basis_text.specs.Back.{HasLetters, IsWritableBasis, text_of, Part, pa
 use Rattle.basis_text.specs.Written.{rule_line, IsPolyOver}
 use Rattle.basis_text.proofs.Lines.{KeepsClaim, KeepsPolynomial, KeepsCount, block_keeps}
 use Rattle.basis_text.proofs.OpenBlocks.{block_of}
-use Rattle.basis_text.proofs.PolynomialLines.{polynomial_back}
+use Rattle.block_text.proofs.PolynomialsBack.{polynomials_are_read_back}
 use Rattle.basis_text.proofs.Reader.{reader}
 
 module _ (ds : List Declaration) (declared : IsDeclared ds) (known : IsTrue (list_all is_named ds)) where
@@ -45,7 +45,7 @@ module _ (ds : List Declaration) (declared : IsDeclared ds) (known : IsTrue (lis
     some : HasLetters p
 
   read_back : (p : Poly) → IsWritable p → IsPolynomialLine ds (tokens_of (poly_text ds p.terms)) p.terms
-  read_back p is = polynomial_back ds p.terms declared known p.canonical is.over is.some
+  read_back p is = polynomials_are_read_back ds p.terms declared known p.canonical is.over is.some
 
   -- a line that it keeps all bounds by
   polynomial_keeps : (p : Poly) (is : IsWritable p) (bound : Bound) → KeepsPolynomial ds bound (read_back p is).tokens

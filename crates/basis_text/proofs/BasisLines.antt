@@ -14,7 +14,6 @@ use Rattle.block_text.specs.Letters.{is_number, number_within}
 use Rattle.block_text.specs.Lines.{number_limit, Line, claim_line}
 use Rattle.block_text.specs.PolynomialLines.{PolynomialTokens, polynomial_line, IsPolynomialTokens, IsPolynomialOf}
 use Rattle.block_text.specs.PolynomialReading.{polynomial_of}
-use Rattle.block_text.proofs.FirstBounds.{first_kept, last_kept}
 use Rattle.block_text.proofs.Meets.{Meets, reads, passes, then_meets, meets-weaker, asked_meets, unless_meets}
 use Rattle.block_text.proofs.Owed.{read_inside, read_block}
 use Rattle.block_text.proofs.PartsBack.{begins_no_end}
@@ -106,8 +105,8 @@ module _ (K : Bound → Type 0) (ds : List Declaration) where
       let each : (bound : Bound) → K bound → All (KeepsPolynomial ds bound) (polynomials b) = λ bound kept. polynomials_keep ds b bound (keeps bound kept) in
       then_meets _ (claim_meets b.claim block.claim (λ kept. claim_keeps ds b numbers (keeps numbers kept))) (λ s _ s_is.
       rw s_is.2 (meets-weaker
-      (lines_meet s_is.0 [] b.rules b.rest block.rules block.rest (λ bound kept. first_kept (KeepsPolynomial ds bound) b.rules (b.rest ∷ []) (each bound kept))
-      (λ bound kept. last_kept (KeepsPolynomial ds bound) b.rules b.rest (each bound kept)) (λ kept. count_keeps ds b rules (keeps rules kept)))
+      (lines_meet s_is.0 [] b.rules b.rest block.rules block.rest (λ bound kept. All-tail (KeepsPolynomial ds bound) b.rest b.rules (each bound kept))
+      (λ bound kept. All-head (KeepsPolynomial ds bound) b.rest b.rules (each bound kept)) (λ kept. count_keeps ds b rules (keeps rules kept)))
       (λ basis _ found. record {
         claim = ap (λ (v : BasisTerms). v.claim) found.is ∙ value_is b.claim s_is.0 s_is.1;
         rules = subst (λ (v : BasisTerms). AllZip (IsPolynomialOf ds) b.rules v.rules) (sym found.is) found.each;

@@ -9,7 +9,6 @@ use Rattle.quiver.specs.Declarations.{Declaration}
 use Rattle.block_text.specs.PolynomialLines.{PolynomialTokens, IsPolynomialTokens, IsPolynomialOf}
 use Rattle.block_text.specs.Texts.{IsBlocks}
 use Rattle.block_text.proofs.EachText.{values_are}
-use Rattle.block_text.proofs.FirstBounds.{first_kept, last_kept}
 use Rattle.basis_text.specs.declared.basis.Basis.{Basis}
 use Rattle.basis_text.specs.declared.place.BasisTerms.{BasisTerms}
 use Rattle.basis_text.specs.BasisBlocks.{BasisTokens, IsBasisBlock}
@@ -82,8 +81,8 @@ module _ (ds : List Declaration) where
     pub said : (b : BasisTokens) (v : BasisTerms) → IsBasisBlock b → ((bound : Bound) → KeepsOne ds bound b) → IsBasisOf ds b v → All P v.rules × P v.rest
     said b v block keeps says =
         let all = λ (bound : Bound). polynomials_keep ds b bound (keeps bound) in (
-          all_say b.rules v.rules block.rules (λ bound. first_kept (KeepsPolynomial ds bound) b.rules (b.rest ∷ []) (all bound)) says.rules,
-          each b.rest v.rest block.rest (λ bound. last_kept (KeepsPolynomial ds bound) b.rules b.rest (all bound)) says.rest,
+          all_say b.rules v.rules block.rules (λ bound. All-tail (KeepsPolynomial ds bound) b.rest b.rules (all bound)) says.rules,
+          each b.rest v.rest block.rest (λ bound. All-head (KeepsPolynomial ds bound) b.rest b.rules (all bound)) says.rest,
         )
 
   tree_canonical : (b : BasisTokens) (v : BasisTerms) → IsBasisBlock b → ((bound : Bound) → KeepsOne ds bound b) → IsBasisOf ds b v → AreCanonical v
@@ -97,7 +96,7 @@ module _ (ds : List Declaration) where
 
   tree_over : (b : BasisTokens) (v : BasisTerms) → IsBasisBlock b → ((bound : Bound) → KeepsOne ds bound b) → IsBasisOf ds b v → AreOver v
   tree_over b v block keeps says =
-      let found = said (IsOverQuiver ds) (λ t p is kept says. polynomial_over ds t p says) b v block keeps says in record { rules = found.0; rest = found.1 }
+      let found = said (IsOverQuiver ds) (polynomial_over ds) b v block keeps says in record { rules = found.0; rest = found.1 }
 
   unmapped : {A B : Type 0} (P : B → Type 0) (f : A → B) (xs : List A) → All P (map f xs) → All (λ x. P (f x)) xs
   unmapped P f [] each = All-nil (λ x. P (f x))

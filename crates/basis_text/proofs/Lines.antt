@@ -1,8 +1,9 @@
 -- The bounds on the parts of a basis, and what comes of reading the line of a polynomial.
-use Rattle.std.proofs.Common.{◌≡◌, ◌≤◌, ◌⊎◌, ⊤, ℕ, List, [], ◌∷◌, ◌++◌, Result, Ok, Err, arith, length, subst, inl, inr}
+use Rattle.std.proofs.Common.{◌≡◌, ◌≤◌, ◌⊎◌, ℕ, List, [], ◌∷◌, ◌++◌, Result, Ok, Err, arith, length, subst, inl, inr}
+use Rattle.std.specs.Prelude.{⊤}
 use Rattle.std.specs.List.{All}
 use Rattle.std.specs.Str.Parse.{digits_value}
-use Rattle.std.proofs.lemmas.List.Elements.{All-nil, All-push}
+use Rattle.std.proofs.lemmas.List.Elements.{All-nil, All-cons}
 use Rattle.definitions.specs.Poly.{Poly}
 use Rattle.nc_polynomial.specs.Terms.{IsDescending}
 use Rattle.quiver.specs.Declarations.{Declaration}
@@ -44,11 +45,11 @@ KeepsCount rules n = n ≤ rule_limit
 
 module _ (ds : List Declaration) where
   pub block_keeps : (b : BasisTokens) (bound : Bound) → KeepsClaim bound b.claim → All (KeepsPolynomial ds bound) b.rules → KeepsPolynomial ds bound b.rest → KeepsCount bound (length b.rules) → KeepsOne ds bound b
-  block_keeps b names claim each last count = All-push (HasKnownLetters ds) b.rules b.rest each last
-  block_keeps b writing claim each last count = All-push (IsAsWritten ds) b.rules b.rest each last
-  block_keeps b numbers claim each last count = record { claim = claim; coefficients = All-push HasNumbersWithin b.rules b.rest each last }
-  block_keeps b terms claim each last count = All-push HasFewTerms b.rules b.rest each last
-  block_keeps b words claim each last count = All-push HasShortWords b.rules b.rest each last
+  block_keeps b names claim each last count = All-cons (HasKnownLetters ds) b.rest b.rules last each
+  block_keeps b writing claim each last count = All-cons (IsAsWritten ds) b.rest b.rules last each
+  block_keeps b numbers claim each last count = record { claim = claim; coefficients = All-cons HasNumbersWithin b.rest b.rules last each }
+  block_keeps b terms claim each last count = All-cons HasFewTerms b.rest b.rules last each
+  block_keeps b words claim each last count = All-cons HasShortWords b.rest b.rules last each
   block_keeps b rules claim each last count = count
 
   pub claim_keeps : (b : BasisTokens) (bound : Bound) → KeepsOne ds bound b → KeepsClaim bound b.claim
@@ -108,7 +109,7 @@ pub data IsJudged (ds : List Declaration) (t : PolynomialTokens) (r : Result Pol
 -- A line spells a polynomial of which this holds, or none and doesn't fit.
 pub data IsLineJudged (ds : List Declaration) (line : Line) (r : Result Poly Flaw) : Type 0 where
   spells : (t : PolynomialTokens) → line ≡ polynomial_line t → IsPolynomialTokens t → IsJudged ds t r → IsLineJudged ds line r
-  misfits : r ≡ Err BadLine → IsLineJudged ds line r
+  misfits : r ≡ Err BadLine → ((t : PolynomialTokens) → line ≡ polynomial_line t → IsPolynomialTokens t → ⊥) → IsLineJudged ds line r
 
 -- the tokens of a polynomial that was read
 pub record IsReadFrom (ds : List Declaration) (line : Line) (p : Poly) : Type 0 where
@@ -134,7 +135,7 @@ module _ (ds : List Declaration) (line : Line) where
 
   pub read_from : (r : Result Poly Flaw) (p : Poly) → r ≡ Ok p → IsLineJudged ds line r → IsReadFrom ds line p
   read_from r p read (spells t are is judged) = read_by r t p read are is judged
-  read_from r p read (misfits bad) = absurd (cc)
+  read_from r p read (misfits bad none) = absurd (cc)
 
   passed_by : (r : Result Poly Flaw) (t : PolynomialTokens) (flaw : Flaw) → r ≡ Err flaw → line ≡ polynomial_line t → IsPolynomialTokens t → IsJudged ds t r → IsPassedBy ds line flaw
   passed_by r t flaw read are is (fine q q_is keeps says) = absurd (cc)
@@ -142,4 +143,4 @@ module _ (ds : List Declaration) (line : Line) where
 
   pub passed_from : (r : Result Poly Flaw) (flaw : Flaw) → r ≡ Err flaw → IsLineJudged ds line r → (flaw ≡ BadLine) ⊎ IsPassedBy ds line flaw
   passed_from r flaw read (spells t are is judged) = inr (passed_by r t flaw read are is judged)
-  passed_from r flaw read (misfits bad) = inl (cc)
+  passed_from r flaw read (misfits bad none) = inl (cc)

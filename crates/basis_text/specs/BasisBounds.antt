@@ -1,5 +1,5 @@
 -- The bounds of bases in evidence text, in the order in which they count, and what its blocks say.
-use Rattle.std.specs.Prelude.{◌≡◌, ◌≤◌, ℕ, ◌∷◌, ◌++◌, List, [], length}
+use Rattle.std.specs.Prelude.{◌≡◌, ◌≤◌, ℕ, ◌∷◌, List, length}
 use Rattle.std.specs.List.{All, AllZip}
 use Rattle.std.specs.Str.Parse.{digits_value}
 use Rattle.nc_polynomial.specs.Limits.{word_limit, term_limit}
@@ -42,9 +42,9 @@ flaw_of rules = TooMany rule_limit
 
 -- ---- when they are kept
 
--- the rules, and the rest behind them
+-- the rest and the rules
 abbrev pub polynomials : BasisTokens → List PolynomialTokens
-polynomials b = b.rules ++ b.rest ∷ []
+polynomials b = b.rest ∷ b.rules
 
 -- the claim and the coefficients are within their limits
 pub record HasNumbers (b : BasisTokens) : Type 0 where
