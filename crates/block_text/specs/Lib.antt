@@ -8,5 +8,8 @@ pub mod Texts
 pub mod Steps
 pub mod Sound
 pub mod Written
+pub mod PolynomialLines
+pub mod PolynomialBack
+pub mod PolynomialReading
 pub mod Back
 pub mod Views

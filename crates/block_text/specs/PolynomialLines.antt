@@ -1,5 +1,5 @@
 -- The lines that spell polynomials: terms with their signs between them, or 0.
-use Rattle.std.specs.Prelude.{◌≡◌, ◌≤◌, ◌<◌, ◌&&◌, ℕ, ℤ, pos, Bool, not, IsTrue, List, [], ◌∷◌, ◌++◌, length, map, Option, Some, None, codes, if◌then◌else◌}
+use Rattle.std.specs.Prelude.{◌≡◌, ◌≤◌, ◌<◌, ◌&&◌, ⊤, ℕ, ℤ, Bool, true, not, IsTrue, List, [], ◌∷◌, ◌++◌, length, Option, Some, None, codes, if◌then◌else◌}
 use Rattle.std.specs.List.{All, AllZip, flat_map}
 use Rattle.std.specs.Str.Parse.{digits_value}
 use Rattle.definitions.specs.Poly.{Poly, Term}
