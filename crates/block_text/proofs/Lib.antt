@@ -27,6 +27,7 @@ pub mod PolynomialBounds
 pub mod PolynomialTerms
 pub mod PolynomialWords
 pub mod PolynomialLaws
+pub mod PolynomialFlaws
 pub mod PolynomialsBack
 pub mod Owed
 pub mod TextLines

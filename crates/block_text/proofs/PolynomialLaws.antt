@@ -22,6 +22,7 @@ use Rattle.block_text.specs.Fault.{asked}
 use Rattle.block_text.specs.Letters.{is_number, number_within, letter_of, word_of, signed}
 use Rattle.block_text.specs.Lines.{Line, integer_limit}
 use Rattle.block_text.specs.PolynomialBack.{IsPolynomialLine}
+use Rattle.block_text.specs.PolynomialFlaws.{Fits, IsPolynomialFlaw, misfit, unknown, unwritten, large, many, long}
 use Rattle.block_text.specs.PolynomialLines.{TermTokens, PolynomialTokens, zero as zero_line, terms, first_line, later_line, polynomial_line, is_term_letter, IsFactor, IsTerm, IsPolynomialTokens, terms_in, factor_value, coefficient_value, IsTermOf, IsPolynomialOf, IsWrittenLetter, HasKnownLetters, IsAsWritten, HasNumbersWithin, HasFewTerms, HasShortWords}
 use Rattle.block_text.specs.PolynomialReading.{terms_of, is_zero, poly_behind, passes_letter, passes_number, is_some_token, pass_letters, passes, descend, at_most, first_flaw, polynomial_of, written_letter}
 use Rattle.block_text.proofs.PolynomialBounds.{all_from, all_to, all_with, some_of, above_one, above_one_from, within_by, written_is, written_there}
@@ -65,16 +66,16 @@ module _ (ds : List Declaration) where
   number_form None is = refl
   number_form (Some digits) is = above_one_from digits is.0 is.1
 
-  form_is : (t : TermTokens) → passes ds Form t ≡ true → IsTerm t
+  pub form_is : (t : TermTokens) → passes ds Form t ≡ true → IsTerm t
   form_is t known =
       let all = passes_is Form t known in
       record { factor = form_number t.factor all.number; some = all.some; letters = all_from (passes_letter ds Form) (λ token. IsTrue (is_term_letter token)) (λ token e. e) t.letters all.letters }
 
-  form_there : (t : TermTokens) → IsTerm t → passes ds Form t ≡ true
+  pub form_there : (t : TermTokens) → IsTerm t → passes ds Form t ≡ true
   form_there t is =
       passes_there Form t (record { number = number_form t.factor is.factor; letters = all_to (passes_letter ds Form) (λ token. IsTrue (is_term_letter token)) (λ token e. e) t.letters is.letters; some = is.some })
 
-  abbrev IsKnown : List ℕ → Type 0
+  abbrev pub IsKnown : List ℕ → Type 0
   IsKnown token = (a : ℕ) × (letter_of ds token ≡ Some a)
 
   any_number : (q : Asked) (factor : Option (List ℕ)) → ((digits : List ℕ) → passes_number q (Some digits) ≡ true) → passes_number q factor ≡ true
@@ -84,10 +85,10 @@ module _ (ds : List Declaration) where
   known_by : (o : Option ℕ) → ((a : ℕ) × (o ≡ Some a)) → is_some o ≡ true
   known_by o there = rw (there.1) refl
 
-  known_is : (t : TermTokens) → passes ds Known t ≡ true → All IsKnown t.letters
+  pub known_is : (t : TermTokens) → passes ds Known t ≡ true → All IsKnown t.letters
   known_is t known = all_from (passes_letter ds Known) IsKnown (λ token e. some_of (letter_of ds token) e) t.letters (passes_is Known t known).letters
 
-  known_there : (t : TermTokens) → IsTerm t → All IsKnown t.letters → passes ds Known t ≡ true
+  pub known_there : (t : TermTokens) → IsTerm t → All IsKnown t.letters → passes ds Known t ≡ true
   known_there t is all =
       passes_there Known t (record { number = any_number Known t.factor (λ digits. refl); letters = all_to (passes_letter ds Known) IsKnown (λ token there. known_by (letter_of ds token) there) t.letters all; some = is.some })
 
@@ -96,7 +97,7 @@ module _ (ds : List Declaration) where
       let there = some_of (written_letter ds token) some in
       let is = written_is ds token there.0 there.1 in (there.0, is.found, is.written)
 
-  writing_is : (t : TermTokens) → passes ds Written t ≡ true → All (IsWrittenLetter ds) t.letters
+  pub writing_is : (t : TermTokens) → passes ds Written t ≡ true → All (IsWrittenLetter ds) t.letters
   writing_is t known = all_from (passes_letter ds Written) (IsWrittenLetter ds) one_written t.letters (passes_is Written t known).letters
 
   abbrev BothWritten : List ℕ → Type 0
@@ -105,7 +106,7 @@ module _ (ds : List Declaration) where
   both_written : (token : List ℕ) → BothWritten token → is_some (written_letter ds token) ≡ true
   both_written token both = known_by (written_letter ds token) (both.1.0, written_there ds token both.1.0 both.0 both.1.1 both.1.2)
 
-  writing_there : (t : TermTokens) → IsTerm t → All (IsWrittenLetter ds) t.letters → passes ds Written t ≡ true
+  pub writing_there : (t : TermTokens) → IsTerm t → All (IsWrittenLetter ds) t.letters → passes ds Written t ≡ true
   writing_there t is all =
       let both = all_with (λ token. IsTrue (is_term_letter token)) (IsWrittenLetter ds) BothWritten (λ token l w. (l, w)) t.letters is.letters all in
       passes_there Written t (record { number = any_number Written t.factor (λ digits. refl); letters = all_to (passes_letter ds Written) BothWritten both_written t.letters both; some = is.some })
@@ -123,15 +124,15 @@ module _ (ds : List Declaration) where
   always [] = refl
   always (token ∷ tokens) = always tokens
 
-  within_is : (t : TermTokens) → passes ds Within t ≡ true → factor_value t.factor ≤ integer_limit
+  pub within_is : (t : TermTokens) → passes ds Within t ≡ true → factor_value t.factor ≤ integer_limit
   within_is t known = number_within_is t.factor (passes_is Within t known).number
 
-  within_there : (t : TermTokens) → IsTerm t → factor_value t.factor ≤ integer_limit → passes ds Within t ≡ true
+  pub within_there : (t : TermTokens) → IsTerm t → factor_value t.factor ≤ integer_limit → passes ds Within t ≡ true
   within_there t is within = passes_there Within t (record { number = number_within_there t.factor is.factor within; letters = always t.letters; some = is.some })
 
 -- ---- the number of terms
 
-at_most_is : {X : Type 0} (n : ℕ) (xs : List X) → at_most n xs ≡ true → length xs ≤ n
+pub at_most_is : {X : Type 0} (n : ℕ) (xs : List X) → at_most n xs ≡ true → length xs ≤ n
 at_most_is n [] known = omega arith
 at_most_is n (x ∷ xs) known = by_test (n == 0) _ _ true known (λ none e. absurd (cc)) (λ some e. let rest = at_most_is (n - 1) xs e in omega (arith, rest, not_zero n some))
   where
@@ -139,7 +140,7 @@ at_most_is n (x ∷ xs) known = by_test (n == 0) _ _ true known (λ none e. absu
     not_zero zero some = absurd (cc)
     not_zero (suc n) some = omega arith
 
-at_most_there : {X : Type 0} (n : ℕ) (xs : List X) → length xs ≤ n → at_most n xs ≡ true
+pub at_most_there : {X : Type 0} (n : ℕ) (xs : List X) → length xs ≤ n → at_most n xs ≡ true
 at_most_there n [] few = refl
 at_most_there n (x ∷ xs) few = rw (ne_eqb n 0 (λ e. omega (arith, e, few))) (at_most_there (n - 1) xs (omega (arith, few)))
 
@@ -211,13 +212,13 @@ module _ (ds : List Declaration) where
 
   -- ---- a line that is read
 
-  record IsNought (line : Line) : Type 0 where
-    digits : List ℕ
-    is : digits ∷ [] ≡ line
-    number : is_number digits ≡ true
-    value : digits_value 10 digits ≡ 0
+  pub record IsNought (line : Line) : Type 0 where
+    pub digits : List ℕ
+    pub is : digits ∷ [] ≡ line
+    pub number : is_number digits ≡ true
+    pub value : digits_value 10 digits ≡ 0
 
-  nought_is : (line : Line) → is_zero line ≡ true → IsNought line
+  pub nought_is : (line : Line) → is_zero line ≡ true → IsNought line
   nought_is [] nought = absurd (cc)
   nought_is (digits ∷ []) nought =
       let parts = and_parts (is_number digits) (is_some (number_within 0 digits)) nought in
@@ -225,11 +226,11 @@ module _ (ds : List Declaration) where
       record { digits = digits; is = refl; number = parts.0; value = omega (arith, small) }
   nought_is (a ∷ b ∷ tokens) nought = absurd (cc)
 
-  no_poly : (p : Poly) → AllZip (IsTermOf ds) [] p → [] ≡ p
+  pub no_poly : (p : Poly) → AllZip (IsTermOf ds) [] p → [] ≡ p
   no_poly [] says = refl
   no_poly (x ∷ p) says = absurd says
 
-  nought_read : (line : Line) → IsNought line → IsPolynomialLine ds line []
+  pub nought_read : (line : Line) → IsNought line → IsPolynomialLine ds line []
   nought_read line nought = record {
     tokens = zero_line nought.digits;
     are = nought.is;
@@ -292,7 +293,7 @@ module _ (ds : List Declaration) where
       ok_same : (x y : Poly) → ◌≡◌ {A = Result Poly Flaw} (Ok x) (Ok y) → x ≡ y
       ok_same x y same = cc
 
-  nought_there : (digits : List ℕ) → IsTrue (is_number digits) → digits_value 10 digits ≡ 0 → is_zero (digits ∷ []) ≡ true
+  pub nought_there : (digits : List ℕ) → IsTrue (is_number digits) → digits_value 10 digits ≡ 0 → is_zero (digits ∷ []) ≡ true
   nought_there digits number value = let known : is_number digits ≡ true = number in rw (known, le-leb (digits_value 10 digits) 0 (omega (arith, value))) refl
 
   spelled_there : (tokens : PolynomialTokens) (p : Poly) → IsPolynomialTokens tokens → IsAsWritten ds tokens → HasNumbersWithin tokens → HasFewTerms tokens → HasShortWords tokens → IsPolynomialOf ds tokens p
@@ -309,27 +310,11 @@ module _ (ds : List Declaration) where
 
   -- ---- a line that isn't read
 
-  -- tokens fit the line
-  pub record Fits (line : Line) (tokens : PolynomialTokens) : Type 0 where
-    pub are : polynomial_line tokens ≡ line
-    pub fit : IsPolynomialTokens tokens
-
-  -- No tokens fit the line, or some do, and the bounds before one are kept, but not that one.
-  pub data IsPolynomialFlaw (line : Line) (flaw : Flaw) : Type 0 where
-    misfit : flaw ≡ BadLine → ((tokens : PolynomialTokens) → Fits line tokens → ⊥) → IsPolynomialFlaw line flaw
-    unknown : (tokens : PolynomialTokens) → flaw ≡ UnknownName → Fits line tokens → (HasKnownLetters ds tokens → ⊥) → IsPolynomialFlaw line flaw
-    unwritten : (tokens : PolynomialTokens) → flaw ≡ NotAsWritten → Fits line tokens → HasKnownLetters ds tokens → (IsAsWritten ds tokens → ⊥) → IsPolynomialFlaw line flaw
-    large : (tokens : PolynomialTokens) → flaw ≡ NumberTooLarge → Fits line tokens → HasKnownLetters ds tokens → IsAsWritten ds tokens → (HasNumbersWithin tokens → ⊥) → IsPolynomialFlaw line flaw
-    many : (tokens : PolynomialTokens) → flaw ≡ TooMany term_limit → Fits line tokens → HasKnownLetters ds tokens → IsAsWritten ds tokens → HasNumbersWithin tokens → (HasFewTerms tokens → ⊥)
-        → IsPolynomialFlaw line flaw
-    long : (tokens : PolynomialTokens) → flaw ≡ TooMany word_limit → Fits line tokens → HasKnownLetters ds tokens → IsAsWritten ds tokens → HasNumbersWithin tokens → HasFewTerms tokens → (HasShortWords tokens → ⊥)
-        → IsPolynomialFlaw line flaw
-
   none_is : (o : Option Poly) (f g : Flaw) → asked f o ≡ Err g → (o ≡ None) × (f ≡ g)
   none_is (Some p) f g read = absurd (cc)
   none_is None f g read = (refl, cc)
 
-  all_terms : (tokens : PolynomialTokens) → IsPolynomialTokens tokens → All IsTerm (terms_in tokens)
+  pub all_terms : (tokens : PolynomialTokens) → IsPolynomialTokens tokens → All IsTerm (terms_in tokens)
   all_terms (zero_line digits) fit = All-nil IsTerm
   all_terms (terms first later) fit = All-cons IsTerm first later fit.0 fit.1
 
@@ -347,7 +332,7 @@ module _ (ds : List Declaration) where
       → list_all (passes ds Form) (first ∷ later) ≡ a → list_all (passes ds Known) (first ∷ later) ≡ b → (list_all (passes ds Written) (first ∷ later) && descend ds (first ∷ later)) ≡ c
       → list_all (passes ds Within) (first ∷ later) ≡ d → at_most term_limit (first ∷ later) ≡ e
       → cond (not a) BadLine (cond (not b) UnknownName (cond (not c) NotAsWritten (cond (not d) NumberTooLarge (cond (not e) (TooMany term_limit) (TooMany word_limit))))) ≡ flaw
-      → IsPolynomialFlaw line flaw
+      → IsPolynomialFlaw ds line flaw
   flaw_by line first later flaw false b c d e some are spelled none form known written within few told = misfit (sym told) (λ tokens fits.
       let fit : All IsTerm (first ∷ later) = subst (All IsTerm) are (terms_fit line tokens some fits).1 in
       let passed : list_all (passes ds Form) (first ∷ later) ≡ true = all_to (passes ds Form) IsTerm (form_there ds) (first ∷ later) fit in
@@ -380,7 +365,7 @@ module _ (ds : List Declaration) where
     where
       later_flaw : (line : Line) (first : TermTokens) (later : List TermTokens) (flaw : Flaw) (d e : Bool) → Fits line (terms first later) → HasKnownLetters ds (terms first later) → IsAsWritten ds (terms first later)
           → poly_behind ds [] (first ∷ later) ≡ None → list_all (passes ds Within) (first ∷ later) ≡ d → at_most term_limit (first ∷ later) ≡ e
-          → cond (not d) NumberTooLarge (cond (not e) (TooMany term_limit) (TooMany word_limit)) ≡ flaw → IsPolynomialFlaw line flaw
+          → cond (not d) NumberTooLarge (cond (not e) (TooMany term_limit) (TooMany word_limit)) ≡ flaw → IsPolynomialFlaw ds line flaw
       later_flaw line first later flaw false e fits known written none within few told =
           large (terms first later) (sym told) fits known written (λ kept.
           let ts = first ∷ later in
@@ -400,7 +385,7 @@ module _ (ds : List Declaration) where
           cc)
 
   -- a line that isn't read has this as the first that is wrong with it
-  pub flaw_is : (line : Line) (flaw : Flaw) → polynomial_of ds line ≡ Err flaw → IsPolynomialFlaw line flaw
+  pub flaw_is : (line : Line) (flaw : Flaw) → polynomial_of ds line ≡ Err flaw → IsPolynomialFlaw ds line flaw
   flaw_is line flaw read =
       by_test (is_zero line) _ _ (Err flaw) read (λ nought same. absurd (cc)) (λ some made.
       let there = has_terms line in

@@ -11,5 +11,6 @@ pub mod Written
 pub mod PolynomialLines
 pub mod PolynomialBack
 pub mod PolynomialReading
+pub mod PolynomialFlaws
 pub mod Back
 pub mod Views

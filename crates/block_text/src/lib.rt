@@ -19,7 +19,7 @@ pub use bracket::bracketed;
 pub use cut::{first_line, first_token, is_skipped, is_utf8};
 pub use fault::{CertFault, Flaw, LineFault, TextFlaw, at_line};
 pub use kind::BlockKind;
-pub use laws::polynomials_are_read_back;
+pub use laws::{polynomial_flaws_are_told, polynomial_lines_are_read, polynomials_are_read_back};
 pub use letter::{is_letter, letter_of, name_in};
 pub use line::{
     BLOCK_LIMIT, begins, claim_of, integer_of, is, is_end, is_pair, number_behind, two_tokens,
