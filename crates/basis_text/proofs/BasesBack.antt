@@ -1,5 +1,5 @@
 -- A basis that is written is read back, whatever stands around it.
-use Rattle.std.proofs.Common.{◌≡◌, ◌<◌, ◌≤◌, ◌+◌, ◌^◌, ℕ, true, List, [], ◌∷◌, ◌++◌, IsTrue, arith, refl, sym, ap, ap₂, ◌∙◌, subst, length, map, codes}
+use Rattle.std.proofs.Common.{◌≡◌, ◌<◌, ◌+◌, ◌^◌, ℕ, List, [], ◌∷◌, ◌++◌, IsTrue, arith, refl, sym, ap, ap₂, ◌∙◌, subst, length, map, codes}
 use Rattle.std.specs.Prelude.{decimal}
 use Rattle.std.specs.List.{All, AllZip, flat_map, list_all}
 use Rattle.std.specs.Str.Parse.{digits_value}
@@ -10,10 +10,10 @@ use Rattle.definitions.specs.Poly.{Poly as Terms}
 use Rattle.nc_polynomial.specs.declared.poly.Poly.{Poly}
 use Rattle.quiver.specs.Declarations.{Declaration, IsDeclared}
 use Rattle.block_text.specs.Back as blocks
-use Rattle.block_text.specs.Back.{is_named, is_whole, ended, values_in}
-use Rattle.block_text.specs.Lines.{Line, claim_line, end_line}
+use Rattle.block_text.specs.Back.{is_named, values_in}
+use Rattle.block_text.specs.Lines.{claim_line, end_line}
 use Rattle.block_text.specs.PolynomialBack.{IsPolynomialLine}
-use Rattle.block_text.specs.PolynomialLines.{PolynomialTokens, polynomial_line, IsPolynomialTokens, IsPolynomialOf}
+use Rattle.block_text.specs.PolynomialLines.{PolynomialTokens, IsPolynomialTokens, IsPolynomialOf}
 use Rattle.block_text.specs.Texts.{HasBlocks}
 use Rattle.block_text.specs.Tokens.{tokens_of}
 use Rattle.block_text.specs.Written.{poly_text}
@@ -22,13 +22,12 @@ use Rattle.block_text.proofs.NumberLines.{text_of_number, end_is_text}
 use Rattle.block_text.proofs.NumbersBack.{decimal_text, decimal_number}
 use Rattle.block_text.proofs.PartsBack.{IsWritten, written_between, parts_have}
 use Rattle.block_text.proofs.PolysBack.{poly_is_line}
-use Rattle.block_text.proofs.Standing.{everywhere}
 use Rattle.block_text.proofs.TextsBack.{line_text-append, literal}
 use Rattle.basis_text.specs.declared.basis.Basis.{Basis}
 use Rattle.basis_text.specs.declared.place.BasisTerms.{BasisTerms}
-use Rattle.basis_text.specs.BasisBlocks.{BasisTokens, head_line, line_of_rule, line_of_rest, basis_front, IsBasisBlock}
-use Rattle.basis_text.specs.BasisBounds.{Bound, names, writing, numbers, terms, words, rules, KeepsOne, IsBasisOf}
-use Rattle.basis_text.specs.Bases.{other_words, basis_kind, by_terms, HasBases}
+use Rattle.basis_text.specs.BasisBlocks.{BasisTokens, head_line, line_of_rule, line_of_rest, basis_front}
+use Rattle.basis_text.specs.BasisBounds.{Bound, names, writing, numbers, terms, words, rules}
+use Rattle.basis_text.specs.Bases.{other_words, basis_kind, by_terms}
 use Rattle.basis_text.specs.Back.{HasLetters, IsWritableBasis, text_of, Part, part_text, IsPart, bases_in, BasesAreReadBack, ArePartsReadBack}
 use Rattle.basis_text.specs.Written.{rule_line, IsPolyOver}
 use Rattle.basis_text.proofs.Lines.{KeepsClaim, KeepsPolynomial, KeepsCount, block_keeps}
@@ -89,7 +88,7 @@ module _ (ds : List Declaration) (declared : IsDeclared ds) (known : IsTrue (lis
         text_is = text-append _ _ _ _ (line_is_text p is) more.text_is;
         are = All-cons IsPolynomialTokens line.tokens more.trees line.fit more.are;
         keep = λ bound. All-cons (KeepsPolynomial ds bound) line.tokens more.trees (polynomial_keeps p is bound) (more.keep bound);
-        count = ap (λ n. n + 1) more.count;
+        count = omega (arith, more.count);
         say = (line.says, more.say);
       }
 
@@ -102,13 +101,13 @@ module _ (ds : List Declaration) (declared : IsDeclared ds) (known : IsTrue (lis
     claim_back : digits_value 10 (decimal b.claim) ≡ b.claim
     claim_back = (decimal_is_IsNumeral_wide b.claim claim_small).1
 
-    all_written : AreWritten b.rules
+    abbrev all_written : AreWritten b.rules
     all_written = rules_written b.rules writable.over.rules writable.rules
 
-    rest_writable : IsWritable b.rest
+    abbrev rest_writable : IsWritable b.rest
     rest_writable = record { over = writable.over.rest; some = writable.rest }
 
-    tree : BasisTokens
+    abbrev tree : BasisTokens
     tree = block_of (decimal b.claim) all_written.trees (read_back b.rest rest_writable).tokens
 
     claim_kept : (bound : Bound) → KeepsClaim bound (decimal b.claim)
@@ -210,8 +209,8 @@ module _ (ds : List Declaration) where
   part_good (blocks.other head ls) is = is
 
   parts_good : (parts : List Part) → All (IsPart ds) parts → All (blocks.IsPart other_words IsOfWritable) (map mapped parts)
-  parts_good [] each = All-nil _
-  parts_good (p ∷ parts) each = All-cons _ (mapped p) (map mapped parts) (part_good p (All-head (IsPart ds) p parts each)) (parts_good parts (All-tail (IsPart ds) p parts each))
+  parts_good [] each = All-nil (blocks.IsPart other_words IsOfWritable)
+  parts_good (p ∷ parts) each = All-cons (blocks.IsPart other_words IsOfWritable) (mapped p) (map mapped parts) (part_good p (All-head (IsPart ds) p parts each)) (parts_good parts (All-tail (IsPart ds) p parts each))
 
   terms_written : IsDeclared ds → IsTrue (list_all is_named ds) → (v : BasisTerms) → IsOfWritable v → IsWritten (basis_kind ds) (text_by_terms v) v
   terms_written declared known v good =

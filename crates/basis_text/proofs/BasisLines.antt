@@ -1,5 +1,5 @@
 -- Bases that keep bounds are read.
-use Rattle.std.proofs.Common.{◌≡◌, ◌≤◌, ◌<◌, ◌+◌, ℕ, true, false, List, [], ◌∷◌, ◌++◌, Some, Result, Ok, IsTrue, arith, refl, sym, ap, ◌∙◌, subst, map, length, nat_le, codes}
+use Rattle.std.proofs.Common.{◌≡◌, ◌≤◌, ◌<◌, ◌+◌, ℕ, true, List, [], ◌∷◌, ◌++◌, Some, Result, Ok, IsTrue, arith, refl, sym, ap, ◌∙◌, subst, map, length, nat_le, codes}
 use Rattle.std.specs.List.{All, AllZip}
 use Rattle.std.specs.Str.Parse.{digits_value}
 use Rattle.std.proofs.lemmas.Bool.{lt-leb}
@@ -21,7 +21,7 @@ use Rattle.basis_text.specs.declared.place.BasisTerms.{BasisTerms}
 use Rattle.basis_text.specs.declared.place.Stage.{Stage}
 use Rattle.basis_text.specs.declared.place.Stage.TheVariants as at
 use Rattle.basis_text.specs.BasisBlocks.{BasisTokens, line_of_rule, line_of_rest, basis_front, IsBasisBlock}
-use Rattle.basis_text.specs.BasisBounds.{Bound, names, writing, numbers, terms, words, rules, flaw_of, polynomials, KeepsOne, IsBasisOf}
+use Rattle.basis_text.specs.BasisBounds.{Bound, numbers, rules, flaw_of, polynomials, KeepsOne, IsBasisOf}
 use Rattle.basis_text.specs.Limits.{rule_limit}
 use Rattle.basis_text.specs.Reading.{basis_by, grown, next, basis_steps}
 use Rattle.basis_text.proofs.Lines.{KeepsPolynomial, claim_keeps, polynomials_keep, count_keeps, IsJudged, fine, fails}
@@ -60,21 +60,28 @@ module _ (K : Bound → Type 0) (ds : List Declaration) where
     says : IsPolynomialOf ds t last
     is : basis ≡ basis_by n (ps ++ values) last
 
-  rest_meets : (n : ℕ) (ps : List Poly) (t : PolynomialTokens) → IsPolynomialTokens t → Keeps t → Meets flaw_of K (IsRead n ps [] t) (Lines (at.Inside n ps) (line_of_rest t ∷ []))
-  rest_meets n ps t is keeps =
-      rw (begins_no_end (codes "rest") (polynomial_line t) refl)
-      (then_meets _ (then_meets (λ p. Ok (at.Rested (basis_by n ps p))) (polynomial_meets t is keeps) (λ p _ says. reads (at.Rested (basis_by n ps p)) refl (p, says, refl)))
-      (λ s _ found. rw found.2 (reads (basis_by n ps found.0) refl (record { values = []; each = tt; last = found.0; says = found.1; is = ap (λ qs. basis_by n qs found.0) (sym (append-nil ps)) }))))
+  -- a rule more was read, and the rest
+  abbrev IsGrown : ℕ → List Poly → PolynomialTokens → Stage → Type 0
+  IsGrown n ps t s = (p : Poly) × IsPolynomialOf ds t p × (s ≡ at.Inside n (ps ++ p ∷ []))
+
+  abbrev IsRested : ℕ → List Poly → PolynomialTokens → Stage → Type 0
+  IsRested n ps t s = (p : Poly) × IsPolynomialOf ds t p × (s ≡ at.Rested (basis_by n ps p))
+
+  rule_meets : (n : ℕ) (ps : List Poly) (t : PolynomialTokens) → IsPolynomialTokens t → Keeps t → (K rules → length ps < rule_limit) → Meets flaw_of K (IsGrown n ps t) (next ds (at.Inside n ps) (line_of_rule t))
+  rule_meets n ps t is keeps few = then_meets (λ p. grown n ps p) (polynomial_meets t is keeps) (λ p _ says. meets-weaker (grown_meets n ps p few) (λ s _ same. (p, says, same)))
+
+  rest_meets : (n : ℕ) (ps : List Poly) (t : PolynomialTokens) → IsPolynomialTokens t → Keeps t → Meets flaw_of K (IsRested n ps t) (next ds (at.Inside n ps) (line_of_rest t))
+  rest_meets n ps t is keeps = then_meets (λ p. Ok (at.Rested (basis_by n ps p))) (polynomial_meets t is keeps) (λ p _ says. reads (at.Rested (basis_by n ps p)) refl (p, says, refl))
 
   lines_meet : (n : ℕ) (ps : List Poly) (ts : List PolynomialTokens) (t : PolynomialTokens) → All IsPolynomialTokens ts → IsPolynomialTokens t → AllKeep ts → Keeps t → (K rules → length ps + length ts ≤ rule_limit)
       → Meets flaw_of K (IsRead n ps ts t) (Lines (at.Inside n ps) (map line_of_rule ts ++ line_of_rest t ∷ []))
-  lines_meet n ps [] t each is all_keep keeps few = rest_meets n ps t is keeps
+  lines_meet n ps [] t each is all_keep keeps few =
+      rw (begins_no_end (codes "rest") (polynomial_line t) refl)
+      (then_meets _ (rest_meets n ps t is keeps) (λ s _ found.
+      rw found.2 (reads (basis_by n ps found.0) refl (record { values = []; each = tt; last = found.0; says = found.1; is = ap (λ qs. basis_by n qs found.0) (sym (append-nil ps)) }))))
   lines_meet n ps (u ∷ us) t each is all_keep keeps few =
       rw (begins_no_end (codes "rule") (polynomial_line u) refl)
-      (then_meets _
-      (then_meets (λ p. grown n ps p) (polynomial_meets u (All-head IsPolynomialTokens u us each) (λ bound kept. All-head (KeepsPolynomial ds bound) u us (all_keep bound kept)))
-      (λ p _ says. meets-weaker (grown_meets n ps p (λ kept. omega (arith, few kept))) (λ s _ same. (p, says, same))))
-      (λ s _ one.
+      (then_meets _ (rule_meets n ps u (All-head IsPolynomialTokens u us each) (λ bound kept. All-head (KeepsPolynomial ds bound) u us (all_keep bound kept)) (λ kept. omega (arith, few kept))) (λ s _ one.
       rw one.2 (meets-weaker
       (lines_meet n (ps ++ one.0 ∷ []) us t (All-tail IsPolynomialTokens u us each) is (λ bound kept. All-tail (KeepsPolynomial ds bound) u us (all_keep bound kept)) keeps
       (λ kept. omega (arith, few kept, length-append ps (one.0 ∷ []))))
@@ -106,7 +113,7 @@ module _ (K : Bound → Type 0) (ds : List Declaration) where
       then_meets _ (claim_meets b.claim block.claim (λ kept. claim_keeps ds b numbers (keeps numbers kept))) (λ s _ s_is.
       rw s_is.2 (meets-weaker
       (lines_meet s_is.0 [] b.rules b.rest block.rules block.rest (λ bound kept. All-tail (KeepsPolynomial ds bound) b.rest b.rules (each bound kept))
-      (λ bound kept. All-head (KeepsPolynomial ds bound) b.rest b.rules (each bound kept)) (λ kept. count_keeps ds b rules (keeps rules kept)))
+      (λ bound kept. All-head (KeepsPolynomial ds bound) b.rest b.rules (each bound kept)) (λ kept. omega (arith, count_keeps ds b rules (keeps rules kept))))
       (λ basis _ found. record {
         claim = ap (λ (v : BasisTerms). v.claim) found.is ∙ value_is b.claim s_is.0 s_is.1;
         rules = subst (λ (v : BasisTerms). AllZip (IsPolynomialOf ds) b.rules v.rules) (sym found.is) found.each;

@@ -1,5 +1,6 @@
 -- What holds of the bases that are read, and bases by their terms.
-use Rattle.std.proofs.Common.{◌≡◌, ℕ, List, [], ◌∷◌, Result, Ok, Err, IfOk, MatchResult, refl, sym, ap, ap₂, ◌∙◌, subst, map}
+use Rattle.std.proofs.Common.{◌≡◌, ℕ, List, [], ◌∷◌, refl, ap, ap₂, subst, map}
+use Rattle.std.proofs.Props as std
 use Rattle.std.specs.List.{All, AllZip}
 use Rattle.std.proofs.lemmas.List.Elements.{All-nil, All-cons, All-head, All-tail, All-weaker}
 use Rattle.definitions.specs.Poly.{Poly as Terms}
@@ -15,7 +16,6 @@ use Rattle.basis_text.specs.BasisBlocks.{BasisTokens, IsBasisBlock}
 use Rattle.basis_text.specs.BasisBounds.{Bound, KeepsOne, IsBasisOf}
 use Rattle.basis_text.specs.Bases.{basis_kind, by_terms, AreCanonical, IsBases, IsBasisOver}
 use Rattle.basis_text.specs.Reading.{basis_steps}
-use Rattle.basis_text.specs.Written.{IsPolyOver}
 use Rattle.basis_text.proofs.Lines.{KeepsPolynomial, polynomials_keep}
 use Rattle.basis_text.proofs.PolynomialLines.{IsOverQuiver, polynomial_canonical, polynomial_over}
 use Rattle.basis_text.proofs.Reader.{reader}

@@ -1,6 +1,5 @@
 -- Each text has bases or a first fault, in one way.
-use Rattle.std.proofs.Common.{◌≡◌, ◌⊎◌, ℕ, List, sym, subst, inl, inr}
-use Rattle.quiver.specs.Declarations.{Declaration}
+use Rattle.std.proofs.Common.{◌⊎◌, List, sym, subst, inl, inr}
 use Rattle.block_text.specs.Fault.{Fault}
 use Rattle.block_text.specs.Texts.{IsBlocks}
 use Rattle.block_text.proofs.EachText.{text_is_read, values_are_unique, fault_is_unique, values_have_no_fault}

@@ -1,9 +1,9 @@
 -- The first lines of a basis, by the place that stands behind them, and the blocks that go on with them.
-use Rattle.std.proofs.Common.{◌≡◌, ◌≤◌, ◌<◌, ◌+◌, ◌⊎◌, ℕ, true, false, List, [], ◌∷◌, ◌++◌, Some, Result, Ok, Err, IsTrue, arith, refl, sym, ap, ap₂, ◌∙◌, subst, map, length, nat_le, leb-false, inl, inr, codes}
+use Rattle.std.proofs.Common.{◌≡◌, ◌≤◌, ◌<◌, ◌+◌, ◌⊎◌, ℕ, List, [], ◌∷◌, ◌++◌, Some, Ok, Err, IsTrue, arith, refl, sym, ap, ap₂, ◌∙◌, subst, map, length, nat_le, leb-false, inl, inr, codes}
 use Rattle.std.specs.List.{All, AllZip}
 use Rattle.std.specs.Str.Parse.{digits_value}
 use Rattle.std.proofs.lemmas.Bool.Decides.{nat_tests}
-use Rattle.std.proofs.lemmas.List.{map-append, append-nil, append_assoc, length-append}
+use Rattle.std.proofs.lemmas.List.{map-append, append-nil, length-append}
 use Rattle.std.proofs.lemmas.List.Elements.{All-nil, All-push, All-from_recursion}
 use Rattle.std.proofs.lemmas.Option.{cond_some}
 use Rattle.definitions.specs.Poly.{Poly}
@@ -24,7 +24,7 @@ use Rattle.block_text.proofs.Zips.{zip_push, zip_length}
 use Rattle.basis_text.specs.declared.place.BasisTerms.{BasisTerms}
 use Rattle.basis_text.specs.declared.place.Stage.{Stage}
 use Rattle.basis_text.specs.declared.place.Stage.TheVariants as at
-use Rattle.basis_text.specs.BasisBlocks.{BasisTokens, head_line, line_of_rule, line_of_rest, basis_front, IsBasisBlock}
+use Rattle.basis_text.specs.BasisBlocks.{BasisTokens, head_line, line_of_rule, line_of_rest, basis_front}
 use Rattle.basis_text.specs.BasisBounds.{Bound, names, writing, numbers, terms, words, rules, flaw_of, KeepsOne}
 use Rattle.basis_text.specs.Bases.{basis_kind}
 use Rattle.basis_text.specs.Limits.{rule_limit}
@@ -81,8 +81,12 @@ module _ (ds : List Declaration) where
   count_within n few words = tt
   count_within n few rules = few
 
+  -- a claim and rules keep the bound
+  abbrev pub KeepsRules : List ℕ → List PolynomialTokens → Bound → Type 0
+  KeepsRules claim ts bound = KeepsClaim bound claim × All (KeepsPolynomial ds bound) ts × KeepsCount bound (length ts)
+
   -- with the rest 0 behind the rules
-  begin_rules : (within : List Bound) (claim : List ℕ) (ts : List PolynomialTokens) → IsTrue (is_number claim) → All IsPolynomialTokens ts → All (λ bound. KeepsClaim bound claim × All (KeepsPolynomial ds bound) ts × KeepsCount bound (length ts)) within
+  begin_rules : (within : List Bound) (claim : List ℕ) (ts : List PolynomialTokens) → IsTrue (is_number claim) → All IsPolynomialTokens ts → All (KeepsRules claim ts) within
       → BeginsWithin within (head_line ∷ claim_line claim ∷ map line_of_rule ts)
   begin_rules within claim ts number are keeps = record {
     tree = block_of claim ts (tokens.zero (codes "0"));
@@ -95,12 +99,12 @@ module _ (ds : List Declaration) where
   pub begin_headed : (within : List Bound) → BeginsWithin within (head_line ∷ [])
   begin_headed within =
       let begins = begin_rules within (codes "1") [] refl (All-nil IsPolynomialTokens)
-          (everywhere _ (λ bound. (claim_within (codes "1") (omega arith) bound, All-nil (KeepsPolynomial ds bound), count_within 0 (omega arith) bound)) within) in
+          (everywhere (KeepsRules (codes "1") []) (λ bound. (claim_within (codes "1") (omega arith) bound, All-nil (KeepsPolynomial ds bound), count_within 0 (omega arith) bound)) within) in
       record { tree = begins.tree; more = claim_line (codes "1") ∷ begins.more; are = begins.are; is_tree = begins.is_tree; keeps = begins.keeps }
 
   pub begin_inside : (n : ℕ) (ps : List Poly) (front : List Line) → IsInside ds n ps front → (within : List Bound) → BeginsWithin within front
   begin_inside n ps front here within = subst (BeginsWithin within) (sym here.are)
-      (begin_rules within here.claim here.rule_tokens here.number here.are_polynomials (everywhere _ (λ bound. (claim_within here.claim here.within bound, here.keep bound, count_within (length here.rule_tokens) here.few bound)) within))
+      (begin_rules within here.claim here.rule_tokens here.number here.are_polynomials (everywhere (KeepsRules here.claim here.rule_tokens) (λ bound. (claim_within here.claim here.within bound, here.keep bound, count_within (length here.rule_tokens) here.few bound)) within))
 
   pub begin_rested : (basis : BasisTerms) (front : List Line) → IsWhole (basis_kind ds) front basis → (within : List Bound) → BeginsWithin within front
   begin_rested basis front here within = record {
@@ -230,8 +234,8 @@ module _ (ds : List Declaration) where
       passes (placed bound).earlier (placed bound).later bound (placed bound).splits told (subst (λ (bs : List Bound). Begins (basis_kind ds) bs front) (sym (earlier_is bound)) begins)
 
   -- the claim is no number of its limit
-  claim_before : (claim : List ℕ) → All (λ bound. KeepsClaim bound claim × All (KeepsPolynomial ds bound) [] × KeepsCount bound 0) (before numbers)
-  claim_before claim = All-from_recursion (λ bound. KeepsClaim bound claim × All (KeepsPolynomial ds bound) [] × KeepsCount bound 0) (before numbers)
+  claim_before : (claim : List ℕ) → All (KeepsRules ds claim []) (before numbers)
+  claim_before claim = All-from_recursion (KeepsRules ds claim []) (before numbers)
       ((tt, All-nil (KeepsPolynomial ds names), tt), ((tt, All-nil (KeepsPolynomial ds writing), tt), tt))
 
   module _ (flaw : Flaw) (front : List Line) where

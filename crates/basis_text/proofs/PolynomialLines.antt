@@ -1,43 +1,21 @@
 -- The lines of polynomials, as a reader of bases needs them.
-use Rattle.std.proofs.Common.{◌≡◌, ◌<◌, ◌∙◌, ℕ, true, false, List, [], ◌∷◌, Result, Ok, Err, IsTrue, arith, refl, sym, ap, ap₂, subst, length}
-use Rattle.std.specs.List.{All, list_all}
-use Rattle.std.specs.Str.Parse.{digits_value}
-use Rattle.std.proofs.lemmas.Bool.{le-leb}
+use Rattle.std.proofs.Common.{◌≡◌, ◌∙◌, List, Result, Ok, Err, refl, sym, ap, subst}
+use Rattle.std.specs.List.{All}
 use Rattle.std.proofs.lemmas.List.Elements.{All-nil, All-from_recursion}
 use Rattle.definitions.specs.Poly.{Poly}
 use Rattle.word_core.specs.Letters.{IsOver}
 use Rattle.nc_polynomial.specs.Shape.{IsCanonical}
 use Rattle.quiver.specs.Declarations.{Declaration, letter_count}
 use Rattle.block_text.specs.declared.fault.Flaw.{Flaw}
-use Rattle.block_text.specs.Letters.{is_number}
 use Rattle.block_text.specs.Lines.{Line}
 use Rattle.block_text.specs.PolynomialBack.{IsPolynomialLine}
-use Rattle.block_text.specs.PolynomialLines as tokens
-use Rattle.block_text.specs.PolynomialLines.{PolynomialTokens, polynomial_line, IsPolynomialTokens, IsPolynomialOf}
-use Rattle.block_text.specs.PolynomialReading.{terms_of, is_zero, polynomial_of}
-use Rattle.block_text.proofs.PolynomialLaws.{IsPolynomialFlaw, misfit, unknown, unwritten, large, many, long, polynomial_is, flaw_is, poly_unique, is_canonical, is_over}
-use Rattle.block_text.proofs.PolynomialTokens.{terms_back, terms_no_zero}
+use Rattle.block_text.specs.PolynomialLines.{PolynomialTokens, polynomial_line, IsPolynomialTokens, terms_in, IsPolynomialOf}
+use Rattle.block_text.specs.PolynomialFlaws.{IsPolynomialFlaw, misfit, unknown, unwritten, large, many, long}
+use Rattle.block_text.specs.PolynomialReading.{polynomial_of}
+use Rattle.block_text.proofs.PolynomialFlaws.{tokens_unique}
+use Rattle.block_text.proofs.PolynomialLaws.{polynomial_is, flaw_is, poly_unique, is_canonical, is_over}
 use Rattle.basis_text.specs.BasisBounds.{Bound, names, writing, numbers, terms, words, rules}
 use Rattle.basis_text.proofs.Lines.{KeepsPolynomial, before, IsJudged, fine, fails, IsLineJudged, spells, misfits}
-
--- ---- a line has tokens in one way
-
-zero_read : (digits : List ℕ) → IsPolynomialTokens (tokens.zero digits) → is_zero (digits ∷ []) ≡ true
-zero_read digits is = let number : is_number digits ≡ true = is.0 in rw (number, le-leb (digits_value 10 digits) 0 (omega (arith, is.1))) refl
-
-tokens_unique : (t u : PolynomialTokens) → IsPolynomialTokens t → IsPolynomialTokens u → polynomial_line t ≡ polynomial_line u → t ≡ u
-tokens_unique (tokens.zero d) (tokens.zero e) t_is u_is same = ap tokens.zero (cc)
-tokens_unique (tokens.zero d) (tokens.terms first later) t_is u_is same =
-    let none : is_zero (d ∷ []) ≡ false = ap is_zero same ∙ terms_no_zero first later u_is.0 u_is.1 in
-    let nought = zero_read d t_is in absurd (cc)
-tokens_unique (tokens.terms first later) (tokens.zero e) t_is u_is same =
-    let none : is_zero (e ∷ []) ≡ false = ap is_zero (sym same) ∙ terms_no_zero first later t_is.0 t_is.1 in
-    let nought = zero_read e u_is in absurd (cc)
-tokens_unique (tokens.terms first later) (tokens.terms other more) t_is u_is same =
-    let all : first ∷ later ≡ other ∷ more = sym (terms_back first later t_is.0 t_is.1) ∙ ap terms_of same ∙ terms_back other more u_is.0 u_is.1 in
-    let one : first ≡ other = cc in
-    let rest : later ≡ more = cc in
-    ap₂ tokens.terms one rest
 
 module _ (ds : List Declaration) where
   -- ---- what comes of reading a line
@@ -71,7 +49,7 @@ module _ (ds : List Declaration) where
   line_judged line = judged_by line (polynomial_of ds line) refl
 
   polynomial_by : (t : PolynomialTokens) (r : Result Poly Flaw) → IsPolynomialTokens t → IsLineJudged ds (polynomial_line t) r → IsJudged ds t r
-  polynomial_by t r is (spells u are fit judged) = subst (λ (v : PolynomialTokens). IsJudged ds v r) (tokens_unique u t fit is (sym are)) judged
+  polynomial_by t r is (spells u are fit judged) = subst (λ (v : PolynomialTokens). IsJudged ds v r) (tokens_unique ds u t fit is (sym are)) judged
   polynomial_by t r is (misfits bad none) = absurd (none t refl is)
 
   pub polynomial_judged : (t : PolynomialTokens) → IsPolynomialTokens t → IsJudged ds t (polynomial_of ds (polynomial_line t))
@@ -80,7 +58,7 @@ module _ (ds : List Declaration) where
   -- ---- what its tokens say
 
   pub polynomial_unique : (t : PolynomialTokens) (p q : Poly) → IsPolynomialOf ds t p → IsPolynomialOf ds t q → p ≡ q
-  polynomial_unique t p q one two = poly_unique ds (tokens.terms_in t) p q one two
+  polynomial_unique t p q one two = poly_unique ds (terms_in t) p q one two
 
   -- its letters are letters of the quiver
   abbrev pub IsOverQuiver : Poly → Type 0

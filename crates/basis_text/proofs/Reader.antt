@@ -1,6 +1,5 @@
 -- The reader of bases owes what a reader of blocks owes.
-use Rattle.std.proofs.Common.{arith, ◌≡◌, ℕ, ◌++◌, ◌∷◌, [], true, false, cond, nat_eq, List, Some, None, Ok, Err, refl, sym, ap, ap₂, ◌∙◌, subst, codes}
-use Rattle.std.specs.List.{AllZip}
+use Rattle.std.proofs.Common.{arith, ◌≡◌, ◌++◌, ◌∷◌, [], true, false, cond, nat_eq, List, Some, None, Ok, Err, refl, sym, ap, ◌∙◌, subst, codes}
 use Rattle.std.proofs.lemmas.List.Elements.{All-from_recursion}
 use Rattle.nc_polynomial.specs.Limits.{word_limit, term_limit}
 use Rattle.quiver.specs.Declarations.{Declaration}
@@ -21,10 +20,9 @@ use Rattle.basis_text.specs.declared.place.Stage.TheVariants as at
 use Rattle.basis_text.specs.BasisBlocks.{BasisTokens}
 use Rattle.basis_text.specs.BasisBounds.{Bound, names, writing, numbers, terms, words, rules, flaw_of, IsBasisOf}
 use Rattle.basis_text.specs.Bases.{other_words, basis_kind}
-use Rattle.basis_text.specs.Limits.{rule_limit}
 use Rattle.basis_text.specs.Reading.{is_head, begin, next, finish, basis_steps}
 use Rattle.basis_text.proofs.BasisLines.{basis_meets}
-use Rattle.basis_text.proofs.OpenBlocks.{all_bounds, IsInside, IsOpen, begin_headed, begin_inside, begin_rested, next_headed, next_inside, placed, stopped_headed, stopped_inside}
+use Rattle.basis_text.proofs.OpenBlocks.{all_bounds, IsOpen, begin_headed, begin_inside, begin_rested, next_headed, next_inside, placed, stopped_headed, stopped_inside}
 use Rattle.basis_text.proofs.PolynomialLines.{polynomial_unique}
 
 -- ---- flaws

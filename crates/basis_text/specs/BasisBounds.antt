@@ -1,5 +1,5 @@
 -- The bounds of bases in evidence text, in the order in which they count, and what its blocks say.
-use Rattle.std.specs.Prelude.{◌≡◌, ◌≤◌, ℕ, ◌∷◌, List, length}
+use Rattle.std.specs.Prelude.{◌≡◌, ◌≤◌, ◌∷◌, List, length}
 use Rattle.std.specs.List.{All, AllZip}
 use Rattle.std.specs.Str.Parse.{digits_value}
 use Rattle.nc_polynomial.specs.Limits.{word_limit, term_limit}

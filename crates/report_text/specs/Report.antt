@@ -1,6 +1,6 @@
 -- The report of the verdicts on claims, and its status.
-use Rattle.std.specs.Prelude.{ℕ, suc, Bool, true, false, List, [], ◌∷◌, ◌++◌, length, decimal, codes, if◌then◌else◌, Option, Some, None, ⊤}
-use Rattle.std.specs.List.{All, flat_map, list_all, list_any}
+use Rattle.std.specs.Prelude.{ℕ, suc, Bool, true, false, List, [], ◌∷◌, ◌++◌, length, if◌then◌else◌, Option, Some, None, ⊤}
+use Rattle.std.specs.List.{list_all, list_any}
 use Rattle.word_core.specs.Letters.{IsOver}
 use Rattle.nc_polynomial.specs.declared.poly.Poly.{Poly}
 use Rattle.quiver.specs.Declarations.{Declaration, letter_count}

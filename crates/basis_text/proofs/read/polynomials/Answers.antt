@@ -21,13 +21,12 @@ loop-terms-preserved c =
     let at = c.loop-terms in
     let rest = into_iter_items c.next.new.self in
     let steps : into_iter_items at.terms-iterator ≡ c.in-Some.terms ∷ rest = c.in-Some.ensures.steps.0 in
-    let made : Poly = record { terms = c.in-Some.terms; canonical = c.polynomials.invariant.canonical } in
-    let pushed : c.push.new.self ≡ at.polynomials ++ made ∷ [] = search rules in
+    let pushed : map (λ (p : Poly). p.terms) c.push.new.self ≡ map (λ (p : Poly). p.terms) at.polynomials ++ c.in-Some.terms ∷ [] =
+    ap (map (λ (p : Poly). p.terms)) c.in_ok-push.ensures.ok ∙ map-append (λ (p : Poly). p.terms) at.polynomials _ in
     record {
       canonical = All-rest IsCanonical c.in-Some.terms rest (into_iter_items at.terms-iterator) steps at.invariant.canonical;
       left = let was = at.invariant.left in let gone = c.in-Some.ensures.steps.1 in let short = ap length steps in omega arith;
       same =
-          ap (λ (ps : _). map (λ (p : Poly). p.terms) ps ++ rest) pushed ∙ ap (λ (ls : _). ls ++ rest) (map-append (λ (p : Poly). p.terms) at.polynomials (made ∷ []))
-          ∙ append_assoc (map (λ (p : Poly). p.terms) at.polynomials) (c.in-Some.terms ∷ []) rest
-          ∙ ap (λ (ls : _). map (λ (p : Poly). p.terms) at.polynomials ++ ls) (sym steps) ∙ at.invariant.same;
+          ap (λ ls. ls ++ rest) pushed ∙ append_assoc (map (λ (p : Poly). p.terms) at.polynomials) (c.in-Some.terms ∷ []) rest
+          ∙ ap (λ ls. map (λ (p : Poly). p.terms) at.polynomials ++ ls) (sym steps) ∙ at.invariant.same;
     }
