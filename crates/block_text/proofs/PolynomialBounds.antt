@@ -1,35 +1,26 @@
 -- What a reader tests of the terms of a line is what they are bound to.
-use Rattle.std.proofs.Common.{◌≡◌, ◌<◌, ◌≤◌, ◌+◌, ◌-◌, ◌==◌, ℕ, suc, ℤ, pos, Bool, true, false, not, cond, ◌&&◌, List, [], ◌∷◌, ◌++◌, Option, Some, None, arith, refl, sym, ap, ap₂, ◌∙◌, subst, length, take, drop, codes, IsTrue, nat_eq, nat_le, eqb-true}
+use Rattle.std.proofs.Common.{◌≡◌, ◌<◌, ◌≤◌, ◌-◌, ℕ, Bool, true, false, not, cond, ◌&&◌, List, [], ◌∷◌, ◌++◌, Option, Some, None, arith, refl, sym, ap, ap₂, ◌∙◌, subst, length, take, codes, IsTrue, nat_eq, nat_le, eqb-true}
 use Rattle.std.specs.Prelude.{is_some}
-use Rattle.std.specs.List.{All, AllZip, list_all, starts_with, ends_with}
-use Rattle.std.specs.Option.{option_map, option_and_then}
-use Rattle.std.specs.Ordering.{nat_cmp, ordering_then}
-use Rattle.std.specs.Cmp.Lexicographic.{slice_cmp}
-use Rattle.std.specs.declared.cmp.Ordering.{Ordering}
-use Rattle.std.specs.declared.cmp.Ordering.TheVariants.{Less, Equal, Greater}
+use Rattle.std.specs.List.{All, list_all, starts_with, ends_with}
+use Rattle.std.specs.Option.{option_and_then}
 use Rattle.std.specs.Str.Parse.{digits_value}
-use Rattle.std.proofs.lemmas.Bool.{and_parts, false_from_ne_true, leb-true, leb-false, le-leb, lt-leb, ne_eqb}
+use Rattle.std.proofs.lemmas.Bool.{and_parts, false_from_ne_true, leb-true, leb-false, lt-leb}
 use Rattle.std.proofs.lemmas.List.{length-append, take_at}
 use Rattle.std.proofs.lemmas.List.Elements.{All-nil, All-cons, All-head, All-tail}
 use Rattle.std.proofs.lemmas.Option.{option_and_then_some, cond_some}
 use Rattle.std.proofs.lemmas.Slice.Eq.{bytes_eq-Decides}
-use Rattle.definitions.specs.Poly.{Poly, Term}
-use Rattle.word_core.specs.Canonical.{word_cmp}
-use Rattle.nc_polynomial.specs.Limits.{word_limit, term_limit}
 use Rattle.quiver.specs.declared.named.Named.{Named}
 use Rattle.quiver.specs.declared.named.Named.TheVariants.{Object, Map}
 use Rattle.quiver.specs.Declarations.{Declaration, named_in, letter_name}
-use Rattle.block_text.specs.declared.polynomial.Asked.{Asked}
-use Rattle.block_text.specs.declared.polynomial.Asked.TheVariants.{Form, Known, Written, Within}
-use Rattle.block_text.specs.Letters.{is_name, is_number, number_within, letter_of, word_of, signed}
-use Rattle.block_text.specs.Lines.{Line, is, integer_limit}
-use Rattle.block_text.specs.PolynomialLines.{TermTokens, is_term_letter, IsFactor, IsTerm, factor_value, coefficient_value, IsTermOf, IsWrittenLetter}
-use Rattle.block_text.specs.PolynomialReading.{is_bracketed, is_adjoint, is_spelling, is_written_as, written_letter, word_behind, is_above_one, value_within, some_word, term_value, passes_letter, passes_number, is_some_token, pass_letters, passes}
+use Rattle.block_text.specs.Letters.{is_name, is_number, number_within, letter_of}
+use Rattle.block_text.specs.Lines.{is}
+use Rattle.block_text.specs.PolynomialLines.{is_term_letter}
+use Rattle.block_text.specs.PolynomialReading.{is_bracketed, is_adjoint, is_spelling, is_written_as, written_letter, is_above_one}
 use Rattle.block_text.specs.Written.{spelled_as, letter_text}
 use Rattle.block_text.proofs.LettersBack.{ended_by, without_last}
 use Rattle.block_text.proofs.LineTrees.{is_word}
 use Rattle.block_text.proofs.NameBytes.{name_text}
-use Rattle.block_text.proofs.Results.{by_test, option_map_some, cond_option}
+use Rattle.block_text.proofs.Results.{cond_option}
 
 module _ {X : Type 0} (p : X → Bool) (P : X → Type 0) where
   pub all_from : ((x : X) → p x ≡ true → P x) → (xs : List X) → list_all p xs ≡ true → All P xs

@@ -1,8 +1,8 @@
 -- The tokens of a line are those of one polynomial, and what is the first that is wrong with a line is what it is told for.
-use Rattle.std.proofs.Common.{◌≡◌, ◌≤◌, ℕ, Bool, true, false, ◌&&◌, List, [], ◌∷◌, Option, Some, None, arith, Err, refl, sym, ap, ◌∙◌, subst}
-use Rattle.std.specs.List.{All, AllZip, list_all}
+use Rattle.std.proofs.Common.{◌≡◌, ◌≤◌, ℕ, true, false, ◌&&◌, List, [], ◌∷◌, Option, Some, None, arith, Err, refl, sym, ap, ◌∙◌, subst}
+use Rattle.std.specs.List.{All, list_all}
 use Rattle.std.proofs.lemmas.Bool.{and_parts, false_from_ne_true}
-use Rattle.std.proofs.lemmas.List.Elements.{All-nil, All-cons, All-head, All-tail}
+use Rattle.std.proofs.lemmas.List.Elements.{All-nil, All-head, All-tail}
 use Rattle.definitions.specs.Poly.{Poly}
 use Rattle.nc_polynomial.specs.Limits.{word_limit, term_limit}
 use Rattle.nc_polynomial.specs.Terms.{IsDescending}
@@ -15,7 +15,7 @@ use Rattle.block_text.specs.Fault.{asked}
 use Rattle.block_text.specs.Lines.{Line, integer_limit}
 use Rattle.block_text.specs.PolynomialBack.{IsPolynomialLine}
 use Rattle.block_text.specs.PolynomialFlaws.{Fits, IsPolynomialFlaw, misfit, unknown, unwritten, large, many, long, PolynomialLinesAreRead, PolynomialFlawsAreTold}
-use Rattle.block_text.specs.PolynomialLines.{TermTokens, PolynomialTokens, zero as zero_line, terms, polynomial_line, IsTerm, IsPolynomialTokens, terms_in, factor_value, IsPolynomialOf, IsWrittenLetter, HasKnownLetters, IsAsWritten, HasNumbersWithin, HasFewTerms, HasShortWords}
+use Rattle.block_text.specs.PolynomialLines.{TermTokens, PolynomialTokens, zero as zero_line, terms, polynomial_line, IsTerm, IsPolynomialTokens, factor_value, IsWrittenLetter, HasKnownLetters, IsAsWritten, HasNumbersWithin, HasFewTerms, HasShortWords}
 use Rattle.block_text.specs.PolynomialReading.{terms_of, is_zero, poly_behind, passes, descend, at_most, first_flaw, polynomial_of}
 use Rattle.block_text.proofs.PolynomialBounds.{all_from, all_to, all_with}
 use Rattle.block_text.proofs.PolynomialLaws.{IsKnown, form_is, form_there, known_is, known_there, writing_is, writing_there, within_is, within_there, at_most_is, at_most_there, all_terms, nought_is, nought_read, nought_there, poly_said, no_poly, polynomial_is, polynomial_there, flaw_is}

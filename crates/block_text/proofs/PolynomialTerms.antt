@@ -1,5 +1,5 @@
 -- The polynomial that the terms of a line make.
-use Rattle.std.proofs.Common.{◌≡◌, ◌≢◌, ◌<◌, ◌≤◌, ◌+◌, ℕ, zero, suc, ℤ, pos, Bool, true, false, not, cond, ◌||◌, List, [], ◌∷◌, ◌++◌, Option, Some, None, arith, refl, sym, ap, ap₂, ◌∙◌, subst, length, IsTrue, nat_le}
+use Rattle.std.proofs.Common.{◌≡◌, ◌<◌, ◌≤◌, ◌+◌, ℕ, suc, Bool, true, false, not, cond, ◌||◌, List, [], ◌∷◌, ◌++◌, Option, Some, None, arith, refl, sym, ap, ◌∙◌, subst, length, IsTrue, nat_le}
 use Rattle.std.specs.List.{All, AllZip, AllByRecursion}
 use Rattle.std.specs.Option.{option_map, option_and_then}
 use Rattle.std.specs.declared.cmp.Ordering.{Ordering}
@@ -13,12 +13,11 @@ use Rattle.definitions.specs.Poly.{Poly, Term}
 use Rattle.word_core.specs.Canonical.{word_cmp}
 use Rattle.word_core.proofs.Order.{word_cmp-trans}
 use Rattle.nc_polynomial.specs.Limits.{word_limit, term_limit}
-use Rattle.nc_polynomial.specs.Terms.{IsDescending}
-use Rattle.nc_polynomial.proofs.Shapes.{Descends, IsDescending-from_recursion, recursion_from_IsDescending}
+use Rattle.nc_polynomial.proofs.Shapes.{Descends}
 use Rattle.quiver.specs.Declarations.{Declaration}
 use Rattle.block_text.specs.Letters.{number_within, letter_of, word_of, signed}
 use Rattle.block_text.specs.Lines.{Line, integer_limit}
-use Rattle.block_text.specs.PolynomialLines.{TermTokens, is_term_letter, IsFactor, IsTerm, factor_value, coefficient_value, IsTermOf, IsWrittenLetter}
+use Rattle.block_text.specs.PolynomialLines.{TermTokens, is_term_letter, IsFactor, IsTerm, factor_value, IsTermOf, IsWrittenLetter}
 use Rattle.block_text.specs.PolynomialReading.{written_letter, word_behind, is_above_one, value_within, some_word, term_value, is_greater, may_follow, poly_behind}
 use Rattle.block_text.specs.Written.{letter_text}
 use Rattle.block_text.proofs.PolynomialBounds.{above_one, above_one_from, IsWritten, written_is, written_there}

@@ -4,15 +4,14 @@ use Rattle.std.specs.Char.{is_ascii_digit}
 use Rattle.std.specs.List.{All, AllByRecursion, list_all, flat_map}
 use Rattle.std.specs.Str.{chars, is_utf8}
 use Rattle.std.proofs.lemmas.Bool.{and_parts, false_from_ne_true, leb-true, lt-leb, lt-ltb, ne_eqb}
-use Rattle.std.proofs.lemmas.List.{append_assoc}
 use Rattle.std.proofs.lemmas.List.Elements.{All-head, All-tail}
 use Rattle.std.proofs.lemmas.Str.{chars-IsAscii}
 use Rattle.unicode_ident.specs.Ident.{is_xid_continue}
 use Rattle.unicode_ident.proofs.IdentLemmas.{is_xid_start-ascii}
 use Rattle.statement_tokens.specs.Limits.{name_limit}
-use Rattle.block_text.specs.Letters.{starts_name, begins_name, is_name, is_number, spelled_by}
+use Rattle.block_text.specs.Letters.{starts_name, begins_name, is_name, is_number}
 use Rattle.block_text.specs.Lines.{Line, is}
-use Rattle.block_text.specs.PolynomialLines.{TermTokens, PolynomialTokens, zero, terms, factor_line, term_line, first_line, later_line, polynomial_line, is_term_letter, IsFactor, IsTerm, IsPolynomialTokens, terms_in}
+use Rattle.block_text.specs.PolynomialLines.{TermTokens, terms, factor_line, term_line, first_line, later_line, polynomial_line, is_term_letter, IsFactor, IsTerm}
 use Rattle.block_text.specs.PolynomialReading.{is_minus, is_term_sign, part_in, term_of, later_in, terms_behind, terms_of, is_zero}
 use Rattle.block_text.proofs.NameBytes.{is_name_byte, IsNameText, name_text}
 use Rattle.block_text.proofs.NumbersBack.{digits_bytes}

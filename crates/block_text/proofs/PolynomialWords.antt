@@ -1,7 +1,7 @@
 -- The order of words, by the tokens of their letters.
-use Rattle.std.proofs.Common.{◌≡◌, ◌<◌, ◌==◌, ℕ, suc, Bool, true, false, ◌&&◌, nat_lt, eq-eqb, eqb-true, ltb-true, List, [], ◌∷◌, Option, Some, None, arith, refl, sym, ap, ◌∙◌, subst, length}
+use Rattle.std.proofs.Common.{◌≡◌, ◌<◌, ◌==◌, ℕ, suc, Bool, true, false, nat_lt, eq-eqb, eqb-true, ltb-true, List, [], ◌∷◌, Some, arith, refl, sym, ap, ◌∙◌, subst, length}
 use Rattle.std.specs.List.{AllZip}
-use Rattle.std.specs.Option.{option_map, option_and_then}
+use Rattle.std.specs.Option.{option_map}
 use Rattle.std.specs.Ordering.{nat_cmp, ordering_then}
 use Rattle.std.specs.Cmp.Lexicographic.{slice_cmp}
 use Rattle.std.specs.declared.cmp.Ordering.{Ordering}

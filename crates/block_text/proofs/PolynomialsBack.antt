@@ -19,13 +19,13 @@ use Rattle.quiver.specs.declared.named.Named.{Named}
 use Rattle.quiver.specs.declared.named.Named.TheVariants.{Object, Map}
 use Rattle.quiver.specs.Declarations.{Declaration, letter_count, letter_name, named_in, IsDeclared}
 use Rattle.block_text.specs.Back.{is_named}
-use Rattle.block_text.specs.Letters.{is_name, is_number, letter_of, word_of, signed}
+use Rattle.block_text.specs.Letters.{is_name, letter_of, signed}
 use Rattle.block_text.specs.Lines.{Line, integer_limit}
 use Rattle.block_text.specs.PolynomialBack.{IsPolynomialLine, PolynomialsAreReadBack}
-use Rattle.block_text.specs.PolynomialLines.{TermTokens, PolynomialTokens, zero as zero_line, terms, factor_line, term_line, first_line, later_line, polynomial_line, is_term_letter, IsFactor, IsTerm, IsPolynomialTokens, terms_in, factor_value, coefficient_value, IsTermOf, IsPolynomialOf, IsWrittenLetter}
+use Rattle.block_text.specs.PolynomialLines.{TermTokens, PolynomialTokens, zero as zero_line, terms, factor_line, term_line, first_line, later_line, polynomial_line, is_term_letter, IsFactor, IsTerm, IsPolynomialTokens, terms_in, factor_value, IsTermOf, IsPolynomialOf, IsWrittenLetter}
 use Rattle.block_text.specs.PolynomialReading.{polynomial_of}
 use Rattle.block_text.specs.Tokens.{tokens_of, goes_on}
-use Rattle.block_text.specs.Written.{spelled_as, letter_text, word_text, factor_text, term_text, first_text, later_text, poly_text}
+use Rattle.block_text.specs.Written.{spelled_as, letter_text, word_text, factor_text, term_text, later_text, poly_text}
 use Rattle.block_text.proofs.LettersBack.{Comes, spelled_map, spelled_adjoint, spelled_identity}
 use Rattle.block_text.proofs.LetterNames.{letter_is_spelled}
 use Rattle.block_text.proofs.NumbersBack.{decimal_number, decimal_text}

@@ -19,12 +19,17 @@ module _ (ds : List Declaration) where
   -- No tokens fit the line, or some do, and keep the bounds before one, but not that one.
   pub data IsPolynomialFlaw (line : Line) (flaw : Flaw) : Type 0 where
     misfit : flaw ≡ BadLine → ((tokens : PolynomialTokens) → Fits line tokens → ⊥) → IsPolynomialFlaw line flaw
-    unknown : (tokens : PolynomialTokens) → flaw ≡ UnknownName → Fits line tokens → (HasKnownLetters ds tokens → ⊥) → IsPolynomialFlaw line flaw
-    unwritten : (tokens : PolynomialTokens) → flaw ≡ NotAsWritten → Fits line tokens → HasKnownLetters ds tokens → (IsAsWritten ds tokens → ⊥) → IsPolynomialFlaw line flaw
-    large : (tokens : PolynomialTokens) → flaw ≡ NumberTooLarge → Fits line tokens → HasKnownLetters ds tokens → IsAsWritten ds tokens → (HasNumbersWithin tokens → ⊥) → IsPolynomialFlaw line flaw
-    many : (tokens : PolynomialTokens) → flaw ≡ TooMany term_limit → Fits line tokens → HasKnownLetters ds tokens → IsAsWritten ds tokens → HasNumbersWithin tokens
+    unknown : (tokens : PolynomialTokens) → flaw ≡ UnknownName → Fits line tokens
+        → (HasKnownLetters ds tokens → ⊥) → IsPolynomialFlaw line flaw
+    unwritten : (tokens : PolynomialTokens) → flaw ≡ NotAsWritten → Fits line tokens
+        → HasKnownLetters ds tokens → (IsAsWritten ds tokens → ⊥) → IsPolynomialFlaw line flaw
+    large : (tokens : PolynomialTokens) → flaw ≡ NumberTooLarge → Fits line tokens
+        → HasKnownLetters ds tokens → IsAsWritten ds tokens → (HasNumbersWithin tokens → ⊥) → IsPolynomialFlaw line flaw
+    many : (tokens : PolynomialTokens) → flaw ≡ TooMany term_limit → Fits line tokens
+        → HasKnownLetters ds tokens → IsAsWritten ds tokens → HasNumbersWithin tokens
         → (HasFewTerms tokens → ⊥) → IsPolynomialFlaw line flaw
-    long : (tokens : PolynomialTokens) → flaw ≡ TooMany word_limit → Fits line tokens → HasKnownLetters ds tokens → IsAsWritten ds tokens → HasNumbersWithin tokens → HasFewTerms tokens
+    long : (tokens : PolynomialTokens) → flaw ≡ TooMany word_limit → Fits line tokens
+        → HasKnownLetters ds tokens → IsAsWritten ds tokens → HasNumbersWithin tokens → HasFewTerms tokens
         → (HasShortWords tokens → ⊥) → IsPolynomialFlaw line flaw
 
 -- A line is read as the polynomial that it spells within all bounds, and no other is.

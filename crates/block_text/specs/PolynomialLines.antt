@@ -6,7 +6,7 @@ use Rattle.definitions.specs.Poly.{Poly, Term}
 use Rattle.nc_polynomial.specs.Limits.{word_limit, term_limit}
 use Rattle.nc_polynomial.specs.Terms.{IsDescending}
 use Rattle.quiver.specs.Declarations.{Declaration}
-use Rattle.block_text.specs.Letters.{Spelled, spelled_by, letter_of, word_of, is_number, number_within, signed}
+use Rattle.block_text.specs.Letters.{Spelled, spelled_by, letter_of, word_of, is_number, signed}
 use Rattle.block_text.specs.Lines.{Line, integer_limit}
 use Rattle.block_text.specs.Written.{letter_text}
 

@@ -1,4 +1,4 @@
-use Rattle.std.proofs.Common.{◌≡◌, ◌+◌, ◌-◌, length, arith, rules, sym, ap, ◌∙◌}
+use Rattle.std.proofs.Common.{◌≡◌, ◌-◌, length, arith, rules, sym, ap, ◌∙◌}
 use Rattle.word_core.specs.Canonical.{word_cmp}
 use Rattle.block_text.specs.PolynomialReading.{is_greater}
 use Rattle.block_text.proofs.PolynomialOrder.{greater_is, follows_last}
