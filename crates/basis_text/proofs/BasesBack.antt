@@ -1,5 +1,5 @@
 -- A basis that is written is read back, whatever stands around it.
-use Rattle.std.proofs.Common.{◌≡◌, ◌<◌, ◌+◌, ◌^◌, ℕ, List, [], ◌∷◌, ◌++◌, IsTrue, arith, refl, sym, ap, ap₂, ◌∙◌, subst, length, map, codes}
+use Rattle.std.proofs.Common.{◌≡◌, ◌<◌, ◌^◌, ℕ, List, [], ◌∷◌, ◌++◌, IsTrue, arith, refl, sym, ap, ap₂, ◌∙◌, subst, length, map, codes}
 use Rattle.std.specs.Prelude.{decimal}
 use Rattle.std.specs.List.{All, AllZip, flat_map, list_all}
 use Rattle.std.specs.Str.Parse.{digits_value}

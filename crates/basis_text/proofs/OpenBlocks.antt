@@ -99,7 +99,7 @@ module _ (ds : List Declaration) where
   pub begin_headed : (within : List Bound) → BeginsWithin within (head_line ∷ [])
   begin_headed within =
       let begins = begin_rules within (codes "1") [] refl (All-nil IsPolynomialTokens)
-          (everywhere (KeepsRules (codes "1") []) (λ bound. (claim_within (codes "1") (omega arith) bound, All-nil (KeepsPolynomial ds bound), count_within 0 (omega arith) bound)) within) in
+      (everywhere (KeepsRules (codes "1") []) (λ bound. (claim_within (codes "1") (omega arith) bound, All-nil (KeepsPolynomial ds bound), count_within 0 (omega arith) bound)) within) in
       record { tree = begins.tree; more = claim_line (codes "1") ∷ begins.more; are = begins.are; is_tree = begins.is_tree; keeps = begins.keeps }
 
   pub begin_inside : (n : ℕ) (ps : List Poly) (front : List Line) → IsInside ds n ps front → (within : List Bound) → BeginsWithin within front

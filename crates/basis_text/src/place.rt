@@ -22,5 +22,7 @@ pub enum Stage {
         rules: Listing<Listing<(i128, Word)>>,
     },
     /// Behind its rest.
-    Rested { basis: BasisTerms },
+    Rested {
+        basis: BasisTerms,
+    },
 }

@@ -57,11 +57,7 @@ fn bases_of(alloc: Global, blocks: Listing<BasisTerms>) -> Result<Listing<Basis>
 
 /// The bases of the text, over the letters of the quiver, or the first thing that is wrong with it. Blocks of other kinds are
 /// skipped. Want of memory is told where there is no room, whatever the text is.
-pub fn read_bases(
-    alloc: Global,
-    bytes: &[u8],
-    quiver: &Quiver,
-) -> Result<Listing<Basis>, CertFault>
+pub fn read_bases(alloc: Global, bytes: &[u8], quiver: &Quiver) -> Result<Listing<Basis>, CertFault>
     requires { length bytes.now < 4294967295 }
     // They are those that the bytes have, or what is told is the first thing that is wrong with the bytes.
     ensures exact { MatchResult result (IsBases quiver.now bytes.now) (ExplainsBy (IsFirstFault quiver.now bytes.now)) }
