@@ -1,12 +1,12 @@
 -- The lines that spell polynomials: terms with their signs between them, or 0.
-use Rattle.std.specs.Prelude.{◌≡◌, ◌≤◌, ◌<◌, ◌&&◌, ℕ, ℤ, pos, Bool, not, IsTrue, List, [], ◌∷◌, ◌++◌, length, map, Option, Some, None, codes, if◌then◌else◌}
+use Rattle.std.specs.Prelude.{◌≡◌, ◌≤◌, ◌<◌, ◌&&◌, ⊤, ℕ, ℤ, Bool, true, not, IsTrue, List, [], ◌∷◌, ◌++◌, length, Option, Some, None, codes, if◌then◌else◌}
 use Rattle.std.specs.List.{All, AllZip, flat_map}
 use Rattle.std.specs.Str.Parse.{digits_value}
 use Rattle.definitions.specs.Poly.{Poly, Term}
 use Rattle.nc_polynomial.specs.Limits.{word_limit, term_limit}
 use Rattle.nc_polynomial.specs.Terms.{IsDescending}
 use Rattle.quiver.specs.Declarations.{Declaration}
-use Rattle.block_text.specs.Letters.{Spelled, spelled_by, letter_of, word_of, is_number, number_within, signed}
+use Rattle.block_text.specs.Letters.{Spelled, spelled_by, letter_of, word_of, is_number, signed}
 use Rattle.block_text.specs.Lines.{Line, integer_limit}
 use Rattle.block_text.specs.Written.{letter_text}
 
