@@ -25,7 +25,7 @@ from why_parts import Screen, Told, on_screen
 why_outcomes.HARDER = str(CONTRIB / "why.py")  # what is told of it is told whether or not it is there
 CASES = CONTRIB / "examples" / "words.txt"
 SCREEN = Screen(100, 60)
-NOT_RUN = ("5", "6", "C5", "C11", "K5: rows", "12: a large certificate", "12: many terms")  # of devices and memory, and what takes long
+NOT_RUN = ("5", "6", "C5", "C11", "E4", "K5: rows", "12: a large certificate", "12: many terms")  # of devices and memory, and what takes long
 
 
 class Case(NamedTuple):

@@ -1,4 +1,4 @@
-"""What why.py tells of evidence that is refused: a function for each code, K1 to K7, C1 to C11 and M1 to M6, in one table."""
+"""What why.py tells of evidence that is refused: a function for each code, K1 to K7, C1 to C11, E1 to E4 and M1 to M6, in one table."""
 from __future__ import annotations
 
 import functools
@@ -10,11 +10,12 @@ from check import Evidence, Poly, Problem, Refusal, add, is_name
 from why_parts import LIMIT_OF_NUMBERS, Quote, Told, article, counted, did_you_mean, few, listed, short
 from why_statement import Statement
 
+OTHER_ORDER = "contrib/to_chain.py finds an order of rows in which the sums stay short"
 LARGE = 400000  # bytes: sums of larger evidence are not made again
 ROW, LEMMA_ROW = "`row C (LETTERS) G (LETTERS)`", "`row C (LETTERS) lemma K (LETTERS)`"
 
 
-READS = {"check": "certificate", "model": "model"}  # the blocks that a command reads
+READS = {"check": "certificate", "explain": "certificate", "model": "model"}  # the blocks that a command reads
 OTHERS = {"certificate": ("model", "basis"), "model": ("certificate", "basis")}  # those that are skipped then
 
 
@@ -282,6 +283,26 @@ def overflow(fault: Fault) -> Told:
     return fault.told(f"{where} {operation} leaves ±(2^127 - 1); contrib/check.py has no such limit", entry)
 
 
+def has_lemmas(fault: Fault) -> Told:
+    entry = (fault.text.of_block(fault.block, "lemma") or fault.text.of_block(fault.block, "certificate"))[0]
+    return fault.told("a certificate with lemmas has no chain; prove writes one without by --format 1", entry)
+
+
+def chain_overflow(fault: Fault) -> Told:
+    operation = re.search("-?[0-9]+ (times|plus) -?[0-9]+", fault.rest).group()  # type: ignore[union-attr]
+    return fault.told(f"in the line behind row {fault.number('row')} {operation} leaves ±(2^127 - 1); {OTHER_ORDER}", fault.row())
+
+
+def chain_size(fault: Fault) -> Told:
+    told = f"row {fault.number('row')} has a word of more than 500 letters, or the line behind it has more than 20,000 terms"
+    return fault.told(f"{told}; {OTHER_ORDER}", fault.row())
+
+
+def chain_letters(fault: Fault) -> Told:
+    told = f"the lines up to that behind row {fault.number('row')} have more than 10,000,000 letters"
+    return fault.told(f"{told}; {OTHER_ORDER}", fault.row())
+
+
 def sum_terms(fault: Fault) -> Told:
     return fault.told(f"after row {fault.number('row')} the running sum has more than 200,000 terms", fault.row())
 
@@ -457,6 +478,10 @@ RULES = {  # the rule alone, for where no more can be told
     "C9": "the polynomial of a lemma has more than 20,000 terms, or a word of more than 500 letters",
     "C10": "the scale of a lemma or of the goal doesn't divide the denominator",
     "C11": "the polynomials of the lemmas so far have more than 1,000,000 terms",
+    "E1": "a certificate with lemmas has no chain",
+    "E2": "a line of the chain has a coefficient that leaves ±(2^127 - 1)",
+    "E3": "a step has a word of more than 500 letters, or a line of the chain more than 20,000 terms",
+    "E4": "the lines of the chain have more than 10,000,000 letters",
     "M1": "the statement has no claim of this number",
     "M2": "a map has no matrix",
     "M3": "a matrix has other numbers of rows and columns than the sides of its map's target and source",
@@ -468,6 +493,7 @@ SENTENCES: Dict[str, Callable[[Fault], Told]] = {
     "K1": utf8, "K2": grammar, "K3": undeclared, "K4": bound, "K5": limit, "K6": unended, "K7": none_there,
     "C1": claim_number, "C2": generator, "C3": zero_scale, "C4": overflow, "C5": sum_terms, "C6": sum_differs, "C7": lemma_number,
     "C8": lemma_divides, "C9": lemma_size, "C10": lemma_scale, "C11": lemma_terms,
+    "E1": has_lemmas, "E2": chain_overflow, "E3": chain_size, "E4": chain_letters,
     "M1": claim_number, "M2": no_matrix, "M3": wrong_shape, "M4": broken_assumption, "M5": unbroken_claim, "M6": unequal_transpose,
 }  # fmt: skip
 LINE = re.compile(r"# (?:block (?P<block>[0-9]+) )?refused (?P<code>[A-Z][0-9]+)(?: line (?P<line>[0-9]+))?(?P<rest>.*)")

@@ -302,14 +302,20 @@ def told_of(asked: Asked, report: str, briefly: bool = False) -> List[Told]:
 
 
 def told_of_blocks(text: Text, report: str) -> List[Told]:
-    """What the lines on accepted and confirmed blocks say."""
+    """What the lines on accepted, explained and confirmed blocks say."""
     accepted = re.findall("^# block ([0-9]+) accepted claim ([0-9]+) denominator ([0-9]+)$", report, re.MULTILINE)
+    explained = re.findall("^# block ([0-9]+) explained claim ([0-9]+) denominator ([0-9]+) steps [0-9]+$", report, re.MULTILINE)
     confirmed = re.findall("^# block ([0-9]+) confirmed claim ([0-9]+)$", report, re.MULTILINE)
     if accepted:
         scales = sorted({int(it[2]) for it in accepted if it[2] != "1"})
         where = f"it is zero wherever the generators are{' and its denominator cancels' if scales else ''}"
         told = f"{counted(len(accepted), 'certificate')} {is_are(len(accepted))} accepted, of {claims([it[1] for it in accepted])}"
         return [Told(f"{told}: each adds up to its claim, so {where}", None, denominators(scales))]
+    if explained:
+        scales = sorted({int(it[2]) for it in explained if it[2] != "1"})
+        where = f"it is zero wherever the generators are{' and its denominator cancels' if scales else ''}"
+        told = f"{counted(len(explained), 'chain')} of {claims([it[1] for it in explained])}"
+        return [Told(f"{told}: each leads from its claim down to 0, so {where}", None, denominators(scales))]
     if confirmed:
         told = f"{counted(len(confirmed), 'model')} {is_are(len(confirmed))} confirmed, of {claims([it[1] for it in confirmed])}"
         return [Told(f"{told}: the matrices make all assumptions zero, and the claim not")]

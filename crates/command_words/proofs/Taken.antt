@@ -244,7 +244,13 @@ all_read = (
     λ words e. inr (inl (refl, pair_has (codes "check") words e)),
     (
       λ words e. inr (inr (inl (refl, refute_has words e))),
-      (λ words e. inr (inr (inr (inl (refl, pair_has (codes "model") words e)))), (λ words e. inr (inr (inr (inr (refl, bench_has words e)))), tt)),
+      (
+        λ words e. inr (inr (inr (inl (refl, pair_has (codes "model") words e)))),
+        (
+          λ words e. inr (inr (inr (inr (inl (refl, bench_has words e))))),
+          (λ words e. inr (inr (inr (inr (inr (refl, pair_has (codes "explain") words e))))), tt),
+        ),
+      ),
     ),
   ),
 )

@@ -62,4 +62,6 @@ pub enum Call {
     Model(PairCall),
     /// Decides the claims of a statement that the program makes.
     Bench(BenchCall),
+    /// Prints proofs as chains of equations.
+    Explain(PairCall),
 }

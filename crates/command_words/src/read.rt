@@ -89,7 +89,8 @@ fn call_of(alloc: Global, name: &str, matches: &ArgMatches) -> Result<Call, Allo
         "check" => Ok(Call::Check(pair_of(alloc, matches)?)),
         "refute" => Ok(Call::Refute(refute_of(alloc, matches)?)),
         "model" => Ok(Call::Model(pair_of(alloc, matches)?)),
-        _ => Ok(Call::Bench(bench_of(matches))),
+        "bench" => Ok(Call::Bench(bench_of(matches))),
+        _ => Ok(Call::Explain(pair_of(alloc, matches)?)),
     }
 }
 

@@ -10,6 +10,10 @@ mod decided_rows;
 #[cfg(test)]
 mod direct_tests;
 #[cfg(test)]
+mod explain_rows;
+#[cfg(test)]
+mod explain_tests;
+#[cfg(test)]
 mod gallery_rows;
 #[cfg(test)]
 mod gate_tests;

@@ -9,6 +9,8 @@ pub enum Part {
     Times(&'static str, u32),
     /// The numbers from one to another, each with a text before it and one behind it, and a sign between them.
     Numbers(&'static str, u32, u32, &'static str, &'static str),
+    /// The terms m100 m200 to m1 m1, the greatest first, with a sign between them and a text so many times behind each.
+    Products(&'static str, &'static str, u32),
     /// So many rows of a certificate with 500 letters on either side, and the factor 0.
     LongRows(u32),
     /// The identity matrix of this side.

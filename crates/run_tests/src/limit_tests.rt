@@ -27,6 +27,27 @@ fn push_numbers(
     Ok(())
 }
 
+// Appends the terms m100 m200 to m1 m1, the greatest first, each with a text behind it.
+fn push_products(text: &mut String, sign: &str, behind: &str) -> Result<(), AllocError> {
+    for left in 0..100u32 {
+        for right in 0..200u32 {
+            if left + right > 0 {
+                text.push_str(sign)?;
+            }
+            write!(text, "m{} m{}", 100 - left, 200 - right)?;
+            text.push_str(behind)?;
+        }
+    }
+    Ok(())
+}
+
+// The text so many times.
+fn repeated(alloc: Global, piece: &str, count: u32) -> Result<String, AllocError> {
+    let mut text = String::new(alloc);
+    push_times(&mut text, piece, count)?;
+    Ok(text)
+}
+
 // Appends rows of a certificate with 500 letters on either side.
 fn push_long_rows(text: &mut String, count: u32) -> Result<(), AllocError> {
     for _ in 0..count {
@@ -58,12 +79,16 @@ fn pad(text: &mut String, bytes: usize) -> Result<(), AllocError> {
     Ok(())
 }
 
-fn push_part(text: &mut String, part: &Part) -> Result<(), AllocError> {
+fn push_part(alloc: Global, text: &mut String, part: &Part) -> Result<(), AllocError> {
     match part {
         Part::Plain(piece) => text.push_str(piece),
         Part::Times(piece, count) => push_times(text, piece, *count),
         Part::Numbers(before, first, last, after, sign) => {
             push_numbers(text, (*first, *last), (before, after, sign))
+        }
+        Part::Products(sign, behind, count) => {
+            let behind = repeated(alloc, behind, *count)?;
+            push_products(text, sign, behind.as_str())
         }
         Part::LongRows(count) => push_long_rows(text, *count),
         Part::Identity(side) => push_identity(text, *side),
@@ -71,11 +96,11 @@ fn push_part(text: &mut String, part: &Part) -> Result<(), AllocError> {
     }
 }
 
-// The text that is put together from the parts.
-fn text_of(alloc: Global, parts: &[Part]) -> Result<String, AllocError> {
+/// The text that is put together from the parts.
+pub fn text_of(alloc: Global, parts: &[Part]) -> Result<String, AllocError> {
     let mut text = String::new(alloc);
     for part in parts {
-        push_part(&mut text, part)?;
+        push_part(alloc, &mut text, part)?;
     }
     Ok(text)
 }

@@ -21,8 +21,8 @@ const CHECK: &[&str] = &["check", "s", "c"];
 
 const MODEL: &[&str] = &["model", "s", "c"];
 
-// The status of a run and what is put.
-fn answer_over<R: Threads + Sync>(
+/// The status of a run and what is put.
+pub fn answer_over<R: Threads + Sync>(
     rt: &R,
     alloc: Global,
     words: &[String],

@@ -17,4 +17,5 @@ returns c =
     let two = below_is app_of c.pair_command.result _ _ _ _ c.pair_command.ensures.app one c.in_ok-set-2.ensures.app in
     let three = below_is app_of c.refute_command.result _ _ _ _ c.refute_command.ensures.app two c.in_ok-set-3.ensures.app in
     let four = below_is app_of c.pair_command-2.result _ _ _ _ c.pair_command-2.ensures.app three c.in_ok-set-4.ensures.app in
-    IfOk-weaker c.with_command-5.result _ _ (λ x h. below_is app_of c.bench_command.result _ _ _ _ c.bench_command.ensures.app four h) c.with_command-5.ensures.app
+    let five = below_is app_of c.bench_command.result _ _ _ _ c.bench_command.ensures.app four c.in_ok-set-5.ensures.app in
+    IfOk-weaker c.with_command-6.result _ _ (λ x h. below_is app_of c.pair_command-3.result _ _ _ _ c.pair_command-3.ensures.app five h) c.with_command-6.ensures.app
