@@ -9,6 +9,7 @@ use Rattle.prove_command.specs.Says.{SaysDecided}
 use Rattle.check_command.specs.Says.{SaysChecked}
 use Rattle.refute_command.specs.Says.{SaysSearched}
 use Rattle.model_command.specs.Says.{SaysConfirmed}
+use Rattle.explain_command.specs.Says.{SaysExplained}
 use Rattle.command_answers.specs.CallFiles.{AreContents, statement_of, evidence_of}
 
 -- what the ending of a call says, by its statement and its text of evidence
@@ -22,6 +23,8 @@ SaysOver s (call.Refute p) statement evidence ending = SaysSearched statement en
 SaysOver s (call.Check p) statement evidence ending = SaysChecked s statement evidence ending.report
 -- each model that is confirmed refutes the claim that it names
 SaysOver s (call.Model p) statement models ending = SaysConfirmed statement models ending.report
+-- each chain that is printed leads from a multiple of its claim to zero, and shows it
+SaysOver s (call.Explain p) statement evidence ending = SaysExplained s statement evidence ending.report
 
 -- by the contents of its files
 abbrev pub Says : {Object Arrow : Type 0} → Structure Object Arrow → Call → List (List ℕ) → Ending → Type 0

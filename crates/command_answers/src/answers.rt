@@ -12,6 +12,7 @@ use adjoint_rules::Problem;
 use check_command::judge_evidence;
 use command_shape::{Ending, Stop, read_statement};
 use command_words::Call;
+use explain_command::explain_evidence;
 use in_order_parallel::Gate;
 use lists::Listing;
 use model_command::judge_models;
@@ -112,5 +113,6 @@ fn answer_problem<R: Threads + Sync, G: Gate + Sync>(
                 gate,
             )
         }
+        Call::Explain(_) => explain_evidence(alloc, problem, evidence),
     }
 }
