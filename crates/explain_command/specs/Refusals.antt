@@ -1,5 +1,5 @@
 -- Why a block of evidence is not explained, and what the lines of a report say of that.
-use Rattle.std.specs.Prelude.{⊤, List, ◌++◌, codes, decimal, Option, Some, None}
+use Rattle.std.specs.Prelude.{⊤, ℕ, List, ◌++◌, codes, decimal, Option, Some, None}
 use Rattle.std.specs.Fmt.{signed_decimal}
 use Rattle.quiver.specs.Declarations.{Declaration}
 use Rattle.adjoint_rules.specs.declared.problem.Problem.{Problem}
