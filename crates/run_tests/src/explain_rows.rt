@@ -56,8 +56,8 @@ const ANSWER: &[Part] = &[BLOCK, CHAIN];
 
 const USAGE: Part = Plain("2 # usage: opprove prove|check|refute|model|bench|explain\n");
 
-/// Rows in any order, rows that are no steps, and denominators.
-pub const ROWS: &[LimitRow] = &[
+/// Rows in any order, and rows that are no steps.
+pub const STEPS: &[LimitRow] = &[
     // five steps, and the same from the other end
     (
         EXPLAIN,
@@ -150,6 +150,10 @@ pub const ROWS: &[LimitRow] = &[
         ],
         ANSWER,
     ),
+];
+
+/// Certificates in other forms: steps in two, multiples, adjoints of identities, blanks.
+pub const FORMS: &[LimitRow] = &[
     // a step that is made in two, too far and back
     (
         EXPLAIN,
@@ -243,6 +247,10 @@ pub const ROWS: &[LimitRow] = &[
         ],
         ANSWER,
     ),
+];
+
+/// Generators with factors, and claims that are zero.
+pub const FACTORS: &[LimitRow] = &[
     // generators with factors
     (
         EXPLAIN,
@@ -304,6 +312,10 @@ pub const ROWS: &[LimitRow] = &[
             Plain("use 1 (v) 2 ()\nline 6 v u u - 4 v v\nuse -1 (v) 2 ()\nline 0\nend\n"),
         ],
     ),
+];
+
+/// Adjoints, and the signature of a claim that is zero.
+pub const ADJOINTS: &[LimitRow] = &[
     // adjoints; a generator that is zero; letters that are their own adjoints
     (
         EXPLAIN,
@@ -371,6 +383,10 @@ pub const ROWS: &[LimitRow] = &[
             ),
         ],
     ),
+];
+
+/// Words of 500 letters, and the greatest coefficients.
+pub const LONG_WORDS: &[LimitRow] = &[
     // words that are no paths, of 500 letters
     (
         EXPLAIN,
@@ -457,6 +473,10 @@ pub const ROWS: &[LimitRow] = &[
             ),
         ],
     ),
+];
+
+/// Blocks one after another.
+pub const BLOCKS: &[LimitRow] = &[
     // a block after another, and a hundred
     (
         EXPLAIN,
@@ -546,8 +566,8 @@ pub const ROWS: &[LimitRow] = &[
     ),
 ];
 
-/// Blocks that are refused, and texts and calls with faults.
-pub const REFUSALS: &[LimitRow] = &[
+/// Steps that leave the range.
+pub const OVERFLOWS: &[LimitRow] = &[
     // E2; a row with coefficient 0 is counted
     (
         EXPLAIN,
@@ -579,6 +599,10 @@ pub const REFUSALS: &[LimitRow] = &[
             Plain("E2 row 2 -170141183460469231731687303715884105727 plus -1\n"),
         ],
     ),
+];
+
+/// What `check` refuses.
+pub const CHECKED: &[LimitRow] = &[
     // C1 to C6, before any step
     (
         EXPLAIN,
@@ -664,6 +688,10 @@ pub const REFUSALS: &[LimitRow] = &[
         ],
         &[REFUSED, Plain("C6 word u want 1 got 0\n")],
     ),
+];
+
+/// Lemmas, and words that grow too long.
+pub const GROWN: &[LimitRow] = &[
     // E1, whatever else is wrong
     (
         EXPLAIN,
@@ -741,6 +769,10 @@ pub const REFUSALS: &[LimitRow] = &[
         ],
         &[REFUSED, Plain("E3 row 4\n")],
     ),
+];
+
+/// Texts with faults.
+pub const TEXTS: &[LimitRow] = &[
     // texts with faults; a chain is no evidence
     (
         EXPLAIN,
@@ -795,6 +827,10 @@ pub const REFUSALS: &[LimitRow] = &[
         &[HEAD, END],
         &[Plain("3 # refused S6 line 2 column 7\n")],
     ),
+];
+
+/// Files that can't be had, and words that name no call.
+pub const CALLS: &[LimitRow] = &[
     // files and words
     (
         &["explain", "s", "g"],

@@ -1,6 +1,9 @@
 //! Runs of `explain`.
 use crate::calls::{owned, shelf_of};
-use crate::explain_rows::{LENGTHS, REFUSALS, REPORTS, ROWS, SIZES};
+use crate::explain_rows::{
+    ADJOINTS, BLOCKS, CALLS, CHECKED, FACTORS, FORMS, GROWN, LENGTHS, LONG_WORDS, OVERFLOWS,
+    REPORTS, SIZES, STEPS, TEXTS,
+};
 use crate::limit_rows::LimitRow;
 use crate::limit_tests::{tell_limits, text_of};
 use crate::tests::{answer, answer_over, tell};
@@ -17,13 +20,58 @@ const MOST_PER_PUT: usize = 65_536;
 const ROOM: usize = 50_000_000;
 
 #[test]
-fn certificates_are_explained(rt: HostRuntime) -> Result<(), Fail> {
-    tell_limits(&rt, rt.alloc(), ROWS)
+fn rows_that_count_and_are_typed_are_steps(rt: HostRuntime) -> Result<(), Fail> {
+    tell_limits(&rt, rt.alloc(), STEPS)
 }
 
 #[test]
-fn what_has_no_chain_is_refused(rt: HostRuntime) -> Result<(), Fail> {
-    tell_limits(&rt, rt.alloc(), REFUSALS)
+fn certificates_have_many_forms(rt: HostRuntime) -> Result<(), Fail> {
+    tell_limits(&rt, rt.alloc(), FORMS)
+}
+
+#[test]
+fn claims_are_multiplied(rt: HostRuntime) -> Result<(), Fail> {
+    tell_limits(&rt, rt.alloc(), FACTORS)
+}
+
+#[test]
+fn adjoints_are_letters(rt: HostRuntime) -> Result<(), Fail> {
+    tell_limits(&rt, rt.alloc(), ADJOINTS)
+}
+
+#[test]
+fn words_have_500_letters_at_most(rt: HostRuntime) -> Result<(), Fail> {
+    tell_limits(&rt, rt.alloc(), LONG_WORDS)
+}
+
+#[test]
+fn blocks_are_explained_one_by_one(rt: HostRuntime) -> Result<(), Fail> {
+    tell_limits(&rt, rt.alloc(), BLOCKS)
+}
+
+#[test]
+fn steps_that_leave_the_range_are_told(rt: HostRuntime) -> Result<(), Fail> {
+    tell_limits(&rt, rt.alloc(), OVERFLOWS)
+}
+
+#[test]
+fn what_check_refuses_has_no_chain(rt: HostRuntime) -> Result<(), Fail> {
+    tell_limits(&rt, rt.alloc(), CHECKED)
+}
+
+#[test]
+fn lemmas_and_long_words_have_no_chain(rt: HostRuntime) -> Result<(), Fail> {
+    tell_limits(&rt, rt.alloc(), GROWN)
+}
+
+#[test]
+fn texts_with_faults_are_refused(rt: HostRuntime) -> Result<(), Fail> {
+    tell_limits(&rt, rt.alloc(), TEXTS)
+}
+
+#[test]
+fn files_and_words_come_first(rt: HostRuntime) -> Result<(), Fail> {
+    tell_limits(&rt, rt.alloc(), CALLS)
 }
 
 #[test]
