@@ -7,7 +7,7 @@ import time
 from pathlib import Path
 from typing import Callable, Iterator, List, NamedTuple
 
-from trying import CONTRIB, PROGRAM, installed, need, run
+from trying import CONTRIB, PROGRAM, Failed, installed, need, run
 
 OPPROVE = Path(os.environ.get("OPPROVE", PROGRAM))
 RUNS, PATIENCE, MEMORY_LIMIT = 3, 10, 8 * 10**9
@@ -55,11 +55,17 @@ def measured(words: List[str], out: Path) -> Usage:
 
 def least(words: List[str], out: Path, is_right: Callable[[int, str], bool]) -> Usage:
     """The least of some runs, of each of which the status and the answer are right, or which find no memory."""
+    return least_by(words, out, lambda status: is_right(status, out.read_text(encoding="utf-8")))
+
+
+def least_by(words: List[str], out: Path, is_right: Callable[[int], bool]) -> Usage:
+    """The same, of runs whose answers are looked at in their file, so that long ones take no memory here."""
     runs: List[Usage] = []
     while len(runs) < RUNS and sum(usage.seconds for usage in runs) < PATIENCE:
         runs.append(measured(words, out))
-        text = out.read_text(encoding="utf-8")
-        need(is_right(runs[-1].status, text) or runs[-1].status == NO_MEMORY, (words, runs[-1], text[:200]))
+        if not is_right(runs[-1].status) and runs[-1].status != NO_MEMORY:
+            with out.open(encoding="utf-8") as file:
+                raise Failed(str((words, runs[-1], file.read(200))))
     columns = list(zip(*runs))
     return Usage(runs[-1].status, *map(min, columns[1:]))
 

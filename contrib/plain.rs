@@ -1,10 +1,13 @@
 //! A plain program to measure `opprove` by: hash maps, and no proofs.
 //!
 //! `plain STATEMENT` multiplies out and prints how many terms each claim has; `plain STATEMENT EVIDENCE` adds up the
-//! certificates of both formats, over statements without adjoints, and says of each whether it gives its claim. It reads
+//! certificates of both formats, over statements without adjoints, and says of each whether it gives its claim;
+//! `plain explain STATEMENT EVIDENCE` prints the chains of those in format 1 (`plain_chain.rs`). It reads
 //! `object`, `map`, `assume` and `claim` with sums, products, brackets, integers and adjoints, and in language 2 powers and
-//! `eliminate`, which changes nothing here; it looks neither at signatures nor at all that a faulty file may hold.
+//! `eliminate`, which changes nothing here; it looks neither at the types of equations nor at all that a faulty file may hold.
 //! `rustc -O contrib/plain.rs` builds it; `measure.py` runs it.
+
+mod plain_chain;
 
 use std::collections::hash_map::Entry;
 use std::collections::HashMap;
@@ -39,7 +42,11 @@ fn report(paths: &[String]) -> Answer<String> {
             let problem = read_statement(&load(statement)?)?;
             judge_all(&problem, &load(evidence)?)
         }
-        _ => Err("usage: plain STATEMENT [EVIDENCE]".to_string()),
+        [word, statement, evidence] if word == "explain" => {
+            let problem = read_statement(&load(statement)?)?;
+            plain_chain::explain_all(&problem, &load(evidence)?)
+        }
+        _ => Err("usage: plain [explain] STATEMENT [EVIDENCE]".to_string()),
     }
 }
 
@@ -145,16 +152,29 @@ struct Problem {
     letters: HashMap<String, Letter>,
     /// The adjoint of each letter.
     adjoints: Vec<Letter>,
+    /// How each letter is written.
+    names: Vec<String>,
+    /// The source and the target of each letter.
+    ends: Vec<Ends>,
+    /// A number for each object.
+    objects: HashMap<String, u16>,
     is_starred: bool,
     assumptions: Vec<Polynomial>,
     claims: Vec<Polynomial>,
+    claim_ends: Vec<Ends>,
 }
+
+/// A source and a target.
+type Ends = (u16, u16);
 
 impl Problem {
     /// Numbers the maps of a line `map NAME .. : NAME -> NAME [self]`, each with its adjoint behind it.
     fn declare(&mut self, line: &str) -> Answer<()> {
-        let (names, ends) = line.split_once(':').ok_or("a map has no ends")?;
-        let is_self = ends.split_whitespace().nth(3) == Some("self");
+        let (names, behind) = line.split_once(':').ok_or("a map has no ends")?;
+        let (source, rest) = behind.split_once("->").ok_or("a map has no target")?;
+        let (target, word) = first_word(rest).ok_or("a map has no target")?;
+        let is_self = word.trim() == "self";
+        let ends = (self.object(source.trim()), self.object(target));
         self.is_starred |= is_self;
         for name in names.split_whitespace() {
             let letter = self.adjoints.len() as Letter;
@@ -162,8 +182,20 @@ impl Problem {
             self.adjoints.extend(if is_self { vec![letter] } else { vec![adjoint, letter] });
             self.letters.insert(name.to_string(), letter);
             self.letters.insert(format!("{name}'"), adjoint);
+            self.names.push(name.to_string());
+            self.ends.push(ends);
+            if !is_self {
+                self.names.push(format!("{name}'"));
+                self.ends.push((ends.1, ends.0));
+            }
         }
         Ok(())
+    }
+
+    /// The number of an object, which it gets where it is first named.
+    fn object(&mut self, name: &str) -> u16 {
+        let number = self.objects.len() as u16;
+        *self.objects.entry(name.to_string()).or_insert(number)
     }
 
     fn letter(&self, name: &str) -> Answer<Letter> {
@@ -197,8 +229,12 @@ fn read_statement(text: &str) -> Answer<Problem> {
     for (word, equation) in equations {
         let polynomial = problem.difference(&equation)?;
         problem.is_starred |= equation.has_marks;
-        let list = if word == "assume" { &mut problem.assumptions } else { &mut problem.claims };
-        list.push(polynomial);
+        if word == "assume" {
+            problem.assumptions.push(polynomial);
+        } else {
+            problem.claim_ends.push(problem.equation_ends(&equation).unwrap_or_default());
+            problem.claims.push(polynomial);
+        }
     }
     Ok(problem)
 }
@@ -467,6 +503,32 @@ impl Problem {
     }
 }
 
+// ---- The ends of equations, of which one factor that isn't 0 alone says them
+
+impl Problem {
+    fn equation_ends(&self, equation: &Equation) -> Option<Ends> {
+        self.sum_ends(&equation.left).or_else(|| self.sum_ends(&equation.right))
+    }
+
+    fn sum_ends(&self, terms: &[Term]) -> Option<Ends> {
+        terms.iter().find_map(|term| self.term_ends(term))
+    }
+
+    fn term_ends(&self, term: &Term) -> Option<Ends> {
+        let (target, source) = (self.factor_ends(term.factors.first()?)?.1, self.factor_ends(term.factors.last()?)?.0);
+        Some((source, target))
+    }
+
+    fn factor_ends(&self, factor: &Factor) -> Option<Ends> {
+        let (source, target) = match &factor.primary {
+            Primary::Letter(name) => self.ends[*self.letters.get(*name)? as usize],
+            Primary::Bracket(sum) => self.sum_ends(sum)?,
+            Primary::Raised(raised) => self.factor_ends(&raised.base)?,
+        };
+        Some(if factor.is_adjoint { (target, source) } else { (source, target) })
+    }
+}
+
 fn is_name(byte: u8) -> bool {
     byte.is_ascii_alphanumeric() || byte == b'_' || !byte.is_ascii()
 }
@@ -509,6 +571,7 @@ impl Share {
 
 /// The last share is that of the goal.
 struct Certificate {
+    has_lemmas: bool,
     claim: usize,
     denominator: i128,
     shares: Vec<Share>,
@@ -544,7 +607,7 @@ fn read_certificate<'a>(
             let share = shares.last_mut().ok_or("a row before the first lemma")?;
             share.rows.push(read_row(problem, rest)?);
         } else if line == "end" {
-            return Ok(Certificate { claim, denominator, shares });
+            return Ok(Certificate { has_lemmas, claim, denominator, shares });
         } else {
             shares.push(Share::new(read_scale(line)?));
         }
@@ -594,11 +657,16 @@ fn read_word(problem: &Problem, text: &str) -> Answer<Word> {
     Ok(word.into_boxed_slice())
 }
 
-fn judge_all(problem: &Problem, text: &str) -> Answer<String> {
+/// The certificates of a text over a statement whose generators are its assumptions.
+fn readable_certificates(problem: &Problem, text: &str) -> Answer<Vec<Certificate>> {
     if problem.is_starred {
         return Err("adjoints of assumptions are generators too, which are not made".to_string());
     }
-    let certificates = read_certificates(problem, text)?;
+    read_certificates(problem, text)
+}
+
+fn judge_all(problem: &Problem, text: &str) -> Answer<String> {
+    let certificates = readable_certificates(problem, text)?;
     let mut lines = String::new();
     for (block, certificate) in (1..).zip(&certificates) {
         judge(problem, certificate).map_err(|fault| format!("block {block}: {fault}"))?;

@@ -1,5 +1,5 @@
 #!/usr/bin/env python3
-"""Proofs as chains of equal expressions: to_chain.py STATEMENT EVIDENCE [--latex | --certificate]
+"""Proofs as chains of equal expressions: to_chain.py STATEMENT EVIDENCE|CHAIN [--latex | --certificate]
 
 For each certificate the assumptions that its proof uses, by their numbers and lines, and then the chain from the left side
 of the claim to the right side. Each step is one row: an assumption (n), the adjoint (n)' of one, or a lemma [k], at one
@@ -12,9 +12,14 @@ right side in whatever order. Where a sum comes back, the steps between are left
 times the left side; a claim whose right side has more terms is read from there. A lemma that one row names is written out
 in its place; the others are chains of their own before the claim's, from their greatest word.
 
+A report of `explain`, or other text whose first block is a `chain 1`, is read as such: its lines are made anew from its `use`
+lines, and the first that is another one is told with its number. What is written then has its sums in their order, each line
+plus the denominator times the right side; where the left side is 0 it is read from the end. Sums that come back are cut there too.
+
 --latex writes align* for a paper that loads amsmath, where \\allowdisplaybreaks lets long chains go over pages. --certificate
-writes the rows of the steps as certificates of format 2, or what was read where that has fewer rows. What is wrong with the
-texts is told in one line on standard error, with status 1.
+writes the rows of the steps as certificates, or what was read where that has fewer rows: in format 2, and in format 1, whose rows
+`explain` takes in their order, where there are no lemmas. What is wrong with the texts is told in one line on standard error,
+with status 1: codes are those of `check` and `explain`, and `line L no step` is a `use` that is 0 or no map with the claim's ends.
 """
 from __future__ import annotations
 
@@ -25,7 +30,8 @@ from itertools import groupby
 from random import Random
 from typing import Callable, Dict, Iterator, List, NamedTuple, Optional, Set, Tuple
 
-from check import Certificate, Evidence, Line, Poly, Problem, Refusal, Row, Share, Signature, Token, Word, add, judge
+from chain_text import ChainText, Lines, Texts, end_quietly, judge_chain, put
+from check import Certificate, Line, Poly, Problem, Refusal, Row, Share, Signature, Token, Word, add, judge
 from to_latex import letter_in_latex, lines_of
 
 # Limits of evidence text. A lemma whose rows would have longer words in its place is a chain of its own.
@@ -77,6 +83,7 @@ class Chain(NamedTuple):
 class Proof(NamedTuple):
     certificate: Certificate  # as it was read
     chains: List[Chain]  # of the lemmas, by their numbers, and last that of the claim
+    is_told: bool = False  # by text of a chain, and not by a certificate
 
 
 class Reader:
@@ -179,8 +186,22 @@ class Reader:
             elif is_turned:
                 left, right = right, left
             empty = Chain(part.ends, part.scale, left, right, is_turned, [])
-            chains.append(empty._replace(steps=steps(empty, part.rows, values)))
+            values = signed(empty, values)
+            chains.append(empty._replace(steps=steps(empty, part.rows, values, in_order(empty.start(), values))))
         return chains
+
+    def told(self, text: ChainText) -> Proof:
+        """The proof that a chain is, which has to be right: with its steps in their order."""
+        claim, denominator = self.claims[text.claim - 1], text.denominator
+        rows = [row._replace(left=self.bare_word(row.left), right=self.bare_word(row.right)) for _, row in text.steps]
+        values = [add({}, row.coefficient, self.generators[row.number - 1], row.left, row.right) for row in rows]
+        sides, order = (claim.left, claim.right), list(range(len(rows)))
+        is_turned = not claim.left
+        if is_turned:
+            sides, order = sides[::-1], order[::-1]
+        empty = Chain(claim.ends, denominator, *sides, is_turned, [])
+        certificate = Certificate(text.claim, denominator, [Share(denominator, [row for _, row in text.steps])])
+        return Proof(certificate, [empty._replace(steps=steps(empty, rows, signed(empty, values), order))], True)
 
     # ---- Certificates of chains
 
@@ -198,7 +219,9 @@ class Reader:
             if chain is proof.chains[-1]:
                 add(total, -chain.scale, self.problem.claims[proof.certificate.claim - 1])
             rows, rest = self.without_units(total, relations)
-            shares.append(Share(chain.scale, merged(chain.rows() + rows)))
+            # From the left side on, as `explain` goes.
+            kept = chain.rows()[::-1] if chain.is_turned else chain.rows()
+            shares.append(Share(chain.scale, merged(kept + rows)))
             lemmas.append({word: value // chain.scale for word, value in rest.items()})
         assert not lemmas[-1], lemmas[-1]
         found, before = ([row for share in some for row in share.rows] for some in (shares, proof.certificate.shares))
@@ -297,12 +320,16 @@ def from_greatest_word(poly: Poly) -> Tuple[Poly, Poly, bool]:
     return add({}, sign * poly.get(word, 0), {word: 1}), others, sign < 0
 
 
-def steps(chain: Chain, rows: List[Row], values: List[Poly]) -> List[Step]:
-    """The steps of a chain that has none yet, by rows with these values."""
+def signed(chain: Chain, values: List[Poly]) -> List[Poly]:
+    """What is taken off a sum by rows with these values."""
+    return [add({}, -1 if chain.is_turned else 1, value) for value in values]
+
+
+def steps(chain: Chain, rows: List[Row], values: List[Poly], order: List[int]) -> List[Step]:
+    """The steps of a chain that has none yet, by rows which take these values off, in this order."""
     sign = -1 if chain.is_turned else 1
-    values = [add({}, sign, value) for value in values]
     total, found = chain.start(), []
-    for place in without_loops(in_order(total, values), values):
+    for place in without_loops(order, values):
         total = add(dict(total), -1, values[place])
         found.append(Step(rows[place]._replace(coefficient=sign * rows[place].coefficient), total))
     assert total == add({}, chain.scale, chain.right), (total, chain)
@@ -436,8 +463,8 @@ def text(reader: Reader, proof: Proof) -> Iterator[str]:
     """The proof in lines. Sums are written in the language of the statement."""
     writer = Writer(reader.problem.names, " ", "{}^{}".format if has_powers(reader.problem) else None)
     claim, numbers = reader.claims[proof.certificate.claim - 1], used(reader, proof)
-    equation = writer.equation(claim.left, claim.right, claim.ends)
-    yield f"Claim {proof.certificate.claim}{cancels(proof.certificate.denominator, ', where')}: {equation}"
+    equation, denominator = writer.equation(claim.left, claim.right, claim.ends), proof.certificate.denominator
+    yield f"Claim {proof.certificate.claim}{'' if proof.is_told else cancels(denominator, ', where')}: {equation}"
     yield ""
     yield "Assumptions that are used" + ("" if numbers else ": none")
     assumptions = [(number, reader.assumptions[number - 1]) for number in numbers]
@@ -449,11 +476,13 @@ def text(reader: Reader, proof: Proof) -> Iterator[str]:
     for number, chain in enumerate(proof.chains, 1):
         yield ""
         if chain is proof.chains[-1]:
-            yield f"Proof{cancels(chain.scale, ', as')}"
+            yield f"Proof{'' if proof.is_told else cancels(chain.scale, ', as')}"
         else:
             lemma = writer.equation(chain.left, chain.right, chain.ends)
             yield f"Lemma [{number}]{cancels(chain.scale, ', as')}: {lemma}"
         yield from chain_in_text(reader, writer, chain)
+    if proof.is_told and denominator > 1:
+        yield cancels(denominator, "and")
 
 
 def chain_in_text(reader: Reader, writer: Writer, chain: Chain) -> Iterator[str]:
@@ -490,6 +519,8 @@ def latex(reader: Reader, proof: Proof) -> Iterator[str]:
             by = rf" && \text{{by }} {label(reader, step.row, '^{*}')}"
             rows.append(f"  & = {sum_in_latex(writer, step.total, chain.ends)}{by}")
         yield from aligned(rows)
+    if proof.is_told and proof.certificate.denominator > 1:
+        yield f"and ${proof.certificate.denominator}$ cancels."
 
 
 def power_in_latex(letter: str, count: int) -> str:
@@ -512,11 +543,13 @@ def equation_in_latex(writer: Writer, equation: Equation, name: str, place: str)
 
 
 def certificate_text(problem: Problem, certificate: Certificate) -> Iterator[str]:
-    """The certificate in lines, in format 2."""
-    yield from ("certificate 2", f"claim {certificate.claim}", f"denominator {certificate.denominator}")
+    """The certificate in lines: in format 2, but in format 1 where there are no lemmas and no other scale."""
+    goal = certificate.shares[-1]
+    is_plain = certificate.shares == [goal] and goal.scale == certificate.denominator
+    yield from (f"certificate {1 if is_plain else 2}", f"claim {certificate.claim}", f"denominator {certificate.denominator}")
     for number, share in enumerate(certificate.shares, 1):
-        is_goal = number == len(certificate.shares)
-        yield f"{'goal' if is_goal else f'lemma {number}'} scale {share.scale}"
+        if not is_plain:
+            yield f"{'goal' if share is goal else f'lemma {number}'} scale {share.scale}"
         for row in share.rows:
             middle = f"{'lemma ' if row.is_lemma else ''}{row.number}"
             yield f"row {row.coefficient} ({problem.text(row.left)}) {middle} ({problem.text(row.right)})"
@@ -526,19 +559,26 @@ def certificate_text(problem: Problem, certificate: Certificate) -> Iterator[str
 # ---- The command
 
 
+def judge_all(problem: Problem, texts: Texts) -> None:
+    """Raises what is wrong with the first certificate or chain that isn't right."""
+    for block, certificate in enumerate(texts.certificates, 1):
+        judge(problem, certificate, f"# block {block} refused")
+    lines = Lines(problem) if texts.chains else None
+    for block, told in enumerate(texts.chains, 1):
+        judge_chain(lines, told, f"# block {block} refused")
+
+
 def written(words: List[str]) -> Iterator[str]:
     """The lines of the texts that the words name."""
     paths = [word for word in words if word[:2] != "--"]
     options = [word for word in words if word[:2] == "--"]
     if len(paths) != 2 or options not in ([], ["--latex"], ["--certificate"]):
-        raise Refusal("# usage: to_chain.py STATEMENT EVIDENCE [--latex | --certificate]")
+        raise Refusal("# usage: to_chain.py STATEMENT EVIDENCE|CHAIN [--latex | --certificate]")
     problem = Problem(paths[0])
-    certificates = Evidence(problem, paths[1]).certificates
-    for block, certificate in enumerate(certificates, 1):
-        judge(problem, certificate, f"# block {block} refused")
-    reader = Reader(problem)
-    for block, certificate in enumerate(certificates, 1):
-        proof = reader.proof(certificate)
+    texts, reader = Texts(problem, paths[1]), Reader(problem)
+    judge_all(problem, texts)
+    # One of both lists is empty.
+    for block, proof in enumerate([*map(reader.proof, texts.certificates), *map(reader.told, texts.chains)], 1):
         if options == ["--certificate"]:
             yield from certificate_text(problem, reader.shortened(proof))
             continue
@@ -554,9 +594,9 @@ def main(words: List[str]) -> int:
         line = str(refusal) or "# no memory"
         sys.stderr.buffer.write(f"{line}\n".encode("utf-8", "surrogateescape"))
         return 1
-    sys.stdout.buffer.write("".join(f"{line}\n" for line in lines).encode())
-    return 0
+    return 0 if put(lines) else 1
 
 
 if __name__ == "__main__":
+    end_quietly()
     sys.exit(main(sys.argv[1:]))

@@ -1,7 +1,7 @@
 #!/usr/bin/env python3
 """Tries the tools of contrib/, and compares check.py, check_model.py and candidates.py with opprove where that is built.
 
-try.py [checker | chains | pictures | bounds | guide | plain | others] ..: all of these where none is named; the gate names checker.
+try.py [checker | chains | explain | pictures | bounds | guide | plain | others] ..: all of these where none is named; the gate names checker.
 
 Each check is a function that gives a line on what it found, and raises Failed where a tool does not do what it should.
 What is not installed is skipped with a line. The status is 0 where nothing failed, and else 1.
@@ -22,6 +22,7 @@ sys.dont_write_bytecode = True
 import measure
 import try_bounds
 import try_chains
+import try_explain
 import try_guide
 import try_harder
 import try_language
@@ -203,9 +204,9 @@ def bad_input(folder: Path) -> str:
             answer = run(sys.executable, CONTRIB / "quiver.py", statement)
             need(answer == Answer(1, "", line + "\n"), (text, answer))
     missing = folder / "missing"
-    for name in ("check.py", "to_latex.py", "to_chain.py"):
+    for name, status in (("check.py", 1), ("to_latex.py", 1), ("to_chain.py", 1), ("explain.py", 4)):
         answer = run(sys.executable, CONTRIB / name, missing, evidence)
-        need((answer.status, answer.out + answer.error) == (1, f"# load failed {missing}\n"), (name, answer))
+        need((answer.status, answer.out + answer.error) == (status, f"# load failed {missing}\n"), (name, answer))
     return told(len(cases), by_both, "faulty inputs are answered by the same line")
 
 
@@ -303,6 +304,10 @@ HIGHLIGHTED = [  # a text, its kind, and for some of its places, each a line and
         "1,1": "opprovecertBlock", "2,1": "opprovecertWord", "3,5": "opprovecertNumber", "3,11": "opprovecertLemma",
         "3,20": "opprovecertIdentity",
     }),
+    ("chain 1\nline - 2 f [U] + g\nuse -1 (f) 2 ()\nend\n", "cert", {
+        "1,1": "opprovecertBlock", "2,1": "opprovecertWord", "2,8": "opprovecertNumber", "2,12": "opprovecertIdentity",
+        "3,1": "opprovecertWord", "3,5": "opprovecertNumber", "3,12": "opprovecertNumber", "4,1": "opprovecertBlock",
+    }),
 ]  # fmt: skip
 
 
@@ -364,7 +369,7 @@ def devices() -> str:
 
 def groups(folder: Path) -> Dict[str, List[Callable[[], str]]]:
     """The checks by their words."""
-    checks = {"chains": try_chains.CHECKS, "pictures": try_pictures.CHECKS, "bounds": try_bounds.CHECKS}
+    checks = {"chains": try_chains.CHECKS, "explain": try_explain.CHECKS, "pictures": try_pictures.CHECKS, "bounds": try_bounds.CHECKS}
     checks["words"], checks["guide"] = try_why.CHECKS + try_opprove.CHECKS, try_guide.CHECKS
     checks["plain"] = try_plain.CHECKS
     checks["package"], checks["release"] = [try_python.package], [try_release.release]

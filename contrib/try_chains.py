@@ -10,7 +10,7 @@ import re
 import sys
 from pathlib import Path
 from random import Random
-from typing import Callable, Dict, Iterator, List, NamedTuple, Set, Tuple
+from typing import Callable, Dict, Iterator, List, NamedTuple, Optional, Set, Tuple
 
 import to_chain
 from check import Certificate, Evidence, Line, Poly, Problem, Row, Share, Signature, Value, Word, add, judge, tokens_of
@@ -108,8 +108,9 @@ def read_assumptions(reading: Reading, lines: List[str]) -> Set[str]:
     return found
 
 
-def read_proof(problem: Problem, groups: List[List[str]]) -> int:
-    """Reads the groups of lines of a proof, and gives the number of its steps."""
+def read_proof(problem: Problem, groups: List[List[str]], is_turned: Optional[bool] = None) -> int:
+    """Reads the groups of lines of a proof, and gives the number of its steps. Where nothing is said of it, it is read from the
+    side of the claim with more terms."""
     assumptions = [bare(problem, poly) for poly in problem.assumptions]
     polys = {f"({number})": poly for number, poly in enumerate(assumptions, 1)}
     polys.update({f"({number})'": problem.star(poly) for number, poly in enumerate(assumptions, 1) if problem.is_starred})
@@ -127,7 +128,8 @@ def read_proof(problem: Problem, groups: List[List[str]]) -> int:
             need(name == f"[{place}]", lines)
         else:
             need(lines[0].startswith("Proof") and place == len(groups) - 2, lines)
-            chain_ends, chain_sides, scale = ends, sides if len(sides[1]) <= len(sides[0]) else sides[::-1], scale_of(lines[0])
+            turned = len(sides[1]) > len(sides[0]) if is_turned is None else is_turned
+            chain_ends, chain_sides, scale = ends, sides[::-1] if turned else sides, scale_of(lines[0])
         need(scale_of(head) % scale == 0, groups)
         first, last, by = read_chain(reading, lines[1:], chain_ends)
         need([first, last] == [add({}, scale, side) for side in chain_sides], (lines, chain_sides))
@@ -283,9 +285,9 @@ assume [U] d = c e{star}
 class Maker:
     """Makes certificates of what random rows add up to. A lemma is typed, and may have a scale; or its rows have any ends."""
 
-    def __init__(self, random: Random, path: Path) -> None:
-        self.random, self.path, is_starred = random, path, random.random() < 0.5
-        self.text = RANDOM.format(self=" self" * is_starred, star="'" * is_starred, back="b'" if is_starred else "d")
+    def __init__(self, random: Random, path: Path, template: str = RANDOM) -> None:
+        self.random, self.path, is_starred = random, path, template == RANDOM and random.random() < 0.5
+        self.text = template.format(self=" self" * is_starred, star="'" * is_starred, back="b'" if is_starred else "d")
         path.write_text(self.text + "claim 0 a = 0\n")
         self.problem = Problem(str(path))
         self.generators, self.ends = self.problem.generators(), self.problem.ends
@@ -411,7 +413,7 @@ def cases(folder: Path) -> str:
         evidence.write_text(text, encoding="utf-8")
         found = tried(statement, evidence, folder)
         proofs, steps = proofs + found[0], steps + found[1]
-    usage = Answer(1, "", "# usage: to_chain.py STATEMENT EVIDENCE [--latex | --certificate]\n")
+    usage = Answer(1, "", "# usage: to_chain.py STATEMENT EVIDENCE|CHAIN [--latex | --certificate]\n")
     for words in ([], [statement], [statement, evidence, "--text"], [statement, evidence, "--latex", "--certificate"]):
         need(run(sys.executable, TOOL, *words) == usage, words)
     return f"{proofs} chains of hard certificates are read back, with {steps} steps{asked()}"

@@ -273,4 +273,20 @@ def in_front(folder: Path) -> str:
     return f"{count} statements, {faults} of them with a fault, mean the same to check.py with `language 2` in front"
 
 
-CHECKS: List[Callable[[Path], str]] = [rows, in_front]
+def reports_in_front(folder: Path) -> str:
+    """The examples of language 1 are answered by the same bytes with `language 2` in front, in both formats."""
+    if not reads_language_2():
+        return "skipped: no opprove is built that reads language 2"
+    path, count = folder / "row.op", 0
+    for example in filter(lambda example: not is_second(example), [*EXAMPLES.glob("*.op"), *EXAMPLES.glob("gallery/*.op")]):
+        for words in ([], ["--format", "1"]):
+            path.write_bytes(example.read_bytes())
+            answer = run(PROGRAM, "prove", path, *words)
+            path.write_bytes(b"language 2\n" + example.read_bytes())
+            need(run(PROGRAM, "prove", path, *words) == answer, (example, words, answer))
+            count += 1
+    need(count > 20, count)
+    return f"{count} reports on the examples of language 1 have the same bytes with `language 2` in front"
+
+
+CHECKS: List[Callable[[Path], str]] = [rows, in_front, reports_in_front]

@@ -6,7 +6,7 @@ import zipfile
 from pathlib import Path
 
 HERE = Path(__file__).resolve().parent
-TOOLS = ("check", "check_model", "translation", "to_latex", "to_chain", "quiver")
+TOOLS = ("check", "check_model", "translation", "to_latex", "chain_text", "to_chain", "quiver")
 
 
 def contents(info, version):

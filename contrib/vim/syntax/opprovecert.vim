@@ -3,9 +3,9 @@ if exists("b:current_syntax")
   finish
 endif
 
-syntax match opprovecertBlock "^\s*\zs\(certificate\|basis\|model\)\>"
+syntax match opprovecertBlock "^\s*\zs\(certificate\|basis\|model\|chain\)\>"
 syntax match opprovecertBlock "^\s*\zsend\ze\s*$"
-syntax match opprovecertWord "^\s*\zs\(claim\|denominator\|row\|rule\|rest\|modulus\|side\|map\)\>"
+syntax match opprovecertWord "^\s*\zs\(claim\|denominator\|row\|rule\|rest\|modulus\|side\|map\|line\|use\)\>"
 syntax match opprovecertWord "^\s*\zslemma\s\+\d\+\s\+scale\>"
 syntax match opprovecertWord "^\s*\zsgoal\s\+scale\>"
 syntax match opprovecertLemma "\()\s*\)\@<=lemma\ze\s\+\d"

@@ -30,13 +30,13 @@ byte_at text i all within =
     true_from_ne_false (is_name_byte (get_or text i 0)) (λ no. absurd (let some : list_all is_name_byte text ≡ false = list_all_at is_name_byte text i 0 within no in cc))
 
 -- a name ends and begins with none of the marks
-not_ended : (name : List ℕ) (mark : ℕ) → IsNameText name → is_name_byte mark ≡ false → ends_with nat_eq name (mark ∷ []) ≡ false
+pub not_ended : (name : List ℕ) (mark : ℕ) → IsNameText name → is_name_byte mark ≡ false → ends_with nat_eq name (mark ∷ []) ≡ false
 not_ended name mark text other =
     let last = byte_at name (length name - 1) text.bytes (omega (arith, text.some)) in
     let apart : nat_eq mark (get_or name (length name - 1) 0) ≡ false = ne_eqb mark (get_or name (length name - 1) 0) (λ e. differs (get_or name (length name - 1) 0) mark last other (sym e)) in
     rw (last_of name text.some, apart) refl
 
-not_begun : (name : List ℕ) (mark : ℕ) → IsNameText name → is_name_byte mark ≡ false → starts_with nat_eq name (mark ∷ []) ≡ false
+pub not_begun : (name : List ℕ) (mark : ℕ) → IsNameText name → is_name_byte mark ≡ false → starts_with nat_eq name (mark ∷ []) ≡ false
 not_begun [] mark text other = absurd (omega (arith, text.some))
 not_begun (b ∷ bs) mark text other =
     let first = byte_at (b ∷ bs) 0 text.bytes text.some in
@@ -44,12 +44,12 @@ not_begun (b ∷ bs) mark text other =
     rw apart refl
 
 -- a text ends with the character that is put behind it
-ended_by : (front : List ℕ) (last mark : ℕ) → ends_with nat_eq (front ++ last ∷ []) (mark ∷ []) ≡ (nat_eq mark last && true)
+pub ended_by : (front : List ℕ) (last mark : ℕ) → ends_with nat_eq (front ++ last ∷ []) (mark ∷ []) ≡ (nat_eq mark last && true)
 ended_by front last mark =
     let count : length front ≡ length (front ++ last ∷ []) - 1 = omega (arith, length-append front (last ∷ [])) in
     rw (drop_at front (last ∷ []) (length (front ++ last ∷ []) - 1) count) refl
 
-without_last : (front : List ℕ) (last : ℕ) → take (length (front ++ last ∷ []) - 1) (front ++ last ∷ []) ≡ front
+pub without_last : (front : List ℕ) (last : ℕ) → take (length (front ++ last ∷ []) - 1) (front ++ last ∷ []) ≡ front
 without_last front last = take_at front (last ∷ []) (length (front ++ last ∷ []) - 1) (omega (arith, length-append front (last ∷ [])))
 
 -- ---- the three forms of a letter

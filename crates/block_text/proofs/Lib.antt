@@ -20,6 +20,15 @@ pub mod TextsBack
 pub mod ContentBack
 pub mod NumberLines
 pub mod PolysBack
+pub mod LetterRange
+pub mod PolynomialOrder
+pub mod PolynomialTokens
+pub mod PolynomialBounds
+pub mod PolynomialTerms
+pub mod PolynomialWords
+pub mod PolynomialLaws
+pub mod PolynomialFlaws
+pub mod PolynomialsBack
 pub mod Owed
 pub mod TextLines
 pub mod Standing

@@ -45,7 +45,7 @@ either false false c d e known = absurd (cc)
 digit_byte : (d : ℕ) → is_ascii_digit d ≡ true → is_name_byte d ≡ true
 digit_byte d digit = either (nat_le 128 d) (is_ascii_digit d) (is_in_range 65 90 d) (is_in_range 97 122 d) (d == 95) digit
 
-digits_bytes : (ds : List ℕ) → list_all is_ascii_digit ds ≡ true → list_all is_name_byte ds ≡ true
+pub digits_bytes : (ds : List ℕ) → list_all is_ascii_digit ds ≡ true → list_all is_name_byte ds ≡ true
 digits_bytes [] all = refl
 digits_bytes (d ∷ ds) all =
     let parts : (is_ascii_digit d ≡ true) × (list_all is_ascii_digit ds ≡ true) = and_parts _ _ all in

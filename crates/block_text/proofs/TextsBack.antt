@@ -33,7 +33,7 @@ line_text-append xs ys left right = record {
 abbrev pub are_low : List ℕ → Bool
 are_low text = list_all (λ b. nat_lt b 128) text
 
-low_is_ascii : (text : List ℕ) → are_low text ≡ true → IsAscii text
+pub low_is_ascii : (text : List ℕ) → are_low text ≡ true → IsAscii text
 low_is_ascii [] low = λ i. omega arith
 low_is_ascii (b ∷ bs) low = λ i. low_at b bs (and_parts _ _ low).0 (low_is_ascii bs (and_parts (nat_lt b 128) (are_low bs) low).1) i
   where

@@ -15,12 +15,14 @@ use Rattle.block_text.specs.declared.fault.CertFault.TheVariants as cert_fault
 abbrev pub code_of : Flaw → ℕ
 code_of flaw.BadLine = 2
 code_of flaw.UnknownName = 3
+code_of flaw.NotAsWritten = 2
 code_of flaw.NumberTooLarge = 4
 code_of (flaw.TooMany limit) = 5
 
 abbrev pub limit_of : Flaw → ℕ
 limit_of flaw.BadLine = 0
 limit_of flaw.UnknownName = 0
+limit_of flaw.NotAsWritten = 0
 limit_of flaw.NumberTooLarge = 0
 limit_of (flaw.TooMany limit) = limit
 

@@ -8,5 +8,9 @@ pub mod Texts
 pub mod Steps
 pub mod Sound
 pub mod Written
+pub mod PolynomialLines
+pub mod PolynomialBack
+pub mod PolynomialReading
+pub mod PolynomialFlaws
 pub mod Back
 pub mod Views

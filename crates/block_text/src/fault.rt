@@ -26,6 +26,8 @@ pub enum Flaw {
     BadLine,
     /// A name is not of the quiver, or of the other kind.
     UnknownName,
+    /// It says nothing wrong, and is not as it is written.
+    NotAsWritten,
     /// A number exceeds its bound.
     NumberTooLarge,
     /// There are more letters, rows or blocks than there may be.
@@ -103,7 +105,7 @@ fn code_of(flaw: Flaw) -> u32
     ensures { result ≡ code_of flaw }
 {
     match flaw {
-        Flaw::BadLine => 2,
+        Flaw::BadLine | Flaw::NotAsWritten => 2,
         Flaw::UnknownName => 3,
         Flaw::NumberTooLarge => 4,
         Flaw::TooMany(_) => 5,

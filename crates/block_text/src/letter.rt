@@ -7,6 +7,7 @@ ghost use Rattle.std.specs.Str.{chars, is_utf8};
 ghost use Rattle.unicode_ident.specs.Ident.{is_xid_continue};
 ghost use Rattle.quiver.specs.Declarations.{letter_count, named_in};
 ghost use Rattle.block_text.specs.Letters.{starts_name, begins_name, name_in, named_by, without_brackets, spelled_by, is_letter, letter_named, letter_of};
+ghost use Rattle.block_text.specs.PolynomialLines.{is_term_letter};
 ghost use Rattle.block_text.specs.Views.{spelled};
 
 use quiver::{Named, Quiver};
@@ -126,4 +127,14 @@ pub fn letter_of(quiver: &Quiver, token: &[u8]) -> Option<Letter>
     } else {
         letter
     })
+}
+
+/// Whether the token spells a letter as a polynomial has it: `[NAME]'` is none.
+pub fn is_term_letter(token: &[u8]) -> bool
+    ensures { result ≡ is_term_letter token.now }
+{
+    match spelled_by(token) {
+        Some(spelled) => !(spelled.identity && spelled.adjoint),
+        None => false,
+    }
 }

@@ -5,11 +5,13 @@ mod bracket;
 mod cut;
 mod fault;
 mod kind;
+mod laws;
 mod letter;
 mod line;
 mod number;
 mod place;
 mod poly;
+mod polynomial;
 mod read;
 mod write;
 
@@ -17,6 +19,7 @@ pub use bracket::bracketed;
 pub use cut::{first_line, first_token, is_skipped, is_utf8};
 pub use fault::{CertFault, Flaw, LineFault, TextFlaw, at_line};
 pub use kind::BlockKind;
+pub use laws::{polynomial_flaws_are_told, polynomial_lines_are_read, polynomials_are_read_back};
 pub use letter::{is_letter, letter_of, name_in};
 pub use line::{
     BLOCK_LIMIT, begins, claim_of, integer_of, is, is_end, is_pair, number_behind, two_tokens,
@@ -25,5 +28,6 @@ pub use number::{
     INTEGER_LIMIT, NUMBER_LIMIT, integer_within, is_integer, is_number, number_within,
 };
 pub use poly::{put_poly, write_poly};
+pub use polynomial::read_polynomial;
 pub use read::read_blocks;
 pub use write::{put, put_integer, put_number, put_word, write_word};

@@ -39,6 +39,7 @@ use Rattle.certificate_text.proofs.OpenBlocks.{lemmas_read, IsOpened, IsInside, 
 abbrev bound_of : Flaw → Bound
 bound_of flaw.BadLine = names
 bound_of flaw.UnknownName = names
+bound_of flaw.NotAsWritten = names
 bound_of flaw.NumberTooLarge = numbers
 bound_of (flaw.TooMany n) = cond (nat_eq n word_limit) words (cond (nat_eq n row_limit) rows letters)
 

@@ -19,3 +19,5 @@ pub mod WordRuns
 pub mod TwoAdjoints
 pub mod Copies
 pub mod TermPowers
+pub mod RepeatedWords
+pub mod UnitPowers

@@ -1,5 +1,5 @@
 //! Marks behind a polynomial: adjoints and powers.
-ghost use Rattle.std.specs.Prelude.{◌≡◌, ◌≤◌, [], ◌∷◌, ◌++◌, length, replicate, MatchResult, IfOk, OnOk, Ok};
+ghost use Rattle.std.specs.Prelude.{◌≡◌, ◌≤◌, [], ◌∷◌, replicate, unsigned_abs, MatchResult, IfOk, Ok};
 ghost use Rattle.std.specs.List.{All};
 ghost use Rattle.definitions.specs.Generators.{adjoint_poly};
 ghost use Rattle.word_core.specs.Letters.{IsOver};
@@ -120,22 +120,40 @@ fn power_of_term(alloc: Global, term: &(i128, Word), factors: u128) -> Result<Po
     ensures { let power = product_poly (replicate factors (term.now ∷ [])) in
         MatchResult result (λ p. power ≡ Ok p.terms) (Explains power) }
 {
-    let (coefficient, letters) = coefficient_and_letters(term, factors)?;
-    let word = repeated_word(alloc, &term.1, factors, letters)?;
+    let coefficient = if term.0.unsigned_abs() == 1 {
+        unit_of_power(term, factors)?
+    } else {
+        coefficient_of_power(term, factors)?
+    };
+    let word = repeated_word(&term.1, factors)?;
     let mut terms = Listing::with_room(alloc, 1)?;
     terms.push((coefficient, word))?;
     Ok(Poly { terms })
 }
 
-// The coefficient of the power and the number of its letters, factor by factor: too many letters are a fault before
-// too large a coefficient.
-fn coefficient_and_letters(term: &(i128, Word), factors: u128) -> Result<(i128, usize), PolyFault>
+// The coefficient of the power, where that of the term is 1 or -1, so that no product is too large.
+fn unit_of_power(term: &(i128, Word), factors: u128) -> Result<i128, PolyFault>
+    requires canonical { IsCanonical (term.now ∷ []) }
+    requires begun { 1 ≤ factors }
+    requires unit { unsigned_abs term.now.0 ≡ 1 }
+    ensures exact { let power = product_poly (replicate factors (term.now ∷ [])) in
+        MatchResult result (λ c. power ≡ Ok ((c, repeated_word factors term.now.1) ∷ [])) (Explains power) }
+    ensures canonical { IfOk result (λ c. IsCanonical ((c, repeated_word factors term.now.1) ∷ [])) }
+{
+    let letters = (term.1.len() as u128).saturating_mul(factors);
+    if letters > WORD_LIMIT as u128 {
+        return Err(PolyFault::Size(SizeFault { letters: true }));
+    }
+    Ok(if factors % 2 == 0 { 1 } else { term.0 })
+}
+
+// The coefficient of the power, factor by factor: too many letters are a fault before too large a coefficient.
+fn coefficient_of_power(term: &(i128, Word), factors: u128) -> Result<i128, PolyFault>
     requires canonical { IsCanonical (term.now ∷ []) }
     requires begun { 1 ≤ factors }
     ensures exact { let power = product_poly (replicate factors (term.now ∷ [])) in
-        MatchResult result (λ p. power ≡ Ok ((p.0, repeated_word factors term.now.1) ∷ [])) (Explains power) }
-    ensures letters { IfOk result (λ p. p.1 ≡ length (repeated_word factors term.now.1)) }
-    ensures canonical { IfOk result (λ p. IsCanonical ((p.0, repeated_word factors term.now.1) ∷ [])) }
+        MatchResult result (λ c. power ≡ Ok ((c, repeated_word factors term.now.1) ∷ [])) (Explains power) }
+    ensures canonical { IfOk result (λ c. IsCanonical ((c, repeated_word factors term.now.1) ∷ [])) }
 {
     let mut coefficient = term.0;
     let mut letters = term.1.len();
@@ -146,34 +164,23 @@ fn coefficient_and_letters(term: &(i128, Word), factors: u128) -> Result<(i128, 
         }
         coefficient = coef_int::times(coefficient, term.0)?;
     }
-    Ok((coefficient, letters))
+    Ok(coefficient)
 }
 
-// The word so many times, which are so many letters.
-fn repeated_word(
-    alloc: Global,
-    word: &Word,
-    times: u128,
-    letters: usize,
-) -> Result<Word, AllocError>
-    requires { letters ≡ length (repeated_word times word.now) }
+// The word so many times, of which one half is copied for the other.
+fn repeated_word(word: &Word, times: u128) -> Result<Word, AllocError>
+    requires { 1 ≤ times }
     ensures { IfOk result (λ w. w ≡ repeated_word times word.now) }
 {
-    let mut repeated = Word::with_room(alloc, letters)?;
-    for _ in 0..times {
-        push_word(&mut repeated, word)?;
+    if times == 1 {
+        return word.copy();
     }
-    Ok(repeated)
-}
-
-// The word with the letters of another behind it.
-fn push_word(word: &mut Word, more: &Word) -> Result<(), AllocError>
-    ensures { OnOk result (word.new ≡ word.old ++ more.now) }
-{
-    for place in 0..more.len() {
-        word.push(more.letter(place))?;
+    let half = repeated_word(word, times / 2)?;
+    if times % 2 == 0 {
+        half.concat(&half)
+    } else {
+        half.between(&half, word)
     }
-    Ok(())
 }
 
 // The power of several terms: the product of so many factors, from the left.

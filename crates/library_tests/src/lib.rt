@@ -1,4 +1,5 @@
-//! Tests of the libraries: tables of rows by theme, each with one loop and one comparison.
+//! Tests of the libraries: tables of rows by theme, each with one loop and one comparison; and a small kind of block of evidence
+//! text, `shifts`, which shows what a kind of block consists of.
 #![tactic(auto)]
 
 #[cfg(test)]
@@ -47,6 +48,9 @@ mod quivers;
 mod rules;
 #[cfg(test)]
 mod shapes;
+#[cfg(test)]
+mod shift_tests;
+pub mod shifts;
 #[cfg(test)]
 mod solving;
 #[cfg(test)]

@@ -46,3 +46,4 @@ pub mod Stops
 pub mod Outcomes
 mod EnoughExamples
 pub mod ProvedMeans
+pub mod ProblemStates

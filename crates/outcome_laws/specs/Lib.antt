@@ -1,4 +1,5 @@
 pub mod KeptRuns
+pub mod ProblemStates
 pub mod Meanings
 pub mod OutcomeLetters
 pub mod EvidenceLimits

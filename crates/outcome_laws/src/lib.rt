@@ -18,4 +18,5 @@ pub use meaning_laws::{
 pub use pair_laws::{open_runs_treat_few, pairs_are_enough, pairs_are_enough_for_each};
 pub use run_laws::{
     closed_is_nothing_pending, each_generator_has_its_turn, first_is_least_pending, runs_are_kept,
+    states_of_problems_are_kept,
 };

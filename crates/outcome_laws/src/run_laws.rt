@@ -1,5 +1,6 @@
 //! What each state of the plain run keeps, as laws over the definitions.
 ghost use Rattle.outcome_laws.specs.KeptRuns.{RunsAreKept, ClosedIsNothingPending, FirstIsLeastPending, EachGeneratorHasItsTurn};
+ghost use Rattle.outcome_laws.specs.ProblemStates.{StatesAreKept, GeneratorsAreReached};
 
 /// After each whole round all is kept that completions keep, and the rules are typed of one signature and in play.
 pub fn runs_are_kept()
@@ -19,4 +20,11 @@ pub fn first_is_least_pending()
 /// Round 0 takes each generator, and no other number.
 pub fn each_generator_has_its_turn()
     ensures { EachGeneratorHasItsTurn }
+{}
+
+/// What each state of the run of a problem keeps: its rules come from the generators and are typed, each treated ambiguity is
+/// resolved, and each other one of the rules is pending. Behind round 0 each generator comes from the rules.
+pub fn states_of_problems_are_kept()
+    ensures states { StatesAreKept }
+    ensures generators { GeneratorsAreReached }
 {}

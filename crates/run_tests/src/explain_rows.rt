@@ -1,317 +1,426 @@
-//! Runs of `explain`, worked out by hand: the files, and the status with the report.
-use crate::decided_rows::CallRow;
+//! Runs of `explain`, worked out by hand: what the files are put together from, and the status with the report.
 use crate::limit_rows::LimitRow;
 use crate::limit_rows::Part::{self, Numbers, Padding, Plain, Products, Times};
-use crate::test_rows::Row;
 
 const EXPLAIN: &[&str] = &["explain", "s", "c"];
 
-// The assumptions are generators 1 to 3; then come [P] [P] - [P], f [P] - f, g [P] - g and [P] s - s.
-const INVERSES: &[u8] =
-    b"object P Q\nmap f g : P -> Q\nmap s : Q -> P\nassume s f = [P]\nassume s g = [P]\nassume f s = g s\nclaim f = g\n";
+// The generators are in front of the marked objects, 4 to 7: [P] [P] - [P], f [P] - f, g [P] - g and [P] s - s.
+const INVERSES: &[Part] = &[Plain(
+    "object P Q\nmap f g : P -> Q\nmap s : Q -> P\nassume s f = [P]\nassume s g = [P]\nassume f s = g s\nclaim f = g\n",
+)];
 
 // Both generators have factors, and the second claim is zero.
-const SCALED: &[u8] =
-    b"object P\nmap u v : P -> P\nassume 3 u = 2 v\nassume 4 v = 6 u u\nclaim u = u u\nclaim v = v\n";
+const SCALED: &[Part] = &[Plain(
+    "object P\nmap u v : P -> P\nassume 3 u = 2 v\nassume 4 v = 6 u u\nclaim u = u u\nclaim v = v\n",
+)];
 
-// A starred statement: its second generator is zero, and the third is the adjoint of the first, f' e - f'.
-const STARRED: &[u8] =
-    b"object P Q\nmap f : P -> Q\nmap e : Q -> Q self\nassume e f = f\nassume f = f\nclaim f' e = f'\nclaim f = f\n";
+// A starred statement: its second generator is zero, and its third is the adjoint of the first, f' e - f'.
+const STARRED: &[Part] = &[Plain(
+    "object P Q\nmap f : P -> Q\nmap e : Q -> Q self\nassume e f = f\nassume f = f\nclaim f' e = f'\nclaim f = f\n",
+)];
 
 // The claim has the greatest coefficient that there is.
-const GREATEST: &[u8] =
-    b"object P\nmap u v : P -> P\nassume u = v\nclaim 170141183460469231731687303715884105727 u = 170141183460469231731687303715884105727 v\n";
-
-const FIVE_STEPS: &str =
-    "0 # block 1 explained claim 1 denominator 1 steps 5\nchain 1\nclaim 1\ndenominator 1\nline - g + f\nuse -1 () 5 ()\nline f [P] - g\nuse -1 (f) 1 ()\nline f s f - g\nuse 1 () 3 (f)\nline g s f - g\nuse 1 (g) 1 ()\nline g [P] - g\nuse 1 () 6 ()\nline 0\nend\n";
-
-/// Certificates that have a chain.
-pub const EXPLAINED: &[Row] = &[
-    // five steps, and the same from the other end
-    (
-        INVERSES,
-        b"certificate 1\nclaim 1\ndenominator 1\nrow -1 () 5 ()\nrow -1 (f) 1 ()\nrow 1 () 3 (f)\nrow 1 (g) 1 ()\nrow 1 () 6 ()\nend\n",
-        FIVE_STEPS,
-    ),
-    (
-        INVERSES,
-        b"certificate 1\nclaim 1\ndenominator 1\nrow 1 () 6 ()\nrow 1 (g) 1 ()\nrow 1 () 3 (f)\nrow -1 (f) 1 ()\nrow -1 () 5 ()\nend\n",
-        "0 # block 1 explained claim 1 denominator 1 steps 5\nchain 1\nclaim 1\ndenominator 1\nline - g + f\nuse 1 () 6 ()\nline - g [P] + f\nuse 1 (g) 1 ()\nline - g s f + f\nuse 1 () 3 (f)\nline - f s f + f\nuse -1 (f) 1 ()\nline - f [P] + f\nuse -1 () 5 ()\nline 0\nend\n",
-    ),
-    // rows with words that are no paths, and with paths of another signature
-    (
-        INVERSES,
-        b"certificate 1\nclaim 1\ndenominator 1\nrow -1 () 5 ()\nrow 2 (f) 3 (g)\nrow -1 (f) 1 ()\nrow 1 () 3 (f)\nrow 1 (g) 1 ()\nrow 1 () 6 ()\nrow -2 (f) 3 (g)\nend\n",
-        FIVE_STEPS,
-    ),
-    (
-        INVERSES,
-        b"certificate 1\nclaim 1\ndenominator 1\nrow 1 () 1 ()\nrow -1 () 5 ()\nrow -1 (f) 1 ()\nrow 1 () 3 (f)\nrow 1 (g) 1 ()\nrow 1 () 6 ()\nrow -1 () 1 ()\nend\n",
-        FIVE_STEPS,
-    ),
-    // a row with coefficient 0
-    (
-        INVERSES,
-        b"certificate 1\nclaim 1\ndenominator 1\nrow 0 () 3 (f)\nrow -1 () 5 ()\nrow -1 (f) 1 ()\nrow 1 () 3 (f)\nrow 1 (g) 1 ()\nrow 1 () 6 ()\nend\n",
-        FIVE_STEPS,
-    ),
-    // a step that is made in two, too far and back
-    (
-        INVERSES,
-        b"certificate 1\nclaim 1\ndenominator 1\nrow -1 () 5 ()\nrow -1 (f) 1 ()\nrow 3 () 3 (f)\nrow -2 () 3 (f)\nrow 1 (g) 1 ()\nrow 1 () 6 ()\nend\n",
-        "0 # block 1 explained claim 1 denominator 1 steps 6\nchain 1\nclaim 1\ndenominator 1\nline - g + f\nuse -1 () 5 ()\nline f [P] - g\nuse -1 (f) 1 ()\nline f s f - g\nuse 3 () 3 (f)\nline 3 g s f - 2 f s f - g\nuse -2 () 3 (f)\nline g s f - g\nuse 1 (g) 1 ()\nline g [P] - g\nuse 1 () 6 ()\nline 0\nend\n",
-    ),
-    // twice the claim
-    (
-        INVERSES,
-        b"certificate 1\nclaim 1\ndenominator 2\nrow -2 () 5 ()\nrow -2 (f) 1 ()\nrow 2 () 3 (f)\nrow 2 (g) 1 ()\nrow 2 () 6 ()\nend\n",
-        "0 # block 1 explained claim 1 denominator 2 steps 5\nchain 1\nclaim 1\ndenominator 2\nline - 2 g + 2 f\nuse -2 () 5 ()\nline 2 f [P] - 2 g\nuse -2 (f) 1 ()\nline 2 f s f - 2 g\nuse 2 () 3 (f)\nline 2 g s f - 2 g\nuse 2 (g) 1 ()\nline 2 g [P] - 2 g\nuse 2 () 6 ()\nline 0\nend\n",
-    ),
-    // the adjoint of an identity
-    (
-        INVERSES,
-        b"certificate 1\nclaim 1\ndenominator 1\nrow -1 () 5 ()\nrow 1 () 5 ([P]')\nrow -1 () 5 ([P])\nrow -1 (f) 1 ()\nrow 1 () 3 (f)\nrow 1 (g) 1 ()\nrow 1 () 6 ()\nend\n",
-        "0 # block 1 explained claim 1 denominator 1 steps 7\nchain 1\nclaim 1\ndenominator 1\nline - g + f\nuse -1 () 5 ()\nline f [P] - g\nuse 1 () 5 ([P])\nline - f [P] [P] + 2 f [P] - g\nuse -1 () 5 ([P])\nline f [P] - g\nuse -1 (f) 1 ()\nline f s f - g\nuse 1 () 3 (f)\nline g s f - g\nuse 1 (g) 1 ()\nline g [P] - g\nuse 1 () 6 ()\nline 0\nend\n",
-    ),
-    // CR LF, a comment, a blank line, leading zeros, blanks
-    (
-        INVERSES,
-        b"certificate 1\r\n# a comment\r\n\r\nclaim 01\r\ndenominator 1\r\nrow -01 ( ) 5 ()\r\nrow -1 (f) 1 ()\r\nrow 1 () 3 (f)\r\nrow 1 (g) 1 ()\r\nrow 1 () 6 ()\r\nend\r\n",
-        FIVE_STEPS,
-    ),
-    // generators with factors
-    (
-        SCALED,
-        b"certificate 1\nclaim 1\ndenominator 6\nrow 2 () 1 ()\nrow 1 () 2 ()\nend\n",
-        "0 # block 1 explained claim 1 denominator 6 steps 2\nchain 1\nclaim 1\ndenominator 6\nline - 6 u u + 6 u\nuse 2 () 1 ()\nline - 6 u u + 4 v\nuse 1 () 2 ()\nline 0\nend\n",
-    ),
-    (
-        SCALED,
-        b"certificate 1\nclaim 1\ndenominator 12\nrow 4 () 1 ()\nrow 2 () 2 ()\nend\n",
-        "0 # block 1 explained claim 1 denominator 12 steps 2\nchain 1\nclaim 1\ndenominator 12\nline - 12 u u + 12 u\nuse 4 () 1 ()\nline - 12 u u + 8 v\nuse 2 () 2 ()\nline 0\nend\n",
-    ),
-    // a claim that is zero
-    (
-        SCALED,
-        b"certificate 1\nclaim 2\ndenominator 5\nend\n",
-        "0 # block 1 explained claim 2 denominator 5 steps 0\nchain 1\nclaim 2\ndenominator 5\nline 0\nend\n",
-    ),
-    (
-        SCALED,
-        b"certificate 1\nclaim 2\ndenominator 1\nrow 1 (v) 2 ()\nrow -1 (v) 2 ()\nend\n",
-        "0 # block 1 explained claim 2 denominator 1 steps 2\nchain 1\nclaim 2\ndenominator 1\nline 0\nuse 1 (v) 2 ()\nline 6 v u u - 4 v v\nuse -1 (v) 2 ()\nline 0\nend\n",
-    ),
-    // adjoints; a generator that is zero; letters that are their own adjoints
-    (
-        STARRED,
-        b"certificate 1\nclaim 1\ndenominator 1\nrow 1 () 3 ()\nend\n",
-        "0 # block 1 explained claim 1 denominator 1 steps 1\nchain 1\nclaim 1\ndenominator 1\nline f' e - f'\nuse 1 () 3 ()\nline 0\nend\n",
-    ),
-    (
-        STARRED,
-        b"certificate 1\nclaim 1\ndenominator 1\nrow 7 () 2 ()\nrow 1 () 3 ()\nrow -4 (f') 1 (f' e')\nrow 4 (f') 1 (f' e)\nend\n",
-        "0 # block 1 explained claim 1 denominator 1 steps 3\nchain 1\nclaim 1\ndenominator 1\nline f' e - f'\nuse 1 () 3 ()\nline 0\nuse -4 (f') 1 (f' e)\nline 4 f' e f f' e - 4 f' f f' e\nuse 4 (f') 1 (f' e)\nline 0\nend\n",
-    ),
-    (
-        STARRED,
-        b"certificate 1\nclaim 1\ndenominator 1\nrow 1 () 3 (e')\nrow -1 () 3 (e)\nrow 1 () 3 ()\nend\n",
-        "0 # block 1 explained claim 1 denominator 1 steps 3\nchain 1\nclaim 1\ndenominator 1\nline f' e - f'\nuse 1 () 3 (e)\nline - f' e e + 2 f' e - f'\nuse -1 () 3 (e)\nline f' e - f'\nuse 1 () 3 ()\nline 0\nend\n",
-    ),
-    // rows of another signature than that of a claim that is zero
-    (
-        STARRED,
-        b"certificate 1\nclaim 2\ndenominator 1\nrow 1 () 3 ()\nrow -1 () 3 ()\nend\n",
-        "0 # block 1 explained claim 2 denominator 1 steps 0\nchain 1\nclaim 2\ndenominator 1\nline 0\nend\n",
-    ),
-    // the greatest coefficients
-    (
-        GREATEST,
-        b"certificate 1\nclaim 1\ndenominator 1\nrow 170141183460469231731687303715884105727 () 1 ()\nend\n",
-        "0 # block 1 explained claim 1 denominator 1 steps 1\nchain 1\nclaim 1\ndenominator 1\nline - 170141183460469231731687303715884105727 v + 170141183460469231731687303715884105727 u\nuse 170141183460469231731687303715884105727 () 1 ()\nline 0\nend\n",
-    ),
-    (
-        GREATEST,
-        b"certificate 1\nclaim 1\ndenominator 1\nrow 170141183460469231731687303715884105726 () 1 ()\nrow 1 () 1 ()\nend\n",
-        "0 # block 1 explained claim 1 denominator 1 steps 2\nchain 1\nclaim 1\ndenominator 1\nline - 170141183460469231731687303715884105727 v + 170141183460469231731687303715884105727 u\nuse 170141183460469231731687303715884105726 () 1 ()\nline - v + u\nuse 1 () 1 ()\nline 0\nend\n",
-    ),
-    // between blocks of other kinds
-    (
-        INVERSES,
-        b"model 1\nclaim 1\nmodulus 2\nmap f = 1\nend\ncertificate 1\nclaim 1\ndenominator 1\nrow -1 () 5 ()\nrow -1 (f) 1 ()\nrow 1 () 3 (f)\nrow 1 (g) 1 ()\nrow 1 () 6 ()\nend\nbasis 1\nclaim 1\nrule f - g\nrest 0\nend\n",
-        FIVE_STEPS,
-    ),
-];
-
-/// Blocks that have no chain, and texts with faults.
-pub const UNEXPLAINED: &[Row] = &[
-    // E2; a row with coefficient 0 is counted
-    (
-        GREATEST,
-        b"certificate 1\nclaim 1\ndenominator 1\nrow -1 () 1 ()\nrow 170141183460469231731687303715884105727 () 1 ()\nrow 1 () 1 ()\nend\n",
-        "7 # block 1 refused E2 row 1 -170141183460469231731687303715884105727 plus -1\n",
-    ),
-    (
-        GREATEST,
-        b"certificate 1\nclaim 1\ndenominator 1\nrow 0 () 1 ()\nrow -1 () 1 ()\nrow 170141183460469231731687303715884105727 () 1 ()\nrow 1 () 1 ()\nend\n",
-        "7 # block 1 refused E2 row 2 -170141183460469231731687303715884105727 plus -1\n",
-    ),
-    // C1 to C6, before any step
-    (
-        GREATEST,
-        b"certificate 1\nclaim 1\ndenominator 1\nrow 170141183460469231731687303715884105727 () 1 ()\nrow 1 () 1 ()\nrow -1 () 1 ()\nend\n",
-        "7 # block 1 refused C4 row 2 -170141183460469231731687303715884105727 plus -1\n",
-    ),
-    (
-        GREATEST,
-        b"certificate 1\nclaim 1\ndenominator 2\nend\n",
-        "7 # block 1 refused C4 row 0 2 times -170141183460469231731687303715884105727\n",
-    ),
-    (
-        INVERSES,
-        b"certificate 1\nclaim 2\ndenominator 1\nrow -1 () 5 ()\nrow -1 (f) 1 ()\nrow 1 () 3 (f)\nrow 1 (g) 1 ()\nrow 1 () 6 ()\nend\n",
-        "7 # block 1 refused C1\n",
-    ),
-    (
-        INVERSES,
-        b"certificate 1\nclaim 1\ndenominator 0\nrow -1 () 5 ()\nrow -1 (f) 1 ()\nrow 1 () 3 (f)\nrow 1 (g) 1 ()\nrow 1 () 6 ()\nend\n",
-        "7 # block 1 refused C3\n",
-    ),
-    (
-        INVERSES,
-        b"certificate 1\nclaim 1\ndenominator 1\nrow -1 () 5 ()\nrow -1 (f) 1 ()\nrow 1 () 8 ()\nrow 1 () 3 (f)\nrow 1 (g) 1 ()\nrow 1 () 6 ()\nend\n",
-        "7 # block 1 refused C2 row 3\n",
-    ),
-    (
-        INVERSES,
-        b"certificate 1\nclaim 1\ndenominator 1\nrow -1 () 5 ()\nrow -1 (f) 1 ()\nrow 1 () 3 (f)\nrow 1 () 6 ()\nend\n",
-        "7 # block 1 refused C6 word g [P] want 0 got 1\n",
-    ),
-    // E1, whatever else is wrong
-    (
-        INVERSES,
-        b"certificate 2\nclaim 9\ndenominator 0\ngoal scale 0\nend\n",
-        "7 # block 1 refused E1\n",
-    ),
-    // behind a block that is explained
-    (
-        GREATEST,
-        b"certificate 1\nclaim 1\ndenominator 1\nrow 170141183460469231731687303715884105727 () 1 ()\nend\ncertificate 1\nclaim 1\ndenominator 1\nrow -1 () 1 ()\nrow 170141183460469231731687303715884105727 () 1 ()\nrow 1 () 1 ()\nend\n",
-        "7 # block 1 explained claim 1 denominator 1 steps 1\nchain 1\nclaim 1\ndenominator 1\nline - 170141183460469231731687303715884105727 v + 170141183460469231731687303715884105727 u\nuse 170141183460469231731687303715884105727 () 1 ()\nline 0\nend\n# block 2 refused E2 row 1 -170141183460469231731687303715884105727 plus -1\n",
-    ),
-    (
-        INVERSES,
-        b"certificate 1\nclaim 1\ndenominator 1\nrow -1 () 5 ()\nrow -1 (f) 1 ()\nrow 1 () 3 (f)\nrow 1 (g) 1 ()\nrow 1 () 6 ()\nend\ncertificate 2\nclaim 1\ndenominator 1\ngoal scale 1\nend\n",
-        "7 # block 1 explained claim 1 denominator 1 steps 5\nchain 1\nclaim 1\ndenominator 1\nline - g + f\nuse -1 () 5 ()\nline f [P] - g\nuse -1 (f) 1 ()\nline f s f - g\nuse 1 () 3 (f)\nline g s f - g\nuse 1 (g) 1 ()\nline g [P] - g\nuse 1 () 6 ()\nline 0\nend\n# block 2 refused E1\n",
-    ),
-    (
-        INVERSES,
-        b"certificate 1\nclaim 1\ndenominator 1\nrow -1 () 5 ()\nrow -1 (f) 1 ()\nrow 1 () 3 (f)\nrow 1 (g) 1 ()\nrow 1 () 6 ()\nend\ncertificate 1\nclaim 1\ndenominator 1\nrow -1 () 5 ()\nrow -1 (f) 1 ()\nrow 1 () 3 (f)\nrow 1 (g) 1 ()\nend\n",
-        "7 # block 1 explained claim 1 denominator 1 steps 5\nchain 1\nclaim 1\ndenominator 1\nline - g + f\nuse -1 () 5 ()\nline f [P] - g\nuse -1 (f) 1 ()\nline f s f - g\nuse 1 () 3 (f)\nline g s f - g\nuse 1 (g) 1 ()\nline g [P] - g\nuse 1 () 6 ()\nline 0\nend\n# block 2 refused C6 word g want -1 got 0\n",
-    ),
-    // texts with faults; a chain is no evidence
-    (
-        INVERSES,
-        b"# block 1 explained claim 1 denominator 1 steps 5\nchain 1\nclaim 1\ndenominator 1\nline - g + f\nuse -1 () 5 ()\nline f [P] - g\nuse -1 (f) 1 ()\nline f s f - g\nuse 1 () 3 (f)\nline g s f - g\nuse 1 (g) 1 ()\nline g [P] - g\nuse 1 () 6 ()\nline 0\nend\n",
-        "7 # refused K2 line 2\n",
-    ),
-    (
-        INVERSES,
-        b"cancellation 1\nend\n",
-        "7 # refused K2 line 1\n",
-    ),
-    (INVERSES, b"", "7 # refused K7\n"),
-    (
-        INVERSES,
-        b"certificate 1\nclaim 1\ndenominator 1\nrow -1 () 5 ()\nrow -1 (f) 1 ()\nrow 1 () 3 (f)\nrow 1 (g) 1 ()\nrow 1 () 6 ()\n",
-        "7 # refused K6\n",
-    ),
-    (
-        INVERSES,
-        b"certificate 1\nclaim 1\ndenominator 1\nrow 1 (t) 1 ()\nend\n",
-        "7 # refused K3 line 4\n",
-    ),
-    (
-        INVERSES,
-        b"certificate 1\nclaim 1\ndenominator 1\nrow 170141183460469231731687303715884105728 () 1 ()\nend\n",
-        "7 # refused K4 line 4\n",
-    ),
-    // a fault of the statement
-    (
-        b"object P\nclaim f = f\n",
-        b"certificate 1\nclaim 1\ndenominator 1\nend\n",
-        "3 # refused S6 line 2 column 7\n",
-    ),
-];
-
-/// Other words, over files that are there, and a file that is missing.
-pub const CALLS: &[(&[&str], &str)] = &[
-    (&["explain", "s"], USAGE),
-    (&["explain", "s", "c", "d"], USAGE),
-    (&["explain", "s", "c", "--format", "1"], USAGE),
-    (&["explain", "s", "g"], "4 # load failed g\n"),
-];
-
-const USAGE: &str = "2 # usage: opprove prove|check|refute|model|bench|explain\n";
-
-const FIVE_ROWS: &str =
-    "certificate 1\nclaim 1\ndenominator 1\nrow -1 () 5 ()\nrow -1 (f) 1 ()\nrow 1 () 3 (f)\nrow 1 (g) 1 ()\nrow 1 () 6 ()\nend\n";
-
-// What is said of them behind the number of their block.
-const CHAIN: &str =
-    " explained claim 1 denominator 1 steps 5\nchain 1\nclaim 1\ndenominator 1\nline - g + f\nuse -1 () 5 ()\nline f [P] - g\nuse -1 (f) 1 ()\nline f s f - g\nuse 1 () 3 (f)\nline g s f - g\nuse 1 (g) 1 ()\nline g [P] - g\nuse 1 () 6 ()\nline 0\nend\n";
+const GREATEST: &[Part] = &[Plain(
+    "object P\nmap u v : P -> P\nassume u = v\nclaim 170141183460469231731687303715884105727 u = 170141183460469231731687303715884105727 v\n",
+)];
 
 const EQUAL: &[Part] = &[Plain("object P\nmap u v : P -> P\nassume u = v\nclaim u = v\n")];
 
-/// Words of 500 letters in rows and lines, a hundred blocks, and one more.
-pub const LONG_WORDS: &[LimitRow] = &[
-    // a row with coefficient 0 and longer words
+const ROW_1: Part = Plain("row -1 () 5 ()\n");
+
+const ROW_2: Part = Plain("row -1 (f) 1 ()\n");
+
+const ROW_3: Part = Plain("row 1 () 3 (f)\n");
+
+const ROW_4: Part = Plain("row 1 (g) 1 ()\n");
+
+const ROW_5: Part = Plain("row 1 () 6 ()\n");
+
+const GREATEST_ROW: Part = Plain("row 170141183460469231731687303715884105727 () 1 ()\n");
+
+const HEAD: Part = Plain("certificate 1\nclaim 1\ndenominator 1\n");
+
+const END: Part = Plain("end\n");
+
+const BLOCK: Part = Plain("0 # block 1");
+
+const REFUSED: Part = Plain("7 # block 1 refused ");
+
+// What is said of the rows of the inverses behind the number of their block.
+const CHAIN_TEXT: &str =
+    " explained claim 1 denominator 1 steps 5\nchain 1\nclaim 1\ndenominator 1\nline - g + f\nuse -1 () 5 ()\nline f [P] - g\nuse -1 (f) 1 ()\nline f s f - g\nuse 1 () 3 (f)\nline g s f - g\nuse 1 (g) 1 ()\nline g [P] - g\nuse 1 () 6 ()\nline 0\nend\n";
+
+const CHAIN: Part = Plain(CHAIN_TEXT);
+
+const ANSWER: &[Part] = &[BLOCK, CHAIN];
+
+const USAGE: Part = Plain("2 # usage: opprove prove|check|refute|model|bench|explain\n");
+
+/// Rows in any order, and rows that are no steps.
+pub const STEPS: &[LimitRow] = &[
+    // five steps, and the same from the other end
     (
         EXPLAIN,
+        INVERSES,
+        &[HEAD, ROW_1, ROW_2, ROW_3, ROW_4, ROW_5, END],
+        ANSWER,
+    ),
+    (
+        EXPLAIN,
+        INVERSES,
+        &[HEAD, ROW_5, ROW_4, ROW_3, ROW_2, ROW_1, END],
         &[
+            BLOCK,
             Plain(
-                "object P Q\nmap f g : P -> Q\nmap s : Q -> P\nassume s f = [P]\nassume s g = [P]\n",
+                " explained claim 1 denominator 1 steps 5\nchain 1\nclaim 1\ndenominator 1\nline - g + f\n",
             ),
-            Plain("assume f s = g s\nclaim f = g\n"),
+            Plain(
+                "use 1 () 6 ()\nline - g [P] + f\nuse 1 (g) 1 ()\nline - g s f + f\nuse 1 () 3 (f)\n",
+            ),
+            Plain(
+                "line - f s f + f\nuse -1 (f) 1 ()\nline - f [P] + f\nuse -1 () 5 ()\nline 0\nend\n",
+            ),
         ],
+    ),
+    // rows with words that are no paths, and with paths of another signature
+    (
+        EXPLAIN,
+        INVERSES,
         &[
-            Plain("certificate 1\nclaim 1\ndenominator 1\nrow 0 ("),
+            HEAD,
+            ROW_1,
+            Plain("row 2 (f) 3 (g)\n"),
+            ROW_2,
+            ROW_3,
+            ROW_4,
+            ROW_5,
+            Plain("row -2 (f) 3 (g)\n"),
+            END,
+        ],
+        ANSWER,
+    ),
+    (
+        EXPLAIN,
+        INVERSES,
+        &[
+            HEAD,
+            Plain("row 1 () 1 ()\n"),
+            ROW_1,
+            ROW_2,
+            ROW_3,
+            ROW_4,
+            ROW_5,
+            Plain("row -1 () 1 ()\n"),
+            END,
+        ],
+        ANSWER,
+    ),
+    // rows with coefficient 0, the second with words of 501 letters and more
+    (
+        EXPLAIN,
+        INVERSES,
+        &[
+            HEAD,
+            Plain("row 0 () 3 (f)\n"),
+            ROW_1,
+            ROW_2,
+            ROW_3,
+            ROW_4,
+            ROW_5,
+            END,
+        ],
+        ANSWER,
+    ),
+    (
+        EXPLAIN,
+        INVERSES,
+        &[
+            HEAD,
+            Plain("row 0 ("),
             Times("f s ", 250),
             Plain(") 1 ("),
             Times("f ", 500),
+            Plain(")\n"),
+            ROW_1,
+            ROW_2,
+            ROW_3,
+            ROW_4,
+            ROW_5,
+            END,
+        ],
+        ANSWER,
+    ),
+];
+
+/// Certificates in other forms: steps in two, multiples, adjoints of identities, blanks.
+pub const FORMS: &[LimitRow] = &[
+    // a step that is made in two, too far and back
+    (
+        EXPLAIN,
+        INVERSES,
+        &[
+            HEAD,
+            ROW_1,
+            ROW_2,
+            Plain("row 3 () 3 (f)\nrow -2 () 3 (f)\n"),
+            ROW_4,
+            ROW_5,
+            END,
+        ],
+        &[
+            BLOCK,
             Plain(
-                ")\nrow -1 () 5 ()\nrow -1 (f) 1 ()\nrow 1 () 3 (f)\nrow 1 (g) 1 ()\nrow 1 () 6 ()\nend\n",
+                " explained claim 1 denominator 1 steps 6\nchain 1\nclaim 1\ndenominator 1\nline - g + f\n",
+            ),
+            Plain(
+                "use -1 () 5 ()\nline f [P] - g\nuse -1 (f) 1 ()\nline f s f - g\nuse 3 () 3 (f)\n",
+            ),
+            Plain(
+                "line 3 g s f - 2 f s f - g\nuse -2 () 3 (f)\nline g s f - g\nuse 1 (g) 1 ()\nline g [P] - g\n",
+            ),
+            Plain("use 1 () 6 ()\nline 0\nend\n"),
+        ],
+    ),
+    // twice the claim
+    (
+        EXPLAIN,
+        INVERSES,
+        &[
+            Plain("certificate 1\nclaim 1\ndenominator 2\n"),
+            Plain(
+                "row -2 () 5 ()\nrow -2 (f) 1 ()\nrow 2 () 3 (f)\nrow 2 (g) 1 ()\nrow 2 () 6 ()\n",
+            ),
+            END,
+        ],
+        &[
+            BLOCK,
+            Plain(
+                " explained claim 1 denominator 2 steps 5\nchain 1\nclaim 1\ndenominator 2\nline - 2 g + 2 f\n",
+            ),
+            Plain(
+                "use -2 () 5 ()\nline 2 f [P] - 2 g\nuse -2 (f) 1 ()\nline 2 f s f - 2 g\nuse 2 () 3 (f)\n",
+            ),
+            Plain(
+                "line 2 g s f - 2 g\nuse 2 (g) 1 ()\nline 2 g [P] - 2 g\nuse 2 () 6 ()\nline 0\nend\n",
             ),
         ],
-        &[Plain("0 # block 1"), Plain(CHAIN)],
     ),
-    // words that are no paths
+    // the adjoint of an identity
+    (
+        EXPLAIN,
+        INVERSES,
+        &[
+            HEAD,
+            ROW_1,
+            Plain("row 1 () 5 ([P]')\nrow -1 () 5 ([P])\n"),
+            ROW_2,
+            ROW_3,
+            ROW_4,
+            ROW_5,
+            END,
+        ],
+        &[
+            BLOCK,
+            Plain(
+                " explained claim 1 denominator 1 steps 7\nchain 1\nclaim 1\ndenominator 1\nline - g + f\n",
+            ),
+            Plain(
+                "use -1 () 5 ()\nline f [P] - g\nuse 1 () 5 ([P])\nline - f [P] [P] + 2 f [P] - g\n",
+            ),
+            Plain(
+                "use -1 () 5 ([P])\nline f [P] - g\nuse -1 (f) 1 ()\nline f s f - g\nuse 1 () 3 (f)\n",
+            ),
+            Plain("line g s f - g\nuse 1 (g) 1 ()\nline g [P] - g\nuse 1 () 6 ()\nline 0\nend\n"),
+        ],
+    ),
+    // CR LF, a comment, a blank line, leading zeros, blanks
+    (
+        EXPLAIN,
+        INVERSES,
+        &[
+            Plain(
+                "certificate 1\r\n# a comment\r\n\r\nclaim 01\r\ndenominator 1\r\nrow -01 ( ) 5 ()\r\n",
+            ),
+            Plain(
+                "row -1 (f) 1 ()\r\nrow 1 () 3 (f)\r\nrow 1 (g) 1 ()\r\nrow 1 () 6 ()\r\nend\r\n",
+            ),
+        ],
+        ANSWER,
+    ),
+];
+
+/// Generators with factors, and claims that are zero.
+pub const FACTORS: &[LimitRow] = &[
+    // generators with factors
+    (
+        EXPLAIN,
+        SCALED,
+        &[
+            Plain("certificate 1\nclaim 1\ndenominator 6\n"),
+            Plain("row 2 () 1 ()\nrow 1 () 2 ()\n"),
+            END,
+        ],
+        &[
+            BLOCK,
+            Plain(
+                " explained claim 1 denominator 6 steps 2\nchain 1\nclaim 1\ndenominator 6\nline - 6 u u + 6 u\n",
+            ),
+            Plain("use 2 () 1 ()\nline - 6 u u + 4 v\nuse 1 () 2 ()\nline 0\nend\n"),
+        ],
+    ),
+    (
+        EXPLAIN,
+        SCALED,
+        &[
+            Plain("certificate 1\nclaim 1\ndenominator 12\n"),
+            Plain("row 4 () 1 ()\nrow 2 () 2 ()\n"),
+            END,
+        ],
+        &[
+            BLOCK,
+            Plain(" explained claim 1 denominator 12 steps 2\nchain 1\nclaim 1\ndenominator 12\n"),
+            Plain(
+                "line - 12 u u + 12 u\nuse 4 () 1 ()\nline - 12 u u + 8 v\nuse 2 () 2 ()\nline 0\nend\n",
+            ),
+        ],
+    ),
+    // a claim that is zero
+    (
+        EXPLAIN,
+        SCALED,
+        &[Plain("certificate 1\nclaim 2\ndenominator 5\n"), END],
+        &[
+            BLOCK,
+            Plain(
+                " explained claim 2 denominator 5 steps 0\nchain 1\nclaim 2\ndenominator 5\nline 0\nend\n",
+            ),
+        ],
+    ),
+    (
+        EXPLAIN,
+        SCALED,
+        &[
+            Plain("certificate 1\nclaim 2\ndenominator 1\n"),
+            Plain("row 1 (v) 2 ()\nrow -1 (v) 2 ()\n"),
+            END,
+        ],
+        &[
+            BLOCK,
+            Plain(
+                " explained claim 2 denominator 1 steps 2\nchain 1\nclaim 2\ndenominator 1\nline 0\n",
+            ),
+            Plain("use 1 (v) 2 ()\nline 6 v u u - 4 v v\nuse -1 (v) 2 ()\nline 0\nend\n"),
+        ],
+    ),
+];
+
+/// Adjoints, and the signature of a claim that is zero.
+pub const ADJOINTS: &[LimitRow] = &[
+    // adjoints; a generator that is zero; letters that are their own adjoints
+    (
+        EXPLAIN,
+        STARRED,
+        &[HEAD, Plain("row 1 () 3 ()\n"), END],
+        &[
+            BLOCK,
+            Plain(
+                " explained claim 1 denominator 1 steps 1\nchain 1\nclaim 1\ndenominator 1\nline f' e - f'\n",
+            ),
+            Plain("use 1 () 3 ()\nline 0\nend\n"),
+        ],
+    ),
+    (
+        EXPLAIN,
+        STARRED,
+        &[
+            HEAD,
+            Plain("row 7 () 2 ()\nrow 1 () 3 ()\nrow -4 (f') 1 (f' e')\nrow 4 (f') 1 (f' e)\n"),
+            END,
+        ],
+        &[
+            BLOCK,
+            Plain(
+                " explained claim 1 denominator 1 steps 3\nchain 1\nclaim 1\ndenominator 1\nline f' e - f'\n",
+            ),
+            Plain(
+                "use 1 () 3 ()\nline 0\nuse -4 (f') 1 (f' e)\nline 4 f' e f f' e - 4 f' f f' e\n",
+            ),
+            Plain("use 4 (f') 1 (f' e)\nline 0\nend\n"),
+        ],
+    ),
+    (
+        EXPLAIN,
+        STARRED,
+        &[
+            HEAD,
+            Plain("row 1 () 3 (e')\nrow -1 () 3 (e)\nrow 1 () 3 ()\n"),
+            END,
+        ],
+        &[
+            BLOCK,
+            Plain(
+                " explained claim 1 denominator 1 steps 3\nchain 1\nclaim 1\ndenominator 1\nline f' e - f'\n",
+            ),
+            Plain(
+                "use 1 () 3 (e)\nline - f' e e + 2 f' e - f'\nuse -1 () 3 (e)\nline f' e - f'\nuse 1 () 3 ()\n",
+            ),
+            Plain("line 0\nend\n"),
+        ],
+    ),
+    // the signature of a claim that is zero
+    (
+        EXPLAIN,
+        STARRED,
+        &[
+            Plain("certificate 1\nclaim 2\ndenominator 1\n"),
+            Plain("row 1 () 3 ()\nrow -1 () 3 ()\n"),
+            END,
+        ],
+        &[
+            BLOCK,
+            Plain(
+                " explained claim 2 denominator 1 steps 0\nchain 1\nclaim 2\ndenominator 1\nline 0\nend\n",
+            ),
+        ],
+    ),
+];
+
+/// Words of 500 letters, and the greatest coefficients.
+pub const LONG_WORDS: &[LimitRow] = &[
+    // words that are no paths, of 500 letters
     (
         EXPLAIN,
         &[Plain("object P Q\nmap u v : P -> Q\nmap w : P -> P\nassume u = v\nclaim u = v\n")],
         &[
-            Plain("certificate 1\nclaim 1\ndenominator 1\nrow 1 () 1 ()\nrow 1 ("),
+            HEAD,
+            Plain("row 1 () 1 ()\n"),
+            Plain("row 1 ("),
             Times("w ", 500),
             Plain(") 1 ()\nrow -1 ("),
             Times("w ", 500),
-            Plain(") 1 ()\nend\n"),
+            Plain(") 1 ()\n"),
+            END,
         ],
         &[
+            BLOCK,
             Plain(
-                "0 # block 1 explained claim 1 denominator 1 steps 1\nchain 1\nclaim 1\ndenominator 1\n",
+                " explained claim 1 denominator 1 steps 1\nchain 1\nclaim 1\ndenominator 1\nline - v + u\n",
             ),
-            Plain("line - v + u\nuse 1 () 1 ()\nline 0\nend\n"),
+            Plain("use 1 () 1 ()\nline 0\nend\n"),
         ],
     ),
-    // words of the lines
+    // words of 500 letters in the lines
     (
         EXPLAIN,
         EQUAL,
         &[
-            Plain("certificate 1\nclaim 1\ndenominator 1\nrow 1 ("),
+            HEAD,
+            Plain("row 1 ("),
             Times("u ", 499),
             Plain(") 1 ()\nrow 1 () 1 ()\nrow -1 ("),
             Times("u ", 499),
-            Plain(") 1 ()\nend\n"),
+            Plain(") 1 ()\n"),
+            END,
         ],
         &[
             Plain(
@@ -331,7 +440,266 @@ pub const LONG_WORDS: &[LimitRow] = &[
             Plain("u) 1 ()\nline 0\nend\n"),
         ],
     ),
-    // E3, whatever the sum, and only in steps
+    // the greatest coefficients
+    (
+        EXPLAIN,
+        GREATEST,
+        &[HEAD, GREATEST_ROW, END],
+        &[
+            BLOCK,
+            Plain(" explained claim 1 denominator 1 steps 1\nchain 1\nclaim 1\ndenominator 1\n"),
+            Plain(
+                "line - 170141183460469231731687303715884105727 v + 170141183460469231731687303715884105727 u\n",
+            ),
+            Plain("use 170141183460469231731687303715884105727 () 1 ()\nline 0\nend\n"),
+        ],
+    ),
+    (
+        EXPLAIN,
+        GREATEST,
+        &[
+            HEAD,
+            Plain("row 170141183460469231731687303715884105726 () 1 ()\nrow 1 () 1 ()\n"),
+            END,
+        ],
+        &[
+            BLOCK,
+            Plain(" explained claim 1 denominator 1 steps 2\nchain 1\nclaim 1\ndenominator 1\n"),
+            Plain(
+                "line - 170141183460469231731687303715884105727 v + 170141183460469231731687303715884105727 u\n",
+            ),
+            Plain(
+                "use 170141183460469231731687303715884105726 () 1 ()\nline - v + u\nuse 1 () 1 ()\nline 0\nend\n",
+            ),
+        ],
+    ),
+];
+
+/// Blocks one after another.
+pub const BLOCKS: &[LimitRow] = &[
+    // a block after another, and a hundred
+    (
+        EXPLAIN,
+        GREATEST,
+        &[
+            HEAD,
+            Plain("row 170141183460469231731687303715884105727 () 1 ()\n"),
+            END,
+            HEAD,
+            Plain(
+                "row -1 () 1 ()\nrow 170141183460469231731687303715884105727 () 1 ()\nrow 1 () 1 ()\n",
+            ),
+            END,
+        ],
+        &[
+            Plain(
+                "7 # block 1 explained claim 1 denominator 1 steps 1\nchain 1\nclaim 1\ndenominator 1\n",
+            ),
+            Plain(
+                "line - 170141183460469231731687303715884105727 v + 170141183460469231731687303715884105727 u\n",
+            ),
+            Plain("use 170141183460469231731687303715884105727 () 1 ()\nline 0\nend\n"),
+            Plain("# block 2 refused E2 row 1 -170141183460469231731687303715884105727 plus -1\n"),
+        ],
+    ),
+    (
+        EXPLAIN,
+        INVERSES,
+        &[
+            HEAD,
+            ROW_1,
+            ROW_2,
+            ROW_3,
+            ROW_4,
+            ROW_5,
+            END,
+            Plain("certificate 2\nclaim 1\ndenominator 1\ngoal scale 1\nend\n"),
+        ],
+        &[Plain("7 # block 1"), CHAIN, Plain("# block 2 refused E1\n")],
+    ),
+    (
+        EXPLAIN,
+        INVERSES,
+        &[
+            HEAD, ROW_1, ROW_2, ROW_3, ROW_4, ROW_5, END, HEAD, ROW_1, ROW_2, ROW_3, ROW_4, END,
+        ],
+        &[
+            Plain("7 # block 1"),
+            CHAIN,
+            Plain("# block 2 refused C6 word g want -1 got 0\n"),
+        ],
+    ),
+    (
+        EXPLAIN,
+        INVERSES,
+        &[Times(
+            "certificate 1\nclaim 1\ndenominator 1\nrow -1 () 5 ()\nrow -1 (f) 1 ()\nrow 1 () 3 (f)\nrow 1 (g) 1 ()\nrow 1 () 6 ()\nend\n",
+            100,
+        )],
+        &[Plain("0 "), Numbers("# block ", 1, 100, CHAIN_TEXT, "")],
+    ),
+    (
+        EXPLAIN,
+        INVERSES,
+        &[Times(
+            "certificate 1\nclaim 1\ndenominator 1\nrow -1 () 5 ()\nrow -1 (f) 1 ()\nrow 1 () 3 (f)\nrow 1 (g) 1 ()\nrow 1 () 6 ()\nend\n",
+            101,
+        )],
+        &[Plain("7 # refused K5 line 901 limit 100\n")],
+    ),
+    // blocks of other kinds
+    (
+        EXPLAIN,
+        INVERSES,
+        &[
+            Plain("model 1\nclaim 1\nmodulus 2\nmap f = 1\nend\n"),
+            HEAD,
+            ROW_1,
+            ROW_2,
+            ROW_3,
+            ROW_4,
+            ROW_5,
+            END,
+            Plain("basis 1\nclaim 1\nrule f - g\nrest 0\nend\n"),
+        ],
+        ANSWER,
+    ),
+];
+
+/// Steps that leave the range.
+pub const OVERFLOWS: &[LimitRow] = &[
+    // E2; a row with coefficient 0 is counted
+    (
+        EXPLAIN,
+        GREATEST,
+        &[
+            HEAD,
+            Plain("row -1 () 1 ()\n"),
+            GREATEST_ROW,
+            Plain("row 1 () 1 ()\n"),
+            END,
+        ],
+        &[
+            REFUSED,
+            Plain("E2 row 1 -170141183460469231731687303715884105727 plus -1\n"),
+        ],
+    ),
+    (
+        EXPLAIN,
+        GREATEST,
+        &[
+            HEAD,
+            Plain("row 0 () 1 ()\nrow -1 () 1 ()\n"),
+            GREATEST_ROW,
+            Plain("row 1 () 1 ()\n"),
+            END,
+        ],
+        &[
+            REFUSED,
+            Plain("E2 row 2 -170141183460469231731687303715884105727 plus -1\n"),
+        ],
+    ),
+];
+
+/// What `check` refuses.
+pub const CHECKED: &[LimitRow] = &[
+    // C1 to C6, before any step
+    (
+        EXPLAIN,
+        GREATEST,
+        &[
+            HEAD,
+            GREATEST_ROW,
+            Plain("row 1 () 1 ()\nrow -1 () 1 ()\n"),
+            END,
+        ],
+        &[
+            REFUSED,
+            Plain("C4 row 2 -170141183460469231731687303715884105727 plus -1\n"),
+        ],
+    ),
+    (
+        EXPLAIN,
+        GREATEST,
+        &[Plain("certificate 1\nclaim 1\ndenominator 2\n"), END],
+        &[
+            REFUSED,
+            Plain("C4 row 0 2 times -170141183460469231731687303715884105727\n"),
+        ],
+    ),
+    (
+        EXPLAIN,
+        INVERSES,
+        &[
+            Plain("certificate 1\nclaim 2\ndenominator 1\n"),
+            ROW_1,
+            ROW_2,
+            ROW_3,
+            ROW_4,
+            ROW_5,
+            END,
+        ],
+        &[REFUSED, Plain("C1\n")],
+    ),
+    (
+        EXPLAIN,
+        INVERSES,
+        &[
+            Plain("certificate 1\nclaim 1\ndenominator 0\n"),
+            ROW_1,
+            ROW_2,
+            ROW_3,
+            ROW_4,
+            ROW_5,
+            END,
+        ],
+        &[REFUSED, Plain("C3\n")],
+    ),
+    (
+        EXPLAIN,
+        INVERSES,
+        &[
+            HEAD,
+            ROW_1,
+            ROW_2,
+            Plain("row 1 () 8 ()\n"),
+            ROW_3,
+            ROW_4,
+            ROW_5,
+            END,
+        ],
+        &[REFUSED, Plain("C2 row 3\n")],
+    ),
+    (
+        EXPLAIN,
+        INVERSES,
+        &[HEAD, ROW_1, ROW_2, ROW_3, ROW_5, END],
+        &[REFUSED, Plain("C6 word g [P] want 0 got 1\n")],
+    ),
+    (
+        EXPLAIN,
+        EQUAL,
+        &[
+            HEAD,
+            Plain("row 1 ("),
+            Times("u ", 500),
+            Plain(") 1 ()\n"),
+            END,
+        ],
+        &[REFUSED, Plain("C6 word u want 1 got 0\n")],
+    ),
+];
+
+/// Lemmas, and words that grow too long.
+pub const GROWN: &[LimitRow] = &[
+    // E1, whatever else is wrong
+    (
+        EXPLAIN,
+        INVERSES,
+        &[Plain("certificate 2\nclaim 9\ndenominator 0\ngoal scale 0\nend\n")],
+        &[REFUSED, Plain("E1\n")],
+    ),
+    // E3: words of 501 letters, in steps alone
     (
         EXPLAIN,
         &[
@@ -342,31 +710,36 @@ pub const LONG_WORDS: &[LimitRow] = &[
             Plain("= 0\n"),
         ],
         &[
-            Plain("certificate 1\nclaim 1\ndenominator 1\nrow -1 ("),
+            HEAD,
+            Plain("row -1 ("),
             Times("u ", 499),
             Plain(") 1 ()\nrow 170141183460469231731687303715884105727 () 2 ()\nrow 1 ("),
             Times("u ", 499),
-            Plain(") 1 ()\nend\n"),
+            Plain(") 1 ()\n"),
+            END,
         ],
-        &[Plain("7 # block 1 refused E3 row 1\n")],
+        &[REFUSED, Plain("E3 row 1\n")],
     ),
     (
         EXPLAIN,
         EQUAL,
         &[
-            Plain("certificate 1\nclaim 1\ndenominator 1\nrow 1 ("),
+            HEAD,
+            Plain("row 1 ("),
             Times("u ", 500),
             Plain(") 1 ()\nrow 1 () 1 ()\nrow -1 ("),
             Times("u ", 500),
-            Plain(") 1 ()\nend\n"),
+            Plain(") 1 ()\n"),
+            END,
         ],
-        &[Plain("7 # block 1 refused E3 row 1\n")],
+        &[REFUSED, Plain("E3 row 1\n")],
     ),
     (
         EXPLAIN,
         EQUAL,
         &[
-            Plain("certificate 1\nclaim 1\ndenominator 1\nrow 1 () 1 ()\nrow 1 ("),
+            HEAD,
+            Plain("row 1 () 1 ()\nrow 1 ("),
             Times("u ", 250),
             Plain(") 1 ("),
             Times("u ", 250),
@@ -374,9 +747,10 @@ pub const LONG_WORDS: &[LimitRow] = &[
             Times("u ", 250),
             Plain(") 1 ("),
             Times("u ", 250),
-            Plain(")\nend\n"),
+            Plain(")\n"),
+            END,
         ],
-        &[Plain("7 # block 1 refused E3 row 2\n")],
+        &[REFUSED, Plain("E3 row 2\n")],
     ),
     (
         EXPLAIN,
@@ -384,75 +758,99 @@ pub const LONG_WORDS: &[LimitRow] = &[
             "object P\nobject Q\nmap u v : P -> P\nmap w : P -> Q\nassume u = v\nclaim u = v\n",
         )],
         &[
-            Plain(
-                "certificate 1\nclaim 1\ndenominator 1\nrow 1 (w) 1 ()\nrow -1 (w) 1 ()\nrow 1 () 1 ()\nrow 1 (",
-            ),
+            HEAD,
+            Plain("row 1 (w) 1 ()\nrow -1 (w) 1 ()\nrow 1 () 1 ()\n"),
+            Plain("row 1 ("),
             Times("u ", 500),
             Plain(") 1 ()\nrow -1 ("),
             Times("u ", 500),
-            Plain(") 1 ()\nend\n"),
+            Plain(") 1 ()\n"),
+            END,
         ],
-        &[Plain("7 # block 1 refused E3 row 4\n")],
+        &[REFUSED, Plain("E3 row 4\n")],
     ),
-    // C6 before it
+];
+
+/// Texts with faults.
+pub const TEXTS: &[LimitRow] = &[
+    // texts with faults; a chain is no evidence
     (
         EXPLAIN,
-        EQUAL,
-        &[
-            Plain("certificate 1\nclaim 1\ndenominator 1\nrow 1 ("),
-            Times("u ", 500),
-            Plain(") 1 ()\nend\n"),
-        ],
-        &[Plain("7 # block 1 refused C6 word u want 1 got 0\n")],
+        INVERSES,
+        &[Plain("# block 1"), CHAIN],
+        &[Plain("7 # refused K2 line 2\n")],
     ),
-    // letters of a word, blocks, bytes
     (
         EXPLAIN,
+        INVERSES,
+        &[Plain("cancellation 1\nend\n")],
+        &[Plain("7 # refused K2 line 1\n")],
+    ),
+    (EXPLAIN, INVERSES, &[], &[Plain("7 # refused K7\n")]),
+    (
+        EXPLAIN,
+        INVERSES,
+        &[HEAD, ROW_1, ROW_2, ROW_3, ROW_4, ROW_5],
+        &[Plain("7 # refused K6\n")],
+    ),
+    (
+        EXPLAIN,
+        INVERSES,
+        &[HEAD, Plain("row 1 (t) 1 ()\n"), END],
+        &[Plain("7 # refused K3 line 4\n")],
+    ),
+    (
+        EXPLAIN,
+        INVERSES,
         &[
-            Plain(
-                "object P Q\nmap f g : P -> Q\nmap s : Q -> P\nassume s f = [P]\nassume s g = [P]\n",
-            ),
-            Plain("assume f s = g s\nclaim f = g\n"),
+            HEAD,
+            Plain("row 170141183460469231731687303715884105728 () 1 ()\n"),
+            END,
         ],
+        &[Plain("7 # refused K4 line 4\n")],
+    ),
+    (
+        EXPLAIN,
+        INVERSES,
         &[
-            Plain("certificate 1\nclaim 1\ndenominator 1\nrow 1 ("),
+            HEAD,
+            Plain("row 1 ("),
             Times("f ", 501),
-            Plain(") 1 ()\nend\n"),
+            Plain(") 1 ()\n"),
+            END,
         ],
         &[Plain("7 # refused K5 line 4 limit 500\n")],
     ),
     (
         EXPLAIN,
-        &[
-            Plain(
-                "object P Q\nmap f g : P -> Q\nmap s : Q -> P\nassume s f = [P]\nassume s g = [P]\n",
-            ),
-            Plain("assume f s = g s\nclaim f = g\n"),
-        ],
-        &[Times(FIVE_ROWS, 100)],
-        &[Plain("0 "), Numbers("# block ", 1, 100, CHAIN, "")],
+        &[Plain("object P\nclaim f = f\n")],
+        &[HEAD, END],
+        &[Plain("3 # refused S6 line 2 column 7\n")],
+    ),
+];
+
+/// Files that can't be had, and words that name no call.
+pub const CALLS: &[LimitRow] = &[
+    // files and words
+    (
+        &["explain", "s", "g"],
+        INVERSES,
+        &[],
+        &[Plain("4 # load failed g\n")],
     ),
     (
         EXPLAIN,
-        &[
-            Plain(
-                "object P Q\nmap f g : P -> Q\nmap s : Q -> P\nassume s f = [P]\nassume s g = [P]\n",
-            ),
-            Plain("assume f s = g s\nclaim f = g\n"),
-        ],
-        &[Times(FIVE_ROWS, 101)],
-        &[Plain("7 # refused K5 line 901 limit 100\n")],
-    ),
-    (
-        EXPLAIN,
-        &[
-            Plain(
-                "object P Q\nmap f g : P -> Q\nmap s : Q -> P\nassume s f = [P]\nassume s g = [P]\n",
-            ),
-            Plain("assume f s = g s\nclaim f = g\n"),
-        ],
+        INVERSES,
         &[Padding(67_108_865)],
         &[Plain("4 # too long c limit 67108864\n")],
+    ),
+    (&["explain", "s"], INVERSES, &[], &[USAGE]),
+    (&["explain", "s", "c", "d"], INVERSES, &[], &[USAGE]),
+    (
+        &["explain", "s", "c", "--format", "1"],
+        INVERSES,
+        &[],
+        &[USAGE],
     ),
 ];
 
@@ -472,7 +870,11 @@ pub const SIZES: &[LimitRow] = &[
     (
         EXPLAIN,
         MANY,
-        &[Plain("certificate 1\nclaim 2\ndenominator 1\nrow 1 () 1 ()\nrow -1 () 1 ()\nend\n")],
+        &[
+            Plain("certificate 1\nclaim 2\ndenominator 1\n"),
+            Plain("row 1 () 1 ()\nrow -1 () 1 ()\n"),
+            END,
+        ],
         &[
             Plain(
                 "0 # block 1 explained claim 2 denominator 1 steps 2\nchain 1\nclaim 2\ndenominator 1\nline 0\n",
@@ -485,9 +887,11 @@ pub const SIZES: &[LimitRow] = &[
     (
         EXPLAIN,
         MANY,
-        &[Plain(
-            "certificate 1\nclaim 1\ndenominator 1\nrow 1 () 2 ()\nrow 1 () 1 ()\nrow -1 () 1 ()\nend\n",
-        )],
+        &[
+            HEAD,
+            Plain("row 1 () 2 ()\nrow 1 () 1 ()\nrow -1 () 1 ()\n"),
+            END,
+        ],
         &[
             Plain(
                 "0 # block 1 explained claim 1 denominator 1 steps 3\nchain 1\nclaim 1\ndenominator 1\n",
@@ -500,10 +904,12 @@ pub const SIZES: &[LimitRow] = &[
     (
         EXPLAIN,
         MANY,
-        &[Plain(
-            "certificate 1\nclaim 1\ndenominator 1\nrow 1 () 1 ()\nrow 1 () 2 ()\nrow -1 () 1 ()\nend\n",
-        )],
-        &[Plain("7 # block 1 refused E3 row 1\n")],
+        &[
+            HEAD,
+            Plain("row 1 () 1 ()\nrow 1 () 2 ()\nrow -1 () 1 ()\n"),
+            END,
+        ],
+        &[REFUSED, Plain("E3 row 1\n")],
     ),
 ];
 
@@ -531,7 +937,7 @@ pub const LENGTHS: &[LimitRow] = &[
     (
         EXPLAIN,
         LONG,
-        &[Plain("certificate 1\nclaim 1\ndenominator 1\nrow 1 () 1 ()\nend\n")],
+        &[HEAD, Plain("row 1 () 1 ()\n"), END],
         &[
             Plain(
                 "0 # block 1 explained claim 1 denominator 1 steps 1\nchain 1\nclaim 1\ndenominator 1\nline ",
@@ -543,31 +949,59 @@ pub const LENGTHS: &[LimitRow] = &[
     (
         EXPLAIN,
         LONG,
-        &[Plain("certificate 1\nclaim 1\ndenominator 2\nrow 1 () 1 ()\nrow 1 () 1 ()\nend\n")],
-        &[Plain("7 # block 1 refused E4 row 1 limit 10000000\n")],
+        &[
+            Plain("certificate 1\nclaim 1\ndenominator 2\n"),
+            Plain("row 1 () 1 ()\nrow 1 () 1 ()\n"),
+            END,
+        ],
+        &[REFUSED, Plain("E4 row 1 limit 10000000\n")],
     ),
     (
         EXPLAIN,
         LONG,
-        &[Plain(
-            "certificate 1\nclaim 1\ndenominator 1\nrow 0 () 1 ()\nrow 1 () 1 ()\nrow -1 () 1 ()\nrow 1 () 1 ()\nend\n",
-        )],
-        &[Plain("7 # block 1 refused E4 row 3 limit 10000000\n")],
+        &[
+            HEAD,
+            Plain("row 0 () 1 ()\nrow 1 () 1 ()\nrow -1 () 1 ()\nrow 1 () 1 ()\n"),
+            END,
+        ],
+        &[REFUSED, Plain("E4 row 3 limit 10000000\n")],
     ),
 ];
 
-/// The words of a call over a statement whose report is evidence, the statement, and the answer of `explain` over both.
+/// A statement, the words of a call over it whose report is evidence, and the answer of `explain` over both.
+pub type ReportRow = (&'static [Part], &'static [&'static str], &'static [Part]);
+
 /// Reports of `prove` are explained where they have no lemmas.
-pub const REPORTS: &[CallRow] = &[
+pub const REPORTS: &[ReportRow] = &[
     (
-        &["prove", "s", "--format", "1"],
         INVERSES,
-        "0 # block 1 explained claim 1 denominator 1 steps 5\nchain 1\nclaim 1\ndenominator 1\nline - g + f\nuse -1 (f) 1 ()\nline f s f - f [P] - g + f\nuse 1 (g) 1 ()\nline - g s f + f s f + g [P] - f [P] - g + f\nuse 1 () 3 (f)\nline g [P] - f [P] - g + f\nuse -1 () 5 ()\nline g [P] - g\nuse 1 () 6 ()\nline 0\nend\n",
-    ),
-    (&["prove", "s"], INVERSES, "7 # block 1 refused E1\n"),
-    (
         &["prove", "s", "--format", "1"],
+        &[
+            BLOCK,
+            Plain(
+                " explained claim 1 denominator 1 steps 5\nchain 1\nclaim 1\ndenominator 1\nline - g + f\n",
+            ),
+            Plain("use -1 (f) 1 ()\nline f s f - f [P] - g + f\nuse 1 (g) 1 ()\n"),
+            Plain(
+                "line - g s f + f s f + g [P] - f [P] - g + f\nuse 1 () 3 (f)\nline g [P] - f [P] - g + f\n",
+            ),
+            Plain("use -1 () 5 ()\nline g [P] - g\nuse 1 () 6 ()\nline 0\nend\n"),
+        ],
+    ),
+    (INVERSES, &["prove", "s"], &[REFUSED, Plain("E1\n")]),
+    (
         SCALED,
-        "0 # block 1 explained claim 1 denominator 6 steps 2\nchain 1\nclaim 1\ndenominator 6\nline - 6 u u + 6 u\nuse 2 () 1 ()\nline - 6 u u + 4 v\nuse 1 () 2 ()\nline 0\nend\n# block 2 explained claim 2 denominator 1 steps 0\nchain 1\nclaim 2\ndenominator 1\nline 0\nend\n",
+        &["prove", "s", "--format", "1"],
+        &[
+            Plain(
+                "0 # block 1 explained claim 1 denominator 6 steps 2\nchain 1\nclaim 1\ndenominator 6\n",
+            ),
+            Plain(
+                "line - 6 u u + 6 u\nuse 2 () 1 ()\nline - 6 u u + 4 v\nuse 1 () 2 ()\nline 0\nend\n",
+            ),
+            Plain(
+                "# block 2 explained claim 2 denominator 1 steps 0\nchain 1\nclaim 2\ndenominator 1\nline 0\nend\n",
+            ),
+        ],
     ),
 ];

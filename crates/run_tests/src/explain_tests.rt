@@ -1,9 +1,12 @@
 //! Runs of `explain`.
 use crate::calls::{owned, shelf_of};
-use crate::explain_rows::{CALLS, EXPLAINED, LENGTHS, LONG_WORDS, REPORTS, SIZES, UNEXPLAINED};
+use crate::explain_rows::{
+    ADJOINTS, BLOCKS, CALLS, CHECKED, FACTORS, FORMS, GROWN, LENGTHS, LONG_WORDS, OVERFLOWS,
+    REPORTS, SIZES, STEPS, TEXTS,
+};
 use crate::limit_rows::LimitRow;
 use crate::limit_tests::{tell_limits, text_of};
-use crate::tests::{answer, answer_over, tell, tell_all};
+use crate::tests::{answer, answer_over, tell};
 use flow_io::MemorySink;
 use lists::Listing;
 use std::alloc::Global;
@@ -11,38 +14,83 @@ use std::process::Abort;
 use std::test::Fail;
 use std::thread::Threads;
 
-const EXPLAIN: &[&str] = &["explain", "s", "c"];
-
 // How many bytes a put takes at most, and all of them.
 const MOST_PER_PUT: usize = 65_536;
 
 const ROOM: usize = 50_000_000;
 
 #[test]
-fn certificates_are_explained(rt: HostRuntime) -> Result<(), Fail> {
-    tell_all(&rt, rt.alloc(), EXPLAIN, EXPLAINED)
+fn rows_that_count_and_are_typed_are_steps(rt: HostRuntime) -> Result<(), Fail> {
+    tell_limits(&rt, rt.alloc(), STEPS)
 }
 
 #[test]
-fn what_has_no_chain_is_refused(rt: HostRuntime) -> Result<(), Fail> {
-    tell_all(&rt, rt.alloc(), EXPLAIN, UNEXPLAINED)?;
-    for (words, want) in CALLS {
-        tell(&rt, rt.alloc(), words, b"", b"", want)?;
-    }
-    Ok(())
+fn certificates_have_many_forms(rt: HostRuntime) -> Result<(), Fail> {
+    tell_limits(&rt, rt.alloc(), FORMS)
 }
 
 #[test]
-fn long_words_and_many_blocks_are_explained(rt: HostRuntime) -> Result<(), Fail> {
+fn claims_are_multiplied(rt: HostRuntime) -> Result<(), Fail> {
+    tell_limits(&rt, rt.alloc(), FACTORS)
+}
+
+#[test]
+fn adjoints_are_letters(rt: HostRuntime) -> Result<(), Fail> {
+    tell_limits(&rt, rt.alloc(), ADJOINTS)
+}
+
+#[test]
+fn words_have_500_letters_at_most(rt: HostRuntime) -> Result<(), Fail> {
     tell_limits(&rt, rt.alloc(), LONG_WORDS)
 }
 
 #[test]
+fn blocks_are_explained_one_by_one(rt: HostRuntime) -> Result<(), Fail> {
+    tell_limits(&rt, rt.alloc(), BLOCKS)
+}
+
+#[test]
+fn steps_that_leave_the_range_are_told(rt: HostRuntime) -> Result<(), Fail> {
+    tell_limits(&rt, rt.alloc(), OVERFLOWS)
+}
+
+#[test]
+fn what_check_refuses_has_no_chain(rt: HostRuntime) -> Result<(), Fail> {
+    tell_limits(&rt, rt.alloc(), CHECKED)
+}
+
+#[test]
+fn lemmas_and_long_words_have_no_chain(rt: HostRuntime) -> Result<(), Fail> {
+    tell_limits(&rt, rt.alloc(), GROWN)
+}
+
+#[test]
+fn texts_with_faults_are_refused(rt: HostRuntime) -> Result<(), Fail> {
+    tell_limits(&rt, rt.alloc(), TEXTS)
+}
+
+#[test]
+fn files_and_words_come_first(rt: HostRuntime) -> Result<(), Fail> {
+    tell_limits(&rt, rt.alloc(), CALLS)
+}
+
+#[test]
 fn reports_are_explained(rt: HostRuntime) -> Result<(), Fail> {
-    for (words, statement, want) in REPORTS {
-        let told = answer(&rt, rt.alloc(), words, statement, b"", &[])?;
+    let alloc = rt.alloc();
+    for (statement, words, want) in REPORTS {
+        let statement = text_of(alloc, statement)?;
+        let told = answer(&rt, alloc, words, statement.as_bytes(), b"", &[])?;
         let report = told.as_str().strip_prefix("0 ").unwrap_or("");
-        tell(&rt, rt.alloc(), EXPLAIN, statement, report.as_bytes(), want)?;
+        let words = &["explain", "s", "c"];
+        let want = text_of(alloc, want)?;
+        tell(
+            &rt,
+            alloc,
+            words,
+            statement.as_bytes(),
+            report.as_bytes(),
+            want.as_str(),
+        )?;
     }
     Ok(())
 }

@@ -1,0 +1,6 @@
+pub use Rattle.ambiguities.specs.Ambiguities
+pub use Rattle.ambiguities.specs.Listed
+pub use Rattle.word_orders.specs.Admissible
+pub mod Order
+pub mod Keys
+pub mod Laws

@@ -1,0 +1,24 @@
+//! The list of all ambiguities of rules.
+ghost use Rattle.std.specs.Prelude.{IfOk};
+ghost use Rattle.ambiguity_order.specs.Order.{AreAllInOrder};
+
+use crate::sorting::{make_keys, sort_keys, take_ambiguities};
+use ambiguities::{Ambiguity, between};
+use lists::Listing;
+use rule_reduce::Rules;
+use std::alloc::{AllocError, Global};
+use word_orders::WordOrder;
+
+/// All ambiguities of the rules, each once: by the overlap word, then the first rule, then the second, overlaps before
+/// inclusions, then by the place, ascending.
+pub fn all_ambiguities<O: WordOrder>(
+    alloc: Global,
+    rules: &Rules<O>,
+) -> Result<Listing<Ambiguity>, AllocError>
+    ensures { IfOk result (AreAllInOrder (O.compare rules.now.order) rules.now.rules) }
+{
+    let found = between(rules, 0)?;
+    let mut keys = make_keys(alloc, rules, found.as_slice())?;
+    sort_keys(&mut keys)?;
+    take_ambiguities(alloc, keys)
+}

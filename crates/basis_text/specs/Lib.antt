@@ -1,0 +1,8 @@
+pub mod Limits
+pub mod BasisBlocks
+pub mod BasisBounds
+pub mod Written
+pub mod Bases
+pub mod EachText
+pub mod Reading
+pub mod Back

@@ -1,0 +1,35 @@
+//! The laws of bases in evidence text. They have nothing to run.
+ghost use Rattle.basis_text.specs.Back.{BasesAreReadBack, ArePartsReadBack};
+ghost use Rattle.basis_text.specs.EachText.{EachTextIsRead, BasesAreUnique, FirstFaultIsUnique, BasesHaveNoFault};
+
+/// Each text has bases, or a first fault.
+pub fn each_text_is_read()
+    ensures { EachTextIsRead }
+{}
+
+/// A text has one list of bases.
+pub fn bases_are_unique()
+    ensures { BasesAreUnique }
+{}
+
+/// A text has one first fault.
+pub fn first_fault_is_unique()
+    ensures { FirstFaultIsUnique }
+{}
+
+/// A text that has bases has no fault.
+pub fn bases_have_no_fault()
+    ensures { BasesHaveNoFault }
+{}
+
+/// The law that a basis that is written is read as it is, whatever whole lines stand before it and whatever follows. It has
+/// nothing to run.
+pub fn bases_are_read_back()
+    ensures { BasesAreReadBack }
+{}
+
+/// The law that the bases of a text of written bases, comments and blocks of other kinds are those bases, in their order. It has
+/// nothing to run.
+pub fn parts_are_read_back()
+    ensures { ArePartsReadBack }
+{}

@@ -1,0 +1,14 @@
+use Rattle.std.proofs.Common.{◌≡◌, ◌≤◌, length}
+use Rattle.block_text.specs.PolynomialReading.{later_in}
+use Rattle.block_text.specs.Tokens.{tokens_of}
+use Rattle.block_text.proofs.polynomial.next_term.Given as goal
+
+-- no term begins in what was passed
+abbrev pub invariant-loop-token : goal.invariant-loop-token
+invariant-loop-token l = record {
+  same : later_in (tokens_of l.rest) ≡ later_in (tokens_of l.term.letters.now);
+  within : length l.rest ≤ length l.term.letters.now;
+}
+
+abbrev pub decreases-loop-token : goal.decreases-loop-token
+decreases-loop-token l = length l.rest

@@ -1,0 +1,420 @@
+//! The polynomials that lines spell.
+
+ghost use Rattle.std.specs.Prelude.{◌≡◌, ◌<◌, ◌≤◌, ◌^◌, ◌∷◌, [], length, IsTrue, IfOk, IfSome, MatchOption};
+ghost use Rattle.std.specs.List.{All, list_all};
+ghost use Rattle.std.specs.Option.{option_map};
+ghost use Rattle.std.specs.declared.cmp.Ordering.TheVariants.{Equal};
+ghost use Rattle.nc_polynomial.specs.Limits.{term_limit};
+ghost use Rattle.nc_polynomial.specs.Shape.{IsCanonical};
+ghost use Rattle.quiver.specs.Declarations.{letter_count};
+ghost use Rattle.word_core.specs.Letters.{IsOver};
+ghost use Rattle.block_text.specs.Fault.{Reads};
+ghost use Rattle.block_text.specs.Letters.{letter_of, signed};
+ghost use Rattle.block_text.specs.PolynomialReading.{is_term_sign, is_minus, part_in, term_of, later_in, terms_behind, terms_of, is_zero, now_of, term_in, terms_from, terms_left, is_bracketed, is_adjoint, is_written_as, written_letter, word_behind, is_above_one, value_within, term_value, may_follow, poly_behind, passes_letter, passes_number, pass_letters, passes, letters_cmp, words_cmp, descend, at_most, first_flaw, polynomial_of};
+ghost use Rattle.block_text.specs.Tokens.{tokens_of};
+
+use crate::cut::first_token;
+use crate::fault::{Flaw, LineFault};
+use crate::letter::{is_term_letter, letter_of};
+use crate::line::is;
+use crate::number::{INTEGER_LIMIT, is_number, number_within};
+use lists::Listing;
+use nc_polynomial::{Poly, TERM_LIMIT, WORD_LIMIT};
+use quiver::{Named, Quiver};
+use std::alloc::{AllocError, Global};
+use std::cmp::Ordering;
+use word_core::{Letter, Word};
+
+// A term of a line: its sign, its number where one stands, and its letters, which end before the next sign.
+#[derive(Clone, Copy)]
+struct TermText<'a> {
+    negative: bool,
+    factor: Option<&'a [u8]>,
+    letters: &'a [u8],
+}
+
+// What the terms of a line are asked for, in the order in which it counts.
+#[derive(Clone, Copy)]
+enum Asked {
+    Form,
+    Known,
+    Written,
+    Within,
+}
+
+// Whether a term begins behind the token.
+fn is_term_sign(token: &[u8]) -> bool
+    ensures { result ≡ is_term_sign token.now }
+{
+    is("-", token) || is("+", token)
+}
+
+// The first letter of those before the next sign, and what stands behind it.
+fn first_letter(line: &[u8]) -> Option<(&[u8], &[u8])>
+    ensures part { MatchOption result (part_in (tokens_of line.now) ≡ []) (λ cut. part_in (tokens_of line.now) ≡ cut.0.now ∷ part_in (tokens_of cut.1.now)) }
+    ensures later { IfSome result (λ cut. later_in (tokens_of line.now) ≡ later_in (tokens_of cut.1.now)) }
+    ensures shorter { IfSome result (λ cut. length cut.1.now < length line.now) }
+{
+    match first_token(line) {
+        Some((token, _)) if is_term_sign(token) => None,
+        cut => cut,
+    }
+}
+
+// The term at the front of a line behind its sign.
+fn term_at(negative: bool, line: &[u8]) -> TermText<'_>
+    ensures terms { terms_from result ≡ terms_behind negative (tokens_of line.now) }
+    ensures within { length result.letters.now ≤ length line.now }
+{
+    match first_letter(line) {
+        Some((digits, letters)) if is_number(digits) => TermText {
+            negative,
+            factor: Some(digits),
+            letters,
+        },
+        _ => TermText {
+            negative,
+            factor: None,
+            letters: line,
+        },
+    }
+}
+
+// The first term of a line.
+fn first_term(line: &[u8]) -> TermText<'_>
+    ensures { terms_from result ≡ terms_of (tokens_of line.now) }
+{
+    match first_token(line) {
+        Some((sign, behind)) if is("-", sign) => term_at(true, behind),
+        _ => term_at(false, line),
+    }
+}
+
+// The term behind another.
+fn next_term<'a>(term: TermText<'a>) -> Option<TermText<'a>>
+    ensures terms { terms_left result ≡ later_in (tokens_of term.entry.letters.now) }
+    ensures shorter { IfSome result (λ next. length next.letters.now < length term.entry.letters.now) }
+{
+    let mut rest = term.letters;
+    while let Some((token, behind)) = first_token(rest) {
+        if is_term_sign(token) {
+            return Some(term_at(is("-", token), behind));
+        }
+        rest = behind;
+    }
+    None
+}
+
+// Whether the line is a number of value 0.
+fn is_zero(line: &[u8]) -> bool
+    ensures { result ≡ is_zero (tokens_of line.now) }
+{
+    match first_token(line) {
+        Some((token, behind)) if is_number(token) => {
+            first_token(behind).is_none() && number_within(0, token).is_some()
+        }
+        _ => false,
+    }
+}
+
+// Whether the token is the name in square brackets.
+fn is_bracketed(name: &str, token: &[u8]) -> bool
+    ensures { result ≡ is_bracketed name.now token.now }
+{
+    match token {
+        [b'[', inner @ .., b']'] => is(name, inner),
+        _ => false,
+    }
+}
+
+// Whether the token is the name before a '.
+fn is_adjoint(name: &str, token: &[u8]) -> bool
+    ensures { result ≡ is_adjoint name.now token.now }
+{
+    match token {
+        [front @ .., b'\''] => is(name, front),
+        _ => false,
+    }
+}
+
+// Whether the letter is written as this token.
+fn is_written_as(quiver: &Quiver, letter: Letter, token: &[u8]) -> bool
+    requires { letter.0 < letter_count quiver.now }
+    ensures { result ≡ is_written_as quiver.now letter.0 token.now }
+{
+    let name = quiver.letter_name(letter);
+    match quiver.find(name) {
+        Some(Named::Object(_)) => is_bracketed(name, token),
+        Some(Named::Map(map)) if map.0 == letter.0 => is(name, token),
+        Some(Named::Map(_)) => is_adjoint(name, token),
+        None => false,
+    }
+}
+
+// The letter that the token spells as it is written.
+#[tactic(auto, using(crate::proofs::LetterRange::letter_in_range))]
+fn written_letter(quiver: &Quiver, token: &[u8]) -> Option<Letter>
+    ensures { option_map (λ a. a.0) result ≡ written_letter quiver.now token.now }
+{
+    if !is_term_letter(token) {
+        return None;
+    }
+    let letter = letter_of(quiver, token)?;
+    if is_written_as(quiver, letter, token) {
+        Some(letter)
+    } else {
+        None
+    }
+}
+
+// The word of the letters before the next sign, if each is as it is written and there are not too many.
+fn word_in(alloc: Global, quiver: &Quiver, letters: &[u8]) -> Result<Option<Word>, AllocError>
+    ensures { IfOk result (λ word. word ≡ word_behind quiver.now [] (part_in (tokens_of letters.now))) }
+{
+    let mut word = Word::new(alloc);
+    let mut rest = letters;
+    while let Some((token, behind)) = first_letter(rest) {
+        if word.len() >= WORD_LIMIT {
+            return Ok(None);
+        }
+        let Some(letter) = written_letter(quiver, token) else {
+            return Ok(None);
+        };
+        word.push(letter)?;
+        rest = behind;
+    }
+    Ok(Some(word))
+}
+
+// Whether the token is a number above 1.
+fn is_above_one(token: &[u8]) -> bool
+    ensures { result ≡ is_above_one token.now }
+{
+    is_number(token) && number_within(1, token).is_none()
+}
+
+// 1, or the value of a number above it, if it is small enough.
+fn value_within(factor: Option<&[u8]>) -> Option<u128>
+    ensures { result ≡ value_within (now_of factor.entry) }
+{
+    match factor {
+        None => Some(1),
+        Some(digits) if is_above_one(digits) => number_within(INTEGER_LIMIT, digits),
+        Some(_) => None,
+    }
+}
+
+fn signed(negative: bool, value: u128) -> i128
+    requires { value < 2 ^ 127 }
+    ensures { result ≡ signed negative value }
+{
+    if negative {
+        -(value as i128)
+    } else {
+        value as i128
+    }
+}
+
+// What a term says, if it is within its bounds.
+fn term_value(
+    alloc: Global,
+    quiver: &Quiver,
+    term: TermText<'_>,
+) -> Result<Option<(i128, Word)>, AllocError>
+    ensures { IfOk result (λ value. value ≡ term_value quiver.now (term_in term.entry)) }
+{
+    let Some(value) = value_within(term.factor) else {
+        return Ok(None);
+    };
+    match word_in(alloc, quiver, term.letters)? {
+        Some(word) if word.len() > 0 => Ok(Some((signed(term.negative, value), word))),
+        _ => Ok(None),
+    }
+}
+
+// Whether the word is below that of the last term.
+fn may_follow(terms: &[(i128, Word)], word: &Word) -> bool
+    ensures { result ≡ may_follow terms.now word.now }
+{
+    match terms {
+        [.., last] => last.1.cmp_degree(word) == Ordering::Greater,
+        [] => true,
+    }
+}
+
+// The terms of a line from one on, if they are within all bounds.
+fn terms_in(
+    alloc: Global,
+    quiver: &Quiver,
+    first: TermText<'_>,
+) -> Result<Option<Listing<(i128, Word)>>, AllocError>
+    ensures { IfOk result (λ terms. terms ≡ poly_behind quiver.now [] (terms_from first.entry)) }
+{
+    let mut terms = Listing::new(alloc);
+    let mut left = Some(first);
+    while let Some(term) = left {
+        let Some(value) = term_value(alloc, quiver, term)? else {
+            return Ok(None);
+        };
+        if terms.len() >= TERM_LIMIT || !may_follow(terms.as_slice(), &value.1) {
+            return Ok(None);
+        }
+        terms.push(value)?;
+        left = next_term(term);
+    }
+    Ok(Some(terms))
+}
+
+fn passes_letter(quiver: &Quiver, asked: Asked, token: &[u8]) -> bool
+    ensures { result ≡ passes_letter quiver.now asked token.now }
+{
+    match asked {
+        Asked::Form => is_term_letter(token),
+        Asked::Known => letter_of(quiver, token).is_some(),
+        Asked::Written => written_letter(quiver, token).is_some(),
+        Asked::Within => true,
+    }
+}
+
+fn passes_number(asked: Asked, factor: Option<&[u8]>) -> bool
+    ensures { result ≡ passes_number asked (now_of factor.entry) }
+{
+    let Some(digits) = factor else {
+        return true;
+    };
+    match asked {
+        Asked::Form => is_above_one(digits),
+        Asked::Known | Asked::Written => true,
+        Asked::Within => is_number(digits) && number_within(INTEGER_LIMIT, digits).is_some(),
+    }
+}
+
+// Whether there is a letter before the next sign, and all of these pass.
+fn pass_letters(quiver: &Quiver, asked: Asked, letters: &[u8]) -> bool
+    ensures { result ≡ pass_letters quiver.now asked (part_in (tokens_of letters.now)) }
+{
+    let mut rest = letters;
+    while let Some((token, behind)) = first_letter(rest) {
+        if !passes_letter(quiver, asked, token) {
+            return false;
+        }
+        rest = behind;
+    }
+    first_letter(letters).is_some()
+}
+
+// Whether all terms from one on pass.
+fn all_pass(quiver: &Quiver, asked: Asked, first: TermText<'_>) -> bool
+    ensures { result ≡ list_all (passes quiver.now asked) (terms_from first.entry) }
+{
+    let mut left = Some(first);
+    while let Some(term) = left {
+        if !passes_number(asked, term.factor) || !pass_letters(quiver, asked, term.letters) {
+            return false;
+        }
+        left = next_term(term);
+    }
+    true
+}
+
+// The order of two tokens that spell letters.
+fn letters_cmp(quiver: &Quiver, left: &[u8], right: &[u8]) -> Ordering
+    ensures { result ≡ letters_cmp (letter_of quiver.now left.now) (letter_of quiver.now right.now) }
+{
+    match (letter_of(quiver, left), letter_of(quiver, right)) {
+        (Some(left), Some(right)) => left.0.cmp(&right.0),
+        _ => Ordering::Equal,
+    }
+}
+
+// The order of the words before the next sign: by length first, and then letter by letter.
+fn words_cmp(quiver: &Quiver, left: &[u8], right: &[u8]) -> Ordering
+    ensures { result ≡ words_cmp quiver.now Equal (part_in (tokens_of left.now)) (part_in (tokens_of right.now)) }
+{
+    let mut order = Ordering::Equal;
+    let mut left_rest = left;
+    let mut right_rest = right;
+    while let Some((x, left_behind)) = first_letter(left_rest) {
+        let Some((y, right_behind)) = first_letter(right_rest) else {
+            return Ordering::Greater;
+        };
+        if order == Ordering::Equal {
+            order = letters_cmp(quiver, x, y);
+        }
+        left_rest = left_behind;
+        right_rest = right_behind;
+    }
+    match first_letter(right_rest) {
+        Some(_) => Ordering::Less,
+        None => order,
+    }
+}
+
+// Whether the words of the terms from one on descend.
+fn descend(quiver: &Quiver, first: TermText<'_>) -> bool
+    ensures { result ≡ descend quiver.now (terms_from first.entry) }
+{
+    let mut upper = first;
+    while let Some(lower) = next_term(upper) {
+        if words_cmp(quiver, upper.letters, lower.letters) != Ordering::Greater {
+            return false;
+        }
+        upper = lower;
+    }
+    true
+}
+
+// Whether there are at most `TERM_LIMIT` terms from one on.
+fn are_few(first: TermText<'_>) -> bool
+    ensures { result ≡ at_most term_limit (terms_from first.entry) }
+{
+    let mut room = TERM_LIMIT;
+    let mut left = Some(first);
+    while let Some(term) = left {
+        if room == 0 {
+            return false;
+        }
+        room -= 1;
+        left = next_term(term);
+    }
+    true
+}
+
+// The first that is wrong with the terms from one on. Where nothing else is, a word is too long.
+fn first_flaw(quiver: &Quiver, first: TermText<'_>) -> Flaw
+    ensures { result ≡ first_flaw quiver.now (terms_from first.entry) }
+{
+    if !all_pass(quiver, Asked::Form, first) {
+        return Flaw::BadLine;
+    }
+    if !all_pass(quiver, Asked::Known, first) {
+        return Flaw::UnknownName;
+    }
+    if !all_pass(quiver, Asked::Written, first) || !descend(quiver, first) {
+        return Flaw::NotAsWritten;
+    }
+    if !all_pass(quiver, Asked::Within, first) {
+        return Flaw::NumberTooLarge;
+    }
+    if are_few(first) {
+        Flaw::TooMany(WORD_LIMIT as u32)
+    } else {
+        Flaw::TooMany(TERM_LIMIT as u32)
+    }
+}
+
+/// The polynomial that a line spells behind its first word, or the first that is wrong with it: the form, names that are
+/// unknown, letters or an order of words that are not as it is written, numbers, the number of terms, and of letters.
+pub fn read_polynomial(alloc: Global, quiver: &Quiver, line: &[u8]) -> Result<Poly, LineFault>
+    ensures exact { Reads (λ p. p.terms) result (polynomial_of quiver.now (tokens_of line.now)) }
+    ensures over { IfOk result (λ p. All (λ t. IsOver (letter_count quiver.now) t.1) p.terms) }
+{
+    if is_zero(line) {
+        return Ok(Poly::zero(alloc));
+    }
+    let first = first_term(line);
+    match terms_in(alloc, quiver, first)? {
+        Some(terms) => Ok(Poly { terms }),
+        None => Err(LineFault::Flaw(first_flaw(quiver, first))),
+    }
+}

@@ -1,0 +1,5 @@
+pub mod SaidLines
+pub mod Shifts
+pub mod ShiftSteps
+pub mod ShiftTexts
+pub mod TextLaws

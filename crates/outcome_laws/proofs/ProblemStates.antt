@@ -1,0 +1,80 @@
+-- The run of a problem gives what the laws on runs ask for.
+use Rattle.std.proofs.Common.{◌≡◌, ◌⊎◌, inl, inr, ◌≤◌, ℕ, zero, suc, List, [], ◌∷◌, length, Contains, arith, refl}
+use Rattle.std.specs.List.{All}
+use Rattle.std.proofs.lemmas.List.{length-map}
+use Rattle.std.proofs.lemmas.List.Elements.{All-contains}
+use Rattle.word_orders.specs.Admissible.{Compare}
+use Rattle.word_orders.specs.Specified.{asked_cmp}
+use Rattle.word_orders.proofs.AskedOrders.{asked_rank}
+use Rattle.quiver.specs.Declarations.{letter_count, quiver_of}
+use Rattle.definitions.specs.Combination.{generator_at}
+use Rattle.ambiguities.specs.declared.ambiguity.Ambiguity.{Ambiguity}
+use Rattle.ambiguities.specs.Ambiguities.{IsAmbiguity, overlap_word_of}
+use Rattle.adjoint_rules.specs.declared.problem.Problem.{Problem}
+use Rattle.adjoint_rules.specs.Problem.{polynomials}
+use Rattle.completion_laws.specs.Kept.{IsReached}
+use Rattle.completion_laws.proofs.Inside.{rules_are_inside}
+use Rattle.completion_laws.proofs.Outside.{listed_or_not, resolved_where_closed, resolved_below_pending}
+use Rattle.traced_completion.specs.declared.budget.Budget.{Budget}
+use Rattle.traced_completion.specs.declared.pending.waiting.Waiting.{Waiting}
+use Rattle.traced_completion.specs.Pending.{IsPending, AreAllPending}
+use Rattle.traced_completion.specs.PlainRun.{RunState, setting_of, IsRunState}
+use Rattle.outcome_laws.specs.KeptRuns.{IsKeptState, done_after}
+use Rattle.outcome_laws.specs.ProblemStates.{IsTreatedOrPending, StatesAreKept, GeneratorsAreReached}
+use Rattle.outcome_laws.proofs.LettersInPlay.{problem_play, generators_in_play}
+use Rattle.outcome_laws.proofs.OpenRuns.{order_laws}
+use Rattle.outcome_laws.proofs.ProblemPolynomials.{turns_in_range, all_have_turns}
+use Rattle.outcome_laws.proofs.WholeRuns.{runs_are_kept, first_is_least_pending}
+
+module _ (problem : Problem) (budget : Budget) (n : ℕ) (s : RunState) (is : IsRunState (setting_of problem budget) n s) where
+  abbrev letters : ℕ
+  letters = letter_count problem.parts.quiver
+
+  abbrev compare : Compare
+  compare = asked_cmp problem.parts.order
+
+  abbrev rank : List ℕ → List ℕ
+  rank = asked_rank (letter_count problem.parts.quiver) problem.parts.order
+
+  pub state_kept : IsKeptState (quiver_of problem.parts.quiver) (problem_play problem) letters (setting_of problem budget) (done_after (setting_of problem budget) n) s
+  state_kept =
+      runs_are_kept (quiver_of problem.parts.quiver) (problem_play problem) letters rank (setting_of problem budget) n s (order_laws problem budget)
+      (generators_in_play problem) (turns_in_range problem) is
+
+  treated_or_pending : (a : Ambiguity) → IsAmbiguity s.rules a → IsTreatedOrPending s a
+  treated_or_pending a ambiguity = go (listed_or_not s.treated a)
+    where
+      go : Contains s.treated a ⊎ (Contains s.treated a → ⊥) → IsTreatedOrPending s a
+      go (inl listed) = inl listed
+      go (inr none) = inr (record { is = ambiguity; untreated = none; overlap = refl })
+
+  none_pending : AreAllPending compare s.rules s.treated [] → (a : Ambiguity) → IsAmbiguity s.rules a → (Contains s.treated a → ⊥) → ⊥
+  none_pending all a ambiguity untreated =
+      let found = (all.members (record { which = a; word = overlap_word_of s.rules a })).1 (record { is = ambiguity; untreated = untreated; overlap = refl }) in
+      absurd (omega (arith, found.1))
+
+pub states_are_kept : StatesAreKept
+states_are_kept problem budget n s is =
+    let now = state_kept problem budget n s is in
+    record {
+      are_rules = now.kept.are_rules;
+      apart = now.kept.apart;
+      recorded = now.kept.recorded;
+      inside = λ number g numbered.
+          rules_are_inside (letter_count problem.parts.quiver) (asked_cmp problem.parts.order) (polynomials problem.generators) s.rules s.made (done_after (setting_of problem budget) n) s.treated number g now.kept numbered;
+      typed = now.typed;
+      resolved = now.kept.resolved;
+      others = treated_or_pending problem budget n s is;
+      closed = λ all.
+          resolved_where_closed (letter_count problem.parts.quiver) (asked_cmp problem.parts.order) (polynomials problem.generators) s.rules s.made (done_after (setting_of problem budget) n) s.treated now.kept
+          (none_pending problem budget n s is all);
+      below = λ w ws all.
+          resolved_below_pending (letter_count problem.parts.quiver) (asked_cmp problem.parts.order) (polynomials problem.generators) s.rules s.made (done_after (setting_of problem budget) n) s.treated w.word now.kept
+          (first_is_least_pending (letter_count problem.parts.quiver) (asked_cmp problem.parts.order) (asked_rank (letter_count problem.parts.quiver) problem.parts.order) s.rules s.treated w ws (order_laws problem budget) all);
+    }
+
+pub generators_are_reached : GeneratorsAreReached
+generators_are_reached problem budget n s number is some most =
+    let now = state_kept problem budget (suc n) s is in
+    All-contains (λ k. IsReached (letter_count problem.parts.quiver) (asked_cmp problem.parts.order) s.rules (generator_at (polynomials problem.generators) k)) (setting_of problem budget).in_turn number now.kept.reached
+    (all_have_turns problem number some (omega (arith, most, length-map problem.generators (λ p. p.terms))))
