@@ -16,11 +16,12 @@ use Rattle.claim_decider.specs.Decided.{claim_numbers, AreOutcomesOf, AreLastRul
 use Rattle.block_text.specs.Fault.{no_block}
 use Rattle.block_text.specs.Lines.{block_limit}
 use Rattle.block_text.specs.Back.{is_named}
+use Rattle.basis_text.specs.Written.{IsPolyOver}
 use Rattle.model_text.specs.Models.{HasModels, IsModels, IsFirstFault}
 use Rattle.model_text.specs.Back.{IsWritableModel}
 use Rattle.report_text.specs.declared.verdict.Verdict.{Verdict}
 use Rattle.report_text.specs.declared.verdict.Verdict.TheVariants as verdict
-use Rattle.report_text.specs.Report.{report_of, IsPolyOver}
+use Rattle.report_text.specs.Report.{report_of}
 use Rattle.report_readback.specs.ReadBack.{IsWritableVerdict, AreVerdictsOf}
 
 -- The text has these models. Where there is one at least, they are what it is read as; where there is none, that is its first fault.
