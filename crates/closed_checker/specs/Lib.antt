@@ -1,0 +1,4 @@
+pub mod Limits
+pub mod Rests
+pub mod Closed
+pub mod Laws
