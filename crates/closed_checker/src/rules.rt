@@ -1,9 +1,10 @@
 //! The rules of a basis.
-ghost use Rattle.std.specs.Prelude.{◌≡◌, ◌≤◌, ℕ, List, IfOk, IfErr, OnOk};
+ghost use Rattle.std.specs.Prelude.{◌≡◌, ◌≤◌, IfOk, IfErr, OnOk};
 ghost use Rattle.quiver.specs.Declarations.{letter_count};
 ghost use Rattle.word_orders.specs.Specified.{made_cmp, letters_of};
-ghost use Rattle.closed_checker.specs.Rests.{order_of, rules_of};
+ghost use Rattle.closed_checker.specs.Rests.{order_of};
 ghost use Rattle.closed_checker.specs.Closed.{IsReadableBasis, NamesClaim, HasRules, Refuses};
+ghost use Rattle.closed_checker.specs.Working.{AreRulesOf};
 
 use crate::ClosedRefusal;
 use adjoint_rules::Problem;
@@ -14,14 +15,11 @@ use word_orders::{AnyOrder, OrderFault};
 
 // The order of words that the problem asks for.
 fn make_order(alloc: Global, problem: &Problem) -> Result<AnyOrder, AllocError>
-    ensures order { IfOk result (λ o. (u v : List ℕ) → made_cmp o u v ≡ order_of problem.now u v) }
+    ensures compares { IfOk result (λ o. made_cmp o ≡ order_of problem.now) }
     ensures letters { IfOk result (λ o. letter_count problem.now.parts.quiver ≤ letters_of o) }
 {
-    match AnyOrder::new(
-        alloc,
-        &problem.parts.order,
-        problem.parts.quiver.letters(),
-    ) {
+    let letters = problem.parts.quiver.letters();
+    match AnyOrder::new(alloc, &problem.parts.order, letters) {
         Ok(order) => Ok(order),
         Err(OrderFault::Memory(failed)) => Err(failed),
         // The order of a problem is sound.
@@ -29,7 +27,7 @@ fn make_order(alloc: Global, problem: &Problem) -> Result<AnyOrder, AllocError>
     }
 }
 
-// The rules of the basis, or the first polynomial that is none.
+// The rules of the basis, or the first of its polynomials that is none.
 pub(crate) fn make_rules(
     alloc: Global,
     problem: &Problem,
@@ -38,9 +36,7 @@ pub(crate) fn make_rules(
     requires readable { IsReadableBasis problem.now.parts.quiver basis.now }
     requires claim { NamesClaim problem.now basis.now }
     ensures has_rules { OnOk result (HasRules problem.now basis.now) }
-    ensures rules { IfOk result (λ r. r.rules ≡ rules_of problem.now basis.now) }
-    ensures order { IfOk result (λ r. (u v : List ℕ) → made_cmp r.order u v ≡ order_of problem.now u v) }
-    ensures letters { IfOk result (λ r. letter_count problem.now.parts.quiver ≤ letters_of r.order) }
+    ensures rules { IfOk result (λ r. AreRulesOf problem.now basis.now r.order r.rules) }
     ensures refused { IfErr result (Refuses problem.now basis.now) }
 {
     let mut rules = Rules::new(alloc, make_order(alloc, problem)?)?;
