@@ -1,0 +1,3 @@
+pub mod ProblemLetters
+pub mod Passing
+pub mod NotRefused
