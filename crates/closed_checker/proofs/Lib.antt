@@ -1,3 +1,5 @@
+pub mod Readable
 pub mod ProblemLetters
 pub mod Passing
+pub mod MadeRules
 pub mod NotRefused
