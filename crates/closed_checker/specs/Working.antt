@@ -1,6 +1,7 @@
 -- What the functions of the check keep, step by step. What a closed basis is, Closed says.
-use Rattle.std.specs.Prelude.{◌≡◌, ◌≤◌, ⊤, ℕ, List, Result, Err}
+use Rattle.std.specs.Prelude.{◌≡◌, ◌≤◌, ⊤, ℕ, List, Result, Ok, Err}
 use Rattle.definitions.specs.Poly.{Term}
+use Rattle.nc_polynomial.specs.declared.poly.Poly.{Poly}
 use Rattle.quiver.specs.Declarations.{letter_count}
 use Rattle.word_orders.specs.declared.any.AnyOrder.{AnyOrder}
 use Rattle.word_orders.specs.Specified.{made_cmp, letters_of}
@@ -31,6 +32,11 @@ Explains r (halt.Steps limit) = r ≡ Err (halt.Steps limit)
 Explains r (halt.Overflow o) = r ≡ Err (halt.Overflow o)
 Explains r (halt.Size s) = r ≡ Err (halt.Size s)
 Explains r (halt.Memory e) = ⊤
+
+-- the result is this rest, or this fault
+abbrev pub IsAnswer : Result Poly ReduceFault → Result (List Term) ReduceFault → Type 0
+IsAnswer (Ok rest) r = r ≡ Ok rest.terms
+IsAnswer (Err fault) r = Explains r fault
 
 -- what is told of a fault in the part
 abbrev pub refusal_of : Part → ReduceFault → ClosedRefusal

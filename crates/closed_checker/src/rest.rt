@@ -1,5 +1,5 @@
 //! What the rules of a basis leave of a part of its check.
-ghost use Rattle.std.specs.Prelude.{◌≡◌, IfOk, IfErr, MatchResult, Ok};
+ghost use Rattle.std.specs.Prelude.{◌≡◌, IfOk, IfErr, Ok};
 ghost use Rattle.std.specs.List.{All};
 ghost use Rattle.word_core.specs.Letters.{IsOver};
 ghost use Rattle.word_orders.specs.Specified.{made_cmp, letters_of};
@@ -8,7 +8,7 @@ ghost use Rattle.ambiguities.specs.Ambiguities.{IsAmbiguity};
 ghost use Rattle.ambiguities.specs.SPolynomials.{s_polynomial_of};
 ghost use Rattle.closed_checker.specs.Rests.{rest_by, rest_of};
 ghost use Rattle.closed_checker.specs.Closed.{Reaches, Refuses};
-ghost use Rattle.closed_checker.specs.Working.{AreRulesOf, Explains, refusal_of};
+ghost use Rattle.closed_checker.specs.Working.{AreRulesOf, IsAnswer, refusal_of};
 
 use crate::limit::step_limit;
 use crate::{ClosedRefusal, Part};
@@ -49,8 +49,7 @@ fn refuse(part: Part, fault: ReduceFault) -> ClosedRefusal
 // What the rules leave of a polynomial within the limit of steps.
 fn reduce(rules: &Rules<AnyOrder>, poly: &Poly) -> Result<Poly, ReduceFault>
     requires { All (λ t. IsOver (letters_of rules.now.order) t.1) poly.now.terms }
-    ensures { MatchResult result (λ rest. rest_by (made_cmp rules.now.order) rules.now.rules (Ok poly.now.terms) ≡ Ok rest.terms)
-        (Explains (rest_by (made_cmp rules.now.order) rules.now.rules (Ok poly.now.terms))) }
+    ensures { IsAnswer result (rest_by (made_cmp rules.now.order) rules.now.rules (Ok poly.now.terms)) }
 {
     let reduced = rules.normal_form(poly, step_limit())?;
     Ok(reduced.rest)
@@ -59,8 +58,7 @@ fn reduce(rules: &Rules<AnyOrder>, poly: &Poly) -> Result<Poly, ReduceFault>
 // What they leave of the S-polynomial of an ambiguity.
 fn reduce_ambiguity(rules: &Rules<AnyOrder>, which: &Ambiguity) -> Result<Poly, ReduceFault>
     requires { IsAmbiguity rules.now.rules which.now }
-    ensures { MatchResult result (λ rest. rest_by (made_cmp rules.now.order) rules.now.rules (s_polynomial_of rules.now.rules which.now) ≡ Ok rest.terms)
-        (Explains (rest_by (made_cmp rules.now.order) rules.now.rules (s_polynomial_of rules.now.rules which.now))) }
+    ensures { IsAnswer result (rest_by (made_cmp rules.now.order) rules.now.rules (s_polynomial_of rules.now.rules which.now)) }
 {
     match s_poly(rules, which) {
         Ok(made) => reduce(rules, &made.poly),
@@ -77,7 +75,7 @@ fn reduce_part(
 ) -> Result<Poly, ReduceFault>
     requires reached { Reaches problem.now basis.now part }
     requires rules { AreRulesOf problem.now basis.now rules.now.order rules.now.rules }
-    ensures { MatchResult result (λ rest. rest_of problem.now basis.now part ≡ Ok rest.terms) (Explains (rest_of problem.now basis.now part)) }
+    ensures { IsAnswer result (rest_of problem.now basis.now part) }
 {
     match part {
         Part::Generator(number) => reduce(rules, problem.generators.at(number as usize - 1)),
