@@ -2,5 +2,5 @@ pub mod Readable
 pub mod ProblemLetters
 pub mod Passing
 pub mod MadeRules
-pub mod PartRests
+pub mod PartAnswers
 pub mod NotRefused
