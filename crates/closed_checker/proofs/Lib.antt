@@ -4,3 +4,12 @@ pub mod Passing
 pub mod MadeRules
 pub mod PartAnswers
 pub mod NotRefused
+pub mod Ends
+pub mod ByNumber
+pub mod BasisRules
+pub mod RulesDecided
+pub mod PartRests
+pub mod PartOrder
+pub mod Refusals
+pub mod Judged
+pub mod ClosedMeaning
