@@ -1,6 +1,13 @@
 use Rattle.std.proofs.Common.{rules}
+use Rattle.closed_checker.specs.Closed.{IsClosedBasis}
+use Rattle.closed_checker.proofs.ClosedMeaning.{closed_bases_mean_outside}
 use Rattle.closed_checker.proofs.NotRefused.{complete}
 use Rattle.closed_checker.proofs.check.confirm_closed.Goals as goal
+
+pub returns-clause-means : goal.returns-clause-means
+returns-clause-means c =
+    let closed : IsClosedBasis c.args.problem.now c.args.basis.now = search rules in
+    closed_bases_mean_outside c.args.problem.now c.args.basis.now c.requires closed
 
 pub returns-in_err-reduce_generators-clause-complete : goal.returns-in_err-reduce_generators-clause-complete
 returns-in_err-reduce_generators-clause-complete c =
