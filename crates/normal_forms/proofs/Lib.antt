@@ -1,0 +1,14 @@
+pub mod Divisors
+pub mod Field
+pub mod Rationals
+pub mod FieldLaws
+pub mod Induction
+pub mod Forms
+pub mod Collect
+pub mod Congruence
+pub mod Normal
+pub mod Products
+pub mod NormalCategory
+pub mod Sharp
+pub mod Units
+pub mod Stated

@@ -1,0 +1,6 @@
+pub mod Numbers
+pub mod Fractions
+pub mod Forms
+pub mod RationalForms
+pub mod Descents
+pub mod NormalForms
