@@ -202,7 +202,7 @@ module _ {K : Type 0} (k : Field K) where
             top N b x = k.int_only (d.difference N) (sym (k.plus_none (k.int (d.difference N))) ∙ ap (λ z. k.plus (k.int (d.difference N)) z) (sym (ap (k.times D) (irreducible_look q N x.number x.left x.right x.has x.top iq) ∙ times_none k D)) ∙ sym (d.is N) ∙ ap (k.times D) (irreducible_look p N x.number x.left x.right x.has x.top ip) ∙ times_none k D)
 
             zero_all : (w : Word) → d.difference w ≡ pos 0
-            zero_all = no_reducible_word o g (everything o) res d.difference top d.span
+            zero_all = no_reducible_word o g res d.difference top d.span
 
             equal : (w : Word) → look k p w ≡ look k q w
             equal w = int_same d.denominator d.positive (d.is w ∙ ap (λ z. k.plus (k.int z) (k.times D (look k q w))) (zero_all w) ∙ ap (λ z. k.plus z (k.times D (look k q w))) (int_none k) ∙ none_plus k (k.times D (look k q w)))

@@ -8,7 +8,7 @@ use Rattle.definitions.specs.Category.{Structure, IsArrow, PreadditiveLaws}
 use Rattle.definitions.proofs.Paths.{leads-append, fits_from_path, path_from_fits, Step, step}
 use Rattle.normal_forms.proofs.Field.{Field, numbers_of}
 use Rattle.normal_forms.specs.Forms.{Form}
-use Rattle.normal_forms.specs.NormalForms.{NormalMap, LeadsInPlay, IsAscending, structure_of}
+use Rattle.normal_forms.specs.Maps.{NormalMap, LeadsInPlay, IsAscending, structure_of}
 use Rattle.definitions.specs.Poly.{Word, Term}
 use Rattle.confluence.proofs.TermWords.{AllWords}
 use Rattle.word_orders.specs.Orders.{Order}

@@ -11,7 +11,7 @@ use Rattle.definitions.specs.Soundness.{HasValueZero, HasValueZeroAt}
 use Rattle.definitions.proofs.Linear.{word_eq-true}
 use Rattle.definitions.proofs.Paths.{step, Step}
 use Rattle.normal_forms.proofs.Field.{Field, numbers_of}
-use Rattle.normal_forms.specs.NormalForms.{NormalMap, letter_map}
+use Rattle.normal_forms.specs.Maps.{NormalMap, letter_map}
 use Rattle.confluence.proofs.TermWords.{map_words}
 use Rattle.confluence.proofs.Spans.{Coefs, Span, nothing, more, part}
 use Rattle.word_orders.specs.Orders.{Order}

@@ -3,4 +3,4 @@ pub mod Fractions
 pub mod Forms
 pub mod RationalForms
 pub mod Descents
-pub mod NormalForms
+pub mod Maps
