@@ -44,7 +44,7 @@ module _ {K : Type 0} (k : Field K) (o : Order) (g : Rules o) where
   normal_each P kept _ _ (keep c w p q i e) a = (a.0, normal_each P kept p q e a.1)
   normal_each P kept _ _ (step c w i l r n p q h e m d) a = each-append P n q (normal_each P kept (lower c i l r) n m (each-lower P (λ u. l ++ (u ++ r)) _ (g.rule i).tail (kept i l r h (subst P e a.0)))) (normal_each P kept p q d a.1)
 
-  tail_less : (i : ℕ) (l r w : Word) → g.Has i → w ≡ l ++ ((g.rule i).lead ++ r) → o.Range w → AllWords (λ u. o.Less (l ++ (u ++ r)) w) (g.rule i).tail
+  pub tail_less : (i : ℕ) (l r w : Word) → g.Has i → w ≡ l ++ ((g.rule i).lead ++ r) → o.Range w → AllWords (λ u. o.Less (l ++ (u ++ r)) w) (g.rule i).tail
   tail_less i l r w h e m = go (g.rule i).tail (g.below i h)
     where
       go : (p : List Term) → AllWords (λ u. o.Less u (g.rule i).lead) p → AllWords (λ u. o.Less (l ++ (u ++ r)) w) p

@@ -8,13 +8,14 @@ use Rattle.std.proofs.Math.Nat.{mul_comm, mul_assoc, dvd-mul_left, eq-one_of_dvd
 use Rattle.std.proofs.Math.Bridge.{le_prop}
 use Rattle.std.proofs.Math.IntN.{*ℤ_comm, zero-*ℤ, +ℤ_idr, +ℤ_invr}
 use Prim.Native.Nat.{◌∣◌}
-use Rattle.normal_forms.proofs.Field.{Field}
+use Rattle.normal_forms.proofs.Field.{Field, numbers_of}
+use Rattle.normal_forms.proofs.Homomorphisms.{IsHomomorphism}
 use Rattle.definitions.proofs.Integers.{+ℤ-*ℤ, *ℤ-+ℤ, *ℤ_assoc, *ℤ-neg_ℤ, *ℤ_zero}
 
 
 use Rattle.coef_int.specs.Divisor.{gcd_of}
 use Rattle.coef_int.proofs.Divisors.{gcd_of-IsGcd}
-use Rattle.normal_forms.specs.Fractions.{IsLowest, is_zero, quotient}
+use Rattle.normal_forms.specs.Fractions.{Fraction, IsLowest, is_zero, quotient, over as fraction_over, fraction_sum, fraction_product, fraction_negative, whole, part_of, fractions}
 use Rattle.normal_forms.proofs.Divisors.{divides_other}
 
 neg_ℤ-*ℤ : (a b : ℤ) → neg_ℤ a *ℤ b ≡ neg_ℤ (a *ℤ b)
@@ -325,3 +326,46 @@ rationals = record {
 pub none_test : (x : Rational) → rationals.is_none x ≡ is_zero x.top
 unfolding rationals
 none_test x = refl
+
+-- the fraction alone
+abbrev pub raw : Rational → Fraction
+raw x = record { top = x.top; bottom = x.bottom }
+
+raw-over : (a : ℤ) (b : ℕ) → raw (over a b) ≡ fraction_over a b
+unfolding over fraction_over
+raw-over a zero = refl
+raw-over a (suc b) = refl
+
+raw-plus : (x y : Rational) → raw (rational_plus x y) ≡ fraction_sum (raw x) (raw y)
+unfolding rational_plus fraction_sum
+raw-plus x y = raw-over (x.top *ℤ pos y.bottom +ℤ y.top *ℤ pos x.bottom) (x.bottom * y.bottom)
+
+raw-times : (x y : Rational) → raw (rational_times x y) ≡ fraction_product (raw x) (raw y)
+unfolding rational_times fraction_product
+raw-times x y = raw-over (x.top *ℤ y.top) (x.bottom * y.bottom)
+
+raw-minus : (x : Rational) → raw (rational_minus x) ≡ fraction_negative (raw x)
+unfolding rational_minus fraction_negative
+raw-minus x = refl
+
+raw-int : (a : ℤ) → raw (rational_int a) ≡ whole a
+unfolding rational_int whole
+raw-int a = refl
+
+raw-part : (n : ℕ) → raw (rational_part n) ≡ part_of n
+unfolding rational_part part_of
+raw-part n = raw-over (pos 1) n
+
+pub raw_is_homomorphism : IsHomomorphism (numbers_of rationals) fractions raw
+unfolding rationals
+raw_is_homomorphism = record { one = raw-int (pos 1); plus = raw-plus; minus = raw-minus; times = raw-times; int = raw-int; part = raw-part; is_none = λ x. refl }
+
+-- and read again
+abbrev pub read : Fraction → Rational
+read x = over x.top x.bottom
+
+pub read_raw : (x : Rational) → read (raw x) ≡ x
+read_raw x = value_unique (over x.top x.bottom) x x.top x.bottom (over_value x.top x.bottom x.lowest.positive) (self_value x)
+
+pub raw_read : (x : Fraction) → IsLowest x.top x.bottom → raw (read x) ≡ x
+raw_read x lowest = ap raw (read_raw (record { top = x.top; bottom = x.bottom; lowest = lowest }))
