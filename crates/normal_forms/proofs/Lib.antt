@@ -16,3 +16,5 @@ pub mod Sharp
 pub mod Units
 pub mod Stated
 pub mod Images
+pub mod Plain
+pub mod Basis

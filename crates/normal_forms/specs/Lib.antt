@@ -4,3 +4,5 @@ pub mod Forms
 pub mod RationalForms
 pub mod Descents
 pub mod Maps
+pub mod NormalForms
+pub mod SharpMeans
