@@ -10,12 +10,12 @@ use Rattle.word_core.proofs.CanonicalLaws.{word_cmp-admissible}
 use Rattle.normal_forms.specs.Maps.{comes_before}
 use Rattle.normal_forms.proofs.Collect.{Sorting}
 
-from_test : (x : Ordering) → is_lt x ≡ true → x ≡ Less
+pub from_test : (x : Ordering) → is_lt x ≡ true → x ≡ Less
 from_test Less e = refl
 from_test Equal e = absurd (cc)
 from_test Greater e = absurd (cc)
 
-before_total : (v w : Word) → (v ≡ w) ⊎ ((comes_before v w ≡ true) ⊎ (comes_before w v ≡ true))
+pub before_total : (v w : Word) → (v ≡ w) ⊎ ((comes_before v w ≡ true) ⊎ (comes_before w v ≡ true))
 before_total v w = go (word_cmp v w) refl
   where
     go : (x : Ordering) → word_cmp v w ≡ x → (v ≡ w) ⊎ ((comes_before v w ≡ true) ⊎ (comes_before w v ≡ true))
@@ -23,7 +23,7 @@ before_total v w = go (word_cmp v w) refl
     go Equal e = inl ((word_cmp-admissible 0).same v w e)
     go Greater e = inr (inr (ap is_lt (word_cmp_total.antisymm w v ∙ ap ordering_reverse e)))
 
-pub canonical : Sorting
+abbrev pub canonical : Sorting
 canonical = record {
   below = comes_before;
   irreflexive = λ w. ap is_lt (word_cmp-itself w);

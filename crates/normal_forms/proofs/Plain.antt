@@ -145,7 +145,7 @@ module _ (p : Parts) (rules : List Rule) (are : All (IsRule (letter_count p.quiv
   word_plain u v w = ap (λ z. record { source = u; target = v; form = z })
       (ap (λ x. collected fractions comes_before (normal_form p rules ((x, w) ∷ []))) (sym raw_is_homomorphism.one) ∙ sym (reduced_plain ((rationals.one, w) ∷ [])))
 
-  letter_plain : (a : ℕ) → (forms_representation p rules).arrow a ≡ plain ((normal_representation rationals exact_ground).arrow a)
+  pub letter_plain : (a : ℕ) → (forms_representation p rules).arrow a ≡ plain ((normal_representation rationals exact_ground).arrow a)
   letter_plain a = go (is_in_play p.quiver p.starred (numbers p.marked) a) (nat_lt a (quiver_of p.quiver).objects)
     where
       q : Quiver

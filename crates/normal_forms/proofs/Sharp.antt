@@ -98,14 +98,6 @@ module _ {K : Type 0} (k : Field K) (s : Ground k) where
   abbrev pub TermsPlay : List (ℤ × List ℕ) → Type 0
   TermsPlay p = AllByRecursion (λ t. AllPlay s.play t.1) p
 
-  -- Sharpness: a category in which each positive number cancels, and a representation in which exactly what the rules generate is zero.
-  pub record IsSharp (generators : List (List (ℤ × List ℕ))) (claim : List (ℤ × List ℕ)) : Type 0 where
-    pub laws : PreadditiveLaws S
-    pub represents : Represents S s.quiver normal_representation
-    pub cancels : (n : ℕ) → 0 < n → Cancels S (pos n)
-    pub generators_are_zero : AllByRecursion (HasValueZero S s.quiver normal_representation) generators
-    pub claim_is_not : (u v : ℕ) → u < s.quiver.objects → v < s.quiver.objects → IsTyped s.quiver u v claim → HasValueZeroAt S s.quiver normal_representation u v claim → ⊥
-
 module _ {K : Type 0} (k : Field K) (s : Ground k) (facts : Facts k s) where
   letter_good : (a : ℕ) → a < letters s.quiver → s.play a ≡ true → Good k s (source s.quiver a) (target s.quiver a) (a ∷ [])
   letter_good a h e = record { leads = one_letter s.quiver (source s.quiver a) (target s.quiver a) a h refl refl; plays = (e, tt); unit = λ q. absurd (clash a [] q) }
@@ -290,16 +282,3 @@ module _ {K : Type 0} (k : Field K) (s : Ground k) (facts : Facts k s) where
 
   pub zero_ideal : (p : List (ℤ × List ℕ)) (u v : ℕ) → u < s.quiver.objects → v < s.quiver.objects → (TermsPlay k s) p → IsTyped s.quiver u v p → HasValueZeroAt (S k s) s.quiver (normal_representation k s) u v p → Span (AnyRow s.order s.rules) (coefficient_of p)
   zero_ideal p u v hu hv a typed e = cong_none_span k s.order s.rules p (cong_trans k s.order s.rules _ _ _ (cong_sym k s.order s.rules _ _ (value_like u v p hu hv a typed)) (cong_same k s.order s.rules _ _ (ap (λ z. z.form) e)))
-
-  all_zero : (generators : List (List (ℤ × List ℕ))) → AllByRecursion (λ p. (TermsPlay k s) p × Span (AnyRow s.order s.rules) (coefficient_of p)) generators → AllByRecursion (HasValueZero (S k s) s.quiver (normal_representation k s)) generators
-  all_zero [] a = tt
-  all_zero (p ∷ generators) a = (ideal_zero p a.0.0 a.0.1, all_zero generators a.1)
-
-  pub sharp : (generators : List (List (ℤ × List ℕ))) (claim : List (ℤ × List ℕ)) → AllByRecursion (λ p. (TermsPlay k s) p × Span (AnyRow s.order s.rules) (coefficient_of p)) generators → (TermsPlay k s) claim → (Span (AnyRow s.order s.rules) (coefficient_of claim) → ⊥) → (IsSharp k s) generators claim
-  sharp generators claim a play outside = record {
-    laws = normal_laws k s facts;
-    represents = normal_represents;
-    cancels = normal_cancels;
-    generators_are_zero = all_zero generators a;
-    claim_is_not = λ u v hu hv typed e. outside (zero_ideal claim u v hu hv play typed e);
-  }

@@ -1,4 +1,4 @@
--- Sharpness for the generators_of of a statement.
+-- What a statement and its rules have to meet, and that the laws follow.
 use Rattle.std.proofs.Common.{◌≡◌, ℕ, ◌<◌, ◌≤◌, refl, sym, ap, subst, ◌∙◌, Bool, true, false, ◌||◌, cond, List, [], ◌∷◌, ◌++◌, ℤ, ◌⊎◌, inl, inr, true≢false, ltb, lt-ltb, ltb-true, arith}
 use Rattle.std.proofs.lemmas.Bool.{and_parts, and_from, cases_lt}
 use Rattle.std.specs.Prelude.{◌&&◌, nat_eq, nat_lt, nat_le, if◌then◌else◌}
@@ -6,7 +6,7 @@ use Rattle.std.specs.List.{AllByRecursion, list_any}
 use Rattle.definitions.specs.Quiver.{Quiver, IsQuiver, letters, source, target, star}
 use Rattle.definitions.specs.Generators.{generators_of, left_unit, right_unit}
 use Rattle.normal_forms.proofs.Field.{Field}
-use Rattle.definitions.specs.Poly.{Word, coefficient_of}
+use Rattle.definitions.specs.Poly.{Word, Term, coefficient_of}
 use Rattle.confluence.proofs.Spans.{Span}
 use Rattle.word_orders.specs.Orders.{Order}
 use Rattle.confluence.proofs.Meets.{Rules, Resolved}
@@ -17,7 +17,6 @@ use Rattle.normal_forms.proofs.Collect.{Sorting}
 use Rattle.normal_forms.proofs.Congruence.{AnyRow}
 use Rattle.normal_forms.proofs.Normal.{Normal}
 use Rattle.normal_forms.proofs.NormalCategory.{AllPlay, Ground, Facts, IsTypedRule}
-use Rattle.normal_forms.proofs.Sharp.{TermsPlay, IsSharp, sharp}
 use Rattle.normal_forms.proofs.Units.{unit_itself, unit_of_target, unit_of_source, unit_like}
 
 -- a declared map, its adjoint where the statement is starred, or the identity of a marked object
@@ -28,12 +27,12 @@ module _ {K : Type 0} (k : Field K) (o : Order) (g : Rules o) (normal : Form K �
   abbrev pub ground : Ground k
   ground = record { order = o; rules = g; normal = normal; sorting = sorting; quiver = q; play = in_play count q starred marked; marked = λ v. list_any (nat_eq v) marked }
 
-  -- The letters are in play, and a positive multiple is a sum of rows over the rules.
-  abbrev pub IsGenerated : List (ℤ × List ℕ) → Type 0
-  IsGenerated p = TermsPlay k ground p × Span (AnyRow o g) (coefficient_of p)
+  -- a positive multiple is a sum of rows over the rules
+  abbrev pub IsGenerated : List Term → Type 0
+  IsGenerated p = Span (AnyRow o g) (coefficient_of p)
 
   -- What is asked of the rules.
-  pub record Conditions (assumptions : List (List (ℤ × List ℕ))) : Type 0 where
+  pub record Conditions (assumptions : List (List Term)) : Type 0 where
     pub count_is : count ≡ letters q
     pub normal_is : (p : Form K) → Each o.Range p → Normal k o g p (normal p)
     pub resolved : Resolved o g (everything o)
@@ -65,7 +64,7 @@ module _ {K : Type 0} (k : Field K) (o : Order) (g : Rules o) (normal : Form K �
       go true h m = inl (ltb-true a q.objects h, m)
       go false h m = inr (not_below a q.objects h, m)
 
-  pub facts_of : (assumptions : List (List (ℤ × List ℕ))) → Conditions assumptions → Facts k ground
+  pub facts_of : (assumptions : List (List Term)) → Conditions assumptions → Facts k ground
   facts_of assumptions c = record {
     normal_is = c.normal_is;
     resolved = c.resolved;
@@ -75,8 +74,8 @@ module _ {K : Type 0} (k : Field K) (o : Order) (g : Rules o) (normal : Form K �
     typed = c.typed;
     marked_play = λ v h m. and_from (ltb v count) _ (lt-ltb v count (subst (λ n. v < n) (sym c.count_is) (c.is_quiver.identity_is_letter v h))) (ap (λ b. cond b (list_any (nat_eq v) marked) (starred || nat_le v (star q v))) (lt-ltb v q.objects h) ∙ m);
     play_marked = λ v h e. by_mark v h (plays_of v e).which;
-    unit_left = λ v a hv m ha e t. unit_like k o g (v ∷ a ∷ []) (a ∷ []) (left v a m (plays_of a e) t).1;
-    unit_right = λ v a hv m ha e t. unit_like k o g (a ∷ v ∷ []) (a ∷ []) (right v a m (plays_of a e) t).1;
+    unit_left = λ v a hv m ha e t. unit_like k o g (v ∷ a ∷ []) (a ∷ []) (left v a m (plays_of a e) t);
+    unit_right = λ v a hv m ha e t. unit_like k o g (a ∷ v ∷ []) (a ∷ []) (right v a m (plays_of a e) t);
   }
     where
       by_mark : (v : ℕ) → v < q.objects → ((v < q.objects) × (list_any (nat_eq v) marked ≡ true)) ⊎ ((q.objects ≤ v) × ((starred || nat_le v (star q v)) ≡ true)) → list_any (nat_eq v) marked ≡ true
@@ -96,7 +95,3 @@ module _ {K : Type 0} (k : Field K) (o : Order) (g : Rules o) (normal : Form K �
           go : ((a < q.objects) × (list_any (nat_eq a) marked ≡ true)) ⊎ ((q.objects ≤ a) × ((starred || nat_le a (star q a)) ≡ true)) → IsGenerated (right_unit v a)
           go (inl x) = subst (λ z. IsGenerated (right_unit v z)) (sym t ∙ c.is_quiver.identity_source a x.0) (unit_itself q starred marked assumptions IsGenerated c.generated v m)
           go (inr x) = unit_of_source q starred marked assumptions IsGenerated c.generated v a m x.0 (subst (λ n. a < n) c.count_is p.letter) x.1 t
-
-  -- Where the generators_of are in the rational ideal of the rules and the claim isn't, some category makes the generators_of zero and the claim not.
-  pub statement_sharp : (assumptions : List (List (ℤ × List ℕ))) (claim : List (ℤ × List ℕ)) → Conditions assumptions → TermsPlay k ground claim → (Span (AnyRow o g) (coefficient_of claim) → ⊥) → IsSharp k ground (generators_of q starred marked assumptions) claim
-  statement_sharp assumptions claim c play outside = sharp k ground (facts_of assumptions c) (generators_of q starred marked assumptions) claim c.generated play outside

@@ -93,7 +93,7 @@ module _ {K : Type 0} (k : Field K) (letters : ℕ) (compare : Compare) (rank : 
   abbrev below : Word → Word → Bool
   below = is_below letters compare
 
-  no_lead : (word : Word) → HasNoLead rules word → Irreducible k o g word
+  pub no_lead : (word : Word) → HasNoLead rules word → Irreducible k o g word
   no_lead word none = record { at = λ i l r has e. at i l r e (rule_of_number rules i has) }
     where
       at : (i : ℕ) (l r : Word) → word ≡ l ++ ((g.rule i).lead ++ r) → ((f : Rule) × (rule_at rules i ≡ Some f)) → ⊥

@@ -23,9 +23,9 @@ pub record HasOtherForm (p : Parts) (rules : List Rule) (claim : Poly) : Type 0 
 
 -- The normal forms are a preadditive category in which each positive integer cancels, with a representation of what the statement
 -- declares in which all generators have the value zero, and the claim hasn't.
-pub record SharpMeans (p : Parts) (rules : List Rule) (claim : Poly) : Type 0 where
+pub record SharpMeans (p : Parts) (rules : List Rule) (poly : Poly) : Type 0 where
   pub laws : PreadditiveLaws (normal_forms p rules)
   pub cancels : (n : ℕ) → 0 < n → Cancels (normal_forms p rules) (pos n)
   pub represents : Represents (normal_forms p rules) (quiver_of p.quiver) (forms_representation p rules)
   pub generators : AllByRecursion (HasValueZero (normal_forms p rules) (quiver_of p.quiver) (forms_representation p rules)) (generators_in p)
-  pub claim : HasOtherForm p rules claim
+  pub claim : HasOtherForm p rules poly
