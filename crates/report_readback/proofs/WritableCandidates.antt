@@ -1,8 +1,7 @@
 -- A candidate that breaks a claim is a model that can be written.
-use Rattle.std.proofs.Common.{◌≡◌, ◌<◌, ◌≤◌, ◌&&◌, ℕ, Bool, true, false, cond, nat_eq, nat_le, List, Option, Some, None, refl, ap, ◌∙◌, subst, arith, length, get_or, IsTrue, sym, tt}
-use Rattle.std.proofs.Math.Option.{some-injective}
+use Rattle.std.proofs.Common.{◌≡◌, ◌<◌, ◌≤◌, ◌&&◌, ℕ, Bool, true, false, cond, nat_eq, nat_le, List, Option, Some, None, refl, sym, ap, ◌∙◌, subst, arith, length, get_or, IsTrue}
 use Rattle.std.specs.List.{list_all}
-use Rattle.std.proofs.lemmas.Bool.{and_parts, leb-le}
+use Rattle.std.proofs.lemmas.Bool.{and_parts, leb-true}
 use Rattle.std.proofs.lemmas.List.FromFn.{get_or-map-range_with_len}
 use Rattle.definitions.specs.Quiver.{IsQuiver, letters, star}
 use Rattle.quiver.specs.declared.named.Named.{Named}
@@ -59,11 +58,14 @@ pub record IsMade (problem : Problem) (m : Model) : Type 0 where
   pub values : List ℕ
   pub maps : m.maps ≡ (model_by (quiver_of problem.parts.quiver) shape 0 values).maps
 
+same_model : (m n : Model) → Some m ≡ Some n → m ≡ n
+same_model m n is = cc
+
 candidate_made : (problem : Problem) (number : ℕ) (s : Shape) (seed k : ℕ) (m : Model) → IsCandidate problem number s seed k (Some m) → IsMade problem m
 candidate_made problem number s seed k m (IsCandidate.numbered all is) =
-    record { shape = s; values = digits (quiver_of problem.parts.quiver) s k; maps = ap (λ (x : Model). x.maps) (some-injective m (model_by (quiver_of problem.parts.quiver) s 0 (digits (quiver_of problem.parts.quiver) s k)) is) }
+    record { shape = s; values = digits (quiver_of problem.parts.quiver) s k; maps = ap (λ (x : Model). x.maps) (same_model m (model_by (quiver_of problem.parts.quiver) s 0 (digits (quiver_of problem.parts.quiver) s k)) is) }
 candidate_made problem number s seed k m (IsCandidate.drawn not_all values greedy is) =
-    record { shape = s; values = values; maps = ap (λ (x : Model). x.maps) (some-injective m (model_by (quiver_of problem.parts.quiver) s 0 values) is) }
+    record { shape = s; values = values; maps = ap (λ (x : Model). x.maps) (same_model m (model_by (quiver_of problem.parts.quiver) s 0 values) is) }
 candidate_made problem number s seed k m (IsCandidate.unsolvable not_all none is) = absurd (cc)
 
 module _ (problem : Problem) (m : Model) (made : IsMade problem m) (refutes : HaveMatrices (quiver_of problem.parts.quiver) m (letters (quiver_of problem.parts.quiver)))
@@ -78,8 +80,8 @@ module _ (problem : Problem) (m : Model) (made : IsMade problem m) (refutes : Ha
   at_map : (a : ℕ) → a < letters (quiver_of problem.parts.quiver) → is_declared_map (quiver_of problem.parts.quiver) a ≡ true → IsPlaced problem.parts.quiver m.modulus a (map_at m a)
   at_map a letter is =
       let both = and_parts (nat_le (quiver_of problem.parts.quiver).objects a) (nat_le a (star (quiver_of problem.parts.quiver) a)) is in
-      let behind : object_count problem.parts.quiver ≤ a = leb-le (object_count problem.parts.quiver) a both.0 in
-      let before : a ≤ star (quiver_of problem.parts.quiver) a = leb-le a (star (quiver_of problem.parts.quiver) a) both.1 in
+      let behind : object_count problem.parts.quiver ≤ a = leb-true (object_count problem.parts.quiver) a both.0 in
+      let before : a ≤ star (quiver_of problem.parts.quiver) a = leb-true a (star (quiver_of problem.parts.quiver) a) both.1 in
       let has = refutes.each a letter (record { map = behind; letter = letter; declared = before }) in
       let counted : a < letter_count problem.parts.quiver = subst (λ n. a < n) (letters-quiver_of problem.parts.quiver) letter in
       subst (IsPlaced problem.parts.quiver m.modulus a) (sym has.there)
