@@ -149,10 +149,9 @@ claims_are_evidence asked statement ending problem is answer =
 
 reports_meant : {Object Arrow : Type 0} {s : Structure Object Arrow} → PreadditiveLaws s → IsSound s → IsEvidenceSound s → (asked : Asked) (statement : List ℕ) (ending : Ending) (problem : Problem)
     → IsStated statement problem → AnswersClaims report_of asked problem ending → ReportsMeant s asked problem ending
-reports_meant laws sound with_lemmas asked statement ending problem is answer = record {
-  prints = prints_meant laws sound with_lemmas report_of asked ending problem answer;
-  own_evidence = claims_are_evidence asked statement ending problem is answer;
-}
+reports_meant laws sound with_lemmas asked statement ending problem is answer =
+    let prints = prints_meant laws sound with_lemmas report_of asked ending problem answer in
+    record { prints = prints; own_evidence = claims_are_evidence asked statement ending problem is prints.answer }
 
 -- and where the whole report is
 pub reports_owe : (asked : Asked) (statement : List ℕ)

@@ -4,7 +4,6 @@ use Rattle.std.specs.List.{All, AllZip, list_all}
 use Rattle.std.proofs.lemmas.List.Elements.{All-nil, All-cons, All-weaker}
 use Rattle.std.proofs.lemmas.List.FromFn.{length-range_with_len}
 use Rattle.std.proofs.lemmas.Slice.Zip.{AllZip-long}
-use Rattle.cofactor_trace.specs.declared.evidence.Evidence.{Evidence}
 use Rattle.matrix_models.specs.declared.model.Model.{Model}
 use Rattle.adjoint_rules.specs.declared.problem.Problem.{Problem}
 use Rattle.claim_decider.specs.Decided.{claim_numbers}
