@@ -13,6 +13,7 @@ use Rattle.traced_completion.specs.declared.budget.Budget.{Budget}
 use Rattle.traced_completion.specs.PlainRun.{setting_of}
 use Rattle.claim_decider.specs.declared.outcome.Outcome.{Outcome}
 use Rattle.claim_decider.specs.Decided.{claim_numbers, AreOutcomesOf, AreLastRules}
+use Rattle.model_candidates.specs.Candidates.{Breaks}
 use Rattle.block_text.specs.Fault.{no_block}
 use Rattle.block_text.specs.Lines.{block_limit}
 use Rattle.block_text.specs.Back.{is_named}
@@ -52,3 +53,8 @@ StatementReportsReadBackAsModels = (bytes : List ℕ) (statements : List Stateme
     → AreOutcomesOf (setting_of problem budget) form problem (claim_numbers problem) outcomes → AreVerdictsOf problem.parts.quiver outcomes verdicts
     → AreLastRules (setting_of problem budget) form problem (claim_numbers problem) rules → All (IsWritableModel problem.parts.quiver) (refuted_in verdicts)
     → IsReadAsModels problem.parts.quiver (report_of problem.parts.quiver rules verdicts) (refuted_in verdicts)
+
+-- A candidate that breaks a claim of a statement is such a model.
+abbrev pub BreakingCandidatesAreWritable : Type 0
+BreakingCandidatesAreWritable = (bytes : List ℕ) (statements : List Statement) (problem : Problem) (claim seed number k : ℕ) (m : Model)
+    → IsTreeOf bytes statements → IsProblemOf statements problem → Breaks problem claim seed number k m → IsWritableModel problem.parts.quiver m
