@@ -15,11 +15,8 @@ use Rattle.basis_text.specs.Bases.{other_words}
 use Rattle.basis_text.specs.Limits.{rule_limit}
 
 -- basis 1
-abbrev pub is_head : Line → Bool
-is_head line = is_pair (codes "basis") (codes "1") line
-
 abbrev pub begin : Line → Option Stage
-begin line = if is_head line then Some at.Headed else None
+begin line = if is_pair (codes "basis") (codes "1") line then Some at.Headed else None
 
 -- a rule more, where there may be one
 abbrev pub grown : ℕ → List Poly → Poly → Result Stage Flaw

@@ -64,6 +64,10 @@ pub data Bound : Type 0 where
   names : Bound
   numbers : Bound
 
+-- they count in this order
+abbrev pub bounds : List Bound
+bounds = names ∷ numbers ∷ []
+
 -- what a line is told for that passes the bound
 abbrev pub flaw_of : Bound → Flaw
 flaw_of names = UnknownName
@@ -83,14 +87,9 @@ other_words = codes "certificate" ∷ codes "model" ∷ codes "basis" ∷ []
 -- Shifts are a kind of block.
 abbrev pub shift_kind : List Declaration → Kind Shift
 shift_kind ds = record {
-  Tree = ShiftTokens;
-  lines_of = shift_front;
-  IsTree = IsShiftBlock;
+  Tree = ShiftTokens; lines_of = shift_front; IsTree = IsShiftBlock;
   others = other_words;
-  Bound = Bound;
-  bounds = names ∷ numbers ∷ [];
-  flaw_of = flaw_of;
-  Keeps = Keeps ds;
+  Bound = Bound; bounds = bounds; flaw_of = flaw_of; Keeps = Keeps ds;
   Says = λ t s. shift_value ds t ≡ Some s;
 }
 
