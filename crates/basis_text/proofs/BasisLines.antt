@@ -1,5 +1,5 @@
 -- Bases that keep bounds are read.
-use Rattle.std.proofs.Common.{◌≡◌, ◌≤◌, ◌<◌, ◌+◌, ℕ, true, List, [], ◌∷◌, ◌++◌, Some, Result, Ok, IsTrue, arith, refl, sym, ap, ◌∙◌, subst, map, length, nat_le, codes}
+use Rattle.std.proofs.Common.{◌≡◌, ◌≤◌, ◌<◌, ◌+◌, ℕ, List, [], ◌∷◌, ◌++◌, Some, Result, Ok, IsTrue, arith, refl, sym, ap, ◌∙◌, subst, map, length, nat_le, codes}
 use Rattle.std.specs.List.{All, AllZip}
 use Rattle.std.specs.Str.Parse.{digits_value}
 use Rattle.std.proofs.lemmas.Bool.{lt-leb}

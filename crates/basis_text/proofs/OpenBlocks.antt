@@ -1,5 +1,5 @@
 -- The first lines of a basis, by the place that stands behind them, and the blocks that go on with them.
-use Rattle.std.proofs.Common.{◌≡◌, ◌≤◌, ◌<◌, ◌+◌, ◌⊎◌, ℕ, List, [], ◌∷◌, ◌++◌, Some, Ok, Err, IsTrue, arith, refl, sym, ap, ap₂, ◌∙◌, subst, map, length, nat_le, leb-false, codes}
+use Rattle.std.proofs.Common.{◌≡◌, ◌≤◌, ◌<◌, ◌+◌, ◌⊎◌, ℕ, List, [], ◌∷◌, ◌++◌, Ok, Err, IsTrue, arith, refl, sym, ap, ap₂, ◌∙◌, subst, map, length, nat_le, leb-false, codes}
 use Rattle.std.specs.List.{All, AllZip}
 use Rattle.std.specs.Str.Parse.{digits_value}
 use Rattle.std.proofs.lemmas.List.{map-append, append-nil, length-append}
@@ -23,7 +23,7 @@ use Rattle.basis_text.specs.declared.place.BasisTerms.{BasisTerms}
 use Rattle.basis_text.specs.declared.place.Stage.{Stage}
 use Rattle.basis_text.specs.declared.place.Stage.TheVariants as at
 use Rattle.basis_text.specs.BasisBlocks.{BasisTokens, head_line, line_of_rule, line_of_rest, basis_front}
-use Rattle.basis_text.specs.BasisBounds.{Bound, names, writing, numbers, terms, words, rules, flaw_of, KeepsOne}
+use Rattle.basis_text.specs.BasisBounds.{Bound, names, writing, numbers, terms, words, rules, KeepsOne}
 use Rattle.basis_text.specs.Bases.{basis_kind}
 use Rattle.basis_text.specs.Limits.{rule_limit}
 use Rattle.basis_text.specs.Reading.{basis_by, grown, inside}

@@ -1,5 +1,5 @@
 -- What the reader of bases has to owe as a reader of blocks.
-use Rattle.std.proofs.Common.{◌≡◌, ◌++◌, ◌∷◌, [], false, List, Some, Ok, Err, refl, sym, ap, ◌∙◌, subst, codes}
+use Rattle.std.proofs.Common.{◌≡◌, ◌++◌, ◌∷◌, [], false, List, Some, Ok, Err, refl, sym, ◌∙◌, subst, codes}
 use Rattle.std.proofs.lemmas.List.Elements.{All-from_recursion}
 use Rattle.quiver.specs.Declarations.{Declaration}
 use Rattle.block_text.specs.declared.fault.Flaw.{Flaw}

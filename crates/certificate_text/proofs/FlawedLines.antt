@@ -1,5 +1,5 @@
 -- A line that is wrong at its place in a block: it does not fit the grammar, or it is the first that passes a bound.
-use Rattle.std.proofs.Common.{◌≡◌, ◌+◌, ℕ, ℤ, pos, List, [], ◌∷◌, ◌++◌, Some, None, Ok, Err, IsTrue, arith, refl, sym, ap, ap₂, ◌∙◌, subst, length, nat_le, append_assoc, append-nil, codes}
+use Rattle.std.proofs.Common.{◌≡◌, ◌+◌, ℕ, ℤ, pos, List, [], ◌∷◌, ◌++◌, Some, None, Ok, Err, IsTrue, arith, sym, ap, ap₂, ◌∙◌, subst, length, nat_le, append_assoc, append-nil, codes}
 use Rattle.std.specs.List.{All}
 use Rattle.std.specs.Option.{option_map}
 use Rattle.std.proofs.lemmas.List.Elements.{All-nil, All-push, All-from_recursion}
@@ -21,7 +21,7 @@ use Rattle.block_text.specs.Letters.{is_number, number_within}
 use Rattle.block_text.specs.Lines.{begins, number_limit, integer_limit, integer_of, claim_of, Line, claim_line}
 use Rattle.certificate_text.specs.Lines.{RowTokens, row_limit, is_value, is_row, denominator_of, lemma_digits, lemma_scale_of, goal_digits, goal_scale_of, row_tokens, row_values, row_of, over_lemma, lemma_row_of, grown}
 use Rattle.certificate_text.specs.Blocks.{ScaledTokens, PlainTokens, BlockTokens, plain, lemmas, row_line, head_line, denominator_line, IsPlainRow, IsPlainBlock}
-use Rattle.certificate_text.specs.Bounds.{Bound, names, numbers, words, rows, letters, rows_in, HasNames, IsScaledOf, flaw_of, KeepsOne}
+use Rattle.certificate_text.specs.Bounds.{Bound, names, numbers, words, rows, rows_in, HasNames, IsScaledOf, flaw_of, KeepsOne}
 use Rattle.certificate_text.specs.Reading.{in_rows, closed_by, scaled, lemma_row, in_lemma, in_goal, next}
 use Rattle.block_text.proofs.Results.{by_test, bind_ok, bind_err, asked_ok, asked_err}
 use Rattle.block_text.proofs.SaidLines.{number_unsaid}

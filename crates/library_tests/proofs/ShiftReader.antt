@@ -1,5 +1,5 @@
 -- The reader of shifts owes what a reader of blocks owes.
-use Rattle.std.proofs.Common.{arith, ◌≡◌, ◌&&◌, ◌<◌, ◌≤◌, ◌⊎◌, ◌++◌, ◌∷◌, [], ℕ, false, List, Option, Some, None, Result, Ok, Err, IfSome, IfOk, IsTrue, refl, sym, ap, ap₂, ◌∙◌, subst, codes, inl, inr}
+use Rattle.std.proofs.Common.{arith, ◌≡◌, ◌&&◌, ◌<◌, ◌≤◌, ◌⊎◌, ◌++◌, ◌∷◌, [], ℕ, false, List, Option, Some, None, Result, Ok, Err, IfSome, IfOk, IsTrue, refl, sym, ap, ap₂, ◌∙◌, subst, codes}
 use Rattle.std.specs.List.{All}
 use Rattle.std.specs.Str.Parse.{digits_value}
 use Rattle.std.proofs.lemmas.Bool.{and_parts}
@@ -10,7 +10,7 @@ use Rattle.word_core.specs.declared.letter.Letter.{Letter}
 use Rattle.quiver.specs.Declarations.{Declaration, letter_count}
 use Rattle.block_text.specs.declared.fault.CertFault.{CertFault}
 use Rattle.block_text.specs.declared.fault.Flaw.{Flaw}
-use Rattle.block_text.specs.declared.fault.Flaw.TheVariants.{BadLine, UnknownName, NumberTooLarge}
+use Rattle.block_text.specs.declared.fault.Flaw.TheVariants.{BadLine, UnknownName}
 use Rattle.block_text.specs.Fault.{ReadsText}
 use Rattle.block_text.specs.Letters.{is_letter, letter_of, is_number, number_within}
 use Rattle.block_text.specs.Tokens.{begins_comment}
