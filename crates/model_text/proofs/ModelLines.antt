@@ -1,5 +1,5 @@
 -- Models that keep bounds are read.
-use Rattle.std.proofs.Common.{◌≡◌, ◌≤◌, ℕ, true, false, List, [], ◌∷◌, ◌++◌, Some, Result, Ok, IsTrue, arith, refl, sym, ap, ◌∙◌, subst, map, nat_le, ap₂}
+use Rattle.std.proofs.Common.{◌≡◌, ◌≤◌, ℕ, false, List, [], ◌∷◌, ◌++◌, Some, Result, Ok, IsTrue, arith, refl, sym, ap, ◌∙◌, subst, map, nat_le, ap₂}
 use Rattle.std.specs.List.{All, AllZip, list_any}
 use Rattle.std.specs.Str.{bytes_eq}
 use Rattle.std.proofs.lemmas.Bool.{and_parts}

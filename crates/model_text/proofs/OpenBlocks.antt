@@ -22,7 +22,7 @@ use Rattle.model_text.specs.declared.place.Stage.{Stage}
 use Rattle.model_text.specs.declared.place.Stage.TheVariants as at
 use Rattle.model_text.specs.ModelBlocks.{EntryTokens, ModelTokens, head_line, modulus_line, entry_line, model_front, name_of, is_entry, is_modulus, IsModelBlock}
 use Rattle.matrix_models.specs.Limits.{modulus_limit}
-use Rattle.model_text.specs.ModelBounds.{Bound, names, numbers, sizes, value_of, HasName, IsBelow, IsSmall, flaw_of, KeepsOne}
+use Rattle.model_text.specs.ModelBounds.{Bound, names, numbers, sizes, value_of, HasName, IsBelow, IsSmall, KeepsOne}
 use Rattle.model_text.specs.Reading.{entry_tokens, entry_value, begun_of, modulus_digits, modulus_of, grown, inside}
 use Rattle.block_text.proofs.Owed.{Begins, IsStopped, misfit, passes, stopped_by, begins_as}
 use Rattle.block_text.proofs.SaidLines.{said_ok, said_err, within_limit, number_read, number_unsaid}

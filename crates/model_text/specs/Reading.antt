@@ -1,5 +1,5 @@
 -- How a reader of models goes over the lines of evidence text, and what it has made of the first ones. Only the reader's functions and proofs use it: what the models of a text are, Models says.
-use Rattle.std.specs.Prelude.{⊤, ℕ, ◌-◌, ◌&&◌, Bool, List, [], ◌∷◌, ◌++◌, length, map, nat_eq, nat_le, Option, Some, None, Result, Ok, Err, IsTrue, if◌then◌else◌, codes}
+use Rattle.std.specs.Prelude.{⊤, ℕ, ◌-◌, ◌&&◌, List, [], ◌∷◌, ◌++◌, length, map, nat_eq, nat_le, Option, Some, None, Result, Ok, Err, IsTrue, if◌then◌else◌, codes}
 use Rattle.std.specs.List.{flat_map, list_all, list_any, range_with_len}
 use Rattle.std.specs.Option.{option_map, option_and_then}
 use Rattle.std.specs.Str.{bytes_eq}
