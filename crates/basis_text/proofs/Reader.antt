@@ -62,8 +62,7 @@ module _ (ds : List Declaration) where
   pub reader : IsReader (basis_kind ds) (basis_steps ds)
   reader = record {
     told = told;
-    no_misfit = refl;
-    no_count = refl;
+    none_told = (refl, refl);
     others = refl;
     words = All-from_recursion (λ word. begins_comment word ≡ false) other_words (refl, (refl, tt));
     IsOpen = IsOpen ds;

@@ -32,4 +32,5 @@ BasesAreReadBack = (ds : List Declaration) → IsDeclared ds → IsTrue (list_al
 
 -- The bases of a text of written bases, comments and blocks of other kinds are those bases, in their order.
 abbrev pub ArePartsReadBack : Type 0
-ArePartsReadBack = (ds : List Declaration) → IsDeclared ds → IsTrue (list_all is_named ds) → AreReadInParts (HasBases ds) (text_of ds) (IsWritableBasis ds) other_words
+ArePartsReadBack = (ds : List Declaration) → IsDeclared ds → IsTrue (list_all is_named ds)
+    → AreReadInParts (HasBases ds) (text_of ds) (IsWritableBasis ds) other_words

@@ -68,10 +68,9 @@ module _ {Value : Type 0} (kind : Kind Value) where
   begins_as within front others line other fronts lines begins = subst (Begins within) (ap₂ (λ ls l. ls ++ l ∷ []) (sym fronts) (sym lines)) begins
 
   pub record IsReader {Begun : Type 0} (steps : Steps Begun Value) : Type 1 where
-    -- each bound is told apart, and from what no bound is told for
+    -- each bound is told apart, and none is told for a line that doesn't fit or for a block too many
     pub told : (bound : kind.Bound) → bound_of kind.flaw_of kind.bounds (kind.flaw_of bound) ≡ Some bound
-    pub no_misfit : bound_of kind.flaw_of kind.bounds BadLine ≡ None
-    pub no_count : bound_of kind.flaw_of kind.bounds (TooMany block_limit) ≡ None
+    pub none_told : (bound_of kind.flaw_of kind.bounds BadLine ≡ None) × (bound_of kind.flaw_of kind.bounds (TooMany block_limit) ≡ None)
     -- blocks of other kinds begin with the words of the kind, which aren't comments
     pub others : steps.others ≡ kind.others
     pub words : All (λ word. begins_comment word ≡ false) kind.others

@@ -37,12 +37,12 @@ module _ {Begun Value : Type 0} (kind : Kind Value) (steps : Steps Begun Value) 
 
   same_bound : (a b : TextBound kind.Bound) → flaw_of kind a ≡ flaw_of kind b → a ≡ b
   same_bound (on_block a) (on_block b) same = ap on_block (same_told reader a b same)
-  same_bound (on_block a) on_count same = absurd (told_for_none reader a (TooMany block_limit) reader.no_count (sym same))
-  same_bound on_count (on_block b) same = absurd (told_for_none reader b (TooMany block_limit) reader.no_count same)
+  same_bound (on_block a) on_count same = absurd (told_for_none reader a (TooMany block_limit) reader.none_told.1 (sym same))
+  same_bound on_count (on_block b) same = absurd (told_for_none reader b (TooMany block_limit) reader.none_told.1 same)
   same_bound on_count on_count same = refl
 
   no_misfit : (b : TextBound kind.Bound) → BadLine ≡ flaw_of kind b → ⊥
-  no_misfit (on_block b) same = told_for_none reader b BadLine reader.no_misfit same
+  no_misfit (on_block b) same = told_for_none reader b BadLine reader.none_told.0 same
   no_misfit on_count same = absurd (cc)
 
   -- a bound is kept where all are

@@ -97,14 +97,14 @@ module _ {Begun Value : Type 0} (kind : Kind Value) (steps : Steps Begun Value) 
 
     no_bad : (t : kind.Tree) → OwnMeets t → read_block steps (kind.lines_of t) ≡ Err BadLine → ⊥
     no_bad t (reads value is says) bad = absurd (cc)
-    no_bad t (passes bound is passed) bad = told_for_none reader bound BadLine reader.no_misfit (let same : BadLine ≡ kind.flaw_of bound = cc in same)
+    no_bad t (passes bound is passed) bad = told_for_none reader bound BadLine reader.none_told.0 (let same : BadLine ≡ kind.flaw_of bound = cc in same)
 
     own_by : (done : List Value) (t : kind.Tree) → length done < block_limit → OwnMeets t
         → Meets (told_for kind.flaw_of) K (AreRead done (own t ∷ [])) (run (step_at steps) (At done at.Outside) (kind.lines_of t ++ end_line ∷ []))
     own_by done t room (reads value is says) =
         reads (At (done ++ value ∷ []) at.Outside) (block_read done (kind.lines_of t) value room is) (record { values = value ∷ []; say = (says, tt); is = refl })
     own_by done t room (passes bound is passed) =
-        passes (on_block bound) (block_refused done (kind.lines_of t) (kind.flaw_of bound) (λ bad. told_for_none reader bound BadLine reader.no_misfit (sym bad)) room is) passed
+        passes (on_block bound) (block_refused done (kind.lines_of t) (kind.flaw_of bound) (λ bad. told_for_none reader bound BadLine reader.none_told.0 (sym bad)) room is) passed
 
     own_meets : (done : List Value) (t : kind.Tree) → kind.IsTree t → (K on_count → length done < block_limit) → ((bound : kind.Bound) → K (on_block bound) → kind.Keeps bound t)
         → Meets (told_for kind.flaw_of) K (AreRead done (own t ∷ [])) (run (step_at steps) (At done at.Outside) (kind.lines_of t ++ end_line ∷ []))

@@ -138,8 +138,7 @@ module _ (most : Format) (ds : List Declaration) where
   pub reader : IsReader (certificate_kind most ds) (certificate_steps most ds)
   reader = record {
     told = told;
-    no_misfit = refl;
-    no_count = refl;
+    none_told = (refl, refl);
     others = refl;
     words = All-from_recursion (λ word. begins_comment word ≡ false) other_words (refl, (refl, tt));
     IsOpen = IsOpen most ds;

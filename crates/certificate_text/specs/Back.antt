@@ -99,7 +99,8 @@ IsGood most ds e = IsOfFormat most e × IsWritableEvidence ds e
 -- Evidence that is written between whole lines and other lines is read as it is, behind the certificates that those before it
 -- have and before those that the others have.
 abbrev pub IsReadBack : Type 0
-IsReadBack = (most : Format) (ds : List Declaration) → IsDeclared ds → IsTrue (list_all is_named ds) → IsReadBetween (HasCertificates most ds) (evidence_text ds) (IsGood most ds)
+IsReadBack = (most : Format) (ds : List Declaration) → IsDeclared ds → IsTrue (list_all is_named ds)
+    → IsReadBetween (HasCertificates most ds) (evidence_text ds) (IsGood most ds)
 
 -- ---- texts of several parts
 
@@ -119,4 +120,5 @@ evidence_in parts = values_in parts
 
 -- The certificates of a text of such parts are those among the parts, in their order.
 abbrev pub ArePartsReadBack : Type 0
-ArePartsReadBack = (most : Format) (ds : List Declaration) → IsDeclared ds → IsTrue (list_all is_named ds) → AreReadInParts (HasCertificates most ds) (evidence_text ds) (IsGood most ds) other_words
+ArePartsReadBack = (most : Format) (ds : List Declaration) → IsDeclared ds → IsTrue (list_all is_named ds)
+    → AreReadInParts (HasCertificates most ds) (evidence_text ds) (IsGood most ds) other_words

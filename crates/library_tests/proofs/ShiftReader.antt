@@ -193,11 +193,18 @@ module _ (ds : List Declaration) where
 
   pub reader : IsReader (shift_kind ds) (shift_steps ds)
   reader = record {
-    told = told; no_misfit = refl; no_count = refl;
-    others = refl; words = All-from_recursion (λ word. begins_comment word ≡ false) other_words (refl, (refl, (refl, tt)));
-    IsOpen = IsOpen; begins = begins_by_head other_words IsOpen (codes "shift") (codes "1") at.Headed refl refl;
-    goes = λ s t front line. goes front line s t; goes_on = goes_on; ends = ends; stops = λ s front line flaw. stops front line s flaw;
-    reads = shift_meets; unique = λ t v w one two. same_Some v w (sym one ∙ two);
+    told = told;
+    none_told = (refl, refl);
+    others = refl;
+    words = All-from_recursion (λ word. begins_comment word ≡ false) other_words (refl, (refl, (refl, tt)));
+    IsOpen = IsOpen;
+    begins = begins_by_head other_words IsOpen (codes "shift") (codes "1") at.Headed refl refl;
+    goes = λ s t front line. goes front line s t;
+    goes_on = goes_on;
+    ends = ends;
+    stops = λ s front line flaw. stops front line s flaw;
+    reads = shift_meets;
+    unique = λ t v w one two. same_Some v w (sym one ∙ two);
   }
 
   -- ---- what holds of each shift

@@ -87,9 +87,14 @@ other_words = codes "certificate" ∷ codes "model" ∷ codes "basis" ∷ []
 -- Shifts are a kind of block.
 abbrev pub shift_kind : List Declaration → Kind Shift
 shift_kind ds = record {
-  Tree = ShiftTokens; lines_of = shift_front; IsTree = IsShiftBlock;
+  Tree = ShiftTokens;
+  lines_of = shift_front;
+  IsTree = IsShiftBlock;
   others = other_words;
-  Bound = Bound; bounds = bounds; flaw_of = flaw_of; Keeps = Keeps ds;
+  Bound = Bound;
+  bounds = bounds;
+  flaw_of = flaw_of;
+  Keeps = Keeps ds;
   Says = λ t s. shift_value ds t ≡ Some s;
 }
 

@@ -182,5 +182,6 @@ pub fn texts_are_told()
 /// The laws that shifts that are written are read as they are, whatever stands around them, where objects and maps have names of
 /// the language. They have nothing to run.
 pub fn shifts_are_read_back()
-    ensures { (ds : List Declaration) → IsDeclared ds → IsTrue (list_all is_named ds) → AreReadBack (HasShifts ds) (shift_text ds) (IsWritable ds) other_words }
+    ensures { (ds : List Declaration) → IsDeclared ds → IsTrue (list_all is_named ds)
+        → AreReadBack (HasShifts ds) (shift_text ds) (IsWritable ds) other_words }
 {}
