@@ -10,7 +10,7 @@ use Rattle.definitions.specs.Poly.{Poly as Terms}
 use Rattle.nc_polynomial.specs.declared.poly.Poly.{Poly}
 use Rattle.quiver.specs.Declarations.{Declaration, IsDeclared}
 use Rattle.block_text.specs.Back as blocks
-use Rattle.block_text.specs.Back.{is_named, values_in}
+use Rattle.block_text.specs.Back.{Part, is_named, values_in}
 use Rattle.block_text.specs.Lines.{claim_line, end_line}
 use Rattle.block_text.specs.PolynomialBack.{IsPolynomialLine}
 use Rattle.block_text.specs.PolynomialLines.{PolynomialTokens, IsPolynomialTokens, IsPolynomialOf}
@@ -28,7 +28,7 @@ use Rattle.basis_text.specs.declared.place.BasisTerms.{BasisTerms}
 use Rattle.basis_text.specs.BasisBlocks.{BasisTokens, head_line, line_of_rule, line_of_rest, basis_front}
 use Rattle.basis_text.specs.BasisBounds.{Bound, names, writing, numbers, terms, words, rules}
 use Rattle.basis_text.specs.Bases.{other_words, basis_kind, by_terms}
-use Rattle.basis_text.specs.Back.{HasLetters, IsWritableBasis, text_of, Part, part_text, IsPart, bases_in, BasesAreReadBack, ArePartsReadBack}
+use Rattle.basis_text.specs.Back.{HasLetters, IsWritableBasis, text_of, BasesAreReadBack, ArePartsReadBack}
 use Rattle.basis_text.specs.Written.{rule_line, IsPolyOver}
 use Rattle.basis_text.proofs.Lines.{KeepsClaim, KeepsPolynomial, KeepsCount, block_keeps}
 use Rattle.basis_text.proofs.OpenBlocks.{block_of}
@@ -157,7 +157,7 @@ module _ (ds : List Declaration) (declared : IsDeclared ds) (known : IsTrue (lis
 -- ---- between other lines
 
 pub bases_are_read_back : BasesAreReadBack
-bases_are_read_back ds b before after first last declared known writable whole front end few =
+bases_are_read_back ds declared known b before after first last writable whole front end few =
     subst (HasBlocks (basis_kind ds) (before ++ text_of ds b ++ after)) (sym (map-append by_terms first (b ∷ last)))
     (written_between (basis_kind ds) (text_of ds b) (by_terms b) before after (map by_terms first) (map by_terms last) (basis_written ds declared known b writable) whole front end
     (omega (arith, few, length-map first by_terms, length-map last by_terms)))
@@ -165,12 +165,12 @@ bases_are_read_back ds b before after first last declared known writable whole f
 -- ---- texts of several parts
 
 -- the same by terms
-abbrev mapped : Part → blocks.Part BasisTerms
+abbrev mapped : Part Basis → Part BasisTerms
 mapped (blocks.block b) = blocks.block (by_terms b)
 mapped (blocks.comment text) = blocks.comment text
 mapped (blocks.other head ls) = blocks.other head ls
 
-values_mapped : (parts : List Part) → values_in (map mapped parts) ≡ map by_terms (bases_in parts)
+values_mapped : (parts : List (Part Basis)) → values_in (map mapped parts) ≡ map by_terms (values_in parts)
 values_mapped [] = refl
 values_mapped (blocks.block b ∷ parts) = ap (λ vs. by_terms b ∷ vs) (values_mapped parts)
 values_mapped (blocks.comment text ∷ parts) = values_mapped parts
@@ -190,12 +190,12 @@ module _ (ds : List Declaration) where
   text_mapped : (b : Basis) → text_by_terms (by_terms b) ≡ text_of ds b
   text_mapped b = ap (λ text. codes "basis 1\nclaim " ++ decimal b.claim ++ codes "\n" ++ text ++ codes "rest " ++ poly_text ds b.rest.terms ++ codes "\nend\n") (rules_mapped b.rules)
 
-  part_mapped : (p : Part) → blocks.part_text text_by_terms (mapped p) ≡ part_text ds p
+  part_mapped : (p : Part Basis) → blocks.part_text text_by_terms (mapped p) ≡ blocks.part_text (text_of ds) p
   part_mapped (blocks.block b) = text_mapped b
   part_mapped (blocks.comment text) = refl
   part_mapped (blocks.other head ls) = refl
 
-  parts_mapped : (parts : List Part) → flat_map (blocks.part_text text_by_terms) (map mapped parts) ≡ flat_map (part_text ds) parts
+  parts_mapped : (parts : List (Part Basis)) → flat_map (blocks.part_text text_by_terms) (map mapped parts) ≡ flat_map (blocks.part_text (text_of ds)) parts
   parts_mapped [] = refl
   parts_mapped (p ∷ parts) = ap₂ (λ (one more : List ℕ). one ++ more) (part_mapped p) (parts_mapped parts)
 
@@ -203,14 +203,17 @@ module _ (ds : List Declaration) where
   abbrev IsOfWritable : BasisTerms → Type 0
   IsOfWritable v = (b : Basis) × (by_terms b ≡ v) × IsWritableBasis ds b
 
-  part_good : (p : Part) → IsPart ds p → blocks.IsPart other_words IsOfWritable (mapped p)
+  abbrev IsWritablePart : Part Basis → Type 0
+  IsWritablePart p = blocks.IsPart other_words (IsWritableBasis ds) p
+
+  part_good : (p : Part Basis) → IsWritablePart p → blocks.IsPart other_words IsOfWritable (mapped p)
   part_good (blocks.block b) is = (b, refl, is)
   part_good (blocks.comment text) is = is
   part_good (blocks.other head ls) is = is
 
-  parts_good : (parts : List Part) → All (IsPart ds) parts → All (blocks.IsPart other_words IsOfWritable) (map mapped parts)
+  parts_good : (parts : List (Part Basis)) → All IsWritablePart parts → All (blocks.IsPart other_words IsOfWritable) (map mapped parts)
   parts_good [] each = All-nil (blocks.IsPart other_words IsOfWritable)
-  parts_good (p ∷ parts) each = All-cons (blocks.IsPart other_words IsOfWritable) (mapped p) (map mapped parts) (part_good p (All-head (IsPart ds) p parts each)) (parts_good parts (All-tail (IsPart ds) p parts each))
+  parts_good (p ∷ parts) each = All-cons (blocks.IsPart other_words IsOfWritable) (mapped p) (map mapped parts) (part_good p (All-head IsWritablePart p parts each)) (parts_good parts (All-tail IsWritablePart p parts each))
 
   terms_written : IsDeclared ds → IsTrue (list_all is_named ds) → (v : BasisTerms) → IsOfWritable v → IsWritten (basis_kind ds) (text_by_terms v) v
   terms_written declared known v good =
@@ -218,8 +221,8 @@ module _ (ds : List Declaration) where
       (subst (λ (text : List ℕ). IsWritten (basis_kind ds) text (by_terms good.0)) (sym (text_mapped good.0)) (basis_written ds declared known good.0 good.2))
 
 pub are_parts_read_back : ArePartsReadBack
-are_parts_read_back ds parts declared known each few =
-    subst (HasBlocks (basis_kind ds) (flat_map (part_text ds) parts)) (values_mapped parts)
+are_parts_read_back ds declared known parts each few =
+    subst (HasBlocks (basis_kind ds) (flat_map (blocks.part_text (text_of ds)) parts)) (values_mapped parts)
     (subst (λ (text : List ℕ). HasBlocks (basis_kind ds) text (values_in (map mapped parts))) (parts_mapped ds parts)
     (parts_have (basis_kind ds) (text_by_terms ds) (IsOfWritable ds) (terms_written ds declared known) (reader ds).words (map mapped parts) (parts_good ds parts each)
-    (omega (arith, few, ap length (values_mapped parts), length-map (bases_in parts) by_terms))))
+    (omega (arith, few, ap length (values_mapped parts), length-map (values_in parts) by_terms))))

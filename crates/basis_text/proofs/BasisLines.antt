@@ -1,12 +1,10 @@
 -- Bases that keep bounds are read.
-use Rattle.std.proofs.Common.{◌≡◌, ◌≤◌, ◌<◌, ◌+◌, ℕ, true, List, [], ◌∷◌, ◌++◌, Some, Result, Ok, IsTrue, arith, refl, sym, ap, ◌∙◌, subst, map, length, nat_le, codes}
+use Rattle.std.proofs.Common.{◌≡◌, ◌≤◌, ◌<◌, ◌+◌, ℕ, List, [], ◌∷◌, ◌++◌, Some, Result, Ok, IsTrue, arith, refl, sym, ap, ◌∙◌, subst, map, length, nat_le, codes}
 use Rattle.std.specs.List.{All, AllZip}
 use Rattle.std.specs.Str.Parse.{digits_value}
 use Rattle.std.proofs.lemmas.Bool.{lt-leb}
-use Rattle.std.proofs.lemmas.Bool.Decides.{nat_tests}
 use Rattle.std.proofs.lemmas.List.{append_assoc, append-nil, length-append}
 use Rattle.std.proofs.lemmas.List.Elements.{All-head, All-tail}
-use Rattle.std.proofs.lemmas.Option.{cond_some}
 use Rattle.definitions.specs.Poly.{Poly}
 use Rattle.quiver.specs.Declarations.{Declaration}
 use Rattle.block_text.specs.declared.fault.Flaw.{Flaw}
@@ -17,6 +15,7 @@ use Rattle.block_text.specs.PolynomialReading.{polynomial_of}
 use Rattle.block_text.proofs.Meets.{Meets, reads, passes, then_meets, meets-weaker, asked_meets, unless_meets}
 use Rattle.block_text.proofs.Owed.{read_inside, read_block}
 use Rattle.block_text.proofs.PartsBack.{begins_no_end}
+use Rattle.block_text.proofs.SaidLines.{within_limit, number_found}
 use Rattle.basis_text.specs.declared.place.BasisTerms.{BasisTerms}
 use Rattle.basis_text.specs.declared.place.Stage.{Stage}
 use Rattle.basis_text.specs.declared.place.Stage.TheVariants as at
@@ -95,17 +94,9 @@ module _ (K : Bound → Type 0) (ds : List Declaration) where
 
   -- ---- a basis
 
-  number_meets : (limit : ℕ) (digits : List ℕ) → (K numbers → digits_value 10 digits ≤ limit) → (K numbers → (n : ℕ) × (number_within limit digits ≡ Some n))
-  number_meets limit digits within kept =
-      let small : nat_le (digits_value 10 digits) limit ≡ true = grind (arith, nat_tests, within kept) in
-      (digits_value 10 digits, rw small refl)
-
   claim_meets : (claim : List ℕ) → IsTrue (is_number claim) → (K numbers → digits_value 10 claim ≤ number_limit)
       → Meets flaw_of K (λ s. (n : ℕ) × (number_within number_limit claim ≡ Some n) × (s ≡ at.Inside n [])) (next ds at.Headed (claim_line claim))
-  claim_meets claim number within = rw number (then_meets _ (asked_meets K numbers (number_within number_limit claim) (number_meets number_limit claim within)) (λ n _ n_is. reads _ refl (n, n_is, refl)))
-
-  value_is : (digits : List ℕ) (n : ℕ) → number_within number_limit digits ≡ Some n → n ≡ digits_value 10 digits
-  value_is digits n read = sym (cond_some (nat_le (digits_value 10 digits) number_limit) (digits_value 10 digits) n read).1
+  claim_meets claim number within = rw number (then_meets _ (asked_meets K numbers (number_within number_limit claim) (λ kept. number_found number_limit claim (within kept))) (λ n _ n_is. reads _ refl (n, n_is, refl)))
 
   pub basis_meets : (b : BasisTokens) → IsBasisBlock b → ((bound : Bound) → K bound → KeepsOne ds bound b) → Meets flaw_of K (IsBasisOf ds b) (read_block (basis_steps ds) (basis_front b))
   basis_meets b block keeps =
@@ -115,7 +106,7 @@ module _ (K : Bound → Type 0) (ds : List Declaration) where
       (lines_meet s_is.0 [] b.rules b.rest block.rules block.rest (λ bound kept. All-tail (KeepsPolynomial ds bound) b.rest b.rules (each bound kept))
       (λ bound kept. All-head (KeepsPolynomial ds bound) b.rest b.rules (each bound kept)) (λ kept. omega (arith, count_keeps ds b rules (keeps rules kept))))
       (λ basis _ found. record {
-        claim = ap (λ (v : BasisTerms). v.claim) found.is ∙ value_is b.claim s_is.0 s_is.1;
+        claim = ap (λ (v : BasisTerms). v.claim) found.is ∙ sym (within_limit number_limit b.claim s_is.0 s_is.1).0;
         rules = subst (λ (v : BasisTerms). AllZip (IsPolynomialOf ds) b.rules v.rules) (sym found.is) found.each;
         rest = subst (λ (v : BasisTerms). IsPolynomialOf ds b.rest v.rest) (sym found.is) found.says;
       })))

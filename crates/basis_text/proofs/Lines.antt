@@ -12,9 +12,10 @@ use Rattle.block_text.specs.declared.fault.Flaw.TheVariants.{BadLine}
 use Rattle.block_text.specs.Lines.{number_limit, Line}
 use Rattle.block_text.specs.PolynomialLines as tokens
 use Rattle.block_text.specs.PolynomialLines.{PolynomialTokens, polynomial_line, IsPolynomialTokens, IsPolynomialOf, HasKnownLetters, IsAsWritten, HasNumbersWithin, HasFewTerms, HasShortWords}
+use Rattle.block_text.proofs.Bounds as listed
 use Rattle.block_text.proofs.Standing.{everywhere}
 use Rattle.basis_text.specs.BasisBlocks.{BasisTokens}
-use Rattle.basis_text.specs.BasisBounds.{Bound, names, writing, numbers, terms, words, rules, flaw_of, polynomials, KeepsOne}
+use Rattle.basis_text.specs.BasisBounds.{Bound, names, writing, numbers, terms, words, rules, bounds, flaw_of, polynomials, KeepsOne}
 use Rattle.basis_text.specs.Limits.{rule_limit}
 
 -- ---- the bounds on a claim, on a polynomial and on the number of rules
@@ -94,12 +95,7 @@ module _ (ds : List Declaration) where
 
 -- the bounds in front of one
 abbrev pub before : Bound → List Bound
-before names = []
-before writing = names ∷ []
-before numbers = names ∷ writing ∷ []
-before terms = names ∷ writing ∷ numbers ∷ []
-before words = names ∷ writing ∷ numbers ∷ terms ∷ []
-before rules = names ∷ writing ∷ numbers ∷ terms ∷ words ∷ []
+before bound = listed.before flaw_of bounds bound
 
 -- The polynomial keeps all bounds and its terms were read, or what is told is told for the first bound that it passes.
 pub data IsJudged (ds : List Declaration) (t : PolynomialTokens) (r : Result Poly Flaw) : Type 0 where

@@ -1,39 +1,34 @@
 -- The first lines of a basis, by the place that stands behind them, and the blocks that go on with them.
-use Rattle.std.proofs.Common.{◌≡◌, ◌≤◌, ◌<◌, ◌+◌, ◌⊎◌, ℕ, List, [], ◌∷◌, ◌++◌, Some, Ok, Err, IsTrue, arith, refl, sym, ap, ap₂, ◌∙◌, subst, map, length, nat_le, leb-false, inl, inr, codes}
+use Rattle.std.proofs.Common.{◌≡◌, ◌≤◌, ◌<◌, ◌+◌, ◌⊎◌, ℕ, List, [], ◌∷◌, ◌++◌, Ok, Err, IsTrue, arith, refl, sym, ap, ap₂, ◌∙◌, subst, map, length, nat_le, leb-false, codes}
 use Rattle.std.specs.List.{All, AllZip}
 use Rattle.std.specs.Str.Parse.{digits_value}
-use Rattle.std.proofs.lemmas.Bool.Decides.{nat_tests}
 use Rattle.std.proofs.lemmas.List.{map-append, append-nil, length-append}
 use Rattle.std.proofs.lemmas.List.Elements.{All-nil, All-push, All-from_recursion}
-use Rattle.std.proofs.lemmas.Option.{cond_some}
 use Rattle.definitions.specs.Poly.{Poly}
 use Rattle.quiver.specs.Declarations.{Declaration}
 use Rattle.block_text.specs.declared.fault.Flaw.{Flaw}
-use Rattle.block_text.specs.declared.fault.Flaw.TheVariants.{BadLine, NumberTooLarge}
-use Rattle.block_text.specs.Fault.{asked}
+use Rattle.block_text.specs.declared.fault.Flaw.TheVariants.{BadLine}
 use Rattle.block_text.specs.Letters.{is_number, number_within}
-use Rattle.block_text.specs.Lines.{number_limit, is, number_behind, claim_of, Line, claim_line}
+use Rattle.block_text.specs.Lines.{number_limit, is, claim_of, Line, claim_line}
 use Rattle.block_text.specs.PolynomialLines as tokens
 use Rattle.block_text.specs.PolynomialLines.{PolynomialTokens, polynomial_line, IsPolynomialTokens, IsPolynomialOf}
 use Rattle.block_text.specs.PolynomialReading.{polynomial_of}
-use Rattle.block_text.proofs.LineTrees.{is_word, number_is}
-use Rattle.block_text.proofs.Owed.{Begins, IsWhole, IsStopped, misfit, passes, IsListed}
-use Rattle.block_text.proofs.Results.{by_test, bind_ok, bind_err, asked_ok, asked_err}
+use Rattle.block_text.proofs.LineTrees.{is_word}
+use Rattle.block_text.proofs.Owed.{Begins, IsWhole, IsStopped, misfit, passes, stopped_by, begins_as}
+use Rattle.block_text.proofs.Results.{by_test, bind_ok, bind_err}
+use Rattle.block_text.proofs.SaidLines.{number_read, number_unsaid}
 use Rattle.block_text.proofs.Standing.{everywhere}
 use Rattle.block_text.proofs.Zips.{zip_push, zip_length}
 use Rattle.basis_text.specs.declared.place.BasisTerms.{BasisTerms}
 use Rattle.basis_text.specs.declared.place.Stage.{Stage}
 use Rattle.basis_text.specs.declared.place.Stage.TheVariants as at
 use Rattle.basis_text.specs.BasisBlocks.{BasisTokens, head_line, line_of_rule, line_of_rest, basis_front}
-use Rattle.basis_text.specs.BasisBounds.{Bound, names, writing, numbers, terms, words, rules, flaw_of, KeepsOne}
+use Rattle.basis_text.specs.BasisBounds.{Bound, names, writing, numbers, terms, words, rules, KeepsOne}
 use Rattle.basis_text.specs.Bases.{basis_kind}
 use Rattle.basis_text.specs.Limits.{rule_limit}
 use Rattle.basis_text.specs.Reading.{basis_by, grown, inside}
 use Rattle.basis_text.proofs.Lines.{KeepsClaim, KeepsPolynomial, KeepsCount, block_keeps, zero_keeps, before, IsReadFrom, read_from, IsPassedBy, passed_from}
 use Rattle.basis_text.proofs.PolynomialLines.{line_judged}
-
-abbrev pub all_bounds : List Bound
-all_bounds = names ∷ writing ∷ numbers ∷ terms ∷ words ∷ rules ∷ []
 
 abbrev pub block_of : List ℕ → List PolynomialTokens → PolynomialTokens → BasisTokens
 block_of claim ts rest = record { claim = claim; rules = ts; rest = rest }
@@ -117,29 +112,21 @@ module _ (ds : List Declaration) where
 
 -- ---- what the lines say
 
--- a number within a limit
-within_limit : (limit : ℕ) (digits : List ℕ) (n : ℕ) → number_within limit digits ≡ Some n → (n ≡ digits_value 10 digits) × (digits_value 10 digits ≤ limit)
-within_limit limit digits n read =
-    let found = cond_some (nat_le (digits_value 10 digits) limit) (digits_value 10 digits) n read in
-    (sym found.1, grind (arith, nat_tests, found.0))
-
 pub next_headed : (ds : List Declaration) (front : List Line) (line : Line) (n : ℕ) → front ≡ head_line ∷ [] → claim_of line ≡ Ok n → IsInside ds n [] (front ++ line ∷ [])
 next_headed ds front line n headed read =
-    bind_ok (asked BadLine (number_behind (codes "claim") line)) _ n read (λ digits there within.
-    let known = number_is (codes "claim") line digits (asked_ok BadLine (number_behind (codes "claim") line) digits there) in
-    let value = within_limit number_limit digits n (asked_ok NumberTooLarge (number_within number_limit digits) n within) in
+    let known = number_read (codes "claim") number_limit line n read in
     record {
-      claim = digits;
-      number = known.1;
-      value = value.0;
-      within = value.1;
+      claim = known.there.digits;
+      number = known.there.number;
+      value = sym known.value;
+      within = known.within;
       rule_tokens = [];
       are_polynomials = All-nil IsPolynomialTokens;
       keep = λ bound. All-nil (KeepsPolynomial ds bound);
       few = omega arith;
       say = tt;
-      are = ap₂ (λ (ls : List Line) (l : Line). ls ++ l ∷ []) headed known.0;
-    })
+      are = ap₂ (λ (ls : List Line) (l : Line). ls ++ l ∷ []) headed known.there.is;
+    }
 
 module _ (ds : List Declaration) (n : ℕ) (ps : List Poly) (front : List Line) (here : IsInside ds n ps front) where
   -- the first lines with a rule more
@@ -208,30 +195,8 @@ counts_before n words = All-from_recursion (λ b. KeepsCount b n) (before words)
 counts_before n rules = All-from_recursion (λ b. KeepsCount b n) (before rules) (tt, (tt, (tt, (tt, (tt, tt)))))
 
 module _ (ds : List Declaration) where
-  -- where the bound stands among all
-  pub placed : (bound : Bound) → IsListed (basis_kind ds) bound
-  placed names = record { earlier = []; later = writing ∷ numbers ∷ terms ∷ words ∷ rules ∷ []; splits = refl }
-  placed writing = record { earlier = names ∷ []; later = numbers ∷ terms ∷ words ∷ rules ∷ []; splits = refl }
-  placed numbers = record { earlier = names ∷ writing ∷ []; later = terms ∷ words ∷ rules ∷ []; splits = refl }
-  placed terms = record { earlier = names ∷ writing ∷ numbers ∷ []; later = words ∷ rules ∷ []; splits = refl }
-  placed words = record { earlier = names ∷ writing ∷ numbers ∷ terms ∷ []; later = rules ∷ []; splits = refl }
-  placed rules = record { earlier = names ∷ writing ∷ numbers ∷ terms ∷ words ∷ []; later = []; splits = refl }
-
-  earlier_is : (bound : Bound) → (placed bound).earlier ≡ before bound
-  unfolding placed
-  earlier_is names = refl
-  earlier_is writing = refl
-  earlier_is numbers = refl
-  earlier_is terms = refl
-  earlier_is words = refl
-  earlier_is rules = refl
-
   abbrev pub Stopped : Flaw → List Line → Type 0
   Stopped flaw front = IsStopped (basis_kind ds) flaw front
-
-  stopped_at : (flaw : Flaw) (front : List Line) (bound : Bound) → flaw ≡ flaw_of bound → Begins (basis_kind ds) (before bound) front → Stopped flaw front
-  stopped_at flaw front bound told begins =
-      passes (placed bound).earlier (placed bound).later bound (placed bound).splits told (subst (λ (bs : List Bound). Begins (basis_kind ds) bs front) (sym (earlier_is bound)) begins)
 
   -- the claim is no number of its limit
   claim_before : (claim : List ℕ) → All (KeepsRules ds claim []) (before numbers)
@@ -240,12 +205,9 @@ module _ (ds : List Declaration) where
 
   module _ (flaw : Flaw) (front : List Line) where
     pub stopped_headed : (line : Line) → front ≡ head_line ∷ [] → claim_of line ≡ Err flaw → Stopped flaw (front ++ line ∷ [])
-    stopped_headed line headed read =
-        bind_err (asked BadLine (number_behind (codes "claim") line)) _ flaw read (λ e. misfit (asked_err BadLine (number_behind (codes "claim") line) flaw e)) (λ digits there large.
-        let known = number_is (codes "claim") line digits (asked_ok BadLine (number_behind (codes "claim") line) digits there) in
-        stopped_at flaw _ numbers (asked_err NumberTooLarge (number_within number_limit digits) flaw large)
-        (subst (Begins (basis_kind ds) (before numbers)) (ap₂ (λ (ls : List Line) (l : Line). ls ++ l ∷ []) (sym headed) (sym known.0))
-        (begin_rules ds (before numbers) digits [] known.1 (All-nil IsPolynomialTokens) (claim_before digits))))
+    stopped_headed line headed read = stopped_by (basis_kind ds) flaw _ (number_unsaid (codes "claim") (number_within number_limit) line flaw read) (λ found.
+        passes numbers found.0 (begins_as (basis_kind ds) (before numbers) front (head_line ∷ []) line (claim_line found.1.digits) headed found.1.is
+        (begin_rules ds (before numbers) found.1.digits [] found.1.number (All-nil IsPolynomialTokens) (claim_before found.1.digits))))
 
     module _ (n : ℕ) (ps : List Poly) (here : IsInside ds n ps front) (word : List ℕ) (line : Line) where
       abbrev StoppedHere : Type 0
@@ -256,22 +218,20 @@ module _ (ds : List Declaration) where
       line_is other t same are = sym (ap₂ (λ (w : List ℕ) (l : Line). front ++ (w ∷ l) ∷ []) same are)
 
       rule_passes : word ≡ codes "rule" → (flaw ≡ BadLine) ⊎ IsPassedBy ds line flaw → StoppedHere
-      rule_passes is_rule (inl bad) = misfit bad
-      rule_passes is_rule (inr passed) =
-          stopped_at flaw _ passed.bound passed.told (subst (Begins (basis_kind ds) (before passed.bound)) (line_is (codes "rule") passed.from is_rule passed.are)
-          (begin_rule ds n ps front here passed.from (before passed.bound) passed.is passed.keeps (counts_before _ passed.bound)))
+      rule_passes is_rule wrong = stopped_by (basis_kind ds) flaw _ wrong (λ passed.
+          passes passed.bound passed.told (subst (Begins (basis_kind ds) (before passed.bound)) (line_is (codes "rule") passed.from is_rule passed.are)
+          (begin_rule ds n ps front here passed.from (before passed.bound) passed.is passed.keeps (counts_before _ passed.bound))))
 
       rest_passes : word ≡ codes "rest" → (flaw ≡ BadLine) ⊎ IsPassedBy ds line flaw → StoppedHere
-      rest_passes is_rest (inl bad) = misfit bad
-      rest_passes is_rest (inr passed) =
-          stopped_at flaw _ passed.bound passed.told (subst (Begins (basis_kind ds) (before passed.bound)) (line_is (codes "rest") passed.from is_rest passed.are)
-          (begin_rest ds n ps front here passed.from (before passed.bound) passed.is passed.keeps))
+      rest_passes is_rest wrong = stopped_by (basis_kind ds) flaw _ wrong (λ passed.
+          passes passed.bound passed.told (subst (Begins (basis_kind ds) (before passed.bound)) (line_is (codes "rest") passed.from is_rest passed.are)
+          (begin_rest ds n ps front here passed.from (before passed.bound) passed.is passed.keeps)))
 
       -- there are as many rules as there may be
       rules_pass : word ≡ codes "rule" → (p : Poly) → IsReadFrom ds line p → grown n ps p ≡ Err flaw → StoppedHere
       rules_pass is_rule p found read =
           by_test (nat_le rule_limit (length ps)) _ _ (Err flaw) read
-          (λ full same. stopped_at flaw _ rules (cc) (subst (Begins (basis_kind ds) (before rules)) (line_is (codes "rule") found.from is_rule found.are)
+          (λ full same. passes rules (cc) (subst (Begins (basis_kind ds) (before rules)) (line_is (codes "rule") found.from is_rule found.are)
           (begin_rule ds n ps front here found.from (before rules) found.is (everywhere (λ b. KeepsPolynomial ds b found.from) found.keeps (before rules)) (counts_before _ rules))))
           (λ room made. absurd (cc))
 

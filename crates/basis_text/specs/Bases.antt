@@ -10,7 +10,7 @@ use Rattle.block_text.specs.Texts.{HasBlocks, IsBlocks}
 use Rattle.basis_text.specs.declared.basis.Basis.{Basis}
 use Rattle.basis_text.specs.declared.place.BasisTerms.{BasisTerms}
 use Rattle.basis_text.specs.BasisBlocks.{BasisTokens, basis_front, IsBasisBlock}
-use Rattle.basis_text.specs.BasisBounds.{Bound, names, writing, numbers, terms, words, rules, flaw_of, KeepsOne, IsBasisOf}
+use Rattle.basis_text.specs.BasisBounds.{Bound, bounds, flaw_of, KeepsOne, IsBasisOf}
 use Rattle.basis_text.specs.Written.{IsPolyOver}
 
 -- ---- bases
@@ -27,7 +27,7 @@ basis_kind ds = record {
   IsTree = IsBasisBlock;
   others = other_words;
   Bound = Bound;
-  bounds = names ∷ writing ∷ numbers ∷ terms ∷ words ∷ rules ∷ [];
+  bounds = bounds;
   flaw_of = flaw_of;
   Keeps = KeepsOne ds;
   Says = IsBasisOf ds;

@@ -1,5 +1,5 @@
 -- The bounds of bases in evidence text, in the order in which they count, and what its blocks say.
-use Rattle.std.specs.Prelude.{◌≡◌, ◌≤◌, ◌∷◌, List, length}
+use Rattle.std.specs.Prelude.{◌≡◌, ◌≤◌, List, [], ◌∷◌, length}
 use Rattle.std.specs.List.{All, AllZip}
 use Rattle.std.specs.Str.Parse.{digits_value}
 use Rattle.nc_polynomial.specs.Limits.{word_limit, term_limit}
@@ -30,6 +30,10 @@ pub data Bound : Type 0 where
   terms : Bound
   words : Bound
   rules : Bound
+
+-- they count in this order
+abbrev pub bounds : List Bound
+bounds = names ∷ writing ∷ numbers ∷ terms ∷ words ∷ rules ∷ []
 
 -- what a line is told for that passes the bound
 abbrev pub flaw_of : Bound → Flaw

@@ -3,6 +3,5 @@ pub mod BasisBlocks
 pub mod BasisBounds
 pub mod Written
 pub mod Bases
-pub mod EachText
 pub mod Reading
 pub mod Back

@@ -1,5 +1,5 @@
 -- How a reader of bases goes over the lines of evidence text, and what it has made of the first ones. Only the reader's functions and proofs use it: what the bases of a text are, Bases says.
-use Rattle.std.specs.Prelude.{ℕ, Bool, List, [], ◌∷◌, ◌++◌, length, nat_le, Option, Some, None, Result, Ok, Err, if◌then◌else◌, codes}
+use Rattle.std.specs.Prelude.{ℕ, List, [], ◌∷◌, ◌++◌, length, nat_le, Option, Some, None, Result, Ok, Err, if◌then◌else◌, codes}
 use Rattle.definitions.specs.Poly.{Poly}
 use Rattle.quiver.specs.Declarations.{Declaration}
 use Rattle.block_text.specs.declared.fault.Flaw.{Flaw}
@@ -15,11 +15,8 @@ use Rattle.basis_text.specs.Bases.{other_words}
 use Rattle.basis_text.specs.Limits.{rule_limit}
 
 -- basis 1
-abbrev pub is_head : Line → Bool
-is_head line = is_pair (codes "basis") (codes "1") line
-
 abbrev pub begin : Line → Option Stage
-begin line = if is_head line then Some at.Headed else None
+begin line = if is_pair (codes "basis") (codes "1") line then Some at.Headed else None
 
 -- a rule more, where there may be one
 abbrev pub grown : ℕ → List Poly → Poly → Result Stage Flaw

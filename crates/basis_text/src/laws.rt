@@ -1,25 +1,28 @@
 //! The laws of bases in evidence text. They have nothing to run.
+ghost use Rattle.std.specs.Prelude.{List};
+ghost use Rattle.block_text.specs.Laws.{EachIsRead, ValuesAreUnique, FaultIsUnique, ValuesHaveNoFault};
 ghost use Rattle.basis_text.specs.Back.{BasesAreReadBack, ArePartsReadBack};
-ghost use Rattle.basis_text.specs.EachText.{EachTextIsRead, BasesAreUnique, FirstFaultIsUnique, BasesHaveNoFault};
+ghost use Rattle.basis_text.specs.Bases.{IsBases, IsFirstFault};
+ghost use Rattle.quiver.specs.Declarations.{Declaration};
 
 /// Each text has bases, or a first fault.
 pub fn each_text_is_read()
-    ensures { EachTextIsRead }
+    ensures { (ds : List Declaration) → EachIsRead (IsBases ds) (IsFirstFault ds) }
 {}
 
 /// A text has one list of bases.
 pub fn bases_are_unique()
-    ensures { BasesAreUnique }
+    ensures { (ds : List Declaration) → ValuesAreUnique (IsBases ds) (IsFirstFault ds) }
 {}
 
 /// A text has one first fault.
 pub fn first_fault_is_unique()
-    ensures { FirstFaultIsUnique }
+    ensures { (ds : List Declaration) → FaultIsUnique (IsBases ds) (IsFirstFault ds) }
 {}
 
 /// A text that has bases has no fault.
 pub fn bases_have_no_fault()
-    ensures { BasesHaveNoFault }
+    ensures { (ds : List Declaration) → ValuesHaveNoFault (IsBases ds) (IsFirstFault ds) }
 {}
 
 /// The law that a basis that is written is read as it is, whatever whole lines stand before it and whatever follows. It has

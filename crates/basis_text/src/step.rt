@@ -3,14 +3,12 @@
 ghost use Rattle.std.specs.Prelude.{◌≡◌, [], ⊤};
 ghost use Rattle.block_text.specs.Fault.{Reads};
 ghost use Rattle.block_text.specs.Tokens.{tokens_of};
-ghost use Rattle.basis_text.specs.Reading.{is_head, grown, inside, next, basis_steps};
+ghost use Rattle.basis_text.specs.Reading.{grown, inside, next, basis_steps};
 ghost use Rattle.basis_text.specs.declared.place.Stage.TheVariants as stage;
 
 use crate::basis::RULE_LIMIT;
 use crate::place::{BasisTerms, Stage};
-use block_text::{
-    BlockKind, Flaw, LineFault, begins, claim_of, first_token, is, is_pair, read_polynomial,
-};
+use block_text::{BlockKind, Flaw, LineFault, claim_of, first_token, is, is_pair, read_polynomial};
 use lists::Listing;
 use quiver::Quiver;
 use std::alloc::{AllocError, Global};
@@ -20,12 +18,6 @@ use word_core::Word;
 #[derive(Clone, Copy)]
 pub struct Bases<'q> {
     pub quiver: &'q Quiver,
-}
-
-fn is_head(line: &[u8]) -> bool
-    ensures { result ≡ is_head (tokens_of line.now) }
-{
-    is_pair("basis", "1", line)
 }
 
 // The claim behind the head.
@@ -87,12 +79,12 @@ impl<'q> BlockKind for Bases<'q> {
 
     ghost is_sound = { λ kind stage. ⊤ };
 
-    fn is_other_head(&self, line: &[u8]) -> bool {
-        begins("certificate", line) || begins("model", line)
+    fn others(&self) -> &'static [&'static str] {
+        &["certificate", "model"]
     }
 
     fn begin(&self, _alloc: Global, line: &[u8]) -> Option<Stage> {
-        if is_head(line) {
+        if is_pair("basis", "1", line) {
             Some(Stage::Headed)
         } else {
             None

@@ -7,7 +7,10 @@ pub mod Puts
 pub mod Results
 pub mod Zips
 pub mod LineTrees
+mod Heads
 pub mod Meets
+pub mod SaidLines
+pub mod Bounds
 pub mod NumberedLines
 pub mod Stars
 pub mod NameBytes
@@ -36,3 +39,4 @@ mod FirstBounds
 mod ReadLines
 pub mod EachText
 pub mod PartsBack
+pub mod TextLaws

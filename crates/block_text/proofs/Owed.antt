@@ -1,18 +1,21 @@
 -- What a reader of a kind of block owes: facts of single blocks, from which those of whole texts follow.
-use Rattle.std.proofs.Common.{◌≡◌, false, List, [], ◌∷◌, ◌++◌, Some, Result, Ok, Err, refl, if◌then◌else◌}
+use Rattle.std.proofs.Common.{◌≡◌, ◌⊎◌, ℕ, false, List, [], ◌∷◌, ◌++◌, Some, None, Result, Ok, Err, refl, sym, ap, ap₂, ◌∙◌, subst, inl, inr, if◌then◌else◌}
 use Rattle.std.specs.List.{All}
 use Rattle.block_text.specs.declared.fault.Flaw.{Flaw}
 use Rattle.block_text.specs.declared.fault.Flaw.TheVariants.{BadLine, TooMany}
 use Rattle.block_text.specs.Fault.{◌>>=◌, asked}
 use Rattle.block_text.specs.Tokens.{begins_comment}
-use Rattle.block_text.specs.Lines.{Line, block_limit, is_end}
+use Rattle.block_text.specs.Lines.{Line, block_limit, is_end, is_pair}
 use Rattle.block_text.specs.Kind.{Kind}
 use Rattle.block_text.specs.Blocks.{is_other_head}
 use Rattle.block_text.specs.Steps.{Steps}
+use Rattle.block_text.proofs.Bounds.{bound_of, before}
+use Rattle.block_text.proofs.LineTrees.{pair_is}
 use Rattle.block_text.proofs.Meets.{Meets}
 use Rattle.block_text.proofs.NumberedLines.{run}
 use Rattle.block_text.proofs.Results.{bind_assoc}
 use Rattle.std.proofs.lemmas.List.Elements.{All-head, All-tail}
+use Rattle.std.proofs.lemmas.Option.{cond_some, same_Some}
 
 -- ---- a block whose lines are read
 
@@ -54,27 +57,27 @@ module _ {Value : Type 0} (kind : Kind Value) where
   -- The last line doesn't fit, or a block begins with the lines that keeps the bounds before one.
   pub data IsStopped (flaw : Flaw) (front : List Line) : Type 0 where
     misfit : flaw ≡ BadLine → IsStopped flaw front
-    passes : (earlier later : List kind.Bound) (bound : kind.Bound) → kind.bounds ≡ earlier ++ bound ∷ later → flaw ≡ kind.flaw_of bound → Begins earlier front → IsStopped flaw front
+    passes : (bound : kind.Bound) → flaw ≡ kind.flaw_of bound → Begins (before kind.flaw_of kind.bounds bound) front → IsStopped flaw front
 
-  -- where a bound stands among all
-  pub record IsListed (bound : kind.Bound) : Type 0 where
-    pub earlier : List kind.Bound
-    pub later : List kind.Bound
-    pub splits : kind.bounds ≡ earlier ++ bound ∷ later
+  pub stopped_by : {Found : Type 0} (flaw : Flaw) (front : List Line) → (flaw ≡ BadLine) ⊎ Found → (Found → IsStopped flaw front) → IsStopped flaw front
+  stopped_by flaw front (inl bad) stops = misfit bad
+  stopped_by flaw front (inr found) stops = stops found
+
+  -- with the lines of a block that are the same
+  pub begins_as : (within : List kind.Bound) (front others : List Line) (line other : Line) → front ≡ others → line ≡ other → Begins within (others ++ other ∷ []) → Begins within (front ++ line ∷ [])
+  begins_as within front others line other fronts lines begins = subst (Begins within) (ap₂ (λ ls l. ls ++ l ∷ []) (sym fronts) (sym lines)) begins
 
   pub record IsReader {Begun : Type 0} (steps : Steps Begun Value) : Type 1 where
-    -- the bounds are all listed, and told apart
-    pub listed : (bound : kind.Bound) → IsListed bound
-    pub apart : (a b : kind.Bound) → kind.flaw_of a ≡ kind.flaw_of b → a ≡ b
-    pub no_misfit : (bound : kind.Bound) → BadLine ≡ kind.flaw_of bound → ⊥
-    pub no_count : (bound : kind.Bound) → TooMany block_limit ≡ kind.flaw_of bound → ⊥
-    -- blocks of other kinds begin with the words of the kind, which aren't comments, and with no head of the kind
+    -- each bound is told apart, and none is told for a line that doesn't fit or for a block too many
+    pub told : (bound : kind.Bound) → bound_of kind.flaw_of kind.bounds (kind.flaw_of bound) ≡ Some bound
+    pub none_told : (bound_of kind.flaw_of kind.bounds BadLine ≡ None) × (bound_of kind.flaw_of kind.bounds (TooMany block_limit) ≡ None)
+    -- blocks of other kinds begin with the words of the kind, which aren't comments
     pub others : steps.others ≡ kind.others
     pub words : All (λ word. begins_comment word ≡ false) kind.others
-    pub heads : (line : Line) (b : Begun) → steps.begin line ≡ Some b → is_other_head kind.others line ≡ false
     -- the first lines of a block, by what was made of them
     pub IsOpen : Begun → List Line → Type 0
-    pub begins : (line : Line) (b : Begun) → steps.begin line ≡ Some b → IsOpen b (line ∷ [])
+    -- no head of the kind is one of another kind
+    pub begins : (line : Line) (b : Begun) → steps.begin line ≡ Some b → (is_other_head kind.others line ≡ false) × IsOpen b (line ∷ [])
     pub goes : (b c : Begun) (front : List Line) (line : Line) → IsOpen b front → is_end line ≡ false → steps.next b line ≡ Ok c → IsOpen c (front ++ line ∷ [])
     pub goes_on : (b : Begun) (front : List Line) → IsOpen b front → Begins kind.bounds front
     pub ends : (b : Begun) (front : List Line) (value : Value) → IsOpen b front → steps.finish b ≡ Some value → IsWhole front value
@@ -83,3 +86,21 @@ module _ {Value : Type 0} (kind : Kind Value) where
     pub reads : (K : kind.Bound → Type 0) (t : kind.Tree) → kind.IsTree t → ((bound : kind.Bound) → K bound → kind.Keeps bound t)
         → Meets kind.flaw_of K (λ value. kind.Says t value) (read_block steps (kind.lines_of t))
     pub unique : (t : kind.Tree) (v w : Value) → kind.Says t v → kind.Says t w → v ≡ w
+
+module _ {Value : Type 0} {kind : Kind Value} {Begun : Type 0} {steps : Steps Begun Value} (reader : IsReader kind steps) where
+  pub same_told : (a b : kind.Bound) → kind.flaw_of a ≡ kind.flaw_of b → a ≡ b
+  same_told a b same = same_Some a b (sym (reader.told a) ∙ ap (bound_of kind.flaw_of kind.bounds) same ∙ reader.told b)
+
+  pub told_for_none : (b : kind.Bound) (f : Flaw) → bound_of kind.flaw_of kind.bounds f ≡ None → f ≡ kind.flaw_of b → ⊥
+  told_for_none b f none same = let found = sym none ∙ ap (bound_of kind.flaw_of kind.bounds) same ∙ reader.told b in absurd (cc)
+
+-- ---- a head of two words
+
+-- where a reader that stands there behind the head stands, and no block of another kind begins
+pub begins_by_head : {Begun : Type 0} (others : List (List ℕ)) (IsOpen : Begun → List Line → Type 0) (first second : List ℕ) (b : Begun)
+    → is_other_head others (first ∷ second ∷ []) ≡ false → IsOpen b ((first ∷ second ∷ []) ∷ [])
+    → (line : Line) (c : Begun) → (if is_pair first second line then Some b else None) ≡ Some c → (is_other_head others line ≡ false) × IsOpen c (line ∷ [])
+begins_by_head others IsOpen first second b none is_open line c read =
+    let found = cond_some (is_pair first second line) b c read in
+    let known : first ∷ second ∷ [] ≡ line = sym (pair_is first second line found.0) in
+    (subst (λ l. is_other_head others l ≡ false) known none, subst (λ d. IsOpen d (line ∷ [])) found.1 (subst (λ l. IsOpen b (l ∷ [])) known is_open))

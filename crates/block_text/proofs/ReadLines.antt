@@ -2,17 +2,18 @@
 use Rattle.std.proofs.Common.{◌≡◌, ◌⊎◌, List, [], ◌∷◌, ◌++◌, Result, Ok, Err, refl, sym, ap, ◌∙◌, subst, inl, inr, append_assoc, append-nil, map}
 use Rattle.std.specs.List.{All, AllZip}
 use Rattle.block_text.specs.declared.fault.Flaw.{Flaw}
-use Rattle.block_text.specs.declared.fault.Flaw.TheVariants.{BadLine}
+use Rattle.block_text.specs.declared.fault.Flaw.TheVariants.{BadLine, TooMany}
 use Rattle.block_text.specs.declared.place.Place.{Place}
 use Rattle.block_text.specs.declared.place.Place.TheVariants as at
 use Rattle.block_text.specs.declared.place.Progress.{Progress}
 use Rattle.block_text.specs.Fault.{Fault, truncated}
-use Rattle.block_text.specs.Lines.{Line}
+use Rattle.block_text.specs.Lines.{Line, block_limit}
 use Rattle.block_text.specs.Kind.{Kind}
 use Rattle.block_text.specs.Blocks.{Block, own_in, AreBlocks, TextBound, on_block, on_count, Keeps, bounds, flaw_of}
 use Rattle.block_text.specs.Texts.{GoesOn, IsFlawed, misfit, passes, IsCutOff}
 use Rattle.block_text.specs.Steps.{Steps, progress, beginning, step, ended}
-use Rattle.block_text.proofs.Owed.{IsReader}
+use Rattle.block_text.proofs.Bounds.{before, listed}
+use Rattle.block_text.proofs.Owed.{IsReader, same_told, told_for_none}
 use Rattle.block_text.proofs.Results.{bind_ok}
 use Rattle.block_text.proofs.Meets as meets
 use Rattle.block_text.proofs.Meets.{Meets}
@@ -35,23 +36,27 @@ module _ {Begun Value : Type 0} (kind : Kind Value) (steps : Steps Begun Value) 
   -- ---- the flaws of bounds
 
   same_bound : (a b : TextBound kind.Bound) → flaw_of kind a ≡ flaw_of kind b → a ≡ b
-  same_bound (on_block a) (on_block b) same = ap on_block (reader.apart a b same)
-  same_bound (on_block a) on_count same = absurd (reader.no_count a (sym same))
-  same_bound on_count (on_block b) same = absurd (reader.no_count b same)
+  same_bound (on_block a) (on_block b) same = ap on_block (same_told reader a b same)
+  same_bound (on_block a) on_count same = absurd (told_for_none reader a (TooMany block_limit) reader.none_told.1 (sym same))
+  same_bound on_count (on_block b) same = absurd (told_for_none reader b (TooMany block_limit) reader.none_told.1 same)
   same_bound on_count on_count same = refl
 
   no_misfit : (b : TextBound kind.Bound) → BadLine ≡ flaw_of kind b → ⊥
-  no_misfit (on_block b) same = reader.no_misfit b same
+  no_misfit (on_block b) same = told_for_none reader b BadLine reader.none_told.0 same
   no_misfit on_count same = absurd (cc)
 
   -- a bound is kept where all are
   pub kept_at : (K : TextBound kind.Bound → Type 0) → All K (bounds kind) → (b : TextBound kind.Bound) → K b
   kept_at K all (on_block b) =
-      let listed = reader.listed b in
-      last_kept K (map_front listed.earlier) (on_block b) (up_to_kept K (bounds kind) (map_front listed.earlier) (map_front listed.later ++ on_count ∷ []) (on_block b) (split_up kind steps reader listed.earlier listed.later b listed.splits) all)
+      let place = listed kind.flaw_of kind.bounds b (reader.told b) in
+      last_kept K (map_front (before_it b)) (on_block b)
+      (up_to_kept K (bounds kind) (map_front (before_it b)) (map_front place.later ++ on_count ∷ []) (on_block b) (split_up kind steps reader (before_it b) place.later b place.splits) all)
     where
       map_front : List kind.Bound → List (TextBound kind.Bound)
       map_front bs = map on_block bs
+
+      before_it : kind.Bound → List kind.Bound
+      before_it bound = before kind.flaw_of kind.bounds bound
   kept_at K all on_count = last_kept K (map on_block kind.bounds) on_count all
 
   -- ---- a line

@@ -16,6 +16,7 @@ use Rattle.block_text.specs.Blocks.{Block, own, other, own_in, block_lines, IsBl
 use Rattle.block_text.specs.Texts.{GoesOn}
 use Rattle.block_text.specs.Steps.{Steps, progress, beginning, step, headed, finished, inside}
 use Rattle.block_text.proofs.LineTrees.{end_is}
+use Rattle.block_text.proofs.Bounds.{before, listed}
 use Rattle.block_text.proofs.Owed.{Begins, IsStopped, misfit, passes, IsReader}
 use Rattle.block_text.proofs.Results.{by_test, bind_ok, bind_err}
 use Rattle.block_text.proofs.TextLines.{own_in-append}
@@ -201,7 +202,7 @@ module _ {Begun Value : Type 0} (kind : Kind Value) (steps : Steps Begun Value) 
     headed_by : (r : Option Begun) → steps.begin line ≡ r → StandsAt at.Outside → headed steps done r line ≡ Ok q → Next
     headed_by (Some b) is stands read =
         by_test (nat_le block_limit (length done)) _ _ (Ok q) read (λ full e. absurd (cc)) (λ room made.
-        stays at.Outside stands (at.Inside b) (cc) (subst (λ (front : List Line). reader.IsOpen b (front ++ line ∷ [])) (sym stands.stands_in) (reader.begins line b is)) (leb-false block_limit (length done) room))
+        stays at.Outside stands (at.Inside b) (cc) (subst (λ (front : List Line). reader.IsOpen b (front ++ line ∷ [])) (sym stands.stands_in) (reader.begins line b is).1) (leb-false block_limit (length done) room))
     headed_by None is stands read =
         by_test (is_other_head steps.others line) _ _ (Ok q) read (λ known made.
         stays at.Outside stands at.Skipped (cc)
@@ -277,6 +278,9 @@ module _ {Begun Value : Type 0} (kind : Kind Value) (steps : Steps Begun Value) 
       ap (λ bs. map on_block bs ++ on_count ∷ []) splits ∙ ap (λ bs. bs ++ on_count ∷ []) (map-append on_block earlier (bound ∷ later))
       ∙ append_assoc (map on_block earlier) (on_block bound ∷ map on_block later) (on_count ∷ [])
 
+  abbrev before_it : kind.Bound → List kind.Bound
+  before_it bound = before kind.flaw_of kind.bounds bound
+
   module _ (ls : List Line) (done : List Value) (line : Line) (flaw : Flaw) where
     abbrev Before : Type 0
     Before = (flaw ≡ BadLine) ⊎ GoesUpTo (ls ++ line ∷ []) flaw
@@ -286,20 +290,22 @@ module _ {Begun Value : Type 0} (kind : Kind Value) (steps : Steps Begun Value) 
 
     stopped_in : (place : Place Begun) (stands : Stands ls (progress done place)) → IsStopped kind flaw (stands.front ++ line ∷ []) → Before
     stopped_in place stands (misfit same) = inl same
-    stopped_in place stands (passes earlier later bound splits told begins) = inr (record {
-      earlier = map on_block earlier;
-      later = map on_block later ++ on_count ∷ [];
-      bound = on_block bound;
-      splits = split_up earlier later bound splits;
-      told = told;
-      goes = subst (GoesOn kind (map on_block earlier)) (lines_are stands) (goes_on_with stands.text done stands.whole earlier (stands.front ++ line ∷ []) begins);
-    })
+    stopped_in place stands (passes bound told begins) =
+        let place = listed kind.flaw_of kind.bounds bound (reader.told bound) in
+        inr (record {
+          earlier = map on_block (before_it bound);
+          later = map on_block place.later ++ on_count ∷ [];
+          bound = on_block bound;
+          splits = split_up (before_it bound) place.later bound place.splits;
+          told = told;
+          goes = subst (GoesOn kind (map on_block (before_it bound))) (lines_are stands) (goes_on_with stands.text done stands.whole (before_it bound) (stands.front ++ line ∷ []) begins);
+        })
 
     stopped_head : (r : Option Begun) → steps.begin line ≡ r → Stands ls (progress done at.Outside) → headed steps done r line ≡ Err flaw → Before
     stopped_head (Some b) is stands read =
         by_test (nat_le block_limit (length done)) _ _ (Err flaw) read
         (λ full e.
-        let begins : reader.IsOpen b (stands.front ++ line ∷ []) = subst (λ (front : List Line). reader.IsOpen b (front ++ line ∷ [])) (sym stands.stands_in) (reader.begins line b is) in
+        let begins : reader.IsOpen b (stands.front ++ line ∷ []) = subst (λ (front : List Line). reader.IsOpen b (front ++ line ∷ [])) (sym stands.stands_in) (reader.begins line b is).1 in
         inr (record {
           earlier = map on_block kind.bounds;
           later = [];

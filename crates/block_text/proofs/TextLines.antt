@@ -14,7 +14,7 @@ use Rattle.block_text.specs.Lines.{Line, OtherTokens, block_limit, is_end, end_l
 use Rattle.block_text.specs.Kind.{Kind}
 use Rattle.block_text.specs.Blocks.{Block, own, other, own_in, block_lines, IsBlock, IsOtherBlock, TextBound, on_block, on_count, told_for, AreBlocks, Keeps, flaw_of, is_other_head}
 use Rattle.block_text.specs.Steps.{Steps, progress, beginning, step}
-use Rattle.block_text.proofs.Owed.{read_inside, read_block, IsReader}
+use Rattle.block_text.proofs.Owed.{read_inside, read_block, IsReader, told_for_none}
 use Rattle.block_text.proofs.Meets.{Meets, reads, passes, then_meets, meets-weaker}
 use Rattle.block_text.proofs.NumberedLines.{run, run-append}
 use Rattle.block_text.proofs.Results.{bind_ok, bind_err, by_test}
@@ -97,14 +97,14 @@ module _ {Begun Value : Type 0} (kind : Kind Value) (steps : Steps Begun Value) 
 
     no_bad : (t : kind.Tree) → OwnMeets t → read_block steps (kind.lines_of t) ≡ Err BadLine → ⊥
     no_bad t (reads value is says) bad = absurd (cc)
-    no_bad t (passes bound is passed) bad = reader.no_misfit bound (let same : BadLine ≡ kind.flaw_of bound = cc in same)
+    no_bad t (passes bound is passed) bad = told_for_none reader bound BadLine reader.none_told.0 (let same : BadLine ≡ kind.flaw_of bound = cc in same)
 
     own_by : (done : List Value) (t : kind.Tree) → length done < block_limit → OwnMeets t
         → Meets (told_for kind.flaw_of) K (AreRead done (own t ∷ [])) (run (step_at steps) (At done at.Outside) (kind.lines_of t ++ end_line ∷ []))
     own_by done t room (reads value is says) =
         reads (At (done ++ value ∷ []) at.Outside) (block_read done (kind.lines_of t) value room is) (record { values = value ∷ []; say = (says, tt); is = refl })
     own_by done t room (passes bound is passed) =
-        passes (on_block bound) (block_refused done (kind.lines_of t) (kind.flaw_of bound) (λ bad. reader.no_misfit bound (sym bad)) room is) passed
+        passes (on_block bound) (block_refused done (kind.lines_of t) (kind.flaw_of bound) (λ bad. told_for_none reader bound BadLine reader.none_told.0 (sym bad)) room is) passed
 
     own_meets : (done : List Value) (t : kind.Tree) → kind.IsTree t → (K on_count → length done < block_limit) → ((bound : kind.Bound) → K (on_block bound) → kind.Keeps bound t)
         → Meets (told_for kind.flaw_of) K (AreRead done (own t ∷ [])) (run (step_at steps) (At done at.Outside) (kind.lines_of t ++ end_line ∷ []))
@@ -126,7 +126,7 @@ module _ {Begun Value : Type 0} (kind : Kind Value) (steps : Steps Begun Value) 
       where
         by_cases : (r : Option Begun) → steps.begin line ≡ r → steps.begin line ≡ None
         by_cases None is = is
-        by_cases (Some b) is = let none : is_other_head kind.others line ≡ false = reader.heads line b is in absurd (cc)
+        by_cases (Some b) is = let none : is_other_head kind.others line ≡ false = (reader.begins line b is).0 in absurd (cc)
 
     skipped : (done : List Value) (lines : List Line) → All (λ line. is_end line ≡ false) lines → run (step_at steps) (At done at.Skipped) (lines ++ end_line ∷ []) ≡ Ok (At done at.Outside)
     skipped done [] none = refl

@@ -13,4 +13,5 @@ pub mod PolynomialBack
 pub mod PolynomialReading
 pub mod PolynomialFlaws
 pub mod Back
+pub mod Laws
 pub mod Views

@@ -60,12 +60,20 @@ number_behind word [] = None
 number_behind word (a ∷ []) = None
 number_behind word (a ∷ b ∷ c ∷ tokens) = None
 
+-- the value of the tokens of a line, which is told for this flaw where they say none
+abbrev pub said : {T A : Type 0} → (Line → Option T) → (T → Option A) → Flaw → Line → Result A Flaw
+said tokens value flaw line = asked BadLine (tokens line) >>= λ t. asked flaw (value t)
+
+-- the number behind a word, at most this
+abbrev pub number_of : List ℕ → ℕ → Line → Result ℕ Flaw
+number_of word most line = said (number_behind word) (number_within most) NumberTooLarge line
+
 -- claim N
 abbrev pub claim_line : List ℕ → Line
 claim_line n = codes "claim" ∷ n ∷ []
 
-abbrev pub claim_of : List (List ℕ) → Result ℕ Flaw
-claim_of line = asked BadLine (number_behind (codes "claim") line) >>= λ digits. asked NumberTooLarge (number_within number_limit digits)
+abbrev pub claim_of : Line → Result ℕ Flaw
+claim_of line = number_of (codes "claim") number_limit line
 
 -- a number as a positive integer or 0
 abbrev pub integer_of : List ℕ → Result ℤ Flaw

@@ -1,7 +1,6 @@
 //! What a kind of block has to offer to be read.
 
-ghost use Rattle.std.specs.Prelude.{◌≡◌, IfOk, IfSome};
-ghost use Rattle.block_text.specs.Blocks.{is_other_head};
+ghost use Rattle.std.specs.Prelude.{◌≡◌, map, IfOk, IfSome};
 ghost use Rattle.block_text.specs.Fault.{Reads};
 ghost use Rattle.block_text.specs.Steps.{Steps};
 ghost use Rattle.block_text.specs.Tokens.{tokens_of};
@@ -21,9 +20,9 @@ pub trait BlockKind {
     // What holds of a block whose lines go on.
     ghost is_sound: { Self → Self.Begun → Type 0 };
 
-    /// Whether a block of another kind begins.
-    fn is_other_head(&self, line: &[u8]) -> bool
-        ensures { result ≡ is_other_head (steps self.now).others (tokens_of line.now) };
+    /// The words that blocks of the other kinds begin with, which are skipped.
+    fn others(&self) -> &'static [&'static str]
+        ensures { map (λ word. word.now) result.now ≡ (steps self.now).others };
 
     /// The block that begins with the line, if one of the kind does.
     fn begin(&self, alloc: Global, line: &[u8]) -> Option<Self::Begun>

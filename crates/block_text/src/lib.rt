@@ -22,7 +22,8 @@ pub use kind::BlockKind;
 pub use laws::{polynomial_flaws_are_told, polynomial_lines_are_read, polynomials_are_read_back};
 pub use letter::{is_letter, letter_of, name_in};
 pub use line::{
-    BLOCK_LIMIT, begins, claim_of, integer_of, is, is_end, is_pair, number_behind, two_tokens,
+    BLOCK_LIMIT, begins, claim_of, integer_of, is, is_end, is_pair, number_behind, number_of,
+    two_tokens,
 };
 pub use number::{
     INTEGER_LIMIT, NUMBER_LIMIT, integer_within, is_integer, is_number, number_within,
@@ -30,4 +31,4 @@ pub use number::{
 pub use poly::{put_poly, write_poly};
 pub use polynomial::read_polynomial;
 pub use read::read_blocks;
-pub use write::{put, put_integer, put_number, put_word, write_word};
+pub use write::{put, put_integer, put_letter, put_number, put_word, write_word};

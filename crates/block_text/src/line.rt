@@ -3,7 +3,7 @@
 ghost use Rattle.std.specs.Prelude.{◌≡◌, IsTrue, IfSome};
 ghost use Rattle.std.specs.Option.{option_copied, option_map};
 ghost use Rattle.block_text.specs.Letters.{is_number};
-ghost use Rattle.block_text.specs.Lines.{is, begins, is_pair, is_end, number_behind, claim_of, integer_of};
+ghost use Rattle.block_text.specs.Lines.{is, begins, is_pair, is_end, number_behind, number_of, claim_of, integer_of};
 ghost use Rattle.block_text.specs.Tokens.{tokens_of, one_token, two_tokens};
 
 use crate::cut::first_token;
@@ -81,17 +81,24 @@ pub fn number_behind<'a>(word: &str, line: &'a [u8]) -> Option<&'a [u8]>
     }
 }
 
+/// The number behind a word, at most the limit, if the line is these.
+pub fn number_of(word: &str, most: u32, line: &[u8]) -> Result<u32, Flaw>
+    ensures { result ≡ number_of word.now most (tokens_of line.now) }
+{
+    let Some(digits) = number_behind(word, line) else {
+        return Err(Flaw::BadLine);
+    };
+    match number_within(u128::from(most), digits) {
+        Some(value) => Ok(value as u32),
+        None => Err(Flaw::NumberTooLarge),
+    }
+}
+
 /// The number of `claim N`.
 pub fn claim_of(line: &[u8]) -> Result<u32, Flaw>
     ensures { result ≡ claim_of (tokens_of line.now) }
 {
-    let Some(digits) = number_behind("claim", line) else {
-        return Err(Flaw::BadLine);
-    };
-    match number_within(NUMBER_LIMIT, digits) {
-        Some(value) => Ok(value as u32),
-        None => Err(Flaw::NumberTooLarge),
-    }
+    number_of("claim", NUMBER_LIMIT as u32, line)
 }
 
 /// A number as a positive integer or 0.

@@ -1,19 +1,36 @@
 //! Texts of blocks, line by line.
 
-ghost use Rattle.std.specs.Prelude.{◌≡◌, ◌<◌, IfOk, length};
+ghost use Rattle.std.specs.Prelude.{◌≡◌, ◌<◌, map, IfOk, length};
+ghost use Rattle.std.specs.List.{list_any};
 ghost use Rattle.std.specs.Str.Lines.{lines};
+ghost use Rattle.block_text.specs.Blocks.{is_other_head};
 ghost use Rattle.block_text.specs.Fault.{ReadsText, Reads, at_text};
 ghost use Rattle.block_text.specs.Steps.{headed, skipped_to, inside, step, read_tokens, read_lines, beginning, ended, one_or_more, values_of, all_values};
+ghost use Rattle.block_text.specs.Lines.{begins};
 ghost use Rattle.block_text.specs.Sound.{IsSound};
 ghost use Rattle.block_text.specs.Tokens.{tokens_of};
 
 use crate::cut::{first_line, is_skipped, is_utf8};
 use crate::fault::{CertFault, Flaw, LineFault, TextFlaw, at_line};
 use crate::kind::BlockKind;
-use crate::line::{BLOCK_LIMIT, is_end};
+use crate::line::{BLOCK_LIMIT, begins, is_end};
 use crate::place::{Place, Progress};
 use lists::Listing;
 use std::alloc::Global;
+
+// Whether the line begins with one of these words.
+fn begins_one_of(words: &[&str], line: &[u8]) -> bool
+    ensures { result ≡ list_any (λ word. begins word.now (tokens_of line.now)) words.now }
+{
+    words.iter().any(|word| begins(word, line))
+}
+
+// Whether a block of another kind begins.
+fn is_other_head(words: &[&str], line: &[u8]) -> bool
+    ensures { result ≡ is_other_head (map (λ word. word.now) words.now) (tokens_of line.now) }
+{
+    begins_one_of(words, line)
+}
 
 // A block begins, where there may be one more.
 fn headed<K: BlockKind>(
@@ -31,7 +48,7 @@ fn headed<K: BlockKind>(
             let place = Place::Inside { begun };
             Ok(Progress { values, place })
         }
-        None if kind.is_other_head(line) => {
+        None if is_other_head(kind.others(), line) => {
             let place = Place::Skipped;
             Ok(Progress { values, place })
         }

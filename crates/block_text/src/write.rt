@@ -34,7 +34,8 @@ pub fn put_integer(out: &mut Vec<u8>, integer: i128) -> Result<(), AllocError>
     put(out, buffer.format(integer))
 }
 
-fn put_letter(out: &mut Vec<u8>, quiver: &Quiver, letter: Letter) -> Result<(), AllocError>
+/// A letter behind bytes.
+pub fn put_letter(out: &mut Vec<u8>, quiver: &Quiver, letter: Letter) -> Result<(), AllocError>
     requires { letter.0 < letter_count quiver.now }
     ensures { OnOk result (out.new.items ≡ out.old.items ++ letter_text quiver.now letter.0) }
 {

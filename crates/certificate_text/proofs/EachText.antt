@@ -1,18 +1,25 @@
 -- Each text is evidence or has a first fault, in one way.
-use Rattle.certificate_text.specs.Evidence.{certificate_kind}
+use Rattle.std.proofs.Common.{List}
+use Rattle.quiver.specs.Declarations.{Declaration}
+use Rattle.cofactor_trace.specs.declared.evidence.Format.{Format}
+use Rattle.block_text.specs.Laws.{EachIsRead, ValuesAreUnique, FaultIsUnique, ValuesHaveNoFault, AreTold}
+use Rattle.block_text.proofs.TextLaws.{are_told}
+use Rattle.certificate_text.specs.Evidence.{certificate_kind, IsEvidence, IsFirstFault}
 use Rattle.certificate_text.specs.Reading.{certificate_steps}
-use Rattle.certificate_text.specs.EachText.{EachTextIsRead, EvidenceIsUnique, FirstFaultIsUnique, EvidenceHasNoFault}
-use Rattle.block_text.proofs.EachText.{text_is_read, values_are_unique, fault_is_unique, values_have_no_fault}
 use Rattle.certificate_text.proofs.Reader.{reader}
 
-pub each_text_is_read : EachTextIsRead
-each_text_is_read most ds bytes = text_is_read (certificate_kind most ds) (certificate_steps most ds) (reader most ds) bytes
+module _ (most : Format) (ds : List Declaration) where
+  told : AreTold (IsEvidence most ds) (IsFirstFault most ds)
+  told = are_told (certificate_kind most ds) (certificate_steps most ds) (reader most ds)
 
-pub evidence_is_unique : EvidenceIsUnique
-evidence_is_unique most ds bytes one two one_is two_is = values_are_unique (certificate_kind most ds) (certificate_steps most ds) (reader most ds) bytes one two one_is two_is
+  pub each_text_is_read : EachIsRead (IsEvidence most ds) (IsFirstFault most ds)
+  each_text_is_read = told.each_is_read
 
-pub first_fault_is_unique : FirstFaultIsUnique
-first_fault_is_unique most ds bytes one two one_is two_is = fault_is_unique (certificate_kind most ds) (certificate_steps most ds) (reader most ds) bytes one two one_is two_is
+  pub evidence_is_unique : ValuesAreUnique (IsEvidence most ds) (IsFirstFault most ds)
+  evidence_is_unique = told.values_are_unique
 
-pub evidence_has_no_fault : EvidenceHasNoFault
-evidence_has_no_fault most ds bytes es told is wrong = values_have_no_fault (certificate_kind most ds) (certificate_steps most ds) (reader most ds) bytes es told is wrong
+  pub first_fault_is_unique : FaultIsUnique (IsEvidence most ds) (IsFirstFault most ds)
+  first_fault_is_unique = told.fault_is_unique
+
+  pub evidence_has_no_fault : ValuesHaveNoFault (IsEvidence most ds) (IsFirstFault most ds)
+  evidence_has_no_fault = told.values_have_no_fault

@@ -1,5 +1,5 @@
 -- A line that is wrong at its place in a block: it does not fit the grammar, or it is the first that passes a bound.
-use Rattle.std.proofs.Common.{◌≡◌, ◌+◌, ℕ, ℤ, pos, List, [], ◌∷◌, ◌++◌, Some, None, Ok, Err, IsTrue, arith, refl, sym, ap, ap₂, ◌∙◌, subst, length, nat_le, append_assoc, append-nil, codes}
+use Rattle.std.proofs.Common.{◌≡◌, ◌+◌, ℕ, ℤ, pos, List, [], ◌∷◌, ◌++◌, Some, None, Ok, Err, IsTrue, arith, sym, ap, ap₂, ◌∙◌, subst, length, nat_le, append_assoc, append-nil, codes}
 use Rattle.std.specs.List.{All}
 use Rattle.std.specs.Option.{option_map}
 use Rattle.std.proofs.lemmas.List.Elements.{All-nil, All-push, All-from_recursion}
@@ -18,42 +18,20 @@ use Rattle.certificate_text.specs.declared.place.Stage.{Stage}
 use Rattle.certificate_text.specs.declared.place.Stage.TheVariants as at
 use Rattle.block_text.specs.Fault.{asked}
 use Rattle.block_text.specs.Letters.{is_number, number_within}
-use Rattle.block_text.specs.Lines.{begins, number_limit, integer_limit, integer_of, number_behind, claim_of, Line}
+use Rattle.block_text.specs.Lines.{begins, number_limit, integer_limit, integer_of, claim_of, Line, claim_line}
 use Rattle.certificate_text.specs.Lines.{RowTokens, row_limit, is_value, is_row, denominator_of, lemma_digits, lemma_scale_of, goal_digits, goal_scale_of, row_tokens, row_values, row_of, over_lemma, lemma_row_of, grown}
-use Rattle.certificate_text.specs.Blocks.{ScaledTokens, PlainTokens, BlockTokens, plain, lemmas, row_line, IsPlainRow, IsPlainBlock}
-use Rattle.certificate_text.specs.Bounds.{Bound, names, numbers, words, rows, letters, rows_in, HasNames, IsScaledOf, flaw_of, KeepsOne}
+use Rattle.certificate_text.specs.Blocks.{ScaledTokens, PlainTokens, BlockTokens, plain, lemmas, row_line, head_line, denominator_line, IsPlainRow, IsPlainBlock}
+use Rattle.certificate_text.specs.Bounds.{Bound, names, numbers, words, rows, rows_in, HasNames, IsScaledOf, flaw_of, KeepsOne}
 use Rattle.certificate_text.specs.Reading.{in_rows, closed_by, scaled, lemma_row, in_lemma, in_goal, next}
 use Rattle.block_text.proofs.Results.{by_test, bind_ok, bind_err, asked_ok, asked_err}
-use Rattle.block_text.proofs.LineTrees.{number_is}
+use Rattle.block_text.proofs.SaidLines.{number_unsaid}
 use Rattle.certificate_text.proofs.LineTrees.{lemma_is, goal_is, plain_row_is, lemma_row_is}
 use Rattle.certificate_text.proofs.RowTrees.{before, RowsWithin, Pass, passes_unvalued, passes_full, integer_is_within}
 use Rattle.block_text.proofs.Zips.{zip_length}
-use Rattle.block_text.proofs.Owed.{Begins, IsStopped, misfit, passes, IsListed}
+use Rattle.block_text.proofs.Owed.{Begins, IsStopped, misfit, passes, stopped_by, begins_as}
 use Rattle.certificate_text.specs.Evidence.{certificate_kind}
 use Rattle.certificate_text.proofs.OpenBlocks.{keeps_one, IsOpen, IsHeaded, IsClaimed, IsInPlain, IsOpened, IsInside, Lead, lead_lines, IsNext, rows_of, lemmas_front, rows_behind, rows_are, rows_outside, rows_keep_one, begin_rows, begin_plain, begin_claimed, begin_shortest, shortest, plain_outside}
-use Rattle.certificate_text.proofs.NextLines.{lemma_finished, plain_push, plain_front-push, scaled_push, lead_lines-push}
-
--- where the bound stands among all
-pub placed : (most : Format) (ds : List Declaration) (bound : Bound) → IsListed (certificate_kind most ds) bound
-placed most ds names = record { earlier = []; later = numbers ∷ words ∷ rows ∷ letters ∷ []; splits = refl }
-placed most ds numbers = record { earlier = names ∷ []; later = words ∷ rows ∷ letters ∷ []; splits = refl }
-placed most ds words = record { earlier = names ∷ numbers ∷ []; later = rows ∷ letters ∷ []; splits = refl }
-placed most ds rows = record { earlier = names ∷ numbers ∷ words ∷ []; later = letters ∷ []; splits = refl }
-placed most ds letters = record { earlier = names ∷ numbers ∷ words ∷ rows ∷ []; later = []; splits = refl }
-
-earlier_is : (most : Format) (ds : List Declaration) (bound : Bound) → (placed most ds bound).earlier ≡ before bound
-unfolding placed
-earlier_is most ds names = refl
-earlier_is most ds numbers = refl
-earlier_is most ds words = refl
-earlier_is most ds rows = refl
-earlier_is most ds letters = refl
-
--- a block begins with the lines that keeps the bounds before one
-stopped_at : (most : Format) (ds : List Declaration) (flaw : Flaw) (front : List Line) (bound : Bound) → flaw ≡ flaw_of bound → Begins (certificate_kind most ds) (before bound) front → IsStopped (certificate_kind most ds) flaw front
-stopped_at most ds flaw front bound told begins =
-    passes (placed most ds bound).earlier (placed most ds bound).later bound (placed most ds bound).splits told
-    (subst (λ (bs : List Bound). Begins (certificate_kind most ds) bs front) (sym (earlier_is most ds bound)) begins)
+use Rattle.certificate_text.proofs.NextLines.{integer_in, lemma_finished, plain_push, plain_front-push, scaled_push, lead_lines-push}
 
 too_large : (digits : List ℕ) (flaw : Flaw) → integer_of digits ≡ Err flaw → flaw ≡ NumberTooLarge
 too_large digits flaw read = asked_err NumberTooLarge (option_map pos (number_within integer_limit digits)) flaw read
@@ -69,20 +47,14 @@ module _ (most : Format) (ds : List Declaration) (flaw : Flaw) (front : List Lin
   shortest_names Lemmas claim denominator = All-from_recursion (λ bound. KeepsOne ds bound (shortest Lemmas claim denominator)) (before numbers) (All-nil (HasNames ds), tt)
 
   stopped_headed : (form : Format) → IsHeaded most form front → claim_of line ≡ Err flaw → Stopped
-  stopped_headed form headed read =
-      bind_err (asked BadLine (number_behind (codes "claim") line)) _ flaw read (λ e. misfit (asked_err BadLine (number_behind (codes "claim") line) flaw e)) (λ digits there large.
-      let known = number_is (codes "claim") line digits (asked_ok BadLine (number_behind (codes "claim") line) digits there) in
-      stopped_at most ds flaw _ numbers (asked_err NumberTooLarge (number_within number_limit digits) flaw large)
-      (subst (Begins (certificate_kind most ds) (before numbers)) (ap₂ (λ (ls : List Line) (l : Line). ls ++ l ∷ []) (sym headed.are) (sym known.0))
-      (begin_claimed most ds form digits (before numbers) headed.read known.1 (shortest_names form digits (codes "1")))))
+  stopped_headed form headed read = stopped_by (certificate_kind most ds) flaw _ (number_unsaid (codes "claim") (number_within number_limit) line flaw read) (λ found.
+      passes numbers found.0 (begins_as (certificate_kind most ds) (before numbers) front (head_line form ∷ []) line (claim_line found.1.digits) headed.are found.1.is
+      (begin_claimed most ds form found.1.digits (before numbers) headed.read found.1.number (shortest_names form found.1.digits (codes "1")))))
 
   stopped_claimed : (form : Format) (n : ℕ) → IsClaimed most form n front → denominator_of line ≡ Err flaw → Stopped
-  stopped_claimed form n claimed read =
-      bind_err (asked BadLine (number_behind (codes "denominator") line)) _ flaw read (λ e. misfit (asked_err BadLine (number_behind (codes "denominator") line) flaw e)) (λ digits there large.
-      let known = number_is (codes "denominator") line digits (asked_ok BadLine (number_behind (codes "denominator") line) digits there) in
-      stopped_at most ds flaw _ numbers (too_large digits flaw large)
-      (subst (Begins (certificate_kind most ds) (before numbers)) (ap₂ (λ (ls : List Line) (l : Line). ls ++ l ∷ []) (sym claimed.are) (sym known.0))
-      (begin_shortest most ds form claimed.claim digits (before numbers) claimed.read claimed.claim_number known.1 (shortest_names form claimed.claim digits))))
+  stopped_claimed form n claimed read = stopped_by (certificate_kind most ds) flaw _ (number_unsaid (codes "denominator") integer_in line flaw read) (λ found.
+      passes numbers found.0 (begins_as (certificate_kind most ds) (before numbers) front (head_line form ∷ claim_line claimed.claim ∷ []) line (denominator_line found.1.digits) claimed.are found.1.is
+      (begin_shortest most ds form claimed.claim found.1.digits (before numbers) claimed.read claimed.claim_number found.1.number (shortest_names form claimed.claim found.1.digits))))
 
   -- ---- rows
 
@@ -97,7 +69,7 @@ module _ (most : Format) (ds : List Declaration) (flaw : Flaw) (front : List Lin
         denominator = inside.is_block.denominator;
         rows = All-push IsPlainRow b.rows r inside.is_block.rows (record { row = known.1; generator = known.2 });
       } in
-      stopped_at most ds flaw _ pass.bound pass.flaw_is
+      passes pass.bound pass.flaw_is
       (subst (Begins (certificate_kind most ds) (before pass.bound)) (sym (plain_front-push b r) ∙ ap₂ (λ (ls : List Line) (l : Line). ls ++ l ∷ []) (sym inside.are) (sym known.0))
       (begin_plain most ds (before pass.bound) pushed is_block
       (λ k d below. keeps_one ds (plain pushed) (plain_outside ds b c inside.values) (omega arith) _ (pass.keep k d below))))
@@ -128,7 +100,7 @@ module _ (most : Format) (ds : List Declaration) (flaw : Flaw) (front : List Lin
         ∙ ap₂ (λ (ls : List Line) (x : Line). ls ++ x ∷ []) (sym inside.are) (sym known.0) in
         let keep : All (RowsWithin ds (rows_of inside.finished ++ (s.rows ++ r ∷ []))) (before pass.bound) =
         subst (λ rs. All (RowsWithin ds rs) (before pass.bound)) (append_assoc (rows_of inside.finished) s.rows (r ∷ [])) pass.keep in
-        stopped_at most ds flaw _ pass.bound pass.flaw_is
+        passes pass.bound pass.flaw_is
         (subst (Begins (certificate_kind most ds) (before pass.bound)) fronts
         (begin_rows most ds claim denominator inside.finished (before pass.bound) lead (scaled_push s r) inside.read inside.begun.head inside.next
         (record { scale = inside.scaled.scale; rows = All-push (λ t. IsTrue (is_row t)) s.rows r inside.scaled.rows known.1 })
@@ -162,7 +134,7 @@ module _ (most : Format) (ds : List Declaration) (flaw : Flaw) (front : List Lin
     stopped_by_lead : (lead : Lead) (digits : List ℕ) (bound : Bound) → IsNext lead opened.finished → IsTrue (is_number digits) → line ∷ [] ≡ lead_lines lead (record { scale = digits; rows = [] })
         → flaw ≡ flaw_of bound → All (λ k. KeepsOne ds k (lemmas (rows_behind opened.claim opened.denominator opened.finished lead (record { scale = digits; rows = [] })))) (before bound) → Stopped
     stopped_by_lead lead digits bound next number line_is flaw_is keeps =
-        stopped_at most ds flaw _ bound flaw_is
+        passes bound flaw_is
         (subst (Begins (certificate_kind most ds) (before bound)) (ap₂ (λ (ls ms : List Line). ls ++ ms) (sym opened.are) (sym line_is))
         (begin_rows most ds opened.claim opened.denominator opened.finished (before bound) lead (record { scale = digits; rows = [] }) opened.read opened.begun.head next
         (record { scale = number; rows = All-nil (λ t. IsTrue (is_row t)) }) keeps))

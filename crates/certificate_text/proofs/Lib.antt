@@ -16,7 +16,6 @@ pub mod SizesBack
 pub mod BlocksBack
 pub mod LemmasBack
 pub mod ReadBack
-pub mod PartsBack
 pub mod LemmaTexts
 mod Examples
 pub mod Reader

@@ -1,6 +1,7 @@
 -- A line that is read at its place in a block.
-use Rattle.std.proofs.Common.{◌≡◌, ◌<◌, ◌+◌, ℕ, ℤ, List, [], ◌∷◌, ◌++◌, Some, None, Ok, IsTrue, arith, sym, ap, ap₂, ◌∙◌, subst, length, map, nat_le, leb-false, append_assoc, append-nil, codes}
+use Rattle.std.proofs.Common.{◌≡◌, ◌<◌, ◌+◌, ℕ, ℤ, pos, List, [], ◌∷◌, ◌++◌, Option, Some, None, Ok, IsTrue, arith, sym, ap, ap₂, ◌∙◌, subst, length, map, nat_le, leb-false, append_assoc, append-nil, codes}
 use Rattle.std.specs.List.{flat_map}
+use Rattle.std.specs.Option.{option_map}
 use Rattle.std.proofs.lemmas.Grind.{flat_map-append}
 use Rattle.std.proofs.lemmas.List.{length-append, map-append}
 use Rattle.std.proofs.lemmas.List.Elements.{All-nil, All-push}
@@ -16,13 +17,13 @@ use Rattle.certificate_text.specs.declared.place.Size.{Size}
 use Rattle.certificate_text.specs.declared.place.Opened.{Opened}
 use Rattle.block_text.specs.Fault.{asked}
 use Rattle.block_text.specs.Letters.{is_number, number_within}
-use Rattle.block_text.specs.Lines.{number_limit, integer_limit, integer_of, number_behind, claim_of, Line, claim_line}
+use Rattle.block_text.specs.Lines.{number_limit, integer_limit, integer_of, claim_of, Line, claim_line}
 use Rattle.certificate_text.specs.Lines.{RowTokens, row_limit, is_value, is_row, denominator_of, lemma_digits, lemma_scale_of, goal_digits, goal_scale_of, row_tokens, row_values, row_of, over_lemma, lemma_row_of, grown}
 use Rattle.certificate_text.specs.Blocks.{ScaledTokens, LemmaTokens, PlainTokens, row_line, head_line, denominator_line, lemma_lines, IsPlainRow}
 use Rattle.certificate_text.specs.Bounds.{IsWithin, IsScaledOf, IsLemmaRowOf}
 use Rattle.certificate_text.specs.Reading.{certificate_of, begun, lemma_of, closed_by, resized, lemma_row}
 use Rattle.block_text.proofs.Results.{by_test, bind_ok, asked_ok}
-use Rattle.block_text.proofs.LineTrees.{number_is}
+use Rattle.block_text.proofs.SaidLines.{number_said}
 use Rattle.certificate_text.proofs.LineTrees.{lemma_is, goal_is, plain_row_is, lemma_row_is}
 use Rattle.certificate_text.proofs.RowTrees.{HaveSize, no_rows_size, size_push, integer_is_within}
 use Rattle.block_text.proofs.Zips.{zip_push, zip_length}
@@ -34,17 +35,9 @@ behind front other line last same same_line = ap₂ (λ ls l. ls ++ l ∷ []) sa
 
 -- ---- what the lines say
 
-pub claim_read : (line : Line) (n : ℕ) → claim_of line ≡ Ok n → (digits : List ℕ) × (line ≡ claim_line digits) × IsTrue (is_number digits) × (number_within number_limit digits ≡ Some n)
-claim_read line n read =
-    bind_ok (asked BadLine (number_behind (codes "claim") line)) (λ digits. asked NumberTooLarge (number_within number_limit digits)) n read (λ digits there within.
-    let known = number_is (codes "claim") line digits (asked_ok BadLine (number_behind (codes "claim") line) digits there) in
-    (digits, known.0, known.1, asked_ok NumberTooLarge (number_within number_limit digits) n within))
-
-pub denominator_read : (line : Line) (d : ℤ) → denominator_of line ≡ Ok d → (digits : List ℕ) × (line ≡ denominator_line digits) × IsTrue (is_number digits) × (integer_of digits ≡ Ok d)
-denominator_read line d read =
-    bind_ok (asked BadLine (number_behind (codes "denominator") line)) integer_of d read (λ digits there within.
-    let known = number_is (codes "denominator") line digits (asked_ok BadLine (number_behind (codes "denominator") line) digits there) in
-    (digits, known.0, known.1, within))
+-- the value of a denominator
+abbrev pub integer_in : List ℕ → Option ℤ
+integer_in digits = option_map pos (number_within integer_limit digits)
 
 pub goal_read : (line : Line) (scale : ℤ) → goal_scale_of line ≡ Ok scale → (digits : List ℕ) × (line ≡ codes "goal" ∷ codes "scale" ∷ digits ∷ []) × IsTrue (is_number digits) × (integer_of digits ≡ Ok scale)
 goal_read line scale read =
@@ -82,47 +75,50 @@ lemma_read before line scale read =
 
 pub next_headed : (most form : Format) (front : List Line) (line : Line) (n : ℕ) → IsHeaded most form front → claim_of line ≡ Ok n → IsClaimed most form n (front ++ line ∷ [])
 next_headed most form front line n headed read =
-    let known = claim_read line n read in
+    let known = number_said (codes "claim") (number_within number_limit) line n read in
     record {
       read = headed.read;
-      claim = known.0;
-      claim_number = known.2;
-      claim_value = known.3;
-      are = behind front (head_line form ∷ []) line (claim_line known.0) headed.are known.1;
+      claim = known.0.digits;
+      claim_number = known.0.number;
+      claim_value = known.1;
+      are = behind front (head_line form ∷ []) line (claim_line known.0.digits) headed.are known.0.is;
     }
 
 pub next_claimed : (most : Format) (ds : List Declaration) (form : Format) (front : List Line) (line : Line) (n : ℕ) (d : ℤ) → IsClaimed most form n front → denominator_of line ≡ Ok d
     → IsOpen most ds (begun form n d) (front ++ line ∷ [])
 next_claimed most ds Plain front line n d claimed read =
-    let known = denominator_read line d read in
+    let known = number_said (codes "denominator") integer_in line d read in
+    let digits : List ℕ = known.0.digits in
     record {
-      tokens = record { claim = claimed.claim; denominator = known.0; rows = [] };
-      is_block = record { claim = claimed.claim_number; denominator = known.2; rows = All-nil IsPlainRow };
-      values = record { claim = claimed.claim_value; denominator = known.3; rows = tt };
+      tokens = record { claim = claimed.claim; denominator = digits; rows = [] };
+      is_block = record { claim = claimed.claim_number; denominator = known.0.number; rows = All-nil IsPlainRow };
+      values = record { claim = claimed.claim_value; denominator = ap (asked NumberTooLarge) known.1; rows = tt };
       have = no_rows_size ds;
-      are = behind front (head_line Plain ∷ claim_line claimed.claim ∷ []) line (denominator_line known.0) claimed.are known.1;
+      are = behind front (head_line Plain ∷ claim_line claimed.claim ∷ []) line (denominator_line digits) claimed.are known.0.is;
     }
 next_claimed most ds Lemmas front line n d claimed read =
-    let known = denominator_read line d read in
+    let known = number_said (codes "denominator") integer_in line d read in
+    let digits : List ℕ = known.0.digits in
+    let value : integer_of digits ≡ Ok d = ap (asked NumberTooLarge) known.1 in
     record {
       read = claimed.read;
       claim = claimed.claim;
-      denominator = known.0;
+      denominator = digits;
       finished = [];
       begun = record {
-        head = record { claim_number = claimed.claim_number; denominator_number = known.2; numbered = tt };
+        head = record { claim_number = claimed.claim_number; denominator_number = known.0.number; numbered = tt };
         within = record {
           claim_within = (n, claimed.claim_value);
-          denominator_within = integer_is_within known.0 d known.3;
+          denominator_within = integer_is_within digits d value;
           scales = All-nil (λ (l : LemmaTokens). IsWithin integer_limit l.scaled.scale);
         };
         claim_value = claimed.claim_value;
-        denominator_value = known.3;
+        denominator_value = value;
         values = tt;
       };
       few = omega arith;
       have = no_rows_size ds;
-      are = behind front (head_line Lemmas ∷ claim_line claimed.claim ∷ []) line (denominator_line known.0) claimed.are known.1;
+      are = behind front (head_line Lemmas ∷ claim_line claimed.claim ∷ []) line (denominator_line digits) claimed.are known.0.is;
     }
 
 -- ---- rows

@@ -6,13 +6,16 @@ use Rattle.cofactor_trace.specs.declared.evidence.Evidence.{Evidence}
 use Rattle.cofactor_trace.specs.declared.evidence.Evidence.TheVariants.{Plain, Lemmas}
 use Rattle.cofactor_trace.specs.declared.evidence.Format.{Format}
 use Rattle.cofactor_trace.specs.declared.evidence.Format.TheVariants as format
-use Rattle.certificate_text.specs.Evidence.{certificate_kind}
+use Rattle.block_text.specs.Laws.{IsReadBetween, AreReadInParts, AreReadBack}
+use Rattle.block_text.proofs.TextLaws.{are_read_back}
+use Rattle.certificate_text.specs.Evidence.{certificate_kind, other_words, HasCertificates}
 use Rattle.certificate_text.specs.Written.{evidence_text}
 use Rattle.block_text.specs.Back.{is_named}
-use Rattle.certificate_text.specs.Back.{IsOfFormat, IsWritableEvidence, IsReadBack}
+use Rattle.certificate_text.specs.Back.{IsOfFormat, IsWritableEvidence, IsGood}
 use Rattle.certificate_text.proofs.BlocksBack.{rows_written, plain_written}
-use Rattle.block_text.proofs.PartsBack.{IsWritten, written_between}
+use Rattle.block_text.proofs.PartsBack.{IsWritten}
 use Rattle.certificate_text.proofs.LemmasBack.{lemmas_written, certificate_written}
+use Rattle.certificate_text.proofs.Reader.{reader}
 
 -- evidence by itself
 pub evidence_written : (most : Format) (ds : List Declaration) (e : Evidence) → IsDeclared ds → IsTrue (list_all is_named ds) → IsOfFormat most e → IsWritableEvidence ds e
@@ -21,6 +24,12 @@ evidence_written most ds (Plain c) declared known form writable = plain_written 
 evidence_written format.Plain ds (Lemmas c) declared known form writable = absurd form
 evidence_written format.Lemmas ds (Lemmas c) declared known form writable = certificate_written ds c writable (lemmas_written ds c declared known writable)
 
-pub is_read_back : IsReadBack
-is_read_back most ds e before after first last declared known form writable whole front end few =
-    written_between (certificate_kind most ds) (evidence_text ds e) e before after first last (evidence_written most ds e declared known form writable) whole front end few
+module _ (most : Format) (ds : List Declaration) (declared : IsDeclared ds) (known : IsTrue (list_all is_named ds)) where
+  back : AreReadBack (HasCertificates most ds) (evidence_text ds) (IsGood most ds) other_words
+  back = are_read_back (certificate_kind most ds) (evidence_text ds) (IsGood most ds) (reader most ds).words (λ e good. evidence_written most ds e declared known good.0 good.1)
+
+  pub is_read_back : IsReadBetween (HasCertificates most ds) (evidence_text ds) (IsGood most ds)
+  is_read_back = back.between
+
+  pub are_parts_read_back : AreReadInParts (HasCertificates most ds) (evidence_text ds) (IsGood most ds) other_words
+  are_parts_read_back = back.in_parts

@@ -1,5 +1,5 @@
 -- The reader of certificates owes what a reader of blocks owes.
-use Rattle.std.proofs.Common.{arith, ◌≡◌, ◌++◌, ◌∷◌, [], ℕ, false, cond, nat_eq, List, Some, None, Result, Ok, refl, sym, ap, ◌∙◌, subst, codes, length}
+use Rattle.std.proofs.Common.{◌≡◌, ◌++◌, ◌∷◌, [], ℕ, false, List, Some, None, Result, Ok, refl, sym, ap, subst, codes, length}
 use Rattle.std.proofs.lemmas.List.Elements.{All-from_recursion}
 use Rattle.quiver.specs.Declarations.{Declaration}
 use Rattle.cofactor_trace.specs.declared.Certificate.{Certificate}
@@ -9,11 +9,10 @@ use Rattle.cofactor_trace.specs.declared.evidence.Evidence.TheVariants as eviden
 use Rattle.cofactor_trace.specs.declared.evidence.Format.{Format}
 use Rattle.cofactor_trace.specs.declared.evidence.Format.TheVariants.{Plain, Lemmas}
 use Rattle.block_text.specs.declared.fault.Flaw.{Flaw}
-use Rattle.block_text.specs.declared.fault.Flaw.TheVariants as flaw
-use Rattle.block_text.specs.Fault.{limit_of}
 use Rattle.block_text.specs.Tokens.{begins_comment}
-use Rattle.block_text.specs.Lines.{Line, block_limit, begins, is_end, claim_of}
+use Rattle.block_text.specs.Lines.{Line, begins, is_end, claim_of}
 use Rattle.block_text.specs.Blocks.{is_other_head}
+use Rattle.block_text.proofs.Bounds.{bound_of}
 use Rattle.block_text.proofs.Owed.{Begins, IsWhole, IsReader}
 use Rattle.block_text.proofs.Results.{by_test, bind_ok}
 use Rattle.block_text.proofs.Standing.{everywhere}
@@ -21,45 +20,22 @@ use Rattle.certificate_text.specs.declared.place.Size.{Size}
 use Rattle.certificate_text.specs.declared.place.Opened.{Opened}
 use Rattle.certificate_text.specs.declared.place.Stage.{Stage}
 use Rattle.certificate_text.specs.declared.place.Stage.TheVariants as at
-use Rattle.certificate_text.specs.Lines.{word_limit, row_limit, is_plain_head, is_lemmas_head, denominator_of, goal_scale_of, lemma_scale_of, row_of, grown}
+use Rattle.certificate_text.specs.Lines.{is_plain_head, is_lemmas_head, denominator_of, goal_scale_of, lemma_scale_of, row_of, grown}
 use Rattle.certificate_text.specs.Blocks.{plain, lemmas, head_line}
-use Rattle.certificate_text.specs.Bounds.{Bound, names, numbers, words, rows, letters, flaw_of, KeepsOne}
+use Rattle.certificate_text.specs.Bounds.{Bound, names, bounds, flaw_of, KeepsOne}
 use Rattle.certificate_text.specs.Evidence.{other_words, certificate_kind}
 use Rattle.certificate_text.specs.Reading.{lemmas_headed, begin, begun, certificate_of, lemma_of, closed_by, scaled, lemma_row, in_rows, in_lemma, in_goal, next, finish, lemma_certificate_of, certificate_steps}
 use Rattle.certificate_text.proofs.BlockLines.{block_meets}
-use Rattle.certificate_text.proofs.FlawedLines.{placed, stops_at}
+use Rattle.certificate_text.proofs.FlawedLines.{stops_at}
 use Rattle.certificate_text.proofs.LineTrees.{plain_head_is, lemmas_head_is}
 use Rattle.certificate_text.proofs.NextLines.{next_headed, next_claimed, next_plain, next_row, next_goal, next_lemma, lemma_finished}
 use Rattle.certificate_text.proofs.OneCertificate.{same_certificate}
 use Rattle.certificate_text.proofs.OpenBlocks.{lemmas_read, IsOpened, IsInside, IsInPlain, IsOpen, begin_headed, begin_claimed, begin_in_plain, begin_opened, begin_inside, shortest, shortest_keeps, unit_within, plain_keeps, inside_keeps, goal_block, goal_is_block, goal_value}
 
--- ---- flaws
-
--- the bound whose flaw it is
-abbrev bound_of : Flaw → Bound
-bound_of flaw.BadLine = names
-bound_of flaw.UnknownName = names
-bound_of flaw.NotAsWritten = names
-bound_of flaw.NumberTooLarge = numbers
-bound_of (flaw.TooMany n) = cond (nat_eq n word_limit) words (cond (nat_eq n row_limit) rows letters)
-
-bound_of-flaw : (b : Bound) → bound_of (flaw_of b) ≡ b
-bound_of-flaw names = refl
-bound_of-flaw b = refl
-
-same_bound : (a b : Bound) → flaw_of a ≡ flaw_of b → a ≡ b
-same_bound a b same = sym (bound_of-flaw a) ∙ ap bound_of same ∙ bound_of-flaw b
-
-no_misfit : (b : Bound) → flaw.BadLine ≡ flaw_of b → ⊥
-no_misfit names same = absurd (cc)
-no_misfit b same = absurd (cc)
-
-no_count : (b : Bound) → flaw.TooMany block_limit ≡ flaw_of b → ⊥
-no_count names same = absurd (omega (arith, ap limit_of same))
-no_count numbers same = absurd (omega (arith, ap limit_of same))
-no_count words same = absurd (omega (arith, ap limit_of same))
-no_count rows same = absurd (omega (arith, ap limit_of same))
-no_count letters same = absurd (omega (arith, ap limit_of same))
+-- each has a bound of its own
+told : (b : Bound) → bound_of flaw_of bounds (flaw_of b) ≡ Some b
+told names = refl
+told b = refl
 
 -- ---- heads
 
@@ -81,18 +57,13 @@ no_other_by : (most : Format) (line : Line) (s : Stage) → IsHeadOf most line s
 no_other_by most line s (of_plain is same) = rw is refl
 no_other_by most line s (of_lemmas is form same) = rw is refl
 
-no_other : (most : Format) (line : Line) (s : Stage) → begin most line ≡ Some s → is_other_head other_words line ≡ false
-no_other most line s read = no_other_by most line s (head_by most line s read)
-
 module _ (most : Format) (ds : List Declaration) where
   begins_by : (line : Line) (s : Stage) → IsHeadOf most line s → IsOpen most ds s (line ∷ [])
   begins_by line s (of_plain is same) = subst (λ (t : Stage). IsOpen most ds t (line ∷ [])) (sym same) (record { read = tt; are = ap (λ l. l ∷ []) is })
   begins_by line s (of_lemmas is form same) = subst (λ (t : Stage). IsOpen most ds t (line ∷ [])) (sym same) (record { read = lemmas_read most form; are = ap (λ l. l ∷ []) is })
 
-  begins_head : (line : Line) (s : Stage) → begin most line ≡ Some s → IsOpen most ds s (line ∷ [])
-  begins_head line s read = begins_by line s (head_by most line s read)
-
-  -- ---- a line more
+  begins_head : (line : Line) (s : Stage) → begin most line ≡ Some s → (is_other_head other_words line ≡ false) × IsOpen most ds s (line ∷ [])
+  begins_head line s read = let head = head_by most line s read in (no_other_by most line s head, begins_by line s head)
 
   module _ (front : List Line) (line : Line) (t : Stage) where
     abbrev OpenNext : Type 0
@@ -130,15 +101,15 @@ module _ (most : Format) (ds : List Declaration) where
   goes (at.Lemma o l) t front line is_open more read = goes_lemma front line t o l is_open.0 is_open.1 read
   goes (at.Goal o goal) t front line is_open more read = goes_goal front line t o goal is_open read
 
-  goes_on : (s : Stage) (front : List Line) → IsOpen most ds s front → Begins (certificate_kind most ds) (names ∷ numbers ∷ words ∷ rows ∷ letters ∷ []) front
-  goes_on (at.Headed form) front is_open = subst (Begins (certificate_kind most ds) (names ∷ numbers ∷ words ∷ rows ∷ letters ∷ [])) (sym is_open.are) (begin_headed most ds form (names ∷ numbers ∷ words ∷ rows ∷ letters ∷ []) is_open.read)
+  goes_on : (s : Stage) (front : List Line) → IsOpen most ds s front → Begins (certificate_kind most ds) bounds front
+  goes_on (at.Headed form) front is_open = subst (Begins (certificate_kind most ds) bounds) (sym is_open.are) (begin_headed most ds form bounds is_open.read)
   goes_on (at.Claimed form n) front is_open =
-      subst (Begins (certificate_kind most ds) (names ∷ numbers ∷ words ∷ rows ∷ letters ∷ [])) (sym is_open.are) (begin_claimed most ds form is_open.claim (names ∷ numbers ∷ words ∷ rows ∷ letters ∷ []) is_open.read is_open.claim_number
-      (everywhere (λ (bound : Bound). KeepsOne ds bound (shortest form is_open.claim (codes "1"))) (shortest_keeps most ds form is_open.claim (codes "1") (n, is_open.claim_value) unit_within) (names ∷ numbers ∷ words ∷ rows ∷ letters ∷ [])))
-  goes_on (at.Rows c size) front is_open = begin_in_plain most ds c size front (names ∷ numbers ∷ words ∷ rows ∷ letters ∷ []) is_open
-  goes_on (at.Opened o) front is_open = begin_opened most ds o front (names ∷ numbers ∷ words ∷ rows ∷ letters ∷ []) is_open
-  goes_on (at.Lemma o l) front is_open = begin_inside most ds o l (Some is_open.0) front (names ∷ numbers ∷ words ∷ rows ∷ letters ∷ []) is_open.1
-  goes_on (at.Goal o goal) front is_open = begin_inside most ds o goal None front (names ∷ numbers ∷ words ∷ rows ∷ letters ∷ []) is_open
+      subst (Begins (certificate_kind most ds) bounds) (sym is_open.are) (begin_claimed most ds form is_open.claim bounds is_open.read is_open.claim_number
+      (everywhere (λ (bound : Bound). KeepsOne ds bound (shortest form is_open.claim (codes "1"))) (shortest_keeps most ds form is_open.claim (codes "1") (n, is_open.claim_value) unit_within) bounds))
+  goes_on (at.Rows c size) front is_open = begin_in_plain most ds c size front bounds is_open
+  goes_on (at.Opened o) front is_open = begin_opened most ds o front bounds is_open
+  goes_on (at.Lemma o l) front is_open = begin_inside most ds o l (Some is_open.0) front bounds is_open.1
+  goes_on (at.Goal o goal) front is_open = begin_inside most ds o goal None front bounds is_open
 
   ends : (s : Stage) (front : List Line) (e : Evidence) → IsOpen most ds s front → finish s ≡ Some e → IsWhole (certificate_kind most ds) front e
   ends (at.Headed form) front e is_open read = absurd (cc)
@@ -166,13 +137,10 @@ module _ (most : Format) (ds : List Declaration) where
 
   pub reader : IsReader (certificate_kind most ds) (certificate_steps most ds)
   reader = record {
-    listed = placed most ds;
-    apart = same_bound;
-    no_misfit = no_misfit;
-    no_count = no_count;
+    told = told;
+    none_told = (refl, refl);
     others = refl;
     words = All-from_recursion (λ word. begins_comment word ≡ false) other_words (refl, (refl, tt));
-    heads = no_other most;
     IsOpen = IsOpen most ds;
     begins = begins_head;
     goes = goes;

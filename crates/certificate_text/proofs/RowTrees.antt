@@ -15,16 +15,13 @@ use Rattle.block_text.specs.Fault.{asked}
 use Rattle.block_text.specs.Letters.{letter_of, number_within, integer_within, word_of}
 use Rattle.block_text.specs.Lines.{number_limit, integer_limit, integer_of}
 use Rattle.certificate_text.specs.Lines.{RowTokens, word_limit, row_limit, letter_limit, row_values, no_rows, grown}
-use Rattle.certificate_text.specs.Bounds.{Bound, names, numbers, words, rows, letters, letters_in, IsWithin, HasNames, HasNumbers, HasShortWords, flaw_of}
+use Rattle.certificate_text.specs.Bounds.{Bound, names, numbers, words, rows, letters, bounds, letters_in, IsWithin, HasNames, HasNumbers, HasShortWords, flaw_of}
+use Rattle.block_text.proofs.Bounds as listed
 use Rattle.block_text.proofs.Results.{by_test, bind_ok, bind_err, asked_ok, asked_err, option_map_some}
 
 -- the bounds that count before it
 abbrev pub before : Bound → List Bound
-before names = []
-before numbers = names ∷ []
-before words = names ∷ numbers ∷ []
-before rows = names ∷ numbers ∷ words ∷ []
-before letters = names ∷ numbers ∷ words ∷ rows ∷ []
+before bound = listed.before flaw_of bounds bound
 
 -- ---- values
 

@@ -1,6 +1,6 @@
 -- What is read of evidence that is written, whatever stands around it.
-use Rattle.std.specs.Prelude.{◌≡◌, ◌<◌, ◌≤◌, ◌+◌, ◌^◌, ⊤, ℕ, pos, List, ◌∷◌, ◌++◌, length, IsTrue}
-use Rattle.std.specs.List.{All, list_all, flat_map}
+use Rattle.std.specs.Prelude.{◌≡◌, ◌<◌, ◌≤◌, ◌^◌, ⊤, ℕ, pos, List, length, IsTrue}
+use Rattle.std.specs.List.{All, list_all}
 use Rattle.coef_int.specs.Range.{IsCoefficient}
 use Rattle.quiver.specs.Declarations.{Declaration, IsDeclared}
 use Rattle.cofactor_trace.specs.declared.CertRow.{CertRow}
@@ -18,8 +18,8 @@ use Rattle.cofactor_trace.specs.Expansion.{letter_count}
 use Rattle.cofactor_trace.specs.Lemmas.{row_count, letter_count as letters_of_lemmas}
 use Rattle.cofactor_trace.specs.GatheringLaws.{parts_of}
 use Rattle.block_text.specs.Back as blocks
-use Rattle.block_text.specs.Back.{values_in, is_whole, is_named}
-use Rattle.block_text.specs.Lines.{block_limit}
+use Rattle.block_text.specs.Back.{values_in, is_named}
+use Rattle.block_text.specs.Laws.{IsReadBetween, AreReadInParts}
 use Rattle.certificate_text.specs.Evidence.{other_words, IsRowOver, IsLemmaRowOver, HasCertificates}
 use Rattle.certificate_text.specs.Written.{evidence_text}
 use Rattle.nc_polynomial.specs.Limits.{word_limit}
@@ -90,15 +90,17 @@ IsOfFormat most (evidence.Plain c) = ⊤
 IsOfFormat format.Plain (evidence.Lemmas c) = ⊥
 IsOfFormat format.Lemmas (evidence.Lemmas c) = ⊤
 
+-- evidence of the format within the limits
+abbrev pub IsGood : Format → List Declaration → Evidence → Type 0
+IsGood most ds e = IsOfFormat most e × IsWritableEvidence ds e
+
 -- ---- what stands around it
 
 -- Evidence that is written between whole lines and other lines is read as it is, behind the certificates that those before it
 -- have and before those that the others have.
 abbrev pub IsReadBack : Type 0
-IsReadBack = (most : Format) (ds : List Declaration) (e : Evidence) (before after : List ℕ) (first last : List Evidence)
-    → IsDeclared ds → IsTrue (list_all is_named ds) → IsOfFormat most e → IsWritableEvidence ds e
-    → IsTrue (is_whole before) → HasCertificates most ds before first → HasCertificates most ds after last → length first + length last < block_limit
-    → HasCertificates most ds (before ++ evidence_text ds e ++ after) (first ++ e ∷ last)
+IsReadBack = (most : Format) (ds : List Declaration) → IsDeclared ds → IsTrue (list_all is_named ds)
+    → IsReadBetween (HasCertificates most ds) (evidence_text ds) (IsGood most ds)
 
 -- ---- texts of several parts
 
@@ -109,10 +111,6 @@ Part = blocks.Part Evidence
 abbrev pub part_text : List Declaration → Part → List ℕ
 part_text ds p = blocks.part_text (evidence_text ds) p
 
--- evidence of the format within the limits
-abbrev pub IsGood : Format → List Declaration → Evidence → Type 0
-IsGood most ds e = IsOfFormat most e × IsWritableEvidence ds e
-
 abbrev pub IsPart : Format → List Declaration → Part → Type 0
 IsPart most ds p = blocks.IsPart other_words (IsGood most ds) p
 
@@ -122,6 +120,5 @@ evidence_in parts = values_in parts
 
 -- The certificates of a text of such parts are those among the parts, in their order.
 abbrev pub ArePartsReadBack : Type 0
-ArePartsReadBack = (most : Format) (ds : List Declaration) (parts : List Part)
-    → IsDeclared ds → IsTrue (list_all is_named ds) → All (IsPart most ds) parts → length (evidence_in parts) ≤ block_limit
-    → HasCertificates most ds (flat_map (part_text ds) parts) (evidence_in parts)
+ArePartsReadBack = (most : Format) (ds : List Declaration) → IsDeclared ds → IsTrue (list_all is_named ds)
+    → AreReadInParts (HasCertificates most ds) (evidence_text ds) (IsGood most ds) other_words

@@ -78,6 +78,10 @@ pub data Bound : Type 0 where
   rows : Bound
   letters : Bound
 
+-- they count in this order
+abbrev pub bounds : List Bound
+bounds = names ∷ numbers ∷ words ∷ rows ∷ letters ∷ []
+
 -- what a line is told for that passes the bound
 abbrev pub flaw_of : Bound → Flaw
 flaw_of names = UnknownName

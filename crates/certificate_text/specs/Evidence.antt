@@ -17,7 +17,7 @@ use Rattle.block_text.specs.Kind.{Kind}
 use Rattle.block_text.specs.Texts as texts
 use Rattle.block_text.specs.Texts.{HasBlocks, IsBlocks}
 use Rattle.certificate_text.specs.Blocks.{BlockTokens, certificate_lines, IsBlock}
-use Rattle.certificate_text.specs.Bounds.{Bound, names, numbers, words, rows, letters, flaw_of, KeepsOne, IsCertificateOf}
+use Rattle.certificate_text.specs.Bounds.{Bound, bounds, flaw_of, KeepsOne, IsCertificateOf}
 use Rattle.cofactor_trace.specs.Limits.{row_limit}
 
 -- ---- evidence
@@ -34,7 +34,7 @@ certificate_kind most ds = record {
   IsTree = IsBlock most;
   others = other_words;
   Bound = Bound;
-  bounds = names ∷ numbers ∷ words ∷ rows ∷ letters ∷ [];
+  bounds = bounds;
   flaw_of = flaw_of;
   Keeps = KeepsOne ds;
   Says = IsCertificateOf ds;

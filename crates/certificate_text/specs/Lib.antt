@@ -2,7 +2,6 @@ pub mod Lines
 pub mod Blocks
 pub mod Bounds
 pub mod Evidence
-pub mod EachText
 pub mod Written
 pub mod Back
 pub mod Reading

@@ -1,25 +1,29 @@
 //! The laws of evidence text. They have nothing to run.
+ghost use Rattle.std.specs.Prelude.{List};
+ghost use Rattle.block_text.specs.Laws.{EachIsRead, ValuesAreUnique, FaultIsUnique, ValuesHaveNoFault};
 ghost use Rattle.certificate_text.specs.Back.{IsReadBack, ArePartsReadBack};
-ghost use Rattle.certificate_text.specs.EachText.{EachTextIsRead, EvidenceIsUnique, FirstFaultIsUnique, EvidenceHasNoFault};
+ghost use Rattle.certificate_text.specs.Evidence.{IsEvidence, IsFirstFault};
+ghost use Rattle.cofactor_trace.specs.declared.evidence.Format.{Format};
+ghost use Rattle.quiver.specs.Declarations.{Declaration};
 
 /// Each text is evidence, or has a first fault.
 pub fn each_text_is_read()
-    ensures { EachTextIsRead }
+    ensures { (most : Format) (ds : List Declaration) → EachIsRead (IsEvidence most ds) (IsFirstFault most ds) }
 {}
 
 /// A text is evidence of one list of certificates.
 pub fn evidence_is_unique()
-    ensures { EvidenceIsUnique }
+    ensures { (most : Format) (ds : List Declaration) → ValuesAreUnique (IsEvidence most ds) (IsFirstFault most ds) }
 {}
 
 /// A text has one first fault.
 pub fn first_fault_is_unique()
-    ensures { FirstFaultIsUnique }
+    ensures { (most : Format) (ds : List Declaration) → FaultIsUnique (IsEvidence most ds) (IsFirstFault most ds) }
 {}
 
 /// A text that is evidence has no fault.
 pub fn evidence_has_no_fault()
-    ensures { EvidenceHasNoFault }
+    ensures { (most : Format) (ds : List Declaration) → ValuesHaveNoFault (IsEvidence most ds) (IsFirstFault most ds) }
 {}
 
 /// The law that evidence that is written is read as it is, in either format, whatever whole lines stand before it and whatever

@@ -203,8 +203,8 @@ impl<'q> BlockKind for Certificates<'q> {
 
     ghost is_sound = { λ kind stage. ⊤ };
 
-    fn is_other_head(&self, line: &[u8]) -> bool {
-        begins("model", line) || begins("basis", line)
+    fn others(&self) -> &'static [&'static str] {
+        &["model", "basis"]
     }
 
     fn begin(&self, _alloc: Global, line: &[u8]) -> Option<Stage> {

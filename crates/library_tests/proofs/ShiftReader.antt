@@ -1,5 +1,5 @@
 -- The reader of shifts owes what a reader of blocks owes.
-use Rattle.std.proofs.Common.{arith, ◌≡◌, ◌&&◌, ◌<◌, ◌≤◌, ◌⊎◌, ◌++◌, ◌∷◌, [], ℕ, false, List, Option, Some, None, Result, Ok, Err, IfSome, IfOk, IsTrue, refl, sym, ap, ap₂, ◌∙◌, subst, codes, inl, inr}
+use Rattle.std.proofs.Common.{arith, ◌≡◌, ◌&&◌, ◌<◌, ◌≤◌, ◌⊎◌, ◌++◌, ◌∷◌, [], ℕ, false, List, Option, Some, None, Result, Ok, Err, IfSome, IfOk, IsTrue, refl, sym, ap, ap₂, ◌∙◌, subst, codes}
 use Rattle.std.specs.List.{All}
 use Rattle.std.specs.Str.Parse.{digits_value}
 use Rattle.std.proofs.lemmas.Bool.{and_parts}
@@ -10,53 +10,36 @@ use Rattle.word_core.specs.declared.letter.Letter.{Letter}
 use Rattle.quiver.specs.Declarations.{Declaration, letter_count}
 use Rattle.block_text.specs.declared.fault.CertFault.{CertFault}
 use Rattle.block_text.specs.declared.fault.Flaw.{Flaw}
-use Rattle.block_text.specs.declared.fault.Flaw.TheVariants.{BadLine, UnknownName, NumberTooLarge, TooMany}
+use Rattle.block_text.specs.declared.fault.Flaw.TheVariants.{BadLine, UnknownName}
 use Rattle.block_text.specs.Fault.{ReadsText}
 use Rattle.block_text.specs.Letters.{is_letter, letter_of, is_number, number_within}
 use Rattle.block_text.specs.Tokens.{begins_comment}
-use Rattle.block_text.specs.Lines.{Line, block_limit, number_limit, is, is_pair, is_end, number_behind}
-use Rattle.block_text.specs.Blocks.{is_other_head}
-use Rattle.block_text.proofs.LineTrees.{is_word, pair_is, number_is}
+use Rattle.block_text.specs.Lines.{Line, number_limit, is, is_end, number_behind}
+use Rattle.block_text.proofs.LineTrees.{is_word}
 use Rattle.block_text.specs.Steps.{all_values}
 use Rattle.block_text.proofs.EachText.{read_values_are}
 use Rattle.block_text.proofs.Meets.{Meets, reads, then_meets}
-use Rattle.block_text.proofs.Owed.{Begins, IsWhole, IsStopped, misfit, passes, IsListed, IsReader, read_block}
+use Rattle.block_text.proofs.Bounds.{bound_of}
+use Rattle.block_text.proofs.Owed.{Begins, IsWhole, IsStopped, misfit, passes, stopped_by, IsReader, begins_by_head, read_block}
 use Rattle.block_text.proofs.Results.{bind_ok, bind_err, ok_has, option_map_some}
+use Rattle.block_text.proofs.SaidLines.{said_ok, said_err, said_meets, within_limit, number_found, number_read, number_unsaid}
 use Rattle.block_text.proofs.Standing.{everywhere}
 use Rattle.library_tests.specs.declared.shifts.Shift.{Shift}
 use Rattle.library_tests.specs.declared.shifts.Stage.{Stage}
 use Rattle.library_tests.specs.declared.shifts.Stage.TheVariants as at
-use Rattle.library_tests.specs.Shifts.{ShiftTokens, head_line, letter_line, by_line, may_be_letter, IsShiftBlock, letter_said, shift_value, Bound, names, numbers, flaw_of, Keeps, other_words, shift_kind}
-use Rattle.library_tests.specs.ShiftSteps.{begin, letter_token, letter_at, number_at, shift_of, next, finish, shift_steps}
+use Rattle.library_tests.specs.Shifts.{ShiftTokens, head_line, letter_line, by_line, may_be_letter, IsShiftBlock, letter_said, shift_value, Bound, names, numbers, bounds, flaw_of, Keeps, other_words, shift_kind}
+use Rattle.library_tests.specs.ShiftSteps.{letter_token, letter_at, number_at, shift_of, next, finish, shift_steps}
 use Rattle.library_tests.specs.ShiftTexts.{HasLetter}
-use Rattle.library_tests.proofs.SaidLines.{said_ok, said_err, said_meets, within_limit, number_found}
 use Rattle.block_text.proofs.LetterRange.{letter_in_range}
 
 -- ---- flaws
 
-same_bound : (a b : Bound) → flaw_of a ≡ flaw_of b → a ≡ b
-same_bound names names same = refl
-same_bound names numbers same = absurd (cc)
-same_bound numbers names same = absurd (cc)
-same_bound numbers numbers same = refl
-
-no_misfit : (b : Bound) → BadLine ≡ flaw_of b → ⊥
-no_misfit names same = absurd (cc)
-no_misfit numbers same = absurd (cc)
-
-no_count : (b : Bound) → TooMany block_limit ≡ flaw_of b → ⊥
-no_count names same = absurd (cc)
-no_count numbers same = absurd (cc)
+-- each has a bound of its own
+told : (b : Bound) → bound_of flaw_of bounds (flaw_of b) ≡ Some b
+told names = refl
+told numbers = refl
 
 -- ---- lines
-
-head_is : (line : Line) (s : Stage) → begin line ≡ Some s → (line ≡ head_line) × (at.Headed ≡ s)
-head_is line s read =
-    let found = cond_some (is_pair (codes "shift") (codes "1") line) at.Headed s read in
-    (pair_is (codes "shift") (codes "1") line found.0, found.1)
-
-no_other : (line : Line) (s : Stage) → begin line ≡ Some s → is_other_head other_words line ≡ false
-no_other line s read = rw (head_is line s read).0 refl
 
 letter_is : (line : Line) (o : Option (List ℕ)) → letter_token line ≡ Some o → (line ≡ letter_line o) × IsTrue (may_be_letter o)
 letter_is [] o read = absurd (cc)
@@ -96,11 +79,6 @@ module _ (ds : List Declaration) where
   IsOpen (at.Lettered a) front = IsLettered a front
   IsOpen (at.Whole s) front = IsWhole (shift_kind ds) front s
 
-  begins : (line : Line) (s : Stage) → begin line ≡ Some s → IsOpen s (line ∷ [])
-  begins line s read =
-      let found = head_is line s read in
-      subst (λ (t : Stage). IsOpen t (line ∷ [])) found.1 (ap (λ l. l ∷ []) found.0)
-
   -- what is kept by tokens that are read
   kept : (token : Option (List ℕ)) (digits : List ℕ) (a : Option Letter) → letter_said ds token ≡ Some a → digits_value 10 digits ≤ number_limit → (bound : Bound) → Keeps ds bound (record { letter = token; by = digits })
   kept token digits a said within names = (a, said)
@@ -121,15 +99,13 @@ module _ (ds : List Declaration) where
         ok_has (λ (u : Stage). IsOpen u (front ++ line ∷ [])) (at.Lettered a) t made (record { token = found.0; fits = token.1; said = found.2; are = ap₂ behind here token.0 }))
     goes (at.Lettered a) t here more read =
         bind_ok (number_at line) _ t read (λ n n_is made.
-        let found = said_ok (number_behind (codes "by")) (number_within number_limit) NumberTooLarge line n n_is in
-        let digits = number_is (codes "by") line found.0 found.1 in
-        let value = within_limit number_limit found.0 n found.2 in
+        let found = number_read (codes "by") number_limit line n n_is in
         ok_has (λ (u : Stage). IsOpen u (front ++ line ∷ [])) (at.Whole (shift_of a n)) t made (record {
-          tree = record { letter = here.token; by = found.0 };
-          are = ap₂ behind here.are digits.0;
-          is_tree = record { letter = here.fits; by = digits.1 };
-          keeps = kept here.token found.0 a here.said value.1;
-          says = rw here.said (ap (λ m. Some (shift_of a m)) value.0);
+          tree = record { letter = here.token; by = found.there.digits };
+          are = ap₂ behind here.are found.there.is;
+          is_tree = record { letter = here.fits; by = found.there.number };
+          keeps = kept here.token found.there.digits a here.said found.within;
+          says = rw here.said (ap (λ m. Some (shift_of a m)) found.value);
         }))
     goes (at.Whole s) t here more read = absurd (cc)
 
@@ -139,58 +115,55 @@ module _ (ds : List Declaration) where
     Stopped flaw = IsStopped (shift_kind ds) flaw (front ++ line ∷ [])
 
     letter_stops : (flaw : Flaw) → front ≡ head_line ∷ [] → (flaw ≡ BadLine) ⊎ ((token : Option (List ℕ)) × (letter_token line ≡ Some token) × (flaw ≡ UnknownName)) → Stopped flaw
-    letter_stops flaw here (inl bad) = misfit bad
-    letter_stops flaw here (inr found) =
+    letter_stops flaw here wrong = stopped_by (shift_kind ds) flaw _ wrong (λ found.
         let token = letter_is line found.0 found.1 in
-        passes [] (numbers ∷ []) names refl found.2 (record {
+        passes names found.2 (record {
           tree = record { letter = found.0; by = codes "1" };
           more = by_line (codes "1") ∷ [];
           are = ap₂ (λ ls l. behind ls l ++ by_line (codes "1") ∷ []) (sym here) (sym token.0);
           is_tree = record { letter = token.1; by = refl };
           keeps = All-nil (λ bound. Keeps ds bound (record { letter = found.0; by = codes "1" }));
-        })
+        }))
 
-    number_stops : (a : Option Letter) (flaw : Flaw) → IsLettered a front → (flaw ≡ BadLine) ⊎ ((digits : List ℕ) × (number_behind (codes "by") line ≡ Some digits) × (flaw ≡ NumberTooLarge)) → Stopped flaw
-    number_stops a flaw here (inl bad) = misfit bad
-    number_stops a flaw here (inr found) =
-        let digits = number_is (codes "by") line found.0 found.1 in
-        let t : ShiftTokens = record { letter = here.token; by = found.0 } in
-        passes (names ∷ []) [] numbers refl found.2 (record {
+    number_stops : (a : Option Letter) (flaw : Flaw) → IsLettered a front → number_at line ≡ Err flaw → Stopped flaw
+    number_stops a flaw here read = stopped_by (shift_kind ds) flaw _ (number_unsaid (codes "by") (number_within number_limit) line flaw read) (λ found.
+        let t : ShiftTokens = record { letter = here.token; by = found.1.digits } in
+        passes numbers found.0 (record {
           tree = t;
           more = [];
-          are = ap₂ (λ ls l. behind ls l ++ []) (sym here.are) (sym digits.0);
-          is_tree = record { letter = here.fits; by = digits.1 };
+          are = ap₂ (λ ls l. behind ls l ++ []) (sym here.are) (sym found.1.is);
+          is_tree = record { letter = here.fits; by = found.1.number };
           keeps = All-cons (λ bound. Keeps ds bound t) names [] (a, here.said) (All-nil (λ bound. Keeps ds bound t));
-        })
+        }))
 
     stops : (s : Stage) (flaw : Flaw) → IsOpen s front → is_end line ≡ false → next ds s line ≡ Err flaw → Stopped flaw
     stops at.Headed flaw here more read =
         bind_err (letter_at ds line) _ flaw read (λ wrong. letter_stops flaw here (said_err letter_token (letter_said ds) UnknownName line flaw wrong)) (λ a a_is made. absurd (cc))
     stops (at.Lettered a) flaw here more read =
-        bind_err (number_at line) _ flaw read (λ wrong. number_stops a flaw here (said_err (number_behind (codes "by")) (number_within number_limit) NumberTooLarge line flaw wrong)) (λ n n_is made. absurd (cc))
+        bind_err (number_at line) _ flaw read (number_stops a flaw here) (λ n n_is made. absurd (cc))
     stops (at.Whole s) flaw here more read = misfit (cc)
 
-  goes_on : (s : Stage) (front : List Line) → IsOpen s front → Begins (shift_kind ds) (names ∷ numbers ∷ []) front
+  goes_on : (s : Stage) (front : List Line) → IsOpen s front → Begins (shift_kind ds) bounds front
   goes_on at.Headed front here = record {
     tree = record { letter = None; by = codes "1" };
     more = letter_line None ∷ by_line (codes "1") ∷ [];
     are = ap (λ (ls : List Line). ls ++ letter_line None ∷ by_line (codes "1") ∷ []) (sym here);
     is_tree = record { letter = refl; by = refl };
-    keeps = everywhere (λ bound. Keeps ds bound (record { letter = None; by = codes "1" })) (kept_by_one None None refl) (names ∷ numbers ∷ []);
+    keeps = everywhere (λ bound. Keeps ds bound (record { letter = None; by = codes "1" })) (kept_by_one None None refl) bounds;
   }
   goes_on (at.Lettered a) front here = record {
     tree = record { letter = here.token; by = codes "1" };
     more = by_line (codes "1") ∷ [];
     are = ap (λ (ls : List Line). ls ++ by_line (codes "1") ∷ []) (sym here.are);
     is_tree = record { letter = here.fits; by = refl };
-    keeps = everywhere (λ bound. Keeps ds bound (record { letter = here.token; by = codes "1" })) (kept_by_one here.token a here.said) (names ∷ numbers ∷ []);
+    keeps = everywhere (λ bound. Keeps ds bound (record { letter = here.token; by = codes "1" })) (kept_by_one here.token a here.said) bounds;
   }
   goes_on (at.Whole s) front here = record {
     tree = here.tree;
     more = [];
     are = sym here.are ∙ sym (append-nil front);
     is_tree = here.is_tree;
-    keeps = everywhere (λ bound. Keeps ds bound here.tree) here.keeps (names ∷ numbers ∷ []);
+    keeps = everywhere (λ bound. Keeps ds bound here.tree) here.keeps bounds;
   }
 
   ends : (s : Stage) (front : List Line) (value : Shift) → IsOpen s front → finish s ≡ Some value → IsWhole (shift_kind ds) front value
@@ -220,15 +193,12 @@ module _ (ds : List Declaration) where
 
   pub reader : IsReader (shift_kind ds) (shift_steps ds)
   reader = record {
-    listed = listed;
-    apart = same_bound;
-    no_misfit = no_misfit;
-    no_count = no_count;
+    told = told;
+    none_told = (refl, refl);
     others = refl;
     words = All-from_recursion (λ word. begins_comment word ≡ false) other_words (refl, (refl, (refl, tt)));
-    heads = no_other;
     IsOpen = IsOpen;
-    begins = begins;
+    begins = begins_by_head other_words IsOpen (codes "shift") (codes "1") at.Headed refl refl;
     goes = λ s t front line. goes front line s t;
     goes_on = goes_on;
     ends = ends;
@@ -236,10 +206,6 @@ module _ (ds : List Declaration) where
     reads = shift_meets;
     unique = λ t v w one two. same_Some v w (sym one ∙ two);
   }
-    where
-      listed : (bound : Bound) → IsListed (shift_kind ds) bound
-      listed names = record { earlier = []; later = numbers ∷ []; splits = refl }
-      listed numbers = record { earlier = names ∷ []; later = []; splits = refl }
 
   -- ---- what holds of each shift
 

@@ -17,17 +17,17 @@ use Rattle.block_text.proofs.NumberLines.{text_of_number, end_is_text}
 use Rattle.block_text.proofs.NumbersBack.{decimal_text, decimal_number, decimal_within}
 use Rattle.block_text.proofs.PartsBack.{IsWritten}
 use Rattle.block_text.proofs.TextsBack.{line_text-append, literal, letter_written}
+use Rattle.block_text.specs.Laws.{AreTold, AreReadBack}
+use Rattle.block_text.proofs.SaidLines.{within_limit}
+use Rattle.block_text.proofs.TextLaws.{are_told, are_read_back}
 use Rattle.block_text.proofs.TokensBack.{token_read}
 use Rattle.library_tests.specs.declared.shifts.Shift.{Shift}
-use Rattle.library_tests.specs.Shifts.{head_line, letter_line, by_line, may_be_letter, letter_said, Bound, names, numbers, Keeps, shift_kind}
+use Rattle.library_tests.specs.Shifts.{head_line, letter_line, by_line, may_be_letter, letter_said, Bound, names, numbers, Keeps, other_words, shift_kind, HasShifts, IsShifts, IsFirstFault}
 use Rattle.library_tests.specs.ShiftTexts.{letter_line_text, shift_text, IsWritable}
-use Rattle.library_tests.specs.TextLaws.{AreTold, AreReadBack}
 use Rattle.library_tests.specs.ShiftSteps.{shift_steps}
 use Rattle.library_tests.proofs.ShiftReader.{reader}
-use Rattle.library_tests.proofs.TextLaws.{are_told, are_read_back}
-use Rattle.library_tests.proofs.SaidLines.{within_limit}
 
-pub shifts_are_told : (ds : List Declaration) → AreTold (shift_kind ds)
+pub shifts_are_told : (ds : List Declaration) → AreTold (IsShifts ds) (IsFirstFault ds)
 shifts_are_told ds = are_told (shift_kind ds) (shift_steps ds) (reader ds)
 
 module _ (ds : List Declaration) (declared : IsDeclared ds) (known : IsTrue (list_all is_named ds)) where
@@ -77,5 +77,5 @@ module _ (ds : List Declaration) (declared : IsDeclared ds) (known : IsTrue (lis
         says = rw letter.said (ap (λ n. Some (record { letter = s.letter; by = n })) value.0);
       }
 
-  pub shifts_are_read_back : AreReadBack (shift_kind ds) (shift_text ds) (IsWritable ds)
+  pub shifts_are_read_back : AreReadBack (HasShifts ds) (shift_text ds) (IsWritable ds) other_words
   shifts_are_read_back = are_read_back (shift_kind ds) (shift_text ds) (IsWritable ds) (reader ds).words shift_written

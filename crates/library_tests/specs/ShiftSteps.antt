@@ -3,15 +3,14 @@ use Rattle.std.specs.Prelude.{ℕ, ◌&&◌, List, [], ◌∷◌, Option, Some, 
 use Rattle.quiver.specs.Declarations.{Declaration}
 use Rattle.word_core.specs.declared.letter.Letter.{Letter}
 use Rattle.block_text.specs.declared.fault.Flaw.{Flaw}
-use Rattle.block_text.specs.declared.fault.Flaw.TheVariants.{BadLine, UnknownName, NumberTooLarge}
+use Rattle.block_text.specs.declared.fault.Flaw.TheVariants.{BadLine, UnknownName}
 use Rattle.block_text.specs.Fault.{◌>>=◌}
-use Rattle.block_text.specs.Letters.{is_letter, number_within}
-use Rattle.block_text.specs.Lines.{Line, number_limit, is, is_pair, number_behind}
+use Rattle.block_text.specs.Letters.{is_letter}
+use Rattle.block_text.specs.Lines.{Line, number_limit, is, is_pair, said, number_of}
 use Rattle.block_text.specs.Steps.{Steps}
 use Rattle.library_tests.specs.declared.shifts.Shift.{Shift}
 use Rattle.library_tests.specs.declared.shifts.Stage.{Stage}
 use Rattle.library_tests.specs.declared.shifts.Stage.TheVariants as at
-use Rattle.library_tests.specs.SaidLines.{said}
 use Rattle.library_tests.specs.Shifts.{letter_said, other_words}
 
 -- shift 1
@@ -30,7 +29,7 @@ letter_at ds line = said letter_token (letter_said ds) UnknownName line
 
 -- by N
 abbrev pub number_at : Line → Result ℕ Flaw
-number_at line = said (number_behind (codes "by")) (number_within number_limit) NumberTooLarge line
+number_at line = number_of (codes "by") number_limit line
 
 abbrev pub shift_of : Option Letter → ℕ → Shift
 shift_of a n = record { letter = a; by = n }

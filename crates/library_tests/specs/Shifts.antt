@@ -64,6 +64,10 @@ pub data Bound : Type 0 where
   names : Bound
   numbers : Bound
 
+-- they count in this order
+abbrev pub bounds : List Bound
+bounds = names ∷ numbers ∷ []
+
 -- what a line is told for that passes the bound
 abbrev pub flaw_of : Bound → Flaw
 flaw_of names = UnknownName
@@ -88,7 +92,7 @@ shift_kind ds = record {
   IsTree = IsShiftBlock;
   others = other_words;
   Bound = Bound;
-  bounds = names ∷ numbers ∷ [];
+  bounds = bounds;
   flaw_of = flaw_of;
   Keeps = Keeps ds;
   Says = λ t s. shift_value ds t ≡ Some s;

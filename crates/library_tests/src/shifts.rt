@@ -6,20 +6,20 @@ ghost use Rattle.std.specs.Option.{option_copied, option_map};
 ghost use Rattle.quiver.specs.Declarations.{Declaration, IsDeclared, letter_count};
 ghost use Rattle.block_text.specs.Back.{is_named};
 ghost use Rattle.block_text.specs.Fault.{ExplainsBy};
+ghost use Rattle.block_text.specs.Laws.{AreTold, AreReadBack};
 ghost use Rattle.block_text.specs.Tokens.{tokens_of};
-ghost use Rattle.library_tests.specs.Shifts.{shift_kind, IsShifts, IsFirstFault};
+ghost use Rattle.library_tests.specs.Shifts.{other_words, HasShifts, IsShifts, IsFirstFault};
 ghost use Rattle.library_tests.specs.ShiftSteps.{begin, letter_token, letter_at, number_at, next, finish, shift_steps};
 ghost use Rattle.library_tests.specs.ShiftTexts.{letter_line_text, shift_text, HasLetter, IsWritable};
-ghost use Rattle.library_tests.specs.TextLaws.{AreTold, AreReadBack};
 
 use block_text::{
-    BlockKind, CertFault, Flaw, LineFault, NUMBER_LIMIT, begins, first_token, is, is_letter,
-    is_pair, letter_of, number_behind, number_within, put, put_number, put_word, read_blocks,
+    BlockKind, CertFault, Flaw, LineFault, NUMBER_LIMIT, first_token, is, is_letter, is_pair,
+    letter_of, number_of, put, put_letter, put_number, read_blocks,
 };
 use lists::Listing;
 use quiver::Quiver;
 use std::alloc::{AllocError, Global};
-use word_core::{Letter, Word};
+use word_core::Letter;
 
 /// A letter or none, and a number.
 #[derive(Clone, Copy, Debug, PartialEq, Eq)]
@@ -77,13 +77,7 @@ fn letter_at(quiver: &Quiver, line: &[u8]) -> Result<Option<Letter>, Flaw>
 fn number_at(line: &[u8]) -> Result<u32, Flaw>
     ensures { result ≡ number_at (tokens_of line.now) }
 {
-    let Some(digits) = number_behind("by", line) else {
-        return Err(Flaw::BadLine);
-    };
-    match number_within(NUMBER_LIMIT, digits) {
-        Some(value) => Ok(value as u32),
-        None => Err(Flaw::NumberTooLarge),
-    }
+    number_of("by", NUMBER_LIMIT as u32, line)
 }
 
 fn next(quiver: &Quiver, stage: Stage, line: &[u8]) -> Result<Stage, Flaw>
@@ -112,8 +106,8 @@ impl<'q> BlockKind for Shifts<'q> {
 
     ghost is_sound = { λ kind stage. ⊤ };
 
-    fn is_other_head(&self, line: &[u8]) -> bool {
-        begins("certificate", line) || begins("model", line) || begins("basis", line)
+    fn others(&self) -> &'static [&'static str] {
+        &["certificate", "model", "basis"]
     }
 
     fn begin(&self, _alloc: Global, line: &[u8]) -> Option<Stage> {
@@ -163,10 +157,8 @@ fn put_letter_line(
     let Some(letter) = letter else {
         return put(out, "letter\n");
     };
-    let mut word = Word::new(*out.allocator());
-    word.push(letter)?;
     put(out, "letter ")?;
-    put_word(out, quiver, &word)?;
+    put_letter(out, quiver, letter)?;
     put(out, "\n")
 }
 
@@ -184,11 +176,12 @@ pub fn put_shift(out: &mut Vec<u8>, quiver: &Quiver, shift: &Shift) -> Result<()
 
 /// The laws that each text has shifts or a first fault, in one way. They have nothing to run.
 pub fn texts_are_told()
-    ensures { (ds : List Declaration) → AreTold (shift_kind ds) }
+    ensures { (ds : List Declaration) → AreTold (IsShifts ds) (IsFirstFault ds) }
 {}
 
 /// The laws that shifts that are written are read as they are, whatever stands around them, where objects and maps have names of
 /// the language. They have nothing to run.
 pub fn shifts_are_read_back()
-    ensures { (ds : List Declaration) → IsDeclared ds → IsTrue (list_all is_named ds) → AreReadBack (shift_kind ds) (shift_text ds) (IsWritable ds) }
+    ensures { (ds : List Declaration) → IsDeclared ds → IsTrue (list_all is_named ds)
+        → AreReadBack (HasShifts ds) (shift_text ds) (IsWritable ds) other_words }
 {}

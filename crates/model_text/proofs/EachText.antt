@@ -1,18 +1,24 @@
 -- Each text has models or a first fault, in one way.
-use Rattle.model_text.specs.Models.{model_kind}
+use Rattle.std.proofs.Common.{List}
+use Rattle.quiver.specs.Declarations.{Declaration}
+use Rattle.block_text.specs.Laws.{EachIsRead, ValuesAreUnique, FaultIsUnique, ValuesHaveNoFault, AreTold}
+use Rattle.block_text.proofs.TextLaws.{are_told}
+use Rattle.model_text.specs.Models.{model_kind, IsModels, IsFirstFault}
 use Rattle.model_text.specs.Reading.{model_steps}
-use Rattle.model_text.specs.EachText.{EachTextIsRead, ModelsAreUnique, FirstFaultIsUnique, ModelsHaveNoFault}
-use Rattle.block_text.proofs.EachText.{text_is_read, values_are_unique, fault_is_unique, values_have_no_fault}
 use Rattle.model_text.proofs.Reader.{reader}
 
-pub each_text_is_read : EachTextIsRead
-each_text_is_read ds bytes = text_is_read (model_kind ds) (model_steps ds) (reader ds) bytes
+module _ (ds : List Declaration) where
+  told : AreTold (IsModels ds) (IsFirstFault ds)
+  told = are_told (model_kind ds) (model_steps ds) (reader ds)
 
-pub models_are_unique : ModelsAreUnique
-models_are_unique ds bytes one two one_is two_is = values_are_unique (model_kind ds) (model_steps ds) (reader ds) bytes one two one_is two_is
+  pub each_text_is_read : EachIsRead (IsModels ds) (IsFirstFault ds)
+  each_text_is_read = told.each_is_read
 
-pub first_fault_is_unique : FirstFaultIsUnique
-first_fault_is_unique ds bytes one two one_is two_is = fault_is_unique (model_kind ds) (model_steps ds) (reader ds) bytes one two one_is two_is
+  pub models_are_unique : ValuesAreUnique (IsModels ds) (IsFirstFault ds)
+  models_are_unique = told.values_are_unique
 
-pub models_have_no_fault : ModelsHaveNoFault
-models_have_no_fault ds bytes ms told is wrong = values_have_no_fault (model_kind ds) (model_steps ds) (reader ds) bytes ms told is wrong
+  pub first_fault_is_unique : FaultIsUnique (IsModels ds) (IsFirstFault ds)
+  first_fault_is_unique = told.fault_is_unique
+
+  pub models_have_no_fault : ValuesHaveNoFault (IsModels ds) (IsFirstFault ds)
+  models_have_no_fault = told.values_have_no_fault

@@ -16,8 +16,9 @@ use Rattle.model_text.specs.declared.place.Entry.{Entry}
 use Rattle.model_text.specs.declared.place.Entry.TheVariants as entry
 use Rattle.model_text.specs.ModelBlocks.{EntryTokens, side, matrix, ModelTokens}
 use Rattle.matrix_models.specs.Limits.{side_limit}
-use Rattle.model_text.specs.ModelBounds.{Bound, names, numbers, sizes, flaw_of, value_of, matrix_value, side_of, matrix_of, model_value, HasName, IsBelow, IsSmall}
+use Rattle.model_text.specs.ModelBounds.{Bound, names, numbers, sizes, bounds, flaw_of, value_of, matrix_value, side_of, matrix_of, model_value, HasName, IsBelow, IsSmall}
 use Rattle.model_text.specs.Reading.{values_below, matrix_made, side_value, map_value, entry_value, side_in, matrix_in, sides_in, maps_in, model_of}
+use Rattle.block_text.proofs.Bounds as listed
 use Rattle.block_text.proofs.Results.{by_test, bind_ok, asked_ok}
 use Rattle.model_text.proofs.Values.{are_values}
 
@@ -29,9 +30,7 @@ KeepsEntry ds m sizes e = IsSmall e
 
 -- the bounds that count before it
 abbrev pub before : Bound → List Bound
-before names = []
-before numbers = names ∷ []
-before sizes = names ∷ numbers ∷ []
+before bound = listed.before flaw_of bounds bound
 
 -- the line says this, where all bounds are kept; or one is the first that is passed
 pub data IsJudged (ds : List Declaration) (m : ℕ) (e : EntryTokens) (r : Result Entry Flaw) : Type 0 where

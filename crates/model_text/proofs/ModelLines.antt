@@ -1,11 +1,10 @@
 -- Models that keep bounds are read.
-use Rattle.std.proofs.Common.{◌≡◌, ◌≤◌, ℕ, true, false, List, [], ◌∷◌, ◌++◌, Some, Result, Ok, IsTrue, arith, refl, sym, ap, ◌∙◌, subst, map, nat_le, ap₂}
+use Rattle.std.proofs.Common.{◌≡◌, ◌≤◌, ℕ, false, List, [], ◌∷◌, ◌++◌, Some, Result, Ok, IsTrue, arith, refl, sym, ap, ◌∙◌, subst, map, nat_le, ap₂}
 use Rattle.std.specs.List.{All, AllZip, list_any}
 use Rattle.std.specs.Str.{bytes_eq}
 use Rattle.std.proofs.lemmas.Bool.{and_parts}
 use Rattle.std.proofs.lemmas.Bool.Decides.{nat_tests}
 use Rattle.std.proofs.lemmas.List.{append_assoc, append-nil}
-use Rattle.std.proofs.lemmas.Option.{cond_some}
 use Rattle.std.proofs.lemmas.List.Elements.{All-head, All-tail}
 use Rattle.quiver.specs.Declarations.{Declaration}
 use Rattle.matrix_models.specs.declared.model.Model.{Model}
@@ -23,17 +22,11 @@ use Rattle.model_text.specs.Reading.{begun_of, next, entry_value, grown, model_o
 use Rattle.model_text.proofs.EntryLines.{entry_read, entry_goes_on}
 use Rattle.model_text.proofs.EntryValues.{KeepsEntry, IsJudged, fine, fails, entry_judged, IsEntryOf, model_is}
 use Rattle.block_text.proofs.Owed.{read_inside, read_block}
+use Rattle.block_text.proofs.SaidLines.{within_limit, number_found}
 use Rattle.block_text.proofs.Meets.{Meets, reads, passes, then_meets, meets-weaker, asked_meets}
 use Rattle.model_text.proofs.Names.{AreDistinct, distinct_apart}
 
 module _ (K : Bound → Type 0) (ds : List Declaration) where
-  -- ---- numbers
-
-  number_meets : (limit : ℕ) (digits : List ℕ) → (K numbers → value_of digits ≤ limit) → (K numbers → (n : ℕ) × (number_within limit digits ≡ Some n))
-  number_meets limit digits within kept =
-      let small : nat_le (value_of digits) limit ≡ true = grind (arith, nat_tests, within kept) in
-      (value_of digits, rw small refl)
-
   -- ---- lines
 
   entry_by : (m : ℕ) (e : EntryTokens) → ((bound : Bound) → K bound → KeepsEntry ds m bound e) → IsJudged ds m e (entry_value ds m e) → Meets flaw_of K (λ value. entry_value ds m e ≡ Ok value) (entry_value ds m e)
@@ -96,14 +89,11 @@ module _ (K : Bound → Type 0) (ds : List Declaration) where
 
   claim_meets : (claim : List ℕ) → IsTrue (is_number claim) → (K numbers → value_of claim ≤ number_limit)
       → Meets flaw_of K (λ s. (n : ℕ) × (number_within number_limit claim ≡ Some n) × (s ≡ at.Claimed n)) (next ds at.Headed (claim_line claim))
-  claim_meets claim number within = rw number (then_meets _ (asked_meets K numbers (number_within number_limit claim) (number_meets number_limit claim within)) (λ n _ n_is. reads _ refl (n, n_is, refl)))
+  claim_meets claim number within = rw number (then_meets _ (asked_meets K numbers (number_within number_limit claim) (λ kept. number_found number_limit claim (within kept))) (λ n _ n_is. reads _ refl (n, n_is, refl)))
 
   modulus_meets : (n : ℕ) (modulus : List ℕ) → IsTrue (is_modulus modulus) → (K numbers → value_of modulus ≤ modulus_limit)
       → Meets flaw_of K (λ s. (m : ℕ) × (number_within modulus_limit modulus ≡ Some m) × (s ≡ at.Inside (begun_of n m [] []))) (next ds (at.Claimed n) (modulus_line modulus))
-  modulus_meets n modulus is_mod within = rw is_mod (then_meets _ (asked_meets K numbers (number_within modulus_limit modulus) (number_meets modulus_limit modulus within)) (λ m _ m_is. reads _ refl (m, m_is, refl)))
-
-  value_is : (limit : ℕ) (digits : List ℕ) (n : ℕ) → number_within limit digits ≡ Some n → value_of digits ≡ n
-  value_is limit digits n read = (cond_some (nat_le (value_of digits) limit) (value_of digits) n read).1
+  modulus_meets n modulus is_mod within = rw is_mod (then_meets _ (asked_meets K numbers (number_within modulus_limit modulus) (λ kept. number_found modulus_limit modulus (within kept))) (λ m _ m_is. reads _ refl (m, m_is, refl)))
 
   -- the lines of a model keep what it keeps
   lines_keep : (b : ModelTokens) → ((bound : Bound) → K bound → KeepsOne ds bound b) → LinesKeep (value_of b.modulus) b.entries
@@ -115,10 +105,10 @@ module _ (K : Bound → Type 0) (ds : List Declaration) where
   model_meets b block keeps =
       then_meets _ (claim_meets b.claim block.claim (λ kept. (keeps numbers kept).claim)) (λ q _ q_is.
       rw q_is.2 (then_meets _ (modulus_meets q_is.0 b.modulus block.modulus (λ kept. (keeps numbers kept).modulus)) (λ r _ r_is.
-      let m_is : value_of b.modulus ≡ r_is.0 = value_is modulus_limit b.modulus r_is.0 r_is.1 in
+      let m_is : value_of b.modulus ≡ r_is.0 = (within_limit modulus_limit b.modulus r_is.0 r_is.1).0 in
       let at_least = and_parts (is_number b.modulus) (nat_le 2 (value_of b.modulus)) block.modulus in
       let some : 1 ≤ r_is.0 = grind (arith, nat_tests, at_least.1, m_is) in
       let begun : Begun = begun_of q_is.0 r_is.0 [] [] in
       rw r_is.2 (meets-weaker (lines_meet begun b.entries some block.entries block.distinct (subst (λ m. LinesKeep m b.entries) m_is (lines_keep b keeps))) (λ m _ lines_are.
       let last : Begun = begun_of q_is.0 r_is.0 (map name_of b.entries) lines_are.values in
-      lines_are.is ∙ model_is ds b last (value_is number_limit b.claim q_is.0 q_is.1) m_is some lines_are.each)))))
+      lines_are.is ∙ model_is ds b last (within_limit number_limit b.claim q_is.0 q_is.1).0 m_is some lines_are.each)))))

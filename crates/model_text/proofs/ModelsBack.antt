@@ -26,7 +26,9 @@ use Rattle.model_text.specs.Models.{model_kind, HasModels, HasMap, IsPlaced}
 use Rattle.model_text.specs.Written.{rows_text, side_text, map_text, head_text, model_text}
 use Rattle.model_text.specs.Back.{IsWritableModel, ModelsAreReadBack}
 use Rattle.model_text.proofs.MatricesBack.{value_back, row_tokens, later_rows, matrix_read, matrix_line, rows_count, columns_count, matrix_back}
-use Rattle.block_text.proofs.PartsBack.{IsWritten, text_of_block, written_between}
+use Rattle.block_text.proofs.PartsBack.{IsWritten, text_of_block}
+use Rattle.block_text.proofs.TextLaws.{are_read_back}
+use Rattle.model_text.proofs.Reader.{reader}
 use Rattle.model_text.proofs.NamesApart.{Ascend, ascend_lower, ascending_apart}
 use Rattle.model_text.proofs.ObjectNames.{IsObjectName, object_is_named, IsMapName, map_is_named}
 
@@ -369,5 +371,5 @@ module _ (ds : List Declaration) (declared : IsDeclared ds) (known : IsTrue (lis
 -- ---- between other lines
 
 pub models_are_read_back : ModelsAreReadBack
-models_are_read_back ds m before after first last declared known writable whole front end few =
-    written_between (model_kind ds) (model_text ds m) m before after first last (model_written ds declared known m writable) whole front end few
+models_are_read_back ds declared known =
+    (are_read_back (model_kind ds) (model_text ds) (IsWritableModel ds) (reader ds).words (λ m writable. model_written ds declared known m writable)).between

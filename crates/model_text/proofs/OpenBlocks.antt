@@ -12,8 +12,8 @@ use Rattle.block_text.specs.declared.fault.Flaw.{Flaw}
 use Rattle.block_text.specs.declared.fault.Flaw.TheVariants.{BadLine, NumberTooLarge}
 use Rattle.block_text.specs.Fault.{◌>>=◌, asked}
 use Rattle.block_text.specs.Letters.{is_number, number_within}
-use Rattle.block_text.specs.Lines.{number_limit, is, number_behind, claim_of, Line, claim_line}
-use Rattle.block_text.proofs.LineTrees.{is_word, number_is}
+use Rattle.block_text.specs.Lines.{number_limit, is, claim_of, Line, claim_line}
+use Rattle.block_text.proofs.LineTrees.{is_word}
 use Rattle.block_text.proofs.Results.{by_test, bind_ok, bind_err, asked_ok, asked_err, else_ok}
 use Rattle.block_text.proofs.Zips.{zip_push}
 use Rattle.model_text.specs.declared.place.Begun.{Begun}
@@ -22,9 +22,10 @@ use Rattle.model_text.specs.declared.place.Stage.{Stage}
 use Rattle.model_text.specs.declared.place.Stage.TheVariants as at
 use Rattle.model_text.specs.ModelBlocks.{EntryTokens, ModelTokens, head_line, modulus_line, entry_line, model_front, name_of, is_entry, is_modulus, IsModelBlock}
 use Rattle.matrix_models.specs.Limits.{modulus_limit}
-use Rattle.model_text.specs.ModelBounds.{Bound, names, numbers, sizes, value_of, HasName, IsBelow, IsSmall, flaw_of, KeepsOne}
+use Rattle.model_text.specs.ModelBounds.{Bound, names, numbers, sizes, value_of, HasName, IsBelow, IsSmall, KeepsOne}
 use Rattle.model_text.specs.Reading.{entry_tokens, entry_value, begun_of, modulus_digits, modulus_of, grown, inside}
-use Rattle.block_text.proofs.Owed.{Begins, IsStopped, misfit, passes, IsListed}
+use Rattle.block_text.proofs.Owed.{Begins, IsStopped, misfit, passes, stopped_by, begins_as}
+use Rattle.block_text.proofs.SaidLines.{said_ok, said_err, within_limit, number_read, number_unsaid}
 use Rattle.block_text.proofs.Standing.{everywhere}
 use Rattle.model_text.specs.Models.{model_kind}
 use Rattle.model_text.proofs.EntryLines.{entry_is}
@@ -124,12 +125,6 @@ module _ (ds : List Declaration) where
 abbrev pub behind : List Line → Line → List Line
 behind front line = front ++ line ∷ []
 
--- a number within a limit
-within_limit : (limit : ℕ) (digits : List ℕ) (n : ℕ) → number_within limit digits ≡ Some n → (value_of digits ≡ n) × (value_of digits ≤ limit)
-within_limit limit digits n read =
-    let found = cond_some (nat_le (value_of digits) limit) (value_of digits) n read in
-    (found.1, grind (arith, nat_tests, found.0))
-
 modulus_is : (line : Line) (digits : List ℕ) → modulus_digits line ≡ Some digits → (line ≡ modulus_line digits) × IsTrue (is_modulus digits)
 modulus_is [] digits read = absurd (cc)
 modulus_is (word ∷ []) digits read = absurd (cc)
@@ -141,10 +136,8 @@ modulus_is (word ∷ m ∷ token ∷ tokens) digits read = absurd (cc)
 
 pub next_headed : (front : List Line) (line : Line) (n : ℕ) → front ≡ head_line ∷ [] → claim_of line ≡ Ok n → IsClaimed n (front ++ line ∷ [])
 next_headed front line n headed read =
-    bind_ok (asked BadLine (number_behind (codes "claim") line)) _ n read (λ digits there within.
-    let known = number_is (codes "claim") line digits (asked_ok BadLine (number_behind (codes "claim") line) digits there) in
-    let value = within_limit number_limit digits n (asked_ok NumberTooLarge (number_within number_limit digits) n within) in
-    record { claim = digits; number = known.1; value = value.0; within = value.1; are = ap₂ (λ (ls : List Line) (l : Line). ls ++ l ∷ []) headed known.0 })
+    let known = number_read (codes "claim") number_limit line n read in
+    record { claim = known.there.digits; number = known.there.number; value = known.value; within = known.within; are = ap₂ (λ (ls : List Line) (l : Line). ls ++ l ∷ []) headed known.there.is }
 
 -- a line more
 abbrev pub pushed : ModelTokens → EntryTokens → ModelTokens
@@ -156,9 +149,10 @@ front-push b e = ap (λ (ls : List Line). head_line ∷ claim_line b.claim ∷ m
 module _ (ds : List Declaration) where
   pub next_claimed : (front : List Line) (line : Line) (n m : ℕ) → IsClaimed n front → modulus_of line ≡ Ok m → IsInside ds (begun_of n m [] []) (front ++ line ∷ [])
   next_claimed front line n m claimed read =
-      bind_ok (asked BadLine (modulus_digits line)) _ m read (λ digits there within.
-      let known = modulus_is line digits (asked_ok BadLine (modulus_digits line) digits there) in
-      let value = within_limit modulus_limit digits m (asked_ok NumberTooLarge (number_within modulus_limit digits) m within) in
+      let found = said_ok modulus_digits (number_within modulus_limit) NumberTooLarge line m read in
+      let digits : List ℕ = found.0 in
+      let known = modulus_is line digits found.1 in
+      let value = within_limit modulus_limit digits m found.2 in
       let parts = and_parts (is_number digits) (nat_le 2 (value_of digits)) known.1 in
       record {
         tokens = shortest claimed.claim digits;
@@ -170,7 +164,7 @@ module _ (ds : List Declaration) where
         names_are = refl;
         entries_are = tt;
         are = ap₂ (λ (ls : List Line) (l : Line). ls ++ l ∷ []) claimed.are known.0;
-      })
+      }
 
   keeps_pushed : (b : ModelTokens) (e : EntryTokens) (bound : Bound) → KeepsOne ds bound b → KeepsEntry ds (value_of b.modulus) bound e → KeepsOne ds bound (pushed b e)
   keeps_pushed b e names keeps one = All-push (HasName ds) b.entries e keeps one
@@ -224,52 +218,32 @@ module _ (ds : List Declaration) where
 
   -- ---- a line that doesn't fit, or with which a block begins that keeps the bounds before one
 
-  -- where the bound stands among all
-  pub placed : (bound : Bound) → IsListed (model_kind ds) bound
-  placed names = record { earlier = []; later = numbers ∷ sizes ∷ []; splits = refl }
-  placed numbers = record { earlier = names ∷ []; later = sizes ∷ []; splits = refl }
-  placed sizes = record { earlier = names ∷ numbers ∷ []; later = []; splits = refl }
-
-  earlier_is : (bound : Bound) → (placed bound).earlier ≡ before bound
-  unfolding placed
-  earlier_is names = refl
-  earlier_is numbers = refl
-  earlier_is sizes = refl
-
   abbrev pub Stopped : Flaw → List Line → Type 0
   Stopped flaw front = IsStopped (model_kind ds) flaw front
 
-  stopped_at : (flaw : Flaw) (front : List Line) (bound : Bound) → flaw ≡ flaw_of bound → Begins (model_kind ds) (before bound) front → Stopped flaw front
-  stopped_at flaw front bound told begins =
-      passes (placed bound).earlier (placed bound).later bound (placed bound).splits told (subst (λ (bs : List Bound). Begins (model_kind ds) bs front) (sym (earlier_is bound)) begins)
-
   module _ (flaw : Flaw) (front : List Line) (line : Line) where
     pub stopped_headed : front ≡ head_line ∷ [] → claim_of line ≡ Err flaw → Stopped flaw (front ++ line ∷ [])
-    stopped_headed headed read =
-        bind_err (asked BadLine (number_behind (codes "claim") line)) _ flaw read (λ e. misfit (asked_err BadLine (number_behind (codes "claim") line) flaw e)) (λ digits there large.
-        let known = number_is (codes "claim") line digits (asked_ok BadLine (number_behind (codes "claim") line) digits there) in
-        stopped_at flaw _ numbers (asked_err NumberTooLarge (number_within number_limit digits) flaw large)
-        (subst (Begins (model_kind ds) (before numbers)) (ap₂ (λ (ls : List Line) (l : Line). ls ++ l ∷ []) (sym headed) (sym known.0)) (begin_with_claim ds (before numbers) digits known.1 (shortest_names ds digits (codes "2")))))
+    stopped_headed headed read = stopped_by (model_kind ds) flaw _ (number_unsaid (codes "claim") (number_within number_limit) line flaw read) (λ found.
+        passes numbers found.0 (begins_as (model_kind ds) (before numbers) front (head_line ∷ []) line (claim_line found.1.digits) headed found.1.is
+        (begin_with_claim ds (before numbers) found.1.digits found.1.number (shortest_names ds found.1.digits (codes "2")))))
 
     pub stopped_claimed : (n : ℕ) → IsClaimed n front → modulus_of line ≡ Err flaw → Stopped flaw (front ++ line ∷ [])
-    stopped_claimed n claimed read =
-        bind_err (asked BadLine (modulus_digits line)) _ flaw read (λ e. misfit (asked_err BadLine (modulus_digits line) flaw e)) (λ digits there large.
-        let known = modulus_is line digits (asked_ok BadLine (modulus_digits line) digits there) in
-        stopped_at flaw _ numbers (asked_err NumberTooLarge (number_within modulus_limit digits) flaw large)
-        (subst (Begins (model_kind ds) (before numbers)) (ap₂ (λ (ls : List Line) (l : Line). ls ++ l ∷ []) (sym claimed.are) (sym known.0))
-        (begin_shortest ds (before numbers) claimed.claim digits claimed.number known.1 (shortest_names ds claimed.claim digits))))
+    stopped_claimed n claimed read = stopped_by (model_kind ds) flaw _ (said_err modulus_digits (number_within modulus_limit) NumberTooLarge line flaw read) (λ found.
+        let known = modulus_is line found.0 found.1 in
+        passes numbers found.2 (begins_as (model_kind ds) (before numbers) front (head_line ∷ claim_line claimed.claim ∷ []) line (modulus_line found.0) claimed.are known.0
+        (begin_shortest ds (before numbers) claimed.claim found.0 claimed.number known.1 (shortest_names ds claimed.claim found.0))))
 
-    stopped_by : (b : Begun) (inside : IsInside ds b front) (e : EntryTokens) → list_any (bytes_eq (name_of e)) b.names ≡ false → entry_tokens line ≡ Some e → entry_value ds b.modulus e ≡ Err flaw
+    stopped_judged : (b : Begun) (inside : IsInside ds b front) (e : EntryTokens) → list_any (bytes_eq (name_of e)) b.names ≡ false → entry_tokens line ≡ Some e → entry_value ds b.modulus e ≡ Err flaw
         → IsJudged ds b.modulus e (entry_value ds b.modulus e) → Stopped flaw (front ++ line ∷ [])
-    stopped_by b inside e fresh there read (fine value is keeps) = absurd (cc)
-    stopped_by b inside e fresh there read (fails bound is keeps passed) =
+    stopped_judged b inside e fresh there read (fine value is keeps) = absurd (cc)
+    stopped_judged b inside e fresh there read (fails bound is keeps passed) =
         let known = entry_is line e there in
-        stopped_at flaw _ bound (cc) (begin_pushed b front inside e fresh known.1 line (before bound) known.0 keeps)
+        passes bound (cc) (begin_pushed b front inside e fresh known.1 line (before bound) known.0 keeps)
 
     pub stopped_inside : (b : Begun) → IsInside ds b front → (asked BadLine (entry_tokens line) >>= grown ds b) ≡ Err flaw → Stopped flaw (front ++ line ∷ [])
     stopped_inside b inside read =
         bind_err (asked BadLine (entry_tokens line)) (grown ds b) flaw read (λ e. misfit (asked_err BadLine (entry_tokens line) flaw e)) (λ e e_there read_grown.
         by_test (list_any (bytes_eq (name_of e)) b.names) _ _ (Err flaw) read_grown (λ known same. misfit (cc)) (λ fresh read_value.
         bind_err (entry_value ds b.modulus e) _ flaw read_value
-        (λ none. stopped_by b inside e fresh (asked_ok BadLine (entry_tokens line) e e_there) none (entry_judged ds b.modulus e inside.some))
+        (λ none. stopped_judged b inside e fresh (asked_ok BadLine (entry_tokens line) e e_there) none (entry_judged ds b.modulus e inside.some))
         (λ value value_is made. absurd (cc))))

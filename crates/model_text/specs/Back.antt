@@ -1,10 +1,10 @@
 -- What is read of models that are written, whatever stands around them.
-use Rattle.std.specs.Prelude.{ℕ, ◌<◌, ◌+◌, ◌^◌, List, ◌∷◌, ◌++◌, length, IsTrue}
+use Rattle.std.specs.Prelude.{◌<◌, ◌^◌, List, IsTrue}
 use Rattle.std.specs.List.{list_all}
 use Rattle.quiver.specs.Declarations.{Declaration, IsDeclared}
 use Rattle.matrix_models.specs.declared.model.Model.{Model}
-use Rattle.block_text.specs.Back.{is_whole, is_named}
-use Rattle.block_text.specs.Lines.{block_limit}
+use Rattle.block_text.specs.Back.{is_named}
+use Rattle.block_text.specs.Laws.{IsReadBetween}
 use Rattle.model_text.specs.Models.{HasModels, IsModel}
 use Rattle.model_text.specs.Written.{model_text}
 
@@ -16,7 +16,4 @@ pub record IsWritableModel (ds : List Declaration) (m : Model) : Type 0 where
 -- A model that is written between whole lines and other lines is read as it is, behind the models that those before it have and
 -- before those that the others have.
 abbrev pub ModelsAreReadBack : Type 0
-ModelsAreReadBack = (ds : List Declaration) (m : Model) (before after : List ℕ) (first last : List Model)
-    → IsDeclared ds → IsTrue (list_all is_named ds) → IsWritableModel ds m
-    → IsTrue (is_whole before) → HasModels ds before first → HasModels ds after last → length first + length last < block_limit
-    → HasModels ds (before ++ model_text ds m ++ after) (first ++ m ∷ last)
+ModelsAreReadBack = (ds : List Declaration) → IsDeclared ds → IsTrue (list_all is_named ds) → IsReadBetween (HasModels ds) (model_text ds) (IsWritableModel ds)

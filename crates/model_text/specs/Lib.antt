@@ -1,7 +1,6 @@
 pub mod ModelBlocks
 pub mod ModelBounds
 pub mod Models
-pub mod EachText
 pub mod Written
 pub mod Reading
 pub mod Views

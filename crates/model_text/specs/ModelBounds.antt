@@ -69,6 +69,10 @@ pub data Bound : Type 0 where
   numbers : Bound
   sizes : Bound
 
+-- they count in this order
+abbrev pub bounds : List Bound
+bounds = names ∷ numbers ∷ sizes ∷ []
+
 -- what a line is told for that passes the bound
 abbrev pub flaw_of : Bound → Flaw
 flaw_of names = UnknownName

@@ -10,7 +10,7 @@ use Rattle.block_text.specs.Kind.{Kind}
 use Rattle.block_text.specs.Texts as texts
 use Rattle.block_text.specs.Texts.{HasBlocks, IsBlocks}
 use Rattle.model_text.specs.ModelBlocks.{ModelTokens, model_front, IsModelBlock}
-use Rattle.model_text.specs.ModelBounds.{Bound, names, numbers, sizes, flaw_of, KeepsOne, model_value}
+use Rattle.model_text.specs.ModelBounds.{Bound, bounds, flaw_of, KeepsOne, model_value}
 
 -- ---- models
 
@@ -26,7 +26,7 @@ model_kind ds = record {
   IsTree = IsModelBlock;
   others = other_words;
   Bound = Bound;
-  bounds = names ∷ numbers ∷ sizes ∷ [];
+  bounds = bounds;
   flaw_of = flaw_of;
   Keeps = KeepsOne ds;
   Says = λ b m. m ≡ model_value ds b;

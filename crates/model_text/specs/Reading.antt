@@ -1,5 +1,5 @@
 -- How a reader of models goes over the lines of evidence text, and what it has made of the first ones. Only the reader's functions and proofs use it: what the models of a text are, Models says.
-use Rattle.std.specs.Prelude.{⊤, ℕ, ◌-◌, ◌&&◌, Bool, List, [], ◌∷◌, ◌++◌, length, map, nat_eq, nat_le, Option, Some, None, Result, Ok, Err, IsTrue, if◌then◌else◌, codes}
+use Rattle.std.specs.Prelude.{⊤, ℕ, ◌-◌, ◌&&◌, List, [], ◌∷◌, ◌++◌, length, map, nat_eq, nat_le, Option, Some, None, Result, Ok, Err, IsTrue, if◌then◌else◌, codes}
 use Rattle.std.specs.List.{flat_map, list_all, list_any, range_with_len}
 use Rattle.std.specs.Option.{option_map, option_and_then}
 use Rattle.std.specs.Str.{bytes_eq}
@@ -12,7 +12,7 @@ use Rattle.block_text.specs.declared.fault.Flaw.{Flaw}
 use Rattle.block_text.specs.declared.fault.Flaw.TheVariants.{BadLine, UnknownName, NumberTooLarge, TooMany}
 use Rattle.block_text.specs.Fault.{◌>>=◌, asked}
 use Rattle.block_text.specs.Letters.{number_within}
-use Rattle.block_text.specs.Lines.{is, begins, is_pair, claim_of, Line}
+use Rattle.block_text.specs.Lines.{is, begins, is_pair, said, claim_of, Line}
 use Rattle.model_text.specs.ModelBlocks.{EntryTokens, side, matrix, name_of, is_row, is_row_of, is_entry, is_modulus}
 use Rattle.matrix_models.specs.Limits.{modulus_limit, side_limit}
 use Rattle.block_text.specs.Steps.{Steps}
@@ -125,11 +125,8 @@ model_of ds b = record { claim = b.claim; modulus = b.modulus; sides = sides_in 
 -- ---- what is made of the lines
 
 -- model 1
-abbrev pub is_head : Line → Bool
-is_head line = is_pair (codes "model") (codes "1") line
-
 abbrev pub begin : Line → Option Stage
-begin line = if is_head line then Some at.Headed else None
+begin line = if is_pair (codes "model") (codes "1") line then Some at.Headed else None
 
 -- modulus M
 abbrev pub modulus_digits : Line → Option (List ℕ)
@@ -139,7 +136,7 @@ modulus_digits (word ∷ []) = None
 modulus_digits (word ∷ m ∷ token ∷ tokens) = None
 
 abbrev pub modulus_of : Line → Result ℕ Flaw
-modulus_of line = asked BadLine (modulus_digits line) >>= λ digits. asked NumberTooLarge (number_within modulus_limit digits)
+modulus_of line = said modulus_digits (number_within modulus_limit) NumberTooLarge line
 
 abbrev pub begun_of : ℕ → ℕ → List (List ℕ) → List Entry → Begun
 begun_of claim modulus names entries = record { claim = claim; modulus = modulus; names = names; entries = entries }

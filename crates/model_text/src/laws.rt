@@ -1,25 +1,28 @@
 //! The laws of models in evidence text. They have nothing to run.
+ghost use Rattle.std.specs.Prelude.{List};
+ghost use Rattle.block_text.specs.Laws.{EachIsRead, ValuesAreUnique, FaultIsUnique, ValuesHaveNoFault};
 ghost use Rattle.model_text.specs.Back.{ModelsAreReadBack};
-ghost use Rattle.model_text.specs.EachText.{EachTextIsRead, ModelsAreUnique, FirstFaultIsUnique, ModelsHaveNoFault};
+ghost use Rattle.model_text.specs.Models.{IsModels, IsFirstFault};
+ghost use Rattle.quiver.specs.Declarations.{Declaration};
 
 /// Each text has models, or a first fault.
 pub fn each_text_is_read()
-    ensures { EachTextIsRead }
+    ensures { (ds : List Declaration) → EachIsRead (IsModels ds) (IsFirstFault ds) }
 {}
 
 /// A text has one list of models.
 pub fn models_are_unique()
-    ensures { ModelsAreUnique }
+    ensures { (ds : List Declaration) → ValuesAreUnique (IsModels ds) (IsFirstFault ds) }
 {}
 
 /// A text has one first fault.
 pub fn first_fault_is_unique()
-    ensures { FirstFaultIsUnique }
+    ensures { (ds : List Declaration) → FaultIsUnique (IsModels ds) (IsFirstFault ds) }
 {}
 
 /// A text that has models has no fault.
 pub fn models_have_no_fault()
-    ensures { ModelsHaveNoFault }
+    ensures { (ds : List Declaration) → ValuesHaveNoFault (IsModels ds) (IsFirstFault ds) }
 {}
 
 /// The law that a model that is written is read as it is, whatever whole lines stand before it and whatever follows. It has

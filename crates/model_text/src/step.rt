@@ -7,7 +7,7 @@ ghost use Rattle.block_text.specs.Fault.{Reads};
 ghost use Rattle.block_text.specs.Tokens.{tokens_of};
 ghost use Rattle.matrix_models.specs.Matrix.{IsModulus};
 ghost use Rattle.model_text.specs.ModelBlocks.{is_entry};
-ghost use Rattle.model_text.specs.Reading.{is_head, modulus_of, grown, inside, next, model_steps, HasModulus};
+ghost use Rattle.model_text.specs.Reading.{modulus_of, grown, inside, next, model_steps, HasModulus};
 ghost use Rattle.model_text.specs.Views.{tokens_in};
 ghost use Rattle.model_text.specs.declared.place.Stage.TheVariants as stage;
 
@@ -15,9 +15,7 @@ use crate::entry::{EntryTokens, entry_tokens, is_modulus};
 use crate::finish::model_of;
 use crate::place::{Begun, Stage};
 use crate::value::{entry_value, name_text};
-use block_text::{
-    BlockKind, Flaw, LineFault, begins, claim_of, is, is_pair, number_within, two_tokens,
-};
+use block_text::{BlockKind, Flaw, LineFault, claim_of, is, is_pair, number_within, two_tokens};
 use lists::{Listing, Text};
 use matrix_models::{MODULUS_LIMIT, Model};
 use quiver::Quiver;
@@ -27,12 +25,6 @@ use std::alloc::{AllocError, Global};
 #[derive(Clone, Copy)]
 pub struct Models<'q> {
     pub quiver: &'q Quiver,
-}
-
-fn is_head(line: &[u8]) -> bool
-    ensures { result ≡ is_head (tokens_of line.now) }
-{
-    is_pair("model", "1", line)
 }
 
 // The claim behind the head.
@@ -123,12 +115,12 @@ impl<'q> BlockKind for Models<'q> {
 
     ghost is_sound = { λ kind. HasModulus };
 
-    fn is_other_head(&self, line: &[u8]) -> bool {
-        begins("certificate", line) || begins("basis", line)
+    fn others(&self) -> &'static [&'static str] {
+        &["certificate", "basis"]
     }
 
     fn begin(&self, _alloc: Global, line: &[u8]) -> Option<Stage> {
-        if is_head(line) {
+        if is_pair("model", "1", line) {
             Some(Stage::Headed)
         } else {
             None

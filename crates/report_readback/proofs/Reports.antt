@@ -18,7 +18,7 @@ use Rattle.certificate_text.specs.Bounds.{IsCertificateOf}
 use Rattle.certificate_text.specs.Evidence.{HasCertificates, IsFirstFault}
 use Rattle.block_text.specs.Back.{is_named, block as certificate, comment, other}
 use Rattle.certificate_text.specs.Back.{IsOfFormat, Part, part_text, IsPart, evidence_in}
-use Rattle.certificate_text.proofs.PartsBack.{are_parts_read_back}
+use Rattle.certificate_text.proofs.ReadBack.{are_parts_read_back}
 use Rattle.report_text.specs.declared.verdict.Verdict.{Verdict}
 use Rattle.report_text.specs.declared.verdict.Verdict.TheVariants as verdict
 use Rattle.report_text.specs.Heads.{head_line}
@@ -115,6 +115,6 @@ reports_read_back ds rules verdicts declared known over writable few =
     let parts = parts_from ds rules 1 verdicts in
     let have : evidence_in parts ≡ proved_in verdicts = parts_have ds rules 1 verdicts in
     let read : HasCertificates Lemmas ds (flat_map (part_text ds) parts) (evidence_in parts) =
-    are_parts_read_back Lemmas ds parts declared known (parts_are ds rules declared known over 1 verdicts writable) (omega (arith, few, few_proved verdicts, ap length have)) in
+    are_parts_read_back Lemmas ds declared known parts (parts_are ds rules declared known over 1 verdicts writable) (omega (arith, few, few_proved verdicts, ap length have)) in
     read_as ds (report_of ds rules verdicts) (proved_in verdicts)
     (subst (HasCertificates Lemmas ds (report_of ds rules verdicts)) have (subst (λ (bytes : List ℕ). HasCertificates Lemmas ds bytes (evidence_in parts)) (sym (report_is_parts ds rules 1 verdicts)) read))

@@ -1,4 +1,4 @@
-use Rattle.certificate_text.proofs.PartsBack.{are_parts_read_back}
+use Rattle.certificate_text.proofs.ReadBack.{are_parts_read_back}
 use Rattle.certificate_text.proofs.laws.parts_are_read_back.Goals as goal
 
 pub returns : goal.returns

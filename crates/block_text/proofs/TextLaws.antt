@@ -3,14 +3,15 @@ use Rattle.std.proofs.Common.{◌≡◌, ℕ, false, List}
 use Rattle.std.specs.List.{All}
 use Rattle.block_text.specs.Tokens.{begins_comment}
 use Rattle.block_text.specs.Kind.{Kind}
+use Rattle.block_text.specs.Laws.{AreTold, AreReadBack}
 use Rattle.block_text.specs.Steps.{Steps}
+use Rattle.block_text.specs.Texts.{HasBlocks, IsBlocks, IsFirstFault}
 use Rattle.block_text.proofs.Owed.{IsReader}
 use Rattle.block_text.proofs.EachText.{text_is_read, values_are_unique, fault_is_unique, values_have_no_fault}
 use Rattle.block_text.proofs.PartsBack.{IsWritten, written_between, parts_have}
-use Rattle.library_tests.specs.TextLaws.{AreTold, AreReadBack}
 
 module _ {Value : Type 0} (kind : Kind Value) where
-  pub are_told : {Begun : Type 0} (steps : Steps Begun Value) → IsReader kind steps → AreTold kind
+  pub are_told : {Begun : Type 0} (steps : Steps Begun Value) → IsReader kind steps → AreTold (IsBlocks kind) (IsFirstFault kind)
   are_told steps reader = record {
     each_is_read = text_is_read kind steps reader;
     values_are_unique = values_are_unique kind steps reader;
@@ -19,7 +20,7 @@ module _ {Value : Type 0} (kind : Kind Value) where
   }
 
   pub are_read_back : (text_of : Value → List ℕ) (IsGood : Value → Type 0) → All (λ word. begins_comment word ≡ false) kind.others
-      → ((value : Value) → IsGood value → IsWritten kind (text_of value) value) → AreReadBack kind text_of IsGood
+      → ((value : Value) → IsGood value → IsWritten kind (text_of value) value) → AreReadBack (HasBlocks kind) text_of IsGood kind.others
   are_read_back text_of IsGood words written = record {
     between = λ value before after first last good whole left right few. written_between kind (text_of value) value before after first last (written value good) whole left right few;
     in_parts = λ parts each few. parts_have kind text_of IsGood written words parts each few;
