@@ -13,3 +13,4 @@ pub mod PartOrder
 pub mod Refusals
 pub mod Judged
 pub mod ClosedMeaning
+mod Examples

@@ -1,5 +1,5 @@
 -- A closed basis is refused for want of memory alone.
-use Rattle.std.proofs.Common.{◌≡◌, ◌<◌, ℕ, List, [], length, get_or, slice_get, Some, Result, Ok, Err, sym, subst, ◌∙◌}
+use Rattle.std.proofs.Common.{◌≡◌, ◌<◌, ℕ, List, [], length, get_or, slice_get, Some, Result, Ok, Err, IfErr, sym, subst, ◌∙◌}
 use Rattle.std.proofs.lemmas.Option.{slice_get_within, get_or_from_slice_get}
 use Rattle.definitions.specs.Poly.{Term}
 use Rattle.nc_polynomial.specs.declared.poly.Poly.{Poly}
@@ -8,9 +8,10 @@ use Rattle.adjoint_rules.specs.declared.problem.Problem.{Problem}
 use Rattle.basis_text.specs.declared.basis.Basis.{Basis}
 use Rattle.closed_checker.specs.declared.part.Part.{Part}
 use Rattle.closed_checker.specs.declared.part.Part.TheVariants as part
+use Rattle.closed_checker.specs.declared.refusal.ClosedRefusal.{ClosedRefusal}
 use Rattle.closed_checker.specs.declared.refusal.ClosedRefusal.TheVariants as refusal
 use Rattle.closed_checker.specs.Rests.{order_of, rest_of, MayBeRule}
-use Rattle.closed_checker.specs.Closed.{IsClosedBasis, IsPart, LacksRule, Stops}
+use Rattle.closed_checker.specs.Closed.{IsClosedBasis, IsPart, LacksRule, Refuses, IsMemory}
 use Rattle.closed_checker.specs.Laws.{ClosedBasisIsNotRefused}
 
 -- ---- results
@@ -56,3 +57,8 @@ closed_basis_is_not_refused problem b (refusal.Stopped p c) closed stops =
     let left = rest_of_part problem b closed p stops.reached.part in
     absurd (no_fault (rest_of problem b p) left.0 stops.fault left.1 stops.stopped)
 closed_basis_is_not_refused problem b (refusal.Memory failed) closed refused = tt
+
+-- so what is refused of one is want of memory
+pub complete : {T : Type 0} (problem : Problem) (b : Basis) (result : Result T ClosedRefusal) → IfErr result (Refuses problem b) → IsClosedBasis problem b → IfErr result IsMemory
+complete problem b (Ok x) refused closed = tt
+complete problem b (Err e) refused closed = closed_basis_is_not_refused problem b e closed refused

@@ -1,11 +1,17 @@
 -- The parts of the check, one after another.
-use Rattle.std.proofs.Common.{◌≡◌, ◌≢◌, ◌⊎◌, inl, inr, ℕ, ◌+◌, ◌<◌, ◌≤◌, List, [], length, take, get_or, Ok, Err, refl, sym, ap, subst, ◌∙◌, arith}
+use Rattle.std.proofs.Common.{◌≡◌, ◌≢◌, ◌⊎◌, inl, inr, ℕ, ◌+◌, ◌<◌, ◌≤◌, List, [], ◌∷◌, length, take, get_or, Ok, Err, refl, sym, ap, subst, ◌∙◌, arith}
 use Rattle.std.specs.Cmp.{IsTotalOrder}
 use Rattle.std.specs.List.{All, Contains}
 use Rattle.std.proofs.lemmas.Bool.{cases_lt}
 use Rattle.std.proofs.lemmas.List.{get_or-take, length-take-le}
 use Rattle.std.proofs.lemmas.List.Elements.{All-contains, at_read}
+use Rattle.std.proofs.lemmas.Option.{slice_get-get_or, get_or_from_slice_get}
+use Rattle.definitions.specs.Poly.{Term}
+use Rattle.word_orders.specs.Admissible.{Compare}
+use Rattle.word_orders.specs.Specified.{made_cmp}
+use Rattle.word_orders.specs.declared.any.AnyOrder.{AnyOrder}
 use Rattle.word_orders.proofs.AskedOrders.{asked_cmp-admissible}
+use Rattle.rule_reduce.specs.declared.rule.Rule.{Rule}
 use Rattle.rule_reduce.specs.declared.fault.ReduceFault.{ReduceFault}
 use Rattle.rule_reduce.specs.declared.fault.ReduceFault.TheVariants as halt
 use Rattle.ambiguities.specs.declared.ambiguity.Ambiguity.{Ambiguity}
@@ -18,7 +24,16 @@ use Rattle.closed_checker.specs.declared.part.Part.{Part}
 use Rattle.closed_checker.specs.declared.part.Part.TheVariants as part
 use Rattle.closed_checker.specs.Rests.{order_of, rules_of, rest_of}
 use Rattle.closed_checker.specs.Closed.{HasRules, IsNumberUpTo, IsPart, ComesBefore, LeavesZero, Reaches, Refuses}
-use Rattle.closed_checker.specs.Working.{Explains, refusal_of, GeneratorsPass, AmbiguitiesPass}
+use Rattle.closed_checker.specs.Working.{AreRulesOf, Explains, refusal_of, GeneratorsPass, AmbiguitiesPass}
+
+-- ---- what is left
+pub some_left : (p : List Term) → 0 < length p → p ≢ []
+some_left [] some none = omega (arith, some)
+some_left (t ∷ p) some none = cc
+
+pub none_left : (p : List Term) → length p ≤ 0 → p ≡ []
+none_left [] few = refl
+none_left (t ∷ p) few = absurd (omega (arith, few))
 
 module _ (problem : Problem) (b : Basis) where
   -- ---- faults
@@ -27,6 +42,14 @@ module _ (problem : Problem) (b : Basis) where
   fault_refuses p (halt.Overflow o) reached is = record { reached = reached; fault = halt.Overflow o; stopped = is; cause = refl }
   fault_refuses p (halt.Size s) reached is = record { reached = reached; fault = halt.Size s; stopped = is; cause = refl }
   fault_refuses p (halt.Memory e) reached is = tt
+
+  pub zero_left : (p : Part) (rest : List Term) → rest_of problem b p ≡ Ok rest → length rest ≤ 0 → LeavesZero problem b p
+  zero_left p rest is few = subst (λ r. rest_of problem b p ≡ Ok r) (none_left rest few) is
+
+  -- ---- the list of ambiguities
+  pub listed_same : (order : AnyOrder) (rules : List Rule) (found : List Ambiguity) → AreRulesOf problem b order rules → AreAllInOrder (made_cmp order) rules found
+      → AreAllInOrder (order_of problem) (rules_of problem b) found
+  listed_same order rules found are all = subst (λ (p : Compare × List Rule). AreAllInOrder p.0 p.1 found) (λ n. (are.compares n, are.same n)) all
 
   -- ---- generators
   pub no_generators : GeneratorsPass problem b 0
@@ -76,10 +99,16 @@ module _ (problem : Problem) (b : Basis) where
             go (inl below) = below
             go (inr past) = absurd (later past (cases_lt i k))
 
-        pub ambiguity_reached : (i : ℕ) (a : Ambiguity) → i < length found → a ≡ get_or found i a
-            → All (λ x. LeavesZero problem b (part.Ambiguity x)) (take i found) → Reaches problem b (part.Ambiguity a)
-        ambiguity_reached i a inside is passed = record { has_rules = has; part = (all.members a).0 (i, inside, sym is); earlier = earlier }
+        pub ambiguity_reached : (i : ℕ) (d : Ambiguity) → i < length found → All (λ x. LeavesZero problem b (part.Ambiguity x)) (take i found)
+            → Reaches problem b (part.Ambiguity (get_or found i d))
+        ambiguity_reached i d inside passed = record { has_rules = has; part = (all.members a).0 (i, inside, sym is); earlier = earlier }
           where
+            a : Ambiguity
+            a = get_or found i d
+
+            is : a ≡ get_or found i a
+            is = sym (get_or_from_slice_get found i a a (slice_get-get_or found i d inside))
+
             listed : (x : Ambiguity) → Contains found x → Before x a → LeavesZero problem b (part.Ambiguity x)
             listed x (k, within, at) before =
                 let below : k < i = before_place i a inside is k x within at before in

@@ -1,7 +1,8 @@
 -- The letters of a problem's generators and of its claims are letters of its quiver.
-use Rattle.std.proofs.Common.{◌≢◌, ◌≤◌, ◌<◌, ℕ, pos, true, List, [], ◌∷◌, subst, ◌≡◌, arith}
+use Rattle.std.proofs.Common.{◌≡◌, ◌≢◌, ◌≤◌, ◌<◌, ℕ, pos, true, List, [], ◌∷◌, slice_get, Some, subst, arith}
 use Rattle.std.specs.List.{All, AllByRecursion}
 use Rattle.std.proofs.lemmas.List.Elements.{All-from_recursion, recursion_from_All, All-weaker}
+use Rattle.std.proofs.lemmas.Option.{slice_get_within, get_or_from_slice_get}
 use Rattle.definitions.specs.Poly.{Term}
 use Rattle.definitions.specs.Quiver.{Quiver, letters, source, leads, is_path}
 use Rattle.definitions.specs.Soundness.{HasSignature}
@@ -56,3 +57,9 @@ pub over_more : (few many : ℕ) (p : List Term) → few ≤ many → All (λ t.
 over_more few many p most each =
     All-weaker (λ (t : Term). IsOver few t.1) (λ (t : Term). IsOver many t.1)
     (λ t word. All-weaker (λ a. a < few) (λ a. a < many) (λ a below. omega (arith, below, most)) t.1 word) p each
+
+-- what stands at a place of a list of polynomials over the quiver
+pub over_at : (ds : List Declaration) (ps : List Poly) (place many : ℕ) (p : Poly) → letter_count ds ≤ many → All (IsPolyOver ds) ps → slice_get ps place ≡ Some p
+    → All (λ t. IsOver many t.1) p.terms
+over_at ds ps place many p most each at =
+    over_more (letter_count ds) many p.terms most (subst (IsPolyOver ds) (get_or_from_slice_get ps place p p at) (each place p (slice_get_within ps place p at)))

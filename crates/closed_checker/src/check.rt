@@ -3,6 +3,7 @@ ghost use Rattle.std.specs.Prelude.{◌≡◌, ◌↔◌, length, IsTrue, IfOk, 
 ghost use Rattle.word_orders.specs.Specified.{made_cmp};
 ghost use Rattle.closed_checker.specs.Rests.{order_of, rules_of};
 ghost use Rattle.closed_checker.specs.Closed.{IsReadableBasis, NamesClaim, HasRules, IsClosedBasis, Refuses, IsMemory};
+ghost use Rattle.closed_checker.specs.Laws.{ClosedMeans};
 ghost use Rattle.closed_checker.specs.Working.{AreRulesOf, GeneratorsPass, AmbiguitiesPass};
 
 use crate::rest::rest_of;
@@ -26,6 +27,7 @@ pub fn confirm_closed(
 ) -> Result<Rules<AnyOrder>, ClosedRefusal>
     requires { IsReadableBasis problem.now.parts.quiver basis.now }
     ensures closed { OnOk result (IsClosedBasis problem.now basis.now) }
+    ensures means { OnOk result (ClosedMeans problem.now basis.now) }
     ensures rules { IfOk result (λ r. r.rules ≡ rules_of problem.now basis.now) }
     ensures order { IfOk result (λ r. made_cmp r.order ≡ order_of problem.now) }
     ensures refused { IfErr result (Refuses problem.now basis.now) }
