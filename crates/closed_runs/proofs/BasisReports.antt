@@ -89,15 +89,18 @@ module _ (ds : List Declaration) (rules : List Poly) (declared : IsDeclared ds) 
   Writable = IsWritableBasis ds
 
   -- the bases of the first claim, and of the other ones
-  first_bases : (claim : ℕ) (v : Verdict) (verdicts : List Verdict) → All Writable (bases_from rules claim (v ∷ verdicts)) → All Writable (bases_at rules claim v)
+  first_bases : (claim : ℕ) (v : Verdict) (verdicts : List Verdict) → All Writable (bases_from rules claim (v ∷ verdicts))
+      → All Writable (bases_at rules claim v)
   first_bases claim (verdict.Proved e) verdicts each = All-nil Writable
   first_bases claim (verdict.NotDerivable rest) verdicts each =
-      All-cons Writable (basis_by rules claim rest) [] (All-head Writable (basis_by rules claim rest) (bases_from rules (suc claim) verdicts) each) (All-nil Writable)
+      All-cons Writable (basis_by rules claim rest) [] (All-head Writable (basis_by rules claim rest) (bases_from rules (suc claim) verdicts) each)
+      (All-nil Writable)
   first_bases claim (verdict.Refuted m) verdicts each = All-nil Writable
   first_bases claim (verdict.Undecided h) verdicts each = All-nil Writable
   first_bases claim (verdict.NotRefuted candidates) verdicts each = All-nil Writable
 
-  later_bases : (claim : ℕ) (v : Verdict) (verdicts : List Verdict) → All Writable (bases_from rules claim (v ∷ verdicts)) → All Writable (bases_from rules (suc claim) verdicts)
+  later_bases : (claim : ℕ) (v : Verdict) (verdicts : List Verdict) → All Writable (bases_from rules claim (v ∷ verdicts))
+      → All Writable (bases_from rules (suc claim) verdicts)
   later_bases claim (verdict.Proved e) verdicts each = each
   later_bases claim (verdict.NotDerivable rest) verdicts each = All-tail Writable (basis_by rules claim rest) (bases_from rules (suc claim) verdicts) each
   later_bases claim (verdict.Refuted m) verdicts each = each
@@ -127,7 +130,8 @@ module _ (ds : List Declaration) (rules : List Poly) (declared : IsDeclared ds) 
       let written = basis_written ds declared known b writable in
       record { whole = written.text_is.whole; has = text_of_block (basis_kind ds) (text_of ds b) (by_terms b) written }
 
-  block_has : (claim : ℕ) (v : Verdict) → IsWritableVerdict ds v → All Writable (bases_at rules claim v) → IsTextWith ds (block_text ds rules claim v) (bases_at rules claim v)
+  block_has : (claim : ℕ) (v : Verdict) → IsWritableVerdict ds v → All Writable (bases_at rules claim v)
+      → IsTextWith ds (block_text ds rules claim v) (bases_at rules claim v)
   block_has claim (verdict.Proved e) writable each = skipped ds _ (evidence_is_skipped other_words certificates_are_others ds e declared known writable)
   block_has claim (verdict.NotDerivable rest) writable each = basis_has (basis_by rules claim rest) (All-head Writable (basis_by rules claim rest) [] each)
   block_has claim (verdict.Refuted m) writable each = model_has m
@@ -144,8 +148,10 @@ module _ (ds : List Declaration) (rules : List Poly) (declared : IsDeclared ds) 
       let others = bases_from rules (suc claim) verdicts in
       let count : length own + length others ≡ length (bases_from rules claim (v ∷ verdicts)) =
       sym (length-append own others) ∙ ap length (bases-first rules claim v verdicts) in
-      let first = with-append ds head (block_text ds rules claim v) [] own (head_has claim v here) (block_has claim v here (first_bases claim v verdicts each)) (omega (arith, few, count)) in
-      let rest = report_has (suc claim) verdicts (All-tail (IsWritableVerdict ds) v verdicts writable) (later_bases claim v verdicts each) (omega (arith, few, count)) in
+      let first = with-append ds head (block_text ds rules claim v) [] own (head_has claim v here) (block_has claim v here (first_bases claim v verdicts each))
+      (omega (arith, few, count)) in
+      let rest = report_has (suc claim) verdicts (All-tail (IsWritableVerdict ds) v verdicts writable) (later_bases claim v verdicts each)
+      (omega (arith, few, count)) in
       subst (IsTextWith ds (report_from ds rules claim (v ∷ verdicts))) (bases-first rules claim v verdicts)
       (with-append ds (head ++ block_text ds rules claim v) (report_from ds rules (suc claim) verdicts) own others first rest (omega (arith, few, count)))
 

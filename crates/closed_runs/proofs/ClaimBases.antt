@@ -40,18 +40,21 @@ use Rattle.closed_runs.proofs.Printed.{printed_bases_are_confirmed}
 
 -- ---- the bases of the verdicts are those of the outcomes
 module _ (ds : List Declaration) (rules : List Poly) where
-  none_of_halted : (h : Halt) (v : Verdict) (claim : ℕ) (verdicts : List Verdict) → IsVerdictOfHalt ds h v → bases_from rules claim (v ∷ verdicts) ≡ bases_from rules (suc claim) verdicts
+  none_of_halted : (h : Halt) (v : Verdict) (claim : ℕ) (verdicts : List Verdict) → IsVerdictOfHalt ds h v
+      → bases_from rules claim (v ∷ verdicts) ≡ bases_from rules (suc claim) verdicts
   none_of_halted h v claim verdicts (inl undecided) = ap (λ u. bases_from rules claim (u ∷ verdicts)) undecided
   none_of_halted h v claim verdicts (inr refuted) = ap (λ u. bases_from rules claim (u ∷ verdicts)) refuted.2
 
-  pub same_bases : (claim : ℕ) (outcomes : List Outcome) (verdicts : List Verdict) → AreVerdictsOf ds outcomes verdicts → bases_from rules claim verdicts ≡ closed_from rules claim outcomes
+  pub same_bases : (claim : ℕ) (outcomes : List Outcome) (verdicts : List Verdict) → AreVerdictsOf ds outcomes verdicts
+      → bases_from rules claim verdicts ≡ closed_from rules claim outcomes
   same_bases claim [] [] are = refl
   same_bases claim [] (v ∷ verdicts) are = absurd are
   same_bases claim (o ∷ outcomes) [] are = absurd are
   same_bases claim (outcome.Derived e ∷ outcomes) (v ∷ verdicts) are =
       ap (λ u. bases_from rules claim (u ∷ verdicts)) are.0 ∙ same_bases (suc claim) outcomes verdicts are.1
   same_bases claim (outcome.Closed rest ∷ outcomes) (v ∷ verdicts) are =
-      ap (λ u. bases_from rules claim (u ∷ verdicts)) are.0 ∙ ap (λ (bases : List Basis). basis_by rules claim rest ∷ bases) (same_bases (suc claim) outcomes verdicts are.1)
+      ap (λ u. bases_from rules claim (u ∷ verdicts)) are.0 ∙ ap (λ (bases : List Basis). basis_by rules claim rest ∷ bases)
+      (same_bases (suc claim) outcomes verdicts are.1)
   same_bases claim (outcome.Halted h ∷ outcomes) (v ∷ verdicts) are = none_of_halted h v claim verdicts are.0 ∙ same_bases (suc claim) outcomes verdicts are.1
 
 module _ (problem : Problem) (budget : Budget) (form : Format) where
@@ -68,17 +71,23 @@ module _ (problem : Problem) (budget : Budget) (form : Format) where
   count = length problem.parts.claims
 
   -- what holds of the basis of each closed claim, by its outcome
-  module _ (rules : List Poly) (P : Basis → Type 0) (each : (number : ℕ) (rest : Poly) → IsNumberUpTo count number → IsOutcomeAt problem budget form number (outcome.Closed rest) → P (basis_by rules number rest)) where
-    each_from : (claim more : ℕ) → 1 ≤ claim → claim + more ≤ suc count → (outcomes : List Outcome) → AreOutcomesOf setting form problem (range_with_len claim more) outcomes
+  module _ (rules : List Poly) (P : Basis → Type 0)
+      (each : (number : ℕ) (rest : Poly) → IsNumberUpTo count number → IsOutcomeAt problem budget form number (outcome.Closed rest)
+      → P (basis_by rules number rest)) where
+    each_from : (claim more : ℕ) → 1 ≤ claim → claim + more ≤ suc count → (outcomes : List Outcome)
+        → AreOutcomesOf setting form problem (range_with_len claim more) outcomes
         → AllByRecursion P (closed_from rules claim outcomes)
     each_from claim zero first last [] are = tt
     each_from claim zero first last (o ∷ outcomes) are = absurd are
     each_from claim (suc more) first last [] are = absurd are
     each_from claim (suc more) first last (o ∷ outcomes) are =
         let step : claim + 1 ≡ suc claim = omega arith in
-        go o are.0 (each_from (suc claim) more (omega (arith, first)) (omega (arith, last)) outcomes (subst (λ n. AreOutcomesOf setting form problem (range_with_len n more) outcomes) step are.1))
+        go o are.0
+        (each_from (suc claim) more (omega (arith, first)) (omega (arith, last)) outcomes
+        (subst (λ n. AreOutcomesOf setting form problem (range_with_len n more) outcomes) step are.1))
       where
-        go : (o : Outcome) → IsOutcomeAt problem budget form claim o → AllByRecursion P (closed_from rules (suc claim) outcomes) → AllByRecursion P (closed_from rules claim (o ∷ outcomes))
+        go : (o : Outcome) → IsOutcomeAt problem budget form claim o → AllByRecursion P (closed_from rules (suc claim) outcomes)
+            → AllByRecursion P (closed_from rules claim (o ∷ outcomes))
         go (outcome.Derived e) is rest = rest
         go (outcome.Closed left) is rest = (each claim left (record { least = first; most = omega (arith, last) }) is, rest)
         go (outcome.Halted h) is rest = rest
@@ -93,15 +102,18 @@ module _ (problem : Problem) (budget : Budget) (form : Format) where
       let claim = claim_at problem number in
       words_from letters claim
       (words_listed (λ w. 0 < length w) claim (distinct-descending claim (recursion_from_IsDescending claim is.shaped.descending))
-      (recursion_from_All (λ (t : Term). t.0 ≢ pos 0) claim is.shaped.nonzero) (typed_has_no_empty_word (quiver_of problem.parts.quiver) any_letter claim is.typed).at)
+      (recursion_from_All (λ (t : Term). t.0 ≢ pos 0) claim is.shaped.nonzero)
+      (typed_has_no_empty_word (quiver_of problem.parts.quiver) any_letter claim is.typed).at)
       (recursion_from_All (λ (t : Term). IsOver letters t.1) claim is.over)
 
   rest_has_letters : (number : ℕ) (rest : Poly) → IsOutcomeAt problem budget form number (outcome.Closed rest) → HasLetters rest
   rest_has_letters number rest is =
-      let closing : Closes setting (claim_at problem number) rest.terms is.rounds is.state = closes setting form number (claim_at problem number) is.rounds is.state rest is.gets in
+      let closing : Closes setting (claim_at problem number) rest.terms is.rounds is.state = closes setting form number
+      (claim_at problem number) is.rounds is.state rest is.gets in
       let run = open_run setting (claim_at problem number) is.rounds is.state closing.opened in
       let are = (state_kept problem budget is.rounds is.state run).kept.are_rules in
-      let words = normal_words letters compare is.state.rules are (claim_at problem number) budget.steps closing.left.reduced (claim_words number) closing.left.reduction in
+      let words = normal_words letters compare is.state.rules are (claim_at problem number) budget.steps closing.left.reduced
+      (claim_words number) closing.left.reduction in
       All-from_recursion (λ (t : Term). 0 < length t.1) rest.terms
       (subst (AllByRecursion (λ (t : Term). 0 < length t.1)) closing.left.rest_is (words_nonempty letters closing.left.reduced.rest words))
 
@@ -114,7 +126,8 @@ module _ (problem : Problem) (budget : Budget) (form : Format) where
     rules_have_letters =
         subst (All HasLetters) (sym last.are)
         (All-from_recursion HasLetters (polynomials_in last.state.rules)
-        (polys_have_letters last.state.rules (recursion_from_All (IsRule letters compare) last.state.rules (state_kept problem budget last.rounds last.state last.run).kept.are_rules)))
+        (polys_have_letters last.state.rules
+        (recursion_from_All (IsRule letters compare) last.state.rules (state_kept problem budget last.rounds last.state last.run).kept.are_rules)))
 
     pub closed_are_writable : length rules ≤ rule_limit → (outcomes : List Outcome) → AreOutcomesOf setting form problem (claim_numbers problem) outcomes
         → All (IsWritableBasis problem.parts.quiver) (closed_from rules 1 outcomes)
@@ -122,14 +135,19 @@ module _ (problem : Problem) (budget : Budget) (form : Format) where
         each_closed rules (IsWritableBasis problem.parts.quiver) (λ number rest there is. record {
           claim = omega (arith, there.most, problem.posed.few_claims);
           few = few;
-          over = record { rules = last_rules_have_letters problem budget form (claim_numbers problem) rules last; rest = outcomes_have_letters problem budget form number (outcome.Closed rest) is };
+          over = record {
+            rules = last_rules_have_letters problem budget form (claim_numbers problem) rules last;
+            rest = outcomes_have_letters problem budget form number (outcome.Closed rest) is;
+          };
           rules = rules_have_letters;
           rest = rest_has_letters number rest is;
         })
 
-    pub closed_are_confirmed : (outcomes : List Outcome) → AreOutcomesOf setting form problem (claim_numbers problem) outcomes → All (IsConfirmedWithinLimits problem) (closed_from rules 1 outcomes)
+    pub closed_are_confirmed : (outcomes : List Outcome) → AreOutcomesOf setting form problem (claim_numbers problem) outcomes
+        → All (IsConfirmedWithinLimits problem) (closed_from rules 1 outcomes)
     closed_are_confirmed =
-        each_closed rules (IsConfirmedWithinLimits problem) (λ number rest there is. printed_bases_are_confirmed problem budget form (basis_by rules number rest) (record { outcome = is; rules = last }))
+        each_closed rules (IsConfirmedWithinLimits problem)
+        (λ number rest there is. printed_bases_are_confirmed problem budget form (basis_by rules number rest) (record { outcome = is; rules = last }))
 
 pub reported_bases_are_confirmed : ReportedBasesAreConfirmed
 reported_bases_are_confirmed problem budget form outcomes rules are last = closed_are_confirmed problem budget form rules last outcomes are
