@@ -29,20 +29,25 @@ module _ (compare : Compare) where
       go (Some t) positive rest = ap (λ (qs : List (List Term)). p.terms ∷ qs) rest
 
   module _ (letters : ℕ) where
-    leads_rule : (p : Poly) (t : Term) → MayBeRule compare p → All (λ u. IsOver letters u.1) p.terms → leading_term compare p.terms ≡ Some t → IsRule letters compare (rule_with p t)
+    leads_rule : (p : Poly) (t : Term) → MayBeRule compare p → All (λ u. IsOver letters u.1) p.terms → leading_term compare p.terms ≡ Some t
+        → IsRule letters compare (rule_with p t)
     leads_rule p t may over leads = record {
       leading = leads;
       positive = subst (λ (o : Option Term). IsSomeAnd o (λ u. pos 0 <ℤ u.0)) leads may.positive;
-      in_range = leading-all (λ u. IsCoefficient u.0) compare p.terms t leads (recursion_from_All (λ (u : Term). IsCoefficient u.0) p.terms p.canonical.shaped.in_range);
+      in_range =
+          leading-all (λ u. IsCoefficient u.0) compare p.terms t leads
+          (recursion_from_All (λ (u : Term). IsCoefficient u.0) p.terms p.canonical.shaped.in_range);
       nonempty = may.nonempty;
       over = over;
     }
 
-    pub rules_from-are : (ps : List Poly) → AllByRecursion (MayBeRule compare) ps → AllByRecursion (λ p. All (λ t. IsOver letters t.1) p.terms) ps → AllByRecursion (IsRule letters compare) (rules_from compare ps)
+    pub rules_from-are : (ps : List Poly) → AllByRecursion (MayBeRule compare) ps → AllByRecursion (λ p. All (λ t. IsOver letters t.1) p.terms) ps
+        → AllByRecursion (IsRule letters compare) (rules_from compare ps)
     rules_from-are [] may over = tt
     rules_from-are (p ∷ ps) may over = go (leading_term compare p.terms) refl may.0.positive (rules_from-are ps may.1 over.1)
       where
-        go : (o : Option Term) → leading_term compare p.terms ≡ o → IsSomeAnd o (λ t. pos 0 <ℤ t.0) → AllByRecursion (IsRule letters compare) (rules_from compare ps)
+        go : (o : Option Term) → leading_term compare p.terms ≡ o → IsSomeAnd o (λ t. pos 0 <ℤ t.0)
+            → AllByRecursion (IsRule letters compare) (rules_from compare ps)
             → AllByRecursion (IsRule letters compare) (option_to_list (option_map (rule_with p) o) ++ rules_from compare ps)
         go None leads positive rest = absurd positive
         go (Some t) leads positive rest = (leads_rule p t may.0 over.0 leads, rest)

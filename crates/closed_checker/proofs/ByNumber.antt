@@ -47,8 +47,12 @@ module _ (ds : List Declaration) where
   over_at (p ∷ ps) each (suc zero) = each.0
   over_at (p ∷ ps) each (suc (suc k)) = over_at ps each.1 (suc k)
 
-pub generator_over : (problem : Problem) (number : ℕ) → All (λ t. IsOver (letter_count problem.parts.quiver) t.1) (generator_at (polynomials problem.generators) number)
-generator_over problem = over_at problem.parts.quiver problem.generators (recursion_from_All (IsPolyOver problem.parts.quiver) problem.generators (generators_over problem))
+pub generator_over : (problem : Problem) (number : ℕ)
+    → All (λ t. IsOver (letter_count problem.parts.quiver) t.1) (generator_at (polynomials problem.generators) number)
+generator_over problem =
+    over_at problem.parts.quiver problem.generators (recursion_from_All (IsPolyOver problem.parts.quiver) problem.generators (generators_over problem))
 
-pub claim_over : (problem : Problem) (number : ℕ) → All (λ t. IsOver (letter_count problem.parts.quiver) t.1) (generator_at (polynomials problem.parts.claims) number)
-claim_over problem = over_at problem.parts.quiver problem.parts.claims (recursion_from_All (IsPolyOver problem.parts.quiver) problem.parts.claims (claims_over problem))
+pub claim_over : (problem : Problem) (number : ℕ)
+    → All (λ t. IsOver (letter_count problem.parts.quiver) t.1) (generator_at (polynomials problem.parts.claims) number)
+claim_over problem =
+    over_at problem.parts.quiver problem.parts.claims (recursion_from_All (IsPolyOver problem.parts.quiver) problem.parts.claims (claims_over problem))

@@ -61,21 +61,26 @@ zero_is_empty (t ∷ p) shaped none =
     (sym (first_coefficient t p (distinct-descending (t ∷ p) (recursion_from_IsDescending (t ∷ p) shaped.descending)).0) ∙ none.at t.1))
 
 -- ---- reductions with their rest
-module _ (letters : ℕ) (compare : Compare) (rank : List ℕ → List ℕ) (laws : IsAdmissible letters compare rank) (rules : List Rule) (are : All (IsRule letters compare) rules) where
+module _ (letters : ℕ) (compare : Compare) (rank : List ℕ → List ℕ) (laws : IsAdmissible letters compare rank) (rules : List Rule)
+    (are : All (IsRule letters compare) rules) where
   -- a reduction of the polynomial with this rest
   pub record HasReduction (p rest : List Term) : Type 0 where
     pub state : State
     pub reduced : IsReduced letters compare rules p state
     pub rest_is : state.rest ≡ rest
 
-  pub reduction_of : (p rest : List Term) → IsShaped p → All (λ t. IsOver letters t.1) p → rest_in (normal_form_of compare rules p step_limit) ≡ Ok rest → HasReduction p rest
+  pub reduction_of : (p rest : List Term) → IsShaped p → All (λ t. IsOver letters t.1) p → rest_in (normal_form_of compare rules p step_limit) ≡ Ok rest
+      → HasReduction p rest
   reduction_of p rest shaped over is = go (normal_form_of compare rules p step_limit) refl is
     where
       go : (r : Result State ReduceFault) → normal_form_of compare rules p step_limit ≡ r → rest_in r ≡ Ok rest → HasReduction p rest
-      go (Ok s) ends k = record { state = s; reduced = normal_forms_are_reduced letters compare rank rules p step_limit s laws are shaped over ends; rest_is = same_rest s.rest rest k }
+      go (Ok s) ends k =
+          let reduced = normal_forms_are_reduced letters compare rank rules p step_limit s laws are shaped over ends in
+          record { state = s; reduced = reduced; rest_is = same_rest s.rest rest k }
       go (Err e) ends k = absurd (no_rest e rest k)
 
-  zero_inside : (p : List Term) → IsShaped p → All (λ t. IsOver letters t.1) p → rest_in (normal_form_of compare rules p step_limit) ≡ Ok [] → InRationalIdeal (polynomials_of rules) p
+  zero_inside : (p : List Term) → IsShaped p → All (λ t. IsOver letters t.1) p → rest_in (normal_form_of compare rules p step_limit) ≡ Ok []
+      → InRationalIdeal (polynomials_of rules) p
   zero_inside p shaped over is =
       let found = reduction_of p [] shaped over is in
       zero_rests_are_inside letters compare rules p found.state found.reduced (empty_is_zero found.state.rest found.rest_is)
@@ -88,7 +93,8 @@ module _ (letters : ℕ) (compare : Compare) (rank : List ℕ → List ℕ) (law
       go (Ok p) ends k =
           let shaped = s_polynomials_are_shaped rules a p ends in
           let found = reduction_of p [] shaped (over_terms letters compare rank rules a p laws are ambiguity ends shaped) k in
-          zero_rests_are_resolved letters compare rank rules a p found.state laws are ambiguity (s_polynomials_balance rules a p ends) found.reduced (empty_is_zero found.state.rest found.rest_is)
+          zero_rests_are_resolved letters compare rank rules a p found.state laws are ambiguity (s_polynomials_balance rules a p ends) found.reduced
+          (empty_is_zero found.state.rest found.rest_is)
 
 -- ---- a basis
 module _ (problem : Problem) (b : Basis) where
@@ -113,11 +119,14 @@ module _ (problem : Problem) (b : Basis) where
 
     are_rules : All (IsRule letters (order_of problem)) rules
     are_rules = All-from_recursion (IsRule letters (order_of problem)) rules
-        (rules_from-are (order_of problem) letters b.rules (recursion_from_All May b.rules closed.has_rules.rules) (recursion_from_All (IsPolyOver problem.parts.quiver) b.rules readable.over.rules))
+        (rules_from-are (order_of problem) letters b.rules (recursion_from_All May b.rules closed.has_rules.rules)
+        (recursion_from_All (IsPolyOver problem.parts.quiver) b.rules readable.over.rules))
 
-    generator_inside : (n : ℕ) → 1 ≤ n → n ≤ length (polynomials problem.generators) → InRationalIdeal (polynomials_of rules) (generator_at (polynomials problem.generators) n)
+    generator_inside : (n : ℕ) → 1 ≤ n → n ≤ length (polynomials problem.generators)
+        → InRationalIdeal (polynomials_of rules) (generator_at (polynomials problem.generators) n)
     generator_inside n first last =
-        zero_inside letters (order_of problem) rank laws rules are_rules (generator_at (polynomials problem.generators) n) (canonical_at problem.generators n).shaped (generator_over problem n)
+        zero_inside letters (order_of problem) rank laws rules are_rules (generator_at (polynomials problem.generators) n)
+        (canonical_at problem.generators n).shaped (generator_over problem n)
         (closed.generators n (record { least = first; most = omega (arith, last, length-map problem.generators (λ (p : Poly). p.terms)) }))
 
     generated : All (InRationalIdeal (polynomials_of rules)) (polynomials problem.generators)
@@ -129,9 +138,12 @@ module _ (problem : Problem) (b : Basis) where
     outside_rules : InRationalIdeal (polynomials_of rules) (claim_of problem b) → ⊥
     outside_rules inside =
         let over = claim_over problem b.claim in
-        let found = reduction_of letters (order_of problem) rank laws rules are_rules (claim_of problem b) b.rest.terms (canonical_at problem.parts.claims b.claim).shaped over closed.claim in
-        let below : HasLettersBelow letters (claim_of problem b) = record { at = words_with_coefficients (IsOver letters) (claim_of problem b) (recursion_from_All (λ (t : Term). IsOver letters t.1) (claim_of problem b) over) } in
-        let vanishes = rests_of_ideal_are_zero letters (order_of problem) rank rules (claim_of problem b) found.state laws are_rules resolved inside below found.reduced in
+        let found = reduction_of letters (order_of problem) rank laws rules are_rules (claim_of problem b) b.rest.terms
+        (canonical_at problem.parts.claims b.claim).shaped over closed.claim in
+        let each = recursion_from_All (λ (t : Term). IsOver letters t.1) (claim_of problem b) over in
+        let below : HasLettersBelow letters (claim_of problem b) = record { at = words_with_coefficients (IsOver letters) (claim_of problem b) each } in
+        let vanishes = rests_of_ideal_are_zero letters (order_of problem) rank rules
+        (claim_of problem b) found.state laws are_rules resolved inside below found.reduced in
         closed.nonzero (zero_is_empty b.rest.terms b.rest.canonical.shaped (subst IsZero found.rest_is vanishes))
 
     means : ClosedMeans problem b

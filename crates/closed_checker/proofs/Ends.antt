@@ -1,5 +1,6 @@
 -- What a reduction or an S-polynomial ends with: a polynomial within the limits, or a fault that isn't want of memory.
-use Rattle.std.proofs.Common.{◌≡◌, ◌⊎◌, inl, inr, ℕ, zero, suc, ℤ, Bool, true, false, cond, List, ◌++◌, length, nat_lt, Option, Some, None, Result, Ok, Err, refl, sym, subst}
+use Rattle.std.proofs.Common.{◌≡◌, ◌⊎◌, inl, inr, ℕ, zero, suc, ℤ, Bool, true, false, cond, List, ◌++◌, length, nat_lt, Option, Some, None, Result, Ok, Err}
+use Rattle.std.proofs.Common.{refl, sym, subst}
 use Rattle.coef_int.specs.declared.Overflow.{Overflow}
 use Rattle.coef_int.specs.Operations.{first_overflow}
 use Rattle.definitions.specs.Poly.{Term, poly_between}
@@ -68,19 +69,22 @@ overflow_makes : {A : Type 0} (P : A → Type 0) (o : Option Overflow) (r : Resu
 overflow_makes P None r makes = makes
 overflow_makes P (Some o) r makes = λ memory. memory
 
-then_makes : (P Q : List Term → Type 0) (r : Result (List Term) PolyFault) (next : List Term → Result (List Term) PolyFault) → Makes P r → ((p : List Term) → P p → Makes Q (next p)) → Makes Q (and_then r next)
+then_makes : (P Q : List Term → Type 0) (r : Result (List Term) PolyFault) (next : List Term → Result (List Term) PolyFault) → Makes P r
+    → ((p : List Term) → P p → Makes Q (next p)) → Makes Q (and_then r next)
 then_makes P Q (Ok p) next makes later = later p makes
 then_makes P Q (Err e) next makes later = makes
 
 -- ---- S-polynomials
 combined_makes : (a : ℤ) (p : List Term) (b : ℤ) (q : List Term) → Makes IsSized (combined a p b q)
 combined_makes a p b q =
-    overflow_makes IsSized (first_overflow (products a p ++ (products b q ++ sums (scaled a p) (scaled b q)))) (sized (added (scaled a p) (scaled b q))) (sized_makes (added (scaled a p) (scaled b q)))
+    overflow_makes IsSized (first_overflow (products a p ++ (products b q ++ sums (scaled a p) (scaled b q)))) (sized (added (scaled a p) (scaled b q)))
+    (sized_makes (added (scaled a p) (scaled b q)))
 
 pub s_polynomial_makes : (rules : List Rule) (a : Ambiguity) → Makes IsCanonical (s_polynomial_of rules a)
 s_polynomial_makes rules a =
     makes_too IsSized IsCanonical (s_polynomial_of rules a) (λ p is within. canonical_sized p p (s_polynomials_are_shaped rules a p is) within)
-    (then_makes IsSized IsSized (row_multiple rules (first_row rules a)) (λ p. and_then (row_multiple rules (second_row rules a)) (λ q. combined (first_row rules a).coef p (second_row rules a).coef q))
+    (then_makes IsSized IsSized (row_multiple rules (first_row rules a))
+    (λ p. and_then (row_multiple rules (second_row rules a)) (λ q. combined (first_row rules a).coef p (second_row rules a).coef q))
     (sized_makes (poly_between (first_row rules a).left (generator_at (polynomials_of rules) a.i) (first_row rules a).right)) (λ p _.
     then_makes IsSized IsSized (row_multiple rules (second_row rules a)) (λ q. combined (first_row rules a).coef p (second_row rules a).coef q)
     (sized_makes (poly_between (second_row rules a).left (generator_at (polynomials_of rules) a.j) (second_row rules a).right)) (λ q _.
@@ -93,9 +97,11 @@ module _ (first : List Term) where
   IsKept s = (s.rest ≡ first) ⊎ IsSized s.rest
 
   move_makes : (m : Move) (s : State) → Makes IsKept (move_result m s)
-  move_makes m s = overflow_makes IsKept (first_overflow (move_operations m s)) (if_sized (sized (moved m s).rest) (moved m s)) (go (sized_or_not (moved m s).rest))
+  move_makes m s =
+      overflow_makes IsKept (first_overflow (move_operations m s)) (if_sized (sized (moved m s).rest) (moved m s)) (go (sized_or_not (moved m s).rest))
     where
-      go : IsSized (moved m s).rest ⊎ ((letters : Bool) × (sized (moved m s).rest ≡ Err (size_fault letters))) → Makes IsKept (if_sized (sized (moved m s).rest) (moved m s))
+      go : IsSized (moved m s).rest ⊎ ((letters : Bool) × (sized (moved m s).rest ≡ Err (size_fault letters)))
+          → Makes IsKept (if_sized (sized (moved m s).rest) (moved m s))
       go (inl within) = subst (λ r. Makes IsKept (if_sized r (moved m s))) (sym within) (inr within)
       go (inr (letters, large)) = subst (λ r. Makes IsKept (if_sized r (moved m s))) (sym large) (λ memory. memory)
 
@@ -108,7 +114,8 @@ module _ (first : List Term) where
   halt_memory (fault.Size s) memory = memory
   halt_memory (fault.Memory e) memory = memory
 
-  next_gives : (r : Result State PolyFault) (next : State → Result State ReduceFault) → Makes IsKept r → ((s : State) → IsKept s → Gives IsKept (next s)) → Gives IsKept (then_next r next)
+  next_gives : (r : Result State PolyFault) (next : State → Result State ReduceFault) → Makes IsKept r → ((s : State) → IsKept s → Gives IsKept (next s))
+      → Gives IsKept (then_next r next)
   next_gives (Ok s) next makes later = later s makes
   next_gives (Err e) next makes later = λ memory. makes (halt_memory e memory)
 
@@ -121,13 +128,16 @@ module _ (first : List Term) where
         go (Some c) = λ memory. memory
     reduction_gives (suc n) s kept = go (choice_of compare (entries_of rules) s.rest) (reduction_gives n)
       where
-        go : (o : Option Choice) → ((t : State) → IsKept t → Gives IsKept (reduction limit compare rules n t)) → Gives IsKept (one_step rules o s (reduction limit compare rules n))
+        go : (o : Option Choice) → ((t : State) → IsKept t → Gives IsKept (reduction limit compare rules n t))
+            → Gives IsKept (one_step rules o s (reduction limit compare rules n))
         go None later = kept
         go (Some c) later = next_gives (step_result rules c s) (reduction limit compare rules n) (step_makes (rule_at rules c.number) c s kept) later
 
-pub normal_form_gives : (compare : Compare) (rules : List Rule) (p : List Term) (steps : ℕ) → IsCanonical p → Gives (λ s. IsCanonical s.rest) (normal_form_of compare rules p steps)
+pub normal_form_gives : (compare : Compare) (rules : List Rule) (p : List Term) (steps : ℕ) → IsCanonical p
+    → Gives (λ s. IsCanonical s.rest) (normal_form_of compare rules p steps)
 normal_form_gives compare rules p steps canonical =
-    gives_too (IsKept p) (λ s. IsCanonical s.rest) (normal_form_of compare rules p steps) (λ s is kept. within s is kept) (reduction_gives p compare rules steps steps (start_of p) (inl refl))
+    gives_too (IsKept p) (λ s. IsCanonical s.rest) (normal_form_of compare rules p steps) (λ s is kept. within s is kept)
+    (reduction_gives p compare rules steps steps (start_of p) (inl refl))
   where
     within : (s : State) → normal_form_of compare rules p steps ≡ Ok s → IsKept p s → IsCanonical s.rest
     within s is (inl same) = subst IsCanonical (sym same) canonical

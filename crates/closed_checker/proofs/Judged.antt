@@ -1,5 +1,7 @@
 -- Each basis is closed, or one of its tests is the first that fails.
-use Rattle.std.proofs.Common.{◌≡◌, ◌≢◌, ◌⊎◌, inl, inr, ◌<◌, ◌≤◌, ℕ, zero, suc, ◌+◌, Bool, true, false, List, [], ◌∷◌, length, Result, Ok, Err, Contains, refl, sym, ap, ◌∙◌, subst, arith}
+use Rattle.std.proofs.Common.{◌≡◌, ◌≢◌, ◌⊎◌, inl, inr, ◌<◌, ◌≤◌, ℕ, zero, suc, ◌+◌, Bool, true, false, List, [], ◌∷◌, length, take, Result, Ok, Err, Contains}
+use Rattle.std.proofs.Common.{refl}
+use Rattle.std.proofs.Common.{sym, ap, ◌∙◌, subst, arith}
 use Rattle.std.specs.List.{AllByRecursion, AllPairs}
 use Rattle.std.specs.Ordering.{int_eq}
 use Rattle.std.proofs.lemmas.Bool.{cases_lt}
@@ -29,7 +31,8 @@ use Rattle.closed_checker.specs.declared.part.Part.TheVariants as part
 use Rattle.closed_checker.specs.declared.refusal.ClosedRefusal.{ClosedRefusal}
 use Rattle.closed_checker.specs.declared.refusal.ClosedRefusal.TheVariants as refusal
 use Rattle.closed_checker.specs.Rests.{order_of, rules_of, rest_of, MayBeRule}
-use Rattle.closed_checker.specs.Closed.{IsNumberUpTo, NamesClaim, HasRules, LeavesZero, IsClosedBasis, IsPart, ComesBefore, Reaches, IsCauseOf, Refuses, IsMemory}
+use Rattle.closed_checker.specs.Closed.{IsNumberUpTo, NamesClaim, HasRules, LeavesZero, IsClosedBasis, IsPart, ComesBefore, Reaches, IsCauseOf, Refuses}
+use Rattle.closed_checker.specs.Closed.{IsMemory}
 use Rattle.closed_checker.specs.Laws.{EachBasisIsJudged}
 use Rattle.closed_checker.proofs.Ends.{Gives}
 use Rattle.closed_checker.proofs.PartOrder.{order_laws}
@@ -166,7 +169,9 @@ module _ (problem : Problem) (b : Basis) where
 
         go : AreZeroUpTo n ⊎ IsRefused → AreZeroUpTo (suc n) ⊎ IsRefused
         go (inr refused) = inr refused
-        go (inl before) = after_it before (generator_judged (suc n) (record { has_rules = has_rules; part = record { least = omega arith; most = most }; earlier = earlier before }))
+        go (inl before) =
+            after_it before
+            (generator_judged (suc n) (record { has_rules = has_rules; part = record { least = omega arith; most = most }; earlier = earlier before }))
 
     module _ (generators : AreZeroUpTo (length problem.generators)) where
       abbrev IsBefore : Ambiguity → Ambiguity → Type 0
@@ -193,7 +198,8 @@ module _ (problem : Problem) (b : Basis) where
         where
           before_none : (a : Ambiguity) → IsBefore a c → (c ≡ a) ⊎ Contains found a → ⊥
           before_none a less (inl same) = not_before_itself (order_of problem) laws.total (rules_of problem b) c (subst (λ x. IsBefore x c) (sym same) less)
-          before_none a less (inr later) = not_before_each_other (order_of problem) laws.total (rules_of problem b) a c less (first-before IsBefore c found pairs a later)
+          before_none a less (inr later) =
+              not_before_each_other (order_of problem) laws.total (rules_of problem b) a c less (first-before IsBefore c found pairs a later)
 
           of_ambiguity : (a : Ambiguity) → IsBefore a c → Contains (c ∷ found) a ⊎ IsZeroAt a → IsZeroAt a
           of_ambiguity a less (inl at) = absurd (before_none a less (contains-cases c found a at))
@@ -212,7 +218,9 @@ module _ (problem : Problem) (b : Basis) where
               go (inl same) = inr (subst IsZeroAt same none)
               go (inr later) = inl later
 
-          after_it : IsZeroAt c ⊎ IsRefused → (((a : Ambiguity) → IsAmbiguity (rules_of problem b) a → Contains found a ⊎ IsZeroAt a) → ((a : Ambiguity) → IsAmbiguity (rules_of problem b) a → IsZeroAt a) ⊎ IsRefused)
+          after_it : IsZeroAt c ⊎ IsRefused
+              → (((a : Ambiguity) → IsAmbiguity (rules_of problem b) a → Contains found a ⊎ IsZeroAt a)
+              → ((a : Ambiguity) → IsAmbiguity (rules_of problem b) a → IsZeroAt a) ⊎ IsRefused)
               → ((a : Ambiguity) → IsAmbiguity (rules_of problem b) a → IsZeroAt a) ⊎ IsRefused
           after_it (inr refused) further = inr refused
           after_it (inl none) further = further (λ a is. sorted_out none a (others a is))
@@ -222,7 +230,8 @@ module _ (problem : Problem) (b : Basis) where
           let listed = ambiguities_can_be_listed 0 (order_of problem) (asked_rank 0 problem.parts.order) (rules_of problem b) laws in
           ambiguities_judged listed.found listed.all.ascending (λ a at. (listed.all.members a).0 at) (λ a is. inl ((listed.all.members a).1 is))
 
-      before_claim : ((a : Ambiguity) → IsAmbiguity (rules_of problem b) a → IsZeroAt a) → (other : Part) → IsPart problem b other → ComesBefore problem b other part.Claim → LeavesZero problem b other
+      before_claim : ((a : Ambiguity) → IsAmbiguity (rules_of problem b) a → IsZeroAt a) → (other : Part) → IsPart problem b other
+          → ComesBefore problem b other part.Claim → LeavesZero problem b other
       before_claim none (part.Generator m) is less = generators m is
       before_claim none (part.Ambiguity a) is less = none a is
       before_claim none part.Claim is less = absurd less
@@ -255,7 +264,15 @@ module _ (problem : Problem) (b : Basis) where
       go (inl each) = with_rules (record { claim = claim; rules = All-from_recursion (MayBeRule (order_of problem)) b.rules each })
       go (inr first) = inr (
         refusal.NotRule (first.before + 1),
-        record { claim = claim; before = first.before; poly = first.poly; numbered = refl; there = first.there; earlier = All-from_recursion (MayBeRule (order_of problem)) _ first.earlier; refused = first.refused },
+        record {
+          claim = claim;
+          before = first.before;
+          poly = first.poly;
+          numbered = refl;
+          there = first.there;
+          earlier = All-from_recursion (MayBeRule (order_of problem)) (take first.before b.rules) first.earlier;
+          refused = first.refused;
+        },
         λ memory. memory,
       )
 

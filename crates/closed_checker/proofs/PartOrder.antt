@@ -34,7 +34,8 @@ module _ (problem : Problem) (b : Basis) where
       laws : IsAdmissible 0 (order_of problem) (asked_rank 0 problem.parts.order)
       laws = order_laws problem 0
 
-      go : (a ≡ c) ⊎ (IsBeforeByWord (order_of problem) (rules_of problem b) a c ⊎ IsBeforeByWord (order_of problem) (rules_of problem b) c a) → AreCompared (part.Ambiguity a) (part.Ambiguity c)
+      go : (a ≡ c) ⊎ (IsBeforeByWord (order_of problem) (rules_of problem b) a c ⊎ IsBeforeByWord (order_of problem) (rules_of problem b) c a)
+          → AreCompared (part.Ambiguity a) (part.Ambiguity c)
       go (inl same) = inl (ap part.Ambiguity same)
       go (inr (inl before)) = inr (inl before)
       go (inr (inr after)) = inr (inr after)

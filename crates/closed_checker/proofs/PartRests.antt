@@ -36,7 +36,8 @@ rest_in_gives (Ok s) gives = gives
 rest_in_gives (Err e) gives = gives
 
 rest_by_gives : (compare : Compare) (rules : List Rule) (r : Result (List Term) PolyFault) → Makes IsCanonical r → Gives IsCanonical (rest_by compare rules r)
-rest_by_gives compare rules (Ok p) canonical = rest_in_gives (normal_form_of compare rules p step_limit) (normal_form_gives compare rules p step_limit canonical)
+rest_by_gives compare rules (Ok p) canonical =
+    rest_in_gives (normal_form_of compare rules p step_limit) (normal_form_gives compare rules p step_limit canonical)
 rest_by_gives compare rules (Err e) makes = λ memory. makes (halt_memory e memory)
 
 pub rest_gives : (problem : Problem) (b : Basis) (p : Part) → Gives IsCanonical (rest_of problem b p)

@@ -1,5 +1,6 @@
 -- A basis has one refusal at most.
-use Rattle.std.proofs.Common.{◌≡◌, ◌≢◌, ◌⊎◌, inl, inr, ◌<◌, ◌≤◌, ℕ, zero, suc, List, [], ◌∷◌, take, slice_get, Option, Some, Result, Ok, Err, refl, sym, ap, ◌∙◌, subst, arith}
+use Rattle.std.proofs.Common.{◌≡◌, ◌≢◌, ◌⊎◌, inl, inr, ◌<◌, ◌≤◌, ℕ, zero, suc, List, [], ◌∷◌, take, slice_get, Option, Some, Result, Ok, Err, refl, sym, ap}
+use Rattle.std.proofs.Common.{◌∙◌, subst, arith}
 use Rattle.std.proofs.Props as std
 use Rattle.std.specs.List.{All, AllByRecursion}
 use Rattle.std.proofs.lemmas.Bool.{cases_lt}
@@ -69,7 +70,8 @@ module _ (problem : Problem) (b : Basis) where
   has_all n lacks each = lacks.refused (at_place May b.rules lacks.before lacks.poly lacks.there (recursion_from_All May b.rules each))
 
   not_earlier : (m n : ℕ) (one : LacksRule problem b m) (other : LacksRule problem b n) → one.before < other.before → ⊥
-  not_earlier m n one other less = one.refused (among_first May b.rules one.before other.before one.poly one.there less (recursion_from_All May (take other.before b.rules) other.earlier))
+  not_earlier m n one other less =
+      one.refused (among_first May b.rules one.before other.before one.poly one.there less (recursion_from_All May (take other.before b.rules) other.earlier))
 
   lacks_once : (m n : ℕ) → LacksRule problem b m → LacksRule problem b n → m ≡ n
   lacks_once m n one other = go (cases_lt one.before other.before) (cases_lt other.before one.before)
@@ -119,10 +121,13 @@ module _ (problem : Problem) (b : Basis) where
 
   -- ---- one part
   told_once : (p : Part) (one other : ClosedRefusal) → Told p one → Told p other → one ≡ other
-  told_once p one other (left rest is apart r) (left others are _ q) = r ∙ ap (left_at p) (same_poly rest others (same_rest rest.terms others.terms (sym is ∙ are))) ∙ sym q
-  told_once p one other (left rest is apart r) (nothing at none said q) = absurd (apart (same_rest rest.terms [] (sym is ∙ none) ∙ sym said ∙ sym (ap asked_rest at)))
+  told_once p one other (left rest is apart r) (left others are _ q) =
+      r ∙ ap (left_at p) (same_poly rest others (same_rest rest.terms others.terms (sym is ∙ are))) ∙ sym q
+  told_once p one other (left rest is apart r) (nothing at none said q) =
+      absurd (apart (same_rest rest.terms [] (sym is ∙ none) ∙ sym said ∙ sym (ap asked_rest at)))
   told_once p one other (left rest is apart r) (stopped e c at from q) = absurd (no_fault rest.terms e (sym is ∙ at))
-  told_once p one other (nothing at none said r) (left others are apart q) = absurd (apart (same_rest others.terms [] (sym are ∙ none) ∙ sym said ∙ sym (ap asked_rest at)))
+  told_once p one other (nothing at none said r) (left others are apart q) =
+      absurd (apart (same_rest others.terms [] (sym are ∙ none) ∙ sym said ∙ sym (ap asked_rest at)))
   told_once p one other (nothing at none said r) (nothing _ _ _ q) = r ∙ sym q
   told_once p one other (nothing at none said r) (stopped e c stops from q) = absurd (no_fault [] e (sym none ∙ stops))
   told_once p one other (stopped e c at from r) (left others are apart q) = absurd (no_fault others.terms e (sym are ∙ at))

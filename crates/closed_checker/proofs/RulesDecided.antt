@@ -1,5 +1,6 @@
 -- Whether a polynomial may be a rule is decided, and so is which polynomial of a list is the first that may not.
-use Rattle.std.proofs.Common.{◌≡◌, ◌⊎◌, inl, inr, ◌<◌, ◌<ℤ◌, ℕ, zero, suc, ℤ, pos, negsuc, List, [], ◌∷◌, length, take, slice_get, Option, Some, None, IsSomeAnd, refl, arith}
+use Rattle.std.proofs.Common.{◌≡◌, ◌⊎◌, inl, inr, ◌<◌, ◌<ℤ◌, ℕ, zero, suc, ℤ, pos, negsuc, List, [], ◌∷◌, length, take, slice_get, Option, Some, None}
+use Rattle.std.proofs.Common.{IsSomeAnd, refl, arith}
 use Rattle.std.specs.List.{AllByRecursion}
 use Rattle.std.specs.Int.{◌∣◌}
 use Rattle.std.specs.Int.RustNames.{unsigned_abs}
@@ -38,8 +39,11 @@ content_with t p g content =
     record {
       nonnegative = omega (arith, ints);
       divides = All-cons (λ (u : Term). d ∣ unsigned_abs u.0) t p both.1
-          (All-weaker (λ (u : Term). unsigned_abs g ∣ unsigned_abs u.0) (λ (u : Term). d ∣ unsigned_abs u.0) (λ u each. dvd_trans d both.0 each) p content.divides);
-      greatest = λ e each. both.2 e (content.greatest e (All-tail (λ (u : Term). e ∣ unsigned_abs u.0) t p each)) (All-head (λ (u : Term). e ∣ unsigned_abs u.0) t p each);
+          (All-weaker (λ (u : Term). unsigned_abs g ∣ unsigned_abs u.0) (λ (u : Term). d ∣ unsigned_abs u.0)
+          (λ u each. dvd_trans d both.0 each) p content.divides);
+      greatest =
+          λ e each. both.2 e (content.greatest e (All-tail (λ (u : Term). e ∣ unsigned_abs u.0) t p each))
+          (All-head (λ (u : Term). e ∣ unsigned_abs u.0) t p each);
     }
 
 has_content : (p : List Term) → HasContent p
@@ -86,11 +90,13 @@ module _ (compare : Compare) where
   pub rule_decided : (p : Poly) → Decided (MayBeRule compare p)
   rule_decided p = go (primitive_decided p.terms) (positive_decided (leading_term compare p.terms)) (words_decided p.terms)
     where
-      go : Decided (IsContent p.terms (pos 1)) → Decided (IsSomeAnd (leading_term compare p.terms) (λ t. pos 0 <ℤ t.0)) → Decided (AllByRecursion (λ t. 0 < length t.1) p.terms) → Decided (MayBeRule compare p)
+      go : Decided (IsContent p.terms (pos 1)) → Decided (IsSomeAnd (leading_term compare p.terms) (λ t. pos 0 <ℤ t.0))
+          → Decided (AllByRecursion (λ t. 0 < length t.1) p.terms) → Decided (MayBeRule compare p)
       go (inr none) positive words = inr (λ may. none may.primitive)
       go (inl primitive) (inr none) words = inr (λ may. none may.positive)
       go (inl primitive) (inl positive) (inr none) = inr (λ may. none (recursion_from_All (λ (t : Term). 0 < length t.1) p.terms may.nonempty))
-      go (inl primitive) (inl positive) (inl words) = inl (record { primitive = primitive; positive = positive; nonempty = All-from_recursion (λ (t : Term). 0 < length t.1) p.terms words })
+      go (inl primitive) (inl positive) (inl words) =
+          inl (record { primitive = primitive; positive = positive; nonempty = All-from_recursion (λ (t : Term). 0 < length t.1) p.terms words })
 
   -- the first polynomial that may be no rule
   pub record FirstNoRule (ps : List Poly) : Type 0 where
@@ -104,7 +110,9 @@ module _ (compare : Compare) where
   rules_decided [] = inl tt
   rules_decided (p ∷ ps) = go (rule_decided p) (rules_decided ps)
     where
-      go : Decided (MayBeRule compare p) → AllByRecursion (MayBeRule compare) ps ⊎ FirstNoRule ps → AllByRecursion (MayBeRule compare) (p ∷ ps) ⊎ FirstNoRule (p ∷ ps)
+      go : Decided (MayBeRule compare p) → AllByRecursion (MayBeRule compare) ps ⊎ FirstNoRule ps
+          → AllByRecursion (MayBeRule compare) (p ∷ ps) ⊎ FirstNoRule (p ∷ ps)
       go (inr none) rest = inr (record { before = 0; poly = p; there = refl; earlier = tt; refused = none })
       go (inl may) (inl each) = inl (may, each)
-      go (inl may) (inr first) = inr (record { before = suc first.before; poly = first.poly; there = first.there; earlier = (may, first.earlier); refused = first.refused })
+      go (inl may) (inr first) =
+          inr (record { before = suc first.before; poly = first.poly; there = first.there; earlier = (may, first.earlier); refused = first.refused })

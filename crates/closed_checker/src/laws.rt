@@ -1,5 +1,6 @@
 //! That each basis has one outcome, and what a closed basis means, as laws over the definitions.
-ghost use Rattle.closed_checker.specs.Laws.{ReadBasesAreReadable, EachBasisIsJudged, BasisRefusalIsUnique, ClosedBasisIsNotRefused, ClosedBasesMeanOutside};
+ghost use Rattle.closed_checker.specs.Laws.{ReadBasesAreReadable, EachBasisIsJudged, BasisRefusalIsUnique};
+ghost use Rattle.closed_checker.specs.Laws.{ClosedBasisIsNotRefused, ClosedBasesMeanOutside};
 
 /// The bases of a text can be checked.
 pub fn read_bases_are_readable()

@@ -26,7 +26,8 @@ use Rattle.adjoint_rules.specs.declared.problem.Problem.{Problem}
 use Rattle.traced_completion.specs.PlainRun.{Setting, RunState, went, closed, IsCauseOf, IsRound, IsRunState}
 use Rattle.traced_completion.proofs.UniqueRuns.{states_unique, rounds_unique}
 use Rattle.claim_decider.specs.declared.outcome.Outcome.TheVariants as outcome
-use Rattle.claim_decider.specs.Outcomes.{IsOpen, IsLeft, IsHalted, IsCauseOfExpansion, IsCauseOfGathering, Expands, Gathers, IsProved, IsDoneWith, IsDoneBy, record_of, GetsOutcome, at_once, after_round, by_closing, by_stop}
+use Rattle.claim_decider.specs.Outcomes.{IsOpen, IsLeft, IsHalted, IsCauseOfExpansion, IsCauseOfGathering, Expands, Gathers, IsProved, IsDoneWith, IsDoneBy}
+use Rattle.claim_decider.specs.Outcomes.{record_of, GetsOutcome, at_once, after_round, by_closing, by_stop}
 use Rattle.claim_decider.specs.Decided.{claim_at, GetsOutcomeBy, AreLastRules, polynomials_in}
 use Rattle.claim_decider.proofs.UniqueOutcomes.{gets_once}
 use Rattle.outcome_laws.proofs.OpenRuns.{open_run}
@@ -71,11 +72,17 @@ pub record Closes (setting : Setting) (claim rest : List Term) (rounds : ℕ) (s
   pub round : IsRound setting rounds s closed
   pub left : IsLeft setting s.rules claim rest
 
-pub closes : (setting : Setting) (form : Format) (number : ℕ) (claim : List Term) (rounds : ℕ) (s : RunState) (rest : Poly) → GetsOutcome setting form number claim rounds s (outcome.Closed rest) → Closes setting claim rest.terms rounds s
+pub closes : (setting : Setting) (form : Format) (number : ℕ) (claim : List Term) (rounds : ℕ) (s : RunState) (rest : Poly)
+    → GetsOutcome setting form number claim rounds s (outcome.Closed rest) → Closes setting claim rest.terms rounds s
 closes setting form number claim rounds s rest (at_once none none_yet at_start is) = absurd (not_derived rest _ is)
-closes setting form number claim rounds s rest (after_round n before more opened round done) = absurd (not_done rest number n s.made form (normal_form_of setting.compare s.rules claim setting.budget.steps) done)
+closes setting form number claim rounds s rest (after_round n before more opened round done) =
+    absurd (not_done rest number n s.made form (normal_form_of setting.compare s.rules claim setting.budget.steps) done)
 closes setting form number claim rounds s rest (by_closing opened round what) =
-    record { opened = opened; round = round; left = subst (λ (p : Poly). IsLeft setting s.rules claim p.terms) (sym (same_rest rest what.rest what.closes)) what.left }
+    record {
+      opened = opened;
+      round = round;
+      left = subst (λ (p : Poly). IsLeft setting s.rules claim p.terms) (sym (same_rest rest what.rest what.closes)) what.left;
+    }
 closes setting form number claim rounds s rest (by_stop halt opened round is) = absurd (not_halted rest halt is)
 
 -- ---- the last rules
@@ -97,7 +104,12 @@ goes setting n (suc m) s less is = go (cases_lt n m) (λ (below : n < m). goes s
     go (inl below) earlier = earlier below
     go (inr most) earlier =
         let same : m ≡ n = omega (arith, less, most) in
-        record { before = is.before; after = s; run = subst (λ k. IsRunState setting k is.before) same is.is_before; round = subst (λ k. IsRound setting k is.before (went s)) same is.round }
+        record {
+          before = is.before;
+          after = s;
+          run = subst (λ k. IsRunState setting k is.before) same is.is_before;
+          round = subst (λ k. IsRound setting k is.before (went s)) same is.round;
+        }
 
 module _ (letters : ℕ) (rank : List ℕ → List ℕ) (setting : Setting) (laws : IsAdmissible letters setting.compare rank) where
   -- a closed run doesn't go on
@@ -105,10 +117,12 @@ module _ (letters : ℕ) (rank : List ℕ → List ℕ) (setting : Setting) (law
   not_later n m s t run round later less =
       let next = goes setting n m t less later in
       let same = states_unique letters rank setting n next.before s laws next.run run in
-      closed_is_not_went next.after (rounds_unique letters rank setting n s closed (went next.after) laws round (subst (λ b. IsRound setting n b (went next.after)) same next.round))
+      closed_is_not_went next.after
+      (rounds_unique letters rank setting n s closed (went next.after) laws round (subst (λ b. IsRound setting n b (went next.after)) same next.round))
 
   pub closing_rules_are_last : (form : Format) (problem : Problem) (numbers : List ℕ) (polys : List Poly) (number rounds : ℕ) (s : RunState) (rest : Poly)
-      → AreLastRules setting form problem numbers polys → Contains numbers number → GetsOutcome setting form number (claim_at problem number) rounds s (outcome.Closed rest) → polys ≡ polynomials_in s.rules
+      → AreLastRules setting form problem numbers polys → Contains numbers number → GetsOutcome setting form number (claim_at problem number) rounds s
+      (outcome.Closed rest) → polys ≡ polynomials_in s.rules
   closing_rules_are_last form problem numbers polys number rounds s rest last among gets = go (cases_lt rounds last.rounds)
     where
       run : IsRunState setting rounds s
@@ -118,10 +132,13 @@ module _ (letters : ℕ) (rank : List ℕ → List ℕ) (setting : Setting) (law
       by = All-contains (GetsOutcomeBy setting form problem last.rounds) numbers number last.last.enough among
 
       least : rounds ≤ last.rounds
-      least = let same = gets_once setting (claim_at problem number) letters rank laws form number rounds by.rounds s by.gets.state (outcome.Closed rest) by.gets.outcome gets by.gets.gets in omega (arith, same.rounds, by.early)
+      least =
+          let same = gets_once setting (claim_at problem number) letters rank laws form number rounds by.rounds s by.gets.state
+          (outcome.Closed rest) by.gets.outcome gets by.gets.gets in omega (arith, same.rounds, by.early)
 
       go : (rounds < last.rounds) ⊎ (last.rounds ≤ rounds) → polys ≡ polynomials_in s.rules
-      go (inl less) = absurd (not_later rounds last.rounds s last.state run (closes setting form number (claim_at problem number) rounds s rest gets).round last.run less)
+      go (inl less) =
+          absurd (not_later rounds last.rounds s last.state run (closes setting form number (claim_at problem number) rounds s rest gets).round last.run less)
       go (inr most) =
           let same : last.rounds ≡ rounds = omega (arith, least, most) in
           let state = states_unique letters rank setting rounds last.state s laws (subst (λ k. IsRunState setting k last.state) same last.run) run in

@@ -27,11 +27,13 @@ module _ (compare : Compare) (rules : List Rule) (one other : ℕ) where
   both_at_limit None s t u first second = sym (same_state s t first) ∙ same_state s u second
   both_at_limit (Some c) s t u first second = absurd (no_state (halt.Steps one) t first)
 
-  first_at_limit : (c : Option Choice) (s t u : State) (next : State → Result State ReduceFault) → at_limit one c s ≡ Ok t → one_step rules c s next ≡ Ok u → t ≡ u
+  first_at_limit : (c : Option Choice) (s t u : State) (next : State → Result State ReduceFault) → at_limit one c s ≡ Ok t → one_step rules c s next ≡ Ok u
+      → t ≡ u
   first_at_limit None s t u next first second = sym (same_state s t first) ∙ same_state s u second
   first_at_limit (Some c) s t u next first second = absurd (no_state (halt.Steps one) t first)
 
-  second_at_limit : (c : Option Choice) (s t u : State) (next : State → Result State ReduceFault) → one_step rules c s next ≡ Ok t → at_limit other c s ≡ Ok u → t ≡ u
+  second_at_limit : (c : Option Choice) (s t u : State) (next : State → Result State ReduceFault) → one_step rules c s next ≡ Ok t → at_limit other c s ≡ Ok u
+      → t ≡ u
   second_at_limit None s t u next first second = sym (same_state s t first) ∙ same_state s u second
   second_at_limit (Some c) s t u next first second = absurd (no_state (halt.Steps other) u second)
 
@@ -51,5 +53,6 @@ module _ (compare : Compare) (rules : List Rule) (one other : ℕ) where
   reduced_once (suc n) (suc m) s t u first second =
       both_step (chosen s) s t u (reduction one compare rules n) (reduction other compare rules m) (λ v. reduced_once n m v t u) first second
 
-pub ended_once : (compare : Compare) (rules : List Rule) (p : List Term) (one other : ℕ) (s t : State) → normal_form_of compare rules p one ≡ Ok s → normal_form_of compare rules p other ≡ Ok t → s ≡ t
+pub ended_once : (compare : Compare) (rules : List Rule) (p : List Term) (one other : ℕ) (s t : State) → normal_form_of compare rules p one ≡ Ok s
+    → normal_form_of compare rules p other ≡ Ok t → s ≡ t
 ended_once compare rules p one other s t first second = reduced_once compare rules one other one other (start_of p) s t first second

@@ -3,3 +3,6 @@ pub mod MadeRules
 pub mod ClosedRuns
 pub mod RunRules
 pub mod Printed
+pub mod BasisReports
+pub mod ClaimBases
+pub mod StatementBases

@@ -1,5 +1,6 @@
 -- What holds of each rule that is made of a rest holds of each rule of a run: it is primitive.
-use Rattle.std.proofs.Common.{◌≡◌, ℕ, zero, suc, pos, Bool, true, false, nat_le, List, [], ◌∷◌, ◌++◌, map, length, take, Option, Some, None, Result, Ok, Err, sym, subst}
+use Rattle.std.proofs.Common.{◌≡◌, ℕ, zero, suc, pos, Bool, true, false, nat_le, List, [], ◌∷◌, ◌++◌, map, length, take, Option, Some, None, Result, Ok, Err}
+use Rattle.std.proofs.Common.{sym, subst}
 use Rattle.std.specs.List.{All}
 use Rattle.std.proofs.lemmas.List.Elements.{All-from_recursion, All-append, All-nil}
 use Rattle.word_orders.specs.Admissible.{Compare}
@@ -15,7 +16,8 @@ use Rattle.traced_completion.specs.declared.pending.waiting.Waiting.{Waiting}
 use Rattle.traced_completion.specs.Results.{each_in_turn}
 use Rattle.traced_completion.specs.Works.{Work, generator_work, First, first_of, second_work, Goes, InTurn, InTwoPasses}
 use Rattle.traced_completion.specs.Pending.{ambiguities_of}
-use Rattle.traced_completion.specs.PlainRun.{Setting, RunState, went, closed, stopped, recorded, taken_count, IsTreated, TreatsFirst, TreatsPending, IsRound, IsRunState}
+use Rattle.traced_completion.specs.PlainRun.{Setting, RunState, went, closed, stopped, recorded, taken_count, IsTreated, TreatsFirst, TreatsPending, IsRound}
+use Rattle.traced_completion.specs.PlainRun.{IsRunState}
 use Rattle.outcome_laws.proofs.RunsKept.{no_value, same_value}
 use Rattle.outcome_laws.proofs.WholeRuns.{ended}
 
@@ -36,7 +38,8 @@ module _ (compare : Compare) (P : Rule → Type 0) (made : (rest : Rest) (g : Ru
       go (Err e) later goes = absurd (no_value e after (sym goes))
       go (Ok rest) later goes = later goes.between goes.next (added rest before goes.between goes.added each)
 
-  in_passes : (steps : ℕ) (firsts : Result (List First) ReduceFault) (before after : Recorded) → InTwoPasses compare steps firsts before (Ok after) → All P before.rules → All P after.rules
+  in_passes : (steps : ℕ) (firsts : Result (List First) ReduceFault) (before after : Recorded) → InTwoPasses compare steps firsts before (Ok after)
+      → All P before.rules → All P after.rules
   in_passes steps (Err e) before after passes each = absurd (no_value e after (sym passes))
   in_passes steps (Ok firsts) before after passes each = in_turn (map (second_work compare steps) firsts) before after passes each
 
@@ -53,9 +56,11 @@ module _ (setting : Setting) (P : Rule → Type 0) (made : (rest : Rest) (g : Ru
       let end = ended 0 None before.treated round.result s round.ends in
       subst (λ (t : RunState). All P t.rules) (sym end.state)
       (in_turn setting.compare P made (map (generator_work setting.compare setting.budget.steps setting.generators) setting.in_turn) (recorded before) end.value
-      (subst (λ r. InTurn setting.compare (map (generator_work setting.compare setting.budget.steps setting.generators) setting.in_turn) (recorded before) r) end.given round.generators) each)
+      (subst (λ r. InTurn setting.compare (map (generator_work setting.compare setting.budget.steps setting.generators) setting.in_turn) (recorded before) r)
+      end.given round.generators) each)
 
-  treated_round : (number : ℕ) (before s : RunState) (least : List ℕ) (taken : List Ambiguity) → IsTreated setting number before least taken (went s) → All P before.rules → All P s.rules
+  treated_round : (number : ℕ) (before s : RunState) (least : List ℕ) (taken : List Ambiguity) → IsTreated setting number before least taken (went s)
+      → All P before.rules → All P s.rules
   treated_round number before s least taken round each =
       let end = ended number (Some least) (before.treated ++ taken) round.result s round.ends in
       let firsts = each_in_turn (first_of setting.compare setting.budget.steps before.rules) taken in
@@ -68,7 +73,8 @@ module _ (setting : Setting) (P : Rule → Type 0) (made : (rest : Rest) (g : Ru
     where
       by_pairs : (w : Waiting) (ws : List Waiting) (b : Bool) → TreatsFirst setting (suc n) before w.word (w ∷ ws) b (went s) → All P s.rules
       by_pairs w ws true treats = absurd (went_is_not_stopped s _ treats)
-      by_pairs w ws false treats = treated_round (suc n) before s w.word (ambiguities_of (take (taken_count setting.budget before (w ∷ ws)) (w ∷ ws))) treats each
+      by_pairs w ws false treats =
+          treated_round (suc n) before s w.word (ambiguities_of (take (taken_count setting.budget before (w ∷ ws)) (w ∷ ws))) treats each
 
       go : (pending : List Waiting) → TreatsPending setting (suc n) before pending (went s) → All P s.rules
       go [] treats = absurd (went_is_not_closed s treats)
@@ -83,4 +89,5 @@ module _ (setting : Setting) (P : Rule → Type 0) (made : (rest : Rest) (g : Ru
 pub runs_are_primitive : (setting : Setting) (n : ℕ) (s : RunState) → IsRunState setting n s → All (λ g. IsContent g.poly.terms (pos 1)) s.rules
 runs_are_primitive setting n s is =
     each_made setting (λ (g : Rule). IsContent g.poly.terms (pos 1))
-    (λ rest g m from. quotient_primitive (leads_negative setting.compare rest.polynomial) m.scale g.poly.terms rest.polynomial from.positive from.content from.divided) n s is
+    (λ rest g m from.
+    quotient_primitive (leads_negative setting.compare rest.polynomial) m.scale g.poly.terms rest.polynomial from.positive from.content from.divided) n s is

@@ -1,5 +1,6 @@
 -- The basis that is printed of a closed claim is closed, or its check stops.
-use Rattle.std.proofs.Common.{◌≡◌, ◌⊎◌, inl, inr, ◌<◌, ◌≤◌, ℕ, zero, suc, ◌+◌, pos, List, [], length, None, Result, Ok, Err, Contains, refl, sym, ap, ◌∙◌, subst, arith}
+use Rattle.std.proofs.Common.{◌≡◌, ◌⊎◌, inl, inr, ◌<◌, ◌≤◌, ℕ, zero, suc, ◌+◌, pos, List, [], length, None, Result, Ok, Err, Contains, refl, sym, ap, ◌∙◌}
+use Rattle.std.proofs.Common.{subst, arith}
 use Rattle.std.specs.List.{All, AllByRecursion, range_with_len}
 use Rattle.std.proofs.lemmas.List.{length-map}
 use Rattle.std.proofs.lemmas.List.Elements.{All-from_recursion, recursion_from_All}
@@ -127,33 +128,43 @@ module _ (problem : Problem) (budget : Budget) where
           go : (n : ℕ) → IsRunState setting n s → IsRound setting n s closed → Resolved letters compare s.rules
           go zero is at = absurd (not_ended at.result s.treated at.ends)
           go (suc n) is at =
-              resolved_where_closed letters compare (polynomials problem.generators) s.rules s.made (done_after setting (suc n)) s.treated (state_kept problem budget (suc n) s is).kept
+              resolved_where_closed letters compare (polynomials problem.generators) s.rules s.made (done_after setting (suc n)) s.treated
+              (state_kept problem budget (suc n) s is).kept
               (closed_is_nothing_pending setting n s at)
 
-      generator_inside : (number : ℕ) → IsNumberUpTo (length problem.generators) number → InRationalIdeal (polynomials_of s.rules) (generator_at (polynomials problem.generators) number)
+      generator_inside : (number : ℕ) → IsNumberUpTo (length problem.generators) number
+          → InRationalIdeal (polynomials_of s.rules) (generator_at (polynomials problem.generators) number)
       generator_inside number is = go rounds run round
         where
-          go : (n : ℕ) → IsRunState setting n s → IsRound setting n s closed → InRationalIdeal (polynomials_of s.rules) (generator_at (polynomials problem.generators) number)
+          go : (n : ℕ) → IsRunState setting n s → IsRound setting n s closed
+              → InRationalIdeal (polynomials_of s.rules) (generator_at (polynomials problem.generators) number)
           go zero at closes_it = absurd (not_ended closes_it.result s.treated closes_it.ends)
-          go (suc n) at closes_it = let reached = generators_are_reached problem budget n s number at is.least is.most in record { denominator = reached.denominator; rows = reached.rows; combination = reached.combination }
+          go (suc n) at closes_it =
+              let reached = generators_are_reached problem budget n s number at is.least is.most in
+              record { denominator = reached.denominator; rows = reached.rows; combination = reached.combination }
 
       -- what is left of an element of the rational ideal of the rules has no terms
-      nothing_left : (p : List Term) (rest : Poly) → IsShaped p → All (λ t. IsOver letters t.1) p → InRationalIdeal (polynomials_of s.rules) p → rest_in (normal_form_of compare s.rules p step_limit) ≡ Ok rest.terms → rest.terms ≡ []
+      nothing_left : (p : List Term) (rest : Poly) → IsShaped p → All (λ t. IsOver letters t.1) p → InRationalIdeal (polynomials_of s.rules) p
+          → rest_in (normal_form_of compare s.rules p step_limit) ≡ Ok rest.terms → rest.terms ≡ []
       nothing_left p rest shaped over inside is =
           let found = reduction_of letters compare rank laws s.rules are_rules p rest.terms shaped over is in
-          let below : HasLettersBelow letters p = record { at = words_with_coefficients (IsOver letters) p (recursion_from_All (λ (t : Term). IsOver letters t.1) p over) } in
+          let below : HasLettersBelow letters p =
+          record { at = words_with_coefficients (IsOver letters) p (recursion_from_All (λ (t : Term). IsOver letters t.1) p over) } in
           let vanishes = rests_of_ideal_are_zero letters compare rank s.rules p found.state laws are_rules resolved inside below found.reduced in
           zero_is_empty rest.terms rest.canonical.shaped (subst IsZero found.rest_is vanishes)
 
-      s_polynomial_inside : (a : Ambiguity) (p : List Term) → IsAmbiguity s.rules a → s_polynomial_of s.rules a ≡ Ok p → InRationalIdeal (polynomials_of s.rules) p
+      s_polynomial_inside : (a : Ambiguity) (p : List Term) → IsAmbiguity s.rules a → s_polynomial_of s.rules a ≡ Ok p
+          → InRationalIdeal (polynomials_of s.rules) p
       s_polynomial_inside a p is ends =
           let below = (resolved.each a is).below in
           let same = s_polynomials_balance s.rules a p ends in
           in_ideal (polynomials_of s.rules) p
           (span_same (Numbered (polynomials_of s.rules) Free) (coefficient_of (s_sum s.rules a)) (coefficient_of p)
-          (ideal_span (polynomials_of s.rules) (s_sum s.rules a) (record { denominator = below.denominator; rows = below.rows; combination = below.combination.combination })) (λ w. same.at w))
+          (ideal_span (polynomials_of s.rules) (s_sum s.rules a)
+          (record { denominator = below.denominator; rows = below.rows; combination = below.combination.combination })) (λ w. same.at w))
 
-      nothing_left_at : (a : Ambiguity) (rest : Poly) → IsAmbiguity s.rules a → rest_by compare s.rules (s_polynomial_of s.rules a) ≡ Ok rest.terms → rest.terms ≡ []
+      nothing_left_at : (a : Ambiguity) (rest : Poly) → IsAmbiguity s.rules a → rest_by compare s.rules (s_polynomial_of s.rules a) ≡ Ok rest.terms
+          → rest.terms ≡ []
       nothing_left_at a rest is left = go (s_polynomial_of s.rules a) refl left
         where
           go : (r : Result (List Term) PolyFault) → s_polynomial_of s.rules a ≡ r → rest_by compare s.rules r ≡ Ok rest.terms → rest.terms ≡ []
@@ -193,14 +204,18 @@ module _ (problem : Problem) (budget : Budget) where
     rules_may =
         subst (All (MayBeRule compare)) (sym polys_are)
         (All-from_recursion (MayBeRule compare) (polynomials_in s.rules)
-        (all_may letters compare s.rules each_is (recursion_from_All (λ (g : Rule). IsContent g.poly.terms (pos 1)) s.rules (runs_are_primitive setting rounds s run))))
+        (all_may letters compare s.rules each_is
+        (recursion_from_All (λ (g : Rule). IsContent g.poly.terms (pos 1)) s.rules (runs_are_primitive setting rounds s run))))
 
     -- ---- what isn't left
-    generator_left : (number : ℕ) (rest : Poly) → IsNumberUpTo (length problem.generators) number → rest_of problem b (part.Generator number) ≡ Ok rest.terms → rest.terms ≡ []
+    generator_left : (number : ℕ) (rest : Poly) → IsNumberUpTo (length problem.generators) number → rest_of problem b (part.Generator number) ≡ Ok rest.terms
+        → rest.terms ≡ []
     generator_left number rest is left =
-        nothing_left rounds s run by_closing.round (generator_at (polynomials problem.generators) number) rest (canonical_at problem.generators number).shaped (generator_over problem number)
+        nothing_left rounds s run by_closing.round (generator_at (polynomials problem.generators) number) rest (canonical_at problem.generators number).shaped
+        (generator_over problem number)
         (generator_inside rounds s run by_closing.round number is)
-        (subst (λ (rules : List Rule). rest_in (normal_form_of compare rules (generator_at (polynomials problem.generators) number) step_limit) ≡ Ok rest.terms) rules_are left)
+        (subst (λ (rules : List Rule). rest_in (normal_form_of compare rules (generator_at (polynomials problem.generators) number) step_limit) ≡ Ok rest.terms)
+        rules_are left)
 
     ambiguity_left : (a : Ambiguity) (rest : Poly) → IsAmbiguity (rules_of problem b) a → rest_of problem b (part.Ambiguity a) ≡ Ok rest.terms → rest.terms ≡ []
     ambiguity_left a rest is left =
@@ -208,9 +223,12 @@ module _ (problem : Problem) (budget : Budget) where
         (subst (λ (rules : List Rule). rest_by compare rules (s_polynomial_of rules a) ≡ Ok rest.terms) rules_are left)
 
     claim_left : (rest : List Term) → rest_of problem b part.Claim ≡ Ok rest → rest ≡ b.rest.terms
-    claim_left rest left = go (normal_form_of compare s.rules (claim_at problem b.claim) step_limit) refl (subst (λ (rules : List Rule). rest_in (normal_form_of compare rules (claim_at problem b.claim) step_limit) ≡ Ok rest) rules_are left)
+    claim_left rest left =
+        go (normal_form_of compare s.rules (claim_at problem b.claim) step_limit) refl
+        (subst (λ (rules : List Rule). rest_in (normal_form_of compare rules (claim_at problem b.claim) step_limit) ≡ Ok rest) rules_are left)
       where
-        go : (r : Result State ReduceFault) → normal_form_of compare s.rules (claim_at problem b.claim) step_limit ≡ r → rest_in r ≡ Ok rest → rest ≡ b.rest.terms
+        go : (r : Result State ReduceFault) → normal_form_of compare s.rules (claim_at problem b.claim) step_limit ≡ r → rest_in r ≡ Ok rest
+            → rest ≡ b.rest.terms
         go (Err e) ends k = absurd (no_rest e rest k)
         go (Ok t) ends k =
             let same = ended_once compare s.rules (claim_at problem b.claim) step_limit budget.steps t by_closing.left.reduced ends by_closing.left.reduction in
@@ -234,9 +252,11 @@ module _ (problem : Problem) (budget : Budget) where
         only_stop r exact (inl stop) = stop
         only_stop r exact (inr short) = absurd (exact short)
 
-        go : IsClosedBasis problem b ⊎ ((r : ClosedRefusal) × Refuses problem b r × (IsMemory r → ⊥)) → IsClosedBasis problem b ⊎ ((r : ClosedRefusal) × Refuses problem b r × IsStop r)
+        go : IsClosedBasis problem b ⊎ ((r : ClosedRefusal) × Refuses problem b r × (IsMemory r → ⊥))
+            → IsClosedBasis problem b ⊎ ((r : ClosedRefusal) × Refuses problem b r × IsStop r)
         go (inl is) = inl is
         go (inr (r, refuses, exact)) = inr (r, refuses, only_stop r exact (no_other r refuses))
 
 pub printed_bases_are_confirmed : PrintedBasesAreConfirmed
-printed_bases_are_confirmed problem budget form b printed = record { judged = judged problem budget form b printed; no_other = no_other problem budget form b printed }
+printed_bases_are_confirmed problem budget form b printed =
+    record { judged = judged problem budget form b printed; no_other = no_other problem budget form b printed }

@@ -14,7 +14,8 @@ module _ (letters : ℕ) (compare : Compare) where
   pub rules_of_run : (rules : List Rule) → AllByRecursion (IsRule letters compare) rules → rules_from compare (polynomials_in rules) ≡ rules
   rules_of_run [] are = refl
   rules_of_run (g ∷ rules) are =
-      ap (λ (o : Option Term). option_to_list (option_map (λ (t : Term). record { leading = t.0; lead = t.1; poly = g.poly }) o) ++ rules_from compare (polynomials_in rules)) are.0.leading
+      ap (λ (o : Option Term). option_to_list (option_map (λ (t : Term). record { leading = t.0; lead = t.1; poly = g.poly }) o)
+      ++ rules_from compare (polynomials_in rules)) are.0.leading
       ∙ ap (λ (rest : List Rule). g ∷ rest) (rules_of_run rules are.1)
 
   may : (g : Rule) → IsRule letters compare g → IsContent g.poly.terms (pos 1) → MayBeRule compare g.poly
@@ -24,6 +25,7 @@ module _ (letters : ℕ) (compare : Compare) where
     nonempty = is.nonempty;
   }
 
-  pub all_may : (rules : List Rule) → AllByRecursion (IsRule letters compare) rules → AllByRecursion (λ g. IsContent g.poly.terms (pos 1)) rules → AllByRecursion (MayBeRule compare) (polynomials_in rules)
+  pub all_may : (rules : List Rule) → AllByRecursion (IsRule letters compare) rules → AllByRecursion (λ g. IsContent g.poly.terms (pos 1)) rules
+      → AllByRecursion (MayBeRule compare) (polynomials_in rules)
   all_may [] are primitive = tt
   all_may (g ∷ rules) are primitive = (may g are.0 primitive.0, all_may rules are.1 primitive.1)

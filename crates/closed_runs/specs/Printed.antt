@@ -29,4 +29,5 @@ pub record IsConfirmedWithinLimits (problem : Problem) (b : Basis) : Type 0 wher
 
 -- So it is with each basis that is printed.
 abbrev pub PrintedBasesAreConfirmed : Type 0
-PrintedBasesAreConfirmed = (problem : Problem) (budget : Budget) (form : Format) (b : Basis) → IsPrinted problem budget form b → IsConfirmedWithinLimits problem b
+PrintedBasesAreConfirmed =
+    (problem : Problem) (budget : Budget) (form : Format) (b : Basis) → IsPrinted problem budget form b → IsConfirmedWithinLimits problem b

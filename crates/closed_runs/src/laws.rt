@@ -1,8 +1,25 @@
 //! What becomes of the bases that are printed of closed claims, as laws over the definitions.
 ghost use Rattle.closed_runs.specs.Printed.{PrintedBasesAreConfirmed};
+ghost use Rattle.closed_runs.specs.BasesReadBack.{ReportsReadBackAsBases, StatementReportsReadBackAsBases, ReportedBasesAreConfirmed};
 
 /// The basis that is printed of a claim that is closed, in whatever budget, is closed, unless an S-polynomial or a reduction of
 /// its check has a fault: a limit is passed, or a number is out of range.
 pub fn printed_bases_are_confirmed()
     ensures { PrintedBasesAreConfirmed }
+{}
+
+/// A report is read as the bases of its claims that aren't derivable, in their order. Where each claim is otherwise, it has no
+/// basis.
+pub fn reports_are_read_back_as_bases()
+    ensures { ReportsReadBackAsBases }
+{}
+
+/// So is the report on the claims of a statement, of at most 100,000 rules.
+pub fn statement_reports_are_read_back_as_bases()
+    ensures { StatementReportsReadBackAsBases }
+{}
+
+/// Each basis in the report of the outcomes of all claims of a problem is closed, or its check stops.
+pub fn reported_bases_are_confirmed()
+    ensures { ReportedBasesAreConfirmed }
 {}

@@ -30,7 +30,7 @@ use Rattle.report_readback.specs.ReadBack.{IsWritableVerdict}
 use Rattle.report_readback.specs.ModelsReadBack.{IsReadAsModels, refuted_in, ReportsReadBackAsModels}
 use Rattle.report_readback.proofs.Heads.{told_of, told_is_line}
 use Rattle.report_readback.proofs.Bases.{basis_head, basis_lines, basis_is_part, basis_is}
-use Rattle.report_readback.proofs.SkippedEvidence.{IsSkipped, skipped_has_none, lines_go_on, evidence_is_skipped}
+use Rattle.report_readback.proofs.SkippedEvidence.{IsSkipped, skipped_has_none, lines_go_on, certificates_are_others, evidence_is_skipped}
 
 -- ---- texts with their models
 
@@ -39,7 +39,7 @@ record IsTextWith (ds : List Declaration) (text : List ℕ) (ms : List Model) : 
   whole : is_whole text ≡ true
   has : HasModels ds text ms
 
-skipped : (ds : List Declaration) (text : List ℕ) → IsSkipped text → IsTextWith ds text []
+skipped : (ds : List Declaration) (text : List ℕ) → IsSkipped other_words text → IsTextWith ds text []
 skipped ds text is = record { whole = is.is.whole; has = skipped_has_none ds text is }
 
 with-append : (ds : List Declaration) (xs ys : List ℕ) (first last : List Model) → IsTextWith ds xs first → IsTextWith ds ys last → length first + length last ≤ block_limit → IsTextWith ds (xs ++ ys) (first ++ last)
@@ -93,7 +93,7 @@ module _ (ds : List Declaration) (rules : List Poly) (declared : IsDeclared ds) 
       (record { block = record { head = tokens_of basis_head; lines = content lines }; is = other_is_text other_words basis_head lines (reader ds).words is.0 refl is.2; of_other_kind = record { head = refl; lines = lines_go_on lines is.2 } }))
 
   block_has : (claim : ℕ) (v : Verdict) → IsWritableVerdict ds v → All (IsWritableModel ds) (refuted_in (v ∷ [])) → IsTextWith ds (block_text ds rules claim v) (refuted_in (v ∷ []))
-  block_has claim (verdict.Proved e) writable each = skipped ds _ (evidence_is_skipped ds e declared known writable)
+  block_has claim (verdict.Proved e) writable each = skipped ds _ (evidence_is_skipped other_words certificates_are_others ds e declared known writable)
   block_has claim (verdict.NotDerivable rest) writable each = basis_has claim rest writable
   block_has claim (verdict.Refuted m) writable each =
       let is = All-head (IsWritableModel ds) m [] each in

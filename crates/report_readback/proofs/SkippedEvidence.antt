@@ -1,4 +1,4 @@
--- Evidence that is written is a block of another kind to a reader of models.
+-- Evidence that is written is a block of another kind to a reader that skips certificates.
 use Rattle.std.proofs.Common.{◌≡◌, ◌<◌, ◌^◌, ℕ, suc, ℤ, true, false, not, List, [], ◌∷◌, ◌++◌, refl, sym, subst, map, codes, IsTrue}
 use Rattle.std.specs.Prelude.{decimal}
 use Rattle.std.specs.Fmt.{signed_decimal}
@@ -33,12 +33,12 @@ use Rattle.report_readback.proofs.Numerals.{decimal_is_line, signed_is_line}
 -- ---- blocks of other kinds
 
 -- the text is one such block
-pub record IsSkipped (text : List ℕ) : Type 0 where
+pub record IsSkipped (others : List (List ℕ)) (text : List ℕ) : Type 0 where
   pub block : OtherTokens
   pub is : IsTextOf text (block.head ∷ (block.lines ++ end_line ∷ []))
-  pub of_other_kind : IsOtherBlock other_words block
+  pub of_other_kind : IsOtherBlock others block
 
-pub skipped_has_none : (ds : List Declaration) (text : List ℕ) → IsSkipped text → HasModels ds text []
+pub skipped_has_none : (ds : List Declaration) (text : List ℕ) → IsSkipped other_words text → HasModels ds text []
 skipped_has_none ds text skipped = text_of_other (model_kind ds) text skipped.block skipped.is skipped.of_other_kind
 
 -- ---- the lines between the first one and the last one
@@ -107,36 +107,38 @@ lemmas_are_body ds number (l ∷ lemmas) written =
 goal_is_body : (ds : List Declaration) (l : Lemma) → IsWrittenLemma ds l → IsBody (codes "goal" ++ scaled_text ds l)
 goal_is_body ds l written = scaled_is_body ds (codes "goal") l written (literal (codes "goal") refl refl) refl
 
-is_other : (form : Format) → is_other_head other_words (head_line form) ≡ true
-is_other format.Plain = refl
-is_other format.Lemmas = refl
-
-certificate_is_skipped : (form : Format) (claim : ℕ) (denominator : ℤ) (body : List ℕ) → claim < 2 ^ 32 → IsSize denominator → IsBody body
-    → IsSkipped (opening_text (head_text form ++ codes "\nclaim ") claim denominator ++ body ++ codes "end\n")
-certificate_is_skipped form claim denominator body small size lines =
-    let front = claim_line (decimal claim) ∷ denominator_line (signed_decimal denominator) ∷ [] in
-    record {
-      block = record { head = head_line form; lines = front ++ lines.listed };
-      is = text-append _ _ _ _ (text-append _ _ _ _ (opening_is_text form claim denominator small size) lines.is) end_is_text;
-      of_other_kind = record { head = is_other form; lines = All-append GoesOn front lines.listed (λ k line below. front_goes_on k line below) lines.go_on };
-    }
-  where
-    front_goes_on : All GoesOn (claim_line (decimal claim) ∷ denominator_line (signed_decimal denominator) ∷ [])
-    front_goes_on =
-        All-cons GoesOn (claim_line (decimal claim)) (denominator_line (signed_decimal denominator) ∷ []) refl
-        (All-cons GoesOn (denominator_line (signed_decimal denominator)) [] refl (All-nil GoesOn))
+pub certificates_are_others : (form : Format) → is_other_head other_words (head_line form) ≡ true
+certificates_are_others format.Plain = refl
+certificates_are_others format.Lemmas = refl
 
 regrouped : (opening lemmas goal end : List ℕ) → opening ++ lemmas ++ (goal ++ end) ≡ opening ++ (lemmas ++ goal) ++ end
 regrouped opening lemmas goal end = simp append_assoc refl
 
-pub evidence_is_skipped : (ds : List Declaration) (e : Evidence) → IsDeclared ds → IsTrue (list_all is_named ds) → IsWritableEvidence ds e → IsSkipped (evidence_text ds e)
-evidence_is_skipped ds (evidence.Plain c) declared known writable =
-    certificate_is_skipped format.Plain c.claim c.denominator _ writable.claim (size_written c.denominator writable.size writable.denominator writable.in_range)
-    (rows_are_body ds over_generator c.rows (rows_written ds declared known c writable))
-evidence_is_skipped ds (evidence.Lemmas c) declared known writable =
-    let written = lemmas_written ds c declared known writable in
-    let opening = opening_text (head_text format.Lemmas ++ codes "\nclaim ") c.claim c.denominator in
-    subst IsSkipped (sym (regrouped opening (lemmas_text ds 1 c.lemmas) (codes "goal" ++ scaled_text ds c.goal) (codes "end\n")))
-    (certificate_is_skipped format.Lemmas c.claim c.denominator (lemmas_text ds 1 c.lemmas ++ (codes "goal" ++ scaled_text ds c.goal)) writable.claim
-    (size_written c.denominator writable.size writable.denominator writable.in_range)
-    (body-append (lemmas_text ds 1 c.lemmas) (codes "goal" ++ scaled_text ds c.goal) (lemmas_are_body ds 1 c.lemmas written.lemmas) (goal_is_body ds c.goal written.goal)))
+-- for a reader that skips blocks that begin with these words, of which that of certificates is one
+module _ (others : List (List ℕ)) (is_other : (form : Format) → is_other_head others (head_line form) ≡ true) where
+  certificate_is_skipped : (form : Format) (claim : ℕ) (denominator : ℤ) (body : List ℕ) → claim < 2 ^ 32 → IsSize denominator → IsBody body
+      → IsSkipped others (opening_text (head_text form ++ codes "\nclaim ") claim denominator ++ body ++ codes "end\n")
+  certificate_is_skipped form claim denominator body small size lines =
+      let front = claim_line (decimal claim) ∷ denominator_line (signed_decimal denominator) ∷ [] in
+      record {
+        block = record { head = head_line form; lines = front ++ lines.listed };
+        is = text-append _ _ _ _ (text-append _ _ _ _ (opening_is_text form claim denominator small size) lines.is) end_is_text;
+        of_other_kind = record { head = is_other form; lines = All-append GoesOn front lines.listed (λ k line below. front_goes_on k line below) lines.go_on };
+      }
+    where
+      front_goes_on : All GoesOn (claim_line (decimal claim) ∷ denominator_line (signed_decimal denominator) ∷ [])
+      front_goes_on =
+          All-cons GoesOn (claim_line (decimal claim)) (denominator_line (signed_decimal denominator) ∷ []) refl
+          (All-cons GoesOn (denominator_line (signed_decimal denominator)) [] refl (All-nil GoesOn))
+
+  pub evidence_is_skipped : (ds : List Declaration) (e : Evidence) → IsDeclared ds → IsTrue (list_all is_named ds) → IsWritableEvidence ds e → IsSkipped others (evidence_text ds e)
+  evidence_is_skipped ds (evidence.Plain c) declared known writable =
+      certificate_is_skipped format.Plain c.claim c.denominator _ writable.claim (size_written c.denominator writable.size writable.denominator writable.in_range)
+      (rows_are_body ds over_generator c.rows (rows_written ds declared known c writable))
+  evidence_is_skipped ds (evidence.Lemmas c) declared known writable =
+      let written = lemmas_written ds c declared known writable in
+      let opening = opening_text (head_text format.Lemmas ++ codes "\nclaim ") c.claim c.denominator in
+      subst (IsSkipped others) (sym (regrouped opening (lemmas_text ds 1 c.lemmas) (codes "goal" ++ scaled_text ds c.goal) (codes "end\n")))
+      (certificate_is_skipped format.Lemmas c.claim c.denominator (lemmas_text ds 1 c.lemmas ++ (codes "goal" ++ scaled_text ds c.goal)) writable.claim
+      (size_written c.denominator writable.size writable.denominator writable.in_range)
+      (body-append (lemmas_text ds 1 c.lemmas) (codes "goal" ++ scaled_text ds c.goal) (lemmas_are_body ds 1 c.lemmas written.lemmas) (goal_is_body ds c.goal written.goal)))
