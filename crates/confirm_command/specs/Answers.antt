@@ -1,0 +1,34 @@
+-- What `confirm` answers.
+use Rattle.std.specs.Prelude.{ℕ, List}
+use Rattle.adjoint_rules.specs.declared.problem.Problem.{Problem}
+use Rattle.basis_text.specs.declared.basis.Basis.{Basis}
+use Rattle.basis_text.specs.Bases.{IsBases, IsFirstFault}
+use Rattle.closed_checker.specs.Closed.{IsClosedBasis, Refuses}
+use Rattle.command_shape.specs.Ending.{Ending}
+use Rattle.command_shape.specs.Statement.{OverStatement}
+use Rattle.command_shape.specs.Blocks.{OverEvidence, AcceptsBlock, RefusesBlock, Judges, lines_on}
+use Rattle.confirm_command.specs.Texts.{claim_closed, refusal_text}
+
+-- the claim that the basis names is closed
+abbrev pub closed_text : Basis → List ℕ
+closed_text b = claim_closed b.claim
+
+-- a basis is closed, or refused for the first test that fails
+abbrev pub AcceptsBasis : Problem → Basis → List ℕ → Type 0
+AcceptsBasis problem b text = AcceptsBlock (IsClosedBasis problem) closed_text b text
+
+abbrev pub RefusesBasis : Problem → Basis → List ℕ → Type 0
+RefusesBasis problem b cause = RefusesBlock (Refuses problem) (refusal_text problem.parts.quiver) b cause
+
+-- how a run ends over a problem and a text of bases
+abbrev pub AnswersBases : List ℕ → Problem → Ending → Type 0
+AnswersBases bases problem ending =
+    OverEvidence (IsBases problem.parts.quiver bases) (IsFirstFault problem.parts.quiver bases) (Judges (AcceptsBasis problem) (RefusesBasis problem)) ending
+
+-- how a run ends over the two texts
+abbrev pub AnswersConfirm : List ℕ → List ℕ → Ending → Type 0
+AnswersConfirm statement bases ending = OverStatement statement (AnswersBases bases) ending
+
+-- the lines on bases that are all closed
+abbrev pub closed_lines : ℕ → List Basis → List ℕ
+closed_lines number bs = lines_on closed_text number bs

@@ -1,0 +1,79 @@
+//! What `confirm` answers over a statement and a text of bases.
+ghost use Rattle.std.specs.Prelude.{◌≡◌, ◌≤◌, IfOk, IfErr, length};
+ghost use Rattle.std.specs.List.{All};
+ghost use Rattle.basis_text.specs.Bases.{IsBases, IsFirstFault};
+ghost use Rattle.closed_checker.specs.Closed.{IsReadableBasis};
+ghost use Rattle.command_shape.specs.FileWords.{evidence_limit};
+ghost use Rattle.command_shape.specs.Blocks.{OverEvidence};
+ghost use Rattle.command_shape.specs.Stop.{StopsBy, EndsAs};
+ghost use Rattle.confirm_command.specs.Texts.{claim_closed};
+ghost use Rattle.confirm_command.specs.Answers.{AcceptsBasis, RefusesBasis, AnswersBases};
+
+use crate::refusal::refusal_text;
+use adjoint_rules::Problem;
+use basis_text::{Basis, read_bases};
+use block_text::CertFault;
+use closed_checker::confirm_closed;
+use command_shape::{Ending, Judge, Judged, Stop, judge_blocks, put_labelled, refused_evidence};
+use lists::Listing;
+use quiver::Quiver;
+use std::alloc::{AllocError, Global};
+
+/// How a run of `confirm` ends over a problem and a text of bases.
+pub fn confirm_bases(alloc: Global, problem: &Problem, text: &[u8]) -> Result<Ending, Stop>
+    requires { length text.now ≤ evidence_limit }
+    ensures { EndsAs (AnswersBases text.now problem.now) result }
+{
+    let bases = bases_of(alloc, text, &problem.parts.quiver)?;
+    judge_blocks(alloc, &BasisChecker, problem, bases.as_slice())
+}
+
+// The bases of the text, or the ending that tells its first fault.
+fn bases_of(alloc: Global, text: &[u8], quiver: &Quiver) -> Result<Listing<Basis>, Stop>
+    requires { length text.now ≤ evidence_limit }
+    ensures read { IfOk result (IsBases quiver.now text.now) }
+    ensures readable { IfOk result (All (IsReadableBasis quiver.now)) }
+    ensures stopped { IfErr result (StopsBy (OverEvidence (IsBases quiver.now text.now) (IsFirstFault quiver.now text.now) (λ _ _. ⊥))) }
+{
+    match read_bases(alloc, text, quiver) {
+        Ok(bases) => Ok(bases),
+        Err(CertFault::Fault { code, line, limit }) => {
+            let ending = refused_evidence(alloc, code, line, limit)?;
+            Err(Stop::Ended(ending))
+        }
+        Err(CertFault::Memory(failed)) => Err(Stop::Memory(failed)),
+    }
+}
+
+// The tests of bases.
+#[derive(Clone, Copy)]
+struct BasisChecker;
+
+impl Judge for BasisChecker {
+    type Block = Basis;
+
+    ghost can_judge = { λ problem b. IsReadableBasis problem.parts.quiver b };
+
+    ghost accepts = { AcceptsBasis };
+
+    ghost refuses = { RefusesBasis };
+
+    fn judge(&self, alloc: Global, problem: &Problem, block: &Basis) -> Result<Judged, AllocError> {
+        match confirm_closed(alloc, problem, block) {
+            Ok(_) => Ok(Judged::Accepted(closed_text(alloc, block.claim)?)),
+            Err(refusal) => {
+                let cause = refusal_text(alloc, &problem.parts.quiver, &refusal)?;
+                Ok(Judged::Refused(cause))
+            }
+        }
+    }
+}
+
+// What accepting a basis says.
+fn closed_text(alloc: Global, claim: u32) -> Result<Vec<u8>, AllocError>
+    ensures { IfOk result (λ text. text.items ≡ claim_closed claim) }
+{
+    let mut text = Vec::new(alloc);
+    put_labelled(&mut text, "closed claim ", u128::from(claim))?;
+    Ok(text)
+}
