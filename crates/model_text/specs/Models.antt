@@ -24,12 +24,12 @@ model_kind ds = record {
   Tree = ModelTokens;
   lines_of = model_front;
   IsTree = IsModelBlock;
+  Says = λ b m. m ≡ model_value ds b;
   others = other_words;
   Bound = Bound;
   bounds = bounds;
   flaw_of = flaw_of;
   Keeps = KeepsOne ds;
-  Says = λ b m. m ≡ model_value ds b;
 }
 
 -- The bytes are UTF-8, their lines are blocks within all bounds, and these are the models among them.

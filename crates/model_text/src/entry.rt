@@ -93,13 +93,12 @@ fn are_numbers(row: &[u8]) -> bool
     ensures { result ≡ list_all is_number (tokens_of row.now) }
 {
     let mut rest = row;
-    while let Some((token, behind)) = first_token(rest) {
-        if !is_number(token) {
-            return false;
+    loop {
+        match first_token(rest) {
+            Some((token, behind)) if is_number(token) => rest = behind,
+            other => return other.is_none(),
         }
-        rest = behind;
     }
-    true
 }
 
 // Whether the row has numbers alone, and one at least.

@@ -20,10 +20,10 @@ pub fn read_models(
     quiver: &Quiver,
 ) -> Result<Listing<Model>, CertFault>
     requires { length bytes.now < 4294967295 }
-    // They are those that the bytes have, or what is told is the first thing that is wrong with the bytes.
-    ensures exact { MatchResult result (IsModels quiver.now bytes.now) (ExplainsBy (IsFirstFault quiver.now bytes.now)) }
     // The modulus of each is one, its sides are from 1 to 64, and its matrices are those of declared maps.
     ensures models { IfOk result (All (IsModel quiver.now)) }
+    // They are those that the bytes have, or what is told is the first thing that is wrong with the bytes.
+    ensures exact { MatchResult result (IsModels quiver.now bytes.now) (ExplainsBy (IsFirstFault quiver.now bytes.now)) }
 {
     read_blocks(alloc, &Models { quiver }, bytes)
 }
