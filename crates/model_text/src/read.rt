@@ -19,7 +19,7 @@ pub fn read_models(
     bytes: &[u8],
     quiver: &Quiver,
 ) -> Result<Listing<Model>, CertFault>
-    requires { length bytes.now < 4294967295 }
+    requires short { length bytes.now < 4294967295 }
     // The modulus of each is one, its sides are from 1 to 64, and its matrices are those of declared maps.
     ensures models { IfOk result (All (IsModel quiver.now)) }
     // They are those that the bytes have, or what is told is the first thing that is wrong with the bytes.
