@@ -20,7 +20,7 @@ use Rattle.closed_checker.specs.Rests.{MayBeRule}
 abbrev pub Decided : Type 0 → Type 0
 Decided P = P ⊎ (P → ⊥)
 
--- ---- contents
+-- contents
 record HasContent (p : List Term) : Type 0 where
   content : ℤ
   is : IsContent p content
@@ -62,7 +62,7 @@ primitive_decided p = let found = has_content p in go found.content found.is
     go (pos (suc (suc n))) is = inr (λ one. omega (arith, ints, one_content p (pos (suc (suc n))) (pos 1) is one))
     go (negsuc n) is = inr (λ one. omega (arith, ints, one_content p (negsuc n) (pos 1) is one))
 
--- ---- signs and words
+-- signs and words
 positive_decided : (o : Option Term) → Decided (IsSomeAnd o (λ t. pos 0 <ℤ t.0))
 positive_decided None = inr (λ none. none)
 positive_decided (Some t) = go t.0
@@ -85,7 +85,7 @@ words_decided (t ∷ p) = go (word_decided t.1) (words_decided p)
     go (inl some) (inr none) = inr (λ each. none each.1)
     go (inl some) (inl each) = inl (some, each)
 
--- ---- rules
+-- rules
 module _ (compare : Compare) where
   pub rule_decided : (p : Poly) → Decided (MayBeRule compare p)
   rule_decided p = go (primitive_decided p.terms) (positive_decided (leading_term compare p.terms)) (words_decided p.terms)
