@@ -1,13 +1,13 @@
 #!/usr/bin/env python3
-"""Measures opprove beside plain programs: measure.py [WORD | prove [PAIRS | NAME] .. | workers [COUNT] | refute [NAME] | explain [NAME]]
+"""Measures opprove beside plain programs: measure.py [WORD | TABLE [NAME] ..], with prove, workers, refute, explain or confirm for TABLE
 
 Makes statements and certificates that are small and cost much, or are as large as may be, runs `opprove check` and
 contrib/plain.rs on each, and prints a table in Markdown: processor time and peak memory of both, the least of three
 runs or of those that begin within ten seconds, and the quotient of the times. With a word it makes the rows alone whose
 name begins with it: those that begin with `powers`, and `order` and `maps` of `measure_commands.py`, are of language 2. It
 wants rustc and the program that is built, or another one that the variable OPPROVE names. A run may take 8 GB of memory.
-Memory is seen from that of this script upwards. `measure_commands.py`, `measure_prove.py`, `measure_refute.py` and
-`measure_explain.py` have the tables of the other commands.
+Memory is seen from that of this script upwards. `measure_commands.py`, `measure_prove.py`, `measure_refute.py`,
+`measure_explain.py` and `measure_confirm.py` have the tables of the other commands.
 """
 from __future__ import annotations
 
@@ -22,6 +22,7 @@ from typing import Callable, List, NamedTuple, Optional, Tuple
 
 sys.dont_write_bytecode = True
 import measure_commands
+import measure_confirm
 import measure_explain
 import measure_prove
 import measure_refute
@@ -261,6 +262,7 @@ def check_rows(words: List[str], folder: Path) -> Text:
 
 TABLES = {
     "prove": measure_prove.rows, "workers": measure_prove.worker_rows, "refute": measure_refute.rows, "explain": measure_explain.rows,
+    "confirm": measure_confirm.rows,
 }  # fmt: skip
 
 

@@ -2,12 +2,14 @@
 //!
 //! `plain STATEMENT` multiplies out and prints how many terms each claim has; `plain STATEMENT EVIDENCE` adds up the
 //! certificates of both formats, over statements without adjoints, and says of each whether it gives its claim;
-//! `plain explain STATEMENT EVIDENCE` prints the chains of those in format 1 (`plain_chain.rs`). It reads
+//! `plain explain STATEMENT EVIDENCE` prints the chains of those in format 1 (`plain_chain.rs`), and
+//! `plain confirm STATEMENT BASIS` says of bases that they are closed (`plain_confirm.rs`). It reads
 //! `object`, `map`, `assume` and `claim` with sums, products, brackets, integers and adjoints, and in language 2 powers and
-//! `eliminate`, which changes nothing here; it looks neither at the types of equations nor at all that a faulty file may hold.
+//! `eliminate`, which changes nothing but for bases; it looks neither at the types of equations nor at all that a faulty file may hold.
 //! `rustc -O contrib/plain.rs` builds it; `measure.py` runs it.
 
 mod plain_chain;
+mod plain_confirm;
 
 use std::collections::hash_map::Entry;
 use std::collections::HashMap;
@@ -46,7 +48,11 @@ fn report(paths: &[String]) -> Answer<String> {
             let problem = read_statement(&load(statement)?)?;
             plain_chain::explain_all(&problem, &load(evidence)?)
         }
-        _ => Err("usage: plain [explain] STATEMENT [EVIDENCE]".to_string()),
+        [word, statement, basis] if word == "confirm" => {
+            let problem = read_statement(&load(statement)?)?;
+            plain_confirm::confirm_all(&problem, &load(basis)?)
+        }
+        _ => Err("usage: plain [explain | confirm] STATEMENT [EVIDENCE]".to_string()),
     }
 }
 
@@ -159,6 +165,8 @@ struct Problem {
     /// A number for each object.
     objects: HashMap<String, u16>,
     is_starred: bool,
+    /// Whether words are compared otherwise than by degrees.
+    has_order: bool,
     assumptions: Vec<Polynomial>,
     claims: Vec<Polynomial>,
     claim_ends: Vec<Ends>,
@@ -222,7 +230,7 @@ fn read_statement(text: &str) -> Answer<Problem> {
             "object" => {}
             "map" => problem.declare(rest)?,
             "assume" | "claim" => equations.push((word, Equation::read(rest, has_powers)?)),
-            "eliminate" if has_powers => {}
+            "eliminate" if has_powers => problem.has_order = true,
             _ => return Err(format!("the statement {word} is not read")),
         }
     }

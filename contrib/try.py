@@ -1,7 +1,7 @@
 #!/usr/bin/env python3
 """Tries the tools of contrib/, and compares check.py, check_model.py and candidates.py with opprove where that is built.
 
-try.py [checker | chains | explain | pictures | bounds | guide | plain | others] ..: all of these where none is named; the gate names checker.
+try.py [checker | chains | explain | confirm | pictures | bounds | guide | plain | others] ..: all of these where none is named; the gate names checker.
 
 Each check is a function that gives a line on what it found, and raises Failed where a tool does not do what it should.
 What is not installed is skipped with a line. The status is 0 where nothing failed, and else 1.
@@ -22,6 +22,7 @@ sys.dont_write_bytecode = True
 import measure
 import try_bounds
 import try_chains
+import try_confirm
 import try_explain
 import try_guide
 import try_harder
@@ -370,6 +371,7 @@ def devices() -> str:
 def groups(folder: Path) -> Dict[str, List[Callable[[], str]]]:
     """The checks by their words."""
     checks = {"chains": try_chains.CHECKS, "explain": try_explain.CHECKS, "pictures": try_pictures.CHECKS, "bounds": try_bounds.CHECKS}
+    checks["confirm"] = try_confirm.CHECKS
     checks["words"], checks["guide"] = try_why.CHECKS + try_opprove.CHECKS, try_guide.CHECKS
     checks["plain"] = try_plain.CHECKS
     checks["package"], checks["release"] = [try_python.package], [try_release.release]

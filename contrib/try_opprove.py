@@ -4,6 +4,7 @@ from __future__ import annotations
 import contextlib
 import os
 import pty
+import re
 import select
 import shutil
 import signal
@@ -30,6 +31,7 @@ esac
 # Each crate has ten functions, and those that are proved stand in its folder. A crate named in `spoilt` fails with the text there.
 RT = """#!/usr/bin/env bash
 kit=${0%/bin/rt} name=${PWD##*/}
+if [ "$1" = try ]; then echo "tried in $name: ${*:2}"; exit 3; fi
 mkdir -p out/incremental
 count=$(cat out/incremental/count 2>/dev/null || echo 0)
 for ((i = count + 1; i <= 10; i++)); do
@@ -277,11 +279,26 @@ def failures(folder: Path) -> str:
     return "a missing rt, a full disk and half a program end with a line that says what to do"
 
 
+def unproved(folder: Path) -> str:
+    """It says at once what it does and how long that takes, and hands over words and files; or says in one line why it can't."""
+    with checkout_in(folder) as checkout:
+        program, statement = str(checkout.top / "unproved"), checkout.top / "s.op"
+        how = {"cwd": checkout.top, "stdin": subprocess.DEVNULL, "capture_output": True, "timeout": 60}
+        done = subprocess.run([program, "prove", "s.op"], env=checkout.environment({}), **how)
+        need(done.stdout.decode() == f"tried in opprove: --data file0_s.op={statement} -- prove file0_s.op\n", done)
+        told = re.fullmatch("opprove: unproved: .* in about (a minute and a half|[0-9]+ minutes) here, .*\n", done.stderr.decode())
+        need(done.returncode == 3 and told is not None, done)
+        for change, line in (({"PATH": without_rt()}, "rt isn't found"), ({"TMPDIR": "/dev/null"}, "the disk of /dev/null is full")):
+            done = subprocess.run([program, "prove", "s.op"], env=checkout.environment(change), **how)
+            need((done.returncode, done.stdout) == (1, b"") and re.fullmatch(f"opprove: {line}.*\n", done.stderr.decode()), done)
+    return "./unproved foretells how long it takes, and a missing rt or a full disk ends it with one line"
+
+
 def without_rt() -> str:
     return ":".join(part for part in os.environ["PATH"].split(":") if not os.access(f"{part}/rt", os.X_OK))
 
 
-CHECKS: List[Callable[[Path], str]] = [answers, help_of, first_run, interrupted, failures]
+CHECKS: List[Callable[[Path], str]] = [answers, help_of, first_run, interrupted, failures, unproved]
 
 if __name__ == "__main__":
     import tempfile
