@@ -5,7 +5,7 @@ use Rattle.std.proofs.lemmas.Slice.Zip.{AllZip-long}
 use Rattle.definitions.specs.Category.{Structure, PreadditiveLaws}
 use Rattle.definitions.specs.Soundness.{IsSound}
 use Rattle.representations.specs.Evidence.{IsEvidenceSound}
-use Rattle.report_text.specs.Report.{report_of, heads_of}
+use Rattle.report_text.specs.Report.{heads_of}
 use Rattle.command_words.specs.declared.call.BenchCall.{BenchCall}
 use Rattle.command_words.specs.declared.call.Call.{Call}
 use Rattle.command_words.specs.declared.call.Call.TheVariants.{Prove, Check, Refute, Model, Bench, Explain}
@@ -18,7 +18,7 @@ use Rattle.command_shape.specs.Statement.{OverStatement}
 use Rattle.command_shape.proofs.Owed.{IsOwn, OwesEnding}
 use Rattle.command_shape.proofs.Stops.{ends_weaker}
 use Rattle.prove_command.specs.Answers.{asked_by, asked_by_bench}
-use Rattle.prove_command.proofs.Answered.{claims_owe}
+use Rattle.prove_command.proofs.Answered.{claims_owe, reports_owe}
 use Rattle.check_command.proofs.Answered.{check_owes}
 use Rattle.refute_command.proofs.Answered.{search_owes}
 use Rattle.model_command.proofs.Answered.{model_owes}
@@ -31,7 +31,7 @@ use Rattle.command_answers.specs.Laws.{AnswersOnce, EachCallHasAnEnding}
 -- one line a command
 call_owes : (call : Call) (statement evidence : List ℕ)
     → OwesEnding (OverStatement statement (AnswersOver call evidence)) (λ Object Arrow s ending. SaysOver s call statement evidence ending)
-call_owes (Prove p) statement evidence = claims_owe report_of (asked_by p) statement
+call_owes (Prove p) statement evidence = reports_owe (asked_by p) statement
 call_owes (Check p) statement evidence = check_owes statement evidence
 call_owes (Refute p) statement evidence = search_owes p.seed statement
 call_owes (Model p) statement evidence = model_owes statement evidence

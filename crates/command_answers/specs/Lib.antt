@@ -2,3 +2,4 @@ pub mod CallFiles
 pub mod Answers
 pub mod Says
 pub mod Laws
+pub mod OwnReports

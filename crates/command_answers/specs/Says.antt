@@ -1,11 +1,12 @@
 -- What a report says in a category: the main theorem's second page. Each line cites one record of a command's crate.
 use Rattle.std.specs.Prelude.{ℕ, List}
 use Rattle.definitions.specs.Category.{Structure}
-use Rattle.report_text.specs.Report.{report_of, heads_of}
+use Rattle.report_text.specs.Report.{heads_of}
 use Rattle.command_words.specs.declared.call.Call.{Call}
 use Rattle.command_words.specs.declared.call.Call.TheVariants as call
 use Rattle.command_shape.specs.Ending.{Ending}
-use Rattle.prove_command.specs.Says.{SaysDecided}
+use Rattle.prove_command.specs.Answers.{asked_by, asked_by_bench}
+use Rattle.prove_command.specs.Says.{SaysDecided, SaysReported}
 use Rattle.check_command.specs.Says.{SaysChecked}
 use Rattle.refute_command.specs.Says.{SaysSearched}
 use Rattle.model_command.specs.Says.{SaysConfirmed}
@@ -14,11 +15,11 @@ use Rattle.command_answers.specs.CallFiles.{AreContents, statement_of, evidence_
 
 -- what the ending of a call says, by its statement and its text of evidence
 abbrev pub SaysOver : {Object Arrow : Type 0} → Structure Object Arrow → Call → List ℕ → List ℕ → Ending → Type 0
--- each verdict that is printed means what it says: proved, refuted, not derivable, undecided
-SaysOver s (call.Prove p) statement evidence ending = SaysDecided s report_of statement ending
-SaysOver s (call.Bench b) statement evidence ending = SaysDecided s heads_of statement ending
--- each model that is printed refutes its claim
-SaysOver s (call.Refute p) statement evidence ending = SaysSearched statement ending
+-- each verdict that is printed means what it says: proved, refuted, not derivable, undecided; and the report is its own evidence
+SaysOver s (call.Prove p) statement evidence ending = SaysReported s (asked_by p) statement ending
+SaysOver s (call.Bench b) statement evidence ending = SaysDecided s heads_of asked_by_bench statement ending
+-- each model that is printed refutes its claim; and the report is its own evidence
+SaysOver s (call.Refute p) statement evidence ending = SaysSearched p.seed statement ending
 -- each certificate that is accepted proves the claim that it names
 SaysOver s (call.Check p) statement evidence ending = SaysChecked s statement evidence ending.report
 -- each model that is confirmed refutes the claim that it names

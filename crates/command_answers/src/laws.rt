@@ -1,5 +1,6 @@
 //! What users ask of all answers.
 ghost use Rattle.command_answers.specs.Laws.{AnswersOnce, EachCallHasAnEnding};
+ghost use Rattle.command_answers.specs.OwnReports.{ReportsAreChecked, ReportsAreConfirmed};
 
 /// A call has one ending at most over the contents of its files: it depends on these alone.
 pub fn a_call_is_answered_once()
@@ -9,4 +10,15 @@ pub fn a_call_is_answered_once()
 /// Each call has an ending over the contents of its files.
 pub fn each_call_has_an_ending()
     ensures { EachCallHasAnEnding }
+{}
+
+/// To the report of `prove` or `refute` on a statement `check` answers 0 over the same statement, or 7 where a limit is
+/// passed in adding a certificate up, or where no claim is proved.
+pub fn reports_are_checked()
+    ensures { ReportsAreChecked }
+{}
+
+/// And `model` answers 0, or 7 where no claim is refuted.
+pub fn reports_are_confirmed()
+    ensures { ReportsAreConfirmed }
 {}

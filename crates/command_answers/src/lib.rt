@@ -7,4 +7,6 @@ mod laws;
 
 pub use answers::answer;
 pub use call::call_files;
-pub use laws::{a_call_is_answered_once, each_call_has_an_ending};
+pub use laws::{
+    a_call_is_answered_once, each_call_has_an_ending, reports_are_checked, reports_are_confirmed,
+};

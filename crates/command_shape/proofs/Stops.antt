@@ -35,9 +35,13 @@ memory_ends P (Ok ending) fails wants = absurd (cc)
 memory_ends P (Err (Ended ending)) fails wants = absurd wants
 memory_ends P (Err (Memory failed)) fails wants = tt
 
+pub over_stated : (bytes : List ℕ) (P Q : Problem → Ending → Type 0) (ending : Ending) → ((problem : Problem) → IsStated bytes problem → P problem ending → Q problem ending)
+    → OverStatement bytes P ending → OverStatement bytes Q ending
+over_stated bytes P Q ending weaker (faulty text refused is) = faulty text refused is
+over_stated bytes P Q ending weaker (stated problem is next) = stated problem is (weaker problem is next)
+
 pub over_statement : (bytes : List ℕ) (P Q : Problem → Ending → Type 0) (ending : Ending) → ((problem : Problem) → P problem ending → Q problem ending) → OverStatement bytes P ending → OverStatement bytes Q ending
-over_statement bytes P Q ending weaker (faulty text refused is) = faulty text refused is
-over_statement bytes P Q ending weaker (stated problem is next) = stated problem is (weaker problem next)
+over_statement bytes P Q ending weaker = over_stated bytes P Q ending (λ problem is. weaker problem)
 
 pub over_evidence : {Block : Type 0} (are_blocks : List Block → Type 0) (is_first_fault : Fault → Type 0) (P Q : List Block → Ending → Type 0) (ending : Ending)
     → ((bs : List Block) → P bs ending → Q bs ending) → blocks.OverEvidence are_blocks is_first_fault P ending → blocks.OverEvidence are_blocks is_first_fault Q ending

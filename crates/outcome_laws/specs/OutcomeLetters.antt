@@ -6,7 +6,8 @@ use Rattle.quiver.specs.Declarations.{Declaration}
 use Rattle.cofactor_trace.specs.declared.evidence.Format.{Format}
 use Rattle.adjoint_rules.specs.declared.problem.Problem.{Problem}
 use Rattle.certificate_text.specs.Written.{IsEvidenceOver}
-use Rattle.report_text.specs.Report.{IsPolyOver, IsLeastOver}
+use Rattle.basis_text.specs.Written.{IsPolyOver}
+use Rattle.report_text.specs.Report.{IsLeastOver}
 use Rattle.traced_completion.specs.declared.budget.Budget.{Budget}
 use Rattle.traced_completion.specs.PlainRun.{setting_of}
 use Rattle.claim_decider.specs.declared.outcome.Outcome.{Outcome}

@@ -24,16 +24,19 @@ use Rattle.outcome_laws.proofs.Meanings.{outcomes_mean_what_they_say}
 use Rattle.outcome_laws.proofs.Problems.{each_problem_has_outcomes}
 use Rattle.outcome_laws.proofs.ProvedMeans.{proved_means}
 use Rattle.report_text.specs.declared.verdict.Verdict.{Verdict}
-use Rattle.report_text.specs.Report.{status_of}
+use Rattle.report_text.specs.Report.{report_of, status_of}
 use Rattle.command_shape.specs.Ending.{Ending}
-use Rattle.command_shape.specs.Statement.{OverStatement}
+use Rattle.command_shape.specs.Statement.{IsStated, OverStatement}
 use Rattle.prove_command.specs.declared.prove.Asked.{Asked}
 use Rattle.prove_command.specs.Answers.{Print, AreVerdictsOn, AnswersClaims}
-use Rattle.prove_command.specs.Says.{VerdictMeans, PrintsMeant, SaysDecided}
-use Rattle.command_shape.proofs.Owed.{OwesEnding, owed_over}
-use Rattle.command_shape.proofs.Stops.{over_statement}
+use Rattle.prove_command.specs.Says.{VerdictMeans, PrintsMeant, SaysDecided, ReportsMeant, SaysReported}
+use Rattle.command_shape.proofs.Owed.{OwesEnding, OwesOver, owed_over}
+use Rattle.command_shape.proofs.Stops.{over_stated, over_statement}
 use Rattle.report_text.proofs.Statuses.{verdicts_status}
 use Rattle.command_shape.proofs.Zips.{zip_once}
+use Rattle.report_readback.specs.OwnEvidence.{IsItsOwnEvidence}
+use Rattle.report_readback.proofs.Declared.{declared_names_are_names}
+use Rattle.prove_command.proofs.OwnEvidence.{decided_is_evidence}
 use Rattle.prove_command.proofs.Outcomes.{OnHalted, broken, left, OnOutcome, by_outcome, verdicts_once, verdicts_end, verdicts_follow}
 
 -- ---- one ending
@@ -115,24 +118,44 @@ module _ {Object Arrow : Type 0} {s : Structure Object Arrow} (laws : Preadditiv
         (outcomes_meant 1 (length problem.parts.claims) os (omega arith) (omega arith) outcomes) verdicts
 
 prints_meant : {Object Arrow : Type 0} {s : Structure Object Arrow} → PreadditiveLaws s → IsSound s → IsEvidenceSound s → (print : Print) (asked : Asked) (ending : Ending) (problem : Problem)
-    → AnswersClaims print asked problem ending → PrintsMeant s print problem ending
+    → AnswersClaims print asked problem ending → PrintsMeant s print asked problem ending
 prints_meant {s} laws sound with_lemmas print asked ending problem answer = record {
-  verdicts = answer.verdicts;
-  rules = answer.rules;
-  printed = ap (λ (e : Ending). e.report) answer.says;
-  status = ap (λ (e : Ending). e.status) answer.says;
+  answer = answer;
   each = verdicts_mean laws sound with_lemmas problem asked answer.decides.outcomes answer.verdicts answer.decides.are_outcomes answer.decides.are_verdicts;
 }
 
 -- ---- what is owed
 
+over_claims : (print : Print) (asked : Asked) → OwesOver (AnswersClaims print asked)
+over_claims print asked = record {
+  one = claims_end print asked;
+  no_other = λ problem ending ending'. claims_once print asked ending ending' problem;
+  own = λ problem ending answer. verdicts_status ending.status answer.verdicts (ap (λ (e : Ending). e.status) answer.says);
+}
+
+-- where the claims are decided, and their verdicts are printed,
 pub claims_owe : (print : Print) (asked : Asked) (statement : List ℕ)
-    → OwesEnding (OverStatement statement (AnswersClaims print asked)) (λ Object Arrow s ending. SaysDecided s print statement ending)
-claims_owe print asked statement = owed_over statement (AnswersClaims print asked) (λ Object Arrow s ending. SaysDecided s print statement ending)
-    (record {
-      one = claims_end print asked;
-      no_other = λ problem ending ending'. claims_once print asked ending ending' problem;
-      own = λ problem ending answer. verdicts_status ending.status answer.verdicts (ap (λ (e : Ending). e.status) answer.says);
-    })
+    → OwesEnding (OverStatement statement (AnswersClaims print asked)) (λ Object Arrow s ending. SaysDecided s print asked statement ending)
+claims_owe print asked statement = owed_over statement (AnswersClaims print asked) (λ Object Arrow s ending. SaysDecided s print asked statement ending) (over_claims print asked)
     (λ Object Arrow s laws sound with_lemmas ending answers.
-    over_statement statement (AnswersClaims print asked) (PrintsMeant s print) ending (prints_meant laws sound with_lemmas print asked ending) answers)
+    over_statement statement (AnswersClaims print asked) (PrintsMeant s print asked) ending (prints_meant laws sound with_lemmas print asked ending) answers)
+
+-- the report of a statement's claims is its own evidence
+pub claims_are_evidence : (asked : Asked) (statement : List ℕ) (ending : Ending) (problem : Problem) → IsStated statement problem → (answer : AnswersClaims report_of asked problem ending)
+    → IsItsOwnEvidence problem ending.report answer.verdicts
+claims_are_evidence asked statement ending problem is answer =
+    subst (λ (e : Ending). IsItsOwnEvidence problem e.report answer.verdicts) (sym answer.says)
+    (decided_is_evidence problem asked (declared_names_are_names statement is.statements problem is.tree is.elaborated) answer.verdicts answer.rules answer.decides)
+
+reports_meant : {Object Arrow : Type 0} {s : Structure Object Arrow} → PreadditiveLaws s → IsSound s → IsEvidenceSound s → (asked : Asked) (statement : List ℕ) (ending : Ending) (problem : Problem)
+    → IsStated statement problem → AnswersClaims report_of asked problem ending → ReportsMeant s asked problem ending
+reports_meant laws sound with_lemmas asked statement ending problem is answer =
+    let prints = prints_meant laws sound with_lemmas report_of asked ending problem answer in
+    record { prints = prints; own_evidence = claims_are_evidence asked statement ending problem is prints.answer }
+
+-- and where the whole report is
+pub reports_owe : (asked : Asked) (statement : List ℕ)
+    → OwesEnding (OverStatement statement (AnswersClaims report_of asked)) (λ Object Arrow s ending. SaysReported s asked statement ending)
+reports_owe asked statement = owed_over statement (AnswersClaims report_of asked) (λ Object Arrow s ending. SaysReported s asked statement ending) (over_claims report_of asked)
+    (λ Object Arrow s laws sound with_lemmas ending answers.
+    over_stated statement (AnswersClaims report_of asked) (ReportsMeant s asked) ending (reports_meant laws sound with_lemmas asked statement ending) answers)

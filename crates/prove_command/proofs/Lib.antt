@@ -1,4 +1,5 @@
 mod Outcomes
 mod Writing
+mod OwnEvidence
 pub mod Answered
 pub mod BenchSize

@@ -1,5 +1,5 @@
 -- What the report of `prove` says, and the head lines of `bench`.
-use Rattle.std.specs.Prelude.{ℕ, ◌≡◌, ⊤, List}
+use Rattle.std.specs.Prelude.{ℕ, ⊤, List}
 use Rattle.std.specs.List.{AllZip}
 use Rattle.definitions.specs.Category.{Structure}
 use Rattle.nc_polynomial.specs.declared.poly.Poly.{Poly}
@@ -8,12 +8,14 @@ use Rattle.claim_decider.specs.Decided.{claim_numbers}
 use Rattle.model_checker.specs.RefutedMeans.{RefutedMeans}
 use Rattle.report_text.specs.declared.verdict.Verdict.{Verdict}
 use Rattle.report_text.specs.declared.verdict.Verdict.TheVariants.{Proved, NotDerivable, Refuted, Undecided, NotRefuted}
-use Rattle.report_text.specs.Report.{status_of}
+use Rattle.report_text.specs.Report.{report_of}
+use Rattle.report_readback.specs.OwnEvidence.{IsItsOwnEvidence}
 use Rattle.outcome_laws.specs.Meanings.{Follows, HaltMeans}
 use Rattle.outcome_laws.specs.ProvedMeans.{ProvedMeans}
 use Rattle.command_shape.specs.Ending.{Ending}
 use Rattle.command_shape.specs.Statement.{OverStatement}
-use Rattle.prove_command.specs.Answers.{Print}
+use Rattle.prove_command.specs.declared.prove.Asked.{Asked}
+use Rattle.prove_command.specs.Answers.{Print, AnswersClaims}
 
 -- What is said of the claim with this number: proved, with its denominator, means so in each category; not derivable means that no
 -- positive multiple of the claim is a combination of the generators; refuted means that the claim isn't zero in the model; undecided
@@ -25,14 +27,21 @@ VerdictMeans s problem number (Refuted m) = RefutedMeans problem number m
 VerdictMeans s problem number (Undecided halt) = HaltMeans problem number halt
 VerdictMeans s problem number (NotRefuted candidates) = ⊤
 
--- What is printed over a problem are verdicts, one on each claim in order, and each means what it says.
-pub record PrintsMeant {Object Arrow : Type 0} (s : Structure Object Arrow) (print : Print) (problem : Problem) (ending : Ending) : Type 0 where
-  pub verdicts : List Verdict
-  pub rules : List Poly
-  pub printed : ending.report ≡ print problem.parts.quiver rules verdicts
-  pub status : ending.status ≡ status_of verdicts
-  pub each : AllZip (VerdictMeans s problem) (claim_numbers problem) verdicts
+-- What is printed over a problem are verdicts, one on each claim in order: they and the last rules are decided by the run, the report and the
+-- status are theirs, and each means what it says.
+pub record PrintsMeant {Object Arrow : Type 0} (s : Structure Object Arrow) (print : Print) (asked : Asked) (problem : Problem) (ending : Ending) : Type 0 where
+  pub answer : AnswersClaims print asked problem ending
+  pub each : AllZip (VerdictMeans s problem) (claim_numbers problem) answer.verdicts
 
 -- The statement is refused, and the report says so; or it has a problem, over which this is printed.
-abbrev pub SaysDecided : {Object Arrow : Type 0} → Structure Object Arrow → Print → List ℕ → Ending → Type 0
-SaysDecided s print statement ending = OverStatement statement (PrintsMeant s print) ending
+abbrev pub SaysDecided : {Object Arrow : Type 0} → Structure Object Arrow → Print → Asked → List ℕ → Ending → Type 0
+SaysDecided s print asked statement ending = OverStatement statement (PrintsMeant s print asked) ending
+
+-- What is printed so is its own evidence.
+pub record ReportsMeant {Object Arrow : Type 0} (s : Structure Object Arrow) (asked : Asked) (problem : Problem) (ending : Ending) : Type 0 where
+  pub prints : PrintsMeant s report_of asked problem ending
+  pub own_evidence : IsItsOwnEvidence problem ending.report prints.answer.verdicts
+
+-- The statement is refused, and the report says so; or it has a problem, over which this is reported.
+abbrev pub SaysReported : {Object Arrow : Type 0} → Structure Object Arrow → Asked → List ℕ → Ending → Type 0
+SaysReported s asked statement ending = OverStatement statement (ReportsMeant s asked) ending

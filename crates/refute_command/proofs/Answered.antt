@@ -11,11 +11,14 @@ use Rattle.report_text.specs.declared.verdict.Verdict.{Verdict}
 use Rattle.report_text.specs.declared.verdict.Verdict.TheVariants as verdict
 use Rattle.report_text.specs.Report.{report_of, status_of, IsVerdictOver}
 use Rattle.command_shape.specs.Ending.{Ending}
-use Rattle.command_shape.specs.Statement.{OverStatement}
+use Rattle.command_shape.specs.Statement.{IsStated, OverStatement}
+use Rattle.report_readback.specs.OwnEvidence.{IsItsOwnEvidence}
+use Rattle.report_readback.proofs.Declared.{declared_names_are_names}
+use Rattle.refute_command.proofs.OwnEvidence.{searched_is_evidence}
 use Rattle.refute_command.specs.Answers.{IsSearchedOn, refuted, not_refuted, AnswersSearch}
 use Rattle.refute_command.specs.Says.{SearchMeans, PrintsSearched, SaysSearched}
 use Rattle.command_shape.proofs.Owed.{OwesEnding, owed_over}
-use Rattle.command_shape.proofs.Stops.{over_statement}
+use Rattle.command_shape.proofs.Stops.{over_stated}
 use Rattle.report_text.proofs.Statuses.{verdicts_status}
 use Rattle.command_shape.proofs.Zips.{zip_once, zip_ends, zip_weaker, zip_all}
 
@@ -60,23 +63,29 @@ search_once seed ending ending' problem one other =
     let same = zip_once (IsSearchedOn problem seed) (verdict_once problem seed) (claim_numbers problem) one.verdicts other.verdicts one.each other.each in
     one.says ∙ (λ i. record { status = status_of (same i); report = report_of problem.parts.quiver [] (same i) }) ∙ sym other.says
 
-search_meant : (seed : ℕ) (ending : Ending) (problem : Problem) → AnswersSearch seed problem ending → PrintsSearched problem ending
-search_meant seed ending problem answer = record {
-  verdicts = answer.verdicts;
-  printed = ap (λ (e : Ending). e.report) answer.says;
-  status = ap (λ (e : Ending). e.status) answer.says;
+-- the report of a statement's search is its own evidence
+pub search_is_evidence : (seed : ℕ) (statement : List ℕ) (ending : Ending) (problem : Problem) → IsStated statement problem → (answer : AnswersSearch seed problem ending)
+    → IsItsOwnEvidence problem ending.report answer.verdicts
+search_is_evidence seed statement ending problem is answer =
+    subst (λ (e : Ending). IsItsOwnEvidence problem e.report answer.verdicts) (sym answer.says)
+    (searched_is_evidence problem seed (declared_names_are_names statement is.statements problem is.tree is.elaborated) answer.verdicts answer.each)
+
+search_meant : (seed : ℕ) (statement : List ℕ) (ending : Ending) (problem : Problem) → IsStated statement problem → AnswersSearch seed problem ending → PrintsSearched seed problem ending
+search_meant seed statement ending problem is answer = record {
+  answer = answer;
   each = zip_weaker (IsSearchedOn problem seed) (SearchMeans problem) (verdict_means problem seed) (claim_numbers problem) answer.verdicts answer.each;
+  own_evidence = search_is_evidence seed statement ending problem is answer;
 }
 
 -- ---- what is owed
 
 pub search_owes : (seed : ℕ) (statement : List ℕ)
-    → OwesEnding (OverStatement statement (AnswersSearch seed)) (λ Object Arrow s ending. SaysSearched statement ending)
-search_owes seed statement = owed_over statement (AnswersSearch seed) (λ Object Arrow s ending. SaysSearched statement ending)
+    → OwesEnding (OverStatement statement (AnswersSearch seed)) (λ Object Arrow s ending. SaysSearched seed statement ending)
+search_owes seed statement = owed_over statement (AnswersSearch seed) (λ Object Arrow s ending. SaysSearched seed statement ending)
     (record {
       one = search_ends seed;
       no_other = λ problem ending ending'. search_once seed ending ending' problem;
       own = λ problem ending answer. verdicts_status ending.status answer.verdicts (ap (λ (e : Ending). e.status) answer.says);
     })
     (λ Object Arrow s laws sound with_lemmas ending answers.
-    over_statement statement (AnswersSearch seed) PrintsSearched ending (search_meant seed ending) answers)
+    over_stated statement (AnswersSearch seed) (PrintsSearched seed) ending (search_meant seed statement ending) answers)

@@ -1,1 +1,2 @@
+mod OwnEvidence
 pub mod Answered

@@ -17,3 +17,5 @@ pub mod OneLemma
 pub mod LemmaAnswers
 pub mod LemmaPolys
 pub mod Answers
+pub mod WritableCandidates
+pub mod OwnEvidence

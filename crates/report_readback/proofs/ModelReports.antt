@@ -10,6 +10,7 @@ use Rattle.block_text.specs.Fault.{no_block}
 use Rattle.block_text.specs.Lines.{content, block_limit}
 use Rattle.block_text.specs.Tokens.{tokens_of}
 use Rattle.block_text.specs.Back.{is_whole, is_named, comment, other}
+use Rattle.basis_text.specs.Written.{basis_text, IsPolyOver}
 use Rattle.certificate_text.specs.Back.{part_text}
 use Rattle.block_text.proofs.ContentBack.{no_text, whole_append}
 use Rattle.block_text.specs.Blocks.{own_in}
@@ -24,7 +25,7 @@ use Rattle.model_text.proofs.Reader.{reader}
 use Rattle.report_text.specs.declared.verdict.Verdict.{Verdict}
 use Rattle.report_text.specs.declared.verdict.Verdict.TheVariants as verdict
 use Rattle.report_text.specs.Heads.{head_line}
-use Rattle.report_text.specs.Report.{basis_text, block_text, report_from, report_of, IsPolyOver}
+use Rattle.report_text.specs.Report.{block_text, report_from, report_of}
 use Rattle.report_readback.specs.ReadBack.{IsWritableVerdict}
 use Rattle.report_readback.specs.ModelsReadBack.{IsReadAsModels, refuted_in, ReportsReadBackAsModels}
 use Rattle.report_readback.proofs.Heads.{told_of, told_is_line}

@@ -30,7 +30,7 @@ module _ (ds : List Declaration) where
   none_of_halted h v verdicts (inl undecided) = ap (λ u. proved_in (u ∷ verdicts)) undecided
   none_of_halted h v verdicts (inr refuted) = ap (λ u. proved_in (u ∷ verdicts)) refuted.2
 
-  proved_is_derived : (outcomes : List Outcome) (verdicts : List Verdict) → AreVerdictsOf ds outcomes verdicts → proved_in verdicts ≡ derived_in outcomes
+  pub proved_is_derived : (outcomes : List Outcome) (verdicts : List Verdict) → AreVerdictsOf ds outcomes verdicts → proved_in verdicts ≡ derived_in outcomes
   proved_is_derived [] [] are = refl
   proved_is_derived [] (v ∷ verdicts) are = absurd are
   proved_is_derived (o ∷ outcomes) [] are = absurd are

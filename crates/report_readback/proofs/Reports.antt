@@ -13,6 +13,7 @@ use Rattle.cofactor_trace.specs.declared.evidence.Format.TheVariants.{Lemmas}
 use Rattle.block_text.specs.Fault.{no_block}
 use Rattle.block_text.specs.Blocks.{own_in}
 use Rattle.block_text.specs.Texts.{none}
+use Rattle.basis_text.specs.Written.{IsPolyOver}
 use Rattle.certificate_text.specs.Bounds.{IsCertificateOf}
 use Rattle.certificate_text.specs.Evidence.{HasCertificates, IsFirstFault}
 use Rattle.block_text.specs.Back.{is_named, block as certificate, comment, other}
@@ -21,7 +22,7 @@ use Rattle.certificate_text.proofs.PartsBack.{are_parts_read_back}
 use Rattle.report_text.specs.declared.verdict.Verdict.{Verdict}
 use Rattle.report_text.specs.declared.verdict.Verdict.TheVariants as verdict
 use Rattle.report_text.specs.Heads.{head_line}
-use Rattle.report_text.specs.Report.{block_text, report_from, report_of, IsPolyOver}
+use Rattle.report_text.specs.Report.{block_text, report_from, report_of}
 use Rattle.report_readback.specs.ReadBack.{IsReadAs, proved_in, IsWritableVerdict, ReportsReadBack}
 use Rattle.report_readback.proofs.Heads.{told_of, head_is_comment, told_is_line}
 use Rattle.report_readback.proofs.Bases.{basis_head, basis_lines, basis_is_part, basis_is}

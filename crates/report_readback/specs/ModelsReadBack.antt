@@ -13,14 +13,16 @@ use Rattle.traced_completion.specs.declared.budget.Budget.{Budget}
 use Rattle.traced_completion.specs.PlainRun.{setting_of}
 use Rattle.claim_decider.specs.declared.outcome.Outcome.{Outcome}
 use Rattle.claim_decider.specs.Decided.{claim_numbers, AreOutcomesOf, AreLastRules}
+use Rattle.model_candidates.specs.Candidates.{Breaks}
 use Rattle.block_text.specs.Fault.{no_block}
 use Rattle.block_text.specs.Lines.{block_limit}
 use Rattle.block_text.specs.Back.{is_named}
+use Rattle.basis_text.specs.Written.{IsPolyOver}
 use Rattle.model_text.specs.Models.{HasModels, IsModels, IsFirstFault}
 use Rattle.model_text.specs.Back.{IsWritableModel}
 use Rattle.report_text.specs.declared.verdict.Verdict.{Verdict}
 use Rattle.report_text.specs.declared.verdict.Verdict.TheVariants as verdict
-use Rattle.report_text.specs.Report.{report_of, IsPolyOver}
+use Rattle.report_text.specs.Report.{report_of}
 use Rattle.report_readback.specs.ReadBack.{IsWritableVerdict, AreVerdictsOf}
 
 -- The text has these models. Where there is one at least, they are what it is read as; where there is none, that is its first fault.
@@ -51,3 +53,8 @@ StatementReportsReadBackAsModels = (bytes : List ℕ) (statements : List Stateme
     → AreOutcomesOf (setting_of problem budget) form problem (claim_numbers problem) outcomes → AreVerdictsOf problem.parts.quiver outcomes verdicts
     → AreLastRules (setting_of problem budget) form problem (claim_numbers problem) rules → All (IsWritableModel problem.parts.quiver) (refuted_in verdicts)
     → IsReadAsModels problem.parts.quiver (report_of problem.parts.quiver rules verdicts) (refuted_in verdicts)
+
+-- A candidate that breaks a claim of a statement is such a model.
+abbrev pub BreakingCandidatesAreWritable : Type 0
+BreakingCandidatesAreWritable = (bytes : List ℕ) (statements : List Statement) (problem : Problem) (claim seed number k : ℕ) (m : Model)
+    → IsTreeOf bytes statements → IsProblemOf statements problem → Breaks problem claim seed number k m → IsWritableModel problem.parts.quiver m

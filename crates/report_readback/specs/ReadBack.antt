@@ -19,13 +19,14 @@ use Rattle.claim_decider.specs.declared.outcome.Outcome.TheVariants as outcome
 use Rattle.claim_decider.specs.Decided.{claim_numbers, AreOutcomesOf, AreLastRules}
 use Rattle.block_text.specs.Fault.{no_block}
 use Rattle.block_text.specs.Lines.{block_limit}
+use Rattle.basis_text.specs.Written.{IsPolyOver}
 use Rattle.certificate_text.specs.Evidence.{HasCertificates, IsEvidence, IsFirstFault}
 use Rattle.block_text.specs.Back.{is_named}
 use Rattle.certificate_text.specs.Back.{IsWritableEvidence}
 use Rattle.model_text.specs.Written.{HasPlaces}
 use Rattle.report_text.specs.declared.verdict.Verdict.{Verdict}
 use Rattle.report_text.specs.declared.verdict.Verdict.TheVariants as verdict
-use Rattle.report_text.specs.Report.{report_of, IsPolyOver, IsLeastOver}
+use Rattle.report_text.specs.Report.{report_of, IsLeastOver}
 
 -- ---- what is read
 

@@ -1,6 +1,6 @@
 //! What is read of a report as evidence and as models, and what is answered to its evidence, as laws over the definitions.
 ghost use Rattle.report_readback.specs.Answered.{DerivedEvidenceIsAnswered, ReportedEvidenceIsAnswered};
-ghost use Rattle.report_readback.specs.ModelsReadBack.{ReportsReadBackAsModels, StatementReportsReadBackAsModels};
+ghost use Rattle.report_readback.specs.ModelsReadBack.{ReportsReadBackAsModels, StatementReportsReadBackAsModels, BreakingCandidatesAreWritable};
 ghost use Rattle.report_readback.specs.ReadBack.{OutcomeReportsReadBack, ReportsReadBack, StatementReportsReadBack};
 
 /// A report is read as the evidence of its proved claims, in their order. Where no claim is proved, it has no certificate.
@@ -27,6 +27,12 @@ pub fn reports_are_read_back_as_models()
 /// So is the report on the claims of a statement.
 pub fn statement_reports_are_read_back_as_models()
     ensures { StatementReportsReadBackAsModels }
+{}
+
+/// A candidate that breaks a claim of a statement is a model that can be written: its matrices are those of the declared maps,
+/// which have names.
+pub fn breaking_candidates_are_writable()
+    ensures { BreakingCandidatesAreWritable }
 {}
 
 /// The evidence of a derived claim is accepted, unless a limit is passed in adding it up: by a coefficient, by the terms of a

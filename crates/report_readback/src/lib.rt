@@ -6,8 +6,8 @@ mod laws;
 mod name_laws;
 
 pub use laws::{
-    derived_evidence_is_answered, outcome_reports_are_read_back, reported_evidence_is_answered,
-    reports_are_read_back, reports_are_read_back_as_models, statement_reports_are_read_back,
-    statement_reports_are_read_back_as_models,
+    breaking_candidates_are_writable, derived_evidence_is_answered, outcome_reports_are_read_back,
+    reported_evidence_is_answered, reports_are_read_back, reports_are_read_back_as_models,
+    statement_reports_are_read_back, statement_reports_are_read_back_as_models,
 };
 pub use name_laws::{declared_names_are_names, names_are_name_tokens};

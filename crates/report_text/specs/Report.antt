@@ -1,10 +1,10 @@
 -- The report of the verdicts on claims, and its status.
-use Rattle.std.specs.Prelude.{ℕ, suc, Bool, true, false, List, [], ◌∷◌, ◌++◌, length, decimal, codes, if◌then◌else◌, Option, Some, None, ⊤}
-use Rattle.std.specs.List.{All, flat_map, list_all, list_any}
+use Rattle.std.specs.Prelude.{ℕ, suc, Bool, true, false, List, [], ◌∷◌, ◌++◌, length, if◌then◌else◌, Option, Some, None, ⊤}
+use Rattle.std.specs.List.{list_all, list_any}
 use Rattle.word_core.specs.Letters.{IsOver}
 use Rattle.nc_polynomial.specs.declared.poly.Poly.{Poly}
 use Rattle.quiver.specs.Declarations.{Declaration, letter_count}
-use Rattle.block_text.specs.Written.{poly_text}
+use Rattle.basis_text.specs.Written.{basis_text, IsPolyOver}
 use Rattle.certificate_text.specs.Written.{evidence_text, IsEvidenceOver}
 use Rattle.model_text.specs.Written.{model_text, HasPlaces}
 use Rattle.report_text.specs.declared.verdict.Verdict.{Verdict}
@@ -12,13 +12,6 @@ use Rattle.report_text.specs.declared.verdict.Verdict.TheVariants as verdict
 use Rattle.report_text.specs.Heads.{head_line}
 
 -- ---- the block of a verdict
-
-abbrev pub rule_line : List Declaration → Poly → List ℕ
-rule_line ds p = codes "rule " ++ poly_text ds p.terms ++ codes "\n"
-
--- all rules, and what is left of the claim by them
-abbrev pub basis_text : List Declaration → List Poly → ℕ → Poly → List ℕ
-basis_text ds rules claim rest = codes "basis 1\nclaim " ++ decimal claim ++ codes "\n" ++ flat_map (rule_line ds) rules ++ codes "rest " ++ poly_text ds rest.terms ++ codes "\nend\n"
 
 abbrev pub block_text : List Declaration → List Poly → ℕ → Verdict → List ℕ
 block_text ds rules claim (verdict.Proved e) = evidence_text ds e
@@ -85,15 +78,11 @@ status_of verdicts =
 
 -- ---- what can be written
 
--- the letters of the polynomial are letters of the quiver
-abbrev pub IsPolyOver : List Declaration → Poly → Type 0
-IsPolyOver ds p = All (λ t. IsOver (letter_count ds) t.1) p.terms
-
 abbrev pub IsLeastOver : List Declaration → Option (List ℕ) → Type 0
 IsLeastOver ds None = ⊤
 IsLeastOver ds (Some word) = IsOver (letter_count ds) word
 
--- and those of a verdict; a model has a side for each object and a place for each letter
+-- the letters of a verdict are letters of the quiver; a model has a side for each object and a place for each letter
 abbrev pub IsVerdictOver : List Declaration → Verdict → Type 0
 IsVerdictOver ds (verdict.Proved e) = IsEvidenceOver ds e
 IsVerdictOver ds (verdict.NotDerivable rest) = IsPolyOver ds rest

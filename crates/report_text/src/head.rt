@@ -98,7 +98,8 @@ fn put_overflow(out: &mut Vec<u8>, overflow: &Overflow) -> Result<(), AllocError
     put_integer(out, overflow.right)
 }
 
-fn put_cause(out: &mut Vec<u8>, cause: &Cause) -> Result<(), AllocError>
+/// Why work was given up, behind bytes.
+pub fn put_cause(out: &mut Vec<u8>, cause: &Cause) -> Result<(), AllocError>
     ensures { OnOk result (out.new.items ≡ out.old.items ++ cause_text cause.now) }
 {
     match cause {

@@ -8,6 +8,7 @@ mod status;
 mod verdict;
 
 pub use bench::write_bench;
+pub use head::put_cause;
 pub use lines::{heads, report};
 pub use status::status_of;
 pub use verdict::Verdict;

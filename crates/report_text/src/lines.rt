@@ -1,56 +1,18 @@
 //! The report of all verdicts, and its head lines alone.
 
-ghost use Rattle.std.specs.Prelude.{◌≡◌, ◌++◌, IfOk, OnOk, length};
-ghost use Rattle.std.specs.List.{All, flat_map};
-ghost use Rattle.report_text.specs.Report.{rule_line, basis_text, block_text, report_of, heads_of, IsPolyOver, IsVerdictOver};
+ghost use Rattle.std.specs.Prelude.{◌≡◌, ◌++◌, IfOk, OnOk};
+ghost use Rattle.std.specs.List.{All};
+ghost use Rattle.basis_text.specs.Written.{IsPolyOver};
+ghost use Rattle.report_text.specs.Report.{block_text, report_of, heads_of, IsVerdictOver};
 
 use crate::Verdict;
 use crate::head::put_head;
-use block_text::{put, put_number, put_poly};
+use basis_text::put_basis;
 use certificate_text::put_evidence;
 use model_text::put_model;
 use nc_polynomial::Poly;
 use quiver::Quiver;
 use std::alloc::{AllocError, Global};
-
-fn put_rule(out: &mut Vec<u8>, quiver: &Quiver, rule: &Poly) -> Result<(), AllocError>
-    requires { IsPolyOver quiver.now rule.now }
-    ensures { OnOk result (out.new.items ≡ out.old.items ++ rule_line quiver.now rule.now) }
-{
-    put(out, "rule ")?;
-    put_poly(out, quiver, rule)?;
-    put(out, "\n")
-}
-
-fn put_rules(out: &mut Vec<u8>, quiver: &Quiver, rules: &[Poly]) -> Result<(), AllocError>
-    requires { All (IsPolyOver quiver.now) rules.now }
-    ensures { OnOk result (out.new.items ≡ out.old.items ++ flat_map (rule_line quiver.now) rules.now) }
-{
-    for rule in rules {
-        put_rule(out, quiver, rule)?;
-    }
-    Ok(())
-}
-
-fn put_basis(
-    out: &mut Vec<u8>,
-    quiver: &Quiver,
-    rules: &[Poly],
-    claim: usize,
-    rest: &Poly,
-) -> Result<(), AllocError>
-    requires rules { All (IsPolyOver quiver.now) rules.now }
-    requires rest { IsPolyOver quiver.now rest.now }
-    ensures { OnOk result (out.new.items ≡ out.old.items ++ basis_text quiver.now rules.now claim rest.now) }
-{
-    put(out, "basis 1\nclaim ")?;
-    put_number(out, claim as u128)?;
-    put(out, "\n")?;
-    put_rules(out, quiver, rules)?;
-    put(out, "rest ")?;
-    put_poly(out, quiver, rest)?;
-    put(out, "\nend\n")
-}
 
 fn put_block(
     out: &mut Vec<u8>,

@@ -1,0 +1,48 @@
+-- The rules of a basis whose polynomials may be rules: they are rules, of these polynomials.
+use Rattle.std.proofs.Common.{◌≡◌, ◌<ℤ◌, ℕ, pos, List, [], ◌∷◌, ◌++◌, option_to_list, Option, Some, None, IsSomeAnd, refl, ap, subst}
+use Rattle.std.specs.List.{All, AllByRecursion}
+use Rattle.std.specs.Option.{option_map}
+use Rattle.std.proofs.lemmas.List.Elements.{recursion_from_All}
+use Rattle.coef_int.specs.Range.{IsCoefficient}
+use Rattle.definitions.specs.Poly.{Term}
+use Rattle.word_core.specs.Letters.{IsOver}
+use Rattle.word_orders.specs.Admissible.{Compare}
+use Rattle.nc_polynomial.specs.declared.poly.Poly.{Poly}
+use Rattle.rule_reduce.specs.declared.rule.Rule.{Rule}
+use Rattle.rule_reduce.specs.Leading.{leading_term}
+use Rattle.rule_reduce.specs.RuleLists.{IsRule, polynomials_of}
+use Rattle.rule_reduce.proofs.AtMost.{leading-all}
+use Rattle.adjoint_rules.specs.Problem.{polynomials}
+use Rattle.closed_checker.specs.Rests.{MayBeRule, rules_from}
+
+module _ (compare : Compare) where
+  abbrev rule_with : Poly → Term → Rule
+  rule_with p t = record { leading = t.0; lead = t.1; poly = p }
+
+  pub rules_from-same : (ps : List Poly) → AllByRecursion (MayBeRule compare) ps → polynomials_of (rules_from compare ps) ≡ polynomials ps
+  rules_from-same [] may = refl
+  rules_from-same (p ∷ ps) may = go (leading_term compare p.terms) may.0.positive (rules_from-same ps may.1)
+    where
+      go : (o : Option Term) → IsSomeAnd o (λ t. pos 0 <ℤ t.0) → polynomials_of (rules_from compare ps) ≡ polynomials ps
+          → polynomials_of (option_to_list (option_map (rule_with p) o) ++ rules_from compare ps) ≡ polynomials (p ∷ ps)
+      go None positive rest = absurd positive
+      go (Some t) positive rest = ap (λ (qs : List (List Term)). p.terms ∷ qs) rest
+
+  module _ (letters : ℕ) where
+    leads_rule : (p : Poly) (t : Term) → MayBeRule compare p → All (λ u. IsOver letters u.1) p.terms → leading_term compare p.terms ≡ Some t → IsRule letters compare (rule_with p t)
+    leads_rule p t may over leads = record {
+      leading = leads;
+      positive = subst (λ (o : Option Term). IsSomeAnd o (λ u. pos 0 <ℤ u.0)) leads may.positive;
+      in_range = leading-all (λ u. IsCoefficient u.0) compare p.terms t leads (recursion_from_All (λ (u : Term). IsCoefficient u.0) p.terms p.canonical.shaped.in_range);
+      nonempty = may.nonempty;
+      over = over;
+    }
+
+    pub rules_from-are : (ps : List Poly) → AllByRecursion (MayBeRule compare) ps → AllByRecursion (λ p. All (λ t. IsOver letters t.1) p.terms) ps → AllByRecursion (IsRule letters compare) (rules_from compare ps)
+    rules_from-are [] may over = tt
+    rules_from-are (p ∷ ps) may over = go (leading_term compare p.terms) refl may.0.positive (rules_from-are ps may.1 over.1)
+      where
+        go : (o : Option Term) → leading_term compare p.terms ≡ o → IsSomeAnd o (λ t. pos 0 <ℤ t.0) → AllByRecursion (IsRule letters compare) (rules_from compare ps)
+            → AllByRecursion (IsRule letters compare) (option_to_list (option_map (rule_with p) o) ++ rules_from compare ps)
+        go None leads positive rest = absurd positive
+        go (Some t) leads positive rest = (leads_rule p t may.0 over.0 leads, rest)

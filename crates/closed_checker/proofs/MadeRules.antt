@@ -1,0 +1,54 @@
+-- The rules of a basis, one polynomial after another.
+use Rattle.std.proofs.Common.{◌≡◌, ◌<◌, ◌≤◌, ◌<ℤ◌, ◌^◌, ℕ, ◌+◌, pos, List, [], ◌∷◌, ◌++◌, length, take, get_or, Option, Some, None, option_to_list, refl, sym, ap, subst, ◌∙◌, append-nil, arith}
+use Rattle.std.specs.List.{All, flat_map}
+use Rattle.std.specs.Option.{option_map, IsSomeAnd}
+use Rattle.std.proofs.lemmas.List.{take_more, length-append}
+use Rattle.std.proofs.lemmas.List.Concat.{flat_map-append}
+use Rattle.std.proofs.lemmas.Option.{slice_get_read}
+use Rattle.definitions.specs.Poly.{Term}
+use Rattle.word_orders.specs.Admissible.{Compare}
+use Rattle.nc_polynomial.specs.Content.{IsContent}
+use Rattle.nc_polynomial.specs.declared.poly.Poly.{Poly}
+use Rattle.rule_reduce.specs.declared.rule.Rule.{Rule}
+use Rattle.rule_reduce.specs.Leading.{leading_term}
+use Rattle.rule_reduce.specs.RuleLists.{rule_from}
+use Rattle.adjoint_rules.specs.declared.problem.Problem.{Problem}
+use Rattle.basis_text.specs.declared.basis.Basis.{Basis}
+use Rattle.closed_checker.specs.Rests.{order_of, rules_from, MayBeRule}
+use Rattle.closed_checker.specs.Closed.{NamesClaim, LacksRule}
+
+module _ (compare : Compare) where
+  abbrev made : Poly → List Rule
+  made p = option_to_list (rule_from compare p)
+
+  abbrev rule_by : Poly → Term → Rule
+  rule_by p t = record { leading = t.0; lead = t.1; poly = p }
+
+  -- what may be a rule has one
+  pub one_rule : (p : Poly) → MayBeRule compare p → length (made p) ≡ 1
+  one_rule p may = go (leading_term compare p.terms) may.positive
+    where
+      go : (o : Option Term) → IsSomeAnd o (λ t. pos 0 <ℤ t.0) → length (option_to_list (option_map (rule_by p) o)) ≡ 1
+      go None none = absurd none
+      go (Some t) some = refl
+
+  pub rules_more : (polys : List Poly) (i : ℕ) (p : Poly) → i < length polys → p ≡ get_or polys i p → rules_from compare (take (i + 1) polys) ≡ rules_from compare (take i polys) ++ made p
+  rules_more polys i p inside is =
+      ap (rules_from compare) (take_more polys i p inside) ∙ flat_map-append made (take i polys) (get_or polys i p ∷ [])
+      ∙ ap (λ q. rules_from compare (take i polys) ++ (made q ++ [])) (sym is) ∙ ap (λ rs. rules_from compare (take i polys) ++ rs) (append-nil (made p))
+
+pub lacks_rule : (problem : Problem) (b : Basis) (number i : ℕ) (p : Poly) → NamesClaim problem b → number ≡ i + 1 → i < length b.rules → p ≡ get_or b.rules i p
+    → All (MayBeRule (order_of problem)) (take i b.rules) → (MayBeRule (order_of problem) p → ⊥) → LacksRule problem b number
+lacks_rule problem b number i p claim numbered inside is passed refused =
+    record { claim = claim; before = i; poly = p; numbered = numbered; there = slice_get_read b.rules (length b.rules) i p refl inside is; earlier = passed; refused = refused }
+
+-- what `may_push` tests
+abbrev pub MayPush : Compare → Poly → ℕ → Type 0
+MayPush compare p count = IsContent p.terms (pos 1) × IsSomeAnd (leading_term compare p.terms) (λ t. pos 0 <ℤ t.0) × All (λ t. 0 < length t.1) p.terms × (count + 1 < 2 ^ 32)
+
+pub may_be : (compare other : Compare) (p : Poly) (count : ℕ) → compare ≡ other → MayPush compare p count → MayBeRule other p
+may_be compare other p count same may =
+    record { primitive = may.0; positive = subst (λ c. IsSomeAnd (leading_term c p.terms) (λ t. pos 0 <ℤ t.0)) same may.1; nonempty = may.2 }
+
+pub may_push : (compare other : Compare) (p : Poly) (count : ℕ) → compare ≡ other → count + 1 < 2 ^ 32 → MayBeRule other p → MayPush compare p count
+may_push compare other p count same few may = (may.primitive, subst (λ c. IsSomeAnd (leading_term c p.terms) (λ t. pos 0 <ℤ t.0)) (sym same) may.positive, may.nonempty, few)

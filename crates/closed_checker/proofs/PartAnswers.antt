@@ -1,0 +1,78 @@
+-- What reductions leave, as what is left of a part of the check.
+use Rattle.std.proofs.Common.{◌≡◌, ◌≤◌, ℕ, zero, suc, ◌-◌, List, [], ◌∷◌, length, get_or, slice_get, Option, Some, Result, Ok, Err, ap, sym, subst, ◌∙◌, arith}
+use Rattle.definitions.specs.Poly.{Term}
+use Rattle.definitions.specs.Combination.{generator_at}
+use Rattle.word_orders.specs.Admissible.{Compare}
+use Rattle.word_orders.specs.Specified.{made_cmp}
+use Rattle.word_orders.specs.declared.any.AnyOrder.{AnyOrder}
+use Rattle.nc_polynomial.specs.declared.poly.Poly.{Poly}
+use Rattle.nc_polynomial.specs.declared.fault.PolyFault.{PolyFault}
+use Rattle.nc_polynomial.specs.declared.fault.PolyFault.TheVariants as fault
+use Rattle.nc_polynomial.specs.Faults as poly
+use Rattle.rule_reduce.specs.declared.rule.Rule.{Rule}
+use Rattle.rule_reduce.specs.declared.state.State.{State}
+use Rattle.rule_reduce.specs.declared.fault.ReduceFault.{ReduceFault}
+use Rattle.rule_reduce.specs.declared.fault.ReduceFault.TheVariants as halt
+use Rattle.rule_reduce.specs.NormalForms.{ExplainsHalt, halt_of}
+use Rattle.ambiguities.specs.declared.ambiguity.Ambiguity.{Ambiguity}
+use Rattle.ambiguities.specs.SPolynomials.{s_polynomial_of}
+use Rattle.adjoint_rules.specs.declared.problem.Problem.{Problem}
+use Rattle.adjoint_rules.specs.Problem.{polynomials}
+use Rattle.basis_text.specs.declared.basis.Basis.{Basis}
+use Rattle.closed_checker.specs.declared.part.Part.{Part}
+use Rattle.closed_checker.specs.declared.part.Part.TheVariants as part
+use Rattle.closed_checker.specs.Rests.{order_of, rules_of, claim_of, rest_in, rest_by, rest_of}
+use Rattle.closed_checker.specs.Closed.{IsNumberUpTo, IsPart, Reaches}
+use Rattle.closed_checker.specs.Working.{AreRulesOf, Explains, IsAnswer}
+
+-- ---- faults
+pub explains_rest : (r : Result State ReduceFault) (f : ReduceFault) → ExplainsHalt r f → Explains (rest_in r) f
+explains_rest r (halt.Steps limit) is = ap rest_in is
+explains_rest r (halt.Overflow o) is = ap rest_in is
+explains_rest r (halt.Size s) is = ap rest_in is
+explains_rest r (halt.Memory e) is = tt
+
+pub explains_made : (compare : Compare) (rules : List Rule) (r : Result (List Term) PolyFault) (f : PolyFault) → poly.Explains r f → Explains (rest_by compare rules r) (halt_of f)
+explains_made compare rules r (fault.Overflow o) is = ap (rest_by compare rules) is
+explains_made compare rules r (fault.Size s) is = ap (rest_by compare rules) is
+explains_made compare rules r (fault.Memory e) is = tt
+
+-- ---- the rules and their order
+pub rest_same : (problem : Problem) (b : Basis) (order : AnyOrder) (rules : List Rule) (p : Result (List Term) PolyFault) → AreRulesOf problem b order rules
+    → rest_by (made_cmp order) rules p ≡ rest_by (order_of problem) (rules_of problem b) p
+rest_same problem b order rules p are = λ n. rest_by (are.compares n) (are.same n) p
+
+-- ---- polynomials by their numbers
+terms_at : (ps : List Poly) (place : ℕ) (p : Poly) → slice_get ps place ≡ Some p → get_or (polynomials ps) place [] ≡ p.terms
+terms_at [] place p is = absurd (cc)
+terms_at (q ∷ ps) zero p is = ap (λ (x : Poly). x.terms) (same is)
+  where
+    same : ◌≡◌ {A = Option Poly} (Some q) (Some p) → q ≡ p
+    same k = cc
+terms_at (q ∷ ps) (suc place) p is = terms_at ps place p is
+
+pub numbered_terms : (ps : List Poly) (number : ℕ) (p : Poly) → 1 ≤ number → slice_get ps (number - 1) ≡ Some p → generator_at (polynomials ps) number ≡ p.terms
+numbered_terms ps zero p least is = absurd (omega (arith, least))
+numbered_terms ps (suc place) p least is = let same : suc place - 1 ≡ place = omega arith in terms_at ps place p (subst (λ k. slice_get ps k ≡ Some p) same is)
+
+-- ---- the parts
+module _ (problem : Problem) (b : Basis) (order : AnyOrder) (rules : List Rule) (are : AreRulesOf problem b order rules) (result : Result Poly ReduceFault) where
+  pub generator_answer : (p : Part) (number : ℕ) (g : Poly) → Reaches problem b p → p ≡ part.Generator number → slice_get problem.generators (number - 1) ≡ Some g
+      → IsAnswer result (rest_by (made_cmp order) rules (Ok g.terms)) → IsAnswer result (rest_of problem b p)
+  generator_answer p number g reached is at =
+      let numbered : IsNumberUpTo (length problem.generators) number = subst (IsPart problem b) is reached.part in
+      let terms : generator_at (polynomials problem.generators) number ≡ g.terms = numbered_terms problem.generators number g numbered.least at in
+      subst (IsAnswer result)
+      (rest_same problem b order rules (Ok g.terms) are ∙ ap (λ (q : List Term). rest_by (order_of problem) (rules_of problem b) (Ok q)) (sym terms) ∙ ap (rest_of problem b) (sym is))
+
+  pub claim_answer : (p : Part) (g : Poly) → Reaches problem b p → p ≡ part.Claim → slice_get problem.parts.claims (b.claim - 1) ≡ Some g
+      → IsAnswer result (rest_by (made_cmp order) rules (Ok g.terms)) → IsAnswer result (rest_of problem b p)
+  claim_answer p g reached is at =
+      let terms : claim_of problem b ≡ g.terms = numbered_terms problem.parts.claims b.claim g reached.has_rules.claim.least at in
+      subst (IsAnswer result)
+      (rest_same problem b order rules (Ok g.terms) are ∙ ap (λ (q : List Term). rest_by (order_of problem) (rules_of problem b) (Ok q)) (sym terms) ∙ ap (rest_of problem b) (sym is))
+
+  pub ambiguity_answer : (p : Part) (a : Ambiguity) → p ≡ part.Ambiguity a → IsAnswer result (rest_by (made_cmp order) rules (s_polynomial_of rules a)) → IsAnswer result (rest_of problem b p)
+  ambiguity_answer p a is =
+      subst (IsAnswer result)
+      (rest_same problem b order rules (s_polynomial_of rules a) are ∙ ap (λ rs. rest_by (order_of problem) (rules_of problem b) (s_polynomial_of rs a)) are.same ∙ ap (rest_of problem b) (sym is))

@@ -1,0 +1,5 @@
+pub mod Limits
+pub mod Rests
+pub mod Closed
+pub mod Working
+pub mod Laws

@@ -1,0 +1,28 @@
+//! That each basis has one outcome, and what a closed basis means, as laws over the definitions.
+ghost use Rattle.closed_checker.specs.Laws.{ReadBasesAreReadable, EachBasisIsJudged, BasisRefusalIsUnique, ClosedBasisIsNotRefused, ClosedBasesMeanOutside};
+
+/// The bases of a text can be checked.
+pub fn read_bases_are_readable()
+    ensures { ReadBasesAreReadable }
+{}
+
+/// Each basis is closed, or one of its tests is the first that fails.
+pub fn each_basis_is_judged()
+    ensures { EachBasisIsJudged }
+{}
+
+/// A basis has one refusal at most, apart from want of memory.
+pub fn basis_refusal_is_unique()
+    ensures { BasisRefusalIsUnique }
+{}
+
+/// A closed basis has none.
+pub fn closed_basis_is_not_refused()
+    ensures { ClosedBasisIsNotRefused }
+{}
+
+/// The rules of a closed basis are resolved, the generators come from them, and no positive multiple of the claim is a
+/// combination of the generators.
+pub fn closed_bases_mean_outside()
+    ensures { ClosedBasesMeanOutside }
+{}

@@ -1,0 +1,3 @@
+pub use Rattle.outcome_laws.specs.Meanings
+pub use Rattle.closed_checker.specs.Closed
+pub mod Printed

@@ -1,0 +1,49 @@
+-- What `check` and `model` answer to a report of `prove` or `refute` on the same statement.
+use Rattle.std.specs.Prelude.{ℕ, ◌≡◌, ◌+◌, List, ◌++◌, length, Some}
+use Rattle.cofactor_trace.specs.declared.evidence.Evidence.{Evidence}
+use Rattle.matrix_models.specs.declared.model.Model.{Model}
+use Rattle.adjoint_rules.specs.declared.problem.Problem.{Problem}
+use Rattle.cofactor_checker.specs.declared.refusal.Refusal.{Refusal}
+use Rattle.block_text.specs.Fault.{no_block}
+use Rattle.report_text.specs.Report.{report_of}
+use Rattle.report_readback.specs.Answered.{PassesLimit}
+use Rattle.command_shape.specs.Ending.{Ending, line, refused_evidence}
+use Rattle.command_shape.specs.Texts.{evidence_fault}
+use Rattle.command_shape.specs.Statement.{IsStated}
+use Rattle.command_shape.specs.Blocks.{refused_text}
+use Rattle.prove_command.specs.declared.prove.Asked.{Asked}
+use Rattle.prove_command.specs.Answers.{AnswersClaims}
+use Rattle.refute_command.specs.Answers.{AnswersSearch}
+use Rattle.check_command.specs.Answers.{accepted_lines, AnswersCheck}
+use Rattle.check_command.specs.Refusals.{cause_text}
+use Rattle.model_command.specs.Answers.{confirmed_lines, AnswersModel}
+
+-- what `prove`, whatever it is asked for, or `refute`, with whatever seed, reports on the problem of a statement
+pub data IsReportOn (problem : Problem) (ending : Ending) : Type 0 where
+  of_prove : (asked : Asked) → AnswersClaims report_of asked problem ending → IsReportOn problem ending
+  of_refute : (seed : ℕ) → AnswersSearch seed problem ending → IsReportOn problem ending
+
+-- a text of evidence without a block is refused
+abbrev pub no_blocks : Ending
+no_blocks = refused_evidence (evidence_fault no_block.code no_block.line no_block.limit)
+
+-- All certificates are accepted; or the first of which a limit is passed in adding it up is refused; or there are none.
+pub data ChecksReport (problem : Problem) (ending : Ending) : Type 0 where
+  all : (es : List Evidence) → ending ≡ record { status = 0; report = accepted_lines 1 es } → ChecksReport problem ending
+  limit : (first : List Evidence) (refusal : Refusal) (cause : List ℕ) → PassesLimit refusal → cause_text problem.parts.quiver refusal ≡ Some cause
+      → ending ≡ record { status = 7; report = accepted_lines 1 first ++ line (refused_text (1 + length first) cause) } → ChecksReport problem ending
+  none : ending ≡ no_blocks → ChecksReport problem ending
+
+-- All models are confirmed, or there are none.
+pub data ConfirmsReport (ending : Ending) : Type 0 where
+  all : (ms : List Model) → ending ≡ record { status = 0; report = confirmed_lines 1 ms } → ConfirmsReport ending
+  none : ending ≡ no_blocks → ConfirmsReport ending
+
+-- So it is for each report on a statement.
+abbrev pub ReportsAreChecked : Type 0
+ReportsAreChecked = (statement : List ℕ) (problem : Problem) (report ending : Ending) → IsStated statement problem → IsReportOn problem report
+    → AnswersCheck statement report.report ending → ChecksReport problem ending
+
+abbrev pub ReportsAreConfirmed : Type 0
+ReportsAreConfirmed = (statement : List ℕ) (problem : Problem) (report ending : Ending) → IsStated statement problem → IsReportOn problem report
+    → AnswersModel statement report.report ending → ConfirmsReport ending

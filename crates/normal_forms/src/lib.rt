@@ -1,0 +1,2 @@
+//! Normal forms with fractions: the category that resolved rules make, and what is zero in it.
+#![tactic(auto)]
