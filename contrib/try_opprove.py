@@ -16,6 +16,7 @@ from typing import Callable, Dict, Iterator, List, NamedTuple, Tuple
 from trying import CONTRIB, TOP, Skipped, installed, need
 
 PARTS = ("opprove", "unproved", "docs/COMMANDS.md")
+SCRIPTS = ("*.sh", "*.awk", "why*.py", "check*.py", "confirm.py", "explain.py", "chain_text.py", "tree.py")
 STATEMENT = "object U\nmap a y : U -> U\nclaim b = a\n"
 REFUSED = "# refused S6 line 3 column 7\n"
 # Answers as opprove does: a fault, the line of usage, a run that takes long, and else that standard output was not to be had.
@@ -74,7 +75,7 @@ class Checkout:
             (self.top / part).parent.mkdir(parents=True, exist_ok=True)
             shutil.copy(TOP / part, self.top / part)
         (self.top / "contrib").mkdir()
-        for part in [*CONTRIB.glob("*.sh"), *CONTRIB.glob("*.awk"), *CONTRIB.glob("why*.py"), *CONTRIB.glob("check*.py")]:
+        for part in [path for pattern in SCRIPTS for path in CONTRIB.glob(pattern)]:
             shutil.copy(part, self.top / "contrib" / part.name)
         (self.top / ".git").mkdir()
         write(self.top / "s.op", STATEMENT)
