@@ -17,6 +17,7 @@ from typing import Callable, Dict, Iterator, List, NamedTuple, Tuple
 from trying import CONTRIB, TOP, Skipped, installed, need
 
 PARTS = ("opprove", "unproved", "docs/COMMANDS.md")
+SCRIPTS = ("*.sh", "*.awk", "why*.py", "check*.py", "confirm.py", "explain.py", "chain_text.py", "tree.py")
 STATEMENT = "object U\nmap a y : U -> U\nclaim b = a\n"
 REFUSED = "# refused S6 line 3 column 7\n"
 # Answers as opprove does: a fault, the line of usage, a run that takes long, and else that standard output was not to be had.
@@ -25,7 +26,7 @@ case "$1" in
   s.op | prove) printf '# refused S6 line 3 column 7\\n' 2>/dev/null || exit 5; exit 3 ;;
   proved) echo '# claim 1 proved denominator 1 rows 1' || exit 5; exit 0 ;;
   slow) exec sleep 20 ;;
-  *) echo '# usage: opprove prove|check|refute|model|bench|explain' || exit 5; exit 2 ;;
+  *) echo '# usage: opprove prove|check|refute|model|bench|confirm|explain' || exit 5; exit 2 ;;
 esac
 """
 # Each crate has ten functions, and those that are proved stand in its folder. A crate named in `spoilt` fails with the text there.
@@ -76,7 +77,7 @@ class Checkout:
             (self.top / part).parent.mkdir(parents=True, exist_ok=True)
             shutil.copy(TOP / part, self.top / part)
         (self.top / "contrib").mkdir()
-        for part in [*CONTRIB.glob("*.sh"), *CONTRIB.glob("*.awk"), *CONTRIB.glob("why*.py"), *CONTRIB.glob("check*.py")]:
+        for part in [path for pattern in SCRIPTS for path in CONTRIB.glob(pattern)]:
             shutil.copy(part, self.top / "contrib" / part.name)
         (self.top / ".git").mkdir()
         write(self.top / "s.op", STATEMENT)
@@ -207,7 +208,7 @@ def help_of(folder: Path) -> str:
     with checkout_in(folder) as checkout:
         seen = redirected(checkout, "help")
         need(seen.status == 0 and not seen.terminal and len(seen.out.split("\n")) < 24, seen)
-        for name in ("prove", "check", "refute", "model", "bench", "explain"):
+        for name in ("prove", "check", "refute", "model", "bench", "confirm", "explain"):
             need(f"\n  {name} " in seen.out, (name, seen))
             one = redirected(checkout, "help", name)
             need(one.status == 0 and one.out.startswith(f"./opprove {name} ") and "`" not in one.out, one)

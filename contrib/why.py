@@ -234,10 +234,11 @@ def editor(words: List[str]) -> int:
 
 
 def reader_of(evidence: str) -> str:
-    """The command that reads it: model where it has models alone."""
+    """The command that reads it: model where it has models and no certificate, and confirm where it has bases alone."""
     data = content(evidence)
-    has = [re.search(rb"^[ \t]*%s[ \t]" % kind, data, re.MULTILINE) for kind in (b"model", b"certificate")]
-    return "model" if has[0] and not has[1] else "check"
+    kinds = (b"certificate", b"model", b"basis")
+    has = [re.search(rb"^[ \t]*%s[ \t]" % kind, data, re.MULTILINE) is not None for kind in kinds]
+    return "check" if has[0] or not any(has) else "model" if has[1] else "confirm"
 
 
 def ended(status: int) -> int:

@@ -26,6 +26,7 @@ COMMANDS: Dict[str, Command] = {
     "refute": Command(("FILE",), ("--workers", "--seed")),
     "model": Command(("STATEMENT", "MODEL")),
     "bench": Command(("N",), ("--workers",)),
+    "confirm": Command(("STATEMENT", "BASIS")),
     "explain": Command(("STATEMENT", "CERTIFICATE")),
 }
 

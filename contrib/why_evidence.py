@@ -1,4 +1,5 @@
-"""What why.py tells of evidence that is refused: a function for each code, K1 to K7, C1 to C11, E1 to E4 and M1 to M6, in one table."""
+"""What why.py tells of evidence that is refused: a function for each code, K1 to K7, C1 to C11, E1 to E4, M1 to M6 and B1 to B7, in
+one table."""
 from __future__ import annotations
 
 import functools
@@ -6,6 +7,7 @@ import re
 from typing import Callable, Dict, Iterator, List, NamedTuple, Optional, Tuple
 
 import check_model
+import confirm
 from check import Evidence, Poly, Problem, Refusal, add, is_name
 from why_parts import LIMIT_OF_NUMBERS, Quote, Told, article, counted, did_you_mean, few, listed, short
 from why_statement import Statement
@@ -15,8 +17,9 @@ LARGE = 400000  # bytes: sums of larger evidence are not made again
 ROW, LEMMA_ROW = "`row C (LETTERS) G (LETTERS)`", "`row C (LETTERS) lemma K (LETTERS)`"
 
 
-READS = {"check": "certificate", "explain": "certificate", "model": "model"}  # the blocks that a command reads
-OTHERS = {"certificate": ("model", "basis"), "model": ("certificate", "basis")}  # those that are skipped then
+# The blocks that a command reads, and those that are skipped then.
+READS = {"check": "certificate", "explain": "certificate", "model": "model", "confirm": "basis"}
+OTHERS = {"certificate": ("model", "basis"), "model": ("certificate", "basis"), "basis": ("certificate", "model")}
 
 
 class Entry(NamedTuple):
@@ -57,12 +60,15 @@ class Text:
             may = self.after(words[0], is_second, is_goal, lemmas)
 
     def first(self) -> Tuple[str, ...]:
-        return ("`certificate 1`", "`certificate 2`") if self.kind == "certificate" else ("`model 1`",)
+        return ("`certificate 1`", "`certificate 2`") if self.kind == "certificate" else (f"`{self.kind} 1`",)
 
     def after(self, word: str, is_second: bool, is_goal: bool, lemmas: int) -> Tuple[str, ...]:
         if self.kind == "model":
             within = ("`side NAME S`", "`map NAME = X .. ; X ..`", "`end`")
             return {"model": ("`claim N`",), "claim": ("`modulus M`",), "end": self.first()}.get(word, within)
+        if self.kind == "basis":
+            within = ("`rule POLYNOMIAL`", "`rest POLYNOMIAL`")
+            return {"basis": ("`claim N`",), "rest": ("`end`",), "end": self.first()}.get(word, within)
         more = ("`end`",) if is_goal or not is_second else (f"`lemma {lemmas + 1} scale S`", "`goal scale S`")
         rows = () if word == "denominator" and is_second else (ROW, LEMMA_ROW) if is_second else (ROW,)
         return {"certificate": ("`claim N`",), "claim": ("`denominator D`",), "end": self.first()}.get(word, rows + more)
@@ -115,6 +121,9 @@ class Fault(NamedTuple):
     def noun(self) -> str:
         return self.text.kind
 
+    def nouns(self) -> str:
+        return "bases" if self.text.kind == "basis" else f"{self.text.kind}s"
+
 
 # ---- K1 to K7: the text
 
@@ -144,6 +153,8 @@ def detail(fault: Fault, entry: Entry) -> Tuple[int, str]:
         for place in letters_of(words):
             if not is_letter(words[place]):
                 return place, f": `{short(words[place], 30)}` is no letter, which is a name, [NAME], or one of them with ' behind it"
+    if words[0] in ("rule", "rest"):
+        return polynomial_detail(fault, words)
     if words[0] in ("side", "map"):
         earlier = [it.line for it in fault.text.of_block(entry.block) if it.words[:2] == words[:2] and it.line < entry.line]
         if earlier:
@@ -158,8 +169,40 @@ def detail(fault: Fault, entry: Entry) -> Tuple[int, str]:
     return -1, ""
 
 
+def polynomial_detail(fault: Fault, words: List[str]) -> Tuple[int, str]:
+    """The first token of a polynomial that doesn't fit, or the first term that isn't smaller than the one before it."""
+    begins, before = 1 + (words[1:2] == ["-"]), None
+    for place in range(begins, len(words) + 1):
+        if place < len(words) and words[place] not in ("+", "-"):
+            if not is_number(words[place]) and not confirm.is_written(words[place]):
+                return place, f": `{short(words[place], 30)}` is no letter as it is written, which is a name, a name with ' behind it, or [NAME]"
+            if is_number(words[place]) and (place > begins or words[place].lstrip("0") in ("", "1")):
+                return place, f": `{short(words[place], 30)}` stands here, and a number is above 1, in front of its letters alone"
+            continue
+        names = words[begins + is_number(words[begins]) : place] if begins < place else []
+        if not names:
+            return min(begins, len(words) - 1), ": a term has one or more letters"
+        problem = fault.statement.problem()
+        if problem and all(name in problem.numbers for name in names):
+            numbers = [problem.numbers[name] for name in names]
+            other = next((at for at, name in enumerate(names) if problem.names[numbers[at]] != name), -1)
+            if other >= 0:
+                return place - len(names) + other, f": this letter is written `{problem.names[numbers[other]]}`"
+            if before and (len(names), numbers) >= before:
+                return begins, ": the words of a polynomial descend, and this one isn't smaller than the one before it"
+            before = (len(names), numbers)
+        begins = place + 1
+    return -1, ""
+
+
+def is_number(word: str) -> bool:
+    return word.isascii() and word.isdigit()
+
+
 def letters_of(words: List[str]) -> List[int]:
-    """The places of what stands between brackets."""
+    """The places of letters in a polynomial, and elsewhere of what stands between brackets."""
+    if words[0] in ("rule", "rest"):
+        return [place for place, word in enumerate(words) if place and word not in ("+", "-") and not is_number(word)]
     depth, places = 0, []
     for place, word in enumerate(words):
         depth += {"(": 1, ")": -1}.get(word, 0)
@@ -174,7 +217,7 @@ def is_letter(text: str) -> bool:
 
 def undeclared(fault: Fault) -> Told:
     entry, declared = fault.entry(), fault.statement.declared
-    for place in letters_of(entry.words) if entry.words[0] == "row" else [1]:
+    for place in letters_of(entry.words) if entry.words[0] in ("row", "rule", "rest") else [1]:
         letter = entry.words[place]
         kind = "object" if letter[0] == "[" or entry.words[0] == "side" else "map"
         name = letter.rstrip("'").strip("[]")
@@ -204,6 +247,7 @@ def bound(fault: Fault) -> Told:
         told = f"the numbers of a matrix are below the modulus {modulus}, and here stands {short(words[place], 40)}"
         return fault.told(told, entry, place)
     else:
+        most = LIMIT_OF_NUMBERS if words[0] in ("rule", "rest") else most
         places = [place for place, word in enumerate(words) if place and word.isdigit() and int(word) > most]
     size = f"this number is at most {'2^127 - 1' if most > 2**32 else f'{most:,}'}"
     return fault.told(f"{size}, and {short(words[places[0]], 60)} stands here", entry, places[0])
@@ -211,15 +255,26 @@ def bound(fault: Fault) -> Told:
 
 def limit(fault: Fault) -> Told:
     entry, most = fault.entry(), fault.number("limit")
+    if entry.words[0] in ("rule", "rest"):
+        return polynomial_limit(fault, entry, most)
     if most == 500:
         longest = max(len(word.split()) for word in re.findall(r"\( ([^()]*)\)", " ".join(entry.words)))
         return fault.told(f"a word has at most 500 letters, and one of this row has {longest}", entry)
     if most == 64:
         return fault.told("sides, and the rows and columns of a matrix, are at most 64", entry)
     if most == 100:
-        return fault.told(f"a text has at most 100 {fault.noun()}s, and here begins the 101st", entry)
+        return fault.told(f"a text has at most 100 {fault.nouns()}, and here begins the 101st", entry)
     what = "letters in the words of its rows" if most == 1000000 else "lemmas" if entry.words[0] == "lemma" else "rows"
     return fault.told(f"a block has at most {most:,} {what}, and with this line it has more", entry)
+
+
+def polynomial_limit(fault: Fault, entry: Entry, most: int) -> Told:
+    terms = [len(term.split()) for term in re.split(r" [+-](?= )", " ".join(entry.words[1:]))]
+    if most == 500:
+        return fault.told(f"a word has at most 500 letters, and one of this polynomial has {max(terms)}", entry)
+    if most == 20000:
+        return fault.told(f"a polynomial has at most 20,000 terms, and this one has {len(terms):,}", entry)
+    return fault.told(f"a basis has at most {most:,} rules, and with this line it has more", entry)
 
 
 def unended(fault: Fault) -> Told:
@@ -457,6 +512,83 @@ def matrices(named: List[Tuple[str, check_model.Matrix]], width: int = 76) -> st
     return "\n".join("    " + row for band in bands for row in band)
 
 
+# ---- B1 to B7: bases
+
+def basis_of(fault: Fault) -> confirm.Basis:
+    return confirm.Bases(fault.problem(), fault.text.path).bases[fault.block - 1]
+
+
+def rule_entry(fault: Fault, number: int) -> Entry:
+    return fault.text.of_block(fault.block, "rule")[number - 1]
+
+
+def written_rule(fault: Fault, number: int) -> str:
+    return f"  rule {number}: {short(' '.join(rule_entry(fault, number).words[1:]), 80)}"
+
+
+def bad_rule(fault: Fault) -> Told:
+    number = fault.number("rule")
+    poly, order = basis_of(fault).rules[number - 1], confirm.Order(fault.problem())
+    content = confirm.gcd_of(poly)
+    if not poly:
+        told = f"rule {number} is zero"
+    elif content > 1:
+        told = f"all coefficients of rule {number} are multiples of {content}, and a rule is divided by what divides it"
+    else:
+        word = confirm.text_of(fault.problem(), {min(poly, key=order.rank): 1})
+        told = f"rule {number} has a negative coefficient at `{short(word, 40)}`, which is its greatest word in the order of the statement"
+    return fault.told(told, rule_entry(fault, number))
+
+
+def left_over(fault: Fault) -> str:
+    return short(fault.rest.split(" rest ", 1)[1], 80)
+
+
+def generator_stays(fault: Fault) -> Told:
+    number, problem = fault.number("generator"), fault.problem()
+    told = f"the rules don't reduce generator {number} to zero, but leave {left_over(fault)}"
+    more = f"  generator {number}: {shown(problem, problem.generators()[number - 1])}"
+    return fault.told(told, fault.text.of_block(fault.block)[0], more=(more,))
+
+
+def ambiguity(kind: str, first: str, second: str, place: str) -> str:
+    rules = f"rule {first} with itself" if first == second else f"rules {first} and {second}"
+    return f"the {kind} of {rules} at place {place}"
+
+
+def ambiguity_stays(fault: Fault) -> Told:
+    kind, first, second, place = re.search("(overlap|inclusion) ([0-9]+) ([0-9]+) ([0-9]+)", fault.rest).groups()  # type: ignore[union-attr]
+    where = ambiguity(kind, first, second, place)
+    told = f"the rules aren't closed: {where} leaves {left_over(fault)}, and has to leave 0"
+    more = tuple(written_rule(fault, int(number)) for number in dict.fromkeys((first, second)))
+    return fault.told(told, rule_entry(fault, int(first)), more=more)
+
+
+def rest_differs(fault: Fault) -> Told:
+    claim, entry = fault.text.of_block(fault.block, "claim")[0].words[1], fault.text.of_block(fault.block, "rest")[0]
+    return fault.told(f"the rules leave {short(fault.rest.split('got ', 1)[1], 80)} of claim {claim}, and not this rest", entry)
+
+
+def zero_rest(fault: Fault) -> Told:
+    claim = fault.text.of_block(fault.block, "claim")[0].words[1]
+    told = f"the rules reduce claim {claim} to zero, so some positive multiple of it is a combination of the rules"
+    return fault.told(told, fault.text.of_block(fault.block, "rest")[0])
+
+
+def basis_stops(fault: Fault) -> Told:
+    part, number = re.match("B7 (claim|[a-z]+ [0-9]+(?: [0-9]+ [0-9]+)?) (.*)", f"B7 {fault.rest}").groups()  # type: ignore[union-attr]
+    words = part.split()
+    where = {"claim": "the claim", "generator": f"generator {words[-1]}"}.get(words[0])
+    where = where or ambiguity(*words)
+    causes = {
+        "steps": "it takes more than 1,000,000 steps", "size letters": "a word has more than 500 letters",
+        "size terms": "there are more than 20,000 terms",
+    }  # fmt: skip
+    cause = next((told for front, told in causes.items() if number.startswith(front)), "")
+    told = f"the reduction of {where} stops: {cause or number.replace('overflow ', '') + ' leaves ±(2^127 - 1)'}"
+    return fault.told(f"{told}; so it isn't known whether the basis is closed", fault.text.of_block(fault.block)[0])
+
+
 # ---- The table
 
 RULES = {  # the rule alone, for where no more can be told
@@ -488,6 +620,13 @@ RULES = {  # the rule alone, for where no more can be told
     "M4": "an assumption isn't zero in the model",
     "M5": "the claim is zero in the model",
     "M6": "the matrix of a `self` map isn't its own transpose",
+    "B1": "the statement has no claim of this number",
+    "B2": "a rule is zero, has a content above 1, or a negative leading coefficient",
+    "B3": "the rules don't reduce a generator to zero",
+    "B4": "the rules aren't closed: an ambiguity leaves more than 0",
+    "B5": "the rules leave another rest of the claim",
+    "B6": "the rules reduce the claim to zero",
+    "B7": "a reduction stops at a limit",
 }
 SENTENCES: Dict[str, Callable[[Fault], Told]] = {
     "K1": utf8, "K2": grammar, "K3": undeclared, "K4": bound, "K5": limit, "K6": unended, "K7": none_there,
@@ -495,6 +634,7 @@ SENTENCES: Dict[str, Callable[[Fault], Told]] = {
     "C8": lemma_divides, "C9": lemma_size, "C10": lemma_scale, "C11": lemma_terms,
     "E1": has_lemmas, "E2": chain_overflow, "E3": chain_size, "E4": chain_letters,
     "M1": claim_number, "M2": no_matrix, "M3": wrong_shape, "M4": broken_assumption, "M5": unbroken_claim, "M6": unequal_transpose,
+    "B1": claim_number, "B2": bad_rule, "B3": generator_stays, "B4": ambiguity_stays, "B5": rest_differs, "B6": zero_rest, "B7": basis_stops,
 }  # fmt: skip
 LINE = re.compile(r"# (?:block (?P<block>[0-9]+) )?refused (?P<code>[A-Z][0-9]+)(?: line (?P<line>[0-9]+))?(?P<rest>.*)")
 

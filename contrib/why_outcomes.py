@@ -302,7 +302,7 @@ def told_of(asked: Asked, report: str, briefly: bool = False) -> List[Told]:
 
 
 def told_of_blocks(text: Text, report: str) -> List[Told]:
-    """What the lines on accepted, explained and confirmed blocks say."""
+    """What the lines on accepted, explained, confirmed and closed blocks say."""
     accepted = re.findall("^# block ([0-9]+) accepted claim ([0-9]+) denominator ([0-9]+)$", report, re.MULTILINE)
     explained = re.findall("^# block ([0-9]+) explained claim ([0-9]+) denominator ([0-9]+) steps [0-9]+$", report, re.MULTILINE)
     confirmed = re.findall("^# block ([0-9]+) confirmed claim ([0-9]+)$", report, re.MULTILINE)
@@ -319,6 +319,11 @@ def told_of_blocks(text: Text, report: str) -> List[Told]:
     if confirmed:
         told = f"{counted(len(confirmed), 'model')} {is_are(len(confirmed))} confirmed, of {claims([it[1] for it in confirmed])}"
         return [Told(f"{told}: the matrices make all assumptions zero, and the claim not")]
+    closed = re.findall("^# block ([0-9]+) closed claim ([0-9]+)$", report, re.MULTILINE)
+    if closed:
+        bases = f"{len(closed):,} {'basis is' if len(closed) == 1 else 'bases are'} closed, of {claims([it[1] for it in closed])}"
+        told = f"{bases}: no positive multiple of it is a sum of rows over the generators, whatever their words"
+        return [Told(told, None, ("This says nothing of matrices of finite size, nor of star representations.",))]
     return []
 
 

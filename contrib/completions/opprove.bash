@@ -20,7 +20,7 @@ _opprove() {
   local current=${COMP_WORDS[COMP_CWORD]} previous=${COMP_WORDS[COMP_CWORD - 1]}
   COMPREPLY=()
   if ((COMP_CWORD == 1)); then
-    _opprove_words "prove check refute model bench explain" "$current"
+    _opprove_words "prove check refute model bench confirm explain" "$current"
     return
   fi
   case ${COMP_WORDS[1]} in
@@ -55,7 +55,7 @@ _opprove() {
           ;;
       esac
       ;;
-    model | explain)
+    model | confirm | explain)
       case $COMP_CWORD in
         2) _opprove_files op "$current" ;;
         3) _opprove_all_files "$current" ;;

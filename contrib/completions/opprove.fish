@@ -6,10 +6,11 @@ complete -c opprove -n __fish_use_subcommand -a check -d 'Add up the rows of cer
 complete -c opprove -n __fish_use_subcommand -a refute -d 'Look for matrices that break the claims'
 complete -c opprove -n __fish_use_subcommand -a model -d 'Say of models whether they break their claims'
 complete -c opprove -n __fish_use_subcommand -a bench -d 'Decide a statement that the program makes'
+complete -c opprove -n __fish_use_subcommand -a confirm -d 'Say of bases whether they are closed'
 complete -c opprove -n __fish_use_subcommand -a explain -d 'Print certificates as chains of equations'
 complete -c opprove -n '__fish_seen_subcommand_from prove check refute' -a '(__fish_complete_suffix .op)'
 complete -c opprove -n '__fish_seen_subcommand_from check' -a '(__fish_complete_suffix .cert)'
-complete -c opprove -n '__fish_seen_subcommand_from model explain' -F
+complete -c opprove -n '__fish_seen_subcommand_from model confirm explain' -F
 complete -c opprove -n '__fish_seen_subcommand_from prove' -l pairs -x -d 'Overlaps and inclusions that are treated, 1 to 1000000'
 complete -c opprove -n '__fish_seen_subcommand_from prove' -l steps -x -d 'Steps that a reduction makes, 1 to 1000000'
 complete -c opprove -n '__fish_seen_subcommand_from prove refute bench' -l workers -x -d 'Threads, 1 to 64'

@@ -11,6 +11,7 @@ syntax match opprovecertWord "^\s*\zsgoal\s\+scale\>"
 syntax match opprovecertLemma "\()\s*\)\@<=lemma\ze\s\+\d"
 syntax match opprovecertIdentity "\[[^] \t]*\]"
 syntax match opprovecertNumber "\(^\|[ \t()=;]\)\@<=-\?\d\+\>"
+syntax match opprovecertSign "[ \t]\@1<=[+-]\ze[ \t]"
 syntax match opprovecertComment "^\s*#.*$" contains=@Spell
 
 highlight default link opprovecertBlock Statement
@@ -18,6 +19,7 @@ highlight default link opprovecertWord Keyword
 highlight default link opprovecertLemma Keyword
 highlight default link opprovecertIdentity Constant
 highlight default link opprovecertNumber Number
+highlight default link opprovecertSign Operator
 highlight default link opprovecertComment Comment
 
 let b:current_syntax = "opprovecert"
