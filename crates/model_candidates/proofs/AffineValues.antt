@@ -1,8 +1,7 @@
 -- The value of a polynomial that is linear in the solved maps is affine in the solved entries.
 use Rattle.std.proofs.Common.{◌≡◌, ℕ, suc, ◌<◌, ◌≤◌, ℤ, Bool, true, false, cond, nat_le, List, [], ◌∷◌, length, filter, refl, sym, ap, ap₂, subst, ◌∙◌, eqb-true, arith}
-use Rattle.std.specs.List.{All, AllByRecursion, list_all}
-use Rattle.std.proofs.lemmas.Bool.{false≢true, false_from_ne_true, and_parts, leb-true}
-use Rattle.std.proofs.lemmas.List.Elements.{recursion_from_All, All-from_recursion}
+use Rattle.std.specs.List.{All, AllByRecursion}
+use Rattle.std.proofs.lemmas.Bool.{false≢true, false_from_ne_true, and_from, and_parts, le-leb, leb-true}
 use Rattle.definitions.specs.Category.{IsArrow}
 use Rattle.definitions.specs.Quiver.{Quiver, IsQuiver, source, leads, is_path}
 use Rattle.definitions.specs.Representation.{Representation, path_value, word_value, value_at, multiple}
@@ -17,26 +16,30 @@ use Rattle.matrix_models.specs.Entries.{entry_at_below}
 use Rattle.matrix_models.specs.Laws.{matrices_laws}
 use Rattle.model_checker.specs.Models.{representation_of}
 use Rattle.model_candidates.specs.Candidates.{side_in, entries_of, model_by, is_solved, solved_count}
+use Rattle.model_candidates.specs.Plans.{has_few}
 use Rattle.model_candidates.specs.Unknowns.{solved_flags, set_count, filled}
 use Rattle.model_candidates.proofs.Affine.{IsAffine}
 use Rattle.model_candidates.proofs.AffineMatrices.{HasAffineEntries, affine_zero, affine_matrix_sum, affine_matrix_multiple, affine_product_left, affine_product_right}
 use Rattle.model_candidates.proofs.CandidateModels.{side_is_object}
 use Rattle.model_candidates.proofs.AffineArrows.{model_at, unknowns, arrow_unsolved, represents_at, arrow_is_affine}
 
--- each word of the polynomial has one solved letter at most
-abbrev pub HasLinearWords : Quiver → List Letter → List (ℤ × List ℕ) → Type 0
-HasLinearWords q solved p = All (λ t. solved_count q solved t.1 ≤ 1) p
+-- each word of the polynomial has so many solved letters at most
+abbrev pub HasFew : Quiver → List Letter → ℕ → List (ℤ × List ℕ) → Type 0
+HasFew q solved most p = AllByRecursion (λ t. solved_count q solved t.1 ≤ most) p
 
-pub linear_words : (q : Quiver) (solved : List Letter) (p : List (ℤ × List ℕ))
-    → list_all (λ t. nat_le (solved_count q solved t.1) 1) p ≡ true → HasLinearWords q solved p
-linear_words q solved p linear = All-from_recursion (λ t. solved_count q solved t.1 ≤ 1) p (each p linear)
-  where
-    each : (r : List (ℤ × List ℕ)) → list_all (λ t. nat_le (solved_count q solved t.1) 1) r ≡ true
-        → AllByRecursion (λ t. solved_count q solved t.1 ≤ 1) r
-    each [] is = tt
-    each (t ∷ r) is =
-        let parts = and_parts (nat_le (solved_count q solved t.1) 1) (list_all (λ t. nat_le (solved_count q solved t.1) 1) r) is in
-        (leb-true (solved_count q solved t.1) 1 parts.0, each r parts.1)
+pub few_words : (q : Quiver) (solved : List Letter) (most : ℕ) (p : List (ℤ × List ℕ)) → has_few q solved most p ≡ true → HasFew q solved most p
+few_words q solved most [] is = tt
+few_words q solved most (t ∷ p) is =
+    let parts = and_parts (nat_le (solved_count q solved t.1) most) (has_few q solved most p) is in
+    (leb-true (solved_count q solved t.1) most parts.0, few_words q solved most p parts.1)
+
+pub fewer : (q : Quiver) (solved : List Letter) (p : List (ℤ × List ℕ)) → has_few q solved 0 p ≡ true → has_few q solved 1 p ≡ true
+fewer q solved [] is = refl
+fewer q solved (t ∷ p) is =
+    let parts = and_parts (nat_le (solved_count q solved t.1) 0) (has_few q solved 0 p) is in
+    let none = leb-true (solved_count q solved t.1) 0 parts.0 in
+    and_from (nat_le (solved_count q solved t.1) 1) (has_few q solved 1 p) (le-leb (solved_count q solved t.1) 1 (omega (arith, none)))
+    (fewer q solved p parts.1)
 
 module _ (q : Quiver) (s : Shape) (solved : List Letter) (drawn : List ℕ) (quiver : IsQuiver q) (shape : IsShape q.objects s)
     (count : length drawn ≡ length (entries_of q s)) (drawn_below : All (λ value. value < s.modulus) drawn) where
@@ -111,11 +114,28 @@ module _ (q : Quiver) (s : Shape) (solved : List Letter) (drawn : List ℕ) (qui
     abbrev multiple_of : ℤ × List ℕ → List ℕ → Matrix
     multiple_of t values = multiple (matrices s.modulus) t.0 (value_of_word t.1 values)
 
+    -- a polynomial with no solved letter has one value
+    word_is_same : (w : List ℕ) → is_path q u v w ≡ true → solved_count q solved w ≡ 0 → (values : List ℕ) → value_of_word w values ≡ value_of_word w []
+    word_is_same [] path none values = refl
+    word_is_same (a ∷ w) path none values = word_unsolved u v a w path none values
+
+    pub value_is_same : (p : List (ℤ × List ℕ)) → HasFew q solved 0 p → (values : List ℕ) → value_of p values ≡ value_of p []
+    value_is_same [] few values = refl
+    value_is_same (t ∷ p) few values = go (is_path q u v t.1) refl (value_is_same p few.1 values)
+      where
+        go : (b : Bool) → is_path q u v t.1 ≡ b → value_of p values ≡ value_of p []
+            → cond b (matrix_sum s.modulus (multiple_of t values) (value_of p values)) (value_of p values)
+            ≡ cond b (matrix_sum s.modulus (multiple_of t []) (value_of p [])) (value_of p [])
+        go false other rest = rest
+        go true path rest =
+            let none : solved_count q solved t.1 ≡ 0 = omega (arith, few.0) in
+            ap₂ (matrix_sum s.modulus) (ap (multiple (matrices s.modulus) t.0) (word_is_same t.1 path none values)) rest
+
     path_is_affine : (w : List ℕ) → is_path q u v w ≡ true → solved_count q solved w ≤ 1 → AreAffine u v (value_of_word w)
     path_is_affine [] path few = absurd (false≢true path)
     path_is_affine (a ∷ w) path few = word_is_affine u v a w path few
 
-    value_is_affine : (p : List (ℤ × List ℕ)) → AllByRecursion (λ t. solved_count q solved t.1 ≤ 1) p → AreAffine u v (value_of p)
+    value_is_affine : (p : List (ℤ × List ℕ)) → HasFew q solved 1 p → AreAffine u v (value_of p)
     value_is_affine [] linear =
         affine_zero s.modulus (unknowns q s solved drawn) (side_in s v) (side_in s u) (side_is_object q s quiver shape v in_v)
         (side_is_object q s quiver shape u in_u)
@@ -135,14 +155,13 @@ module _ (q : Quiver) (s : Shape) (solved : List Letter) (drawn : List ℕ) (qui
 -- The entries of the value are affine in the solved entries.
 pub values_are_affine : (q : Quiver) (s : Shape) (solved : List Letter) (drawn : List ℕ) → IsQuiver q → IsShape q.objects s
     → length drawn ≡ length (entries_of q s) → All (λ value. value < s.modulus) drawn
-    → (p : List (ℤ × List ℕ)) → HasLinearWords q solved p → (u v : ℕ) → u < q.objects → v < q.objects → (i j : ℕ) → i < side_in s v
+    → (p : List (ℤ × List ℕ)) → HasFew q solved 1 p → (u v : ℕ) → u < q.objects → v < q.objects → (i j : ℕ) → i < side_in s v
     → j < side_in s u
     → IsAffine s.modulus (set_count (solved_flags q s solved))
     (λ values. entry_at (value_at (matrices s.modulus) q (representation_of q
     (model_by q s 0 (filled (solved_flags q s solved) drawn values))) u v p) i j)
 values_are_affine q s solved drawn quiver shape count drawn_below p linear u v in_u in_v =
-    (value_is_affine q s solved drawn quiver shape count drawn_below u v in_u in_v p
-    (recursion_from_All (λ t. solved_count q solved t.1 ≤ 1) p linear)).entries
+    (value_is_affine q s solved drawn quiver shape count drawn_below u v in_u in_v p linear).entries
 
 -- With values below the modulus it is a matrix modulo it from the side of u to that of v, whatever the words are.
 pub value_is_matrix : (q : Quiver) (s : Shape) (solved : List Letter) (drawn : List ℕ) → IsQuiver q → IsShape q.objects s

@@ -12,12 +12,14 @@ pub mod LinearRows
 pub mod MadeModels
 pub mod SolvedEntries
 pub mod DistinctEntries
-pub mod GeneratorEntries
+pub mod AssumptionEntries
 pub mod DrawnEntries
+pub mod AssumptionsSuffice
+pub mod KnownValues
 pub mod SystemSolutions
 pub mod PlanSystems
 pub mod SolvedLetters
-pub mod LinearGenerators
+pub mod AskedAssumptions
 pub mod NumberedShapes
 pub mod FiniteSearch
 pub mod CandidateLaws

@@ -1,4 +1,4 @@
--- A model that is made of values of the entries: what is asked of it, and the entries of the values of generators in it.
+-- A model that is made of values of the entries: what is asked of it, and the entries of the values of assumptions in it.
 use Rattle.std.proofs.Common.{◌≡◌, ℕ, List, sym, ap, subst, ◌∙◌}
 use Rattle.definitions.specs.Quiver.{letters}
 use Rattle.quiver.specs.Declarations.{object_count, quiver_of}
@@ -7,7 +7,7 @@ use Rattle.adjoint_rules.specs.declared.parts.Shape.{Shape}
 use Rattle.adjoint_rules.specs.declared.problem.Problem.{Problem}
 use Rattle.adjoint_rules.specs.Problem.{IsShape}
 use Rattle.adjoint_rules.proofs.Generators.{posed_quiver}
-use Rattle.model_candidates.specs.declared.plan.LinearGenerator.{LinearGenerator}
+use Rattle.model_candidates.specs.declared.plan.LinearAssumption.{LinearAssumption}
 use Rattle.model_checker.specs.Models.{IsModel, HaveMatrices}
 use Rattle.model_candidates.specs.Candidates.{model_by}
 use Rattle.model_candidates.specs.Plans.{AreEntryValues}
@@ -24,5 +24,5 @@ module _ (problem : Problem) (s : Shape) (values : List ℕ) (m : Model) (made :
   made_has_matrices shape are = subst (λ x. HaveMatrices (quiver_of problem.parts.quiver) x (letters (quiver_of problem.parts.quiver))) (sym made)
       (model_by_has_matrices (quiver_of problem.parts.quiver) s (posed_quiver problem.parts problem.posed) shape values are.one_each are.below 0)
 
-  pub made_entries : (gs : List LinearGenerator) (entries : List ℕ) → entries ≡ entries_of_values problem m gs → entries ≡ entries_in problem s gs values
+  pub made_entries : (gs : List LinearAssumption) (entries : List ℕ) → entries ≡ entries_of_values problem m gs → entries ≡ entries_in problem s gs values
   made_entries gs entries is = is ∙ ap (λ x. entries_of_values problem x gs) made

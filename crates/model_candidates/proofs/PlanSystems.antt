@@ -8,14 +8,15 @@ use Rattle.adjoint_rules.specs.declared.parts.Shape.{Shape}
 use Rattle.adjoint_rules.specs.declared.problem.Problem.{Problem}
 use Rattle.adjoint_rules.specs.Problem.{IsShape}
 use Rattle.model_candidates.specs.declared.plan.Plan.{Plan}
-use Rattle.model_candidates.specs.Candidates.{IsSolution, IsGreedy}
+use Rattle.model_candidates.specs.Candidates.{IsSolution, IsGreedy, model_by}
 use Rattle.model_candidates.specs.Unknowns.{set_count, filled, picked, unit_values}
-use Rattle.model_candidates.specs.Plans.{FitsShape, AreEntryValues}
+use Rattle.model_candidates.specs.Plans.{FitsShape, AreEntryValues, IsZeroAtSignature}
 use Rattle.model_candidates.specs.Equations.{entries_at, system_for}
 use Rattle.adjoint_rules.proofs.Generators.{posed_quiver}
 use Rattle.model_candidates.proofs.CandidateModels.{modulus_of_shape}
 use Rattle.model_candidates.proofs.DrawnEntries.{flag_of_each}
 use Rattle.model_candidates.proofs.FilledValues.{length-filled, All-filled}
+use Rattle.model_candidates.proofs.KnownValues.{conditions_of_solution}
 use Rattle.model_candidates.proofs.LinearRows.{unit_values_below}
 use Rattle.model_candidates.proofs.SolvedEntries.{length-picked, All-picked}
 use Rattle.model_candidates.proofs.SystemSolutions.{zero_below, units_below, units_alike, unit_of_each, is_system, are_values, solves_from, greedy_filled}
@@ -25,7 +26,7 @@ module _ (problem : Problem) (s : Shape) (shape : IsShape (object_count problem.
     (values : AreEntryValues problem s drawn) where
   -- the entries at a unit, and at zero
   abbrev pub entries_for : ℕ → List ℕ
-  entries_for k = entries_at problem s plan.solved plan.generators drawn k
+  entries_for k = entries_at problem s plan.solved plan.assumptions.equations drawn k
 
   -- the values of the entries there
   pub plan_filled : (unknown : ℕ) → AreEntryValues problem s (filled plan.solved drawn (unit_values (set_count plan.solved) unknown))
@@ -41,55 +42,63 @@ module _ (problem : Problem) (s : Shape) (shape : IsShape (object_count problem.
 
   pub plan_zero_below : All (λ x. x < s.modulus) (entries_for (set_count plan.solved))
   plan_zero_below =
-      subst (λ flags. All (λ x. x < s.modulus) (entries_at problem s flags plan.generators drawn (set_count flags))) (sym fits.solved)
-      (zero_below problem s shape drawn values.one_each values.below plan.generators fits.generators)
+      subst (λ flags. All (λ x. x < s.modulus) (entries_at problem s flags plan.assumptions.equations drawn (set_count flags))) (sym fits.solved)
+      (zero_below problem s shape drawn values.one_each values.below plan.assumptions.conditions plan.assumptions.equations fits.assumptions)
 
   pub plan_units_below : All (λ u. All (λ x. x < s.modulus) u) (map entries_for (range_with_len 0 (set_count plan.solved)))
   plan_units_below =
-      subst (λ flags. All (λ u. All (λ x. x < s.modulus) u) (map (entries_at problem s flags plan.generators drawn)
+      subst (λ flags. All (λ u. All (λ x. x < s.modulus) u) (map (entries_at problem s flags plan.assumptions.equations drawn)
       (range_with_len 0 (set_count flags)))) (sym fits.solved)
-      (units_below problem s shape drawn values.one_each values.below plan.generators fits.generators)
+      (units_below problem s shape drawn values.one_each values.below plan.assumptions.conditions plan.assumptions.equations fits.assumptions)
 
   pub plan_units_alike : All (λ u. length u ≡ length (entries_for (set_count plan.solved)))
       (map entries_for (range_with_len 0 (set_count plan.solved)))
   plan_units_alike =
-      subst (λ flags. All (λ u. length u ≡ length (entries_at problem s flags plan.generators drawn (set_count flags)))
-      (map (entries_at problem s flags plan.generators drawn) (range_with_len 0 (set_count flags))))
-      (sym fits.solved) (units_alike problem s shape drawn values.one_each values.below plan.generators fits.generators)
+      subst (λ flags. All (λ u. length u ≡ length (entries_at problem s flags plan.assumptions.equations drawn (set_count flags)))
+      (map (entries_at problem s flags plan.assumptions.equations drawn) (range_with_len 0 (set_count flags))))
+      (sym fits.solved) (units_alike problem s shape drawn values.one_each values.below plan.assumptions.conditions plan.assumptions.equations fits.assumptions)
 
-  pub plan_system : IsSystem (system_for problem s plan.solved plan.generators drawn)
-  plan_system = subst (λ flags. IsSystem (system_for problem s flags plan.generators drawn)) (sym fits.solved)
-      (is_system problem s shape drawn values.one_each values.below plan.generators fits.generators)
+  pub plan_system : IsSystem (system_for problem s plan.solved plan.assumptions.equations drawn)
+  plan_system = subst (λ flags. IsSystem (system_for problem s flags plan.assumptions.equations drawn)) (sym fits.solved)
+      (is_system problem s shape drawn values.one_each values.below plan.assumptions.conditions plan.assumptions.equations fits.assumptions)
 
   pub value_of_each_flag : length drawn ≡ length plan.solved
   value_of_each_flag = values.one_each ∙ sym (flag_of_each (quiver_of problem.parts.quiver) s problem.parts.solved)
       ∙ ap length (sym fits.solved)
 
-  pub plan_prefer : AreValues (system_for problem s plan.solved plan.generators drawn) (picked plan.solved drawn)
+  pub plan_prefer : AreValues (system_for problem s plan.solved plan.assumptions.equations drawn) (picked plan.solved drawn)
   plan_prefer =
-      subst (λ flags. AreValues (system_for problem s flags plan.generators drawn) (picked flags drawn)) (sym fits.solved)
-      (are_values problem s shape drawn values.one_each values.below plan.generators fits.generators _
+      subst (λ flags. AreValues (system_for problem s flags plan.assumptions.equations drawn) (picked flags drawn)) (sym fits.solved)
+      (are_values problem s shape drawn values.one_each values.below plan.assumptions.conditions plan.assumptions.equations fits.assumptions _
       (length-picked _ drawn (value_of_each_flag ∙ ap length fits.solved)) (All-picked (λ value. value < s.modulus) _ drawn values.below))
 
-  pub plan_greedy : (chosen : List ℕ) → of_system.IsGreedy (system_for problem s plan.solved plan.generators drawn)
+  -- the assumptions with no solved letter are zero
+  abbrev pub Hold : Type 0
+  Hold = All (IsZeroAtSignature problem (model_by (quiver_of problem.parts.quiver) s 0 drawn)) plan.assumptions.conditions
+
+  pub plan_conditions : (others : List ℕ) → IsSolution problem s drawn others → Hold
+  plan_conditions = conditions_of_solution problem s shape drawn values.one_each values.below plan.assumptions.conditions
+      fits.assumptions.each_condition
+
+  pub plan_greedy : Hold → (chosen : List ℕ) → of_system.IsGreedy (system_for problem s plan.solved plan.assumptions.equations drawn)
       (picked plan.solved drawn) chosen
       → IsGreedy problem s drawn (filled plan.solved drawn chosen)
-  plan_greedy chosen =
-      subst (λ flags. of_system.IsGreedy (system_for problem s flags plan.generators drawn) (picked flags drawn) chosen
+  plan_greedy hold chosen =
+      subst (λ flags. of_system.IsGreedy (system_for problem s flags plan.assumptions.equations drawn) (picked flags drawn) chosen
       → IsGreedy problem s drawn (filled flags drawn chosen)) (sym fits.solved)
-      (greedy_filled problem s shape drawn values.one_each values.below plan.generators fits.generators chosen)
+      (greedy_filled problem s shape drawn values.one_each values.below plan.assumptions.conditions plan.assumptions.equations fits.assumptions hold chosen)
 
-  pub plan_none : HasNoSolution (system_for problem s plan.solved plan.generators drawn) → (others : List ℕ)
+  pub plan_none : HasNoSolution (system_for problem s plan.solved plan.assumptions.equations drawn) → (others : List ℕ)
       → IsSolution problem s drawn others → ⊥
   plan_none =
-      subst (λ flags. HasNoSolution (system_for problem s flags plan.generators drawn) → (others : List ℕ)
+      subst (λ flags. HasNoSolution (system_for problem s flags plan.assumptions.equations drawn) → (others : List ℕ)
       → IsSolution problem s drawn others → ⊥) (sym fits.solved)
-      (λ none others solution. none _ (solves_from problem s shape drawn values.one_each values.below plan.generators fits.generators
+      (λ none others solution. none _ (solves_from problem s shape drawn values.one_each values.below plan.assumptions.conditions plan.assumptions.equations fits.assumptions
       others solution))
 
-  pub unknown_of_each_flag : (chosen : List ℕ) → AreValues (system_for problem s plan.solved plan.generators drawn) chosen
+  pub unknown_of_each_flag : (chosen : List ℕ) → AreValues (system_for problem s plan.solved plan.assumptions.equations drawn) chosen
       → length chosen ≡ set_count plan.solved
   unknown_of_each_flag chosen =
-      subst (λ flags. AreValues (system_for problem s flags plan.generators drawn) chosen → length chosen ≡ set_count flags)
+      subst (λ flags. AreValues (system_for problem s flags plan.assumptions.equations drawn) chosen → length chosen ≡ set_count flags)
       (sym fits.solved)
-      (λ are. are.one_each ∙ unit_of_each problem s shape drawn values.one_each values.below plan.generators fits.generators)
+      (λ are. are.one_each ∙ unit_of_each problem s shape drawn values.one_each values.below plan.assumptions.conditions plan.assumptions.equations fits.assumptions)

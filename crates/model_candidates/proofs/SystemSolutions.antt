@@ -1,4 +1,4 @@
--- What solves the equations that drawn entries leave is what makes the linear generators zero, and so are the greedy solutions.
+-- What solves the equations that drawn entries leave is what makes the linear assumptions zero, and so are the greedy solutions.
 use Rattle.std.proofs.Common.{◌≡◌, ℕ, ◌+◌, ◌-◌, ◌*◌, ◌%◌, ◌<◌, ◌≤◌, suc, Bool, true, false, nat_le, List, [], ◌∷◌, ◌++◌, length, get_or, map, take, drop, ◌⊎◌, inl, inr, refl, sym, ap, subst, ◌∙◌, arith, mod-lt}
 use Rattle.std.specs.List.{All, AllByRecursion, list_all, range_with_len}
 use Rattle.std.proofs.lemmas.Bool.{cases_lt}
@@ -16,16 +16,19 @@ use Rattle.matrix_models.specs.Greedy as of_system
 use Rattle.adjoint_rules.specs.declared.parts.Shape.{Shape}
 use Rattle.adjoint_rules.specs.declared.problem.Problem.{Problem}
 use Rattle.adjoint_rules.specs.Problem.{IsShape}
-use Rattle.model_candidates.specs.declared.plan.LinearGenerator.{LinearGenerator}
+use Rattle.model_candidates.specs.declared.plan.LinearAssumption.{LinearAssumption}
 use Rattle.model_checker.specs.Models.{IsZeroIn}
 use Rattle.model_candidates.specs.Candidates.{solved_count, entries_of, model_by, IsSolution, CanTake, IsGreedy}
 use Rattle.model_candidates.specs.Unknowns.{set_count, filled, picked, unit_values}
-use Rattle.model_candidates.specs.Plans.{IsLinearGenerator, IsZeroAtSignature, AreLinearGenerators}
+use Rattle.model_candidates.specs.Plans.{IsAssumption, IsZeroAtSignature, AreLinearAssumptions}
 use Rattle.model_candidates.specs.Equations.{factor_by, row_by, system_for}
-use Rattle.model_candidates.proofs.CandidateModels.{modulus_of_shape}
+use Rattle.model_candidates.proofs.AffineArrows.{has_matrices_at}
+use Rattle.model_candidates.proofs.AssumptionsSuffice.{linear_assumptions_are_zero, linear_generators_are_zero}
+use Rattle.model_candidates.proofs.CandidateModels.{model_by_is_model, modulus_of_shape}
 use Rattle.model_candidates.proofs.DrawnEntries.{flag_of_each, drawn_by_flags, drawn_by_entries}
 use Rattle.model_candidates.proofs.FilledValues.{length-filled, All-filled}
-use Rattle.model_candidates.proofs.GeneratorEntries.{AreZero, kept_one, quiver, flags, Below, entries, entries_are_affine, entries_below, length-entries, entries_zero, zero_entries_only}
+use Rattle.model_candidates.proofs.AssumptionEntries.{AreZero, kept_one, quiver, flags, Below, entries, entries_are_affine, entries_below, length-entries, entries_zero, zero_entries_only}
+use Rattle.model_candidates.proofs.KnownValues.{conditions_filled}
 use Rattle.model_candidates.proofs.LinearRows.{unit_values_below, zero_from_row, row_from_zero}
 use Rattle.model_candidates.proofs.SolvedEntries.{length-picked, All-picked, filled-picked, filled_as_drawn, before, before_within, filled_set, picked_set, filled-take, picked-take}
 
@@ -41,7 +44,7 @@ can_take_own problem s drawn values place within solution = record {
 
 module _ (problem : Problem) (s : Shape) (shape : IsShape (object_count problem.parts.quiver) s) (drawn : List ℕ)
     (count : length drawn ≡ length (entries_of (quiver_of problem.parts.quiver) s)) (drawn_below : All (λ value. value < s.modulus) drawn)
-    (gs : List LinearGenerator) (are : AreLinearGenerators problem gs) where
+    (conditions gs : List LinearAssumption) (are : AreLinearAssumptions problem conditions gs) where
   abbrev q : Quiver
   q = quiver_of problem.parts.quiver
 
@@ -63,8 +66,8 @@ module _ (problem : Problem) (s : Shape) (shape : IsShape (object_count problem.
   abbrev system : System
   system = system_for problem s solved gs drawn
 
-  linear : AllByRecursion (IsLinearGenerator problem) gs
-  linear = recursion_from_All (IsLinearGenerator problem) gs are.each
+  linear : AllByRecursion (IsAssumption problem 1) gs
+  linear = recursion_from_All (IsAssumption problem 1) gs are.each
 
   least : 2 ≤ s.modulus
   least = (modulus_of_shape q s (quiver problem s shape drawn count drawn_below) shape).at_least
@@ -191,24 +194,32 @@ module _ (problem : Problem) (s : Shape) (shape : IsShape (object_count problem.
       m : Model
       m = model_by q s 0 (filled solved drawn values)
 
-      each : (xs : List LinearGenerator) → AllByRecursion (IsLinearGenerator problem) xs → AllByRecursion (IsZeroAtSignature problem m) xs
+      each : (xs : List LinearAssumption) → AllByRecursion (IsAssumption problem 1) xs → AllByRecursion (IsZeroAtSignature problem m) xs
       each [] all = tt
       each (g ∷ xs) all = (
-        (kept_one (IsZeroIn problem m) (list_all (λ t. nat_le (solved_count q problem.parts.solved t.1) 1)) problem.generators g.place
-            all.0.place all.0.linear solution.zero).at
+        (kept_one (IsZeroIn problem m) (list_all (λ t. nat_le (solved_count q problem.parts.solved t.1) 1)) problem.parts.assumptions g.place
+            all.0.place all.0.few (linear_assumptions_are_zero problem m solution.zero)).at
             g.sig.source.0 g.sig.target.0 all.0.source all.0.target all.0.typed,
         each xs all.1,
       )
 
-  pub solution_from : (values : List ℕ) → Solves system values → IsSolution problem s drawn (filled solved drawn values)
-  solution_from values solves = record {
+  abbrev Hold : Type 0
+  Hold = All (IsZeroAtSignature problem (model_by q s 0 drawn)) conditions
+
+  pub solution_from : Hold → (values : List ℕ) → Solves system values → IsSolution problem s drawn (filled solved drawn values)
+  solution_from hold values solves = record {
     one_each = length-filled solved drawn values value_of_each ∙ count;
     below = All-filled (λ value. value < s.modulus) solved drawn values drawn_below solves.are_values.below;
     as_drawn = drawn_by_entries q s problem.parts.solved drawn (filled solved drawn values) (filled_as_drawn solved drawn values);
-    zero = are.all (model_by q s 0 (filled solved drawn values))
+    zero = linear_generators_are_zero problem (model_by q s 0 (filled solved drawn values))
+        (model_by_is_model q s (quiver problem s shape drawn count drawn_below) shape 0 (filled solved drawn values))
+        (has_matrices_at q s problem.parts.solved drawn (quiver problem s shape drawn count drawn_below) shape count drawn_below values
+        solves.are_values.below)
+        (are.all (model_by q s 0 (filled solved drawn values))
+        (conditions_filled problem s shape drawn count drawn_below conditions are.each_condition hold values)
         (All-from_recursion (IsZeroAtSignature problem (model_by q s 0 (filled solved drawn values))) gs
         (zero_entries_only problem s shape drawn count drawn_below gs linear values solves.are_values.below
-        (all_zero values solves.are_values solves.each_holds)));
+        (all_zero values solves.are_values solves.each_holds))));
   }
 
   -- the values are the drawn ones, filled with those that are solved for
@@ -231,7 +242,7 @@ module _ (problem : Problem) (s : Shape) (shape : IsShape (object_count problem.
       }
 
   -- ---- greedy solutions
-  module _ (values : List ℕ) (greedy : of_system.IsGreedy system (picked solved drawn) values) where
+  module _ (hold : Hold) (values : List ℕ) (greedy : of_system.IsGreedy system (picked solved drawn) values) where
     abbrev all : List ℕ
     all = filled solved drawn values
 
@@ -242,7 +253,7 @@ module _ (problem : Problem) (s : Shape) (shape : IsShape (object_count problem.
     size_of_all = length-filled solved drawn values value_of_each ∙ value_of_each
 
     solution : IsSolution problem s drawn all
-    solution = solution_from values greedy.solves
+    solution = solution_from hold values greedy.solves
 
     module _ (place : ℕ) (inside : place < length solved) where
       not_solved : get_or solved place false ≡ false → get_or all place 0 ≡ get_or drawn place 0
@@ -277,7 +288,7 @@ module _ (problem : Problem) (s : Shape) (shape : IsShape (object_count problem.
             record {
               rest = rest;
               solution = subst (IsSolution problem s drawn) (filled_is ∙ sym (append_assoc (take place all) (value ∷ []) rest))
-                  (solution_from (take unknown values ++ value ∷ [] ++ can.rest) can.solves);
+                  (solution_from hold (take unknown values ++ value ∷ [] ++ can.rest) can.solves);
             }
 
         value_is : get_or all place 0 ≡ get_or values unknown 0

@@ -1,5 +1,5 @@
 -- The linear equations that drawn entries leave for those that are solved for, for private functions: what the units add to the
--- entries of generators.
+-- entries of assumptions.
 use Rattle.std.specs.Prelude.{ℕ, ◌+◌, ◌-◌, ◌%◌, Bool, List, length, map, get_or}
 use Rattle.std.specs.List.{flat_map, range_with_len}
 use Rattle.definitions.specs.Representation.{value_at}
@@ -11,36 +11,36 @@ use Rattle.matrix_models.specs.declared.system.LinearRow.{LinearRow}
 use Rattle.matrix_models.specs.declared.system.System.{System}
 use Rattle.adjoint_rules.specs.declared.parts.Shape.{Shape}
 use Rattle.adjoint_rules.specs.declared.problem.Problem.{Problem}
-use Rattle.model_candidates.specs.declared.plan.LinearGenerator.{LinearGenerator}
+use Rattle.model_candidates.specs.declared.plan.LinearAssumption.{LinearAssumption}
 use Rattle.model_checker.specs.Models.{representation_of}
 use Rattle.model_candidates.specs.Candidates.{model_by}
 use Rattle.model_candidates.specs.Unknowns.{set_count, filled, unit_values}
 use Rattle.model_candidates.specs.Plans.{terms_of}
 
--- the value of the generator in the model
-abbrev pub generator_value : Problem → Model → LinearGenerator → Matrix
-generator_value problem m g =
+-- the value of the assumption in the model
+abbrev pub assumption_value : Problem → Model → LinearAssumption → Matrix
+assumption_value problem m g =
     let q = quiver_of problem.parts.quiver in
     value_at (matrices m.modulus) q (representation_of q m) g.sig.source.0 g.sig.target.0 (terms_of problem g)
 
--- the entries of these values, one generator after the other
-abbrev pub entries_of_values : Problem → Model → List LinearGenerator → List ℕ
-entries_of_values problem m gs = flat_map (λ g. (generator_value problem m g).entries) gs
+-- the entries of these values, one assumption after the other
+abbrev pub entries_of_values : Problem → Model → List LinearAssumption → List ℕ
+entries_of_values problem m gs = flat_map (λ g. (assumption_value problem m g).entries) gs
 
--- the value of the generator in the model with these values of the entries
-abbrev pub value_in : Problem → Shape → List ℕ → LinearGenerator → Matrix
-value_in problem s values g = generator_value problem (model_by (quiver_of problem.parts.quiver) s 0 values) g
+-- the value of the assumption in the model with these values of the entries
+abbrev pub value_in : Problem → Shape → List ℕ → LinearAssumption → Matrix
+value_in problem s values g = assumption_value problem (model_by (quiver_of problem.parts.quiver) s 0 values) g
 
--- the entries of these values, one generator after the other
-abbrev pub entries_in : Problem → Shape → List LinearGenerator → List ℕ → List ℕ
+-- the entries of these values, one assumption after the other
+abbrev pub entries_in : Problem → Shape → List LinearAssumption → List ℕ → List ℕ
 entries_in problem s gs values = flat_map (λ g. (value_in problem s values g).entries) gs
 
 -- where this unknown is 1 and the others are 0
-abbrev pub entries_at : Problem → Shape → List Bool → List LinearGenerator → List ℕ → ℕ → List ℕ
+abbrev pub entries_at : Problem → Shape → List Bool → List LinearAssumption → List ℕ → ℕ → List ℕ
 entries_at problem s solved gs drawn unknown = entries_in problem s gs (filled solved drawn (unit_values (set_count solved) unknown))
 
 -- where one unknown is 1 and the others are 0, for each of so many
-abbrev pub entries_at_units : Problem → Shape → List Bool → List LinearGenerator → List ℕ → ℕ → List (List ℕ)
+abbrev pub entries_at_units : Problem → Shape → List Bool → List LinearAssumption → List ℕ → ℕ → List (List ℕ)
 entries_at_units problem s solved gs drawn count = map (entries_at problem s solved gs drawn) (range_with_len 0 count)
 
 -- what a unit adds to the number at this place
@@ -67,7 +67,7 @@ system_by m at_zero at_units = record {
 }
 
 -- the equations that the drawn values leave
-abbrev pub system_for : Problem → Shape → List Bool → List LinearGenerator → List ℕ → System
+abbrev pub system_for : Problem → Shape → List Bool → List LinearAssumption → List ℕ → System
 system_for problem s solved gs drawn =
     let n = set_count solved in
     system_by s.modulus (entries_at problem s solved gs drawn n) (entries_at_units problem s solved gs drawn n)

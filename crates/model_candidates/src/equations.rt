@@ -5,13 +5,13 @@ ghost use Rattle.definitions.specs.Quiver.{letters};
 ghost use Rattle.quiver.specs.Declarations.{object_count, quiver_of};
 ghost use Rattle.matrix_models.specs.Matrix.{IsMatrix, IsModulus};
 ghost use Rattle.adjoint_rules.specs.Problem.{IsShape};
-ghost use Rattle.model_candidates.specs.Plans.{AreEntryValues, FitsShape, IsLinearGenerator};
+ghost use Rattle.model_candidates.specs.Plans.{AreEntryValues, FitsShape, IsAssumption};
 ghost use Rattle.model_checker.specs.Models.{IsModel, HaveMatrices};
 ghost use Rattle.model_checker.specs.Listed.{AreOfModel};
 ghost use Rattle.model_candidates.specs.Equations.{entries_of_values, entries_in, entries_at, entries_at_units, row_by, rows_by, system_for};
 
 use crate::given_values::model_with;
-use crate::plan::{LinearGenerator, Plan};
+use crate::plan::{LinearAssumption, Plan};
 use crate::unknowns::{filled, unit_values};
 use adjoint_rules::{Problem, Shape};
 use lists::Listing;
@@ -20,7 +20,7 @@ use model_checker::representation_of;
 use representations::{Representation, value_of};
 use std::alloc::{AllocError, Global};
 
-/// The equations for the entries that are solved for, where the others are drawn: each entry of each generator is zero.
+/// The equations for the entries that are solved for, where the others are drawn: each entry of each assumption is zero.
 pub(crate) fn system_of(
     alloc: Global,
     problem: &Problem,
@@ -31,7 +31,7 @@ pub(crate) fn system_of(
     requires shape { IsShape (object_count problem.now.parts.quiver) shape.now }
     requires plan { FitsShape problem.now shape.now plan.now }
     requires drawn { AreEntryValues problem.now shape.now drawn.now }
-    ensures { IfOk result (λ system. system ≡ system_for problem.now shape.now plan.now.solved plan.now.generators drawn.now) }
+    ensures { IfOk result (λ system. system ≡ system_for problem.now shape.now plan.now.solved plan.now.assumptions.equations drawn.now) }
 {
     let at_zero = entries_at(alloc, problem, shape, plan, drawn, plan.unknowns)?;
     let at_units = entries_at_units(alloc, problem, shape, plan, drawn)?;
@@ -48,7 +48,7 @@ pub(crate) fn system_of(
     })
 }
 
-// The entries of the generators at each unit.
+// The entries of the assumptions at each unit.
 fn entries_at_units(
     alloc: Global,
     problem: &Problem,
@@ -60,7 +60,7 @@ fn entries_at_units(
     requires plan { FitsShape problem.now shape.now plan.now }
     requires drawn { AreEntryValues problem.now shape.now drawn.now }
     ensures { IfOk result (λ units. units
-        ≡ entries_at_units problem.now shape.now plan.now.solved plan.now.generators drawn.now plan.now.unknowns) }
+        ≡ entries_at_units problem.now shape.now plan.now.solved plan.now.assumptions.equations drawn.now plan.now.unknowns) }
 {
     let mut at_units = Listing::new(alloc);
     for unknown in 0..plan.unknowns {
@@ -69,7 +69,7 @@ fn entries_at_units(
     Ok(at_units)
 }
 
-// The entries of the generators where this unknown is 1 and the others are 0, or, at the number of unknowns, all are 0.
+// The entries of the assumptions where this unknown is 1 and the others are 0, or, at the number of unknowns, all are 0.
 fn entries_at(
     alloc: Global,
     problem: &Problem,
@@ -82,7 +82,7 @@ fn entries_at(
     requires plan { FitsShape problem.now shape.now plan.now }
     requires drawn { AreEntryValues problem.now shape.now drawn.now }
     ensures { IfOk result (λ entries. entries
-        ≡ entries_at problem.now shape.now plan.now.solved plan.now.generators drawn.now unknown) }
+        ≡ entries_at problem.now shape.now plan.now.solved plan.now.assumptions.equations drawn.now unknown) }
 {
     let unit = unit_values(alloc, plan.unknowns, unknown)?;
     let values = filled(alloc, plan.solved.as_slice(), drawn, unit.as_slice())?;
@@ -90,52 +90,52 @@ fn entries_at(
         alloc,
         problem,
         shape,
-        plan.generators.as_slice(),
+        plan.assumptions.equations.as_slice(),
         values.as_slice(),
     )
 }
 
-// The entries of the values of the generators, one generator after the other, in the model with these values.
+// The entries of the values of the assumptions, one assumption after the other, in the model with these values.
 fn entries_in(
     alloc: Global,
     problem: &Problem,
     shape: &Shape,
-    generators: &[LinearGenerator],
+    assumptions: &[LinearAssumption],
     values: &[u32],
 ) -> Result<Listing<u32>, AllocError>
     requires shape { IsShape (object_count problem.now.parts.quiver) shape.now }
-    requires generators { All (IsLinearGenerator problem.now) generators.now }
+    requires assumptions { All (IsAssumption problem.now 1) assumptions.now }
     requires values { AreEntryValues problem.now shape.now values.now }
-    ensures { IfOk result (λ entries. entries ≡ entries_in problem.now shape.now generators.now values.now) }
+    ensures { IfOk result (λ entries. entries ≡ entries_in problem.now shape.now assumptions.now values.now) }
 {
     let quiver = &problem.parts.quiver;
     let model = model_with(alloc, quiver, shape, 0, values)?;
     let representation = representation_of(alloc, quiver, &model)?;
-    entries_of_values(alloc, problem, generators, &model, &representation)
+    entries_of_values(alloc, problem, assumptions, &model, &representation)
 }
 
-// The entries of the values of the generators in the model that the representation is of.
+// The entries of the values of the assumptions in the model that the representation is of.
 fn entries_of_values(
     alloc: Global,
     problem: &Problem,
-    generators: &[LinearGenerator],
+    assumptions: &[LinearAssumption],
     model: &Model,
     representation: &Representation<Matrices>,
 ) -> Result<Listing<u32>, AllocError>
-    requires generators { All (IsLinearGenerator problem.now) generators.now }
+    requires assumptions { All (IsAssumption problem.now 1) assumptions.now }
     requires model { IsModel (quiver_of problem.now.parts.quiver) model.now }
     requires maps { HaveMatrices (quiver_of problem.now.parts.quiver) model.now (letters (quiver_of problem.now.parts.quiver)) }
     requires lists { AreOfModel (quiver_of problem.now.parts.quiver) model.now representation.now.objects representation.now.arrows }
-    ensures { IfOk result (λ entries. entries ≡ entries_of_values problem.now model.now generators.now) }
+    ensures { IfOk result (λ entries. entries ≡ entries_of_values problem.now model.now assumptions.now) }
 {
     let category = Matrices {
         modulus: model.modulus,
     };
     let quiver = &problem.parts.quiver;
     let mut entries = Listing::new(alloc);
-    for generator in generators {
-        let poly = problem.generators.at(generator.place as usize);
-        let sig = generator.sig;
+    for assumption in assumptions {
+        let poly = problem.parts.assumptions.at(assumption.place as usize);
+        let sig = assumption.sig;
         let value = value_of(alloc, &category, quiver, representation, poly, sig)?;
         push_entries(&mut entries, &value)?;
     }

@@ -2,6 +2,7 @@
 #![tactic(auto)]
 
 mod candidate_count;
+mod conditions;
 mod drawn_values;
 mod entries;
 mod equations;
@@ -14,6 +15,6 @@ mod unknowns;
 
 pub use candidate_count::{all_candidates, candidates};
 pub use one_candidate::{candidate, candidate_by};
-pub use plan::{LinearGenerator, Plan, plan_of};
+pub use plan::{LinearAssumption, LinearAssumptions, Plan, plan_of};
 pub use shape_fault::ShapeFault;
 pub use shapes::check_shape;

@@ -5,9 +5,9 @@ ghost use Rattle.definitions.specs.Quiver.{IsQuiver};
 ghost use Rattle.word_core.specs.Letters.{IsOver};
 ghost use Rattle.quiver.specs.Declarations.{letter_count, object_count, quiver_of};
 ghost use Rattle.adjoint_rules.specs.Problem.{IsShape};
-ghost use Rattle.model_candidates.specs.Candidates.{is_linear, is_solved, is_solved_map, solved_count};
+ghost use Rattle.model_candidates.specs.Candidates.{is_solved, is_solved_map, solved_count};
 ghost use Rattle.model_candidates.specs.Unknowns.{solved_flags};
-ghost use Rattle.model_candidates.specs.Plans.{AreLinearGenerators, IsPlan};
+ghost use Rattle.model_candidates.specs.Plans.{AreAsked, AreLinearAssumptions, IsPlan, has_few, is_asked};
 
 use crate::candidate_count::is_exhaustive;
 use crate::entries::{entry_count, is_declared, map_entry_count};
@@ -19,13 +19,22 @@ use quiver::{Quiver, Sig};
 use std::alloc::{AllocError, Global};
 use word_core::{Letter, Word};
 
-/// A generator that is linear in the solved maps.
+/// An assumption that is linear in the solved maps.
 #[derive(Clone, Copy)]
-pub struct LinearGenerator {
-    /// Its place among the generators of the problem, counted from 0.
+pub struct LinearAssumption {
+    /// Its place among the assumptions of the problem, counted from 0.
     pub place: u32,
     /// A signature of it.
     pub sig: Sig,
+}
+
+/// The assumptions that are linear in the solved maps.
+#[derive(Drop)]
+pub struct LinearAssumptions {
+    /// Those in which no solved map stands.
+    pub conditions: Listing<LinearAssumption>,
+    /// The others.
+    pub equations: Listing<LinearAssumption>,
 }
 
 /// What all candidates of a shape share.
@@ -39,8 +48,8 @@ pub struct Plan {
     pub unknowns: u32,
     /// For each entry, whether it is solved for.
     pub solved: Listing<bool>,
-    /// The linear generators that have a term.
-    pub generators: Listing<LinearGenerator>,
+    /// The linear assumptions.
+    pub assumptions: LinearAssumptions,
 }
 
 /// The plan of the shape with this number, counted from 1. There is such a shape. It fails only where memory is short.
@@ -54,13 +63,13 @@ pub fn plan_of(alloc: Global, problem: &Problem, shape: u32) -> Result<Plan, All
     let form = parts.shapes.at(shape as usize - 1);
     let entries = entry_count(&parts.quiver, form);
     let solved = solved_flags(alloc, &parts.quiver, form, parts.solved.as_slice())?;
-    let generators = linear_generators(alloc, problem)?;
+    let assumptions = linear_assumptions(alloc, problem)?;
     Ok(Plan {
         number: shape,
         exhaustive: is_exhaustive(form.modulus, entries),
         unknowns: unknown_count(solved.as_slice()),
         solved,
-        generators,
+        assumptions,
     })
 }
 
@@ -96,35 +105,62 @@ fn push_flags(flags: &mut Listing<bool>, flag: bool, count: u32) -> Result<(), A
     Ok(())
 }
 
-// The generators of the problem that are linear in the solved maps and have a term.
-fn linear_generators(
+// The assumptions of the problem that are linear in the solved maps.
+fn linear_assumptions(alloc: Global, problem: &Problem) -> Result<LinearAssumptions, AllocError>
+    ensures { IfOk result (λ found. AreLinearAssumptions problem.now found.conditions found.equations) }
+{
+    let conditions = assumptions_asked(alloc, problem, true)?;
+    let equations = assumptions_asked(alloc, problem, false)?;
+    Ok(LinearAssumptions {
+        conditions,
+        equations,
+    })
+}
+
+// The assumptions in which no solved map stands, or the linear ones in which some does.
+fn assumptions_asked(
     alloc: Global,
     problem: &Problem,
-) -> Result<Listing<LinearGenerator>, AllocError>
-    ensures { IfOk result (AreLinearGenerators problem.now) }
+    known: bool,
+) -> Result<Listing<LinearAssumption>, AllocError>
+    ensures { IfOk result (AreAsked problem.now known) }
 {
-    let (quiver, solved) = (&problem.parts.quiver, problem.parts.solved.as_slice());
+    let parts = &problem.parts;
     let mut found = Listing::new(alloc);
-    for (place, generator) in problem.generators.as_slice().iter().enumerate() {
-        if is_linear(quiver, solved, generator)
-            && let Some(sig) = quiver.poly_signature(generator)
-        {
+    for (place, assumption) in parts.assumptions.as_slice().iter().enumerate() {
+        if is_asked(&parts.quiver, parts.solved.as_slice(), assumption, known) {
+            let sig = *parts.sigs.at(place);
             let place = place as u32;
-            found.push(LinearGenerator { place, sig })?;
+            found.push(LinearAssumption { place, sig })?;
         }
     }
     Ok(found)
 }
 
-// Whether each word of the polynomial has one solved letter at most.
-fn is_linear(quiver: &Quiver, solved: &[Letter], poly: &Poly) -> bool
+// Whether the polynomial has no solved letter, or is a linear one that has some.
+fn is_asked(quiver: &Quiver, solved: &[Letter], poly: &Poly, known: bool) -> bool
     requires quiver { IsQuiver (quiver_of quiver.now) }
     requires solved { All (λ l. l.0 < letter_count quiver.now) solved.now }
     requires letters { All (λ t. IsOver (letter_count quiver.now) t.1) poly.now.terms }
-    ensures { result ≡ is_linear (quiver_of quiver.now) solved.now poly.now }
+    ensures { result ≡ is_asked (quiver_of quiver.now) solved.now known poly.now.terms }
+{
+    let unsolved = has_few(quiver, solved, poly, 0);
+    if known {
+        unsolved
+    } else {
+        has_few(quiver, solved, poly, 1) && !unsolved
+    }
+}
+
+// Whether each word of the polynomial has so many solved letters at most.
+fn has_few(quiver: &Quiver, solved: &[Letter], poly: &Poly, most: usize) -> bool
+    requires quiver { IsQuiver (quiver_of quiver.now) }
+    requires solved { All (λ l. l.0 < letter_count quiver.now) solved.now }
+    requires letters { All (λ t. IsOver (letter_count quiver.now) t.1) poly.now.terms }
+    ensures { result ≡ has_few (quiver_of quiver.now) solved.now most poly.now.terms }
 {
     for place in 0..poly.terms() {
-        if solved_count(quiver, solved, poly.term(place).1) > 1 {
+        if solved_count(quiver, solved, poly.term(place).1) > most {
             return false;
         }
     }

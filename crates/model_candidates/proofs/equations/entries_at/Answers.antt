@@ -37,12 +37,12 @@ returns c =
     let s = c.args.shape.now in
     let plan = c.args.plan.now in
     let drawn = c.args.drawn.now in
-    let generators = c.as_slice-3.result.now in
+    let assumptions = c.as_slice-3.result.now in
     let values = c.as_slice-4.result.now in
     let unit_is = c.as_slice-2.ensures ∙ c.in_ok-unit.ensures ∙ ap (λ n. unit_values n c.args.unknown) c.requires.plan.unknowns in
     let values_are : values ≡ filled plan.solved drawn (unit_values (set_count plan.solved) c.args.unknown) =
     c.as_slice-4.ensures ∙ c.in_ok-values.ensures ∙ ap₂ (λ fs xs. filled fs drawn xs) c.as_slice.ensures unit_is in
-    let same : entries_in problem s generators values ≡ entries_at problem s plan.solved plan.generators drawn c.args.unknown =
+    let same : entries_in problem s assumptions values ≡ entries_at problem s plan.solved plan.assumptions.equations drawn c.args.unknown =
     ap₂ (entries_in problem s) c.as_slice-3.ensures values_are in
-    IfOk-weaker c.entries_in.result (λ entries. entries ≡ entries_in problem s generators values)
-    (λ entries. entries ≡ entries_at problem s plan.solved plan.generators drawn c.args.unknown) (λ entries is. is ∙ same) c.entries_in.ensures
+    IfOk-weaker c.entries_in.result (λ entries. entries ≡ entries_in problem s assumptions values)
+    (λ entries. entries ≡ entries_at problem s plan.solved plan.assumptions.equations drawn c.args.unknown) (λ entries is. is ∙ same) c.entries_in.ensures

@@ -6,7 +6,7 @@ use Rattle.model_candidates.proofs.equations.entries_at_units.Goals as goal
 pub loop-unknown-preserved : goal.loop-unknown-preserved
 loop-unknown-preserved c =
     let k = c.loop-unknown.unknown in
-    let at : ℕ → List ℕ = entries_at c.args.problem.now c.args.shape.now c.args.plan.now.solved c.args.plan.now.generators
+    let at : ℕ → List ℕ = entries_at c.args.problem.now c.args.shape.now c.args.plan.now.solved c.args.plan.now.assumptions.equations
     c.args.drawn.now in
     let pushed : c.push.new.self ≡ c.loop-unknown.at_units ++ c.in_ok-entries_at.field-0 ∷ [] = search rules in
     pushed ∙ ap₂ (λ xs x. xs ++ x ∷ []) c.loop-unknown.invariant c.in_ok-entries_at.ensures
@@ -15,5 +15,5 @@ loop-unknown-preserved c =
 pub returns : goal.returns
 returns c =
     let all : c.loop-unknown.unknown ≡ c.args.plan.now.unknowns = omega (arith, c.loop-unknown.auto.unknown-end, c.loop-unknown-test.false) in
-    c.loop-unknown.invariant ∙ ap (entries_at_units c.args.problem.now c.args.shape.now c.args.plan.now.solved c.args.plan.now.generators
+    c.loop-unknown.invariant ∙ ap (entries_at_units c.args.problem.now c.args.shape.now c.args.plan.now.solved c.args.plan.now.assumptions.equations
     c.args.drawn.now) all

@@ -31,5 +31,5 @@ pub returns : goal.returns
 returns c =
     let problem = c.args.problem.now in
     IfOk-weaker c.entries_of_values.result _ _
-    (made_entries problem c.args.shape.now c.args.values.now c.in_ok-model.model c.in_ok-model.ensures c.args.generators.now)
+    (made_entries problem c.args.shape.now c.args.values.now c.in_ok-model.model c.in_ok-model.ensures c.args.assumptions.now)
     c.entries_of_values.ensures

@@ -1,4 +1,4 @@
--- The entries of the values of linear generators: they are affine in the entries that are solved for, and all zero exactly where the generators are.
+-- The entries of the values of linear assumptions: they are affine in the entries that are solved for, and all zero exactly where the assumptions are.
 use Rattle.std.proofs.Common.{◌≡◌, ℕ, zero, suc, ◌+◌, ◌-◌, ◌*◌, ◌/◌, ◌%◌, ◌<◌, ◌≤◌, ℤ, Bool, true, false, cond, List, [], ◌∷◌, ◌++◌, length, get_or, filter, ◌⊎◌, inl, inr, refl, sym, ap, ap₂, subst, ◌∙◌, arith, div-lt_iff_lt-mul, mod-lt, div-add-mod'}
 use Rattle.std.specs.List.{All, AllByRecursion}
 use Rattle.std.proofs.lemmas.Bool.{cases_lt}
@@ -17,14 +17,14 @@ use Rattle.adjoint_rules.specs.declared.parts.Shape.{Shape}
 use Rattle.adjoint_rules.specs.declared.problem.Problem.{Problem}
 use Rattle.adjoint_rules.specs.Problem.{IsShape, polynomials}
 use Rattle.adjoint_rules.proofs.Generators.{posed_quiver}
-use Rattle.model_candidates.specs.declared.plan.LinearGenerator.{LinearGenerator}
+use Rattle.model_candidates.specs.declared.plan.LinearAssumption.{LinearAssumption}
 use Rattle.model_candidates.specs.Candidates.{side_in, entries_of, model_by}
 use Rattle.model_candidates.specs.Unknowns.{solved_flags, set_count, filled}
-use Rattle.model_candidates.specs.Plans.{terms_of, IsLinearGenerator, IsZeroAtSignature}
+use Rattle.model_candidates.specs.Plans.{terms_of, IsAssumption, IsZeroAtSignature}
 use Rattle.model_candidates.specs.Equations.{value_in, entries_in}
 use Rattle.model_candidates.proofs.Affine.{IsAffine}
 use Rattle.model_candidates.proofs.AffineNumbers.{affine_alike, affine_constant}
-use Rattle.model_candidates.proofs.AffineValues.{linear_words, values_are_affine, value_is_matrix}
+use Rattle.model_candidates.proofs.AffineValues.{few_words, values_are_affine, value_is_matrix}
 use Rattle.model_candidates.proofs.CandidateModels.{side_is_object}
 
 -- ---- numbers that are all zero
@@ -83,7 +83,7 @@ kept_one P keep (p ∷ ps) (suc place) inside kept all = kept_one P keep ps plac
     rest true h = h.1
     rest false h = h
 
--- ---- generators
+-- ---- assumptions
 module _ (problem : Problem) (s : Shape) (shape : IsShape (object_count problem.parts.quiver) s) (drawn : List ℕ)
     (count : length drawn ≡ length (entries_of (quiver_of problem.parts.quiver) s))
     (drawn_below : All (λ value. value < s.modulus) drawn) where
@@ -102,8 +102,8 @@ module _ (problem : Problem) (s : Shape) (shape : IsShape (object_count problem.
   pub quiver : IsQuiver q
   quiver = posed_quiver problem.parts problem.posed
 
-  -- ---- one generator
-  module _ (g : LinearGenerator) (is : IsLinearGenerator problem g) where
+  -- ---- one assumption
+  module _ (g : LinearAssumption) (is : IsAssumption problem 1 g) where
     abbrev rows : ℕ
     rows = side_in s g.sig.target.0
 
@@ -143,7 +143,7 @@ module _ (problem : Problem) (s : Shape) (shape : IsShape (object_count problem.
         (λ values. entry_at (value values) (place / columns) (place % columns))
         (λ values one_each below. ap (λ x. x % s.modulus) (entry_is values below place))
         (values_are_affine q s problem.parts.solved drawn quiver shape count drawn_below (terms_of problem g)
-        (linear_words q problem.parts.solved (terms_of problem g) is.linear) g.sig.source.0 g.sig.target.0
+        (few_words q problem.parts.solved 1 (terms_of problem g) is.few) g.sig.source.0 g.sig.target.0
         is.source is.target (place / columns) (place % columns) ((div-lt_iff_lt-mul columns_object.is_side.positive).1 inside)
         (mod-lt place columns_object.is_side.positive))
 
@@ -155,14 +155,14 @@ module _ (problem : Problem) (s : Shape) (shape : IsShape (object_count problem.
         let x = value_arrow values below in
         is_zero_matrix s.modulus rows columns (value values) rows_object columns_object x.arrow x.target x.source none
 
-  -- ---- all generators
-  abbrev pub entries : List LinearGenerator → List ℕ → List ℕ
+  -- ---- all assumptions
+  abbrev pub entries : List LinearAssumption → List ℕ → List ℕ
   entries gs values = entries_in problem s gs (filled flags drawn values)
 
-  abbrev pub AreLinear : List LinearGenerator → Type 0
-  AreLinear gs = AllByRecursion (IsLinearGenerator problem) gs
+  abbrev pub AreLinear : List LinearAssumption → Type 0
+  AreLinear gs = AllByRecursion (IsAssumption problem 1) gs
 
-  pub entries_are_affine : (gs : List LinearGenerator) → AreLinear gs → (place : ℕ) → IsAffine s.modulus (set_count flags)
+  pub entries_are_affine : (gs : List LinearAssumption) → AreLinear gs → (place : ℕ) → IsAffine s.modulus (set_count flags)
       (λ values. get_or (entries gs values) place 0)
   entries_are_affine [] are place = affine_constant s.modulus (set_count flags) 0
   entries_are_affine (g ∷ gs) are place = go (cases_lt place size) (entries_are_affine gs are.1 (place - size))
@@ -184,13 +184,13 @@ module _ (problem : Problem) (s : Shape) (shape : IsShape (object_count problem.
           (λ values one_each below. ap (λ x. x % s.modulus) (get_or-append_right (value g are.0 values).entries (entries gs values) size
           place 0 (value_length g are.0 values below) past)) rest
 
-  pub entries_below : (gs : List LinearGenerator) → AreLinear gs → (values : List ℕ) → Below values → Below (entries gs values)
+  pub entries_below : (gs : List LinearAssumption) → AreLinear gs → (values : List ℕ) → Below values → Below (entries gs values)
   entries_below [] are values below = All-nil (λ value. value < s.modulus)
   entries_below (g ∷ gs) are values below =
       All-append (λ value. value < s.modulus) (value g are.0 values).entries (entries gs values)
       (value_arrow g are.0 values below).arrow.entries_below (entries_below gs are.1 values below)
 
-  pub length-entries : (gs : List LinearGenerator) → AreLinear gs → (values others : List ℕ) → Below values → Below others
+  pub length-entries : (gs : List LinearAssumption) → AreLinear gs → (values others : List ℕ) → Below values → Below others
       → length (entries gs values) ≡ length (entries gs others)
   length-entries [] are values others below others_below = refl
   length-entries (g ∷ gs) are values others below others_below =
@@ -199,13 +199,13 @@ module _ (problem : Problem) (s : Shape) (shape : IsShape (object_count problem.
       (length-entries gs are.1 values others below others_below)
       ∙ sym (length-append (value g are.0 others).entries (entries gs others))
 
-  pub entries_zero : (gs : List LinearGenerator) → AreLinear gs → (values : List ℕ)
+  pub entries_zero : (gs : List LinearAssumption) → AreLinear gs → (values : List ℕ)
       → AllByRecursion (IsZeroAtSignature problem (model_for values)) gs → AreZero (entries gs values)
   entries_zero [] are values is_zero = λ place. refl
   entries_zero (g ∷ gs) are values is_zero = zero_both (value g are.0 values).entries (entries gs values)
       (value_zero g are.0 values is_zero.0) (entries_zero gs are.1 values is_zero.1)
 
-  pub zero_entries_only : (gs : List LinearGenerator) → AreLinear gs → (values : List ℕ) → Below values → AreZero (entries gs values)
+  pub zero_entries_only : (gs : List LinearAssumption) → AreLinear gs → (values : List ℕ) → Below values → AreZero (entries gs values)
       → AllByRecursion (IsZeroAtSignature problem (model_for values)) gs
   zero_entries_only [] are values below none = tt
   zero_entries_only (g ∷ gs) are values below none = (

@@ -1,0 +1,144 @@
+-- The assumptions of a problem that are linear in its solved maps, found one after the other.
+use Rattle.std.proofs.Common.{◌≡◌, ℕ, ◌+◌, ◌<◌, ℤ, pos, Bool, true, false, cond, not, ◌&&◌, List, [], ◌∷◌, ◌++◌, get_or, take, filter, Some, slice_get, option_map, refl, sym, ap, subst, ◌∙◌}
+use Rattle.std.specs.List.{All, AllByRecursion}
+use Rattle.std.proofs.lemmas.Bool.{and_parts}
+use Rattle.std.proofs.lemmas.List.{take_more, map-append}
+use Rattle.std.proofs.lemmas.List.Elements.{All-from_get_or, All-from_recursion, All-get_or, filter-append}
+use Rattle.std.proofs.lemmas.Option.{get_or_from_slice_get, slice_get-map, slice_get_within}
+use Rattle.definitions.specs.Quiver.{Quiver, letters, IsTyped, is_path}
+use Rattle.definitions.specs.Soundness.{HasSignature, HasValueZeroAt}
+use Rattle.definitions.proofs.UnitSound.{all-append}
+use Rattle.nc_polynomial.specs.declared.poly.Poly.{Poly}
+use Rattle.quiver.specs.declared.named.Sig.{Sig}
+use Rattle.quiver.specs.Declarations.{quiver_of}
+use Rattle.representations.proofs.Suffixes.{letter_within}
+use Rattle.representations.proofs.TypedTerms.{words_are_paths}
+use Rattle.matrix_models.specs.Matrices.{matrices}
+use Rattle.matrix_models.specs.declared.model.Model.{Model}
+use Rattle.adjoint_rules.specs.declared.problem.Problem.{Problem}
+use Rattle.adjoint_rules.specs.Problem.{polynomials, IsTypedOf, HasObjects}
+use Rattle.adjoint_rules.proofs.Generators.{assumptions_have_signatures}
+use Rattle.model_candidates.specs.declared.plan.LinearAssumption.{LinearAssumption}
+use Rattle.model_checker.specs.Models.{representation_of, IsZeroIn}
+use Rattle.model_candidates.specs.Candidates.{is_linear}
+use Rattle.model_candidates.specs.Plans.{AreAsked, AreLinearAssumptions, IsAssumption, IsZeroAtSignature, has_few, is_asked}
+use Rattle.model_checker.proofs.Places.{all_at, zip_at}
+use Rattle.model_checker.proofs.Values.{zero_from_value}
+
+-- ---- lists that are filtered
+pub filter_more : {X : Type 0} (keep : X → Bool) (xs : List X) (k : ℕ) (x : X) → slice_get xs k ≡ Some x
+    → filter keep (take (k + 1) xs) ≡ filter keep (take k xs) ++ cond (keep x) (x ∷ []) []
+filter_more keep xs k x is =
+    ap (filter keep) (take_more xs k x (slice_get_within xs k x is) ∙ ap (λ y. take k xs ++ y ∷ []) (get_or_from_slice_get xs k x x is))
+    ∙ filter-append keep (take k xs) (x ∷ [])
+
+pub kept_more : (P : List (ℤ × List ℕ) → Type 0) (keep : Poly → Bool) (ps : List Poly) (k : ℕ) (p : Poly) → slice_get ps k ≡ Some p
+    → AllByRecursion P (polynomials (filter keep (take k ps))) → (keep p ≡ true → P p.terms)
+    → AllByRecursion P (polynomials (filter keep (take (k + 1) ps)))
+kept_more P keep ps k p is before here = subst (λ xs. AllByRecursion P (polynomials xs)) (sym (filter_more keep ps k p is))
+    (go (keep p) here)
+  where
+    go : (b : Bool) → (b ≡ true → P p.terms) → AllByRecursion P (polynomials (filter keep (take k ps) ++ cond b (p ∷ []) []))
+    go b h = subst (AllByRecursion P) (sym (map-append (λ (r : Poly). r.terms) (filter keep (take k ps)) (cond b (p ∷ []) [])))
+        (all-append P (polynomials (filter keep (take k ps))) (polynomials (cond b (p ∷ []) [])) before (one b h))
+      where
+        one : (b : Bool) → (b ≡ true → P p.terms) → AllByRecursion P (polynomials (cond b (p ∷ []) []))
+        one true h = (h refl, tt)
+        one false h = tt
+
+-- ---- assumptions
+pub letters_within : (q : Quiver) (p : Poly) → HasSignature q p.terms → All (λ t. All (λ letter. letter < letters q) t.1) p.terms
+letters_within q p signed =
+    All-from_get_or (λ t. All (λ letter. letter < letters q) t.1) p.terms (pos 0, []) (λ k inside.
+    let t = get_or p.terms k (pos 0, []) in
+    let path : is_path q signed.source signed.target t.1 ≡ true = All-get_or (λ r. is_path q signed.source signed.target r.1 ≡ true)
+    p.terms k (pos 0, []) inside (words_are_paths q signed.source signed.target p.terms p.canonical signed.typed) in
+    All-from_get_or (λ letter. letter < letters q) t.1 0 (λ place within. letter_within q signed.source signed.target t.1 place path
+    within))
+
+module _ (problem : Problem) where
+  abbrev q : Quiver
+  q = quiver_of problem.parts.quiver
+
+  pub signed_at : (k : ℕ) (p : Poly) → slice_get problem.parts.assumptions k ≡ Some p → HasSignature q p.terms
+  signed_at k p is =
+      all_at (HasSignature q) (polynomials problem.parts.assumptions) k p.terms
+      (All-from_recursion (HasSignature q) (polynomials problem.parts.assumptions) (assumptions_have_signatures problem.parts problem.posed))
+      (slice_get-map (λ (r : Poly). r.terms) problem.parts.assumptions k ∙ ap (option_map (λ (r : Poly). r.terms)) is)
+
+  pub terms_there : (k : ℕ) (p : Poly) → slice_get problem.parts.assumptions k ≡ Some p
+      → get_or (polynomials problem.parts.assumptions) k [] ≡ p.terms
+  terms_there k p is = get_or_from_slice_get (polynomials problem.parts.assumptions) k p.terms []
+      (slice_get-map (λ (r : Poly). r.terms) problem.parts.assumptions k ∙ ap (option_map (λ (r : Poly). r.terms)) is)
+
+  asked_few : (known : Bool) (p : List (ℤ × List ℕ)) → is_asked q problem.parts.solved known p ≡ true
+      → has_few q problem.parts.solved (cond known 0 1) p ≡ true
+  asked_few true p is = is
+  asked_few false p is = (and_parts (has_few q problem.parts.solved 1 p) (not (has_few q problem.parts.solved 0 p)) is).0
+
+  -- an assumption that is asked for, with its signature, is one of those
+  pub is_assumption : (known : Bool) (k : ℕ) (p : Poly) (sig : Sig) → slice_get problem.parts.assumptions k ≡ Some p
+      → slice_get problem.parts.sigs k ≡ Some sig → is_asked q problem.parts.solved known p.terms ≡ true
+      → IsAssumption problem (cond known 0 1) (record { place = k; sig = sig })
+  is_assumption known k p sig is at asked =
+      let terms = terms_there k p is in
+      let ends = all_at (HasObjects problem.parts.quiver) problem.parts.sigs k sig problem.posed.assumption_ends at in
+      record {
+        place = slice_get_within problem.parts.assumptions k p is;
+        few = subst (λ ts. has_few q problem.parts.solved (cond known 0 1) ts ≡ true) (sym terms) (asked_few known p.terms asked);
+        source = ends.source;
+        target = ends.target;
+        typed = subst (IsTyped q sig.source.0 sig.target.0) (sym terms)
+            (zip_at (IsTypedOf problem.parts.quiver) problem.parts.assumptions problem.parts.sigs k p sig problem.posed.assumptions_typed is at);
+      }
+
+  -- zero at its signature, it is zero
+  pub zero_everywhere : (m : Model) (k : ℕ) (p : Poly) (sig : Sig) → slice_get problem.parts.assumptions k ≡ Some p
+      → slice_get problem.parts.sigs k ≡ Some sig
+      → IsZeroAtSignature problem m (record { place = k; sig = sig }) → IsZeroIn problem m p.terms
+  zero_everywhere m k p sig is at vanishes =
+      zero_from_value (matrices m.modulus) q (representation_of q m) p.terms p.canonical sig.source.0 sig.target.0
+      (zip_at (IsTypedOf problem.parts.quiver) problem.parts.assumptions problem.parts.sigs k p sig problem.posed.assumptions_typed is at)
+      (subst (HasValueZeroAt (matrices m.modulus) q (representation_of q m) sig.source.0 sig.target.0) (terms_there k p is) vanishes)
+
+  -- ---- both kinds
+  split : (P : List (ℤ × List ℕ) → Type 0) (ps : List Poly)
+      → AllByRecursion P (polynomials (filter (λ p. is_asked q problem.parts.solved true p.terms) ps))
+      → AllByRecursion P (polynomials (filter (λ p. is_asked q problem.parts.solved false p.terms) ps))
+      → AllByRecursion P (polynomials (filter (is_linear q problem.parts.solved) ps))
+  split P [] known other = tt
+  split P (p ∷ ps) known other = go (has_few q problem.parts.solved 0 p.terms) (has_few q problem.parts.solved 1 p.terms) known other (split P ps)
+    where
+      front_rest : List Poly
+      front_rest = filter (λ r. is_asked q problem.parts.solved true r.terms) ps
+
+      back_rest : List Poly
+      back_rest = filter (λ r. is_asked q problem.parts.solved false r.terms) ps
+
+      whole_rest : List Poly
+      whole_rest = filter (is_linear q problem.parts.solved) ps
+
+      front : Bool → List Poly
+      front b = cond b (p ∷ front_rest) front_rest
+
+      back : Bool → List Poly
+      back b = cond b (p ∷ back_rest) back_rest
+
+      whole : Bool → List Poly
+      whole b = cond b (p ∷ whole_rest) whole_rest
+
+      go : (b c : Bool) → AllByRecursion P (polynomials (front b)) → AllByRecursion P (polynomials (back (c && not b)))
+          → (AllByRecursion P (polynomials front_rest) → AllByRecursion P (polynomials back_rest) → AllByRecursion P (polynomials whole_rest))
+          → AllByRecursion P (polynomials (whole c))
+      go true true known other later = (known.0, later known.1 other)
+      go true false known other later = later known.1 other
+      go false true known other later = (other.0, later known other.1)
+      go false false known other later = later known other
+
+  pub both_asked : (conditions equations : List LinearAssumption) → AreAsked problem true conditions → AreAsked problem false equations
+      → AreLinearAssumptions problem conditions equations
+  both_asked conditions equations known other = record {
+    each_condition = known.each;
+    each = other.each;
+    all = λ m holds zero. split (IsZeroIn problem m) problem.parts.assumptions (known.all m holds) (other.all m zero);
+  }
