@@ -1,16 +1,16 @@
 -- What is sorted by its keys is in the order of the overlap words.
-use Rattle.std.proofs.Common.{◌≡◌, ◌≢◌, ◌⊎◌, inl, inr, ℕ, ◌+◌, ◌<◌, ◌≤◌, ◌^◌, Bool, true, false, List, [], ◌∷◌, ◌++◌, length, map, take, get_or, refl, sym, ap, ap₂, ◌∙◌, subst, arith}
+use Rattle.std.proofs.Common.{◌≡◌, ◌≢◌, ℕ, ◌+◌, ◌<◌, Bool, true, false, List, [], ◌∷◌, length, map, get_or, refl, sym, ap, ap₂, ◌∙◌, subst, arith}
 use Rattle.std.specs.Bool.{Decides}
 use Rattle.std.specs.Cmp.{IsTotalOrder}
-use Rattle.std.specs.List.{All, AllPairs, Contains}
+use Rattle.std.specs.List.{All, AllPairs}
 use Rattle.std.specs.List.Sorted.{IsPermutation, IsSorted}
 use Rattle.std.specs.Ordering.{is_lt, is_eq, nat_cmp, ordering_then}
 use Rattle.std.specs.declared.cmp.Ordering.{Ordering}
 use Rattle.std.specs.declared.cmp.Ordering.TheVariants.{Less, Equal, Greater}
 use Rattle.std.proofs.lemmas.Bool.Decides.{same_from_decides}
 use Rattle.std.proofs.lemmas.Cmp.{nat_cmp_total, on_total, then_total, tied_itself}
-use Rattle.std.proofs.lemmas.List.{length-map, get_or-map, length-append, length-take}
-use Rattle.std.proofs.lemmas.List.Elements.{All-map, All-head, All-tail}
+use Rattle.std.proofs.lemmas.List.{length-map, get_or-map}
+use Rattle.std.proofs.lemmas.List.Elements.{All-map}
 use Rattle.std.proofs.lemmas.List.Sorted.{All-permutation, Contains-permutation, IsPermutation-map, IsPermutation-sym, sorted_far, ranks_by}
 use Rattle.std.proofs.lemmas.Map.Keys.{IsDistinct-IsPermutation}
 use Rattle.std.proofs.lemmas.Map.Made.{IsDistinct-from_AllPairs, AllPairs-from_IsDistinct}
@@ -20,11 +20,11 @@ use Rattle.word_orders.specs.Measured.{measured_cmp}
 use Rattle.rule_reduce.specs.declared.rule.Rule.{Rule}
 use Rattle.ambiguities.specs.declared.ambiguity.Ambiguity.{Ambiguity}
 use Rattle.ambiguities.specs.Ambiguities.{IsAmbiguity, overlap_word_of}
-use Rattle.ambiguities.specs.Listed.{IsBefore, IsAmbiguityFrom}
 use Rattle.ambiguity_order.specs.declared.key.Key.{Key}
+use Rattle.ambiguity_order.specs.Finding.{ListsEachOnce}
 use Rattle.ambiguity_order.specs.Order.{IsBeforeByWord, AreAllInOrder, ambiguity_cmp, by_word_cmp}
 use Rattle.ambiguity_order.specs.Keys.{key_of, key_cmp}
-use Rattle.ambiguity_order.proofs.Comparing.{ambiguity_cmp-total, ambiguity-equal, ambiguity_not_before_itself, by_word_cmp-total, before-unless_above}
+use Rattle.ambiguity_order.proofs.Comparing.{ambiguity_cmp-total, ambiguity-equal, by_word_cmp-total, before-unless_above}
 
 pub key_cmp-total : IsTotalOrder key_cmp
 key_cmp-total =
@@ -91,10 +91,6 @@ distinct-permutation xs ys moved distinct = AllPairs-from_IsDistinct tells ys (I
     flips : (a b : Ambiguity) → same a b ≡ same b a
     flips a b = same_from_decides (same a b) (same b a) (tells a b) (λ held. sym ((tells b a).0 held), λ alike. (tells b a).1 (sym alike))
 
-before-distinct : (xs : List Ambiguity) → AllPairs IsBefore xs → AllPairs (λ a b. a ≢ b) xs
-before-distinct xs ascending i j d before inside alike =
-    ambiguity_not_before_itself (get_or xs j d) (subst (λ a. IsBefore a (get_or xs j d)) alike (ascending i j d before inside))
-
 module _ (compare : Compare) (total : IsTotalOrder compare) (same : (u v : List ℕ) → compare u v ≡ Equal → u ≡ v) (rules : List Rule) where
   ascending-sorted : (xs : List Ambiguity) → AllPairs (λ a b. a ≢ b) xs → IsSorted (by_word_cmp compare rules) xs → AllPairs (IsBeforeByWord compare rules) xs
   ascending-sorted xs distinct sorted i j d before inside =
@@ -108,12 +104,12 @@ module _ (compare : Compare) (total : IsTotalOrder compare) (same : (u v : List 
       not_less Greater e f = cc
 
   -- all ambiguities, in whatever order and then sorted
-  pub all-sorted : (found sorted : List Ambiguity) → ((a : Ambiguity) → (Contains found a → IsAmbiguityFrom 0 rules a) × (IsAmbiguityFrom 0 rules a → Contains found a)) → AllPairs IsBefore found
-      → IsPermutation found sorted → IsSorted (by_word_cmp compare rules) sorted → AreAllInOrder compare rules sorted
-  all-sorted found sorted members ascending moved in_order = record {
+  pub all-sorted : (found sorted : List Ambiguity) → ListsEachOnce (IsAmbiguity rules) found → IsPermutation found sorted → IsSorted (by_word_cmp compare rules) sorted
+      → AreAllInOrder compare rules sorted
+  all-sorted found sorted exact moved in_order = record {
     members = λ a. (
-      λ at. ((members a).0 (Contains-permutation sorted found a (IsPermutation-sym found sorted moved) at)).0,
-      λ is. Contains-permutation found sorted a moved ((members a).1 (is, inl (omega arith))),
+      λ at. (exact.members a).0 (Contains-permutation sorted found a (IsPermutation-sym found sorted moved) at),
+      λ is. Contains-permutation found sorted a moved ((exact.members a).1 is),
     );
-    ascending = ascending-sorted sorted (distinct-permutation found sorted moved (before-distinct found ascending)) in_order;
+    ascending = ascending-sorted sorted (distinct-permutation found sorted moved exact.ascending) in_order;
   }

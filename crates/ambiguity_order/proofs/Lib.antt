@@ -5,3 +5,10 @@ pub mod Comparing
 pub mod Lists
 pub mod Keys
 pub mod Short
+pub mod Cutting
+pub mod Fronts
+pub mod Picked
+pub mod Tables
+pub mod Walking
+pub mod Steps
+pub mod Rules

@@ -1,5 +1,5 @@
 -- Overlap words are short enough to be measured.
-use Rattle.std.proofs.Common.{◌≡◌, ◌≤◌, ◌+◌, ℕ, List, ◌++◌, length, take, Some, ap, arith}
+use Rattle.std.proofs.Common.{◌≤◌, ℕ, List, length, take, ap, arith}
 use Rattle.std.specs.List.{All}
 use Rattle.std.proofs.lemmas.List.{length-append, length-take}
 use Rattle.word_orders.specs.Admissible.{Compare}

@@ -2,8 +2,10 @@
 ghost use Rattle.std.specs.Prelude.{IfOk};
 ghost use Rattle.ambiguity_order.specs.Order.{AreAllInOrder};
 
+use crate::finding::find_all;
 use crate::sorting::{make_keys, sort_keys, take_ambiguities};
-use ambiguities::{Ambiguity, between};
+use crate::table::make_table;
+use ambiguities::Ambiguity;
 use lists::Listing;
 use rule_reduce::Rules;
 use std::alloc::{AllocError, Global};
@@ -17,7 +19,8 @@ pub fn all_ambiguities<O: WordOrder>(
 ) -> Result<Listing<Ambiguity>, AllocError>
     ensures { IfOk result (AreAllInOrder (O.compare rules.now.order) rules.now.rules) }
 {
-    let found = between(rules, 0)?;
+    let table = make_table(alloc, rules.rules.as_slice())?;
+    let found = find_all(alloc, table.as_slice())?;
     let mut keys = make_keys(alloc, rules, found.as_slice())?;
     sort_keys(&mut keys)?;
     take_ambiguities(alloc, keys)

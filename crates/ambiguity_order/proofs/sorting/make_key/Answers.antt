@@ -1,4 +1,4 @@
-use Rattle.std.proofs.Common.{rules, ◌≡◌, ◌≤◌, length, sym, ap, subst}
+use Rattle.std.proofs.Common.{◌≡◌, ◌≤◌, length, sym, subst}
 use Rattle.word_orders.specs.Limits.{measured_letters}
 use Rattle.ambiguities.specs.Ambiguities.{overlap_word_of}
 use Rattle.ambiguity_order.proofs.Short.{overlap_words-short}
