@@ -34,8 +34,9 @@ ranks_ascend [] (x ∷ first) (y ∷ second) sorted one other = go (nat_cmp y x)
   where
     go : (o : Ordering) → o ≡ nat_cmp y x → suc x ≤ suc y
     go Less e =
-        let less : is_lt (ordering_then (nat_cmp y x) (slice_cmp nat_cmp second first)) ≡ true = ap
-        (λ r. is_lt (ordering_then r (slice_cmp nat_cmp second first))) (sym e) in absurd (cc)
+        let less : is_lt (ordering_then (nat_cmp y x) (slice_cmp nat_cmp second first)) ≡ true =
+        ap (λ r. is_lt (ordering_then r (slice_cmp nat_cmp second first))) (sym e) in
+        absurd (cc)
     go Equal e = let same : y ≡ x = ranked y x Equal e in omega (arith, same)
     go Greater e = let above : x < y = ranked y x Greater e in omega (arith, above)
 ranks_ascend (f ∷ front) [] second sorted one other = absurd (cc)

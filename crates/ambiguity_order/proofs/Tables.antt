@@ -100,11 +100,9 @@ module _ (rules : List Rule) where
 numbers_differ : (leads table : List Lead) → AllPairs ByNumber leads → IsPermutation leads table → AllPairs (λ l m. l.number ≢ m.number) table
 numbers_differ leads table ascending moved i j d before inside =
     let j_in : j < length (map number table) = omega (arith, inside, length-map table number) in
-    subst (λ (p : ℕ × ℕ). p.0 ≢ p.1) (λ n. (
-      get_or-map number table i d d.number (omega (arith, before, inside)) n,
-      get_or-map number table j d d.number
-          inside n,
-    ))
+    let at_i = get_or-map number table i d d.number (omega (arith, before, inside)) in
+    let at_j = get_or-map number table j d d.number inside in
+    subst (λ (p : ℕ × ℕ). p.0 ≢ p.1) (λ n. (at_i n, at_j n))
     (pairs i j d.number before j_in)
   where
     number : Lead → ℕ
