@@ -9,7 +9,8 @@ use Rattle.std.proofs.lemmas.List.{append-nil, take-append-drop, length-drop, le
 use Rattle.ambiguity_order.specs.Table.{BeginsWith, rank_of, rank_at}
 
 -- one letter more
-pub begins-more : (front : List ℕ) (letter : ℕ) (word : List ℕ) → BeginsWith (front ++ letter ∷ []) word ↔ (BeginsWith front word × (rank_at (length front) word ≡ suc letter))
+pub begins-more : (front : List ℕ) (letter : ℕ) (word : List ℕ)
+    → BeginsWith (front ++ letter ∷ []) word ↔ (BeginsWith front word × (rank_at (length front) word ≡ suc letter))
 begins-more [] letter [] = (λ e. absurd (cc), λ both. absurd (omega (arith, both.1)))
 begins-more [] letter (x ∷ word) = (λ e. (refl, cc), λ both. let same : x ≡ letter = omega (arith, both.1) in ap (λ n. n ∷ []) same)
 begins-more (f ∷ front) letter [] = (λ e. absurd (cc), λ both. let e = both.0 in absurd (cc))
@@ -32,7 +33,10 @@ ranks_ascend [] (x ∷ first) [] sorted one other = absurd (cc)
 ranks_ascend [] (x ∷ first) (y ∷ second) sorted one other = go (nat_cmp y x) refl
   where
     go : (o : Ordering) → o ≡ nat_cmp y x → suc x ≤ suc y
-    go Less e = let less : is_lt (ordering_then (nat_cmp y x) (slice_cmp nat_cmp second first)) ≡ true = ap (λ r. is_lt (ordering_then r (slice_cmp nat_cmp second first))) (sym e) in absurd (cc)
+    go Less e =
+        let less : is_lt (ordering_then (nat_cmp y x) (slice_cmp nat_cmp second first)) ≡ true =
+        ap (λ r. is_lt (ordering_then r (slice_cmp nat_cmp second first))) (sym e) in
+        absurd (cc)
     go Equal e = let same : y ≡ x = ranked y x Equal e in omega (arith, same)
     go Greater e = let above : x < y = ranked y x Greater e in omega (arith, above)
 ranks_ascend (f ∷ front) [] second sorted one other = absurd (cc)

@@ -28,7 +28,8 @@ module _ {X : Type 0} (p : X → Bool) where
       go (inr later) further = kept-rest (p y) x y (filter p xs) (further later)
 
   module _ (Before : X → X → Type 0) where
-    pub exactly-filter : (P Q R : X → Type 0) (xs : List X) → ((x : X) → Decides (p x) (Q x)) → ((x : X) → R x ↔ (P x × Q x)) → ListsExactly Before P xs → ListsExactly Before R (filter p xs)
+    pub exactly-filter : (P Q R : X → Type 0) (xs : List X) → ((x : X) → Decides (p x) (Q x)) → ((x : X) → R x ↔ (P x × Q x)) → ListsExactly Before P xs
+        → ListsExactly Before R (filter p xs)
     exactly-filter P Q R xs tells both exact = record {
       members = λ x. (
         λ at. (both x).1 (
@@ -52,7 +53,8 @@ contains-more xs n d x inside = (
     into (inr is) = subst (Contains (take n xs ++ get_or xs n d ∷ [])) is (Contains-push (take n xs) (get_or xs n d))
 
 -- ---- what is added
-pub added-append : (P Q R : Ambiguity → Type 0) (old mid new : List Ambiguity) → IsAdded P old mid → IsAdded Q mid new → ((a b : Ambiguity) → P a → Q b → a ≢ b) → ((a : Ambiguity) → R a ↔ (P a ⊎ Q a))
+pub added-append : (P Q R : Ambiguity → Type 0) (old mid new : List Ambiguity) → IsAdded P old mid → IsAdded Q mid new
+    → ((a b : Ambiguity) → P a → Q b → a ≢ b) → ((a : Ambiguity) → R a ↔ (P a ⊎ Q a))
     → IsAdded R old new
 added-append P Q R old mid new first second across both = record {
   more = first.more ++ second.more;
@@ -67,7 +69,8 @@ pub added-none : (P : Ambiguity → Type 0) (old : List Ambiguity) → ((a : Amb
 added-none P old none = record {
   more = [];
   appended = sym (append-nil old);
-  exact = record { members = λ a. (λ at. absurd (omega (arith, at.1)), λ held. absurd (none a held)); ascending = λ i j d before inside. absurd (omega (arith, inside)) };
+  exact =
+      record { members = λ a. (λ at. absurd (omega (arith, at.1)), λ held. absurd (none a held)); ascending = λ i j d before inside. absurd (omega (arith, inside)) };
 }
 
 pub added-one : (a : Ambiguity) (old : List Ambiguity) → IsAdded (λ b. a ≡ b) old (old ++ a ∷ [])

@@ -20,7 +20,8 @@ use Rattle.ambiguity_order.proofs.Tables.{leading, numbered-lead}
 -- leading words aren't empty
 some_lead : (letters : ℕ) (compare : Compare) (g : Rule) → IsRule letters compare g → 0 < length g.lead
 some_lead letters compare g is_rule =
-    leading-all (λ t. 0 < length t.1) compare g.poly.terms (g.leading, g.lead) is_rule.leading (recursion_from_All (λ (t : Term). 0 < length t.1) g.poly.terms is_rule.nonempty)
+    leading-all (λ t. 0 < length t.1) compare g.poly.terms (g.leading, g.lead) is_rule.leading
+    (recursion_from_All (λ (t : Term). 0 < length t.1) g.poly.terms is_rule.nonempty)
 
 module _ (rules : List Rule) (table : List Lead) (of : IsTableOf rules table) where
   -- what holds of all leading words
@@ -32,7 +33,8 @@ module _ (rules : List Rule) (table : List Lead) (of : IsTableOf rules table) wh
 
   module _ (letters : ℕ) (compare : Compare) (each : All (IsRule letters compare) rules) where
     pub words_nonempty : All (λ (l : Lead). 0 < length l.letters) table
-    words_nonempty = each_word (λ w. 0 < length w) (All-weaker (IsRule letters compare) (λ (g : Rule). 0 < length g.lead) (some_lead letters compare) rules each)
+    words_nonempty =
+        each_word (λ w. 0 < length w) (All-weaker (IsRule letters compare) (λ (g : Rule). 0 < length g.lead) (some_lead letters compare) rules each)
 
     pub words_short : All (λ (l : Lead). length l.letters < 2 ^ 32) table
     words_short = All-weaker (λ (l : Lead). length l.letters ≤ 500) (λ (l : Lead). length l.letters < 2 ^ 32) (λ l short. omega (arith, short)) table

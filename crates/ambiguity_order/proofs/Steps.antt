@@ -13,7 +13,8 @@ use Rattle.ambiguity_order.specs.Finding.{IsAdded, IsWith, IsOfFirst}
 use Rattle.ambiguity_order.proofs.Tables.{ranks-ascend}
 use Rattle.ambiguity_order.proofs.Walking.{IsGoing, IsEnded, IsLonger, IsIncluded, walk-narrow, walk-ended, walk-longer, included-more, at_first, cut_off, at_end}
 
-module _ (table : List Lead) (sorted : AllPairs StandsBefore table) (nonempty : All (λ (l : Lead). 0 < length l.letters) table) (first : Lead) (place : ℕ) (inside : place < length first.letters) where
+module _ (table : List Lead) (sorted : AllPairs StandsBefore table) (nonempty : All (λ (l : Lead). 0 < length l.letters) table) (first : Lead) (place : ℕ)
+    (inside : place < length first.letters) where
   abbrev rest : List ℕ
   rest = drop place first.letters
 
@@ -32,7 +33,8 @@ module _ (table : List Lead) (sorted : AllPairs StandsBefore table) (nonempty : 
       pub longer-ranks : IsNonDecreasingBy (λ (l : Lead). rank_at (end - place) l.letters) longer
       longer-ranks = subst (λ n. IsNonDecreasingBy (λ (l : Lead). rank_at n l.letters) longer) front-length
           (ranks-ascend (take (end - place) rest) longer walked.ascending
-          (exactly-all StandsBefore (IsLonger table (take (end - place) rest)) (λ (l : Lead). BeginsWith (take (end - place) rest) l.letters) longer walked (λ l is. is.begins)))
+          (exactly-all StandsBefore (IsLonger table (take (end - place) rest)) (λ (l : Lead). BeginsWith (take (end - place) rest) l.letters) longer walked
+          (λ l is. is.begins)))
 
       module _ (letters : List ℕ) (whole : letters ≡ first.letters) (going : List Lead)
           (is : going ≡ filter (λ (l : Lead). nat_eq (rank_at (end - place) l.letters) (suc (get_or letters end 0))) longer) where
@@ -46,13 +48,15 @@ module _ (table : List Lead) (sorted : AllPairs StandsBefore table) (nonempty : 
         going-exact : ListsExactly StandsBefore (IsGoing table (take (end - place + 1) rest)) going
         going-exact =
             subst (ListsExactly StandsBefore (IsGoing table (take (end - place + 1) rest))) (sym is)
-            (subst (λ f. ListsExactly StandsBefore (IsGoing table f) (filter (λ (l : Lead). nat_eq (rank_at (end - place) l.letters) (suc (get_or letters end 0))) longer)) letter-more
+            (subst (λ f. ListsExactly StandsBefore (IsGoing table f)
+            (filter (λ (l : Lead). nat_eq (rank_at (end - place) l.letters) (suc (get_or letters end 0))) longer)) letter-more
             (walk-narrow table (take (end - place) rest) (end - place) front-length longer (get_or letters end 0) walked))
 
         pub going-ranks : IsNonDecreasingBy (λ (l : Lead). rank_at (end - place + 1) l.letters) going
         going-ranks = subst (λ n. IsNonDecreasingBy (λ (l : Lead). rank_at n l.letters) going) more-length
             (ranks-ascend (take (end - place + 1) rest) going going-exact.ascending
-            (exactly-all StandsBefore (IsGoing table (take (end - place + 1) rest)) (λ (l : Lead). BeginsWith (take (end - place + 1) rest) l.letters) going going-exact (λ l is. is.begins)))
+            (exactly-all StandsBefore (IsGoing table (take (end - place + 1) rest)) (λ (l : Lead). BeginsWith (take (end - place + 1) rest) l.letters) going
+            going-exact (λ l is. is.begins)))
 
         module _ (ended : List Lead) (are : ended ≡ filter (λ (l : Lead). nat_eq (rank_at (end - place + 1) l.letters) 0) going) where
           ended-exact : ListsExactly StandsBefore (IsEnded table (take (end - place + 1) rest)) ended
@@ -62,12 +66,14 @@ module _ (table : List Lead) (sorted : AllPairs StandsBefore table) (nonempty : 
           pub ended-sorted : AllPairs StandsBefore ended
           ended-sorted = ended-exact.ascending
 
-          pub added-more : (old mid new : List Ambiguity) → IsAdded (IsIncluded table first place (end - place)) old mid → IsAdded (IsWith ended first.number Inclusion place) mid new
+          pub added-more : (old mid new : List Ambiguity) → IsAdded (IsIncluded table first place (end - place)) old mid
+              → IsAdded (IsWith ended first.number Inclusion place) mid new
               → IsAdded (IsIncluded table first place (end + 1 - place)) old new
           added-more old mid new before more =
               let next : end - place + 1 ≡ end + 1 - place = omega (arith, from) in
               subst (λ n. IsAdded (IsIncluded table first place n) old new) next
-              (included-more table sorted nonempty first place inside (end - place) (omega (arith, rest-length, before_end, from)) ended ended-exact old mid new before more)
+              (included-more table sorted nonempty first place inside (end - place) (omega (arith, rest-length, before_end, from)) ended ended-exact old mid
+              new before more)
 
         pub walked-more : (more : List Lead) → more ≡ filter (λ (l : Lead). not (nat_eq (rank_at (end - place + 1) l.letters) 0)) going
             → ListsExactly StandsBefore (IsLonger table (take (end + 1 - place) rest)) more
@@ -78,7 +84,8 @@ module _ (table : List Lead) (sorted : AllPairs StandsBefore table) (nonempty : 
             (walk-longer table (take (end - place + 1) rest) (end - place + 1) more-length going going-exact))
 
       -- no word goes on
-      pub none-longer : longer ≡ [] → (old new : List Ambiguity) → IsAdded (IsIncluded table first place (end - place)) old new → IsAdded (IsOfFirst table first (λ p. p ≡ place)) old new
+      pub none-longer : longer ≡ [] → (old new : List Ambiguity) → IsAdded (IsIncluded table first place (end - place)) old new
+          → IsAdded (IsOfFirst table first (λ p. p ≡ place)) old new
       none-longer none old new added =
           cut_off table sorted nonempty first place inside (end - place) old new (omega (arith, rest-length, before_end, from))
           (subst (ListsExactly StandsBefore (IsLonger table (take (end - place) rest))) none walked) added
@@ -91,10 +98,12 @@ module _ (table : List Lead) (sorted : AllPairs StandsBefore table) (nonempty : 
       added-whole : IsAdded (IsIncluded table first place (length rest)) old mid
       added-whole = subst (λ n. IsAdded (IsIncluded table first place n) old mid) whole-rest added
 
-      pub overlaps-added : 0 < place → (new : List Ambiguity) → IsAdded (IsWith longer first.number Overlap place) mid new → IsAdded (IsOfFirst table first (λ p. p ≡ place)) old new
+      pub overlaps-added : 0 < place → (new : List Ambiguity) → IsAdded (IsWith longer first.number Overlap place) mid new
+          → IsAdded (IsOfFirst table first (λ p. p ≡ place)) old new
       overlaps-added some new more =
           at_end table sorted nonempty first place inside longer old mid new some
-          (subst (λ f. ListsExactly StandsBefore (IsLonger table f) longer) (ap (λ n. take n rest) whole-rest ∙ take_all (length rest) rest (omega arith)) walked) added-whole more
+          (subst (λ f. ListsExactly StandsBefore (IsLonger table f) longer) (ap (λ n. take n rest) whole-rest ∙ take_all (length rest) rest (omega arith))
+          walked) added-whole more
 
       pub first-added : place ≡ 0 → IsAdded (IsOfFirst table first (λ p. p ≡ place)) old mid
       first-added none = at_first table sorted nonempty first place inside old mid none added-whole

@@ -68,7 +68,8 @@ module _ (rules : List Rule) where
       let letters : l.letters ≡ m.letters = same_Some l.letters m.letters (sym one ∙ ap (λ n. option_map (λ g. g.lead) (rule_at rules n)) number ∙ other) in
       λ k. record { letters = letters k; number = number k }
 
-  pub early-more : (count : ℕ) (lead : Lead) (leads : List Lead) → IsLeadOf rules lead → lead.number ≡ count + 1 → ListsExactly ByNumber (IsEarly rules count) leads
+  pub early-more : (count : ℕ) (lead : Lead) (leads : List Lead) → IsLeadOf rules lead → lead.number ≡ count + 1
+      → ListsExactly ByNumber (IsEarly rules count) leads
       → ListsExactly ByNumber (IsEarly rules (count + 1)) (leads ++ lead ∷ [])
   early-more count lead leads is number exact =
       exactly-append ByNumber (IsEarly rules count) (λ l. lead ≡ l) (IsEarly rules (count + 1)) leads (lead ∷ []) exact (exactly-one ByNumber lead)
@@ -89,15 +90,19 @@ module _ (rules : List Rule) where
     ascending = λ i j d before inside. absurd (omega (arith, inside));
   }
 
-  pub early-all : (count : ℕ) (leads : List Lead) → length rules ≤ count → ListsExactly ByNumber (IsEarly rules count) leads → ListsExactly ByNumber (IsLeadOf rules) leads
+  pub early-all : (count : ℕ) (leads : List Lead) → length rules ≤ count → ListsExactly ByNumber (IsEarly rules count) leads
+      → ListsExactly ByNumber (IsLeadOf rules) leads
   early-all count leads past exact =
-      exactly-same ByNumber (IsEarly rules count) (IsLeadOf rules) leads (λ l. (λ is. record { of = is; early = omega (arith, past, lead-last l is) }, λ early. early.of)) exact
+      exactly-same ByNumber (IsEarly rules count) (IsLeadOf rules) leads
+      (λ l. (λ is. record { of = is; early = omega (arith, past, lead-last l is) }, λ early. early.of)) exact
 
 -- ---- sorted
 numbers_differ : (leads table : List Lead) → AllPairs ByNumber leads → IsPermutation leads table → AllPairs (λ l m. l.number ≢ m.number) table
 numbers_differ leads table ascending moved i j d before inside =
     let j_in : j < length (map number table) = omega (arith, inside, length-map table number) in
-    subst (λ (p : ℕ × ℕ). p.0 ≢ p.1) (λ n. (get_or-map number table i d d.number (omega (arith, before, inside)) n, get_or-map number table j d d.number inside n))
+    let at_i = get_or-map number table i d d.number (omega (arith, before, inside)) in
+    let at_j = get_or-map number table j d d.number inside in
+    subst (λ (p : ℕ × ℕ). p.0 ≢ p.1) (λ n. (at_i n, at_j n))
     (pairs i j d.number before j_in)
   where
     number : Lead → ℕ
@@ -126,15 +131,19 @@ table-sorted rules leads table exact moved sorted = record {
     λ is. Contains-permutation leads table l moved ((exact.members l).1 is),
   );
   ascending = λ i j d before inside. (
-    sorted_far (λ (x y : Lead). is_lt (slice_cmp nat_cmp x.letters y.letters)) (ranks_by nat_list_cmp_total (λ (x : Lead). x.letters)) table sorted i j d (omega (arith, before)) inside,
+    sorted_far (λ (x y : Lead). is_lt (slice_cmp nat_cmp x.letters y.letters)) (ranks_by nat_list_cmp_total (λ (x : Lead). x.letters)) table sorted i j d
+        (omega (arith, before)) inside,
     numbers_differ leads table exact.ascending moved i j d before inside,
   );
 }
 
 -- ---- parts
-pub ranks-ascend : (front : List ℕ) (leads : List Lead) → AllPairs StandsBefore leads → All (λ l. BeginsWith front l.letters) leads → IsNonDecreasingBy (λ l. rank_at (length front) l.letters) leads
+pub ranks-ascend : (front : List ℕ) (leads : List Lead) → AllPairs StandsBefore leads → All (λ l. BeginsWith front l.letters) leads
+    → IsNonDecreasingBy (λ l. rank_at (length front) l.letters) leads
 ranks-ascend front leads sorted begins i j d before inside = go (cases_lt i j)
   where
     go : (i < j) ⊎ (j ≤ i) → rank_at (length front) (get_or leads i d).letters ≤ rank_at (length front) (get_or leads j d).letters
-    go (inl less) = ranks_ascend front (get_or leads i d).letters (get_or leads j d).letters (sorted i j d less inside).0 (begins i d (omega (arith, less, inside))) (begins j d inside)
+    go (inl less) =
+        ranks_ascend front (get_or leads i d).letters (get_or leads j d).letters (sorted i j d less inside).0 (begins i d (omega (arith, less, inside)))
+        (begins j d inside)
     go (inr past) = let same : i ≡ j = omega (arith, past, before) in omega (arith, ap (λ k. rank_at (length front) (get_or leads k d).letters) same)

@@ -54,8 +54,10 @@ module _ (table : List Lead) (sorted : AllPairs StandsBefore table) where
       at_other = get_or_default table other.0 l m other.1 ∙ other.2
 
       go : (one.0 < other.0) ⊎ (other.0 ≤ one.0) → (other.0 < one.0) ⊎ (one.0 ≤ other.0) → l ≡ m
-      go (inl less) q = absurd ((sorted one.0 other.0 l less other.1).1 (ap (λ (x : Lead). x.number) one.2 ∙ number ∙ sym (ap (λ (x : Lead). x.number) at_other)))
-      go (inr p) (inl more) = absurd ((sorted other.0 one.0 l more one.1).1 (ap (λ (x : Lead). x.number) at_other ∙ sym number ∙ sym (ap (λ (x : Lead). x.number) one.2)))
+      go (inl less) q =
+          absurd ((sorted one.0 other.0 l less other.1).1 (ap (λ (x : Lead). x.number) one.2 ∙ number ∙ sym (ap (λ (x : Lead). x.number) at_other)))
+      go (inr p) (inl more) =
+          absurd ((sorted other.0 one.0 l more one.1).1 (ap (λ (x : Lead). x.number) at_other ∙ sym number ∙ sym (ap (λ (x : Lead). x.number) one.2)))
       go (inr p) (inr q) = let level : one.0 ≡ other.0 = omega (arith, p, q) in sym one.2 ∙ ap (λ k. get_or table k l) level ∙ at_other
 
 -- ---- those with the words of a part, one word more
@@ -66,14 +68,18 @@ module _ (seconds : List Lead) (sorted : AllPairs StandsBefore seconds) (i : ℕ
   pub with-start : (old : List Ambiguity) → IsAdded (WithFirst 0) old old
   with-start old = added-none (WithFirst 0) old (λ a with. omega (arith, with.among.1))
 
-  module _ (n : ℕ) (l : Lead) (inside : n < length seconds) (here : get_or seconds n l ≡ l) (old mid : List Ambiguity) (before : IsAdded (WithFirst n) old mid) where
+  module _ (n : ℕ) (l : Lead) (inside : n < length seconds) (here : get_or seconds n l ≡ l) (old mid : List Ambiguity)
+      (before : IsAdded (WithFirst n) old mid) where
     further : (a : Ambiguity) → WithFirst n a → WithFirst (n + 1) a
-    further a with = record { second = with.second; among = (contains-more seconds n l with.second inside).1 (inl with.among); may_meet = with.may_meet; is = with.is }
+    further a with =
+        record { second = with.second; among = (contains-more seconds n l with.second inside).1 (inl with.among); may_meet = with.may_meet; is = with.is }
 
     pub with-met : MayMeet kind i l.number → IsAdded (WithFirst (n + 1)) old (mid ++ ambiguity_at i l.number kind place ∷ [])
     with-met may_meet =
-        added-append (WithFirst n) (λ a. ambiguity_at i l.number kind place ≡ a) (WithFirst (n + 1)) old mid (mid ++ ambiguity_at i l.number kind place ∷ []) before
-        (added-one (ambiguity_at i l.number kind place) mid) across (λ a. (λ with. split a with ((contains-more seconds n l with.second inside).0 with.among), join a))
+        added-append (WithFirst n) (λ a. ambiguity_at i l.number kind place ≡ a) (WithFirst (n + 1)) old mid (mid ++ ambiguity_at i l.number kind place ∷ [])
+        before
+        (added-one (ambiguity_at i l.number kind place) mid) across
+        (λ a. (λ with. split a with ((contains-more seconds n l with.second inside).0 with.among), join a))
       where
         across : (a b : Ambiguity) → WithFirst n a → ambiguity_at i l.number kind place ≡ b → a ≢ b
         across a b with is alike =
@@ -84,7 +90,8 @@ module _ (seconds : List Lead) (sorted : AllPairs StandsBefore seconds) (i : ℕ
             let numbers : with.second.number ≡ l.number = ap (λ (c : Ambiguity). c.j) (with.is ∙ alike ∙ sym is) in
             (sorted k n with.second low inside).1 (ap (λ (x : Lead). x.number) at_k ∙ numbers ∙ sym (ap (λ (x : Lead). x.number) at_n))
 
-        split : (a : Ambiguity) (with : WithFirst (n + 1) a) → Contains (take n seconds) with.second ⊎ (get_or seconds n l ≡ with.second) → WithFirst n a ⊎ (ambiguity_at i l.number kind place ≡ a)
+        split : (a : Ambiguity) (with : WithFirst (n + 1) a) → Contains (take n seconds) with.second ⊎ (get_or seconds n l ≡ with.second)
+            → WithFirst n a ⊎ (ambiguity_at i l.number kind place ≡ a)
         split a with (inl among) = inl (record { second = with.second; among = among; may_meet = with.may_meet; is = with.is })
         split a with (inr last) = inr (ap (λ (x : Lead). ambiguity_at i x.number kind place) (sym here ∙ last) ∙ with.is)
 
@@ -93,7 +100,11 @@ module _ (seconds : List Lead) (sorted : AllPairs StandsBefore seconds) (i : ℕ
         join a (inr is) = record { second = l; among = (contains-more seconds n l l inside).1 (inr here); may_meet = may_meet; is = is }
 
     pub with-apart : (MayMeet kind i l.number → ⊥) → IsAdded (WithFirst (n + 1)) old mid
-    with-apart apart = added-same (WithFirst n) (WithFirst (n + 1)) old mid (λ a. (λ with. back a with ((contains-more seconds n l with.second inside).0 with.among), further a)) before
+    with-apart apart =
+        added-same (WithFirst n) (WithFirst (n + 1)) old mid (λ a. (
+          λ with. back a with ((contains-more seconds n l with.second inside).0 with.among),
+          further a,
+        )) before
       where
         back : (a : Ambiguity) (with : WithFirst (n + 1) a) → Contains (take n seconds) with.second ⊎ (get_or seconds n l ≡ with.second) → WithFirst n a
         back a with (inl among) = record { second = with.second; among = among; may_meet = with.may_meet; is = with.is }
@@ -111,7 +122,8 @@ module _ (table : List Lead) (front : List ℕ) (depth : ℕ) (is_depth : length
   pub walk-narrow : (letter : ℕ) → ListsExactly StandsBefore (IsLonger table front) leads
       → ListsExactly StandsBefore (IsGoing table (front ++ letter ∷ [])) (filter (λ (l : Lead). nat_eq (rank_at depth l.letters) (suc letter)) leads)
   walk-narrow letter exact =
-      exactly-filter (λ (l : Lead). nat_eq (rank_at depth l.letters) (suc letter)) StandsBefore (IsLonger table front) (λ (l : Lead). rank_at depth l.letters ≡ suc letter)
+      exactly-filter (λ (l : Lead). nat_eq (rank_at depth l.letters) (suc letter)) StandsBefore (IsLonger table front)
+      (λ (l : Lead). rank_at depth l.letters ≡ suc letter)
       (IsGoing table (front ++ letter ∷ [])) leads (λ (l : Lead). Decides-eqb (rank_at depth l.letters) (suc letter)) (λ l. (into l, back l)) exact
     where
       into : (l : Lead) → IsGoing table (front ++ letter ∷ []) l → IsLonger table front l × (rank_at depth l.letters ≡ suc letter)
@@ -120,9 +132,11 @@ module _ (table : List Lead) (front : List ℕ) (depth : ℕ) (is_depth : length
           (record { among = going.among; begins = both.0; longer = omega (arith, both.1) }, ap (λ n. rank_at n l.letters) (sym is_depth) ∙ both.1)
 
       back : (l : Lead) → IsLonger table front l × (rank_at depth l.letters ≡ suc letter) → IsGoing table (front ++ letter ∷ []) l
-      back l both = record { among = both.0.among; begins = (begins-more front letter l.letters).1 (both.0.begins, ap (λ n. rank_at n l.letters) is_depth ∙ both.1) }
+      back l both =
+          record { among = both.0.among; begins = (begins-more front letter l.letters).1 (both.0.begins, ap (λ n. rank_at n l.letters) is_depth ∙ both.1) }
 
-  pub walk-ended : ListsExactly StandsBefore (IsGoing table front) leads → ListsExactly StandsBefore (IsEnded table front) (filter (λ (l : Lead). nat_eq (rank_at depth l.letters) 0) leads)
+  pub walk-ended : ListsExactly StandsBefore (IsGoing table front) leads
+      → ListsExactly StandsBefore (IsEnded table front) (filter (λ (l : Lead). nat_eq (rank_at depth l.letters) 0) leads)
   walk-ended exact =
       exactly-filter (λ (l : Lead). nat_eq (rank_at depth l.letters) 0) StandsBefore (IsGoing table front) (λ (l : Lead). rank_at depth l.letters ≡ 0)
       (IsEnded table front) leads (λ (l : Lead). Decides-eqb (rank_at depth l.letters) 0)
@@ -195,26 +209,31 @@ module _ (table : List Lead) (sorted : AllPairs StandsBefore table) (nonempty : 
     }
 
     -- ---- one letter more
-    module _ (depth : ℕ) (further : depth < length rest) (ended : List Lead) (exact : ListsExactly StandsBefore (IsEnded table (take (depth + 1) rest)) ended) where
+    module _ (depth : ℕ) (further : depth < length rest) (ended : List Lead)
+        (exact : ListsExactly StandsBefore (IsEnded table (take (depth + 1) rest)) ended) where
       front-length : length (take (depth + 1) rest) ≡ depth + 1
       front-length = length-take-le (depth + 1) rest (omega (arith, further))
 
       ended-letters : (l : Lead) → Contains ended l → l.letters ≡ take (depth + 1) rest
       ended-letters l at = let is = (exact.members l).0 at in ended-is (take (depth + 1) rest) l.letters is.begins is.ended
 
-      pub included-more : (old mid new : List Ambiguity) → IsAdded (IsIncluded table first place depth) old mid → IsAdded (IsWith ended first.number Inclusion place) mid new
+      pub included-more : (old mid new : List Ambiguity) → IsAdded (IsIncluded table first place depth) old mid
+          → IsAdded (IsWith ended first.number Inclusion place) mid new
           → IsAdded (IsIncluded table first place (depth + 1)) old new
       included-more old mid new before more =
-          added-append (IsIncluded table first place depth) (IsWith ended first.number Inclusion place) (IsIncluded table first place (depth + 1)) old mid new before more across
+          added-append (IsIncluded table first place depth) (IsWith ended first.number Inclusion place) (IsIncluded table first place (depth + 1)) old mid
+          new before more across
           (λ a. (λ included. split a included (cases_lt depth (length included.second.letters)), join a))
         where
           across : (a b : Ambiguity) → IsIncluded table first place depth a → IsWith ended first.number Inclusion place b → a ≢ b
           across a b included with alike =
               let number : included.second.number ≡ with.second.number = ap (λ (c : Ambiguity). c.j) (included.is ∙ alike ∙ sym with.is) in
-              let same : included.second ≡ with.second = same_word table sorted included.second with.second included.among ((exact.members with.second).0 with.among).among number in
+              let same : included.second ≡ with.second =
+              same_word table sorted included.second with.second included.among ((exact.members with.second).0 with.among).among number in
               omega (arith, included.short, ap (λ (l : Lead). length l.letters) same, ap length (ended-letters with.second with.among), front-length)
 
-          split : (a : Ambiguity) (included : IsIncluded table first place (depth + 1) a) → (depth < length included.second.letters) ⊎ (length included.second.letters ≤ depth)
+          split : (a : Ambiguity) (included : IsIncluded table first place (depth + 1) a)
+              → (depth < length included.second.letters) ⊎ (length included.second.letters ≤ depth)
               → IsIncluded table first place depth a ⊎ IsWith ended first.number Inclusion place a
           split a included (inr short) = inl (record {
             second = included.second;
@@ -239,7 +258,8 @@ module _ (table : List Lead) (sorted : AllPairs StandsBefore table) (nonempty : 
                 is = included.is;
               })
 
-          join : (a : Ambiguity) → IsIncluded table first place depth a ⊎ IsWith ended first.number Inclusion place a → IsIncluded table first place (depth + 1) a
+          join : (a : Ambiguity) → IsIncluded table first place depth a ⊎ IsWith ended first.number Inclusion place a
+              → IsIncluded table first place (depth + 1) a
           join a (inl included) = record {
             second = included.second;
             among = included.among;
@@ -267,7 +287,8 @@ module _ (table : List Lead) (sorted : AllPairs StandsBefore table) (nonempty : 
 
     met-of : (a : Ambiguity) → AtPlace a → IsMet a.kind a
     met-of a of =
-        let is : ambiguity_at first.number of.second.number a.kind place ≡ a = λ n. record { i = of.first_numbered n; j = of.second_numbered n; kind = a.kind; place = sym of.at_place n } in
+        let is : ambiguity_at first.number of.second.number a.kind place ≡ a =
+        λ n. record { i = of.first_numbered n; j = of.second_numbered n; kind = a.kind; place = sym of.at_place n } in
         record {
           second = of.second;
           among = of.among;
@@ -286,15 +307,18 @@ module _ (table : List Lead) (sorted : AllPairs StandsBefore table) (nonempty : 
     }
 
     of-included : (most : ℕ) (a : Ambiguity) → IsIncluded table first place most a → AtPlace a
-    of-included most a included = of-met Inclusion a (record { second = included.second; among = included.among; meets = (included.apart, included.occurs); is = included.is })
+    of-included most a included =
+        of-met Inclusion a (record { second = included.second; among = included.among; meets = (included.apart, included.occurs); is = included.is })
 
     included-met : (most : ℕ) (a : Ambiguity) (met : IsMet Inclusion a) → length met.second.letters ≤ most → IsIncluded table first place most a
     included-met most a met short = record { second = met.second; among = met.among; apart = met.meets.0; occurs = met.meets.1; short = short; is = met.is }
 
     -- where no word overlaps and no longer one is included
     only-included : (most : ℕ) (old new : List Ambiguity) → ((l : Lead) → Contains table l → OccursAt first.letters l.letters place → length l.letters ≤ most)
-        → ((l : Lead) → Contains table l → OverlapsAt first.letters l.letters place → ⊥) → IsAdded (IsIncluded table first place most) old new → IsAdded AtPlace old new
-    only-included most old new short none added = added-same (IsIncluded table first place most) AtPlace old new (λ a. (λ of. by_kind a a.kind (met-of a of), of-included most a)) added
+        → ((l : Lead) → Contains table l → OverlapsAt first.letters l.letters place → ⊥) → IsAdded (IsIncluded table first place most) old new
+        → IsAdded AtPlace old new
+    only-included most old new short none added =
+        added-same (IsIncluded table first place most) AtPlace old new (λ a. (λ of. by_kind a a.kind (met-of a of), of-included most a)) added
       where
         by_kind : (a : Ambiguity) (kind : Kind) → IsMet kind a → IsIncluded table first place most a
         by_kind a Overlap met = absurd (none met.second met.among met.meets)
@@ -305,7 +329,8 @@ module _ (table : List Lead) (sorted : AllPairs StandsBefore table) (nonempty : 
 
     -- at the first place nothing overlaps
     pub at_first : (old new : List Ambiguity) → place ≡ 0 → IsAdded (IsIncluded table first place (length rest)) old new → IsAdded AtPlace old new
-    at_first old new none = only-included (length rest) old new (λ l among at. occurs_short l at) (λ l among at. omega (arith, none, at.at_place, at.before_letters))
+    at_first old new none =
+        only-included (length rest) old new (λ l among at. occurs_short l at) (λ l among at. omega (arith, none, at.at_place, at.before_letters))
 
     -- where no word goes on as this one does
     pub cut_off : (depth : ℕ) (old new : List Ambiguity) → depth ≤ length rest → ListsExactly StandsBefore (IsLonger table (take depth rest)) []
@@ -314,14 +339,17 @@ module _ (table : List Lead) (sorted : AllPairs StandsBefore table) (nonempty : 
       where
         longer : (l : Lead) → Contains table l → BeginsWith (take depth rest) l.letters → depth < length l.letters → ⊥
         longer l among begins long =
-            let at = (nothing.members l).1 (record { among = among; begins = begins; longer = rank_at-longer (length (take depth rest)) l.letters (omega (arith, long, length-take-le depth rest within)) }) in
+            let at =
+            (nothing.members l).1 (record { among = among; begins = begins; longer = rank_at-longer (length (take depth rest)) l.letters (omega (arith, long, length-take-le depth rest within)) }) in
             omega (arith, at.1)
 
-        included : (l : Lead) → Contains table l → OccursAt first.letters l.letters place → (depth < length l.letters) ⊎ (length l.letters ≤ depth) → length l.letters ≤ depth
+        included : (l : Lead) → Contains table l → OccursAt first.letters l.letters place → (depth < length l.letters) ⊎ (length l.letters ≤ depth)
+            → length l.letters ≤ depth
         included l among at (inr short) = short
         included l among at (inl long) =
             let whole : take depth (take (length l.letters) rest) ≡ take depth rest = take-take depth (length l.letters) rest (omega (arith, long)) in
-            let begins : BeginsWith (take depth l.letters) l.letters = begins-shorter depth l.letters l.letters (omega (arith, long)) (begins-itself l.letters) in
+            let begins : BeginsWith (take depth l.letters) l.letters =
+            begins-shorter depth l.letters l.letters (omega (arith, long)) (begins-itself l.letters) in
             absurd (longer l among (subst (λ f. BeginsWith f l.letters) (ap (take depth) (sym (front-of l.letters at)) ∙ whole) begins) long)
 
         overlapping : (l : Lead) → Contains table l → OverlapsAt first.letters l.letters place → ⊥
@@ -333,7 +361,8 @@ module _ (table : List Lead) (sorted : AllPairs StandsBefore table) (nonempty : 
     pub at_end : (longer : List Lead) (old mid new : List Ambiguity) → 0 < place → ListsExactly StandsBefore (IsLonger table rest) longer
         → IsAdded (IsIncluded table first place (length rest)) old mid → IsAdded (IsWith longer first.number Overlap place) mid new → IsAdded AtPlace old new
     at_end longer old mid new some exact before more =
-        added-append (IsIncluded table first place (length rest)) (IsWith longer first.number Overlap place) AtPlace old mid new before more across (λ a. (λ of. by_kind a a.kind (met-of a of), join a))
+        added-append (IsIncluded table first place (length rest)) (IsWith longer first.number Overlap place) AtPlace old mid new before more across
+        (λ a. (λ of. by_kind a a.kind (met-of a of), join a))
       where
         kinds_differ : Inclusion ≡ Overlap → ⊥
         kinds_differ e = cc
@@ -347,7 +376,8 @@ module _ (table : List Lead) (sorted : AllPairs StandsBefore table) (nonempty : 
             let both = overlap_begins met.second.letters met.meets in
             inr (record {
               second = met.second;
-              among = (exact.members met.second).1 (record { among = met.among; begins = both.0; longer = rank_at-longer (length rest) met.second.letters both.1 });
+              among =
+                  (exact.members met.second).1 (record { among = met.among; begins = both.0; longer = rank_at-longer (length rest) met.second.letters both.1 });
               may_meet = tt;
               is = met.is;
             })
@@ -365,9 +395,11 @@ module _ (table : List Lead) (sorted : AllPairs StandsBefore table) (nonempty : 
 
 -- ---- all places of a word, and all words
 module _ (table : List Lead) where
-  pub included-none : (nonempty : All (λ (l : Lead). 0 < length l.letters) table) (first : Lead) (place : ℕ) (old : List Ambiguity) → IsAdded (IsIncluded table first place 0) old old
+  pub included-none : (nonempty : All (λ (l : Lead). 0 < length l.letters) table) (first : Lead) (place : ℕ) (old : List Ambiguity)
+      → IsAdded (IsIncluded table first place 0) old old
   included-none nonempty first place old =
-      added-none (IsIncluded table first place 0) old (λ a included. omega (arith, included.short, All-contains (λ (l : Lead). 0 < length l.letters) table included.second nonempty included.among))
+      added-none (IsIncluded table first place 0) old (λ a included. omega
+      (arith, included.short, All-contains (λ (l : Lead). 0 < length l.letters) table included.second nonempty included.among))
 
   module _ (first : Lead) where
     abbrev Below : ℕ → Ambiguity → Type 0
@@ -377,7 +409,8 @@ module _ (table : List Lead) where
     AtThat n = IsOfFirst table first (λ p. p ≡ n)
 
     moved : (P Q : ℕ → Type 0) (a : Ambiguity) (of : IsOfFirst table first P a) → Q a.place → IsOfFirst table first Q a
-    moved P Q a of at = record { second = of.second; among = of.among; first_numbered = of.first_numbered; second_numbered = of.second_numbered; meets = of.meets; at_place = at }
+    moved P Q a of at =
+        record { second = of.second; among = of.among; first_numbered = of.first_numbered; second_numbered = of.second_numbered; meets = of.meets; at_place = at }
 
     pub places-none : (old : List Ambiguity) → IsAdded (Below 0) old old
     places-none old = added-none (Below 0) old (λ a of. omega (arith, of.at_place))
@@ -396,16 +429,24 @@ module _ (table : List Lead) where
         join a (inl below) = moved (λ p. p < n) (λ p. p < n + 1) a below (omega (arith, below.at_place))
         join a (inr at) = moved (λ p. p ≡ n) (λ p. p < n + 1) a at (omega (arith, at.at_place))
 
-    pub places-all : (nonempty : All (λ (l : Lead). 0 < length l.letters) table) (n : ℕ) (old new : List Ambiguity) → length first.letters ≤ n → IsAdded (Below n) old new
+    pub places-all : (nonempty : All (λ (l : Lead). 0 < length l.letters) table) (n : ℕ) (old new : List Ambiguity) → length first.letters ≤ n
+        → IsAdded (Below n) old new
         → IsAdded (IsOfFirst table first (λ p. Unit {0})) old new
     places-all nonempty n old new past added =
         added-same (Below n) (IsOfFirst table first (λ p. Unit {0})) old new
         (λ a. (λ of. moved (λ p. Unit {0}) (λ p. p < n) a of (within a of a.kind of.meets), λ below. moved (λ p. p < n) (λ p. Unit {0}) a below tt)) added
       where
-        within : (a : Ambiguity) (of : IsOfFirst table first (λ p. Unit {0}) a) (kind : Kind) → MeetsAs kind a.i a.j first.letters of.second.letters a.place → a.place < n
+        within : (a : Ambiguity) (of : IsOfFirst table first (λ p. Unit {0}) a) (kind : Kind) → MeetsAs kind a.i a.j first.letters of.second.letters a.place
+            → a.place < n
         within a of Overlap meets = omega (arith, past, overlaps_within first.letters of.second.letters a.place meets)
         within a of Inclusion meets =
-            omega (arith, past, OccursAt-length first.letters of.second.letters a.place meets.1, All-contains (λ (l : Lead). 0 < length l.letters) table of.second nonempty of.among)
+            omega (
+              arith,
+              past,
+              OccursAt-length first.letters of.second.letters a.place meets.1,
+              All-contains (λ (l : Lead). 0 < length l.letters) table
+                  of.second nonempty of.among,
+            )
 
   module _ (sorted : AllPairs StandsBefore table) where
     abbrev OfThe : ℕ → Ambiguity → Type 0
@@ -429,7 +470,8 @@ module _ (table : List Lead) where
             let numbers : of.first.number ≡ l.number = of.meeting.first_numbered ∙ ap (λ (c : Ambiguity). c.i) alike ∙ sym met.first_numbered in
             (sorted k n of.first low inside).1 (ap (λ (x : Lead). x.number) at_k ∙ numbers ∙ sym (ap (λ (x : Lead). x.number) at_n))
 
-        split : (a : Ambiguity) (of : OfThe (n + 1) a) → Contains (take n table) of.first ⊎ (get_or table n l ≡ of.first) → OfThe n a ⊎ IsOfFirst table l (λ p. Unit {0}) a
+        split : (a : Ambiguity) (of : OfThe (n + 1) a) → Contains (take n table) of.first ⊎ (get_or table n l ≡ of.first)
+            → OfThe n a ⊎ IsOfFirst table l (λ p. Unit {0}) a
         split a of (inl among) = inl (record { first = of.first; among = among; meeting = of.meeting })
         split a of (inr last) = inr (subst (λ (x : Lead). IsOfFirst table x (λ p. Unit {0}) a) (sym (sym here ∙ last)) of.meeting)
 

@@ -24,10 +24,12 @@ loop-second-preserved c =
       | then-may_meet+in_ok-push w ↦
           let yes : c.may_meet.result ≡ true = search rules in
           let now : c.if-may_meet.found ≡ mid ++ ambiguity_at i l.number kind place ∷ [] = search rules in
-          subst (IsAdded (IsWith (take (n + 1) seconds) i kind place) old) (sym now) (with-met seconds c.requires i kind place n l inside here old mid c.loop-second.invariant (c.may_meet.ensures.0 yes))
+          subst (IsAdded (IsWith (take (n + 1) seconds) i kind place) old) (sym now)
+          (with-met seconds c.requires i kind place n l inside here old mid c.loop-second.invariant (c.may_meet.ensures.0 yes))
       | else-may_meet w ↦
           let no : c.may_meet.result ≡ false = search rules in
           let now : c.if-may_meet.found ≡ mid = search rules in
           subst (IsAdded (IsWith (take (n + 1) seconds) i kind place) old) (sym now)
-          (with-apart seconds c.requires i kind place n l inside here old mid c.loop-second.invariant (λ met. absurd (cc (sym (c.may_meet.ensures.1 met) ∙ no))))
+          (with-apart seconds c.requires i kind place n l inside here old mid c.loop-second.invariant
+          (λ met. absurd (cc (sym (c.may_meet.ensures.1 met) ∙ no))))
     ]

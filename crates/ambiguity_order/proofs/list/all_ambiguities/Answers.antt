@@ -40,9 +40,11 @@ make_keys-requires g c =
     let of : IsTableOf all table = subst (λ (rs : List Rule). IsTableOf rs table) same c.in_ok-table.ensures in
     let read : c.as_slice-2.result.now ≡ table = search rules in
     let given : c.as_slice-3.result.now ≡ c.in_ok-found.found = search rules in
-    let exact : ListsEachOnce (IsOfFirsts table table) c.in_ok-found.found = subst (λ (ts : List Lead). ListsEachOnce (IsOfFirsts ts ts) c.in_ok-found.found) read c.in_ok-found.ensures in
+    let exact : ListsEachOnce (IsOfFirsts table table) c.in_ok-found.found =
+    subst (λ (ts : List Lead). ListsEachOnce (IsOfFirsts ts ts) c.in_ok-found.found) read c.in_ok-found.ensures in
     let are = ambiguities-of all table of c.in_ok-found.found exact in
-    subst (All (IsAmbiguity all)) (sym given) (exactly-all (λ (a b : Ambiguity). a ≡ b → ⊥) (IsAmbiguity all) (IsAmbiguity all) c.in_ok-found.found are (λ a is. is))
+    subst (All (IsAmbiguity all)) (sym given) (exactly-all (λ (a b : Ambiguity). a ≡ b → ⊥) (IsAmbiguity all) (IsAmbiguity all) c.in_ok-found.found are
+    (λ a is. is))
 
 pub returns : goal.returns
 returns g c =
@@ -56,7 +58,8 @@ returns g c =
     let of : IsTableOf all table = subst (λ (rs : List Rule). IsTableOf rs table) same c.in_ok-table.ensures in
     let in_table : c.as_slice-2.result.now ≡ table = search rules in
     let found : List Ambiguity = c.in_ok-found.found in
-    let exact : ListsEachOnce (IsOfFirsts table table) found = subst (λ (ts : List Lead). ListsEachOnce (IsOfFirsts ts ts) found) in_table c.in_ok-found.ensures in
+    let exact : ListsEachOnce (IsOfFirsts table table) found =
+    subst (λ (ts : List Lead). ListsEachOnce (IsOfFirsts ts ts) found) in_table c.in_ok-found.ensures in
     let are : ListsEachOnce (IsAmbiguity all) found = ambiguities-of all table of found exact in
     let keys : List Key = c.sort_keys.new.keys.items in
     let read : c.as_slice-3.result.now ≡ found = search rules in

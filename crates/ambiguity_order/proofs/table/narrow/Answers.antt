@@ -9,7 +9,8 @@ use Rattle.ambiguity_order.proofs.table.narrow.Goals as goal
 pub split-requires-2 : goal.split-requires-2
 split-requires-2 c =
     let rank = λ (l : Lead). rank_at c.args.depth l.letters in
-    subst (IsNonDecreasingBy rank) (sym c.split.ensures.others) (IsNonDecreasingBy-filter rank (λ l. not (nat_lt (rank l) (c.from-least.result + 1))) c.args.leads.now c.requires)
+    subst (IsNonDecreasingBy rank) (sym c.split.ensures.others)
+    (IsNonDecreasingBy-filter rank (λ l. not (nat_lt (rank l) (c.from-least.result + 1))) c.args.leads.now c.requires)
 
 pub returns : goal.returns
 returns c =

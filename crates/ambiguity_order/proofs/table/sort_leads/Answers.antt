@@ -11,5 +11,6 @@ use Rattle.ambiguity_order.proofs.table.sort_leads.Goals as goal
 pub returns-clause-sorted : goal.returns-clause-sorted
 returns-clause-sorted c =
     IfOk-weaker c.sort_by.result _ _
-    (λ _ h. h (λ (x y : Lead). is_lt (slice_cmp nat_cmp x.letters y.letters)) (ranks_by nat_list_cmp_total (λ (x : Lead). x.letters)) (always_returns_same _ _ _ (λ a r k h. search rules)))
+    (λ _ h. h (λ (x y : Lead). is_lt (slice_cmp nat_cmp x.letters y.letters)) (ranks_by nat_list_cmp_total (λ (x : Lead). x.letters))
+    (always_returns_same _ _ _ (λ a r k h. search rules)))
     c.sort_by.ensures.sorted
