@@ -23,7 +23,7 @@ use Rattle.basis_text.specs.declared.basis.Basis.{Basis}
 use Rattle.closed_checker.specs.declared.part.Part.{Part}
 use Rattle.closed_checker.specs.declared.part.Part.TheVariants as part
 use Rattle.closed_checker.specs.Rests.{order_of, rules_of, rest_of}
-use Rattle.closed_checker.specs.Closed.{HasRules, IsNumberUpTo, IsPart, ComesBefore, LeavesZero, Reaches, Refuses}
+use Rattle.closed_checker.specs.Closed.{HasRules, IsNumberUpTo, IsPart, ComesBefore, LeavesZero, LeavesNoClaim, Reaches, Refuses}
 use Rattle.closed_checker.specs.Working.{AreRulesOf, Explains, refusal_of, GeneratorsPass, AmbiguitiesPass}
 
 -- ---- what is left
@@ -131,3 +131,7 @@ module _ (problem : Problem) (b : Basis) where
           earlier (part.Generator m) is before = pass.at m is.least is.most
           earlier (part.Ambiguity a) is before = ambiguities.at a is
           earlier part.Claim is before = absurd before
+
+      pub claim_vanishes : AmbiguitiesPass problem b → (rest : List Term) → rest_of problem b part.Claim ≡ Ok rest → rest ≡ b.rest.terms → length rest ≤ 0 → LeavesNoClaim problem b
+      claim_vanishes ambiguities rest left same few =
+          record { reached = claim_reached ambiguities; left = zero_left part.Claim rest left few; said = sym same ∙ none_left rest few }

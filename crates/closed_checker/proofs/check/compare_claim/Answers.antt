@@ -1,7 +1,7 @@
-use Rattle.std.proofs.Common.{rules, ◌≡◌, ◌≤◌, true, false, length, Ok, sym, ap, subst, ◌∙◌, arith}
+use Rattle.std.proofs.Common.{rules, ◌≡◌, ◌≤◌, true, false, length, Ok, ap, subst, ◌∙◌, arith}
 use Rattle.closed_checker.specs.declared.part.Part.TheVariants as part
 use Rattle.closed_checker.specs.Rests.{rest_of}
-use Rattle.closed_checker.proofs.Passing.{claim_reached, none_left, zero_left}
+use Rattle.closed_checker.proofs.Passing.{claim_reached, claim_vanishes}
 use Rattle.closed_checker.proofs.check.compare_claim.Goals as goal
 
 pub rest_of-requires-clause-reached : goal.rest_of-requires-clause-reached
@@ -25,11 +25,7 @@ returns-then-terms-eq0-clause-refused c =
     let same : got ≡ b.rest.terms = c.same.ensures.terms.0 yes in
     let few : length got ≤ 0 = omega (arith, c.if-terms-eq0.true, c.terms.ensures) in
     let left : rest_of problem b part.Claim ≡ Ok got = c.in_ok-got.ensures.rest in
-    record {
-      reached = claim_reached problem b c.requires.has_rules c.requires.generators c.requires.ambiguities;
-      left = zero_left problem b part.Claim got left few;
-      said = sym same ∙ none_left got few;
-    }
+    claim_vanishes problem b c.requires.has_rules c.requires.generators c.requires.ambiguities got left same few
 
 pub returns-clause-closed : goal.returns-clause-closed
 returns-clause-closed c =
