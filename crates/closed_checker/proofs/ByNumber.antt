@@ -16,7 +16,7 @@ use Rattle.adjoint_rules.specs.Problem.{polynomials}
 use Rattle.basis_text.specs.Written.{IsPolyOver}
 use Rattle.closed_checker.proofs.ProblemLetters.{generators_over, claims_over}
 
--- ---- canonical
+-- canonical
 zero_canonical : IsCanonical []
 zero_canonical = record {
   shaped = record {
@@ -39,7 +39,7 @@ canonical_at [] (suc n) = subst IsCanonical (sym (past n)) zero_canonical
 canonical_at (p ∷ ps) (suc zero) = p.canonical
 canonical_at (p ∷ ps) (suc (suc n)) = canonical_at ps (suc n)
 
--- ---- letters
+-- letters
 module _ (ds : List Declaration) where
   over_at : (ps : List Poly) → AllByRecursion (IsPolyOver ds) ps → (number : ℕ) → All (λ t. IsOver (letter_count ds) t.1) (generator_at (polynomials ps) number)
   over_at ps each zero = All-nil (λ (t : Term). IsOver (letter_count ds) t.1)

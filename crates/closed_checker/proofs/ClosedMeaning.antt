@@ -43,7 +43,7 @@ use Rattle.closed_checker.proofs.BasisRules.{rules_from-same, rules_from-are}
 use Rattle.closed_checker.proofs.ByNumber.{canonical_at, generator_over, claim_over}
 use Rattle.closed_checker.proofs.PartOrder.{order_laws}
 
--- ---- values
+-- values
 pub no_rest : (e : ReduceFault) (p : List Term) → ◌≡◌ {A = Result (List Term) ReduceFault} (Err e) (Ok p) → ⊥
 no_rest e p is = cc
 
@@ -60,7 +60,7 @@ zero_is_empty (t ∷ p) shaped none =
     absurd ((recursion_from_All (λ (u : Term). u.0 ≢ pos 0) (t ∷ p) shaped.nonzero).0
     (sym (first_coefficient t p (distinct-descending (t ∷ p) (recursion_from_IsDescending (t ∷ p) shaped.descending)).0) ∙ none.at t.1))
 
--- ---- reductions with their rest
+-- reductions with their rest
 module _ (letters : ℕ) (compare : Compare) (rank : List ℕ → List ℕ) (laws : IsAdmissible letters compare rank) (rules : List Rule)
     (are : All (IsRule letters compare) rules) where
   -- a reduction of the polynomial with this rest
@@ -96,7 +96,7 @@ module _ (letters : ℕ) (compare : Compare) (rank : List ℕ → List ℕ) (law
           zero_rests_are_resolved letters compare rank rules a p found.state laws are ambiguity (s_polynomials_balance rules a p ends) found.reduced
           (empty_is_zero found.state.rest found.rest_is)
 
--- ---- a basis
+-- a basis
 module _ (problem : Problem) (b : Basis) where
   abbrev letters : ℕ
   letters = letter_count problem.parts.quiver

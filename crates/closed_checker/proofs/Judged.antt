@@ -39,7 +39,7 @@ use Rattle.closed_checker.proofs.PartOrder.{order_laws}
 use Rattle.closed_checker.proofs.PartRests.{rest_gives}
 use Rattle.closed_checker.proofs.RulesDecided.{Decided, FirstNoRule, rules_decided}
 
--- ---- polynomials are the same or not
+-- polynomials are the same or not
 unlike : true ≡ false → ⊥
 unlike is = cc
 
@@ -141,7 +141,7 @@ module _ (problem : Problem) (b : Basis) where
           by (inl same) (inl none) = inr (refusal.ZeroRest, record { reached = reached; left = is ∙ ap Ok (same ∙ none); said = none }, λ memory. memory)
           by (inl same) (inr some) = inl (record { left = is ∙ ap Ok same; nonzero = some })
 
-  -- ---- one part after another
+  -- one part after another
   module _ (has_rules : HasRules problem b) where
     -- nothing is left of the generators up to a number
     abbrev AreZeroUpTo : ℕ → Type 0

@@ -1,5 +1,5 @@
 -- The rules of a basis, one polynomial after another.
-use Rattle.std.proofs.Common.{◌≡◌, ◌<◌, ◌≤◌, ◌<ℤ◌, ◌^◌, ℕ, ◌+◌, pos, List, [], ◌∷◌, ◌++◌, length, take, get_or, Option, Some, None, option_to_list, refl, sym, ap, subst, ◌∙◌, append-nil, arith}
+use Rattle.std.proofs.Common.{◌≡◌, ◌<◌, ◌≤◌, ◌<ℤ◌, ◌^◌, ℕ, ◌+◌, pos, List, [], ◌∷◌, ◌++◌, length, take, get_or, Option, Some, None, option_to_list, refl, sym, ap, ◌∙◌, append-nil, arith}
 use Rattle.std.specs.List.{All, flat_map}
 use Rattle.std.specs.Option.{option_map, IsSomeAnd}
 use Rattle.std.proofs.lemmas.List.{take_more, length-append}
@@ -7,7 +7,6 @@ use Rattle.std.proofs.lemmas.List.Concat.{flat_map-append}
 use Rattle.std.proofs.lemmas.Option.{slice_get_read}
 use Rattle.definitions.specs.Poly.{Term}
 use Rattle.word_orders.specs.Admissible.{Compare}
-use Rattle.nc_polynomial.specs.Content.{IsContent}
 use Rattle.nc_polynomial.specs.declared.poly.Poly.{Poly}
 use Rattle.rule_reduce.specs.declared.rule.Rule.{Rule}
 use Rattle.rule_reduce.specs.Leading.{leading_term}
@@ -41,14 +40,3 @@ pub lacks_rule : (problem : Problem) (b : Basis) (number i : ℕ) (p : Poly) →
     → All (MayBeRule (order_of problem)) (take i b.rules) → (MayBeRule (order_of problem) p → ⊥) → LacksRule problem b number
 lacks_rule problem b number i p claim numbered inside is passed refused =
     record { claim = claim; before = i; poly = p; numbered = numbered; there = slice_get_read b.rules (length b.rules) i p refl inside is; earlier = passed; refused = refused }
-
--- what `may_push` tests
-abbrev pub MayPush : Compare → Poly → ℕ → Type 0
-MayPush compare p count = IsContent p.terms (pos 1) × IsSomeAnd (leading_term compare p.terms) (λ t. pos 0 <ℤ t.0) × All (λ t. 0 < length t.1) p.terms × (count + 1 < 2 ^ 32)
-
-pub may_be : (compare other : Compare) (p : Poly) (count : ℕ) → compare ≡ other → MayPush compare p count → MayBeRule other p
-may_be compare other p count same may =
-    record { primitive = may.0; positive = subst (λ c. IsSomeAnd (leading_term c p.terms) (λ t. pos 0 <ℤ t.0)) same may.1; nonempty = may.2 }
-
-pub may_push : (compare other : Compare) (p : Poly) (count : ℕ) → compare ≡ other → count + 1 < 2 ^ 32 → MayBeRule other p → MayPush compare p count
-may_push compare other p count same few may = (may.primitive, subst (λ c. IsSomeAnd (leading_term c p.terms) (λ t. pos 0 <ℤ t.0)) (sym same) may.positive, may.nonempty, few)

@@ -22,7 +22,7 @@ use Rattle.closed_checker.specs.Closed.{NamesClaim, LeavesZero, ComesBefore, Rea
 use Rattle.closed_checker.specs.Laws.{BasisRefusalIsUnique}
 use Rattle.closed_checker.proofs.PartOrder.{compared}
 
--- ---- values
+-- values
 canonical-prop : (p : List Term) → IsProp (IsCanonical p)
 canonical-prop p = Prim.hlevel std.props
 
@@ -46,7 +46,7 @@ cause_once (halt.Overflow o) c d first second = first ∙ sym second
 cause_once (halt.Size s) c d first second = first ∙ sym second
 cause_once (halt.Memory e) c d first second = absurd first
 
--- ---- the first polynomial that may be no rule
+-- the first polynomial that may be no rule
 same_item : (x y : Poly) → ◌≡◌ {A = Option Poly} (Some x) (Some y) → x ≡ y
 same_item x y is = cc
 
@@ -81,7 +81,7 @@ module _ (problem : Problem) (b : Basis) where
       go (inr most) (inl more) = absurd (not_earlier n m other one more)
       go (inr most) (inr least) = omega (arith, one.numbered, other.numbered, most, least)
 
-  -- ---- how a part is told to fail
+  -- how a part is told to fail
   -- what is asked to be left of it
   abbrev pub asked_rest : Part → List Term
   asked_rest (part.Generator n) = []
@@ -119,7 +119,7 @@ module _ (problem : Problem) (b : Basis) where
   ways (refusal.Stopped p c) is = sits (record { at = p; reached = is.reached; told = stopped is.fault c is.stopped is.cause refl })
   ways (refusal.Memory failed) is = memory tt
 
-  -- ---- one part
+  -- one part
   told_once : (p : Part) (one other : ClosedRefusal) → Told p one → Told p other → one ≡ other
   told_once p one other (left rest is apart r) (left others are _ q) =
       r ∙ ap (left_at p) (same_poly rest others (same_rest rest.terms others.terms (sym is ∙ are))) ∙ sym q

@@ -16,7 +16,7 @@ use Rattle.closed_checker.specs.Rests.{MayBeRule}
 abbrev pub Decided : Type 0 → Type 0
 Decided P = P ⊎ (P → ⊥)
 
--- ---- content, sign and words
+-- content, sign and words
 primitive_decided : (p : List Term) → Decided (IsContent p (pos 1))
 primitive_decided p = let found = has_content p in go found.content found.is
   where
@@ -48,7 +48,7 @@ words_decided (t ∷ p) = go (word_decided t.1) (words_decided p)
     go (inl some) (inr none) = inr (λ each. none each.1)
     go (inl some) (inl each) = inl (some, each)
 
--- ---- rules
+-- rules
 module _ (compare : Compare) where
   pub rule_decided : (p : Poly) → Decided (MayBeRule compare p)
   rule_decided p = go (primitive_decided p.terms) (positive_decided (leading_term compare p.terms)) (words_decided p.terms)

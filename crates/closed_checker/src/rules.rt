@@ -1,14 +1,17 @@
 //! The rules of a basis.
-ghost use Rattle.std.specs.Prelude.{◌≡◌, ◌≤◌, IfOk, IfErr, OnOk};
+ghost use Rattle.std.specs.Prelude.{◌≡◌, ◌≤◌, ◌<◌, ◌+◌, ◌^◌, ◌↔◌, length, IsTrue, IfOk, IfErr, OnOk};
+ghost use Rattle.std.specs.List.{All};
+ghost use Rattle.word_core.specs.Letters.{IsOver};
 ghost use Rattle.quiver.specs.Declarations.{letter_count};
 ghost use Rattle.word_orders.specs.Specified.{made_cmp, letters_of};
-ghost use Rattle.closed_checker.specs.Rests.{order_of};
+ghost use Rattle.closed_checker.specs.Rests.{order_of, MayBeRule};
 ghost use Rattle.closed_checker.specs.Closed.{IsReadableBasis, NamesClaim, HasRules, Refuses};
 ghost use Rattle.closed_checker.specs.Working.{AreRulesOf};
 
 use crate::ClosedRefusal;
 use adjoint_rules::Problem;
 use basis_text::Basis;
+use nc_polynomial::Poly;
 use rule_reduce::Rules;
 use std::alloc::{AllocError, Global};
 use word_orders::{AnyOrder, OrderFault};
@@ -27,6 +30,15 @@ fn make_order(alloc: Global, problem: &Problem) -> Result<AnyOrder, AllocError>
     }
 }
 
+// Whether the polynomial may be a rule.
+fn may_be_rule(rules: &Rules<AnyOrder>, poly: &Poly) -> bool
+    requires over { All (λ t. IsOver (letters_of rules.now.order) t.1) poly.now.terms }
+    requires few { length rules.now.rules + 1 < 2 ^ 32 }
+    ensures { IsTrue result ↔ MayBeRule (made_cmp rules.now.order) poly.now }
+{
+    rules.may_push(poly)
+}
+
 // The rules of the basis, or the first of its polynomials that is none.
 pub(crate) fn make_rules(
     alloc: Global,
@@ -43,7 +55,7 @@ pub(crate) fn make_rules(
     let mut number = 0u32;
     for poly in basis.rules.as_slice() {
         number += 1;
-        if !rules.may_push(poly) {
+        if !may_be_rule(&rules, poly) {
             return Err(ClosedRefusal::NotRule { rule: number });
         }
         rules.push(poly.copy()?)?;

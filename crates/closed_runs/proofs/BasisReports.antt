@@ -36,7 +36,7 @@ use Rattle.report_readback.proofs.Models.{model_head, model_lines, model_is_part
 use Rattle.report_readback.proofs.SkippedEvidence.{IsSkipped, lines_go_on, evidence_is_skipped}
 use Rattle.closed_runs.specs.BasesReadBack.{IsReadAsBases, basis_by, bases_from, ReportsReadBackAsBases}
 
--- ---- texts with their bases
+-- texts with their bases
 
 -- whole lines that have these bases
 record IsTextWith (ds : List Declaration) (text : List ℕ) (bases : List Basis) : Type 0 where
@@ -58,7 +58,7 @@ with-append ds xs ys first last left right few = record {
       (omega (arith, few, length-map first by_terms, length-map last by_terms)));
 }
 
--- ---- one claim
+-- one claim
 
 -- the bases of the first claim alone
 abbrev bases_at : List Poly → ℕ → Verdict → List Basis
@@ -155,7 +155,7 @@ module _ (ds : List Declaration) (rules : List Poly) (declared : IsDeclared ds) 
       subst (IsTextWith ds (report_from ds rules claim (v ∷ verdicts))) (bases-first rules claim v verdicts)
       (with-append ds (head ++ block_text ds rules claim v) (report_from ds rules (suc claim) verdicts) own others first rest (omega (arith, few, count)))
 
--- ---- what is read
+-- what is read
 
 no_basis : (ds : List Declaration) (bytes : List ℕ) → HasBases ds bytes [] → IsFirstFault ds bytes no_block
 no_basis ds bytes has =

@@ -38,7 +38,7 @@ use Rattle.closed_runs.specs.BasesReadBack.{basis_by, bases_from, closed_from, R
 use Rattle.closed_runs.proofs.ClosedRuns.{Closes, closes}
 use Rattle.closed_runs.proofs.Printed.{printed_bases_are_confirmed}
 
--- ---- the bases of the verdicts are those of the outcomes
+-- the bases of the verdicts are those of the outcomes
 module _ (ds : List Declaration) (rules : List Poly) where
   none_of_halted : (h : Halt) (v : Verdict) (claim : ℕ) (verdicts : List Verdict) → IsVerdictOfHalt ds h v
       → bases_from rules claim (v ∷ verdicts) ≡ bases_from rules (suc claim) verdicts
@@ -95,7 +95,7 @@ module _ (problem : Problem) (budget : Budget) (form : Format) where
     pub each_closed : (outcomes : List Outcome) → AreOutcomesOf setting form problem (claim_numbers problem) outcomes → All P (closed_from rules 1 outcomes)
     each_closed outcomes are = All-from_recursion P (closed_from rules 1 outcomes) (each_from 1 count (omega arith) (omega arith) outcomes are)
 
-  -- ---- words with letters
+  -- words with letters
   claim_words : (number : ℕ) → AreWords letters (claim_at problem number)
   claim_words number =
       let is = claim_is problem number in

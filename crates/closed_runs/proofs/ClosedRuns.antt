@@ -32,7 +32,7 @@ use Rattle.claim_decider.specs.Decided.{claim_at, GetsOutcomeBy, AreLastRules, p
 use Rattle.claim_decider.proofs.UniqueOutcomes.{gets_once}
 use Rattle.outcome_laws.proofs.OpenRuns.{open_run}
 
--- ---- a claim that closes
+-- a claim that closes
 not_derived : (rest : Poly) (e : Evidence) → outcome.Closed rest ≡ outcome.Derived e → ⊥
 not_derived rest e is = cc
 
@@ -85,7 +85,7 @@ closes setting form number claim rounds s rest (by_closing opened round what) =
     }
 closes setting form number claim rounds s rest (by_stop halt opened round is) = absurd (not_halted rest halt is)
 
--- ---- the last rules
+-- the last rules
 closed_is_not_went : (s : RunState) → closed ≡ went s → ⊥
 closed_is_not_went s is = cc
 

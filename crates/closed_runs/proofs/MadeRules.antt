@@ -21,7 +21,7 @@ use Rattle.traced_completion.specs.PlainRun.{IsRunState}
 use Rattle.outcome_laws.proofs.RunsKept.{no_value, same_value}
 use Rattle.outcome_laws.proofs.WholeRuns.{ended}
 
--- ---- works
+-- works
 module _ (compare : Compare) (P : Rule → Type 0) (made : (rest : Rest) (g : Rule) (m : Made) → IsMadeFrom compare rest g m → P g) where
   added : (rest : Option Rest) (before after : Recorded) → Adds compare rest before after → All P before.rules → All P after.rules
   added None before after same each = subst (λ (r : Recorded). All P r.rules) (sym same) each
@@ -43,7 +43,7 @@ module _ (compare : Compare) (P : Rule → Type 0) (made : (rest : Rest) (g : Ru
   in_passes steps (Err e) before after passes each = absurd (no_value e after (sym passes))
   in_passes steps (Ok firsts) before after passes each = in_turn (map (second_work compare steps) firsts) before after passes each
 
--- ---- rounds
+-- rounds
 went_is_not_closed : (s : RunState) → went s ≡ closed → ⊥
 went_is_not_closed s is = cc
 
@@ -85,7 +85,7 @@ module _ (setting : Setting) (P : Rule → Type 0) (made : (rest : Rest) (g : Ru
   each_made (suc zero) s is = round_zero is.before s is.round (each_made zero is.before is.is_before)
   each_made (suc (suc n)) s is = later_round n is.before s is.round (each_made (suc n) is.before is.is_before)
 
--- ---- primitive rules
+-- primitive rules
 pub runs_are_primitive : (setting : Setting) (n : ℕ) (s : RunState) → IsRunState setting n s → All (λ g. IsContent g.poly.terms (pos 1)) s.rules
 runs_are_primitive setting n s is =
     each_made setting (λ (g : Rule). IsContent g.poly.terms (pos 1))

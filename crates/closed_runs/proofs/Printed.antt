@@ -66,7 +66,7 @@ use Rattle.closed_runs.proofs.MadeRules.{runs_are_primitive}
 use Rattle.closed_runs.proofs.ClosedRuns.{Closes, closes, closing_rules_are_last}
 use Rattle.closed_runs.proofs.RunRules.{rules_of_run, all_may}
 
--- ---- the claim
+-- the claim
 opened_claim : (setting : Setting) (claim : List Term) (n : ℕ) (s : RunState) → IsOpen setting claim n s → 0 < length claim
 opened_claim setting claim zero s opened = opened.0
 opened_claim setting claim (suc n) s opened = opened_claim setting claim n opened.before opened.is_before
@@ -86,7 +86,7 @@ number_among count (suc k) is =
     let here : 1 + k ≡ suc k = omega arith in
     (k, omega (arith, length-range_with_len 1 count, inside), get_or-range_with_len 1 count k (suc k) inside ∙ here)
 
--- ---- round 0 doesn't close a run
+-- round 0 doesn't close a run
 closed_is_not_went : (s : RunState) → closed ≡ went s → ⊥
 closed_is_not_went s is = cc
 
@@ -97,7 +97,7 @@ not_ended : (r : Result Recorded ReduceFault) (treated : List Ambiguity) → End
 not_ended (Ok r) treated ends = closed_is_not_went _ ends
 not_ended (Err e) treated ends = closed_is_not_stopped _ ends.stops
 
--- ---- rests
+-- rests
 same_rest : (p q : List Term) → ◌≡◌ {A = Result (List Term) ReduceFault} (Ok p) (Ok q) → p ≡ q
 same_rest p q is = cc
 
@@ -207,7 +207,7 @@ module _ (problem : Problem) (budget : Budget) where
         (all_may letters compare s.rules each_is
         (recursion_from_All (λ (g : Rule). IsContent g.poly.terms (pos 1)) s.rules (runs_are_primitive setting rounds s run))))
 
-    -- ---- what isn't left
+    -- what isn't left
     generator_left : (number : ℕ) (rest : Poly) → IsNumberUpTo (length problem.generators) number → rest_of problem b (part.Generator number) ≡ Ok rest.terms
         → rest.terms ≡ []
     generator_left number rest is left =
@@ -234,7 +234,7 @@ module _ (problem : Problem) (budget : Budget) where
             let same = ended_once compare s.rules (claim_at problem b.claim) step_limit budget.steps t by_closing.left.reduced ends by_closing.left.reduction in
             sym (same_rest t.rest rest k) ∙ ap (λ (u : State). u.rest) same ∙ by_closing.left.rest_is
 
-    -- ---- what isn't refused
+    -- what isn't refused
     no_other : (r : ClosedRefusal) → Refuses problem b r → IsStop r ⊎ IsMemory r
     no_other refusal.NoSuchClaim none = absurd (none names)
     no_other (refusal.NotRule n) lacks = absurd (has_all problem b n lacks rules_may)

@@ -33,7 +33,7 @@ pub record IsReadAsBases (ds : List Declaration) (bytes : List ℕ) (bases : Lis
   pub some : 0 < length bases → IsBases ds bytes bases
   pub none : bases ≡ [] → IsFirstFault ds bytes no_block
 
--- ---- reports of verdicts
+-- reports of verdicts
 
 -- the basis of a claim by the rules, with what they leave of it
 abbrev pub basis_by : List Poly → ℕ → Poly → Basis
@@ -55,7 +55,7 @@ ReportsReadBackAsBases = (ds : List Declaration) (rules : List Poly) (verdicts :
     → All (IsWritableBasis ds) (bases_from rules 1 verdicts) → length verdicts ≤ block_limit
     → IsReadAsBases ds (report_of ds rules verdicts) (bases_from rules 1 verdicts)
 
--- ---- reports of outcomes
+-- reports of outcomes
 
 -- the bases of those that are closed
 abbrev pub closed_from : List Poly → ℕ → List Outcome → List Basis

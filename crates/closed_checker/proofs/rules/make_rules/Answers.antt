@@ -7,11 +7,11 @@ use Rattle.nc_polynomial.specs.declared.poly.Poly.{Poly}
 use Rattle.rule_reduce.specs.RuleLists.{rule_from}
 use Rattle.quiver.specs.Declarations.{letter_count}
 use Rattle.closed_checker.specs.Rests.{order_of, MayBeRule}
-use Rattle.closed_checker.proofs.MadeRules.{one_rule, rules_more, lacks_rule, may_be, may_push}
+use Rattle.closed_checker.proofs.MadeRules.{one_rule, rules_more, lacks_rule}
 use Rattle.closed_checker.proofs.rules.make_rules.Goals as goal
 
-pub returns-then-not-may_push-clause-refused : goal.returns-then-not-may_push-clause-refused
-returns-then-not-may_push-clause-refused c =
+pub returns-then-not-may_be_rule-clause-refused : goal.returns-then-not-may_be_rule-clause-refused
+returns-then-not-may_be_rule-clause-refused c =
     let problem = c.args.problem.now in
     let b = c.args.basis.now in
     let p = c.poly-item.result in
@@ -21,18 +21,17 @@ returns-then-not-may_push-clause-refused c =
     let items : polys ≡ b.rules = search rules in
     let inside : i < length b.rules = omega (arith, c.loop-poly-test.true, ap length items) in
     let is : p ≡ get_or b.rules i p = c.poly-item.is ∙ ap (λ ps. get_or ps i p) items in
-    let few : length c.loop-poly.rules.rules + 1 < 2 ^ 32 = omega (arith, so_far.counted, inside, c.requires.readable.few) in
-    let no : c.may_push.result ≡ false = search rules in
+    let no : c.may_be_rule.result ≡ false = search rules in
     let refused : MayBeRule (order_of problem) p → ⊥ =
-    λ may. let yes : c.may_push.result ≡ true = c.may_push.ensures.1 (may_push (made_cmp c.loop-poly.rules.order) (order_of problem) p (length c.loop-poly.rules.rules) so_far.compares few may) in cc in
+    λ may. let yes : c.may_be_rule.result ≡ true = c.may_be_rule.ensures.1 (subst (λ compare. MayBeRule compare p) (sym so_far.compares) may) in cc in
     lacks_rule problem b (c.loop-poly.number + 1) i p c.requires.claim (omega (arith, so_far.numbered)) inside is
     (subst (λ ps. (k : _) → (d : Poly) → k < length (take i ps) → MayBeRule (order_of problem) (get_or (take i ps) k d)) items so_far.passed) refused
 
 pub push-requires-clause-primitive : goal.push-requires-clause-primitive
 push-requires-clause-primitive c =
     let copied : c.in_ok-copy.field-0 ≡ c.poly-item.result = c.in_ok-copy.ensures in
-    let yes : c.may_push.result ≡ true = search rules in
-    subst (λ (q : Poly). IsContent q.terms (pos 1)) (sym copied) (c.may_push.ensures.0 yes).0
+    let yes : c.may_be_rule.result ≡ true = search rules in
+    subst (λ (q : Poly). IsContent q.terms (pos 1)) (sym copied) (c.may_be_rule.ensures.0 yes).primitive
 
 pub loop-poly-preserved : goal.loop-poly-preserved
 loop-poly-preserved c =
@@ -43,8 +42,8 @@ loop-poly-preserved c =
     let polys = c.as_slice-poly-items.result.now in
     let old = c.loop-poly.rules in
     let new = c.push.new.self in
-    let yes : c.may_push.result ≡ true = search rules in
-    let may : MayBeRule (order_of problem) p = may_be (made_cmp old.order) (order_of problem) p (length old.rules) so_far.compares (c.may_push.ensures.0 yes) in
+    let yes : c.may_be_rule.result ≡ true = search rules in
+    let may : MayBeRule (order_of problem) p = subst (λ compare. MayBeRule compare p) so_far.compares (c.may_be_rule.ensures.0 yes) in
     let copied : c.in_ok-copy.field-0 ≡ p = c.in_ok-copy.ensures in
     let order : new.order ≡ old.order = search rules in
     let pushed : new.rules ≡ old.rules ++ option_to_list (rule_from (made_cmp old.order) c.in_ok-copy.field-0) = search rules in
