@@ -20,7 +20,7 @@ use command_words::{Call, Refusal, read_words, usage_text};
 use flow_io::{Shelf, Sink, put_all};
 use in_order_parallel::Gate;
 use lists::Listing;
-use representations::{lemmas_sound, sound};
+use representations::sound;
 use std::alloc::{AllocError, Global};
 use std::thread::Threads;
 
@@ -133,7 +133,6 @@ pub fn run<R: Threads + Sync, C: Preadditive, L: Shelf, K: Sink, G: Gate + Sync>
     ensures meaning { MeansAsSaid (C.structure category.now) words.now (seen L.file L.faults K.written K.is_finished K.faults shelf.old shelf.new sink.old sink.new) result }
 {
     sound(category);
-    lemmas_sound(category);
     match ending_of(rt, alloc, words, shelf, gate) {
         Ok(ending) => put_ending(sink, &ending),
         Err(AllocError) => OUT_OF_MEMORY,

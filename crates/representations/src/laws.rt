@@ -7,15 +7,18 @@ use category_laws::{Involutive, Preadditive};
 
 /// In the category that is handed in a certificate proves its claim: for every quiver, list of typed generators and
 /// list of rows whose sum is d times the claim, each representation in which d cancels and all generators have the
-/// value zero gives the claim the value zero. Rows need not be typed.
+/// value zero gives the claim the value zero. Rows need not be typed. The same holds of a certificate with lemmas.
 pub fn sound<C: Preadditive>(category: &C)
-    ensures { IsSound (C.structure category.now) }
+    ensures rows { IsSound (C.structure category.now) }
+    ensures lemmas { IsEvidenceSound (C.structure category.now) }
 {}
 
 /// In the category that is handed in, and in each star representation, the assumptions of a statement make all its
-/// generators zero: their adjoints and the relations of the identities follow.
+/// generators zero: their adjoints and the relations of the identities follow. So a certificate over the generators, with
+/// lemmas or without, gives its claim the value zero where the assumptions have it.
 pub fn star_sound<C: Involutive>(category: &C)
-    ensures { IsStarSound (C.structure category.now) (C.involution category.now) }
+    ensures generators { IsStarSound (C.structure category.now) (C.involution category.now) }
+    ensures lemmas { IsEvidenceStarSound (C.structure category.now) (C.involution category.now) }
 {}
 
 /// In the category that is handed in a certificate with lemmas proves its claim: where each lemma's scale times its
