@@ -34,7 +34,7 @@ use Rattle.closed_checker.specs.Rests.{order_of, rules_of, rest_of, MayBeRule}
 use Rattle.closed_checker.specs.Closed.{IsNumberUpTo, NamesClaim, HasRules, LeavesZero, IsClosedBasis, IsPart, ComesBefore, Reaches, IsCauseOf, Refuses}
 use Rattle.closed_checker.specs.Closed.{IsMemory}
 use Rattle.closed_checker.specs.Laws.{EachBasisIsJudged}
-use Rattle.closed_checker.proofs.Ends.{Gives}
+use Rattle.completion_laws.proofs.Ends.{Gives}
 use Rattle.closed_checker.proofs.PartOrder.{order_laws}
 use Rattle.closed_checker.proofs.PartRests.{rest_gives}
 use Rattle.closed_checker.proofs.RulesDecided.{Decided, FirstNoRule, rules_decided}

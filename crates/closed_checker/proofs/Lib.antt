@@ -4,7 +4,6 @@ pub mod Passing
 pub mod MadeRules
 pub mod PartAnswers
 pub mod NotRefused
-pub mod Ends
 pub mod ByNumber
 pub mod BasisRules
 pub mod RulesDecided

@@ -2,57 +2,21 @@
 use Rattle.std.proofs.Common.{◌≡◌, ◌⊎◌, inl, inr, ◌<◌, ◌<ℤ◌, ℕ, zero, suc, ℤ, pos, negsuc, List, [], ◌∷◌, length, take, slice_get, Option, Some, None}
 use Rattle.std.proofs.Common.{IsSomeAnd, refl, arith}
 use Rattle.std.specs.List.{AllByRecursion}
-use Rattle.std.specs.Int.{◌∣◌}
-use Rattle.std.specs.Int.RustNames.{unsigned_abs}
 use Rattle.std.proofs.lemmas.Int.{ints}
-use Rattle.std.proofs.lemmas.Nat.Gcd.{dvd-zero, dvd_trans}
-use Rattle.std.proofs.lemmas.List.Elements.{All-nil, All-cons, All-head, All-tail, All-weaker, All-from_recursion, recursion_from_All}
-use Rattle.coef_int.specs.Divisor.{gcd_of}
-use Rattle.coef_int.proofs.Divisors.{gcd_of-IsGcd}
+use Rattle.std.proofs.lemmas.List.Elements.{All-from_recursion, recursion_from_All}
 use Rattle.definitions.specs.Poly.{Term}
 use Rattle.word_orders.specs.Admissible.{Compare}
 use Rattle.nc_polynomial.specs.Content.{IsContent}
 use Rattle.nc_polynomial.specs.declared.poly.Poly.{Poly}
 use Rattle.rule_reduce.specs.Leading.{leading_term}
 use Rattle.rule_reduce.proofs.MadeRules.{one_content}
+use Rattle.completion_laws.proofs.Contents.{has_content}
 use Rattle.closed_checker.specs.Rests.{MayBeRule}
 
 abbrev pub Decided : Type 0 → Type 0
 Decided P = P ⊎ (P → ⊥)
 
--- contents
-record HasContent (p : List Term) : Type 0 where
-  content : ℤ
-  is : IsContent p content
-
-zero_content : IsContent [] (pos 0)
-zero_content = record {
-  nonnegative = omega (arith, ints);
-  divides = All-nil (λ (t : Term). 0 ∣ unsigned_abs t.0);
-  greatest = λ d each. dvd-zero d;
-}
-
-content_with : (t : Term) (p : List Term) (g : ℤ) → IsContent p g → IsContent (t ∷ p) (gcd_of g t.0)
-content_with t p g content =
-    let both = gcd_of-IsGcd g t.0 in
-    let d : ℕ = unsigned_abs (gcd_of g t.0) in
-    record {
-      nonnegative = omega (arith, ints);
-      divides = All-cons (λ (u : Term). d ∣ unsigned_abs u.0) t p both.1
-          (All-weaker (λ (u : Term). unsigned_abs g ∣ unsigned_abs u.0) (λ (u : Term). d ∣ unsigned_abs u.0)
-          (λ u each. dvd_trans d both.0 each) p content.divides);
-      greatest =
-          λ e each. both.2 e (content.greatest e (All-tail (λ (u : Term). e ∣ unsigned_abs u.0) t p each))
-          (All-head (λ (u : Term). e ∣ unsigned_abs u.0) t p each);
-    }
-
-has_content : (p : List Term) → HasContent p
-has_content [] = record { content = pos 0; is = zero_content }
-has_content (t ∷ p) = go (has_content p)
-  where
-    go : HasContent p → HasContent (t ∷ p)
-    go rest = record { content = gcd_of rest.content t.0; is = content_with t p rest.content rest.is }
-
+-- content, sign and words
 primitive_decided : (p : List Term) → Decided (IsContent p (pos 1))
 primitive_decided p = let found = has_content p in go found.content found.is
   where
@@ -62,7 +26,6 @@ primitive_decided p = let found = has_content p in go found.content found.is
     go (pos (suc (suc n))) is = inr (λ one. omega (arith, ints, one_content p (pos (suc (suc n))) (pos 1) is one))
     go (negsuc n) is = inr (λ one. omega (arith, ints, one_content p (negsuc n) (pos 1) is one))
 
--- signs and words
 positive_decided : (o : Option Term) → Decided (IsSomeAnd o (λ t. pos 0 <ℤ t.0))
 positive_decided None = inr (λ none. none)
 positive_decided (Some t) = go t.0

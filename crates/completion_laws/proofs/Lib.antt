@@ -10,4 +10,6 @@ pub mod Outside
 pub mod TypedLaws
 pub mod ShapeLaws
 pub mod MakingLaws
+pub mod Ends
+pub mod Contents
 mod Examples

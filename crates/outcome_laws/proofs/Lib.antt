@@ -26,8 +26,6 @@ pub mod LimitedRuns
 pub mod EvidenceFits
 pub mod Sorted
 pub mod Meetings
-pub mod Contents
-pub mod Reductions
 pub mod Evidence
 pub mod Makings
 pub mod Works
