@@ -8,7 +8,7 @@ use Rattle.representations.specs.Evidence.{IsEvidenceSound}
 use Rattle.report_text.specs.Report.{heads_of}
 use Rattle.command_words.specs.declared.call.BenchCall.{BenchCall}
 use Rattle.command_words.specs.declared.call.Call.{Call}
-use Rattle.command_words.specs.declared.call.Call.TheVariants.{Prove, Check, Refute, Model, Bench, Explain}
+use Rattle.command_words.specs.declared.call.Call.TheVariants.{Prove, Check, Refute, Model, Bench, Confirm, Explain}
 use Rattle.command_shape.specs.declared.stop.Stop.{Stop}
 use Rattle.command_shape.specs.declared.files.FileWord.{FileWord}
 use Rattle.command_shape.specs.FileWords.{statement_limit, evidence_limit, statement_file, pair_files}
@@ -22,6 +22,7 @@ use Rattle.prove_command.proofs.Answered.{claims_owe, reports_owe}
 use Rattle.check_command.proofs.Answered.{check_owes}
 use Rattle.refute_command.proofs.Answered.{search_owes}
 use Rattle.model_command.proofs.Answered.{model_owes}
+use Rattle.confirm_command.proofs.Answered.{confirm_owes}
 use Rattle.explain_command.proofs.Answered.{explain_owes}
 use Rattle.command_answers.specs.CallFiles.{files_of, AreContents, written_by, statement_of, evidence_of}
 use Rattle.command_answers.specs.Answers.{AnswersOver, Answers}
@@ -36,6 +37,7 @@ call_owes (Check p) statement evidence = check_owes statement evidence
 call_owes (Refute p) statement evidence = search_owes p.seed statement
 call_owes (Model p) statement evidence = model_owes statement evidence
 call_owes (Bench b) statement evidence = claims_owe heads_of asked_by_bench statement
+call_owes (Confirm p) statement evidence = confirm_owes statement evidence
 call_owes (Explain p) statement evidence = explain_owes statement evidence
 
 owed : (call : Call) (contents : List (List ℕ)) → OwesEnding (OverStatement (statement_of call contents) (AnswersOver call (evidence_of contents)))
@@ -88,6 +90,7 @@ are_short (Check p) contents fit = two_short p.statement p.evidence contents fit
 are_short (Refute p) contents fit = one_short p.file contents fit
 are_short (Model p) contents fit = two_short p.statement p.evidence contents fit
 are_short (Bench b) contents fit = none_short contents fit
+are_short (Confirm p) contents fit = two_short p.statement p.evidence contents fit
 are_short (Explain p) contents fit = two_short p.statement p.evidence contents fit
 
 -- a call with files writes no statement
@@ -97,6 +100,7 @@ no_file_written (Check p) other = refl
 no_file_written (Refute p) other = refl
 no_file_written (Model p) other = refl
 no_file_written (Bench b) other = absurd (other b refl)
+no_file_written (Confirm p) other = refl
 no_file_written (Explain p) other = refl
 
 -- an item that is there needs no other in its place

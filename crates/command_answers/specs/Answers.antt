@@ -2,7 +2,7 @@
 use Rattle.std.specs.Prelude.{ℕ, List}
 use Rattle.adjoint_rules.specs.declared.problem.Problem.{Problem}
 use Rattle.command_words.specs.declared.call.Call.{Call}
-use Rattle.command_words.specs.declared.call.Call.TheVariants.{Prove, Check, Refute, Model, Bench, Explain}
+use Rattle.command_words.specs.declared.call.Call.TheVariants.{Prove, Check, Refute, Model, Bench, Confirm, Explain}
 use Rattle.report_text.specs.Report.{report_of, heads_of}
 use Rattle.command_shape.specs.Ending.{Ending}
 use Rattle.command_shape.specs.Statement.{OverStatement}
@@ -10,6 +10,7 @@ use Rattle.prove_command.specs.Answers.{asked_by, asked_by_bench, AnswersClaims}
 use Rattle.check_command.specs.Answers.{AnswersEvidence}
 use Rattle.refute_command.specs.Answers.{AnswersSearch}
 use Rattle.model_command.specs.Answers.{AnswersModelText}
+use Rattle.confirm_command.specs.Answers.{AnswersBases}
 use Rattle.explain_command.specs.Answers.{AnswersChains}
 use Rattle.command_answers.specs.CallFiles.{AreContents, statement_of, evidence_of}
 
@@ -20,6 +21,7 @@ AnswersOver (Check p) evidence = AnswersEvidence evidence
 AnswersOver (Refute p) evidence = AnswersSearch p.seed
 AnswersOver (Model p) evidence = AnswersModelText evidence
 AnswersOver (Bench b) evidence = AnswersClaims heads_of asked_by_bench
+AnswersOver (Confirm p) evidence = AnswersBases evidence
 AnswersOver (Explain p) evidence = AnswersChains evidence
 
 -- a call has no answer over more or fewer contents than it has files

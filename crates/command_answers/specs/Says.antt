@@ -10,6 +10,7 @@ use Rattle.prove_command.specs.Says.{SaysDecided, SaysReported}
 use Rattle.check_command.specs.Says.{SaysChecked}
 use Rattle.refute_command.specs.Says.{SaysSearched}
 use Rattle.model_command.specs.Says.{SaysConfirmed}
+use Rattle.confirm_command.specs.Says.{SaysClosed}
 use Rattle.explain_command.specs.Says.{SaysExplained}
 use Rattle.command_answers.specs.CallFiles.{AreContents, statement_of, evidence_of}
 
@@ -24,6 +25,8 @@ SaysOver s (call.Refute p) statement evidence ending = SaysSearched p.seed state
 SaysOver s (call.Check p) statement evidence ending = SaysChecked s statement evidence ending.report
 -- each model that is confirmed refutes the claim that it names
 SaysOver s (call.Model p) statement models ending = SaysConfirmed statement models ending.report
+-- each basis that is accepted shows that the claim that it names does not follow
+SaysOver s (call.Confirm p) statement bases ending = SaysClosed statement bases ending.report
 -- each chain that is printed leads from a multiple of its claim to zero, and shows it
 SaysOver s (call.Explain p) statement evidence ending = SaysExplained s statement evidence ending.report
 

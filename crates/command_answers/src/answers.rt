@@ -12,6 +12,7 @@ use adjoint_rules::Problem;
 use check_command::judge_evidence;
 use command_shape::{Ending, Stop, read_statement};
 use command_words::Call;
+use confirm_command::confirm_bases;
 use explain_command::explain_evidence;
 use in_order_parallel::Gate;
 use lists::Listing;
@@ -113,6 +114,7 @@ fn answer_problem<R: Threads + Sync, G: Gate + Sync>(
                 gate,
             )
         }
+        Call::Confirm(_) => confirm_bases(alloc, problem, evidence),
         Call::Explain(_) => explain_evidence(alloc, problem, evidence),
     }
 }

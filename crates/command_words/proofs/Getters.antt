@@ -14,7 +14,7 @@ use Rattle.command_words.specs.Limits.{pair_limit, step_limit, seed_limit, forma
 use Rattle.command_words.specs.Present.{HasNumber, HasProve, HasRefute, HasBench, HasCommand, MatchesHave}
 use Rattle.command_words.specs.Calls.{number_of, IsWithin, IsInRange, GivesCall, MatchesGive}
 use Rattle.command_words.specs.declared.call.Call.{Call}
-use Rattle.command_words.specs.declared.call.Call.TheVariants.{Prove, Check, Refute, Model, Bench, Explain}
+use Rattle.command_words.specs.declared.call.Call.TheVariants.{Prove, Check, Refute, Model, Bench, Confirm, Explain}
 
 pub some_text : (o : Option (Bor (List ℕ))) (t : List ℕ) → option_map (λ s. s.now) o ≡ Some t → IsSome o
 some_text None t e = cc
@@ -40,7 +40,8 @@ is_prove name rows (inr (inl h)) e = absurd (apart (codes "check") (codes "prove
 is_prove name rows (inr (inr (inl h))) e = absurd (apart (codes "refute") (codes "prove") refl (sym h.0 ∙ e))
 is_prove name rows (inr (inr (inr (inl h)))) e = absurd (apart (codes "model") (codes "prove") refl (sym h.0 ∙ e))
 is_prove name rows (inr (inr (inr (inr (inl h))))) e = absurd (apart (codes "bench") (codes "prove") refl (sym h.0 ∙ e))
-is_prove name rows (inr (inr (inr (inr (inr h))))) e = absurd (apart (codes "explain") (codes "prove") refl (sym h.0 ∙ e))
+is_prove name rows (inr (inr (inr (inr (inr (inl h)))))) e = absurd (apart (codes "confirm") (codes "prove") refl (sym h.0 ∙ e))
+is_prove name rows (inr (inr (inr (inr (inr (inr h)))))) e = absurd (apart (codes "explain") (codes "prove") refl (sym h.0 ∙ e))
 
 pub is_refute : (name : List ℕ) (rows : List Row) → HasCommand name rows → name ≡ codes "refute" → HasRefute rows
 is_refute name rows (inl h) e = absurd (apart (codes "prove") (codes "refute") refl (sym h.0 ∙ e))
@@ -48,7 +49,8 @@ is_refute name rows (inr (inl h)) e = absurd (apart (codes "check") (codes "refu
 is_refute name rows (inr (inr (inl h))) e = h.1
 is_refute name rows (inr (inr (inr (inl h)))) e = absurd (apart (codes "model") (codes "refute") refl (sym h.0 ∙ e))
 is_refute name rows (inr (inr (inr (inr (inl h))))) e = absurd (apart (codes "bench") (codes "refute") refl (sym h.0 ∙ e))
-is_refute name rows (inr (inr (inr (inr (inr h))))) e = absurd (apart (codes "explain") (codes "refute") refl (sym h.0 ∙ e))
+is_refute name rows (inr (inr (inr (inr (inr (inl h)))))) e = absurd (apart (codes "confirm") (codes "refute") refl (sym h.0 ∙ e))
+is_refute name rows (inr (inr (inr (inr (inr (inr h)))))) e = absurd (apart (codes "explain") (codes "refute") refl (sym h.0 ∙ e))
 
 pub is_bench : (name : List ℕ) (rows : List Row) → HasCommand name rows → name ≡ codes "bench" → HasBench rows
 is_bench name rows (inl h) e = absurd (apart (codes "prove") (codes "bench") refl (sym h.0 ∙ e))
@@ -56,7 +58,8 @@ is_bench name rows (inr (inl h)) e = absurd (apart (codes "check") (codes "bench
 is_bench name rows (inr (inr (inl h))) e = absurd (apart (codes "refute") (codes "bench") refl (sym h.0 ∙ e))
 is_bench name rows (inr (inr (inr (inl h)))) e = absurd (apart (codes "model") (codes "bench") refl (sym h.0 ∙ e))
 is_bench name rows (inr (inr (inr (inr (inl h))))) e = h.1
-is_bench name rows (inr (inr (inr (inr (inr h))))) e = absurd (apart (codes "explain") (codes "bench") refl (sym h.0 ∙ e))
+is_bench name rows (inr (inr (inr (inr (inr (inl h)))))) e = absurd (apart (codes "confirm") (codes "bench") refl (sym h.0 ∙ e))
+is_bench name rows (inr (inr (inr (inr (inr (inr h)))))) e = absurd (apart (codes "explain") (codes "bench") refl (sym h.0 ∙ e))
 
 within : (id : List ℕ) (low high n : ℕ) (rows : List Row) → HasNumber id low high rows → number_of id rows ≡ Some n → IsWithin low high n
 within id low high n rows h e =
@@ -82,6 +85,7 @@ in_range name rows (Bench b) has g =
     (within (codes "size") 1 size_limit b.size rows h.size g.1.size, within (codes "workers") 1 worker_limit b.workers rows h.workers g.1.workers)
 in_range name rows (Check p) has g = tt
 in_range name rows (Model p) has g = tt
+in_range name rows (Confirm p) has g = tt
 in_range name rows (Explain p) has g = tt
 
 pub call_in_range : (o : Option (List ℕ × List Row)) (call : Call) → MatchesHave o → MatchesGive o call → IsInRange call

@@ -8,7 +8,7 @@ use Rattle.command_words.specs.Limits.{pair_limit, step_limit, seed_limit, forma
 use Rattle.command_words.specs.Limits.{default_pairs, default_steps, default_workers, default_seed, default_format}
 use Rattle.command_words.specs.Accepted.{Given, given_words, IsFileWord, Span, AreOptions, option_of, number_or, is_flag}
 use Rattle.command_words.specs.declared.call.Call.{Call}
-use Rattle.command_words.specs.declared.call.Call.TheVariants.{Prove, Check, Refute, Model, Bench, Explain}
+use Rattle.command_words.specs.declared.call.Call.TheVariants.{Prove, Check, Refute, Model, Bench, Confirm, Explain}
 use Rattle.command_words.specs.declared.call.ProveCall.{ProveCall}
 use Rattle.command_words.specs.declared.call.RefuteCall.{RefuteCall}
 use Rattle.command_words.specs.declared.call.BenchCall.{BenchCall}
@@ -52,6 +52,7 @@ GivesCall name rows (Check p) = (name ≡ codes "check") × GivesPair rows p
 GivesCall name rows (Refute r) = (name ≡ codes "refute") × GivesRefute rows r
 GivesCall name rows (Model p) = (name ≡ codes "model") × GivesPair rows p
 GivesCall name rows (Bench b) = (name ≡ codes "bench") × GivesBench rows b
+GivesCall name rows (Confirm p) = (name ≡ codes "confirm") × GivesPair rows p
 GivesCall name rows (Explain p) = (name ≡ codes "explain") × GivesPair rows p
 
 abbrev pub MatchesGive : Option (Text × List Row) → Call → Type 0
@@ -71,6 +72,7 @@ IsInRange (Refute r) = IsWithin 1 worker_limit r.workers × IsWithin 0 seed_limi
 IsInRange (Bench b) = IsWithin 1 size_limit b.size × IsWithin 1 worker_limit b.workers
 IsInRange (Check p) = ⊤
 IsInRange (Model p) = ⊤
+IsInRange (Confirm p) = ⊤
 IsInRange (Explain p) = ⊤
 
 -- ---- of an accepted list
@@ -130,4 +132,5 @@ Names words (Check p) = NamesPair (codes "check") words p
 Names words (Refute r) = NamesRefute words r
 Names words (Model p) = NamesPair (codes "model") words p
 Names words (Bench b) = NamesBench words b
+Names words (Confirm p) = NamesPair (codes "confirm") words p
 Names words (Explain p) = NamesPair (codes "explain") words p

@@ -62,6 +62,8 @@ pub enum Call {
     Model(PairCall),
     /// Decides the claims of a statement that the program makes.
     Bench(BenchCall),
+    /// Checks closed rule sets by themselves.
+    Confirm(PairCall),
     /// Prints proofs as chains of equations.
     Explain(PairCall),
 }

@@ -90,6 +90,7 @@ fn call_of(alloc: Global, name: &str, matches: &ArgMatches) -> Result<Call, Allo
         "refute" => Ok(Call::Refute(refute_of(alloc, matches)?)),
         "model" => Ok(Call::Model(pair_of(alloc, matches)?)),
         "bench" => Ok(Call::Bench(bench_of(matches))),
+        "confirm" => Ok(Call::Confirm(pair_of(alloc, matches)?)),
         _ => Ok(Call::Explain(pair_of(alloc, matches)?)),
     }
 }

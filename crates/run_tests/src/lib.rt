@@ -6,6 +6,10 @@ mod call_tests;
 #[cfg(test)]
 mod calls;
 #[cfg(test)]
+mod confirm_rows;
+#[cfg(test)]
+mod confirm_tests;
+#[cfg(test)]
 mod decided_rows;
 #[cfg(test)]
 mod direct_tests;

@@ -11,6 +11,11 @@ pub enum Part {
     Numbers(&'static str, u32, u32, &'static str, &'static str),
     /// The terms m100 m200 to m1 m1, the greatest first, with a sign between them and a text so many times behind each.
     Products(&'static str, &'static str, u32),
+    /// So many terms from the greatest number down to 0: a name with its number, then texts so many times, and a sign between
+    /// two terms.
+    Falling(&'static str, u32, &'static [(&'static str, u32)], &'static str),
+    /// The greatest words of 15 letters `s` and `t`, so many, with a plus sign between two.
+    Words(u32),
     /// So many rows of a certificate with 500 letters on either side, and the factor 0.
     LongRows(u32),
     /// The identity matrix of this side.

@@ -6,6 +6,11 @@ use std::process::Abort;
 use std::test::Fail;
 use std::thread::Threads;
 
+// The bits of 15 letters, the first letter's first.
+const MASKS: &[u32] = &[
+    16_384, 8_192, 4_096, 2_048, 1_024, 512, 256, 128, 64, 32, 16, 8, 4, 2, 1,
+];
+
 // Appends a text so many times.
 fn push_times(text: &mut String, piece: &str, count: u32) -> Result<(), AllocError> {
     for _ in 0..count {
@@ -36,6 +41,39 @@ fn push_products(text: &mut String, sign: &str, behind: &str) -> Result<(), Allo
             }
             write!(text, "m{} m{}", 100 - left, 200 - right)?;
             text.push_str(behind)?;
+        }
+    }
+    Ok(())
+}
+
+// Appends terms by falling numbers.
+fn push_falling(
+    text: &mut String,
+    before: &str,
+    count: u32,
+    behind: &[(&str, u32)],
+    sign: &str,
+) -> Result<(), AllocError> {
+    for place in 0..count {
+        if place > 0 {
+            text.push_str(sign)?;
+        }
+        write!(text, "{before}{}", count - 1 - place)?;
+        for (piece, times) in behind {
+            push_times(text, piece, *times)?;
+        }
+    }
+    Ok(())
+}
+
+// Appends the greatest words of 15 letters.
+fn push_words(text: &mut String, count: u32) -> Result<(), AllocError> {
+    for number in 0..count {
+        if number > 0 {
+            text.push_str(" + ")?;
+        }
+        for mask in MASKS {
+            text.push_str(if number & mask > 0 { "s " } else { "t " })?;
         }
     }
     Ok(())
@@ -90,6 +128,10 @@ fn push_part(alloc: Global, text: &mut String, part: &Part) -> Result<(), AllocE
             let behind = repeated(alloc, behind, *count)?;
             push_products(text, sign, behind.as_str())
         }
+        Part::Falling(before, count, behind, sign) => {
+            push_falling(text, before, *count, behind, sign)
+        }
+        Part::Words(count) => push_words(text, *count),
         Part::LongRows(count) => push_long_rows(text, *count),
         Part::Identity(side) => push_identity(text, *side),
         Part::Padding(bytes) => pad(text, *bytes),

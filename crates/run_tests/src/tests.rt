@@ -76,8 +76,8 @@ pub fn tell<R: Threads + Sync + Abort>(
     Ok(())
 }
 
-// The same of each row of a table.
-fn tell_all<R: Threads + Sync + Abort>(
+/// The same of each row of a table.
+pub fn tell_all<R: Threads + Sync + Abort>(
     rt: &R,
     alloc: Global,
     words: &[&str],

@@ -18,4 +18,5 @@ returns c =
     let three = below_is app_of c.refute_command.result _ _ _ _ c.refute_command.ensures.app two c.in_ok-set-3.ensures.app in
     let four = below_is app_of c.pair_command-2.result _ _ _ _ c.pair_command-2.ensures.app three c.in_ok-set-4.ensures.app in
     let five = below_is app_of c.bench_command.result _ _ _ _ c.bench_command.ensures.app four c.in_ok-set-5.ensures.app in
-    IfOk-weaker c.with_command-6.result _ _ (λ x h. below_is app_of c.pair_command-3.result _ _ _ _ c.pair_command-3.ensures.app five h) c.with_command-6.ensures.app
+    let six = below_is app_of c.pair_command-3.result _ _ _ _ c.pair_command-3.ensures.app five c.in_ok-set-6.ensures.app in
+    IfOk-weaker c.with_command-7.result _ _ (λ x h. below_is app_of c.pair_command-4.result _ _ _ _ c.pair_command-4.ensures.app six h) c.with_command-7.ensures.app
