@@ -62,10 +62,10 @@ pub fn normal_forms<'a>(
     ensures rules { IfOk result (λ c. c.rules.now ≡ rules.now) }
     ensures fault { IfErr result (Explains problem.now.parts rules.now.rules) }
 {
-    if let Some(rule) = first_untyped(problem, rules) {
+    if let Some(rule) = first_untyped(&problem.parts, rules.rules.as_slice()) {
         return Err(SharpFault::Untyped { rule });
     }
-    if let Some(rule) = first_out_of_play(problem, rules) {
+    if let Some(rule) = first_out_of_play(&problem.parts, rules.rules.as_slice()) {
         return Err(SharpFault::OutOfPlay { rule });
     }
     Ok(NormalForms { problem, rules })

@@ -60,7 +60,7 @@ path_over : (q : Quiver) (u v : ℕ) (w : Word) → is_path q u v w ≡ true →
 path_over q u v [] e = absurd (cc)
 path_over q u v (a ∷ w) e = leads_over q u v (a ∷ w) e
 
-plays_from_test : (play : ℕ → Bool) (w : Word) → list_all play w ≡ true → AllPlay play w
+pub plays_from_test : (play : ℕ → Bool) (w : Word) → list_all play w ≡ true → AllPlay play w
 plays_from_test play [] e = tt
 plays_from_test play (a ∷ w) e = let parts = and_parts (play a) (list_all play w) e in (parts.0, plays_from_test play w parts.1)
 
