@@ -60,7 +60,7 @@ path_over : (q : Quiver) (u v : ℕ) (w : Word) → is_path q u v w ≡ true →
 path_over q u v [] e = absurd (cc)
 path_over q u v (a ∷ w) e = leads_over q u v (a ∷ w) e
 
-plays_from_test : (play : ℕ → Bool) (w : Word) → list_all play w ≡ true → AllPlay play w
+pub plays_from_test : (play : ℕ → Bool) (w : Word) → list_all play w ≡ true → AllPlay play w
 plays_from_test play [] e = tt
 plays_from_test play (a ∷ w) e = let parts = and_parts (play a) (list_all play w) e in (parts.0, plays_from_test play w parts.1)
 
@@ -171,7 +171,7 @@ module _ (p : Parts) (rules : List Rule) (b : IsBasis p rules) where
   zeros [] plays rows = tt
   zeros (f ∷ fs) plays rows = (
     image_value_zero (exact_forms p rules b.are_rules) (normal_forms p rules) plain exact (is_image p rules b.are_rules b) (normal_representation rationals (exact_ground p rules b.are_rules)) (forms_representation p rules)
-        (λ v. refl) (letter_plain p rules b.are_rules) q f (ideal_zero rationals (exact_ground p rules b.are_rules) facts f plays.0 rows.0),
+    (λ v. refl) (letter_plain p rules b.are_rules) q f (ideal_zero rationals (exact_ground p rules b.are_rules) facts f plays.0 rows.0),
     zeros fs plays.1 rows.1,
   )
 

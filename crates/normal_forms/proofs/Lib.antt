@@ -18,3 +18,4 @@ pub mod Stated
 pub mod Images
 pub mod Plain
 pub mod Basis
+mod Examples

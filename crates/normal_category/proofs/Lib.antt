@@ -1,0 +1,2 @@
+pub mod PassedRules
+pub mod Problems

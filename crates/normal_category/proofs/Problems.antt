@@ -1,0 +1,91 @@
+-- The normal forms of a problem's rules.
+use Rattle.std.proofs.Common.{◌≡◌, ℕ, zero, suc, ◌≤◌, Bool, true, ◌&&◌, List, [], ◌∷◌, length, get_or, map, refl, sym, ap, ◌∙◌, subst, arith}
+use Rattle.std.specs.List.{All, AllByRecursion, AllZip, list_all}
+use Rattle.std.proofs.lemmas.Bool.{and_from}
+use Rattle.std.proofs.lemmas.List.{length-map}
+use Rattle.std.proofs.lemmas.List.Elements.{All-from_recursion, recursion_from_All}
+use Rattle.definitions.specs.Poly.{Term, SamePolynomial}
+use Rattle.definitions.specs.Combination.{generator_at, InRationalIdeal}
+use Rattle.definitions.specs.Soundness.{HasSignature}
+use Rattle.definitions.proofs.Coefficients.{Same_trans, SamePolynomial-multiple}
+use Rattle.word_orders.specs.Specified.{asked_cmp}
+use Rattle.nc_polynomial.specs.declared.poly.Poly.{Poly}
+use Rattle.quiver.specs.Declarations.{letter_count, quiver_of}
+use Rattle.rule_reduce.specs.declared.rule.Rule.{Rule}
+use Rattle.rule_reduce.specs.RuleLists.{IsRule, polynomials_of}
+use Rattle.ambiguities.specs.Resolved.{Resolved}
+use Rattle.adjoint_rules.specs.declared.problem.Problem.{Problem}
+use Rattle.adjoint_rules.specs.Problem.{numbers, is_in_play, polynomials, generators_in, IsInPlay, HasLettersInPlay}
+use Rattle.adjoint_rules.proofs.Generators.{claims_have_signatures}
+use Rattle.completion_laws.specs.Typed.{AreTypedInPlay}
+use Rattle.claim_decider.specs.Decided.{claim_at}
+use Rattle.outcome_laws.proofs.LettersInPlay.{generator_words}
+use Rattle.normal_forms.specs.NormalForms.{IsBasis}
+use Rattle.normal_forms.specs.SharpMeans.{SharpMeans}
+use Rattle.normal_forms.proofs.Basis.{Plays, plays_from_test, sharp_means}
+
+-- what holds of each holds of the one with a number
+numbered : (P : List Term → Type 0) (fs : List (List Term)) → AllByRecursion P fs → (n : ℕ) → 1 ≤ n → n ≤ length fs → P (generator_at fs n)
+numbered P fs each zero first last = absurd (omega (arith, first))
+numbered P [] each (suc n) first last = absurd (omega (arith, last))
+numbered P (f ∷ fs) each (suc zero) first last = each.0
+numbered P (f ∷ fs) each (suc (suc n)) first last = numbered P fs each.1 (suc n) (omega arith) (omega (arith, last))
+
+-- the rational ideal has what has the same coefficients
+ideal_same : (generators : List (List Term)) (f g : List Term) → SamePolynomial f g → InRationalIdeal generators f → InRationalIdeal generators g
+ideal_same generators f g same inside = record {
+  denominator = inside.denominator;
+  rows = inside.rows;
+  combination = record { positive = inside.combination.positive; sum = Same_trans _ _ _ inside.combination.sum (SamePolynomial-multiple inside.denominator f g same) };
+}
+
+ideals_along : (generators fs gs : List (List Term)) → AllZip SamePolynomial fs gs → AllByRecursion (InRationalIdeal generators) fs → AllByRecursion (InRationalIdeal generators) gs
+ideals_along generators [] [] same each = tt
+ideals_along generators [] (g ∷ gs) same each = absurd same
+ideals_along generators (f ∷ fs) [] same each = absurd same
+ideals_along generators (f ∷ fs) (g ∷ gs) same each = (ideal_same generators f g same.0 each.0, ideals_along generators fs gs same.1 each.1)
+
+module _ (problem : Problem) (rules : List Rule)
+    (are_rules : All (IsRule (letter_count problem.parts.quiver) (asked_cmp problem.parts.order)) rules)
+    (resolved : Resolved (letter_count problem.parts.quiver) (asked_cmp problem.parts.order) rules)
+    (generated : All (InRationalIdeal (polynomials_of rules)) (polynomials problem.generators))
+    (typed : AreTypedInPlay (quiver_of problem.parts.quiver) (is_in_play problem.parts.quiver problem.parts.starred (numbers problem.parts.marked)) rules) where
+  pub basis : IsBasis problem.parts rules
+  basis = record {
+    posed = problem.posed;
+    are_rules = are_rules;
+    resolved = resolved;
+    typed = typed;
+    generated = All-from_recursion (InRationalIdeal (polynomials_of rules)) (generators_in problem.parts)
+        (ideals_along (polynomials_of rules) (polynomials problem.generators) (generators_in problem.parts) problem.closed.same (recursion_from_All (InRationalIdeal (polynomials_of rules)) (polynomials problem.generators) generated));
+  }
+
+  abbrev play : ℕ → Bool
+  play = is_in_play problem.parts.quiver problem.parts.starred (numbers problem.parts.marked)
+
+  tested : (f : List Term) → AllByRecursion (λ t. list_all play t.1 ≡ true) f → Plays problem.parts rules basis f
+  tested [] each = tt
+  tested (t ∷ f) each = (plays_from_test play t.1 each.0, tested f each.1)
+
+  all_tested : (fs : List (List Term)) → AllByRecursion (λ f. AllByRecursion (λ t. list_all play t.1 ≡ true) f) fs → AllByRecursion (Plays problem.parts rules basis) fs
+  all_tested [] each = tt
+  all_tested (f ∷ fs) each = (tested f each.0, all_tested fs each.1)
+
+  claim_plays : (claims : List Poly) → AllByRecursion (HasLettersInPlay problem.parts.quiver problem.parts.starred (numbers problem.parts.marked)) claims → AllByRecursion (Plays problem.parts rules basis) (polynomials claims)
+  claim_plays [] each = tt
+  claim_plays (f ∷ claims) each = (terms f.terms (recursion_from_All (λ (t : Term). All (IsInPlay problem.parts.quiver problem.parts.starred (numbers problem.parts.marked)) t.1) f.terms each.0), claim_plays claims each.1)
+    where
+      terms : (p : List Term) → AllByRecursion (λ (t : Term). All (IsInPlay problem.parts.quiver problem.parts.starred (numbers problem.parts.marked)) t.1) p → Plays problem.parts rules basis p
+      terms [] each = tt
+      terms (t ∷ p) each = (recursion_from_All (IsInPlay problem.parts.quiver problem.parts.starred (numbers problem.parts.marked)) t.1 each.0, terms p each.1)
+
+  pub problem_is_sharp : (claim : ℕ) → 1 ≤ claim → claim ≤ length problem.parts.claims → (InRationalIdeal (polynomials_of rules) (claim_at problem claim) → ⊥)
+      → SharpMeans problem.parts rules (claim_at problem claim)
+  problem_is_sharp claim first last outside =
+      sharp_means problem.parts rules basis (all_tested (generators_in problem.parts) (generator_words problem.parts problem.posed)) (claim_at problem claim)
+      (numbered (Plays problem.parts rules basis) (polynomials problem.parts.claims) (claim_plays problem.parts.claims (recursion_from_All (HasLettersInPlay problem.parts.quiver problem.parts.starred (numbers problem.parts.marked)) problem.parts.claims problem.posed.claim_letters)) claim first inside)
+      (numbered (HasSignature (quiver_of problem.parts.quiver)) (polynomials problem.parts.claims) (claims_have_signatures problem.parts problem.posed) claim first inside)
+      outside
+    where
+      inside : claim ≤ length (polynomials problem.parts.claims)
+      inside = omega (arith, last, length-map problem.parts.claims (λ (p : Poly). p.terms))

@@ -1,0 +1,9 @@
+use Rattle.std.proofs.Common.{◌≡◌, ◌≤◌, ℕ, Some}
+use Rattle.rule_reduce.specs.declared.rule.Rule.{Rule}
+use Rattle.rule_reduce.specs.RuleLists.{rule_at}
+use Rattle.normal_category.specs.Faults.{IsTypedIn}
+use Rattle.normal_category.proofs.passes.first_untyped.Given as goal
+
+-- the rules that were passed have the property
+abbrev pub invariant-loop-place : goal.invariant-loop-place
+invariant-loop-place l = (n : ℕ) (g : Rule) → rule_at l.rules n ≡ Some g → n ≤ l.place → IsTypedIn l.parts g
