@@ -15,9 +15,9 @@ ghost use Rattle.normal_forms.specs.SharpMeans.{SharpMeans};
 ghost use Rattle.normal_forms.proofs.Basis.{normal_forms_laws};
 ghost use Rattle.normal_category.specs.Faults.{Explains};
 
+use crate::SharpFault;
 use crate::map::NormalMap;
 use crate::passes::{first_out_of_play, first_untyped};
-use crate::SharpFault;
 use adjoint_rules::Problem;
 use category_laws::Preadditive;
 use rule_reduce::Rules;

@@ -46,7 +46,10 @@ pub(crate) fn first_out_of_play(parts: &Parts, rules: &[Rule]) -> Option<u32>
 fn has_letters_in_play(parts: &Parts, poly: &Poly) -> bool
     ensures { result ≡ list_all (λ t. list_all (is_in_play parts.now.quiver parts.now.starred (numbers parts.now.marked)) t.1) poly.now.terms }
 {
-    poly.terms.as_slice().iter().all(|term| is_word_in_play(parts, &term.1))
+    poly.terms
+        .as_slice()
+        .iter()
+        .all(|term| is_word_in_play(parts, &term.1))
 }
 
 // Whether all letters of the word are in play.

@@ -171,7 +171,7 @@ module _ (p : Parts) (rules : List Rule) (b : IsBasis p rules) where
   zeros [] plays rows = tt
   zeros (f ∷ fs) plays rows = (
     image_value_zero (exact_forms p rules b.are_rules) (normal_forms p rules) plain exact (is_image p rules b.are_rules b) (normal_representation rationals (exact_ground p rules b.are_rules)) (forms_representation p rules)
-    (λ v. refl) (letter_plain p rules b.are_rules) q f (ideal_zero rationals (exact_ground p rules b.are_rules) facts f plays.0 rows.0),
+        (λ v. refl) (letter_plain p rules b.are_rules) q f (ideal_zero rationals (exact_ground p rules b.are_rules) facts f plays.0 rows.0),
     zeros fs plays.1 rows.1,
   )
 

@@ -53,6 +53,7 @@ module _ {K : Type 0} (k : Field K) (o : Sorting) where
   pub each-collect : (P : Word → Type 0) (p : Form K) → Each P p → Each P (collect p)
   each-collect P [] e = tt
   each-collect P (t ∷ p) e = each-insert P t (collect p) e.0 (each-collect P p e.1)
+
   look-put : (t : K × Word) (p : Form K) (w : Word) → look k (put_term t p) w ≡ look k (t ∷ p) w
   look-put t p w = go (k.is_none t.0) refl
     where
@@ -75,6 +76,7 @@ module _ {K : Type 0} (k : Field K) (o : Sorting) where
 
   pub alike-collect : (p : Form K) → Alike k (collect p) p
   alike-collect p = record { at = look-collect p }
+
   after-more : (v w : Word) (p : Form K) → o.below w v ≡ true → After v p → After w p
   after-more v w [] e h = tt
   after-more v w (t ∷ p) e h = (o.transitive w v t.1 e h.0, after-more v w p e h.1)
@@ -106,6 +108,7 @@ module _ {K : Type 0} (k : Field K) (o : Sorting) where
   pub form-collect : (p : Form K) → IsForm (collect p)
   form-collect [] = tt
   form-collect (t ∷ p) = form-insert t (collect p) (form-collect p)
+
   apart : (v w : Word) → o.below v w ≡ true → word_eq w v ≡ false
   apart v w h = false_from_ne_true (word_eq w v) (λ e. true≢false (sym h ∙ ap (λ x. o.below v x) (word_eq-true w v e) ∙ o.irreflexive v))
 

@@ -13,7 +13,7 @@ use Rattle.confluence.proofs.Closed.{setting, zero_or_reducible}
 use Rattle.confluence.proofs.Resolve.{everything}
 use Rattle.normal_forms.proofs.FieldLaws.{none_plus, times_one, times_none, minus_times, times_swap, int_none}
 use Rattle.normal_forms.specs.Forms.{Form, with_words}
-use Rattle.normal_forms.proofs.Forms.{ words-words, words-same, words-append, Each, hit, look, scaled, sum-append, sum-scaled, Alike, alike-words, alike-append, alike-scaled, scaled-append, scaled-words}
+use Rattle.normal_forms.proofs.Forms.{words-words, words-same, words-append, Each, hit, look, scaled, sum-append, sum-scaled, Alike, alike-words, alike-append, alike-scaled, scaled-append, scaled-words}
 
 -- a row of a rule, with any word in range on top
 abbrev pub AnyRow : (o : Order) → Rules o → Coefs → Type 0

@@ -139,11 +139,14 @@ posed = record {
   claim_letters = All-from_recursion (HasLettersInPlay declared false (0 ∷ [])) parts.claims (All-from_recursion (λ (t : Term). All (IsInPlay declared false (0 ∷ [])) t.1) claim_terms (letter_plays 2 refl, tt), tt);
   some_shape = omega arith;
   few_shapes = omega arith;
-  shapes = All-from_recursion (IsShape 2) parts.shapes (record {
-    modulus = refl;
-    side_of_each = refl;
-    sides = All-from_recursion IsSide (1 ∷ 1 ∷ []) (record { least = omega arith; most = omega arith }, (record { least = omega arith; most = omega arith }, tt));
-  }, tt);
+  shapes = All-from_recursion (IsShape 2) parts.shapes (
+    record {
+      modulus = refl;
+      side_of_each = refl;
+      sides = All-from_recursion IsSide (1 ∷ 1 ∷ []) (record { least = omega arith; most = omega arith }, (record { least = omega arith; most = omega arith }, tt));
+    },
+    tt,
+  );
   solved_maps = All-from_recursion (IsDeclaredMap declared) [] tt;
   solved_ascending = λ i j d less inside. absurd (omega (arith, less, inside));
 }
@@ -176,13 +179,16 @@ are_rules = All-from_recursion (IsRule 4 word_cmp) rules (
     nonempty = All-from_recursion (λ (t : Term). 0 < length t.1) zero_terms (omega arith, tt);
     over = All-from_recursion (λ (t : Term). IsOver 4 t.1) zero_terms (over_letter 0 (omega arith), tt);
   },
-  (record {
-    leading = refl;
-    positive = omega (arith, ints);
-    in_range = omega arith;
-    nonempty = All-from_recursion (λ (t : Term). 0 < length t.1) square_terms (omega arith, (omega arith, tt));
-    over = All-from_recursion (λ (t : Term). IsOver 4 t.1) square_terms (square_over, (over_letter 2 (omega arith), tt));
-  }, tt),
+  (
+    record {
+      leading = refl;
+      positive = omega (arith, ints);
+      in_range = omega arith;
+      nonempty = All-from_recursion (λ (t : Term). 0 < length t.1) square_terms (omega arith, (omega arith, tt));
+      over = All-from_recursion (λ (t : Term). IsOver 4 t.1) square_terms (square_over, (over_letter 2 (omega arith), tt));
+    },
+    tt,
+  ),
 )
 
 -- ---- the one ambiguity, with the overlap word x x x
@@ -261,8 +267,10 @@ only_itself a is = by_kind a.kind refl is.meets (which a.i is.first is.first_num
         λ t. record { i = i t; j = j t; kind = kind t; place = place t }
 
 resolved : Resolved 4 word_cmp rules
-resolved = record { each = λ a is. subst (IsResolved 4 word_cmp rules) (sym (only_itself a is))
-    (zero_rests_are_resolved 4 word_cmp (rank_of 4) rules itself [] (start_of []) laws are_rules is_one (s_polynomials_balance rules itself [] difference) zero_reduced (record { at = λ w. refl })) }
+resolved = record {
+  each = λ a is. subst (IsResolved 4 word_cmp rules) (sym (only_itself a is))
+      (zero_rests_are_resolved 4 word_cmp (rank_of 4) rules itself [] (start_of []) laws are_rules is_one (s_polynomials_balance rules itself [] difference) zero_reduced (record { at = λ w. refl }));
+}
 
 -- ---- types, and the generators: [U], x x - x and [U] [U] - [U]
 abbrev play : ℕ → Bool
@@ -284,15 +292,21 @@ generated = All-from_recursion (InRationalIdeal (polynomials_of rules)) (generat
     rows = record { coefficient = pos 1; left = []; generator = 1; right = [] } ∷ [];
     combination = record { positive = omega (arith, ints); sum = record { at = λ w. refl } };
   },
-  (record {
-    denominator = pos 1;
-    rows = record { coefficient = pos 1; left = []; generator = 2; right = [] } ∷ [];
-    combination = record { positive = omega (arith, ints); sum = record { at = λ w. refl } };
-  }, (record {
-    denominator = pos 1;
-    rows = record { coefficient = pos 1; left = []; generator = 1; right = 0 ∷ [] } ∷ record { coefficient = negsuc 0; left = []; generator = 1; right = [] } ∷ [];
-    combination = record { positive = omega (arith, ints); sum = record { at = λ w. refl } };
-  }, tt)),
+  (
+    record {
+      denominator = pos 1;
+      rows = record { coefficient = pos 1; left = []; generator = 2; right = [] } ∷ [];
+      combination = record { positive = omega (arith, ints); sum = record { at = λ w. refl } };
+    },
+    (
+      record {
+        denominator = pos 1;
+        rows = record { coefficient = pos 1; left = []; generator = 1; right = 0 ∷ [] } ∷ record { coefficient = negsuc 0; left = []; generator = 1; right = [] } ∷ [];
+        combination = record { positive = omega (arith, ints); sum = record { at = λ w. refl } };
+      },
+      tt,
+    ),
+  ),
 )
 
 basis : IsBasis parts rules

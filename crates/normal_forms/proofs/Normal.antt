@@ -80,7 +80,7 @@ module _ {K : Type 0} (k : Field K) (o : Order) (g : Rules o) where
   scaled-lower d c i l r =
       scaled-words k d (λ u. l ++ (u ++ r)) (lifted k (k.minus (k.times c (k.part (g.rule i).leading))) (g.rule i).tail)
       ∙ ap (with_words (λ u. l ++ (u ++ r)))
-          (scaled-lifted k d (k.minus (k.times c (k.part (g.rule i).leading))) (g.rule i).tail ∙ ap (λ e. lifted k e (g.rule i).tail) inner)
+      (scaled-lifted k d (k.minus (k.times c (k.part (g.rule i).leading))) (g.rule i).tail ∙ ap (λ e. lifted k e (g.rule i).tail) inner)
     where
       inner : k.times d (k.minus (k.times c (k.part (g.rule i).leading))) ≡ k.minus (k.times (k.times d c) (k.part (g.rule i).leading))
       inner = times_minus k d (k.times c (k.part (g.rule i).leading)) ∙ ap k.minus (sym (k.times_assoc d c (k.part (g.rule i).leading)))
@@ -92,5 +92,5 @@ module _ {K : Type 0} (k : Field K) (o : Order) (g : Rules o) where
   normal_scaled d _ _ (step c w i l r n p q h e m rest) =
       subst (Normal ((k.times d c, w) ∷ scaled k d p)) (sym (scaled-append k d n q))
       (step (k.times d c) w i l r (scaled k d n) (scaled k d p) (scaled k d q) h e
-          (subst (λ z. Normal z (scaled k d n)) (scaled-lower d c i l r) (normal_scaled d (lower c i l r) n m))
-          (normal_scaled d p q rest))
+      (subst (λ z. Normal z (scaled k d n)) (scaled-lower d c i l r) (normal_scaled d (lower c i l r) n m))
+      (normal_scaled d p q rest))

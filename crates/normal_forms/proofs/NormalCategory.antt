@@ -166,6 +166,7 @@ module _ {K : Type 0} (k : Field K) (s : Ground k) (facts : Facts k s) where
         },
         go p e.1,
       )
+
   pub ranges : (u v : ℕ) (p : Form K) → Each ((Good k s) u v) p → Each (InRange k s) p
   ranges u v p a = each-weaker ((Good k s) u v) (InRange k s) (good_range u v) p a
 
@@ -180,6 +181,7 @@ module _ {K : Type 0} (k : Field K) (s : Ground k) (facts : Facts k s) where
 
   pub same_form : (p q : Form K) → IsForm k s.sorting p → IsForm k s.sorting q → Each (Irr k s) p → Each (Irr k s) q → (Like k s) p q → p ≡ q
   same_form p q f g i j e = form_unique k s.sorting p q f g (irreducible_unique k s.order s.rules facts.resolved p q i j e)
+
   pub words_at : (x y : ℕ) (a : NormalMap K) → IsArrow (normal_structure k s) x y a → Each ((Good k s) x y) a.form
   words_at x y a h = subst (λ z. Each ((Good k s) z y) a.form) h.source (subst (λ z. Each ((Good k s) a.source z) a.form) h.target h.arrow.words)
 
@@ -191,6 +193,7 @@ module _ {K : Type 0} (k : Field K) (s : Ground k) (facts : Facts k s) where
 
   target_object : (x y : ℕ) (a : NormalMap K) → IsArrow (normal_structure k s) x y a → y < s.quiver.objects
   target_object x y a h = subst (λ z. z < s.quiver.objects) h.target h.arrow.target_is_object
+
   unit_good : (v : ℕ) → v < s.quiver.objects → (Good k s) v v ((unit_word k s) v)
   unit_good v h = go (s.marked v) refl
     where
@@ -227,6 +230,7 @@ module _ {K : Type 0} (k : Field K) (s : Ground k) (facts : Facts k s) where
 
   pub negate_arrow : (x y : ℕ) (a : NormalMap K) → IsArrow (normal_structure k s) x y a → IsArrow (normal_structure k s) x y ((normal_structure k s).negate a)
   negate_arrow x y a ha = rebuild x y ((normal_structure k s).negate a) ha.source ha.target (source_object x y a ha) (target_object x y a ha) (form-collect k s.sorting (scaled k (k.minus k.one) a.form)) (each-collect k s.sorting (Irr k s) (scaled k (k.minus k.one) a.form) (each-scaled k (Irr k s) (k.minus k.one) a.form ha.arrow.irreducible)) (each-collect k s.sorting ((Good k s) x y) (scaled k (k.minus k.one) a.form) (each-scaled k ((Good k s) x y) (k.minus k.one) a.form (words_at x y a ha)))
+
   pub reduced_same : (p q : Form K) → Each (InRange k s) p → Each (InRange k s) q → (Like k s) p q → (reduced k s) p ≡ (reduced k s) q
   reduced_same p q a b e = same_form ((reduced k s) p) ((reduced k s) q) (form-collect k s.sorting ((Nf k s) p)) (form-collect k s.sorting ((Nf k s) q)) (reduced_irreducible p a) (reduced_irreducible q b) (cong_trans k s.order s.rules ((reduced k s) p) p ((reduced k s) q) (reduced_like p a) (cong_trans k s.order s.rules p q ((reduced k s) q) e (cong_sym k s.order s.rules ((reduced k s) q) q (reduced_like q b))))
 
@@ -260,6 +264,7 @@ module _ {K : Type 0} (k : Field K) (s : Ground k) (facts : Facts k s) where
 
       right_range : Each (InRange k s) (product k a.form ((reduced k s) BC))
       right_range = ranges w z _ (compose_good w y z a ((normal_structure k s).compose b c) ha (compose_arrow w x y b c hb hc))
+
   unit_front : (x y : ℕ) (c : K) (w : Word) → y < s.quiver.objects → s.marked y ≡ true → (Good k s) x y w → (Like k s) ((k.times k.one c, y ∷ w) ∷ []) ((c, w) ∷ [])
   unit_front x y c [] hy m a = absurd (true≢false (sym m ∙ ap s.marked (sym (eqb-true x y a.leads)) ∙ a.unit refl))
   unit_front x y c (b ∷ w) hy m a = cong_trans k s.order s.rules _ _ _ (cong_same k s.order s.rules _ _ (ap (λ z. (z, y ∷ b ∷ w) ∷ []) (k.times_comm k.one c))) (cong_trans k s.order s.rules _ _ _ (cong_behind k s.order s.rules facts.join empty_range w (facts.play_range w a.plays.1) _ _ (cong_scaled k s.order s.rules c _ _ (facts.unit_left y b hy m first.letter a.plays.0 first.target))) (cong_same k s.order s.rules _ _ (ap (λ z. (z, b ∷ w) ∷ []) (times_one k c))))
@@ -344,6 +349,7 @@ module _ {K : Type 0} (k : Field K) (s : Ground k) (facts : Facts k s) where
 
       range : Each (InRange k s) (product k a.form ((reduced k s) U))
       range = ranges x y _ (compose_good x x y a ((normal_structure k s).identity x) ha (identity_arrow x hx))
+
   pub collect_same : (p q : Form K) → Alike k p q → collect k s.sorting p ≡ collect k s.sorting q
   collect_same p q e = form_unique k s.sorting _ _ (form-collect k s.sorting p) (form-collect k s.sorting q) (alike_trans k (collect k s.sorting p) p (collect k s.sorting q) (alike-collect k s.sorting p) (alike_trans k p q (collect k s.sorting q) e (alike_sym k (collect k s.sorting q) q (alike-collect k s.sorting q))))
 
@@ -358,6 +364,7 @@ module _ {K : Type 0} (k : Field K) (s : Ground k) (facts : Facts k s) where
 
   addition_negate : (x y : ℕ) (a : NormalMap K) → IsArrow (normal_structure k s) x y a → (normal_structure k s).add a ((normal_structure k s).negate a) ≡ (normal_structure k s).zero x y
   addition_negate x y a ha = arrow_same _ _ ha.source ha.target (form_unique k s.sorting _ [] (form-collect k s.sorting (a.form ++ (negative k s) a.form)) tt (record { at = λ w. look-collect k s.sorting (a.form ++ (negative k s) a.form) w ∙ sum-append k (λ u. hit k u w) a.form ((negative k s) a.form) ∙ ap (λ z. k.plus (look k a.form w) z) (look-collect k s.sorting (scaled k (k.minus k.one) a.form) w ∙ sum-scaled k (λ u. hit k u w) (k.minus k.one) a.form ∙ minus_one k (look k a.form w)) ∙ k.plus_minus (look k a.form w) }))
+
   reduced_sum : (p q r : Form K) → Each (InRange k s) p → Each (InRange k s) q → Each (InRange k s) r → (Like k s) p (q ++ r) → (reduced k s) p ≡ (sum_form k s) ((reduced k s) q) ((reduced k s) r)
   reduced_sum p q r a b c e = reduced_is p ((sum_form k s) ((reduced k s) q) ((reduced k s) r)) a (form-collect k s.sorting ((reduced k s) q ++ (reduced k s) r)) (each-collect k s.sorting (Irr k s) ((reduced k s) q ++ (reduced k s) r) (each-append (Irr k s) ((reduced k s) q) ((reduced k s) r) (reduced_irreducible q b) (reduced_irreducible r c))) (cong_trans k s.order s.rules p (q ++ r) _ e (cong_trans k s.order s.rules (q ++ r) ((reduced k s) q ++ (reduced k s) r) _ (cong_append k s.order s.rules q ((reduced k s) q) r ((reduced k s) r) (cong_sym k s.order s.rules _ q (reduced_like q b)) (cong_sym k s.order s.rules _ r (reduced_like r c))) (alike _ _ (alike_sym k _ ((reduced k s) q ++ (reduced k s) r) (alike-collect k s.sorting ((reduced k s) q ++ (reduced k s) r))))))
 

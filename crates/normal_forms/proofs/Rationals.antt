@@ -11,8 +11,6 @@ use Prim.Native.Nat.{◌∣◌}
 use Rattle.normal_forms.proofs.Field.{Field, numbers_of}
 use Rattle.normal_forms.proofs.Homomorphisms.{IsHomomorphism}
 use Rattle.definitions.proofs.Integers.{+ℤ-*ℤ, *ℤ-+ℤ, *ℤ_assoc, *ℤ-neg_ℤ, *ℤ_zero}
-
-
 use Rattle.coef_int.specs.Divisor.{gcd_of}
 use Rattle.coef_int.proofs.Divisors.{gcd_of-IsGcd}
 use Rattle.normal_forms.specs.Fractions.{Fraction, IsLowest, is_zero, quotient, over as fraction_over, fraction_sum, fraction_product, fraction_negative, whole, part_of, fractions}
@@ -45,6 +43,7 @@ rational_same x y e f = go x.top y.top x.bottom y.bottom e f x.lowest y.lowest
   where
     go : (a c : ℤ) (b d : ℕ) → a ≡ c → b ≡ d → (p : IsLowest a b) (q : IsLowest c d) → made a b p ≡ made c d q
     go a c b d e f p = subst (λ z. (q : IsLowest z d) → made a b p ≡ made z d q) e (subst (λ z. (q : IsLowest a z) → made a b p ≡ made a z q) f (λ q. ap (made a b) (lowest_same a b p q)))
+
 unsigned_abs-neg : (a : ℤ) → unsigned_abs (neg_ℤ a) ≡ unsigned_abs a
 unsigned_abs-neg (pos zero) = refl
 unsigned_abs-neg (pos (suc n)) = refl
@@ -53,6 +52,7 @@ unsigned_abs-neg (negsuc n) = refl
 unsigned_abs-times : (a : ℤ) (n : ℕ) → unsigned_abs (a *ℤ pos n) ≡ unsigned_abs a * n
 unsigned_abs-times (pos m) n = refl
 unsigned_abs-times (negsuc m) n = ap unsigned_abs (neg_ℤ-*ℤ (pos (suc m)) (pos n)) ∙ unsigned_abs-neg (pos (suc m) *ℤ pos n)
+
 quotient_back : (a : ℤ) (g : ℕ) → g ∣ unsigned_abs a → pos g *ℤ quotient a g ≡ a
 quotient_back (pos n) g h = ap pos (mul-div_cancel' g h)
 quotient_back (negsuc n) g h = *ℤ-neg_ℤ (pos g) (pos (suc n / g)) ∙ ap (λ z. neg_ℤ (pos z)) (mul-div_cancel' g h)
@@ -106,6 +106,7 @@ over_value a (suc b) h = from (unsigned_abs (gcd_of a (pos (suc b)))) (gcd_of-Is
 
 pub self_value : (x : Rational) → Value x x.top x.bottom
 self_value x = record { positive = x.lowest.positive; cross = refl }
+
 cancel : (n : ℕ) (a b : ℤ) → 0 < n → a *ℤ pos n ≡ b *ℤ pos n → a ≡ b
 cancel n a b h e = apart a b (*ℤ_cancel n (a +ℤ neg_ℤ b) h (*ℤ_comm (pos n) (a +ℤ neg_ℤ b) ∙ +ℤ-*ℤ a (neg_ℤ b) (pos n) ∙ ap₂ ◌+ℤ◌ e (neg_ℤ-*ℤ b (pos n)) ∙ +ℤ_invr (b *ℤ pos n)))
   where
@@ -148,6 +149,7 @@ pos_times x y p q = grind arith
 -- enlarged
 pub value_times : (x : Rational) (a : ℤ) (b n : ℕ) → 0 < n → Value x a b → Value x (a *ℤ pos n) (b * n)
 value_times x a b n h v = record { positive = pos_times b n v.positive h; cross = sym (*ℤ_assoc x.top (pos b) (pos n)) ∙ ap (λ z. z *ℤ pos n) v.cross ∙ *ℤ_assoc a (pos x.bottom) (pos n) ∙ ap (λ z. a *ℤ z) (*ℤ_comm (pos x.bottom) (pos n)) ∙ sym (*ℤ_assoc a (pos n) (pos x.bottom)) }
+
 pub rational_plus : Rational → Rational → Rational
 rational_plus x y = over (x.top *ℤ pos y.bottom +ℤ y.top *ℤ pos x.bottom) (x.bottom * y.bottom)
 
@@ -192,6 +194,7 @@ times_value x y a c b d v w = record { positive = pos_times b d v.positive w.pos
 pub minus_value : (x : Rational) (a : ℤ) (b : ℕ) → Value x a b → Value (rational_minus x) (neg_ℤ a) b
 unfolding rational_minus
 minus_value x a b v = record { positive = v.positive; cross = neg_ℤ-*ℤ x.top (pos b) ∙ ap neg_ℤ v.cross ∙ sym (neg_ℤ-*ℤ a (pos x.bottom)) }
+
 pub rational_none : Rational
 rational_none = made (pos 0) 1 zero_in_lowest
 

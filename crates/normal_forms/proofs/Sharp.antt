@@ -18,7 +18,7 @@ use Rattle.word_orders.specs.Orders.{Order}
 use Rattle.confluence.proofs.Meets.{Rules, poly}
 use Rattle.normal_forms.proofs.FieldLaws.{none_plus, minus_one, none_times, plus_times, minus_unique, minus_times, int_none, int_cancel}
 use Rattle.normal_forms.specs.Forms.{Form, with_words}
-use Rattle.normal_forms.proofs.Forms.{ Each, hit, look, scaled, sum-append, sum-scaled, Alike}
+use Rattle.normal_forms.proofs.Forms.{Each, hit, look, scaled, sum-append, sum-scaled, Alike}
 use Rattle.normal_forms.proofs.Collect.{look-collect, alike-collect, form-collect, form_unique}
 use Rattle.normal_forms.proofs.Congruence.{lifted, look-lifted, row, AnyRow, Cong, alike, rows, cong_refl, cong_same, cong_left, cong_trans, cong_append, cong_scaled, cong_sym, cong_none_span}
 use Rattle.normal_forms.proofs.Products.{product}
@@ -131,6 +131,7 @@ module _ {K : Type 0} (k : Field K) (s : Ground k) (facts : Facts k s) where
 
   pub normal_represents : Represents (S k s) s.quiver (normal_representation k s)
   normal_represents = record { objects = λ v h. h; arrows = letter_is_arrow; identities = letter_identity }
+
   lookup : (p q : Form K) (w : Word) → look k (p ++ q) w ≡ k.plus (look k p w) (look k q w)
   lookup p q w = sum-append k (λ u. hit k u w) p q
 
@@ -158,6 +159,7 @@ module _ {K : Type 0} (k : Field K) (s : Ground k) (facts : Facts k s) where
 
   pub normal_cancels : (n : ℕ) → 0 < n → Cancels (S k s) (pos n)
   normal_cancels n h = record { at = λ a m e. arrow_same a _ refl refl (form_unique k s.sorting a.form [] m.sorted tt (record { at = λ w. int_cancel k n (look k a.form w) h (sym (look-natural n a w) ∙ ap (λ z. look k z.form w) e) })) }
+
   path_arrow : (u v a : ℕ) (w : Word) → Good k s u v (a ∷ w) → path_value (S k s) (normal_representation k s) a w ≡ (word_arrow k s) u v (a ∷ w)
   path_arrow u v a [] h = ap (λ b. cond b ((word_arrow k s) (source s.quiver a) (target s.quiver a) (a ∷ [])) (cond (ltb a s.quiver.objects) ((S k s).identity a) ((S k s).zero (source s.quiver a) (target s.quiver a)))) h.plays.0 ∙ arrow_same _ _ (sym (eqb-true u (source s.quiver a) first.rest)) first.target refl
     where
@@ -185,6 +187,7 @@ module _ {K : Type 0} (k : Field K) (s : Ground k) (facts : Facts k s) where
 
       product_good : Each (Good k s u (target s.quiver a)) (product k (reduced k s A) (reduced k s W))
       product_good = compose_words k s facts u (source s.quiver a) (target s.quiver a) (reduced k s A) (reduced k s W) (reduced_good k s facts _ _ A (letter_good a first.letter h.plays.0, tt)) (reduced_good k s facts _ _ W (rest, tt))
+
   -- the terms whose words are paths of the signature
   abbrev kept : ℕ → ℕ → List (ℤ × List ℕ) → List (ℤ × List ℕ)
   kept u v [] = []

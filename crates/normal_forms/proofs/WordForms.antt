@@ -116,7 +116,7 @@ module _ {K : Type 0} (k : Field K) (letters : ℕ) (compare : Compare) (rank : 
     lower_normal [] less = done
     lower_normal (t ∷ p) less = normal-append k o g ((k.times (k.minus (k.times k.one (k.part q))) (k.int t.0), L) ∷ []) _ _ _
         (subst (λ c. Normal k o g ((c, L) ∷ []) (scaled k d (form_where (numbers_of k) below rules (below L M) (form L)))) (factor q t.0)
-            (normal_scaled k o g d ((k.one, L) ∷ []) _ (taken ((k.one, L) ∷ []) (below L M) (test_from_below letters compare L M (less_below letters compare rank laws L M less.0)) (form L) (each L))))
+        (normal_scaled k o g d ((k.one, L) ∷ []) _ (taken ((k.one, L) ∷ []) (below L M) (test_from_below letters compare L M (less_below letters compare rank laws L M less.0)) (form L) (each L))))
         (lower_normal p less.1)
       where
         L : Word
