@@ -1,12 +1,12 @@
 -- A pass over rules: those before the first one without the property have it.
-use Rattle.std.proofs.Common.{◌≡◌, ◌≢◌, ◌⊎◌, inl, inr, ℕ, suc, ◌+◌, ◌<◌, ◌≤◌, pos, Bool, true, false, not, ◌&&◌, ◌||◌, cond, nat_eq, nat_lt, List, [], ◌∷◌, length, map, slice_get, Option, Some, None, IfSome, IfNone, refl, sym, ap, ap₂, ◌∙◌, subst, arith, true≢false, lt-ltb}
+use Rattle.std.proofs.Common.{◌≡◌, ◌≢◌, ◌⊎◌, inl, inr, ℕ, suc, ◌+◌, ◌<◌, ◌≤◌, pos, Bool, true, false, not, ◌&&◌, ◌||◌, cond, nat_eq, List, [], ◌∷◌, length, slice_get, Option, Some, None, IfSome, IfNone, refl, sym, ap, ap₂, ◌∙◌, subst, arith, true≢false, lt-ltb}
 use Rattle.std.specs.Prelude.{is_some, nat_le}
 use Rattle.definitions.specs.Quiver.{star}
 use Rattle.std.proofs.lemmas.Bool.{and_parts, and_from, cases_lt}
 use Rattle.std.proofs.lemmas.List.Elements.{recursion_from_All}
 use Rattle.std.proofs.lemmas.Option.{same_Some, slice_get-get_or}
 use Rattle.std.specs.List.{All, AllByRecursion, list_all, list_any}
-use Rattle.definitions.specs.Poly.{Word, Term, coefficient_of}
+use Rattle.definitions.specs.Poly.{Term}
 use Rattle.word_core.specs.declared.letter.Object.{Object}
 use Rattle.nc_polynomial.specs.declared.poly.Poly.{Poly}
 use Rattle.nc_polynomial.proofs.Distinct.{distinct-descending, words_listed}
@@ -39,7 +39,8 @@ module _ (P : Rule → Type 0) (rules : List Rule) where
     where
       go : (place < n) ⊎ (n ≤ place) → P f
       go (inr earlier) = passed n f is earlier
-      go (inl later) = let last : n ≡ suc place = omega (arith, within, later) in subst P (same_Some g f (sym here ∙ subst (λ m. rule_at rules m ≡ Some f) last is)) holds
+      go (inl later) = let last : n ≡ suc place = omega (arith, within, later) in subst P
+          (same_Some g f (sym here ∙ subst (λ m. rule_at rules m ≡ Some f) last is)) holds
 
   pub all_passed : (place : ℕ) → length rules ≤ place → Passed place → All P rules
   all_passed place whole passed = λ k d inside. passed (suc k) _ (slice_get-get_or rules k d inside) (omega (arith, whole, inside))
@@ -64,11 +65,13 @@ module _ (play : ℕ → Bool) where
   all_words (t ∷ p) each = and_from (list_all play t.1) (list_all (λ t. list_all play t.1) p) each.0 (all_words p each.1)
 
   pub plays_from_test : (p : Poly) (b : Bool) → b ≡ list_all (λ t. list_all play t.1) p.terms → b ≡ true → IsPolyInPlay play p.terms
-  plays_from_test p b is holds = record { at = λ w some. words_with_coefficients (λ w. list_all play w ≡ true) p.terms (each_word p.terms (sym is ∙ holds)) w some }
+  plays_from_test p b is holds =
+      record { at = λ w some. words_with_coefficients (λ w. list_all play w ≡ true) p.terms (each_word p.terms (sym is ∙ holds)) w some }
 
   pub test_from_plays : (p : Poly) (b : Bool) → b ≡ list_all (λ t. list_all play t.1) p.terms → b ≡ false → IsPolyInPlay play p.terms → ⊥
   test_from_plays p b is fails plays = true≢false (sym (is ∙ all_words p.terms (words_listed (λ w. list_all play w ≡ true) p.terms
-      (distinct-descending p.terms (recursion_from_IsDescending p.terms p.canonical.shaped.descending)) (recursion_from_All (λ (t : Term). t.0 ≢ pos 0) p.terms p.canonical.shaped.nonzero) plays.at)) ∙ fails)
+      (distinct-descending p.terms (recursion_from_IsDescending p.terms p.canonical.shaped.descending))
+      (recursion_from_All (λ (t : Term). t.0 ≢ pos 0) p.terms p.canonical.shaped.nonzero) plays.at)) ∙ fails)
 
 -- the letter of an object is in play where the object is marked
 any_number : (a : ℕ) (marked : List Object) → list_any (λ v. nat_eq a v.0) marked ≡ list_any (nat_eq a) (numbers marked)
@@ -78,8 +81,18 @@ any_number a (v ∷ marked) = ap (λ b. nat_eq a v.0 || b) (any_number a marked)
 pub object_in_play : (ds : List Declaration) (starred : Bool) (marked : List Object) (a : ℕ) (b : Bool) → a < letter_count ds → a < object_count ds
     → b ≡ list_any (λ v. nat_eq a v.0) marked → b ≡ is_in_play ds starred (numbers marked) a
 object_in_play ds starred marked a b letter object is =
-    is ∙ any_number a marked ∙ sym (ap₂ (λ x y. x && cond y (list_any (nat_eq a) (numbers marked)) (starred || nat_le a (star (quiver_of ds) a))) (lt-ltb a (letter_count ds) letter) (lt-ltb a (object_count ds) object))
+    is ∙ any_number a marked ∙ sym
+    (ap₂ (λ x y. x && cond y (list_any (nat_eq a) (numbers marked)) (starred || nat_le a (star (quiver_of ds) a))) (lt-ltb a (letter_count ds) letter)
+    (lt-ltb a (object_count ds) object))
 
 -- both passes
-pub typed_in_play : (p : Parts) (rules : List Rule) → All (IsTypedIn p) rules → All (PlaysIn p) rules → AreTypedInPlay (quiver_of p.quiver) (is_in_play p.quiver p.starred (numbers p.marked)) rules
-typed_in_play p rules typed plays = λ k d inside. record { source = (typed k d inside).source; target = (typed k d inside).target; typed = (typed k d inside).typed; in_play = plays k d inside }
+pub typed_in_play : (p : Parts) (rules : List Rule) → All (IsTypedIn p) rules → All (PlaysIn p) rules
+    → AreTypedInPlay (quiver_of p.quiver) (is_in_play p.quiver p.starred (numbers p.marked)) rules
+typed_in_play p rules typed plays =
+    λ k d inside. record {
+      source = (typed k d inside).source;
+      target = (typed k d inside).target;
+      typed = (typed k d inside).typed;
+      in_play =
+          plays k d inside;
+    }

@@ -1,7 +1,6 @@
 -- The normal forms of a problem's rules.
-use Rattle.std.proofs.Common.{◌≡◌, ℕ, zero, suc, ◌≤◌, Bool, true, ◌&&◌, List, [], ◌∷◌, length, get_or, map, refl, sym, ap, ◌∙◌, subst, arith}
+use Rattle.std.proofs.Common.{◌≡◌, ℕ, zero, suc, ◌≤◌, Bool, true, List, [], ◌∷◌, length, arith}
 use Rattle.std.specs.List.{All, AllByRecursion, AllZip, list_all}
-use Rattle.std.proofs.lemmas.Bool.{and_from}
 use Rattle.std.proofs.lemmas.List.{length-map}
 use Rattle.std.proofs.lemmas.List.Elements.{All-from_recursion, recursion_from_All}
 use Rattle.definitions.specs.Poly.{Term, SamePolynomial}
@@ -36,10 +35,12 @@ ideal_same : (generators : List (List Term)) (f g : List Term) → SamePolynomia
 ideal_same generators f g same inside = record {
   denominator = inside.denominator;
   rows = inside.rows;
-  combination = record { positive = inside.combination.positive; sum = Same_trans _ _ _ inside.combination.sum (SamePolynomial-multiple inside.denominator f g same) };
+  combination =
+      record { positive = inside.combination.positive; sum = Same_trans _ _ _ inside.combination.sum (SamePolynomial-multiple inside.denominator f g same) };
 }
 
-ideals_along : (generators fs gs : List (List Term)) → AllZip SamePolynomial fs gs → AllByRecursion (InRationalIdeal generators) fs → AllByRecursion (InRationalIdeal generators) gs
+ideals_along : (generators fs gs : List (List Term)) → AllZip SamePolynomial fs gs → AllByRecursion (InRationalIdeal generators) fs
+    → AllByRecursion (InRationalIdeal generators) gs
 ideals_along generators [] [] same each = tt
 ideals_along generators [] (g ∷ gs) same each = absurd same
 ideals_along generators (f ∷ fs) [] same each = absurd same
@@ -49,7 +50,8 @@ module _ (problem : Problem) (rules : List Rule)
     (are_rules : All (IsRule (letter_count problem.parts.quiver) (asked_cmp problem.parts.order)) rules)
     (resolved : Resolved (letter_count problem.parts.quiver) (asked_cmp problem.parts.order) rules)
     (generated : All (InRationalIdeal (polynomials_of rules)) (polynomials problem.generators))
-    (typed : AreTypedInPlay (quiver_of problem.parts.quiver) (is_in_play problem.parts.quiver problem.parts.starred (numbers problem.parts.marked)) rules) where
+    (typed : AreTypedInPlay (quiver_of problem.parts.quiver)
+    (is_in_play problem.parts.quiver problem.parts.starred (numbers problem.parts.marked)) rules) where
   pub basis : IsBasis problem.parts rules
   basis = record {
     posed = problem.posed;
@@ -57,7 +59,8 @@ module _ (problem : Problem) (rules : List Rule)
     resolved = resolved;
     typed = typed;
     generated = All-from_recursion (InRationalIdeal (polynomials_of rules)) (generators_in problem.parts)
-        (ideals_along (polynomials_of rules) (polynomials problem.generators) (generators_in problem.parts) problem.closed.same (recursion_from_All (InRationalIdeal (polynomials_of rules)) (polynomials problem.generators) generated));
+        (ideals_along (polynomials_of rules) (polynomials problem.generators) (generators_in problem.parts) problem.closed.same
+        (recursion_from_All (InRationalIdeal (polynomials_of rules)) (polynomials problem.generators) generated));
   }
 
   abbrev play : ℕ → Bool
@@ -67,24 +70,37 @@ module _ (problem : Problem) (rules : List Rule)
   tested [] each = tt
   tested (t ∷ f) each = (plays_from_test play t.1 each.0, tested f each.1)
 
-  all_tested : (fs : List (List Term)) → AllByRecursion (λ f. AllByRecursion (λ t. list_all play t.1 ≡ true) f) fs → AllByRecursion (Plays problem.parts rules basis) fs
+  all_tested : (fs : List (List Term)) → AllByRecursion (λ f. AllByRecursion (λ t. list_all play t.1 ≡ true) f) fs
+      → AllByRecursion (Plays problem.parts rules basis) fs
   all_tested [] each = tt
   all_tested (f ∷ fs) each = (tested f each.0, all_tested fs each.1)
 
-  claim_plays : (claims : List Poly) → AllByRecursion (HasLettersInPlay problem.parts.quiver problem.parts.starred (numbers problem.parts.marked)) claims → AllByRecursion (Plays problem.parts rules basis) (polynomials claims)
+  claim_plays : (claims : List Poly) → AllByRecursion (HasLettersInPlay problem.parts.quiver problem.parts.starred (numbers problem.parts.marked)) claims
+      → AllByRecursion (Plays problem.parts rules basis) (polynomials claims)
   claim_plays [] each = tt
-  claim_plays (f ∷ claims) each = (terms f.terms (recursion_from_All (λ (t : Term). All (IsInPlay problem.parts.quiver problem.parts.starred (numbers problem.parts.marked)) t.1) f.terms each.0), claim_plays claims each.1)
+  claim_plays (f ∷ claims) each = (
+    terms f.terms
+        (recursion_from_All (λ (t : Term). All (IsInPlay problem.parts.quiver problem.parts.starred (numbers problem.parts.marked)) t.1) f.terms each.0),
+    claim_plays claims each.1,
+  )
     where
-      terms : (p : List Term) → AllByRecursion (λ (t : Term). All (IsInPlay problem.parts.quiver problem.parts.starred (numbers problem.parts.marked)) t.1) p → Plays problem.parts rules basis p
+      terms : (p : List Term) → AllByRecursion (λ (t : Term). All (IsInPlay problem.parts.quiver problem.parts.starred (numbers problem.parts.marked)) t.1) p
+          → Plays problem.parts rules basis p
       terms [] each = tt
-      terms (t ∷ p) each = (recursion_from_All (IsInPlay problem.parts.quiver problem.parts.starred (numbers problem.parts.marked)) t.1 each.0, terms p each.1)
+      terms (t ∷ p) each =
+          (recursion_from_All (IsInPlay problem.parts.quiver problem.parts.starred (numbers problem.parts.marked)) t.1 each.0, terms p each.1)
 
   pub problem_is_sharp : (claim : ℕ) → 1 ≤ claim → claim ≤ length problem.parts.claims → (InRationalIdeal (polynomials_of rules) (claim_at problem claim) → ⊥)
       → SharpMeans problem.parts rules (claim_at problem claim)
   problem_is_sharp claim first last outside =
       sharp_means problem.parts rules basis (all_tested (generators_in problem.parts) (generator_words problem.parts problem.posed)) (claim_at problem claim)
-      (numbered (Plays problem.parts rules basis) (polynomials problem.parts.claims) (claim_plays problem.parts.claims (recursion_from_All (HasLettersInPlay problem.parts.quiver problem.parts.starred (numbers problem.parts.marked)) problem.parts.claims problem.posed.claim_letters)) claim first inside)
-      (numbered (HasSignature (quiver_of problem.parts.quiver)) (polynomials problem.parts.claims) (claims_have_signatures problem.parts problem.posed) claim first inside)
+      (numbered (Plays problem.parts rules basis) (polynomials problem.parts.claims)
+      (claim_plays problem.parts.claims
+      (recursion_from_All
+      (HasLettersInPlay problem.parts.quiver problem.parts.starred
+      (numbers problem.parts.marked)) problem.parts.claims problem.posed.claim_letters)) claim first inside)
+      (numbered (HasSignature (quiver_of problem.parts.quiver)) (polynomials problem.parts.claims)
+      (claims_have_signatures problem.parts problem.posed) claim first inside)
       outside
     where
       inside : claim ≤ length (polynomials problem.parts.claims)

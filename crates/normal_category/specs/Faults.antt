@@ -7,6 +7,7 @@ use Rattle.rule_reduce.specs.RuleLists.{rule_at}
 use Rattle.rule_reduce.specs.KeptWords.{IsTypedRule, IsPolyInPlay}
 use Rattle.adjoint_rules.specs.declared.parts.Parts.{Parts}
 use Rattle.adjoint_rules.specs.Problem.{numbers, is_in_play}
+use Rattle.completion_laws.specs.Typed.{AreTypedInPlay}
 use Rattle.normal_category.specs.declared.fault.SharpFault.{SharpFault}
 use Rattle.normal_category.specs.declared.fault.SharpFault.TheVariants as fault
 
@@ -24,6 +25,10 @@ IsTypedIn p g = IsTypedRule (quiver_of p.quiver) g
 -- all letters of its words are in play
 abbrev pub PlaysIn : Parts → Rule → Type 0
 PlaysIn p g = IsPolyInPlay (is_in_play p.quiver p.starred (numbers p.marked)) g.poly.terms
+
+-- both, of each rule
+abbrev pub AreSharp : Parts → List Rule → Type 0
+AreSharp p rules = AreTypedInPlay (quiver_of p.quiver) (is_in_play p.quiver p.starred (numbers p.marked)) rules
 
 -- The fault names the least rule that isn't typed; where all are, the least that has a letter out of play.
 abbrev pub Explains : Parts → List Rule → SharpFault → Type 0

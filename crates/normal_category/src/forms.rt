@@ -1,19 +1,18 @@
 //! The category of normal forms.
 
-ghost use Rattle.std.specs.Prelude.{◌≡◌, ◌≤◌, ◌↔◌, ℕ, length, IfOk, IfErr, IsOk, OnOk};
+ghost use Rattle.std.specs.Prelude.{◌≡◌, ◌≤◌, ◌↔◌, length, IfOk, IfErr, IsOk, OnOk};
 ghost use Rattle.std.specs.List.{All};
 ghost use Rattle.definitions.specs.Combination.{InRationalIdeal};
 ghost use Rattle.word_orders.specs.Specified.{asked_cmp};
-ghost use Rattle.quiver.specs.Declarations.{letter_count, quiver_of};
+ghost use Rattle.quiver.specs.Declarations.{letter_count};
 ghost use Rattle.rule_reduce.specs.RuleLists.{IsRule, polynomials_of};
 ghost use Rattle.ambiguities.specs.Resolved.{Resolved};
-ghost use Rattle.adjoint_rules.specs.Problem.{numbers, is_in_play, polynomials};
-ghost use Rattle.completion_laws.specs.Typed.{AreTypedInPlay};
+ghost use Rattle.adjoint_rules.specs.Problem.{polynomials};
 ghost use Rattle.claim_decider.specs.Decided.{claim_at};
 ghost use Rattle.normal_forms.specs.NormalForms.{normal_forms};
 ghost use Rattle.normal_forms.specs.SharpMeans.{SharpMeans};
 ghost use Rattle.normal_forms.proofs.Basis.{normal_forms_laws};
-ghost use Rattle.normal_category.specs.Faults.{Explains};
+ghost use Rattle.normal_category.specs.Faults.{AreSharp, Explains};
 
 use crate::SharpFault;
 use crate::map::NormalMap;
@@ -56,7 +55,7 @@ pub fn normal_forms<'a>(
     requires first { 1 ≤ claim }
     requires last { claim ≤ length problem.now.parts.claims }
     requires outside { InRationalIdeal (polynomials_of rules.now.rules) (claim_at problem.now claim) → ⊥ }
-    ensures typed { IsOk result ↔ AreTypedInPlay (quiver_of problem.now.parts.quiver) (is_in_play problem.now.parts.quiver problem.now.parts.starred (numbers problem.now.parts.marked)) rules.now.rules }
+    ensures typed { IsOk result ↔ AreSharp problem.now.parts rules.now.rules }
     ensures sharp { OnOk result (SharpMeans problem.now.parts rules.now.rules (claim_at problem.now claim)) }
     ensures problem { IfOk result (λ c. c.problem.now ≡ problem.now) }
     ensures rules { IfOk result (λ c. c.rules.now ≡ rules.now) }

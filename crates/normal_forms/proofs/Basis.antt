@@ -1,14 +1,14 @@
 -- The category of the normal forms of resolved rules, and what is zero in it.
-use Rattle.std.proofs.Common.{◌≡◌, ◌≢◌, ℕ, ◌<◌, pos, Bool, true, false, not, List, [], ◌∷◌, ◌++◌, Some, refl, sym, ap, ◌∙◌, subst, arith, true≢false, ltb, ltb-true}
+use Rattle.std.proofs.Common.{◌≡◌, ◌≢◌, ℕ, ◌<◌, pos, Bool, true, not, List, [], ◌∷◌, ◌++◌, Some, refl, sym, ap, ◌∙◌, subst, arith, true≢false, ltb, ltb-true}
 use Rattle.std.proofs.lemmas.Bool.{and_parts}
 use Rattle.std.proofs.lemmas.Bool.Decides.{Decides-int_eq}
 use Rattle.std.proofs.lemmas.Int.{ints}
 use Rattle.std.specs.Ordering.{int_eq}
-use Rattle.std.proofs.lemmas.List.Elements.{All-cons, All-nil, All-append, recursion_from_All}
-use Rattle.std.specs.List.{All, AllByRecursion, list_all}
+use Rattle.std.proofs.lemmas.List.Elements.{All-cons, All-nil, recursion_from_All}
+use Rattle.std.specs.List.{AllByRecursion, list_all}
 use Rattle.definitions.specs.Poly.{Word, Term, word_eq, coefficient_of}
 use Rattle.definitions.specs.Category.{PreadditiveLaws}
-use Rattle.definitions.specs.Quiver.{Quiver, IsQuiver, letters, leads, is_path, source, IsTyped}
+use Rattle.definitions.specs.Quiver.{Quiver, IsQuiver, letters, leads, is_path, source}
 use Rattle.definitions.specs.Combination.{InRationalIdeal}
 use Rattle.definitions.specs.Soundness.{HasSignature, HasValueZero, HasValueZeroAt}
 use Rattle.definitions.proofs.Paths.{step}
@@ -23,31 +23,28 @@ use Rattle.quiver.proofs.Counts.{letters-quiver_of}
 use Rattle.rule_reduce.specs.declared.rule.Rule.{Rule}
 use Rattle.rule_reduce.specs.RuleLists.{IsRule, rule_at, polynomials_of}
 use Rattle.rule_reduce.proofs.Numbers.{rule_at-all}
-use Rattle.rule_reduce.proofs.WordsKept.{words_with_coefficients}
 use Rattle.adjoint_rules.specs.declared.parts.Parts.{Parts}
-use Rattle.adjoint_rules.specs.Problem.{IsPosed, numbers, is_in_play, polynomials, generators_in}
+use Rattle.adjoint_rules.specs.Problem.{numbers, is_in_play, polynomials, generators_in}
 use Rattle.adjoint_rules.proofs.Generators.{posed_quiver, marked_are_objects, assumptions_have_signatures}
 use Rattle.completion_laws.specs.Typed.{IsTypedInPlay}
 use Rattle.confluence.proofs.Led.{HasLed, led_at, polys_of, Comes}
 use Rattle.confluence.proofs.LedRules.{led_of, led_is, leds_of, polys_of-leds, led_at-is, rule_of_number, leds_are}
 use Rattle.confluence.proofs.Spans.{Span}
-use Rattle.confluence.proofs.TermWords.{AllWords}
 use Rattle.confluence.proofs.Parts.{parted, is_lower, all_words_filtered}
-use Rattle.confluence.proofs.Resolve.{everything, InRange}
+use Rattle.confluence.proofs.Resolve.{everything}
 use Rattle.confluence.proofs.Resolved.{all_resolved}
 use Rattle.confluence.proofs.ResolvedOf.{meetings_all}
 use Rattle.confluence.proofs.FreeRows.{Free, ideal_span, free_span}
 use Rattle.confluence.proofs.SumRows.{Numbered, comes_from_span}
 use Rattle.normal_forms.specs.Descents.{all_grounded}
-use Rattle.normal_forms.specs.Maps.{NormalMap}
 use Rattle.normal_forms.specs.NormalForms.{IsBasis, normal_forms, forms_representation}
-use Rattle.normal_forms.specs.SharpMeans.{HasOtherForm, SharpMeans}
-use Rattle.normal_forms.proofs.Rationals.{Rational, rationals}
+use Rattle.normal_forms.specs.SharpMeans.{SharpMeans}
+use Rattle.normal_forms.proofs.Rationals.{rationals}
 use Rattle.normal_forms.proofs.Congruence.{AnyRow}
 use Rattle.normal_forms.proofs.WordForms.{normal_form_is}
 use Rattle.normal_forms.proofs.NormalCategory.{AllPlay, IsTypedRule, Facts, normal_laws}
 use Rattle.normal_forms.proofs.Sharp.{normal_representation, normal_represents, normal_cancels, ideal_zero, zero_ideal}
-use Rattle.normal_forms.proofs.Stated.{Conditions, facts_of}
+use Rattle.normal_forms.proofs.Stated.{facts_of}
 use Rattle.normal_forms.proofs.Images.{laws_from_premise, image_laws, image_cancels, image_represents, image_value_zero, zero_at_under}
 use Rattle.normal_forms.proofs.Plain.{plain, exact, word_order, word_rules, exact_ground, exact_forms, letter_plain, is_image}
 
@@ -88,7 +85,8 @@ module _ (p : Parts) (rules : List Rule) (b : IsBasis p rules) where
 
   play_over : (w : Word) → AllPlay play w → IsOver (letter_count p.quiver) w
   play_over [] each = All-nil (λ a. a < letter_count p.quiver)
-  play_over (a ∷ w) each = All-cons (λ c. c < letter_count p.quiver) a w (ltb-true a (letter_count p.quiver) (and_parts (ltb a (letter_count p.quiver)) _ each.0).0) (play_over w each.1)
+  play_over (a ∷ w) each = All-cons (λ c. c < letter_count p.quiver) a w
+      (ltb-true a (letter_count p.quiver) (and_parts (ltb a (letter_count p.quiver)) _ each.0).0) (play_over w each.1)
 
   -- the rules are typed and in play
   rule_typed : (i : ℕ) → HasLed (leds_of rules) i → IsTypedRule q play (parted (led_at (leds_of rules) i))
@@ -100,7 +98,8 @@ module _ (p : Parts) (rules : List Rule) (b : IsBasis p rules) where
         target = is.target;
         lead_path = is.typed.at g.lead lead_occurs;
         lead_plays = plays_from_test play g.lead (is.in_play.at g.lead lead_occurs);
-        tail = all_words_filtered (λ w. (is_path q is.source is.target w ≡ true) × AllPlay play w) (is_lower (led_of g)) g.poly.terms (λ w lower. let some = occurs w lower in (is.typed.at w some, plays_from_test play w (is.in_play.at w some)));
+        tail = all_words_filtered (λ w. (is_path q is.source is.target w ≡ true) × AllPlay play w) (is_lower (led_of g)) g.poly.terms
+            (λ w lower. let some = occurs w lower in (is.typed.at w some, plays_from_test play w (is.in_play.at w some)));
       })
         where
           is : IsTypedInPlay q play g.poly.terms
@@ -108,7 +107,8 @@ module _ (p : Parts) (rules : List Rule) (b : IsBasis p rules) where
 
           lead_occurs : coefficient_of g.poly.terms g.lead ≢ pos 0
           lead_occurs zero =
-              let led = led_is (letter_count p.quiver) (asked_cmp p.order) order_rank (asked_cmp-admissible (letter_count p.quiver) p.order) g (rule_at-all (IsRule (letter_count p.quiver) (asked_cmp p.order)) rules i g numbered b.are_rules) in
+              let led = led_is (letter_count p.quiver) (asked_cmp p.order) order_rank (asked_cmp-admissible (letter_count p.quiver) p.order) g
+              (rule_at-all (IsRule (letter_count p.quiver) (asked_cmp p.order)) rules i g numbered b.are_rules) in
               let none : pos (led_of g).leading ≡ pos 0 = sym led.at_lead ∙ zero in
               absurd (above (led_of g).leading led.positive none)
             where
@@ -121,16 +121,20 @@ module _ (p : Parts) (rules : List Rule) (b : IsBasis p rules) where
               true≢false (sym parts.1 ∙ ap not ((Decides-int_eq (coefficient_of g.poly.terms w) (pos 0)).1 zero))
 
   -- what is in the rational ideal is a sum of rows over the rules
-  ideal_rows : (f : List Term) → HasSignature q f → InRationalIdeal (polynomials_of rules) f → Span (AnyRow (word_order p rules b.are_rules) (word_rules p rules b.are_rules)) (coefficient_of f)
+  ideal_rows : (f : List Term) → HasSignature q f → InRationalIdeal (polynomials_of rules) f
+      → Span (AnyRow (word_order p rules b.are_rules) (word_rules p rules b.are_rules)) (coefficient_of f)
   ideal_rows f typed inside =
-      free_span (word_order p rules b.are_rules) (leds_of rules) (leds_are (letter_count p.quiver) (asked_cmp p.order) order_rank (asked_cmp-admissible (letter_count p.quiver) p.order) rules b.are_rules) f
+      free_span (word_order p rules b.are_rules) (leds_of rules)
+      (leds_are (letter_count p.quiver) (asked_cmp p.order) order_rank (asked_cmp-admissible (letter_count p.quiver) p.order) rules b.are_rules) f
       (λ w some. path_range typed.source typed.target w (typed.typed.at w some))
       (subst (λ ps. Span (Numbered ps Free) (coefficient_of f)) (sym (polys_of-leds rules)) (ideal_span (polynomials_of rules) f inside))
 
   -- and back
-  rows_ideal : (f : List Term) → Span (AnyRow (word_order p rules b.are_rules) (word_rules p rules b.are_rules)) (coefficient_of f) → InRationalIdeal (polynomials_of rules) f
+  rows_ideal : (f : List Term) → Span (AnyRow (word_order p rules b.are_rules) (word_rules p rules b.are_rules)) (coefficient_of f)
+      → InRationalIdeal (polynomials_of rules) f
   rows_ideal f rows = subst (λ ps. InRationalIdeal ps f) (polys_of-leds rules) (from_comes
-      (comes_from_span (word_order p rules b.are_rules) (leds_of rules) (leds_are (letter_count p.quiver) (asked_cmp p.order) order_rank (asked_cmp-admissible (letter_count p.quiver) p.order) rules b.are_rules)
+      (comes_from_span (word_order p rules b.are_rules) (leds_of rules)
+      (leds_are (letter_count p.quiver) (asked_cmp p.order) order_rank (asked_cmp-admissible (letter_count p.quiver) p.order) rules b.are_rules)
       (everything (word_order p rules b.are_rules)) Free (λ u range any. tt) f rows))
     where
       from_comes : Comes (polys_of (leds_of rules)) Free f → InRationalIdeal (polys_of (leds_of rules)) f
@@ -141,46 +145,59 @@ module _ (p : Parts) (rules : List Rule) (b : IsBasis p rules) where
   generators_rows [] typed inside = tt
   generators_rows (f ∷ fs) typed inside = (ideal_rows f typed.0 inside.0, generators_rows fs typed.1 inside.1)
 
-  generators_are_rows : AllByRecursion (λ f. Span (AnyRow (word_order p rules b.are_rules) (word_rules p rules b.are_rules)) (coefficient_of f)) (generators_in p)
+  generators_are_rows : AllByRecursion (λ f. Span (AnyRow (word_order p rules b.are_rules) (word_rules p rules b.are_rules)) (coefficient_of f))
+      (generators_in p)
   generators_are_rows = generators_rows (generators_in p)
-      (generators_typed q quiver p.starred (numbers p.marked) (polynomials p.assumptions) (marked_are_objects p b.posed) (assumptions_have_signatures p b.posed))
+      (generators_typed q quiver p.starred (numbers p.marked) (polynomials p.assumptions) (marked_are_objects p b.posed)
+      (assumptions_have_signatures p b.posed))
       (recursion_from_All (InRationalIdeal (polynomials_of rules)) (generators_in p) b.generated)
 
   facts : Facts rationals (exact_ground p rules b.are_rules)
-  facts = facts_of rationals (word_order p rules b.are_rules) (word_rules p rules b.are_rules) _ _ (letter_count p.quiver) q p.starred (numbers p.marked) (polynomials p.assumptions) (record {
-    count_is = sym (letters-quiver_of p.quiver);
-    normal_is = normal_form_is rationals (letter_count p.quiver) (asked_cmp p.order) order_rank (asked_cmp-admissible (letter_count p.quiver) p.order) rules b.are_rules (all_grounded (letter_count p.quiver) p.order);
-    resolved = all_resolved (word_order p rules b.are_rules) (leds_of rules) (leds_are (letter_count p.quiver) (asked_cmp p.order) order_rank (asked_cmp-admissible (letter_count p.quiver) p.order) rules b.are_rules) (everything (word_order p rules b.are_rules))
-        (λ a word after before behind m any. meetings_all (letter_count p.quiver) (asked_cmp p.order) order_rank (asked_cmp-admissible (letter_count p.quiver) p.order) rules b.are_rules b.resolved a word after before behind m);
-    join = λ u v one other. in_range (u ++ v) (IsOver-append (letter_count p.quiver) u v (over_from u one) (over_from v other));
-    is_quiver = quiver;
-    play_range = λ w each. in_range w (play_over w each);
-    typed = rule_typed;
-    generated = generators_are_rows;
-  })
+  facts = facts_of rationals (word_order p rules b.are_rules) (word_rules p rules b.are_rules) _ _ (letter_count p.quiver) q p.starred (numbers p.marked)
+      (polynomials p.assumptions) (record {
+        count_is = sym (letters-quiver_of p.quiver);
+        normal_is = normal_form_is rationals (letter_count p.quiver) (asked_cmp p.order) order_rank
+            (asked_cmp-admissible (letter_count p.quiver) p.order) rules b.are_rules (all_grounded (letter_count p.quiver) p.order);
+        resolved = all_resolved (word_order p rules b.are_rules) (leds_of rules)
+            (leds_are (letter_count p.quiver) (asked_cmp p.order) order_rank (asked_cmp-admissible (letter_count p.quiver) p.order) rules b.are_rules)
+            (everything (word_order p rules b.are_rules))
+            (λ a word after before behind m any. meetings_all (letter_count p.quiver) (asked_cmp p.order) order_rank
+            (asked_cmp-admissible (letter_count p.quiver) p.order) rules b.are_rules b.resolved a word after before behind m);
+        join = λ u v one other. in_range (u ++ v) (IsOver-append (letter_count p.quiver) u v (over_from u one) (over_from v other));
+        is_quiver = quiver;
+        play_range = λ w each. in_range w (play_over w each);
+        typed = rule_typed;
+        generated = generators_are_rows;
+      })
 
   pub basis_laws : PreadditiveLaws (normal_forms p rules)
-  basis_laws = image_laws (exact_forms p rules b.are_rules) (normal_forms p rules) plain exact (is_image p rules b.are_rules b) (normal_laws rationals (exact_ground p rules b.are_rules) facts)
+  basis_laws = image_laws (exact_forms p rules b.are_rules) (normal_forms p rules) plain exact (is_image p rules b.are_rules b)
+      (normal_laws rationals (exact_ground p rules b.are_rules) facts)
 
   -- each word of the polynomial has its letters in play
   abbrev pub Plays : List Term → Type 0
   Plays f = AllByRecursion (λ t. AllPlay play t.1) f
 
-  zeros : (fs : List (List Term)) → AllByRecursion Plays fs → AllByRecursion (λ f. Span (AnyRow (word_order p rules b.are_rules) (word_rules p rules b.are_rules)) (coefficient_of f)) fs
+  zeros : (fs : List (List Term)) → AllByRecursion Plays fs → AllByRecursion
+      (λ f. Span (AnyRow (word_order p rules b.are_rules) (word_rules p rules b.are_rules)) (coefficient_of f)) fs
       → AllByRecursion (HasValueZero (normal_forms p rules) q (forms_representation p rules)) fs
   zeros [] plays rows = tt
   zeros (f ∷ fs) plays rows = (
-    image_value_zero (exact_forms p rules b.are_rules) (normal_forms p rules) plain exact (is_image p rules b.are_rules b) (normal_representation rationals (exact_ground p rules b.are_rules)) (forms_representation p rules)
+    image_value_zero (exact_forms p rules b.are_rules) (normal_forms p rules) plain exact (is_image p rules b.are_rules b)
+        (normal_representation rationals (exact_ground p rules b.are_rules)) (forms_representation p rules)
         (λ v. refl) (letter_plain p rules b.are_rules) q f (ideal_zero rationals (exact_ground p rules b.are_rules) facts f plays.0 rows.0),
     zeros fs plays.1 rows.1,
   )
 
   -- Where the letters of the generators and the claim are in play, the normal forms tell a claim outside the rational ideal of the rules from zero.
-  pub sharp_means : AllByRecursion Plays (generators_in p) → (claim : List Term) → Plays claim → HasSignature q claim → (InRationalIdeal (polynomials_of rules) claim → ⊥) → SharpMeans p rules claim
+  pub sharp_means : AllByRecursion Plays (generators_in p) → (claim : List Term) → Plays claim → HasSignature q claim
+      → (InRationalIdeal (polynomials_of rules) claim → ⊥) → SharpMeans p rules claim
   sharp_means generators claim plays typed outside = record {
     laws = basis_laws;
-    cancels = λ n above. image_cancels (exact_forms p rules b.are_rules) (normal_forms p rules) plain exact (is_image p rules b.are_rules b) (pos n) (normal_cancels rationals (exact_ground p rules b.are_rules) facts n above);
-    represents = image_represents (exact_forms p rules b.are_rules) (normal_forms p rules) plain exact (is_image p rules b.are_rules b) (normal_representation rationals (exact_ground p rules b.are_rules)) (forms_representation p rules)
+    cancels = λ n above. image_cancels (exact_forms p rules b.are_rules) (normal_forms p rules) plain exact (is_image p rules b.are_rules b) (pos n)
+        (normal_cancels rationals (exact_ground p rules b.are_rules) facts n above);
+    represents = image_represents (exact_forms p rules b.are_rules) (normal_forms p rules) plain exact (is_image p rules b.are_rules b)
+        (normal_representation rationals (exact_ground p rules b.are_rules)) (forms_representation p rules)
         (λ v. refl) (letter_plain p rules b.are_rules) q (normal_represents rationals (exact_ground p rules b.are_rules) facts);
     generators = zeros (generators_in p) generators generators_are_rows;
     claim = record {
@@ -189,12 +206,19 @@ module _ (p : Parts) (rules : List Rule) (b : IsBasis p rules) where
       source_is_object = typed.source_is_object;
       target_is_object = typed.target_is_object;
       typed = typed.typed;
-      nonzero = λ none. outside (rows_ideal claim (zero_ideal rationals (exact_ground p rules b.are_rules) facts claim typed.source typed.target typed.source_is_object typed.target_is_object plays typed.typed (under none)));
+      nonzero = λ none. outside
+          (rows_ideal claim
+          (zero_ideal rationals
+          (exact_ground p rules b.are_rules) facts claim typed.source typed.target typed.source_is_object typed.target_is_object plays typed.typed
+          (under none)));
     };
   }
     where
-      under : HasValueZeroAt (normal_forms p rules) q (forms_representation p rules) typed.source typed.target claim → HasValueZeroAt (exact_forms p rules b.are_rules) q (normal_representation rationals (exact_ground p rules b.are_rules)) typed.source typed.target claim
-      under = zero_at_under (exact_forms p rules b.are_rules) (normal_forms p rules) plain exact (is_image p rules b.are_rules b) (normal_representation rationals (exact_ground p rules b.are_rules)) (forms_representation p rules)
+      under : HasValueZeroAt (normal_forms p rules) q (forms_representation p rules) typed.source typed.target claim
+          → HasValueZeroAt (exact_forms p rules b.are_rules) q
+          (normal_representation rationals (exact_ground p rules b.are_rules)) typed.source typed.target claim
+      under = zero_at_under (exact_forms p rules b.are_rules) (normal_forms p rules) plain exact (is_image p rules b.are_rules b)
+          (normal_representation rationals (exact_ground p rules b.are_rules)) (forms_representation p rules)
           (λ v. refl) (letter_plain p rules b.are_rules) q typed.source typed.target claim
 
 -- The laws hold whatever the rules are: bad ones make no objects.

@@ -1,5 +1,5 @@
 -- Sorted lists with no zero coefficient: how a list of terms is collected into one, and that the coefficients determine it.
-use Rattle.std.proofs.Common.{◌≡◌, refl, sym, ap, ap₂, subst, ◌∙◌, Bool, true, false, cond, List, [], ◌∷◌, ◌⊎◌, inl, inr, true≢false}
+use Rattle.std.proofs.Common.{◌≡◌, refl, sym, ap, ap₂, subst, ◌∙◌, Bool, true, false, cond, [], ◌∷◌, ◌⊎◌, inl, inr, true≢false}
 use Rattle.std.proofs.lemmas.Bool.{false_from_ne_true}
 use Rattle.normal_forms.specs.Forms.{Form, put, insert_term, collected}
 use Rattle.normal_forms.proofs.Field.{Field, numbers_of}
@@ -58,17 +58,23 @@ module _ {K : Type 0} (k : Field K) (o : Sorting) where
   look-put t p w = go (k.is_none t.0) refl
     where
       go : (b : Bool) → k.is_none t.0 ≡ b → look k (cond b p (t ∷ p)) w ≡ look k (t ∷ p) w
-      go true e = sym (ap (λ z. k.plus (k.times z (hit k t.1 w)) (look k p w)) (k.is_none_true t.0 e) ∙ ap (λ z. k.plus z (look k p w)) (k.times_comm k.none (hit k t.1 w) ∙ times_none k (hit k t.1 w)) ∙ none_plus k (look k p w))
+      go true e = sym
+          (ap (λ z. k.plus (k.times z (hit k t.1 w)) (look k p w)) (k.is_none_true t.0 e)
+          ∙ ap (λ z. k.plus z (look k p w)) (k.times_comm k.none (hit k t.1 w) ∙ times_none k (hit k t.1 w)) ∙ none_plus k (look k p w))
       go false e = refl
 
   look-insert : (t : K × Word) (p : Form K) (w : Word) → look k (insert t p) w ≡ look k (t ∷ p) w
   look-insert t [] w = look-put t [] w
   look-insert t (s ∷ p) w = go (word_eq t.1 s.1) refl (o.below t.1 s.1) (look-insert t p w)
     where
-      go : (b : Bool) → word_eq t.1 s.1 ≡ b → (c : Bool) → look k (insert t p) w ≡ look k (t ∷ p) w → look k (cond b (put_term (k.plus t.0 s.0, s.1) p) (cond c (put_term t (s ∷ p)) (s ∷ insert t p))) w ≡ look k (t ∷ s ∷ p) w
-      go true e c ih = look-put (k.plus t.0 s.0, s.1) p w ∙ ap (λ z. k.plus z (look k p w)) (plus_times k t.0 s.0 (hit k s.1 w)) ∙ k.plus_assoc (k.times t.0 (hit k s.1 w)) (k.times s.0 (hit k s.1 w)) (look k p w) ∙ ap (λ x. k.plus (k.times t.0 (hit k x w)) (look k (s ∷ p) w)) (sym (word_eq-true t.1 s.1 e))
+      go : (b : Bool) → word_eq t.1 s.1 ≡ b → (c : Bool) → look k (insert t p) w ≡ look k (t ∷ p) w
+          → look k (cond b (put_term (k.plus t.0 s.0, s.1) p) (cond c (put_term t (s ∷ p)) (s ∷ insert t p))) w ≡ look k (t ∷ s ∷ p) w
+      go true e c ih = look-put (k.plus t.0 s.0, s.1) p w ∙ ap (λ z. k.plus z (look k p w)) (plus_times k t.0 s.0 (hit k s.1 w))
+          ∙ k.plus_assoc (k.times t.0 (hit k s.1 w)) (k.times s.0 (hit k s.1 w)) (look k p w)
+          ∙ ap (λ x. k.plus (k.times t.0 (hit k x w)) (look k (s ∷ p) w)) (sym (word_eq-true t.1 s.1 e))
       go false e true ih = look-put t (s ∷ p) w
-      go false e false ih = ap (λ z. k.plus (k.times s.0 (hit k s.1 w)) z) ih ∙ plus_swap k (k.times s.0 (hit k s.1 w)) (k.times t.0 (hit k t.1 w)) (look k p w)
+      go false e false ih = ap (λ z. k.plus (k.times s.0 (hit k s.1 w)) z) ih
+          ∙ plus_swap k (k.times s.0 (hit k s.1 w)) (k.times t.0 (hit k t.1 w)) (look k p w)
 
   pub look-collect : (p : Form K) (w : Word) → look k (collect p) w ≡ look k p w
   look-collect [] w = refl
@@ -100,7 +106,8 @@ module _ {K : Type 0} (k : Field K) (o : Sorting) where
           by_total (inr (inl q)) = absurd (true≢false (sym q ∙ h))
           by_total (inr (inr q)) = q
 
-      go : (b : Bool) → word_eq t.1 s.1 ≡ b → (c : Bool) → o.below t.1 s.1 ≡ c → IsForm (insert t p) → IsForm (cond b (put_term (k.plus t.0 s.0, s.1) p) (cond c (put_term t (s ∷ p)) (s ∷ insert t p)))
+      go : (b : Bool) → word_eq t.1 s.1 ≡ b → (c : Bool) → o.below t.1 s.1 ≡ c → IsForm (insert t p)
+          → IsForm (cond b (put_term (k.plus t.0 s.0, s.1) p) (cond c (put_term t (s ∷ p)) (s ∷ insert t p)))
       go true e c h ih = form-put (k.plus t.0 s.0, s.1) p f.1 f.2
       go false e true h ih = form-put t (s ∷ p) (h, after-more s.1 t.1 p h f.1) f
       go false e false h ih = (f.0, each-insert (λ u. o.below s.1 u ≡ true) t p (above e h) f.1, ih)
@@ -113,14 +120,16 @@ module _ {K : Type 0} (k : Field K) (o : Sorting) where
   apart v w h = false_from_ne_true (word_eq w v) (λ e. true≢false (sym h ∙ ap (λ x. o.below v x) (word_eq-true w v e) ∙ o.irreflexive v))
 
   look_other : (w : Word) (t : K × Word) (p : Form K) → word_eq t.1 w ≡ false → look k (t ∷ p) w ≡ look k p w
-  look_other w t p e = ap (λ b. k.plus (k.times t.0 (cond b k.one k.none)) (look k p w)) e ∙ ap (λ z. k.plus z (look k p w)) (times_none k t.0) ∙ none_plus k (look k p w)
+  look_other w t p e = ap (λ b. k.plus (k.times t.0 (cond b k.one k.none)) (look k p w)) e ∙ ap (λ z. k.plus z (look k p w)) (times_none k t.0)
+      ∙ none_plus k (look k p w)
 
   none_before : (w : Word) (p : Form K) → After w p → look k p w ≡ k.none
   none_before w [] h = refl
   none_before w (t ∷ p) h = look_other w t p (apart w t.1 h.0) ∙ none_before w p h.1
 
   look_head : (t : K × Word) (p : Form K) → After t.1 p → look k (t ∷ p) t.1 ≡ t.0
-  look_head t p h = ap (λ b. k.plus (k.times t.0 (cond b k.one k.none)) (look k p t.1)) (word_eq-same t.1) ∙ ap₂ k.plus (times_one k t.0) (none_before t.1 p h) ∙ k.plus_none t.0
+  look_head t p h = ap (λ b. k.plus (k.times t.0 (cond b k.one k.none)) (look k p t.1)) (word_eq-same t.1)
+      ∙ ap₂ k.plus (times_one k t.0) (none_before t.1 p h) ∙ k.plus_none t.0
 
   rests_alike : (t : K × Word) (p q : Form K) → After t.1 p → After t.1 q → Alike k (t ∷ p) (t ∷ q) → Alike k p q
   rests_alike t p q h j e = record { at = λ w. go w (word_eq t.1 w) refl }

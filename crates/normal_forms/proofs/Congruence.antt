@@ -20,7 +20,8 @@ abbrev pub AnyRow : (o : Order) → Rules o → Coefs → Type 0
 AnyRow o g b = (M : Word) × Row o g (everything o) M b
 
 -- a sum of rows over resolved rules that is zero at the top of each row is zero
-no_reducible_word : (o : Order) (g : Rules o) → Resolved o g (everything o) → (f : Coefs) → ((N : Word) (b : Coefs) → Row o g (everything o) N b → f N ≡ pos 0) → Span (AnyRow o g) f → (w : Word) → f w ≡ pos 0
+no_reducible_word : (o : Order) (g : Rules o) → Resolved o g (everything o) → (f : Coefs)
+    → ((N : Word) (b : Coefs) → Row o g (everything o) N b → f N ≡ pos 0) → Span (AnyRow o g) f → (w : Word) → f w ≡ pos 0
 no_reducible_word o g res f top span = go (zero_or_reducible o g (everything o) res f span)
   where
     go : ((w : Word) → f w ≡ pos 0) ⊎ HasTopRow (setting o g (everything o) res) f → (w : Word) → f w ≡ pos 0
@@ -36,9 +37,11 @@ module _ {K : Type 0} (k : Field K) where
   lifted c [] = []
   lifted c (t ∷ p) = (k.times c (k.int t.0), t.1) ∷ lifted c p
 
-  pub look-lifted : (h : Word → Word) (c : K) (p : List Term) (w : Word) → look k (with_words h (lifted c p)) w ≡ k.times c (k.int (coefficient_of (map_words h p) w))
+  pub look-lifted : (h : Word → Word) (c : K) (p : List Term) (w : Word)
+      → look k (with_words h (lifted c p)) w ≡ k.times c (k.int (coefficient_of (map_words h p) w))
   look-lifted h c [] w = sym (ap (k.times c) (int_none k) ∙ times_none k c)
-  look-lifted h c (t ∷ p) w = ap₂ k.plus (k.times_assoc c (k.int t.0) (hit k (h t.1) w) ∙ ap (k.times c) (by_test (word_eq (h t.1) w))) (look-lifted h c p w) ∙ sym (k.times_plus c _ _) ∙ ap (k.times c) (sym (k.int_plus (cond (word_eq (h t.1) w) t.0 (pos 0)) (coefficient_of (map_words h p) w)))
+  look-lifted h c (t ∷ p) w = ap₂ k.plus (k.times_assoc c (k.int t.0) (hit k (h t.1) w) ∙ ap (k.times c) (by_test (word_eq (h t.1) w))) (look-lifted h c p w)
+      ∙ sym (k.times_plus c _ _) ∙ ap (k.times c) (sym (k.int_plus (cond (word_eq (h t.1) w) t.0 (pos 0)) (coefficient_of (map_words h p) w)))
     where
       by_test : (b : Bool) → k.times (k.int t.0) (cond b k.one k.none) ≡ k.int (cond b t.0 (pos 0))
       by_test true = times_one k (k.int t.0)
@@ -69,11 +72,14 @@ module _ {K : Type 0} (k : Field K) where
   look-scaled : (c : K) (p : Form K) (w : Word) → look k (scaled k c p) w ≡ k.times c (look k p w)
   look-scaled c p w = sum-scaled k (λ u. hit k u w) c p
 
-  ring : (N D c A B S F Q : K) → k.times N c ≡ A → k.times D S ≡ k.plus F (k.times D Q) → k.times (k.times N D) (k.plus (k.times c B) S) ≡ k.plus (k.plus (k.times (k.times D A) B) (k.times N F)) (k.times (k.times N D) Q)
-  ring N D c A B S F Q e h = k.times_plus (k.times N D) (k.times c B) S ∙ ap₂ k.plus first second ∙ sym (k.plus_assoc (k.times (k.times D A) B) (k.times N F) (k.times (k.times N D) Q))
+  ring : (N D c A B S F Q : K) → k.times N c ≡ A → k.times D S ≡ k.plus F (k.times D Q)
+      → k.times (k.times N D) (k.plus (k.times c B) S) ≡ k.plus (k.plus (k.times (k.times D A) B) (k.times N F)) (k.times (k.times N D) Q)
+  ring N D c A B S F Q e h = k.times_plus (k.times N D) (k.times c B) S ∙ ap₂ k.plus first second
+      ∙ sym (k.plus_assoc (k.times (k.times D A) B) (k.times N F) (k.times (k.times N D) Q))
     where
       first : k.times (k.times N D) (k.times c B) ≡ k.times (k.times D A) B
-      first = ap (λ z. k.times z (k.times c B)) (k.times_comm N D) ∙ k.times_assoc D N (k.times c B) ∙ ap (k.times D) (sym (k.times_assoc N c B) ∙ ap (λ z. k.times z B) e) ∙ sym (k.times_assoc D A B)
+      first = ap (λ z. k.times z (k.times c B)) (k.times_comm N D) ∙ k.times_assoc D N (k.times c B)
+          ∙ ap (k.times D) (sym (k.times_assoc N c B) ∙ ap (λ z. k.times z B) e) ∙ sym (k.times_assoc D A B)
 
       second : k.times (k.times N D) S ≡ k.plus (k.times N F) (k.times (k.times N D) Q)
       second = k.times_assoc N D S ∙ ap (k.times N) h ∙ k.times_plus N F (k.times D Q) ∙ ap (λ z. k.plus (k.times N F) z) (sym (k.times_assoc N D Q))
@@ -85,7 +91,8 @@ module _ {K : Type 0} (k : Field K) where
 
     pub data Cong : Form K → Form K → Type 0 where
       alike : (p q : Form K) → Alike k p q → Cong p q
-      rows : (p s q : Form K) (c : K) (l : Word) (i : ℕ) (r : Word) → g.Has i → o.Range (l ++ ((g.rule i).lead ++ r)) → Cong s q → Alike k p (row c l i r ++ s) → Cong p q
+      rows : (p s q : Form K) (c : K) (l : Word) (i : ℕ) (r : Word) → g.Has i → o.Range (l ++ ((g.rule i).lead ++ r)) → Cong s q
+          → Alike k p (row c l i r ++ s) → Cong p q
 
     pub cong_refl : (p : Form K) → Cong p p
     cong_refl p = alike p p (alike_refl p)
@@ -103,18 +110,32 @@ module _ {K : Type 0} (k : Field K) where
 
     pub cong_after : (p q t : Form K) → Cong p q → Cong (p ++ t) (q ++ t)
     cong_after _ _ t (alike p q f) = alike (p ++ t) (q ++ t) (alike-append k p q t t f (alike_refl t))
-    cong_after _ _ t (rows p s q c l i r h m e f) = rows (p ++ t) (s ++ t) (q ++ t) c l i r h m (cong_after s q t e) (alike_trans (p ++ t) ((row c l i r ++ s) ++ t) (row c l i r ++ (s ++ t)) (alike-append k p (row c l i r ++ s) t t f (alike_refl t)) (alike_same _ _ (append_assoc (row c l i r) s t)))
+    cong_after _ _ t (rows p s q c l i r h m e f) = rows (p ++ t) (s ++ t) (q ++ t) c l i r h m (cong_after s q t e)
+        (alike_trans (p ++ t) ((row c l i r ++ s) ++ t) (row c l i r ++ (s ++ t)) (alike-append k p (row c l i r ++ s) t t f (alike_refl t))
+        (alike_same _ _ (append_assoc (row c l i r) s t)))
 
     pub cong_append : (p q s t : Form K) → Cong p q → Cong s t → Cong (p ++ s) (q ++ t)
-    cong_append p q s t e f = cong_trans (p ++ s) (q ++ s) (q ++ t) (cong_after p q s e) (cong_left (q ++ s) (s ++ q) (q ++ t) (alike-swap q s) (cong_trans (s ++ q) (t ++ q) (q ++ t) (cong_after s t q f) (alike (t ++ q) (q ++ t) (alike-swap t q))))
+    cong_append p q s t e f = cong_trans (p ++ s) (q ++ s) (q ++ t) (cong_after p q s e)
+        (cong_left (q ++ s) (s ++ q) (q ++ t) (alike-swap q s)
+        (cong_trans (s ++ q) (t ++ q) (q ++ t) (cong_after s t q f) (alike (t ++ q) (q ++ t) (alike-swap t q))))
 
     pub cong_scaled : (d : K) (p q : Form K) → Cong p q → Cong (scaled k d p) (scaled k d q)
     cong_scaled d _ _ (alike p q f) = alike _ _ (alike-scaled k d p q f)
-    cong_scaled d _ _ (rows p s q c l i r h m e f) = rows (scaled k d p) (scaled k d s) (scaled k d q) (k.times d c) l i r h m (cong_scaled d s q e) (alike_trans (scaled k d p) (scaled k d (row c l i r ++ s)) (row (k.times d c) l i r ++ scaled k d s) (alike-scaled k d p (row c l i r ++ s) f) (alike_same _ _ (scaled-append k d (row c l i r) s ∙ ap (λ z. z ++ scaled k d s) (scaled-words k d (λ u. l ++ (u ++ r)) (lifted c (poly (g.rule i))) ∙ ap (with_words (λ u. l ++ (u ++ r))) (scaled-lifted d c (poly (g.rule i)))))))
+    cong_scaled d _ _ (rows p s q c l i r h m e f) = rows (scaled k d p) (scaled k d s) (scaled k d q) (k.times d c) l i r h m (cong_scaled d s q e)
+        (alike_trans (scaled k d p) (scaled k d (row c l i r ++ s)) (row (k.times d c) l i r ++ scaled k d s) (alike-scaled k d p (row c l i r ++ s) f)
+        (alike_same _ _
+        (scaled-append k d (row c l i r) s ∙ ap (λ z. z ++ scaled k d s)
+        (scaled-words k d (λ u. l ++ (u ++ r)) (lifted c (poly (g.rule i))) ∙ ap (with_words (λ u. l ++ (u ++ r))) (scaled-lifted d c (poly (g.rule i)))))))
 
     -- a row taken off again
     off : (p s : Form K) (c : K) (l : Word) (i : ℕ) (r : Word) → Alike k p (row c l i r ++ s) → Alike k s (row (k.minus c) l i r ++ p)
-    off p s c l i r f = record { at = λ w. sym (look-append (row (k.minus c) l i r) p w ∙ ap₂ k.plus (look-lifted (λ u. l ++ (u ++ r)) (k.minus c) (poly (g.rule i)) w ∙ minus_times k c (value w)) (f.at w ∙ look-append (row c l i r) s w ∙ ap (λ z. k.plus z (look k s w)) (look-lifted (λ u. l ++ (u ++ r)) c (poly (g.rule i)) w)) ∙ gone (k.times c (value w)) (look k s w)) }
+    off p s c l i r f =
+        record {
+          at = λ w. sym
+              (look-append (row (k.minus c) l i r) p w ∙ ap₂ k.plus (look-lifted (λ u. l ++ (u ++ r)) (k.minus c) (poly (g.rule i)) w ∙ minus_times k c (value w))
+              (f.at w ∙ look-append (row c l i r) s w ∙ ap (λ z. k.plus z (look k s w)) (look-lifted (λ u. l ++ (u ++ r)) c (poly (g.rule i)) w))
+              ∙ gone (k.times c (value w)) (look k s w));
+        }
       where
         value : Word → K
         value w = k.int (coefficient_of (poly_between l (poly (g.rule i)) r) w)
@@ -127,9 +148,16 @@ module _ {K : Type 0} (k : Field K) where
     cong_sym _ _ (rows p s q c l i r h m e f) = cong_trans q s p (cong_sym s q e) (rows s p p (k.minus c) l i r h m (cong_refl p) (off p s c l i r f))
 
     -- between two with_words
-    pub cong_between : ((u v : Word) → o.Range u → o.Range v → o.Range (u ++ v)) → (x y : Word) → o.Range x → o.Range y → (p q : Form K) → Cong p q → Cong (with_words (λ u. x ++ (u ++ y)) p) (with_words (λ u. x ++ (u ++ y)) q)
+    pub cong_between : ((u v : Word) → o.Range u → o.Range v → o.Range (u ++ v)) → (x y : Word) → o.Range x → o.Range y → (p q : Form K) → Cong p q
+        → Cong (with_words (λ u. x ++ (u ++ y)) p) (with_words (λ u. x ++ (u ++ y)) q)
     cong_between join x y rx ry _ _ (alike p q f) = alike _ _ (alike-words k (λ u. x ++ (u ++ y)) p q f)
-    cong_between join x y rx ry _ _ (rows p s q c l i r h m e f) = rows (with_words at p) (with_words at s) (with_words at q) c (x ++ l) i (r ++ y) h range (cong_between join x y rx ry s q e) (alike_trans _ (with_words at (row c l i r ++ s)) _ (alike-words k at p (row c l i r ++ s) f) (alike_same _ _ (words-append at (row c l i r) s ∙ ap (λ z. z ++ with_words at s) (words-words at (λ u. l ++ (u ++ r)) (lifted c (poly (g.rule i))) ∙ words-same _ (λ u. (x ++ l) ++ (u ++ (r ++ y))) (lifted c (poly (g.rule i))) moved))))
+    cong_between join x y rx ry _ _ (rows p s q c l i r h m e f) =
+        rows (with_words at p) (with_words at s) (with_words at q) c (x ++ l) i (r ++ y) h range (cong_between join x y rx ry s q e)
+        (alike_trans _ (with_words at (row c l i r ++ s)) _ (alike-words k at p (row c l i r ++ s) f)
+        (alike_same _ _
+        (words-append at (row c l i r) s ∙ ap (λ z. z ++ with_words at s)
+        (words-words at (λ u. l ++ (u ++ r)) (lifted c (poly (g.rule i)))
+        ∙ words-same _ (λ u. (x ++ l) ++ (u ++ (r ++ y))) (lifted c (poly (g.rule i))) moved))))
       where
         at : Word → Word
         at u = x ++ (u ++ y)
@@ -149,7 +177,15 @@ module _ {K : Type 0} (k : Field K) where
       pub is : (w : Word) → k.times (k.int (pos denominator)) (look k p w) ≡ k.plus (k.int (difference w)) (k.times (k.int (pos denominator)) (look k q w))
 
     pub cong_cleared : (p q : Form K) → Cong p q → Cleared p q
-    cong_cleared _ _ (alike p q f) = record { denominator = 1; difference = λ _. pos 0; positive = omega arith; span = nothing _ (λ w. refl); is = λ w. ap (k.times (k.int (pos 1))) (f.at w) ∙ sym (ap (λ z. k.plus z (k.times (k.int (pos 1)) (look k q w))) (int_none k) ∙ none_plus k _) }
+    cong_cleared _ _ (alike p q f) =
+        record {
+          denominator = 1;
+          difference = λ _. pos 0;
+          positive = omega arith;
+          span = nothing _ (λ w. refl);
+          is =
+              λ w. ap (k.times (k.int (pos 1))) (f.at w) ∙ sym (ap (λ z. k.plus z (k.times (k.int (pos 1)) (look k q w))) (int_none k) ∙ none_plus k _);
+        }
     cong_cleared _ _ (rows p s q c l i r h m e f) = by_parts (cong_cleared s q e) (k.split c)
       where
         b : Coefs
@@ -160,7 +196,9 @@ module _ {K : Type 0} (k : Field K) where
           denominator = n * d.denominator;
           difference = λ w. (pos d.denominator *ℤ a) *ℤ b w +ℤ pos n *ℤ d.difference w;
           positive = pos_mul n d.denominator h' d.positive;
-          span = more _ (λ w. pos n *ℤ d.difference w) b (pos d.denominator *ℤ a) (_, record { number = i; has = h; left = l; right = r; top = refl; range = m; may = tt; is = λ w. refl }) (span_scale (AnyRow o g) (pos n) d.difference d.span) (λ w. refl);
+          span = more _ (λ w. pos n *ℤ d.difference w) b (pos d.denominator *ℤ a)
+              (_, record { number = i; has = h; left = l; right = r; top = refl; range = m; may = tt; is = λ w. refl })
+              (span_scale (AnyRow o g) (pos n) d.difference d.span) (λ w. refl);
           is = whole;
         }
           where
@@ -173,8 +211,16 @@ module _ {K : Type 0} (k : Field K) where
             top : k.times N c ≡ k.int a
             top = ap (k.times N) e' ∙ times_swap k N (k.int a) (k.part n) ∙ ap (k.times (k.int a)) (k.part_is n h') ∙ times_one k (k.int a)
 
-            whole : (w : Word) → k.times (k.int (pos (n * d.denominator))) (look k p w) ≡ k.plus (k.int ((pos d.denominator *ℤ a) *ℤ b w +ℤ pos n *ℤ d.difference w)) (k.times (k.int (pos (n * d.denominator))) (look k q w))
-            whole w = ap₂ k.times (k.int_times (pos n) (pos d.denominator)) (f.at w ∙ look-append (row c l i r) s w ∙ ap (λ z. k.plus z (look k s w)) (look-lifted (λ u. l ++ (u ++ r)) c (poly (g.rule i)) w)) ∙ ring N D c (k.int a) (k.int (b w)) (look k s w) (k.int (d.difference w)) (look k q w) top (d.is w) ∙ sym (ap₂ k.plus (k.int_plus ((pos d.denominator *ℤ a) *ℤ b w) (pos n *ℤ d.difference w) ∙ ap₂ k.plus (k.int_times (pos d.denominator *ℤ a) (b w) ∙ ap (λ z. k.times z (k.int (b w))) (k.int_times (pos d.denominator) a)) (k.int_times (pos n) (d.difference w))) (ap (λ z. k.times z (look k q w)) (k.int_times (pos n) (pos d.denominator))))
+            whole : (w : Word) → k.times (k.int (pos (n * d.denominator))) (look k p w) ≡ k.plus
+                (k.int ((pos d.denominator *ℤ a) *ℤ b w +ℤ pos n *ℤ d.difference w)) (k.times (k.int (pos (n * d.denominator))) (look k q w))
+            whole w = ap₂ k.times (k.int_times (pos n) (pos d.denominator))
+                (f.at w ∙ look-append (row c l i r) s w ∙ ap (λ z. k.plus z (look k s w)) (look-lifted (λ u. l ++ (u ++ r)) c (poly (g.rule i)) w))
+                ∙ ring N D c (k.int a) (k.int (b w)) (look k s w) (k.int (d.difference w)) (look k q w) top (d.is w)
+                ∙ sym
+                (ap₂ k.plus
+                (k.int_plus ((pos d.denominator *ℤ a) *ℤ b w) (pos n *ℤ d.difference w)
+                ∙ ap₂ k.plus (k.int_times (pos d.denominator *ℤ a) (b w) ∙ ap (λ z. k.times z (k.int (b w))) (k.int_times (pos d.denominator) a))
+                (k.int_times (pos n) (d.difference w))) (ap (λ z. k.times z (look k q w)) (k.int_times (pos n) (pos d.denominator))))
 
     -- no leading word occurs in it
     pub record Irreducible (w : Word) : Type 0 where
@@ -199,19 +245,25 @@ module _ {K : Type 0} (k : Field K) where
             D = k.int (pos d.denominator)
 
             top : (N : Word) (b : Coefs) → Row o g (everything o) N b → d.difference N ≡ pos 0
-            top N b x = k.int_only (d.difference N) (sym (k.plus_none (k.int (d.difference N))) ∙ ap (λ z. k.plus (k.int (d.difference N)) z) (sym (ap (k.times D) (irreducible_look q N x.number x.left x.right x.has x.top iq) ∙ times_none k D)) ∙ sym (d.is N) ∙ ap (k.times D) (irreducible_look p N x.number x.left x.right x.has x.top ip) ∙ times_none k D)
+            top N b x = k.int_only (d.difference N)
+                (sym (k.plus_none (k.int (d.difference N))) ∙ ap (λ z. k.plus (k.int (d.difference N)) z)
+                (sym (ap (k.times D) (irreducible_look q N x.number x.left x.right x.has x.top iq) ∙ times_none k D)) ∙ sym (d.is N)
+                ∙ ap (k.times D) (irreducible_look p N x.number x.left x.right x.has x.top ip) ∙ times_none k D)
 
             zero_all : (w : Word) → d.difference w ≡ pos 0
             zero_all = no_reducible_word o g res d.difference top d.span
 
             equal : (w : Word) → look k p w ≡ look k q w
-            equal w = int_same d.denominator d.positive (d.is w ∙ ap (λ z. k.plus (k.int z) (k.times D (look k q w))) (zero_all w) ∙ ap (λ z. k.plus z (k.times D (look k q w))) (int_none k) ∙ none_plus k (k.times D (look k q w)))
+            equal w = int_same d.denominator d.positive
+                (d.is w ∙ ap (λ z. k.plus (k.int z) (k.times D (look k q w))) (zero_all w) ∙ ap (λ z. k.plus z (k.times D (look k q w))) (int_none k)
+                ∙ none_plus k (k.times D (look k q w)))
               where
                 int_same : (n : ℕ) → 0 < n → k.times (k.int (pos n)) (look k p w) ≡ k.times (k.int (pos n)) (look k q w) → look k p w ≡ look k q w
                 int_same n h e = back (look k p w) ∙ ap (k.times (k.part n)) e ∙ sym (back (look k q w))
                   where
                     back : (a : K) → a ≡ k.times (k.part n) (k.times (k.int (pos n)) a)
-                    back a = sym (k.one_times a) ∙ ap (λ z. k.times z a) (sym (k.part_is n h) ∙ k.times_comm (k.int (pos n)) (k.part n)) ∙ k.times_assoc (k.part n) (k.int (pos n)) a
+                    back a = sym (k.one_times a) ∙ ap (λ z. k.times z a) (sym (k.part_is n h) ∙ k.times_comm (k.int (pos n)) (k.part n))
+                        ∙ k.times_assoc (k.part n) (k.int (pos n)) a
 
     -- a class of zero with integer coefficients is in the rational ideal
     pub cong_none_span : (p : List Term) → Cong (lifted k.one p) [] → Span (AnyRow o g) (coefficient_of p)
@@ -229,10 +281,15 @@ module _ {K : Type 0} (k : Field K) where
         lookup w = ap (λ z. look k z w) (sym (unmapped (lifted k.one p))) ∙ look-lifted (λ u. u) k.one p w ∙ k.one_times _ ∙ ap k.int (same p w)
 
         from : Cleared (lifted k.one p) [] → Span (AnyRow o g) (coefficient_of p)
-        from d = part (coefficient_of p) d.difference d.denominator d.positive d.span (λ w. int_equal (d.difference w) (pos d.denominator *ℤ coefficient_of p w) (sym (k.plus_none (k.int (d.difference w))) ∙ ap (λ z. k.plus (k.int (d.difference w)) z) (sym (times_none k (k.int (pos d.denominator)))) ∙ sym (d.is w) ∙ ap (k.times (k.int (pos d.denominator))) (lookup w) ∙ sym (k.int_times (pos d.denominator) (coefficient_of p w))))
+        from d = part (coefficient_of p) d.difference d.denominator d.positive d.span
+            (λ w. int_equal (d.difference w) (pos d.denominator *ℤ coefficient_of p w)
+            (sym (k.plus_none (k.int (d.difference w))) ∙ ap (λ z. k.plus (k.int (d.difference w)) z) (sym (times_none k (k.int (pos d.denominator))))
+            ∙ sym (d.is w) ∙ ap (k.times (k.int (pos d.denominator))) (lookup w) ∙ sym (k.int_times (pos d.denominator) (coefficient_of p w))))
           where
             int_equal : (a b : ℤ) → k.int a ≡ k.int b → a ≡ b
-            int_equal a b e = apart a b (k.int_only (a +ℤ neg_ℤ b) (k.int_plus a (neg_ℤ b) ∙ ap (λ z. k.plus z (k.int (neg_ℤ b))) e ∙ sym (k.int_plus b (neg_ℤ b)) ∙ ap k.int (nothing_left b) ∙ int_none k))
+            int_equal a b e = apart a b
+                (k.int_only (a +ℤ neg_ℤ b)
+                (k.int_plus a (neg_ℤ b) ∙ ap (λ z. k.plus z (k.int (neg_ℤ b))) e ∙ sym (k.int_plus b (neg_ℤ b)) ∙ ap k.int (nothing_left b) ∙ int_none k))
               where
                 apart : (a b : ℤ) → a +ℤ neg_ℤ b ≡ pos 0 → a ≡ b
                 apart a b h = omega (arith, ints)

@@ -1,10 +1,10 @@
 -- Objects U and V, a map x of V, and the rules [U] and x x - x: an overlap, a zero object, and an object that isn't marked.
-use Rattle.std.proofs.Common.{◌≡◌, ◌≢◌, ◌≤◌, ◌<◌, ◌+◌, ℕ, zero, suc, pos, negsuc, Bool, true, false, List, [], ◌∷◌, ◌++◌, length, map, Some, Ok, Option, refl, sym, ap, ◌∙◌, subst, arith}
+use Rattle.std.proofs.Common.{◌≡◌, ◌≢◌, ◌<◌, ◌+◌, ℕ, zero, suc, pos, negsuc, Bool, true, false, List, [], ◌∷◌, ◌++◌, length, Some, Ok, Option, refl, sym, ap, ◌∙◌, subst, arith}
 use Rattle.std.proofs.lemmas.Int.{ints}
 use Rattle.std.proofs.lemmas.List.{length-append}
 use Rattle.std.proofs.lemmas.List.Elements.{All-from_recursion}
 use Rattle.std.proofs.lemmas.List.Kept.{AllPairs-cons}
-use Rattle.std.specs.List.{All, AllByRecursion, AllPairs}
+use Rattle.std.specs.List.{All, AllPairs}
 use Rattle.definitions.specs.Poly.{Term}
 use Rattle.definitions.specs.Quiver.{IsPath}
 use Rattle.definitions.specs.Combination.{InRationalIdeal}
@@ -16,7 +16,6 @@ use Rattle.word_orders.specs.declared.any.OrderSpec.TheVariants as asked
 use Rattle.word_orders.specs.Rank.{rank_of}
 use Rattle.word_core.proofs.CanonicalLaws.{word_cmp-admissible}
 use Rattle.nc_polynomial.specs.Shape.{IsShaped, IsCanonical}
-use Rattle.nc_polynomial.specs.declared.poly.Poly.{Poly}
 use Rattle.quiver.specs.declared.named.Sig.{Sig}
 use Rattle.quiver.specs.Declarations.{Declaration, object, arrow, quiver_of}
 use Rattle.quiver.proofs.TypedTerms.{typed_from_paths}
@@ -33,7 +32,6 @@ use Rattle.ambiguities.specs.SPolynomials.{s_polynomial_of}
 use Rattle.ambiguities.specs.Resolved.{IsResolved, Resolved}
 use Rattle.ambiguities.proofs.Balance.{s_polynomials_balance}
 use Rattle.adjoint_rules.specs.declared.parts.Parts.{Parts}
-use Rattle.adjoint_rules.specs.declared.parts.Shape.{Shape}
 use Rattle.adjoint_rules.specs.Problem.{IsPosed, IsShape, IsSide, IsDeclaredMap, IsTypedOf, HasObjects, HasLettersInPlay, IsInPlay, is_in_play, generators_in}
 use Rattle.completion_laws.specs.Typed.{IsTypedInPlay}
 use Rattle.confluence.specs.Reductions.{IsZero, IsReduced}
@@ -59,10 +57,13 @@ abbrev claim_terms : List Term
 claim_terms = (pos 1, 2 ∷ []) ∷ []
 
 one_term : (a : ℕ) → IsCanonical ((pos 1, a ∷ []) ∷ [])
-one_term a = canonical_as_written ((pos 1, a ∷ []) ∷ []) (shaped_as_written ((pos 1, a ∷ []) ∷ []) (tt, tt) ((λ e. cc), tt) (omega arith, tt)) (omega arith, tt) (omega arith)
+one_term a = canonical_as_written ((pos 1, a ∷ []) ∷ []) (shaped_as_written ((pos 1, a ∷ []) ∷ []) (tt, tt) ((λ e. cc), tt) (omega arith, tt))
+    (omega arith, tt) (omega arith)
 
 square_canonical : IsCanonical square_terms
-square_canonical = canonical_as_written square_terms (shaped_as_written square_terms ((refl, tt), (tt, tt)) ((λ e. cc), ((λ e. cc), tt)) (omega arith, (omega arith, tt))) (omega arith, (omega arith, tt)) (omega arith)
+square_canonical = canonical_as_written square_terms
+    (shaped_as_written square_terms ((refl, tt), (tt, tt)) ((λ e. cc), ((λ e. cc), tt)) (omega arith, (omega arith, tt))) (omega arith, (omega arith, tt))
+    (omega arith)
 
 abbrev at_object : ℕ → Sig
 at_object v = record { source = record { 0 = v }; target = record { 0 = v } }
@@ -104,17 +105,23 @@ names_differ a b other e = other (first a b e)
     first a b e = cc
 
 distinct : AllPairs Differs (u_name ∷ v_name ∷ x_name ∷ [])
-distinct = AllPairs-cons Differs u_name (v_name ∷ x_name ∷ []) (All-from_recursion (Differs u_name) (v_name ∷ x_name ∷ []) (names_differ 85 86 (λ e. omega (arith, e)), (names_differ 85 120 (λ e. omega (arith, e)), tt)))
-    (AllPairs-cons Differs v_name (x_name ∷ []) (All-from_recursion (Differs v_name) (x_name ∷ []) (names_differ 86 120 (λ e. omega (arith, e)), tt)) (all_pairs_one Differs x_name))
+distinct = AllPairs-cons Differs u_name (v_name ∷ x_name ∷ [])
+    (All-from_recursion (Differs u_name) (v_name ∷ x_name ∷ [])
+    (names_differ 85 86 (λ e. omega (arith, e)), (names_differ 85 120 (λ e. omega (arith, e)), tt)))
+    (AllPairs-cons Differs v_name (x_name ∷ []) (All-from_recursion (Differs v_name) (x_name ∷ []) (names_differ 86 120 (λ e. omega (arith, e)), tt))
+    (all_pairs_one Differs x_name))
 
 typed_zero : IsTypedOf declared (record { terms = zero_terms; canonical = one_term 0 }) (at_object 0)
-typed_zero = typed_from_paths (quiver_of declared) 0 0 zero_terms (All-from_recursion (λ (t : Term). IsPath (quiver_of declared) 0 0 t.1) zero_terms (refl, tt))
+typed_zero = typed_from_paths (quiver_of declared) 0 0 zero_terms
+    (All-from_recursion (λ (t : Term). IsPath (quiver_of declared) 0 0 t.1) zero_terms (refl, tt))
 
 typed_square : IsTypedOf declared (record { terms = square_terms; canonical = square_canonical }) (at_object 1)
-typed_square = typed_from_paths (quiver_of declared) 1 1 square_terms (All-from_recursion (λ (t : Term). IsPath (quiver_of declared) 1 1 t.1) square_terms (refl, (refl, tt)))
+typed_square = typed_from_paths (quiver_of declared) 1 1 square_terms
+    (All-from_recursion (λ (t : Term). IsPath (quiver_of declared) 1 1 t.1) square_terms (refl, (refl, tt)))
 
 typed_claim : IsTypedOf declared (record { terms = claim_terms; canonical = one_term 2 }) (at_object 1)
-typed_claim = typed_from_paths (quiver_of declared) 1 1 claim_terms (All-from_recursion (λ (t : Term). IsPath (quiver_of declared) 1 1 t.1) claim_terms (refl, tt))
+typed_claim = typed_from_paths (quiver_of declared) 1 1 claim_terms
+    (All-from_recursion (λ (t : Term). IsPath (quiver_of declared) 1 1 t.1) claim_terms (refl, tt))
 
 letter_plays : (a : ℕ) → is_in_play declared false (0 ∷ []) a ≡ true → All (IsInPlay declared false (0 ∷ [])) (a ∷ [])
 letter_plays a is = All-from_recursion (IsInPlay declared false (0 ∷ [])) (a ∷ []) (is, tt)
@@ -128,22 +135,29 @@ posed = record {
   marked_ascending = all_pairs_one (λ (v w : Object). v.0 < w.0) (record { 0 = 0 });
   few_assumptions = omega arith;
   assumptions_typed = (typed_zero, (typed_square, tt));
-  assumption_ends = All-from_recursion (HasObjects declared) parts.sigs (record { source = omega arith; target = omega arith }, (record { source = omega arith; target = omega arith }, tt));
+  assumption_ends = All-from_recursion (HasObjects declared) parts.sigs
+      (record { source = omega arith; target = omega arith }, (record { source = omega arith; target = omega arith }, tt));
   assumption_letters = All-from_recursion (HasLettersInPlay declared false (0 ∷ [])) parts.assumptions (
     All-from_recursion (λ (t : Term). All (IsInPlay declared false (0 ∷ [])) t.1) zero_terms (letter_plays 0 refl, tt),
-    (All-from_recursion (λ (t : Term). All (IsInPlay declared false (0 ∷ [])) t.1) square_terms (All-from_recursion (IsInPlay declared false (0 ∷ [])) (2 ∷ 2 ∷ []) (refl, (refl, tt)), (letter_plays 2 refl, tt)), tt),
+    (
+      All-from_recursion (λ (t : Term). All (IsInPlay declared false (0 ∷ [])) t.1) square_terms
+          (All-from_recursion (IsInPlay declared false (0 ∷ [])) (2 ∷ 2 ∷ []) (refl, (refl, tt)), (letter_plays 2 refl, tt)),
+      tt,
+    ),
   );
   few_claims = omega arith;
   claims_typed = (typed_claim, tt);
   claim_ends = All-from_recursion (HasObjects declared) parts.claim_sigs (record { source = omega arith; target = omega arith }, tt);
-  claim_letters = All-from_recursion (HasLettersInPlay declared false (0 ∷ [])) parts.claims (All-from_recursion (λ (t : Term). All (IsInPlay declared false (0 ∷ [])) t.1) claim_terms (letter_plays 2 refl, tt), tt);
+  claim_letters = All-from_recursion (HasLettersInPlay declared false (0 ∷ [])) parts.claims
+      (All-from_recursion (λ (t : Term). All (IsInPlay declared false (0 ∷ [])) t.1) claim_terms (letter_plays 2 refl, tt), tt);
   some_shape = omega arith;
   few_shapes = omega arith;
   shapes = All-from_recursion (IsShape 2) parts.shapes (
     record {
       modulus = refl;
       side_of_each = refl;
-      sides = All-from_recursion IsSide (1 ∷ 1 ∷ []) (record { least = omega arith; most = omega arith }, (record { least = omega arith; most = omega arith }, tt));
+      sides = All-from_recursion IsSide (1 ∷ 1 ∷ [])
+          (record { least = omega arith; most = omega arith }, (record { least = omega arith; most = omega arith }, tt));
     },
     tt,
   );
@@ -151,7 +165,7 @@ posed = record {
   solved_ascending = λ i j d less inside. absurd (omega (arith, less, inside));
 }
 
--- ---- the rules
+-- the rules
 abbrev zero_rule : Rule
 zero_rule = record { leading = pos 1; lead = 0 ∷ []; poly = record { terms = zero_terms; canonical = one_term 0 } }
 
@@ -191,7 +205,7 @@ are_rules = All-from_recursion (IsRule 4 word_cmp) rules (
   ),
 )
 
--- ---- the one ambiguity, with the overlap word x x x
+-- the one ambiguity, with the overlap word x x x
 abbrev itself : Ambiguity
 itself = record { i = 2; j = 2; kind = Overlap; place = 1 }
 
@@ -201,16 +215,28 @@ is_one = record {
   second = square_rule;
   first_numbered = refl;
   second_numbered = refl;
-  meets = record { before = 2 ∷ []; shared = 2 ∷ []; after = 2 ∷ []; left_splits = refl; right_splits = refl; at_place = refl; before_letters = omega arith; shared_letters = omega arith; after_letters = omega arith };
+  meets =
+      record {
+        before = 2 ∷ [];
+        shared = 2 ∷ [];
+        after = 2 ∷ [];
+        left_splits = refl;
+        right_splits = refl;
+        at_place = refl;
+        before_letters = omega arith;
+        shared_letters = omega arith;
+        after_letters = omega arith;
+      };
 }
 
 difference : s_polynomial_of rules itself ≡ Ok []
 difference = refl
 
 zero_reduced : IsReduced 4 word_cmp rules [] (start_of [])
-zero_reduced = normal_forms_are_reduced 4 word_cmp (rank_of 4) rules [] 0 (start_of []) laws are_rules (shaped_as_written [] tt tt tt) (All-from_recursion (λ (t : Term). IsOver 4 t.1) [] tt) refl
+zero_reduced = normal_forms_are_reduced 4 word_cmp (rank_of 4) rules [] 0 (start_of []) laws are_rules (shaped_as_written [] tt tt tt)
+    (All-from_recursion (λ (t : Term). IsOver 4 t.1) [] tt) refl
 
--- ---- there is no other
+-- there is no other
 -- a rule by its number
 data WhichRule (n : ℕ) (g : Rule) : Type 0 where
   is_zero_rule : n ≡ 1 → g.lead ≡ 0 ∷ [] → WhichRule n g
@@ -228,11 +254,13 @@ which (suc (suc (suc n))) g is = absurd (cc)
 no_inclusion : (n m : ℕ) (f g : Rule) (place : ℕ) → WhichRule n f → WhichRule m g → MeetsAs Inclusion n m f.lead g.lead place → ⊥
 no_inclusion n m f g place (is_zero_rule i p) (is_zero_rule j q) at = at.0 (i ∙ sym j)
 no_inclusion n m f g place (is_square_rule i p) (is_square_rule j q) at = at.0 (i ∙ sym j)
-no_inclusion n m f g place (is_zero_rule i p) (is_square_rule j q) at = too_long at.1.before at.1.after (sym p ∙ at.1.splits ∙ ap (λ w. at.1.before ++ (w ++ at.1.after)) q)
+no_inclusion n m f g place (is_zero_rule i p) (is_square_rule j q) at =
+    too_long at.1.before at.1.after (sym p ∙ at.1.splits ∙ ap (λ w. at.1.before ++ (w ++ at.1.after)) q)
   where
     too_long : (before after : List ℕ) → 0 ∷ [] ≡ before ++ (2 ∷ 2 ∷ after) → ⊥
     too_long before after e = omega (arith, ap length e, length-append before (2 ∷ 2 ∷ after))
-no_inclusion n m f g place (is_square_rule i p) (is_zero_rule j q) at = other_letter at.1.before at.1.after (sym p ∙ at.1.splits ∙ ap (λ w. at.1.before ++ (w ++ at.1.after)) q)
+no_inclusion n m f g place (is_square_rule i p) (is_zero_rule j q) at =
+    other_letter at.1.before at.1.after (sym p ∙ at.1.splits ∙ ap (λ w. at.1.before ++ (w ++ at.1.after)) q)
   where
     first : (a b : ℕ) (v w : List ℕ) → a ∷ v ≡ b ∷ w → a ≡ b
     first a b v w e = cc
@@ -257,7 +285,8 @@ only_itself a is = by_kind a.kind refl is.meets (which a.i is.first is.first_num
       where
         short : (before shared : List ℕ) → 0 ∷ [] ≡ before ++ shared → 0 < length before → 0 < length shared → ⊥
         short before shared e some other = omega (arith, ap length e, length-append before shared, some, other)
-    by_kind Overlap kind at (is_square_rule i p) (is_zero_rule j q) = absurd (short at.shared at.after (sym q ∙ at.right_splits) at.shared_letters at.after_letters)
+    by_kind Overlap kind at (is_square_rule i p) (is_zero_rule j q) =
+        absurd (short at.shared at.after (sym q ∙ at.right_splits) at.shared_letters at.after_letters)
       where
         short : (shared after : List ℕ) → 0 ∷ [] ≡ shared ++ after → 0 < length shared → 0 < length after → ⊥
         short shared after e some other = omega (arith, ap length e, length-append shared after, some, other)
@@ -269,17 +298,27 @@ only_itself a is = by_kind a.kind refl is.meets (which a.i is.first is.first_num
 resolved : Resolved 4 word_cmp rules
 resolved = record {
   each = λ a is. subst (IsResolved 4 word_cmp rules) (sym (only_itself a is))
-      (zero_rests_are_resolved 4 word_cmp (rank_of 4) rules itself [] (start_of []) laws are_rules is_one (s_polynomials_balance rules itself [] difference) zero_reduced (record { at = λ w. refl }));
+      (zero_rests_are_resolved 4 word_cmp (rank_of 4) rules itself [] (start_of []) laws are_rules is_one
+      (s_polynomials_balance rules itself [] difference) zero_reduced (record { at = λ w. refl }));
 }
 
--- ---- types, and the generators: [U], x x - x and [U] [U] - [U]
+-- types, and the generators: [U], x x - x and [U] [U] - [U]
 abbrev play : ℕ → Bool
 play = is_in_play declared false (0 ∷ [])
 
 typed : All (λ g. IsTypedInPlay (quiver_of declared) play g.poly.terms) rules
 typed = All-from_recursion (λ (g : Rule). IsTypedInPlay (quiver_of declared) play g.poly.terms) rules (
   record { source = 0; target = 0; typed = typed_zero; in_play = record { at = words_with_coefficients (AreInPlay play) zero_terms (refl, tt) } },
-  (record { source = 1; target = 1; typed = typed_square; in_play = record { at = words_with_coefficients (AreInPlay play) square_terms (refl, (refl, tt)) } }, tt),
+  (
+    record {
+      source = 1;
+      target = 1;
+      typed = typed_square;
+      in_play =
+          record { at = words_with_coefficients (AreInPlay play) square_terms (refl, (refl, tt)) };
+    },
+    tt,
+  ),
 )
 
 generators_are : generators_in parts ≡ zero_terms ∷ square_terms ∷ ((pos 1, 0 ∷ 0 ∷ []) ∷ (negsuc 0, 0 ∷ []) ∷ []) ∷ []
@@ -301,7 +340,14 @@ generated = All-from_recursion (InRationalIdeal (polynomials_of rules)) (generat
     (
       record {
         denominator = pos 1;
-        rows = record { coefficient = pos 1; left = []; generator = 1; right = 0 ∷ [] } ∷ record { coefficient = negsuc 0; left = []; generator = 1; right = [] } ∷ [];
+        rows =
+            record { coefficient = pos 1; left = []; generator = 1; right = 0 ∷ [] } ∷ record {
+              coefficient = negsuc 0;
+              left = [];
+              generator = 1;
+              right =
+                  [];
+            } ∷ [];
         combination = record { positive = omega (arith, ints); sum = record { at = λ w. refl } };
       },
       tt,
@@ -312,12 +358,13 @@ generated = All-from_recursion (InRationalIdeal (polynomials_of rules)) (generat
 basis : IsBasis parts rules
 basis = record { posed = posed; are_rules = are_rules; resolved = resolved; typed = typed; generated = generated }
 
--- ---- x is its own normal form, and so it is outside
+-- x is its own normal form, and so it is outside
 claim_shaped : IsShaped claim_terms
 claim_shaped = shaped_as_written claim_terms (tt, tt) ((λ e. cc), tt) (omega arith, tt)
 
 claim_reduced : IsReduced 4 word_cmp rules claim_terms (start_of claim_terms)
-claim_reduced = normal_forms_are_reduced 4 word_cmp (rank_of 4) rules claim_terms 0 (start_of claim_terms) laws are_rules claim_shaped (All-from_recursion (λ (t : Term). IsOver 4 t.1) claim_terms (over_letter 2 (omega arith), tt)) refl
+claim_reduced = normal_forms_are_reduced 4 word_cmp (rank_of 4) rules claim_terms 0 (start_of claim_terms) laws are_rules claim_shaped
+    (All-from_recursion (λ (t : Term). IsOver 4 t.1) claim_terms (over_letter 2 (omega arith), tt)) refl
 
 outside : InRationalIdeal (polynomials_of rules) claim_terms → ⊥
 outside inside = clash (rests_of_ideal_are_zero 4 word_cmp (rank_of 4) rules claim_terms (start_of claim_terms) laws are_rules resolved inside
@@ -331,5 +378,6 @@ outside inside = clash (rests_of_ideal_are_zero 4 word_cmp (rank_of 4) rules cla
 
 -- so the category tells x from zero
 example : SharpMeans parts rules claim_terms
-example = sharp_means parts rules basis (((refl, tt), tt), (((refl, (refl, tt)), ((refl, tt), tt)), (((refl, (refl, tt)), ((refl, tt), tt)), tt))) claim_terms ((refl, tt), tt)
+example = sharp_means parts rules basis
+    (((refl, tt), tt), (((refl, (refl, tt)), ((refl, tt), tt)), (((refl, (refl, tt)), ((refl, tt), tt)), tt))) claim_terms ((refl, tt), tt)
     (record { source = 1; target = 1; source_is_object = omega arith; target_is_object = omega arith; typed = typed_claim }) outside

@@ -19,7 +19,8 @@ module _ {K : Type 0} (k : Field K) where
       back a b = sym (k.plus_assoc (k.minus a) a b) ∙ ap (λ z. k.plus z b) (k.plus_comm (k.minus a) a ∙ k.plus_minus a) ∙ none_plus b
 
   pub times_none : (a : K) → k.times a k.none ≡ k.none
-  times_none a = plus_cancel (k.times a k.none) (k.times a k.none) k.none (sym (k.times_plus a k.none k.none) ∙ ap (λ z. k.times a z) (k.plus_none k.none) ∙ sym (k.plus_none (k.times a k.none)))
+  times_none a = plus_cancel (k.times a k.none) (k.times a k.none) k.none
+      (sym (k.times_plus a k.none k.none) ∙ ap (λ z. k.times a z) (k.plus_none k.none) ∙ sym (k.plus_none (k.times a k.none)))
 
   pub none_times : (a : K) → k.times k.none a ≡ k.none
   none_times a = k.times_comm k.none a ∙ times_none a
@@ -28,7 +29,8 @@ module _ {K : Type 0} (k : Field K) where
   minus_unique a b e = plus_cancel a b (k.minus a) (e ∙ sym (k.plus_minus a))
 
   pub minus_times : (a b : K) → k.times (k.minus a) b ≡ k.minus (k.times a b)
-  minus_times a b = minus_unique (k.times a b) (k.times (k.minus a) b) (sym (plus_times a (k.minus a) b) ∙ ap (λ z. k.times z b) (k.plus_minus a) ∙ none_times b)
+  minus_times a b = minus_unique (k.times a b) (k.times (k.minus a) b)
+      (sym (plus_times a (k.minus a) b) ∙ ap (λ z. k.times z b) (k.plus_minus a) ∙ none_times b)
 
   pub times_minus : (a b : K) → k.times a (k.minus b) ≡ k.minus (k.times a b)
   times_minus a b = k.times_comm a (k.minus b) ∙ minus_times b a ∙ ap k.minus (k.times_comm b a)
@@ -37,7 +39,8 @@ module _ {K : Type 0} (k : Field K) where
   minus_one a = minus_times k.one a ∙ ap k.minus (k.one_times a)
 
   pub middle : (a b c d : K) → k.plus (k.plus a b) (k.plus c d) ≡ k.plus (k.plus a c) (k.plus b d)
-  middle a b c d = k.plus_assoc a b (k.plus c d) ∙ ap (λ z. k.plus a z) (sym (k.plus_assoc b c d) ∙ ap (λ z. k.plus z d) (k.plus_comm b c) ∙ k.plus_assoc c b d) ∙ sym (k.plus_assoc a c (k.plus b d))
+  middle a b c d = k.plus_assoc a b (k.plus c d) ∙ ap (λ z. k.plus a z)
+      (sym (k.plus_assoc b c d) ∙ ap (λ z. k.plus z d) (k.plus_comm b c) ∙ k.plus_assoc c b d) ∙ sym (k.plus_assoc a c (k.plus b d))
 
   pub plus_swap : (a b c : K) → k.plus a (k.plus b c) ≡ k.plus b (k.plus a c)
   plus_swap a b c = sym (k.plus_assoc a b c) ∙ ap (λ z. k.plus z c) (k.plus_comm a b) ∙ k.plus_assoc b a c
@@ -50,8 +53,10 @@ module _ {K : Type 0} (k : Field K) where
 
   -- a positive integer cancels
   pub int_cancel : (n : ℕ) (a : K) → 0 < n → k.times (k.int (pos n)) a ≡ k.none → a ≡ k.none
-  int_cancel n a h e = sym (k.one_times a) ∙ ap (λ z. k.times z a) (sym (k.part_is n h) ∙ k.times_comm (k.int (pos n)) (k.part n)) ∙ k.times_assoc (k.part n) (k.int (pos n)) a ∙ ap (λ z. k.times (k.part n) z) e ∙ times_none (k.part n)
+  int_cancel n a h e = sym (k.one_times a) ∙ ap (λ z. k.times z a) (sym (k.part_is n h) ∙ k.times_comm (k.int (pos n)) (k.part n))
+      ∙ k.times_assoc (k.part n) (k.int (pos n)) a ∙ ap (λ z. k.times (k.part n) z) e ∙ times_none (k.part n)
 
   -- two differ by nothing
   pub equal_from_rest : (a b : K) → k.plus a (k.minus b) ≡ k.none → a ≡ b
-  equal_from_rest a b e = sym (k.plus_none a) ∙ ap (λ z. k.plus a z) (sym (k.plus_comm (k.minus b) b ∙ k.plus_minus b)) ∙ sym (k.plus_assoc a (k.minus b) b) ∙ ap (λ z. k.plus z b) e ∙ none_plus b
+  equal_from_rest a b e = sym (k.plus_none a) ∙ ap (λ z. k.plus a z) (sym (k.plus_comm (k.minus b) b ∙ k.plus_minus b)) ∙ sym (k.plus_assoc a (k.minus b) b)
+      ∙ ap (λ z. k.plus z b) e ∙ none_plus b

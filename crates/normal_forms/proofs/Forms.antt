@@ -1,5 +1,5 @@
 -- Lists of with_words with coefficients in a field, and sums over their terms.
-use Rattle.std.proofs.Common.{◌≡◌, ℕ, ◌<◌, ◌≤◌, suc, refl, sym, ap, ap₂, subst, ◌∙◌, Bool, true, false, cond, List, [], ◌∷◌, ◌++◌, length, arith}
+use Rattle.std.proofs.Common.{◌≡◌, ℕ, ◌<◌, ◌≤◌, suc, refl, sym, ap, ap₂, subst, ◌∙◌, Bool, true, false, cond, [], ◌∷◌, ◌++◌, length, arith}
 use Rattle.normal_forms.specs.Forms.{Form, with_words, multiple_form}
 use Rattle.normal_forms.proofs.Field.{Field, numbers_of}
 use Rattle.definitions.specs.Poly.{Word, word_eq}
@@ -81,9 +81,18 @@ module _ {K : Type 0} (k : Field K) where
   sum-without f w [] = sym (ap (λ z. k.plus z k.none) (none_times k (f w)) ∙ k.plus_none k.none)
   sum-without f w (t ∷ p) = go (word_eq t.1 w) refl (sum-without f w p)
     where
-      go : (b : Bool) → word_eq t.1 w ≡ b → sum f p ≡ k.plus (k.times (look p w) (f w)) (sum f (without w p)) → k.plus (k.times t.0 (f t.1)) (sum f p) ≡ k.plus (k.times (k.plus (k.times t.0 (cond (word_eq t.1 w) k.one k.none)) (look p w)) (f w)) (sum f (cond (word_eq t.1 w) (without w p) (t ∷ without w p)))
-      go true e ih = rw e (ap₂ (λ x y. k.plus (k.times t.0 (f x)) y) (word_eq-true t.1 w e) ih ∙ sym (k.plus_assoc (k.times t.0 (f w)) (k.times (look p w) (f w)) (sum f (without w p))) ∙ ap (λ z. k.plus z (sum f (without w p))) (sym (plus_times k t.0 (look p w) (f w)) ∙ ap (λ z. k.times (k.plus z (look p w)) (f w)) (sym (times_one k t.0))))
-      go false e ih = rw e (ap (λ z. k.plus (k.times t.0 (f t.1)) z) ih ∙ plus_swap k (k.times t.0 (f t.1)) (k.times (look p w) (f w)) (sum f (without w p)) ∙ ap (λ z. k.plus (k.times z (f w)) (k.plus (k.times t.0 (f t.1)) (sum f (without w p)))) (sym (ap (λ z. k.plus z (look p w)) (times_none k t.0) ∙ none_plus k (look p w))))
+      go : (b : Bool) → word_eq t.1 w ≡ b → sum f p ≡ k.plus (k.times (look p w) (f w)) (sum f (without w p))
+          → k.plus (k.times t.0 (f t.1)) (sum f p) ≡ k.plus (k.times (k.plus (k.times t.0 (cond (word_eq t.1 w) k.one k.none)) (look p w)) (f w))
+          (sum f (cond (word_eq t.1 w) (without w p) (t ∷ without w p)))
+      go true e ih = rw e
+          (ap₂ (λ x y. k.plus (k.times t.0 (f x)) y) (word_eq-true t.1 w e) ih
+          ∙ sym (k.plus_assoc (k.times t.0 (f w)) (k.times (look p w) (f w)) (sum f (without w p)))
+          ∙ ap (λ z. k.plus z (sum f (without w p)))
+          (sym (plus_times k t.0 (look p w) (f w)) ∙ ap (λ z. k.times (k.plus z (look p w)) (f w)) (sym (times_one k t.0))))
+      go false e ih = rw e
+          (ap (λ z. k.plus (k.times t.0 (f t.1)) z) ih ∙ plus_swap k (k.times t.0 (f t.1)) (k.times (look p w) (f w)) (sum f (without w p))
+          ∙ ap (λ z. k.plus (k.times z (f w)) (k.plus (k.times t.0 (f t.1)) (sum f (without w p))))
+          (sym (ap (λ z. k.plus z (look p w)) (times_none k t.0) ∙ none_plus k (look p w))))
 
   look-without_same : (w : Word) (p : Form K) → look (without w p) w ≡ k.none
   look-without_same w [] = refl
@@ -91,7 +100,9 @@ module _ {K : Type 0} (k : Field K) where
     where
       go : (b : Bool) → word_eq t.1 w ≡ b → look (without w p) w ≡ k.none → look (cond (word_eq t.1 w) (without w p) (t ∷ without w p)) w ≡ k.none
       go true e ih = rw e ih
-      go false e ih = rw e (ap (λ z. k.plus (k.times t.0 (cond z k.one k.none)) (look (without w p) w)) e ∙ ap (λ z. k.plus z (look (without w p) w)) (times_none k t.0) ∙ none_plus k (look (without w p) w) ∙ ih)
+      go false e ih = rw e
+          (ap (λ z. k.plus (k.times t.0 (cond z k.one k.none)) (look (without w p) w)) e ∙ ap (λ z. k.plus z (look (without w p) w)) (times_none k t.0)
+          ∙ none_plus k (look (without w p) w) ∙ ih)
 
   hit_apart : (u w v : Word) → word_eq u w ≡ false → word_eq v w ≡ true → hit u v ≡ k.none
   hit_apart u w v h e = ap (λ z. cond z k.one k.none) (subst (λ x. word_eq u x ≡ false) (sym (word_eq-true v w e)) h)
@@ -100,9 +111,11 @@ module _ {K : Type 0} (k : Field K) where
   pub sum-null : (f : Word → K) (p : Form K) → ((w : Word) → look p w ≡ k.none) → sum f p ≡ k.none
   sum-null f p = strong (λ n. (p : Form K) → length p ≡ n → ((w : Word) → look p w ≡ k.none) → sum f p ≡ k.none) step (length p) p refl
     where
-      step : (n : ℕ) → ((m : ℕ) → m < n → (p : Form K) → length p ≡ m → ((w : Word) → look p w ≡ k.none) → sum f p ≡ k.none) → (p : Form K) → length p ≡ n → ((w : Word) → look p w ≡ k.none) → sum f p ≡ k.none
+      step : (n : ℕ) → ((m : ℕ) → m < n → (p : Form K) → length p ≡ m → ((w : Word) → look p w ≡ k.none) → sum f p ≡ k.none) → (p : Form K) → length p ≡ n
+          → ((w : Word) → look p w ≡ k.none) → sum f p ≡ k.none
       step n ih [] e h = refl
-      step n ih (t ∷ p) e h = sum-without f t.1 (t ∷ p) ∙ ap₂ (λ x y. k.plus (k.times x (f t.1)) y) (h t.1) rest ∙ ap (λ z. k.plus z k.none) (none_times k (f t.1)) ∙ k.plus_none k.none
+      step n ih (t ∷ p) e h = sum-without f t.1 (t ∷ p) ∙ ap₂ (λ x y. k.plus (k.times x (f t.1)) y) (h t.1) rest
+          ∙ ap (λ z. k.plus z k.none) (none_times k (f t.1)) ∙ k.plus_none k.none
         where
           smaller : length (without t.1 (t ∷ p)) < n
           smaller = rw (ap (λ b. cond b (without t.1 p) (t ∷ without t.1 p)) (word_eq-same t.1)) (omega (arith, length-without t.1 p, e))
@@ -112,14 +125,20 @@ module _ {K : Type 0} (k : Field K) where
             where
               go : (b : Bool) → word_eq t.1 w ≡ b → look (without t.1 (t ∷ p)) w ≡ k.none
               go true q = subst (λ x. look (without t.1 (t ∷ p)) x ≡ k.none) (word_eq-true t.1 w q) (look-without_same t.1 (t ∷ p))
-              go false q = plus_cancel k (k.times (look (t ∷ p) t.1) (hit t.1 w)) (look (without t.1 (t ∷ p)) w) k.none (sym (sum-without (λ u. hit u w) t.1 (t ∷ p)) ∙ h w ∙ sym (k.plus_none (k.times (look (t ∷ p) t.1) (hit t.1 w)) ∙ ap (λ b. k.times (look (t ∷ p) t.1) (cond b k.one k.none)) q ∙ times_none k (look (t ∷ p) t.1)))
+              go false q = plus_cancel k (k.times (look (t ∷ p) t.1) (hit t.1 w)) (look (without t.1 (t ∷ p)) w) k.none
+                  (sym (sum-without (λ u. hit u w) t.1 (t ∷ p)) ∙ h w
+                  ∙ sym
+                  (k.plus_none (k.times (look (t ∷ p) t.1) (hit t.1 w)) ∙ ap (λ b. k.times (look (t ∷ p) t.1) (cond b k.one k.none)) q
+                  ∙ times_none k (look (t ∷ p) t.1)))
 
           rest : sum f (without t.1 (t ∷ p)) ≡ k.none
           rest = ih (length (without t.1 (t ∷ p))) smaller (without t.1 (t ∷ p)) refl looks
 
   -- a sum depends on the coefficients alone
   pub sum-same : (f : Word → K) (p q : Form K) → ((w : Word) → look p w ≡ look q w) → sum f p ≡ sum f q
-  sum-same f p q h = equal_from_rest k (sum f p) (sum f q) (sym (difference f) ∙ sum-null f (p ++ scaled (k.minus k.one) q) (λ w. difference (λ u. hit u w) ∙ ap (λ z. k.plus z (k.minus (look q w))) (h w) ∙ k.plus_minus (look q w)))
+  sum-same f p q h = equal_from_rest k (sum f p) (sum f q)
+      (sym (difference f) ∙ sum-null f (p ++ scaled (k.minus k.one) q)
+      (λ w. difference (λ u. hit u w) ∙ ap (λ z. k.plus z (k.minus (look q w))) (h w) ∙ k.plus_minus (look q w)))
     where
       difference : (j : Word → K) → sum j (p ++ scaled (k.minus k.one) q) ≡ k.plus (sum j p) (k.minus (sum j q))
       difference j = sum-append j p (scaled (k.minus k.one) q) ∙ ap (λ z. k.plus (sum j p) z) (sum-scaled j (k.minus k.one) q ∙ minus_one k (sum j q))

@@ -1,5 +1,5 @@
 -- Numbers written in another way: what is made of them is written in that way too.
-use Rattle.std.proofs.Common.{◌≡◌, ℕ, ◌+◌, ℤ, Bool, true, false, cond, List, [], ◌∷◌, ◌++◌, length, take, drop, Option, Some, None, refl, sym, ap, ap₂, ◌∙◌, subst}
+use Rattle.std.proofs.Common.{◌≡◌, ℕ, ◌+◌, ℤ, Bool, true, false, cond, List, [], ◌∷◌, ◌++◌, length, take, drop, Option, Some, None, refl, ap, ap₂, ◌∙◌, subst}
 use Rattle.std.specs.Int.RustNames.{unsigned_abs}
 use Rattle.definitions.specs.Poly.{Word, Term, word_eq}
 use Rattle.rule_reduce.specs.declared.rule.Rule.{Rule}
@@ -55,7 +55,8 @@ module _ {K L : Type 0} (k : Numbers K) (m : Numbers L) (h : K → L) (is : IsHo
       where
         go : (b c : Bool) → mapped h (insert_term k before t p) ≡ insert_term m before (h t.0, t.1) (mapped h p)
             → mapped h (cond b (put k before (k.plus t.0 s.0, s.1) p) (cond c (put k before t (s ∷ p)) (s ∷ insert_term k before t p)))
-            ≡ cond b (put m before (m.plus (h t.0) (h s.0), s.1) (mapped h p)) (cond c (put m before (h t.0, t.1) ((h s.0, s.1) ∷ mapped h p)) ((h s.0, s.1) ∷ insert_term m before (h t.0, t.1) (mapped h p)))
+            ≡ cond b (put m before (m.plus (h t.0) (h s.0), s.1) (mapped h p))
+            (cond c (put m before (h t.0, t.1) ((h s.0, s.1) ∷ mapped h p)) ((h s.0, s.1) ∷ insert_term m before (h t.0, t.1) (mapped h p)))
         go true c rest = mapped-put (k.plus t.0 s.0, s.1) p ∙ ap (λ x. put m before (x, s.1) (mapped h p)) (is.plus t.0 s.0)
         go false true rest = mapped-put t (s ∷ p)
         go false false rest = ap (λ z. (h s.0, s.1) ∷ z) rest
@@ -70,12 +71,14 @@ module _ {K L : Type 0} (k : Numbers K) (m : Numbers L) (h : K → L) (is : IsHo
     mapped-where true form other same = same refl
     mapped-where false form other same = refl
 
-    mapped-lower : (M : Word) (form : (N : Word) → below N M ≡ true → Form K) (other : (N : Word) → below N M ≡ true → Form L) → ((N : Word) (e : below N M ≡ true) → mapped h (form N e) ≡ other N e)
+    mapped-lower : (M : Word) (form : (N : Word) → below N M ≡ true → Form K) (other : (N : Word) → below N M ≡ true → Form L)
+        → ((N : Word) (e : below N M ≡ true) → mapped h (form N e) ≡ other N e)
         → (q : ℕ) (l r : Word) (p : List Term) → mapped h (lower_forms k below rules M form q l r p) ≡ lower_forms m below rules M other q l r p
     mapped-lower M form other same q l r [] = refl
     mapped-lower M form other same q l r (t ∷ p) =
         mapped-append h (multiple_form k d first) (lower_forms k below rules M form q l r p)
-        ∙ ap₂ ◌++◌ (mapped-multiple d first ∙ ap₂ (multiple_form m) factor (mapped-where (below N M) (form N) (other N) (same N))) (mapped-lower M form other same q l r p)
+        ∙ ap₂ ◌++◌ (mapped-multiple d first ∙ ap₂ (multiple_form m) factor (mapped-where (below N M) (form N) (other N) (same N)))
+        (mapped-lower M form other same q l r p)
       where
         N : Word
         N = l ++ (t.1 ++ r)
@@ -92,13 +95,17 @@ module _ {K L : Type 0} (k : Numbers K) (m : Numbers L) (h : K → L) (is : IsHo
     mapped-word : (M : Word) (a : IsGrounded below M) → mapped h (word_form k below rules M a) ≡ word_form m below rules M a
     mapped-word _ (grounded M lower) = go (first_rule rules M) (λ N e. mapped-word N (lower N e))
       where
-        go : (f : Option (Rule × ℕ)) → ((N : Word) (e : below N M ≡ true) → mapped h (word_form k below rules N (lower N e)) ≡ word_form m below rules N (lower N e))
-            → mapped h (form_by k below rules M (λ N e. word_form k below rules N (lower N e)) f) ≡ form_by m below rules M (λ N e. word_form m below rules N (lower N e)) f
+        go : (f : Option (Rule × ℕ))
+            → ((N : Word) (e : below N M ≡ true) → mapped h (word_form k below rules N (lower N e)) ≡ word_form m below rules N (lower N e))
+            → mapped h (form_by k below rules M (λ N e. word_form k below rules N (lower N e)) f) ≡ form_by m below rules M
+            (λ N e. word_form m below rules N (lower N e)) f
         go None same = ap (λ x. (x, M) ∷ []) is.one
         go (Some f) same = mapped-lower M _ _ same (unsigned_abs f.0.leading) (take f.1 M) (drop (f.1 + length f.0.lead) M) (other_terms f.0)
 
-    pub mapped-normal : (all : (w : Word) → IsGrounded below w) (p : Form K) → mapped h (rational_normal_form k below rules all p) ≡ rational_normal_form m below rules all (mapped h p)
+    pub mapped-normal : (all : (w : Word) → IsGrounded below w) (p : Form K)
+        → mapped h (rational_normal_form k below rules all p) ≡ rational_normal_form m below rules all (mapped h p)
     mapped-normal all [] = refl
     mapped-normal all (t ∷ p) =
         mapped-append h (multiple_form k t.0 (word_form k below rules t.1 (all t.1))) (rational_normal_form k below rules all p)
-        ∙ ap₂ ◌++◌ (mapped-multiple t.0 (word_form k below rules t.1 (all t.1)) ∙ ap (multiple_form m (h t.0)) (mapped-word t.1 (all t.1))) (mapped-normal all p)
+        ∙ ap₂ ◌++◌ (mapped-multiple t.0 (word_form k below rules t.1 (all t.1)) ∙ ap (multiple_form m (h t.0)) (mapped-word t.1 (all t.1)))
+        (mapped-normal all p)

@@ -1,5 +1,5 @@
 -- A category that is written in another way keeps its laws, its representations and their values.
-use Rattle.std.proofs.Common.{◌≡◌, ℕ, zero, suc, ◌<◌, ℤ, pos, negsuc, refl, sym, ap, ap₂, subst, ◌∙◌, Bool, true, false, cond, List, [], ◌∷◌}
+use Rattle.std.proofs.Common.{◌≡◌, ℕ, zero, suc, ℤ, pos, negsuc, refl, sym, ap, ap₂, subst, ◌∙◌, Bool, true, false, cond, List, [], ◌∷◌}
 use Rattle.definitions.specs.Poly.{Poly}
 use Rattle.definitions.specs.Category.{Structure, IsArrow, PreadditiveLaws}
 use Rattle.definitions.specs.Quiver.{Quiver, source, target, is_path}
@@ -7,7 +7,8 @@ use Rattle.definitions.specs.Soundness.{HasValueZero, HasValueZeroAt}
 use Rattle.definitions.specs.Representation.{Representation, Represents, Cancels, natural_multiple, multiple, path_value, word_value, value_at}
 
 -- The laws of a structure hold where they follow from what its objects and its arrows tell.
-pub laws_from_premise : {Object Arrow : Type 0} (c : Structure Object Arrow) (P : Type 0) → ((x : Object) → c.is_object x → P) → ((a : Arrow) → c.is_arrow a → P) → (P → PreadditiveLaws c) → PreadditiveLaws c
+pub laws_from_premise : {Object Arrow : Type 0} (c : Structure Object Arrow) (P : Type 0) → ((x : Object) → c.is_object x → P)
+    → ((a : Arrow) → c.is_arrow a → P) → (P → PreadditiveLaws c) → PreadditiveLaws c
 laws_from_premise c P object arrow laws = record {
   source_is_object = λ a h. (laws (arrow a h)).source_is_object a h;
   target_is_object = λ a h. (laws (arrow a h)).target_is_object a h;
@@ -54,7 +55,13 @@ module _ {Object A B : Type 0} (s : Structure Object A) (c : Structure Object B)
       let below = i.arrow b h.arrow in
       record {
         arrow = down b;
-        is_arrow = record { arrow = below.0; source = sym (i.source (down b)) ∙ ap c.source below.1 ∙ h.source; target = sym (i.target (down b)) ∙ ap c.target below.1 ∙ h.target };
+        is_arrow =
+            record {
+              arrow = below.0;
+              source = sym (i.source (down b)) ∙ ap c.source below.1 ∙ h.source;
+              target = sym (i.target (down b))
+                  ∙ ap c.target below.1 ∙ h.target;
+            };
         same = below.1;
       }
 
@@ -67,28 +74,38 @@ module _ {Object A B : Type 0} (s : Structure Object A) (c : Structure Object B)
 
   pub image_laws : PreadditiveLaws s → PreadditiveLaws c
   image_laws laws = record {
-    source_is_object = λ b h. let u = i.arrow b h in i.image_object (c.source b) (subst s.is_object (sym (i.source (down b)) ∙ ap c.source u.1) (laws.source_is_object (down b) u.0));
-    target_is_object = λ b h. let u = i.arrow b h in i.image_object (c.target b) (subst s.is_object (sym (i.target (down b)) ∙ ap c.target u.1) (laws.target_is_object (down b) u.0));
+    source_is_object = λ b h. let u = i.arrow b h in i.image_object (c.source b)
+        (subst s.is_object (sym (i.source (down b)) ∙ ap c.source u.1) (laws.source_is_object (down b) u.0));
+    target_is_object = λ b h. let u = i.arrow b h in i.image_object (c.target b)
+        (subst s.is_object (sym (i.target (down b)) ∙ ap c.target u.1) (laws.target_is_object (down b) u.0));
     identity_is_arrow = λ x h. subst (IsArrow c x x) (sym (i.identity x)) (image x x (s.identity x) (laws.identity_is_arrow x (i.object x h)));
     zero_is_arrow = λ x y h j. subst (IsArrow c x y) (sym (i.zero x y)) (image x y (s.zero x y) (laws.zero_is_arrow x y (i.object x h) (i.object y j)));
-    add_is_arrow = λ x y a b h j. on_arrow (λ a. IsArrow c x y (c.add a b)) x y a h (λ a' h'. on_arrow (λ b. IsArrow c x y (c.add (up a') b)) x y b j (λ b' j'.
+    add_is_arrow = λ x y a b h j. on_arrow (λ a. IsArrow c x y (c.add a b)) x y a h
+        (λ a' h'. on_arrow (λ b. IsArrow c x y (c.add (up a') b)) x y b j (λ b' j'.
         subst (IsArrow c x y) (sym (i.add a' b')) (image x y (s.add a' b') (laws.add_is_arrow x y a' b' h' j'))));
-    negate_is_arrow = λ x y a h. on_arrow (λ a. IsArrow c x y (c.negate a)) x y a h (λ a' h'. subst (IsArrow c x y) (sym (i.negate a')) (image x y (s.negate a') (laws.negate_is_arrow x y a' h')));
-    compose_is_arrow = λ x y z a b h j. on_arrow (λ a. IsArrow c x z (c.compose a b)) y z a h (λ a' h'. on_arrow (λ b. IsArrow c x z (c.compose (up a') b)) x y b j (λ b' j'.
+    negate_is_arrow = λ x y a h. on_arrow (λ a. IsArrow c x y (c.negate a)) x y a h
+        (λ a' h'. subst (IsArrow c x y) (sym (i.negate a')) (image x y (s.negate a') (laws.negate_is_arrow x y a' h')));
+    compose_is_arrow = λ x y z a b h j. on_arrow (λ a. IsArrow c x z (c.compose a b)) y z a h
+        (λ a' h'. on_arrow (λ b. IsArrow c x z (c.compose (up a') b)) x y b j (λ b' j'.
         subst (IsArrow c x z) (sym (i.compose a' b')) (image x z (s.compose a' b') (laws.compose_is_arrow x y z a' b' h' j'))));
     compose_assoc = λ w x y z a b d h j m. on_arrow (λ a. c.compose (c.compose a b) d ≡ c.compose a (c.compose b d)) y z a h (λ a' h'.
         on_arrow (λ b. c.compose (c.compose (up a') b) d ≡ c.compose (up a') (c.compose b d)) x y b j (λ b' j'.
         on_arrow (λ d. c.compose (c.compose (up a') (up b')) d ≡ c.compose (up a') (c.compose (up b') d)) w x d m (λ d' m'.
-        ap (λ e. c.compose e (up d')) (i.compose a' b') ∙ i.compose (s.compose a' b') d' ∙ ap up (laws.compose_assoc w x y z a' b' d' h' j' m') ∙ sym (ap (c.compose (up a')) (i.compose b' d') ∙ i.compose a' (s.compose b' d')))));
-    identity_left = λ x y a h. on_arrow (λ a. c.compose (c.identity y) a ≡ a) x y a h (λ a' h'. ap (λ e. c.compose e (up a')) (i.identity y) ∙ i.compose (s.identity y) a' ∙ ap up (laws.identity_left x y a' h'));
-    identity_right = λ x y a h. on_arrow (λ a. c.compose a (c.identity x) ≡ a) x y a h (λ a' h'. ap (c.compose (up a')) (i.identity x) ∙ i.compose a' (s.identity x) ∙ ap up (laws.identity_right x y a' h'));
+        ap (λ e. c.compose e (up d')) (i.compose a' b') ∙ i.compose (s.compose a' b') d' ∙ ap up (laws.compose_assoc w x y z a' b' d' h' j' m')
+        ∙ sym (ap (c.compose (up a')) (i.compose b' d') ∙ i.compose a' (s.compose b' d')))));
+    identity_left = λ x y a h. on_arrow (λ a. c.compose (c.identity y) a ≡ a) x y a h
+        (λ a' h'. ap (λ e. c.compose e (up a')) (i.identity y) ∙ i.compose (s.identity y) a' ∙ ap up (laws.identity_left x y a' h'));
+    identity_right = λ x y a h. on_arrow (λ a. c.compose a (c.identity x) ≡ a) x y a h
+        (λ a' h'. ap (c.compose (up a')) (i.identity x) ∙ i.compose a' (s.identity x) ∙ ap up (laws.identity_right x y a' h'));
     add_assoc = λ x y a b d h j m. on_arrow (λ a. c.add (c.add a b) d ≡ c.add a (c.add b d)) x y a h (λ a' h'.
         on_arrow (λ b. c.add (c.add (up a') b) d ≡ c.add (up a') (c.add b d)) x y b j (λ b' j'.
         on_arrow (λ d. c.add (c.add (up a') (up b')) d ≡ c.add (up a') (c.add (up b') d)) x y d m (λ d' m'.
-        ap (λ e. c.add e (up d')) (i.add a' b') ∙ i.add (s.add a' b') d' ∙ ap up (laws.add_assoc x y a' b' d' h' j' m') ∙ sym (ap (c.add (up a')) (i.add b' d') ∙ i.add a' (s.add b' d')))));
+        ap (λ e. c.add e (up d')) (i.add a' b') ∙ i.add (s.add a' b') d' ∙ ap up (laws.add_assoc x y a' b' d' h' j' m')
+        ∙ sym (ap (c.add (up a')) (i.add b' d') ∙ i.add a' (s.add b' d')))));
     add_comm = λ x y a b h j. on_arrow (λ a. c.add a b ≡ c.add b a) x y a h (λ a' h'. on_arrow (λ b. c.add (up a') b ≡ c.add b (up a')) x y b j (λ b' j'.
         i.add a' b' ∙ ap up (laws.add_comm x y a' b' h' j') ∙ sym (i.add b' a')));
-    add_zero = λ x y a h. on_arrow (λ a. c.add a (c.zero x y) ≡ a) x y a h (λ a' h'. ap (c.add (up a')) (i.zero x y) ∙ i.add a' (s.zero x y) ∙ ap up (laws.add_zero x y a' h'));
+    add_zero = λ x y a h. on_arrow (λ a. c.add a (c.zero x y) ≡ a) x y a h
+        (λ a' h'. ap (c.add (up a')) (i.zero x y) ∙ i.add a' (s.zero x y) ∙ ap up (laws.add_zero x y a' h'));
     add_negate = λ x y a h. on_arrow (λ a. c.add a (c.negate a) ≡ c.zero x y) x y a h (λ a' h'.
         ap (c.add (up a')) (i.negate a') ∙ i.add a' (s.negate a') ∙ ap up (laws.add_negate x y a' h') ∙ sym (i.zero x y));
     compose_add_left = λ x y z a b d h j m. on_arrow (λ a. c.compose (c.add a b) d ≡ c.add (c.compose a d) (c.compose b d)) y z a h (λ a' h'.
@@ -119,18 +136,24 @@ module _ {Object A B : Type 0} (s : Structure Object A) (c : Structure Object B)
   zero_image a = ap₂ c.zero (i.source a) (i.target a) ∙ i.zero (s.source a) (s.target a)
 
   pub image_cancels : (d : ℤ) → Cancels s d → Cancels c d
-  image_cancels d cancels = record {
-    at = λ b h. on_arrow (λ b. multiple c d b ≡ c.zero (c.source b) (c.target b) → b ≡ c.zero (c.source b) (c.target b)) (c.source b) (c.target b) b (record { arrow = h; source = refl; target = refl })
-        (λ a is e. ap up (cancels.at a is.arrow (same_under (multiple s d a) (s.zero (s.source a) (s.target a)) (sym (multiple_image d a) ∙ e ∙ zero_image a))) ∙ sym (zero_image a));
-  }
+  image_cancels d cancels =
+      record {
+        at = λ b h. on_arrow (λ b. multiple c d b ≡ c.zero (c.source b) (c.target b) → b ≡ c.zero (c.source b) (c.target b)) (c.source b)
+            (c.target b) b (record { arrow = h; source = refl; target = refl })
+            (λ a is e. ap up (cancels.at a is.arrow (same_under (multiple s d a) (s.zero (s.source a) (s.target a)) (sym (multiple_image d a) ∙ e ∙ zero_image a)))
+            ∙ sym (zero_image a));
+      }
 
-  -- ---- representations
-  module _ (f : Representation Object A) (g : Representation Object B) (objects : (v : ℕ) → f.object v ≡ g.object v) (arrows : (a : ℕ) → g.arrow a ≡ up (f.arrow a)) where
+  -- representations
+  module _ (f : Representation Object A) (g : Representation Object B) (objects : (v : ℕ) → f.object v ≡ g.object v)
+      (arrows : (a : ℕ) → g.arrow a ≡ up (f.arrow a)) where
     pub image_represents : (q : Quiver) → Represents s q f → Represents c q g
     image_represents q r = record {
       objects = λ v h. subst c.is_object (objects v) (i.image_object (f.object v) (r.objects v h));
-      arrows = λ a h. subst (λ x. IsArrow c x (g.object (target q a)) (g.arrow a)) (objects (source q a)) (subst (λ y. IsArrow c (f.object (source q a)) y (g.arrow a)) (objects (target q a))
-          (subst (IsArrow c (f.object (source q a)) (f.object (target q a))) (sym (arrows a)) (image (f.object (source q a)) (f.object (target q a)) (f.arrow a) (r.arrows a h))));
+      arrows = λ a h. subst (λ x. IsArrow c x (g.object (target q a)) (g.arrow a)) (objects (source q a))
+          (subst (λ y. IsArrow c (f.object (source q a)) y (g.arrow a)) (objects (target q a))
+          (subst (IsArrow c (f.object (source q a)) (f.object (target q a))) (sym (arrows a))
+          (image (f.object (source q a)) (f.object (target q a)) (f.arrow a) (r.arrows a h))));
       identities = λ v h. arrows v ∙ ap up (r.identities v h) ∙ sym (i.identity (f.object v)) ∙ ap c.identity (objects v);
     }
 
@@ -156,7 +179,8 @@ module _ {Object A B : Type 0} (s : Structure Object A) (c : Structure Object B)
             → cond b (c.add (multiple c t.0 (word_value c g (c.zero (g.object u) (g.object v)) t.1)) (value_at c q g u v p)) (value_at c q g u v p)
             ≡ up (cond b (s.add (multiple s t.0 word) (value_at s q f u v p)) (value_at s q f u v p))
         go false rest = rest
-        go true rest = ap₂ c.add (ap (multiple c t.0) (word_image u v t.1) ∙ multiple_image t.0 word) rest ∙ i.add (multiple s t.0 word) (value_at s q f u v p)
+        go true rest = ap₂ c.add (ap (multiple c t.0) (word_image u v t.1) ∙ multiple_image t.0 word) rest
+            ∙ i.add (multiple s t.0 word) (value_at s q f u v p)
 
     pub zero_at_image : (q : Quiver) (u v : ℕ) (p : Poly) → HasValueZeroAt s q f u v p → HasValueZeroAt c q g u v p
     zero_at_image q u v p e = value_image q u v p ∙ ap up e ∙ sym (zero_between u v)

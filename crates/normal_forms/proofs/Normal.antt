@@ -1,5 +1,5 @@
 -- Normal forms of polynomials with coefficients in a field.
-use Rattle.std.proofs.Common.{◌≡◌, ℕ, refl, sym, ap, ap₂, subst, ◌∙◌, List, [], ◌∷◌, ◌++◌, append_assoc, ◌⊎◌, inl, inr, pos}
+use Rattle.std.proofs.Common.{◌≡◌, ℕ, refl, sym, ap, ap₂, subst, ◌∙◌, List, [], ◌∷◌, ◌++◌, append_assoc, pos}
 use Rattle.normal_forms.proofs.Field.{Field}
 use Rattle.definitions.specs.Poly.{Word, Term}
 use Rattle.confluence.proofs.TermWords.{AllWords}
@@ -19,17 +19,20 @@ module _ {K : Type 0} (k : Field K) (o : Order) (g : Rules o) where
   pub data Normal : Form K → Form K → Type 0 where
     done : Normal [] []
     keep : (c : K) (w : Word) (p q : Form K) → Irreducible k o g w → Normal p q → Normal ((c, w) ∷ p) ((c, w) ∷ q)
-    step : (c : K) (w : Word) (i : ℕ) (l r : Word) (n p q : Form K) → g.Has i → w ≡ l ++ ((g.rule i).lead ++ r) → Normal (lower c i l r) n → Normal p q → Normal ((c, w) ∷ p) (n ++ q)
+    step : (c : K) (w : Word) (i : ℕ) (l r : Word) (n p q : Form K) → g.Has i → w ≡ l ++ ((g.rule i).lead ++ r) → Normal (lower c i l r) n → Normal p q
+        → Normal ((c, w) ∷ p) (n ++ q)
 
   pub normal-append : (a b p q : Form K) → Normal a b → Normal p q → Normal (a ++ p) (b ++ q)
   normal-append _ _ p q done f = f
   normal-append _ _ p q (keep c w a b i e) f = keep c w (a ++ p) (b ++ q) i (normal-append a b p q e f)
-  normal-append _ _ p q (step c w i l r n a b h e m d) f = subst (λ z. Normal ((c, w) ∷ (a ++ p)) z) (sym (append_assoc n b q)) (step c w i l r n (a ++ p) (b ++ q) h e m (normal-append a b p q d f))
+  normal-append _ _ p q (step c w i l r n a b h e m d) f = subst (λ z. Normal ((c, w) ∷ (a ++ p)) z) (sym (append_assoc n b q))
+      (step c w i l r n (a ++ p) (b ++ q) h e m (normal-append a b p q d f))
 
   pub normal_irreducible : (p q : Form K) → Normal p q → Each (Irreducible k o g) q
   normal_irreducible _ _ done = tt
   normal_irreducible _ _ (keep c w p q i e) = (i, normal_irreducible p q e)
-  normal_irreducible _ _ (step c w i l r n p q h e m d) = each-append (Irreducible k o g) n q (normal_irreducible (lower c i l r) n m) (normal_irreducible p q d)
+  normal_irreducible _ _ (step c w i l r n p q h e m d) = each-append (Irreducible k o g) n q (normal_irreducible (lower c i l r) n m)
+      (normal_irreducible p q d)
 
   -- what replacing a leading word keeps
   abbrev pub Kept : (Word → Type 0) → Type 0
@@ -42,7 +45,9 @@ module _ {K : Type 0} (k : Field K) (o : Order) (g : Rules o) where
   pub normal_each : (P : Word → Type 0) → Kept P → (p q : Form K) → Normal p q → Each P p → Each P q
   normal_each P kept _ _ done a = tt
   normal_each P kept _ _ (keep c w p q i e) a = (a.0, normal_each P kept p q e a.1)
-  normal_each P kept _ _ (step c w i l r n p q h e m d) a = each-append P n q (normal_each P kept (lower c i l r) n m (each-lower P (λ u. l ++ (u ++ r)) _ (g.rule i).tail (kept i l r h (subst P e a.0)))) (normal_each P kept p q d a.1)
+  normal_each P kept _ _ (step c w i l r n p q h e m d) a = each-append P n q
+      (normal_each P kept (lower c i l r) n m (each-lower P (λ u. l ++ (u ++ r)) _ (g.rule i).tail (kept i l r h (subst P e a.0))))
+      (normal_each P kept p q d a.1)
 
   pub tail_less : (i : ℕ) (l r w : Word) → g.Has i → w ≡ l ++ ((g.rule i).lead ++ r) → o.Range w → AllWords (λ u. o.Less (l ++ (u ++ r)) w) (g.rule i).tail
   tail_less i l r w h e m = go (g.rule i).tail (g.below i h)
@@ -59,8 +64,16 @@ module _ {K : Type 0} (k : Field K) (o : Order) (g : Rules o) where
       go (t ∷ p) a = (o.less_range _ _ a.0, go p a.1)
 
   -- c w is a row and what it is replaced by
-  replaced : (c : K) (w : Word) (i : ℕ) (l r : Word) → g.Has i → w ≡ l ++ ((g.rule i).lead ++ r) → Alike k ((c, w) ∷ []) (row k o g (k.times c (k.part (g.rule i).leading)) l i r ++ lower c i l r)
-  replaced c w i l r h e = record { at = λ v. sym (sum-append k (λ u. hit k u v) (row k o g d l i r) (lower c i l r) ∙ ap₂ k.plus (ap₂ (λ x y. k.plus (k.times x (hit k (l ++ ((g.rule i).lead ++ r)) v)) y) back (look-lifted k at d (g.rule i).tail v)) (look-lifted k at (k.minus d) (g.rule i).tail v ∙ minus_times k d _) ∙ k.plus_assoc _ _ _ ∙ ap₂ k.plus (ap (λ x. k.times c (hit k x v)) (sym e)) (k.plus_minus _)) }
+  replaced : (c : K) (w : Word) (i : ℕ) (l r : Word) → g.Has i → w ≡ l ++ ((g.rule i).lead ++ r)
+      → Alike k ((c, w) ∷ []) (row k o g (k.times c (k.part (g.rule i).leading)) l i r ++ lower c i l r)
+  replaced c w i l r h e =
+      record {
+        at = λ v. sym
+            (sum-append k (λ u. hit k u v) (row k o g d l i r) (lower c i l r)
+            ∙ ap₂ k.plus (ap₂ (λ x y. k.plus (k.times x (hit k (l ++ ((g.rule i).lead ++ r)) v)) y) back (look-lifted k at d (g.rule i).tail v))
+            (look-lifted k at (k.minus d) (g.rule i).tail v ∙ minus_times k d _) ∙ k.plus_assoc _ _ _
+            ∙ ap₂ k.plus (ap (λ x. k.times c (hit k x v)) (sym e)) (k.plus_minus _));
+      }
     where
       d : K
       d = k.times c (k.part (g.rule i).leading)
@@ -69,12 +82,17 @@ module _ {K : Type 0} (k : Field K) (o : Order) (g : Rules o) where
       at u = l ++ (u ++ r)
 
       back : k.times d (k.int (pos (g.rule i).leading)) ≡ c
-      back = k.times_assoc c (k.part (g.rule i).leading) (k.int (pos (g.rule i).leading)) ∙ ap (k.times c) (k.times_comm (k.part (g.rule i).leading) (k.int (pos (g.rule i).leading)) ∙ k.part_is (g.rule i).leading (g.positive i h)) ∙ times_one k c
+      back = k.times_assoc c (k.part (g.rule i).leading) (k.int (pos (g.rule i).leading))
+          ∙ ap (k.times c) (k.times_comm (k.part (g.rule i).leading) (k.int (pos (g.rule i).leading)) ∙ k.part_is (g.rule i).leading (g.positive i h))
+          ∙ times_one k c
 
   pub normal_cong : (p q : Form K) → Normal p q → Each o.Range p → Cong k o g p q
   normal_cong _ _ done a = cong_refl k o g []
   normal_cong _ _ (keep c w p q i e) a = cong_append k o g ((c, w) ∷ []) ((c, w) ∷ []) p q (cong_refl k o g ((c, w) ∷ [])) (normal_cong p q e a.1)
-  normal_cong _ _ (step c w i l r n p q h e m d) a = cong_append k o g ((c, w) ∷ []) n p q (rows ((c, w) ∷ []) (lower c i l r) n (k.times c (k.part (g.rule i).leading)) l i r h (subst o.Range e a.0) (normal_cong (lower c i l r) n m (each-lower o.Range (λ u. l ++ (u ++ r)) _ (g.rule i).tail (range_kept i l r h (subst o.Range e a.0)))) (replaced c w i l r h e)) (normal_cong p q d a.1)
+  normal_cong _ _ (step c w i l r n p q h e m d) a = cong_append k o g ((c, w) ∷ []) n p q
+      (rows ((c, w) ∷ []) (lower c i l r) n (k.times c (k.part (g.rule i).leading)) l i r h (subst o.Range e a.0)
+      (normal_cong (lower c i l r) n m (each-lower o.Range (λ u. l ++ (u ++ r)) _ (g.rule i).tail (range_kept i l r h (subst o.Range e a.0))))
+      (replaced c w i l r h e)) (normal_cong p q d a.1)
 
   scaled-lower : (d c : K) (i : ℕ) (l r : Word) → scaled k d (lower c i l r) ≡ lower (k.times d c) i l r
   scaled-lower d c i l r =

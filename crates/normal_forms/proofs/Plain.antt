@@ -1,31 +1,30 @@
 -- The category of normal forms, written with plain fractions.
-use Rattle.std.proofs.Common.{◌≡◌, ℕ, ◌<◌, Bool, true, false, cond, List, [], ◌∷◌, ◌++◌, length, slice_get, Some, suc, zero, refl, sym, ap, ap₂, ◌∙◌, subst}
-use Rattle.std.specs.List.{All, AllByRecursion, list_any}
-use Rattle.std.specs.Prelude.{nat_eq, nat_lt}
+use Rattle.std.proofs.Common.{◌≡◌, ℕ, Bool, true, false, cond, List, [], ◌∷◌, ◌++◌, slice_get, Some, suc, refl, sym, ap, ap₂, ◌∙◌}
+use Rattle.std.specs.List.{All, AllByRecursion}
+use Rattle.std.specs.Prelude.{nat_lt}
 use Rattle.std.proofs.lemmas.List.Elements.{All-from_recursion, recursion_from_All}
 use Rattle.definitions.specs.Poly.{Word}
 use Rattle.definitions.specs.Category.{Structure}
-use Rattle.definitions.specs.Quiver.{Quiver, letters, source, target}
-use Rattle.definitions.specs.Representation.{Representation}
-use Rattle.word_core.specs.Occurrence.{OccursAt, OccursNowhere}
-use Rattle.word_orders.specs.Admissible.{Compare, IsAdmissible}
+use Rattle.definitions.specs.Quiver.{Quiver, source, target}
+use Rattle.word_core.specs.Occurrence.{OccursNowhere}
+use Rattle.word_orders.specs.Admissible.{IsAdmissible}
 use Rattle.word_orders.specs.Orders.{Order}
 use Rattle.word_orders.specs.Specified.{asked_cmp}
 use Rattle.word_orders.proofs.AskedOrders.{asked_rank, asked_cmp-admissible}
 use Rattle.quiver.specs.Declarations.{letter_count, quiver_of}
 use Rattle.rule_reduce.specs.declared.rule.Rule.{Rule}
-use Rattle.rule_reduce.specs.RuleLists.{IsRule, rule_at}
+use Rattle.rule_reduce.specs.RuleLists.{IsRule}
 use Rattle.ambiguities.specs.Resolved.{is_below}
 use Rattle.adjoint_rules.specs.declared.parts.Parts.{Parts}
 use Rattle.adjoint_rules.specs.Problem.{numbers, is_in_play}
 use Rattle.confluence.proofs.LedRules.{led_at-is, has_led}
 use Rattle.confluence.proofs.Meets.{Rules}
 use Rattle.confluence.proofs.ReducibleLaws.{order, ordered}
-use Rattle.normal_forms.specs.Fractions.{Fraction, IsLowest, is_zero, fractions}
+use Rattle.normal_forms.specs.Fractions.{Fraction, is_zero, fractions}
 use Rattle.normal_forms.specs.Forms.{Form, multiple_form, product_form, collected}
 use Rattle.normal_forms.specs.RationalForms.{rational_normal_form}
 use Rattle.normal_forms.specs.Descents.{all_grounded}
-use Rattle.normal_forms.specs.Maps.{NormalMap, comes_before, LeadsInPlay, IsAscending, word_map, identity_map, zero_map, letter_map}
+use Rattle.normal_forms.specs.Maps.{NormalMap, comes_before, LeadsInPlay, IsAscending, word_map, identity_map, zero_map}
 use Rattle.normal_forms.specs.NormalForms.{IsNonzero, IsBasis, is_marked_in, IsNormalMap, normal_form, normal_forms, forms_representation}
 use Rattle.normal_forms.proofs.Field.{numbers_of}
 use Rattle.normal_forms.proofs.Homomorphisms.{mapped, mapped-append, mapped-multiple, mapped-product, mapped-collected, mapped-normal}
@@ -34,7 +33,7 @@ use Rattle.normal_forms.proofs.Forms.{Each}
 use Rattle.normal_forms.proofs.Collect.{IsForm}
 use Rattle.normal_forms.proofs.CanonicalOrder.{canonical}
 use Rattle.normal_forms.proofs.Congruence.{Irreducible}
-use Rattle.normal_forms.proofs.WordForms.{HasNoLead, no_lead}
+use Rattle.normal_forms.proofs.WordForms.{no_lead}
 use Rattle.normal_forms.proofs.NormalCategory.{Ground, IsMap, normal_structure}
 use Rattle.normal_forms.proofs.Sharp.{normal_representation}
 use Rattle.normal_forms.proofs.Stated.{ground}
@@ -65,7 +64,11 @@ each_raw P (t ∷ p) each = (each.0, each_raw P p each.1)
 
 form_read : (p : Form Fraction) → AllByRecursion (λ t. IsNonzero t.0) p → IsAscending comes_before p → IsForm rationals canonical (mapped read p)
 form_read [] each ascending = tt
-form_read (t ∷ p) each ascending = (none_test (read t.0) ∙ ap (λ x. is_zero x.top) (raw_read t.0 each.0.lowest) ∙ each.0.nonzero, each_read (λ w. comes_before t.1 w ≡ true) p ascending.0, form_read p each.1 ascending.1)
+form_read (t ∷ p) each ascending = (
+  none_test (read t.0) ∙ ap (λ x. is_zero x.top) (raw_read t.0 each.0.lowest) ∙ each.0.nonzero,
+  each_read (λ w. comes_before t.1 w ≡ true) p ascending.0,
+  form_read p each.1 ascending.1,
+)
 
 nonzero_raw : (p : Form Rational) → IsForm rationals canonical p → AllByRecursion (λ t. IsNonzero t.0) (mapped raw p)
 nonzero_raw [] form = tt
@@ -99,7 +102,8 @@ module _ (p : Parts) (rules : List Rule) (are : All (IsRule (letter_count p.quiv
 
   -- the normal form with fractions that carry their proof
   abbrev pub exact_normal : Form Rational → Form Rational
-  exact_normal = rational_normal_form (numbers_of rationals) (is_below (letter_count p.quiver) (asked_cmp p.order)) rules (all_grounded (letter_count p.quiver) p.order)
+  exact_normal = rational_normal_form (numbers_of rationals) (is_below (letter_count p.quiver) (asked_cmp p.order)) rules
+      (all_grounded (letter_count p.quiver) p.order)
 
   abbrev pub exact_ground : Ground rationals
   exact_ground = ground rationals word_order word_rules exact_normal canonical (letter_count p.quiver) (quiver_of p.quiver) p.starred (numbers p.marked)
@@ -109,10 +113,12 @@ module _ (p : Parts) (rules : List Rule) (are : All (IsRule (letter_count p.quiv
 
   nowhere : (w : Word) → Irreducible rationals word_order word_rules w → All (λ g. OccursNowhere w g.lead) rules
   nowhere w irreducible = All-from_recursion (λ g. OccursNowhere w g.lead) rules (from_numbers (λ g. OccursNowhere w g.lead) rules
-      (λ n g numbered place at. irreducible.at (suc n) at.before at.after (has_led rules (suc n) g numbered) (at.splits ∙ ap (λ x. at.before ++ (x.lead ++ at.after)) (sym (led_at-is rules (suc n) g numbered)))))
+      (λ n g numbered place at. irreducible.at (suc n) at.before at.after (has_led rules (suc n) g numbered)
+      (at.splits ∙ ap (λ x. at.before ++ (x.lead ++ at.after)) (sym (led_at-is rules (suc n) g numbered)))))
 
   irreducible_from : (w : Word) → All (λ g. OccursNowhere w g.lead) rules → Irreducible rationals word_order word_rules w
-  irreducible_from w none = no_lead rationals (letter_count p.quiver) (asked_cmp p.order) rank laws rules are w (recursion_from_All (λ g. OccursNowhere w g.lead) rules none)
+  irreducible_from w none = no_lead rationals (letter_count p.quiver) (asked_cmp p.order) rank laws rules are w
+      (recursion_from_All (λ g. OccursNowhere w g.lead) rules none)
 
   map_read : (m : NormalMap Fraction) → IsNormalMap p rules m → IsMap rationals exact_ground (exact m) × (plain (exact m) ≡ m)
   map_read m is = (
@@ -120,8 +126,11 @@ module _ (p : Parts) (rules : List Rule) (are : All (IsRule (letter_count p.quiv
       source_is_object = is.source_is_object;
       target_is_object = is.target_is_object;
       sorted = form_read m.form is.nonzero is.ascending;
-      irreducible = each_read (Irreducible rationals word_order word_rules) m.form (all_words_weaker (λ w. All (λ g. OccursNowhere w g.lead) rules) (Irreducible rationals word_order word_rules) irreducible_from m.form is.irreducible);
-      words = each_read (LeadsInPlay (quiver_of p.quiver) (is_in_play p.quiver p.starred (numbers p.marked)) (is_marked_in p) m.source m.target) m.form is.words;
+      irreducible = each_read (Irreducible rationals word_order word_rules) m.form
+          (all_words_weaker (λ w. All (λ g. OccursNowhere w g.lead) rules)
+          (Irreducible rationals word_order word_rules) irreducible_from m.form is.irreducible);
+      words = each_read
+          (LeadsInPlay (quiver_of p.quiver) (is_in_play p.quiver p.starred (numbers p.marked)) (is_marked_in p) m.source m.target) m.form is.words;
     },
     ap (λ z. record { source = m.source; target = m.target; form = z }) (mapped_again m.form is.nonzero),
   )
@@ -133,17 +142,23 @@ module _ (p : Parts) (rules : List Rule) (are : All (IsRule (letter_count p.quiv
     nonzero = nonzero_raw a.form is.sorted;
     ascending = ascending_raw a.form is.sorted;
     words = each_raw (LeadsInPlay (quiver_of p.quiver) (is_in_play p.quiver p.starred (numbers p.marked)) (is_marked_in p) a.source a.target) a.form is.words;
-    irreducible = all_words_weaker (Irreducible rationals word_order word_rules) (λ w. All (λ g. OccursNowhere w g.lead) rules) nowhere (mapped raw a.form) (each_raw (Irreducible rationals word_order word_rules) a.form is.irreducible);
+    irreducible = all_words_weaker (Irreducible rationals word_order word_rules) (λ w. All (λ g. OccursNowhere w g.lead) rules) nowhere (mapped raw a.form)
+        (each_raw (Irreducible rationals word_order word_rules) a.form is.irreducible);
   }
 
   -- the normal form of what is written plainly is that of the exact, written plainly
-  reduced_plain : (f : Form Rational) → mapped raw (collected (numbers_of rationals) comes_before (exact_normal f)) ≡ collected fractions comes_before (normal_form p rules (mapped raw f))
+  reduced_plain : (f : Form Rational) → mapped raw (collected (numbers_of rationals) comes_before (exact_normal f)) ≡ collected fractions comes_before
+      (normal_form p rules (mapped raw f))
   reduced_plain f = mapped-collected (numbers_of rationals) fractions raw raw_is_homomorphism comes_before (exact_normal f)
-      ∙ ap (collected fractions comes_before) (mapped-normal (numbers_of rationals) fractions raw raw_is_homomorphism (is_below (letter_count p.quiver) (asked_cmp p.order)) rules (all_grounded (letter_count p.quiver) p.order) f)
+      ∙ ap (collected fractions comes_before)
+      (mapped-normal (numbers_of rationals) fractions raw raw_is_homomorphism (is_below (letter_count p.quiver) (asked_cmp p.order)) rules
+      (all_grounded (letter_count p.quiver) p.order) f)
 
-  word_plain : (u v : ℕ) (w : Word) → word_map fractions comes_before (normal_form p rules) (is_marked_in p) u v w ≡ plain (word_map (numbers_of rationals) comes_before exact_normal (is_marked_in p) u v w)
+  word_plain : (u v : ℕ) (w : Word) → word_map fractions comes_before (normal_form p rules) (is_marked_in p) u v w ≡ plain
+      (word_map (numbers_of rationals) comes_before exact_normal (is_marked_in p) u v w)
   word_plain u v w = ap (λ z. record { source = u; target = v; form = z })
-      (ap (λ x. collected fractions comes_before (normal_form p rules ((x, w) ∷ []))) (sym raw_is_homomorphism.one) ∙ sym (reduced_plain ((rationals.one, w) ∷ [])))
+      (ap (λ x. collected fractions comes_before (normal_form p rules ((x, w) ∷ []))) (sym raw_is_homomorphism.one)
+      ∙ sym (reduced_plain ((rationals.one, w) ∷ [])))
 
   pub letter_plain : (a : ℕ) → (forms_representation p rules).arrow a ≡ plain ((normal_representation rationals exact_ground).arrow a)
   letter_plain a = go (is_in_play p.quiver p.starred (numbers p.marked) a) (nat_lt a (quiver_of p.quiver).objects)
@@ -161,7 +176,8 @@ module _ (p : Parts) (rules : List Rule) (are : All (IsRule (letter_count p.quiv
       none = zero_map (numbers_of rationals) comes_before exact_normal (is_marked_in p) (source q a) (target q a)
 
       go : (b c : Bool) → cond b (word_map fractions comes_before (normal_form p rules) (is_marked_in p) (source q a) (target q a) (a ∷ []))
-          (cond c (identity_map fractions comes_before (normal_form p rules) (is_marked_in p) a) (zero_map fractions comes_before (normal_form p rules) (is_marked_in p) (source q a) (target q a)))
+          (cond c (identity_map fractions comes_before (normal_form p rules) (is_marked_in p) a)
+          (zero_map fractions comes_before (normal_form p rules) (is_marked_in p) (source q a) (target q a)))
           ≡ plain (cond b letter (cond c identity none))
       go true c = word_plain (source q a) (target q a) (a ∷ [])
       go false true = word_plain a a (cond (is_marked_in p a) (a ∷ []) [])
@@ -179,11 +195,18 @@ module _ (p : Parts) (rules : List Rule) (are : All (IsRule (letter_count p.quiv
     identity = λ v. word_plain v v (cond (is_marked_in p v) (v ∷ []) []);
     zero = λ u v. refl;
     add = λ a b. ap (λ z. record { source = a.source; target = a.target; form = z })
-        (ap (collected fractions comes_before) (sym (mapped-append raw a.form b.form)) ∙ sym (mapped-collected (numbers_of rationals) fractions raw raw_is_homomorphism comes_before (a.form ++ b.form)));
+        (ap (collected fractions comes_before) (sym (mapped-append raw a.form b.form))
+        ∙ sym (mapped-collected (numbers_of rationals) fractions raw raw_is_homomorphism comes_before (a.form ++ b.form)));
     negate = λ a. ap (λ z. record { source = a.source; target = a.target; form = z })
-        (ap (λ c. collected fractions comes_before (multiple_form fractions c (mapped raw a.form))) (sym (raw_is_homomorphism.minus rationals.one ∙ ap fractions.minus raw_is_homomorphism.one))
-        ∙ sym (mapped-collected (numbers_of rationals) fractions raw raw_is_homomorphism comes_before (multiple_form (numbers_of rationals) (rationals.minus rationals.one) a.form)
-        ∙ ap (collected fractions comes_before) (mapped-multiple (numbers_of rationals) fractions raw raw_is_homomorphism (rationals.minus rationals.one) a.form)));
+        (ap (λ c. collected fractions comes_before (multiple_form fractions c (mapped raw a.form)))
+        (sym (raw_is_homomorphism.minus rationals.one ∙ ap fractions.minus raw_is_homomorphism.one))
+        ∙ sym
+        (mapped-collected (numbers_of rationals) fractions raw raw_is_homomorphism comes_before
+        (multiple_form (numbers_of rationals) (rationals.minus rationals.one) a.form)
+        ∙ ap (collected fractions comes_before)
+        (mapped-multiple (numbers_of rationals) fractions raw raw_is_homomorphism (rationals.minus rationals.one) a.form)));
     compose = λ a b. ap (λ z. record { source = b.source; target = a.target; form = z })
-        (ap (λ z. collected fractions comes_before (normal_form p rules z)) (sym (mapped-product (numbers_of rationals) fractions raw raw_is_homomorphism a.form b.form)) ∙ sym (reduced_plain (product_form (numbers_of rationals) a.form b.form)));
+        (ap (λ z. collected fractions comes_before (normal_form p rules z))
+        (sym (mapped-product (numbers_of rationals) fractions raw raw_is_homomorphism a.form b.form))
+        ∙ sym (reduced_plain (product_form (numbers_of rationals) a.form b.form)));
   }

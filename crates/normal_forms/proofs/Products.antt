@@ -1,5 +1,5 @@
 -- Products of polynomials with coefficients in a field, and congruent factors.
-use Rattle.std.proofs.Common.{◌≡◌, refl, sym, ap, ap₂, ◌∙◌, List, [], ◌∷◌, ◌++◌, append_assoc, append-nil}
+use Rattle.std.proofs.Common.{◌≡◌, refl, sym, ap, ap₂, ◌∙◌, [], ◌∷◌, ◌++◌, append_assoc, append-nil}
 use Rattle.normal_forms.proofs.Field.{Field, numbers_of}
 use Rattle.definitions.specs.Poly.{Word}
 use Rattle.word_orders.specs.Orders.{Order}
@@ -29,7 +29,10 @@ module _ {K : Type 0} (k : Field K) where
   scaled-scaled c d (t ∷ p) = ap₂ (λ x z. (x, t.1) ∷ z) (k.times_assoc c d t.0) (scaled-scaled c d p)
 
   front-front : (t s : K × Word) (r : Form K) → front (k.times t.0 s.0, t.1 ++ s.1) r ≡ front t (front s r)
-  front-front t s r = ap (with_words (λ u. (t.1 ++ s.1) ++ u)) (scaled-scaled t.0 s.0 r) ∙ words-same _ (λ u. t.1 ++ (s.1 ++ u)) (scaled k t.0 (scaled k s.0 r)) (λ u. append_assoc t.1 s.1 u) ∙ sym (words-words (λ u. t.1 ++ u) (λ u. s.1 ++ u) (scaled k t.0 (scaled k s.0 r))) ∙ ap (with_words (λ u. t.1 ++ u)) (sym (scaled-words k t.0 (λ u. s.1 ++ u) (scaled k s.0 r)))
+  front-front t s r = ap (with_words (λ u. (t.1 ++ s.1) ++ u)) (scaled-scaled t.0 s.0 r)
+      ∙ words-same _ (λ u. t.1 ++ (s.1 ++ u)) (scaled k t.0 (scaled k s.0 r)) (λ u. append_assoc t.1 s.1 u)
+      ∙ sym (words-words (λ u. t.1 ++ u) (λ u. s.1 ++ u) (scaled k t.0 (scaled k s.0 r)))
+      ∙ ap (with_words (λ u. t.1 ++ u)) (sym (scaled-words k t.0 (λ u. s.1 ++ u) (scaled k s.0 r)))
 
   front-append : (t : K × Word) (p q : Form K) → front t (p ++ q) ≡ front t p ++ front t q
   front-append t p q = ap (with_words (λ u. t.1 ++ u)) (scaled-append k t.0 p q) ∙ words-append (λ u. t.1 ++ u) (scaled k t.0 p) (scaled k t.0 q)
@@ -55,8 +58,10 @@ module _ {K : Type 0} (k : Field K) where
     where
       go : (p : Form K) (w : Word) → look k (product p (s ∷ q)) w ≡ look k (behind s p ++ product p q) w
       go [] w = refl
-      go (t ∷ p) w = ap₂ k.plus (ap (λ z. k.times z (hit k (t.1 ++ s.1) w)) (k.times_comm t.0 s.0)) (look-append (front t q) (product p (s ∷ q)) w ∙ ap (λ z. k.plus (look k (front t q) w) z) (go p w ∙ look-append (behind s p) (product p q) w))
-          ∙ sym (k.plus_assoc X F (k.plus B P)) ∙ middle k X F B P ∙ sym (look-append (behind s (t ∷ p)) (front t q ++ product p q) w ∙ ap (λ z. k.plus (k.plus X B) z) (look-append (front t q) (product p q) w))
+      go (t ∷ p) w = ap₂ k.plus (ap (λ z. k.times z (hit k (t.1 ++ s.1) w)) (k.times_comm t.0 s.0))
+          (look-append (front t q) (product p (s ∷ q)) w ∙ ap (λ z. k.plus (look k (front t q) w) z) (go p w ∙ look-append (behind s p) (product p q) w))
+          ∙ sym (k.plus_assoc X F (k.plus B P)) ∙ middle k X F B P
+          ∙ sym (look-append (behind s (t ∷ p)) (front t q ++ product p q) w ∙ ap (λ z. k.plus (k.plus X B) z) (look-append (front t q) (product p q) w))
         where
           X : K
           X = k.times (k.times s.0 t.0) (hit k (t.1 ++ s.1) w)
@@ -80,7 +85,8 @@ module _ {K : Type 0} (k : Field K) where
 
   module _ (o : Order) (g : Rules o) (join : (u v : Word) → o.Range u → o.Range v → o.Range (u ++ v)) (empty : o.Range []) where
     pub cong_before : (x : Word) → o.Range x → (p q : Form K) → Cong k o g p q → Cong k o g (with_words (λ u. x ++ u) p) (with_words (λ u. x ++ u) q)
-    cong_before x r p q e = cong_trans k o g _ _ _ (cong_same k o g _ _ (moved p)) (cong_trans k o g _ _ _ (cong_between k o g join x [] r empty p q e) (cong_same k o g _ _ (sym (moved q))))
+    cong_before x r p q e = cong_trans k o g _ _ _ (cong_same k o g _ _ (moved p))
+        (cong_trans k o g _ _ _ (cong_between k o g join x [] r empty p q e) (cong_same k o g _ _ (sym (moved q))))
       where
         moved : (p : Form K) → with_words (λ u. x ++ u) p ≡ with_words (λ u. x ++ (u ++ [])) p
         moved p = words-same _ _ p (λ u. ap (λ z. x ++ z) (sym (append-nil u)))
@@ -90,8 +96,13 @@ module _ {K : Type 0} (k : Field K) where
 
     pub cong_product_right : (p q q' : Form K) → Each o.Range p → Cong k o g q q' → Cong k o g (product p q) (product p q')
     cong_product_right [] q q' a e = cong_refl k o g []
-    cong_product_right (t ∷ p) q q' a e = cong_append k o g (front t q) (front t q') (product p q) (product p q') (cong_before t.1 a.0 (scaled k t.0 q) (scaled k t.0 q') (cong_scaled k o g t.0 q q' e)) (cong_product_right p q q' a.1 e)
+    cong_product_right (t ∷ p) q q' a e = cong_append k o g (front t q) (front t q') (product p q) (product p q')
+        (cong_before t.1 a.0 (scaled k t.0 q) (scaled k t.0 q') (cong_scaled k o g t.0 q q' e)) (cong_product_right p q q' a.1 e)
 
     pub cong_product_left : (p p' q : Form K) → Each o.Range q → Cong k o g p p' → Cong k o g (product p q) (product p' q)
     cong_product_left p p' [] a e = cong_same k o g _ _ (product-none p ∙ sym (product-none p'))
-    cong_product_left p p' (s ∷ q) a e = cong_left k o g (product p (s ∷ q)) (behind s p ++ product p q) (product p' (s ∷ q)) (product-behind p s q) (cong_trans k o g _ _ _ (cong_append k o g (behind s p) (behind s p') (product p q) (product p' q) (cong_behind s.1 a.0 (scaled k s.0 p) (scaled k s.0 p') (cong_scaled k o g s.0 p p' e)) (cong_product_left p p' q a.1 e)) (alike _ _ (alike_sym k _ _ (product-behind p' s q))))
+    cong_product_left p p' (s ∷ q) a e = cong_left k o g (product p (s ∷ q)) (behind s p ++ product p q) (product p' (s ∷ q)) (product-behind p s q)
+        (cong_trans k o g _ _ _
+        (cong_append k o g (behind s p) (behind s p') (product p q) (product p' q)
+        (cong_behind s.1 a.0 (scaled k s.0 p) (scaled k s.0 p') (cong_scaled k o g s.0 p p' e)) (cong_product_left p p' q a.1 e))
+        (alike _ _ (alike_sym k _ _ (product-behind p' s q))))

@@ -1,5 +1,5 @@
 -- Fractions in lowest terms.
-use Rattle.std.proofs.Common.{◌≡◌, ◌≢◌, ℕ, ◌*◌, ◌/◌, ◌<◌, zero, suc, refl, arith, subst, sym, ap, ap₂, ◌∙◌, ℤ, pos, negsuc, ◌+ℤ◌, ◌*ℤ◌, neg_ℤ, Bool, true, false}
+use Rattle.std.proofs.Common.{◌≡◌, ◌≢◌, ℕ, ◌*◌, ◌/◌, ◌<◌, zero, suc, refl, arith, subst, sym, ap, ap₂, ◌∙◌, ℤ, pos, negsuc, ◌+ℤ◌, ◌*ℤ◌, neg_ℤ, true, false}
 use Rattle.std.proofs.lemmas.Int.{ints}
 use Rattle.std.specs.Int.{IsGcd}
 use Rattle.std.specs.Int.RustNames.{unsigned_abs}
@@ -42,7 +42,8 @@ pub rational_same : (x y : Rational) → x.top ≡ y.top → x.bottom ≡ y.bott
 rational_same x y e f = go x.top y.top x.bottom y.bottom e f x.lowest y.lowest
   where
     go : (a c : ℤ) (b d : ℕ) → a ≡ c → b ≡ d → (p : IsLowest a b) (q : IsLowest c d) → made a b p ≡ made c d q
-    go a c b d e f p = subst (λ z. (q : IsLowest z d) → made a b p ≡ made z d q) e (subst (λ z. (q : IsLowest a z) → made a b p ≡ made a z q) f (λ q. ap (made a b) (lowest_same a b p q)))
+    go a c b d e f p = subst (λ z. (q : IsLowest z d) → made a b p ≡ made z d q) e
+        (subst (λ z. (q : IsLowest a z) → made a b p ≡ made a z q) f (λ q. ap (made a b) (lowest_same a b p q)))
 
 unsigned_abs-neg : (a : ℤ) → unsigned_abs (neg_ℤ a) ≡ unsigned_abs a
 unsigned_abs-neg (pos zero) = refl
@@ -73,7 +74,16 @@ factor_positive g zero b e p = omega (arith, e)
 factor_positive g (suc m) b e p = omega arith
 
 quotient_lowest : (a : ℤ) (b g : ℕ) → 0 < b → IsGcd (unsigned_abs a) b g → IsLowest (quotient a g) (b / g)
-quotient_lowest a b g p h = record { positive = factor_positive g (b / g) b (mul-div_cancel' g h.1) p; apart = λ d i j. eq-one_of_dvd-one (dvd_of_mul-dvd-mul_left d (divisor_positive g b h.1 p) (subst (λ z. g * d ∣ z) (sym (one_more g)) (h.2 (g * d) (subst (λ z. g * d ∣ z) (mul-div_cancel' g h.0) (mul-dvd-mul_left d g (subst (λ z. d ∣ z) (unsigned_abs-quotient a g) i))) (subst (λ z. g * d ∣ z) (mul-div_cancel' g h.1) (mul-dvd-mul_left d g j))))) }
+quotient_lowest a b g p h =
+    record {
+      positive = factor_positive g (b / g) b (mul-div_cancel' g h.1) p;
+      apart =
+          λ d i j. eq-one_of_dvd-one
+          (dvd_of_mul-dvd-mul_left d (divisor_positive g b h.1 p)
+          (subst (λ z. g * d ∣ z) (sym (one_more g))
+          (h.2 (g * d) (subst (λ z. g * d ∣ z) (mul-div_cancel' g h.0) (mul-dvd-mul_left d g (subst (λ z. d ∣ z) (unsigned_abs-quotient a g) i)))
+          (subst (λ z. g * d ∣ z) (mul-div_cancel' g h.1) (mul-dvd-mul_left d g j)))));
+    }
   where
     one_more : (g : ℕ) → g * 1 ≡ g
     one_more g = omega arith
@@ -98,17 +108,20 @@ unfolding over
 over_value a zero h = absurd (omega arith)
 over_value a (suc b) h = from (unsigned_abs (gcd_of a (pos (suc b)))) (gcd_of-IsGcd a (pos (suc b)))
   where
-    from : (g : ℕ) (divides : IsGcd (unsigned_abs a) (suc b) g) → Value (made (quotient a g) (suc b / g) (quotient_lowest a (suc b) g (omega arith) divides)) a (suc b)
+    from : (g : ℕ) (divides : IsGcd (unsigned_abs a) (suc b) g)
+        → Value (made (quotient a g) (suc b / g) (quotient_lowest a (suc b) g (omega arith) divides)) a (suc b)
     from g divides = record {
       positive = omega arith;
-      cross = ap (λ z. quotient a g *ℤ z) (ap pos (sym (mul-div_cancel' g divides.1))) ∙ mul_swap (quotient a g) (pos g) (pos (suc b / g)) ∙ sym (*ℤ_assoc (pos g) (quotient a g) (pos (suc b / g))) ∙ ap (λ z. z *ℤ pos (suc b / g)) (quotient_back a g divides.0);
+      cross = ap (λ z. quotient a g *ℤ z) (ap pos (sym (mul-div_cancel' g divides.1))) ∙ mul_swap (quotient a g) (pos g) (pos (suc b / g))
+          ∙ sym (*ℤ_assoc (pos g) (quotient a g) (pos (suc b / g))) ∙ ap (λ z. z *ℤ pos (suc b / g)) (quotient_back a g divides.0);
     }
 
 pub self_value : (x : Rational) → Value x x.top x.bottom
 self_value x = record { positive = x.lowest.positive; cross = refl }
 
 cancel : (n : ℕ) (a b : ℤ) → 0 < n → a *ℤ pos n ≡ b *ℤ pos n → a ≡ b
-cancel n a b h e = apart a b (*ℤ_cancel n (a +ℤ neg_ℤ b) h (*ℤ_comm (pos n) (a +ℤ neg_ℤ b) ∙ +ℤ-*ℤ a (neg_ℤ b) (pos n) ∙ ap₂ ◌+ℤ◌ e (neg_ℤ-*ℤ b (pos n)) ∙ +ℤ_invr (b *ℤ pos n)))
+cancel n a b h e = apart a b
+    (*ℤ_cancel n (a +ℤ neg_ℤ b) h (*ℤ_comm (pos n) (a +ℤ neg_ℤ b) ∙ +ℤ-*ℤ a (neg_ℤ b) (pos n) ∙ ap₂ ◌+ℤ◌ e (neg_ℤ-*ℤ b (pos n)) ∙ +ℤ_invr (b *ℤ pos n)))
   where
     apart : (a b : ℤ) → a +ℤ neg_ℤ b ≡ pos 0 → a ≡ b
     apart a b h = omega (arith, ints)
@@ -129,13 +142,19 @@ cross_unique x y e = rational_same x y tops bottoms
     sizes = sym (unsigned_abs-times x.top y.bottom) ∙ ap unsigned_abs e ∙ unsigned_abs-times y.top x.bottom
 
     bottoms : x.bottom ≡ y.bottom
-    bottoms = dvd_antisymm (divides_other x.bottom (unsigned_abs x.top) y.bottom (lowest_gcd x) (subst (λ z. x.bottom ∣ z) (sym sizes) (dvd-mul_left x.bottom (unsigned_abs y.top)))) (divides_other y.bottom (unsigned_abs y.top) x.bottom (lowest_gcd y) (subst (λ z. y.bottom ∣ z) sizes (dvd-mul_left y.bottom (unsigned_abs x.top))))
+    bottoms = dvd_antisymm
+        (divides_other x.bottom (unsigned_abs x.top) y.bottom (lowest_gcd x)
+        (subst (λ z. x.bottom ∣ z) (sym sizes) (dvd-mul_left x.bottom (unsigned_abs y.top))))
+        (divides_other y.bottom (unsigned_abs y.top) x.bottom (lowest_gcd y) (subst (λ z. y.bottom ∣ z) sizes (dvd-mul_left y.bottom (unsigned_abs x.top))))
 
     tops : x.top ≡ y.top
     tops = cancel y.bottom x.top y.top y.lowest.positive (e ∙ ap (λ z. y.top *ℤ pos z) bottoms)
 
 pub value_unique : (x y : Rational) (a : ℤ) (b : ℕ) → Value x a b → Value y a b → x ≡ y
-value_unique x y a b v w = cross_unique x y (cancel b _ _ v.positive (turn x.top (pos y.bottom) (pos b) ∙ ap (λ z. z *ℤ pos y.bottom) v.cross ∙ turn a (pos x.bottom) (pos y.bottom) ∙ ap (λ z. z *ℤ pos x.bottom) (sym w.cross) ∙ turn y.top (pos b) (pos x.bottom)))
+value_unique x y a b v w = cross_unique x y
+    (cancel b _ _ v.positive
+    (turn x.top (pos y.bottom) (pos b) ∙ ap (λ z. z *ℤ pos y.bottom) v.cross ∙ turn a (pos x.bottom) (pos y.bottom)
+    ∙ ap (λ z. z *ℤ pos x.bottom) (sym w.cross) ∙ turn y.top (pos b) (pos x.bottom)))
   where
     turn : (p q r : ℤ) → (p *ℤ q) *ℤ r ≡ (p *ℤ r) *ℤ q
     turn p q r = *ℤ_assoc p q r ∙ ap (λ z. p *ℤ z) (*ℤ_comm q r) ∙ sym (*ℤ_assoc p r q)
@@ -148,7 +167,12 @@ pos_times x y p q = grind arith
 
 -- enlarged
 pub value_times : (x : Rational) (a : ℤ) (b n : ℕ) → 0 < n → Value x a b → Value x (a *ℤ pos n) (b * n)
-value_times x a b n h v = record { positive = pos_times b n v.positive h; cross = sym (*ℤ_assoc x.top (pos b) (pos n)) ∙ ap (λ z. z *ℤ pos n) v.cross ∙ *ℤ_assoc a (pos x.bottom) (pos n) ∙ ap (λ z. a *ℤ z) (*ℤ_comm (pos x.bottom) (pos n)) ∙ sym (*ℤ_assoc a (pos n) (pos x.bottom)) }
+value_times x a b n h v =
+    record {
+      positive = pos_times b n v.positive h;
+      cross = sym (*ℤ_assoc x.top (pos b) (pos n)) ∙ ap (λ z. z *ℤ pos n) v.cross
+          ∙ *ℤ_assoc a (pos x.bottom) (pos n) ∙ ap (λ z. a *ℤ z) (*ℤ_comm (pos x.bottom) (pos n)) ∙ sym (*ℤ_assoc a (pos n) (pos x.bottom));
+    }
 
 pub rational_plus : Rational → Rational → Rational
 rational_plus x y = over (x.top *ℤ pos y.bottom +ℤ y.top *ℤ pos x.bottom) (x.bottom * y.bottom)
@@ -157,39 +181,59 @@ pub rational_times : Rational → Rational → Rational
 rational_times x y = over (x.top *ℤ y.top) (x.bottom * y.bottom)
 
 pub rational_minus : Rational → Rational
-rational_minus x = made (neg_ℤ x.top) x.bottom (record { positive = x.lowest.positive; apart = λ d i j. x.lowest.apart d (subst (λ z. d ∣ z) (unsigned_abs-neg x.top) i) j })
+rational_minus x = made (neg_ℤ x.top) x.bottom
+    (record { positive = x.lowest.positive; apart = λ d i j. x.lowest.apart d (subst (λ z. d ∣ z) (unsigned_abs-neg x.top) i) j })
 
 swap4 : (a b c d : ℤ) → (a *ℤ b) *ℤ (c *ℤ d) ≡ (a *ℤ c) *ℤ (b *ℤ d)
 swap4 a b c d = *ℤ_assoc a b (c *ℤ d) ∙ ap (λ z. a *ℤ z) (mul_swap b c d) ∙ sym (*ℤ_assoc a c (b *ℤ d))
 
 pub carry : (x : Rational) (a c : ℤ) (b d : ℕ) → Value x a b → a *ℤ pos d ≡ c *ℤ pos b → x.top *ℤ pos d ≡ c *ℤ pos x.bottom
-carry x a c b d v e = cancel b _ _ v.positive (turn x.top (pos d) (pos b) ∙ ap (λ z. z *ℤ pos d) v.cross ∙ turn a (pos x.bottom) (pos d) ∙ ap (λ z. z *ℤ pos x.bottom) e ∙ turn c (pos b) (pos x.bottom))
+carry x a c b d v e = cancel b _ _ v.positive
+    (turn x.top (pos d) (pos b) ∙ ap (λ z. z *ℤ pos d) v.cross ∙ turn a (pos x.bottom) (pos d) ∙ ap (λ z. z *ℤ pos x.bottom) e
+    ∙ turn c (pos b) (pos x.bottom))
   where
     turn : (p q r : ℤ) → (p *ℤ q) *ℤ r ≡ (p *ℤ r) *ℤ q
     turn p q r = *ℤ_assoc p q r ∙ ap (λ z. p *ℤ z) (*ℤ_comm q r) ∙ sym (*ℤ_assoc p r q)
 
 pub plus_value : (x y : Rational) (a c : ℤ) (b d : ℕ) → Value x a b → Value y c d → Value (rational_plus x y) (a *ℤ pos d +ℤ c *ℤ pos b) (b * d)
 unfolding rational_plus
-plus_value x y a c b d v w = through (over_value (x.top *ℤ pos y.bottom +ℤ y.top *ℤ pos x.bottom) (x.bottom * y.bottom) (pos_times x.bottom y.bottom x.lowest.positive y.lowest.positive))
+plus_value x y a c b d v w = through
+    (over_value (x.top *ℤ pos y.bottom +ℤ y.top *ℤ pos x.bottom) (x.bottom * y.bottom) (pos_times x.bottom y.bottom x.lowest.positive y.lowest.positive))
   where
     S : Rational
     S = over (x.top *ℤ pos y.bottom +ℤ y.top *ℤ pos x.bottom) (x.bottom * y.bottom)
 
     same : (x.top *ℤ pos y.bottom +ℤ y.top *ℤ pos x.bottom) *ℤ pos (b * d) ≡ (a *ℤ pos d +ℤ c *ℤ pos b) *ℤ pos (x.bottom * y.bottom)
-    same = +ℤ-*ℤ (x.top *ℤ pos y.bottom) (y.top *ℤ pos x.bottom) (pos b *ℤ pos d) ∙ ap₂ ◌+ℤ◌ first second ∙ sym (+ℤ-*ℤ (a *ℤ pos d) (c *ℤ pos b) (pos x.bottom *ℤ pos y.bottom))
+    same = +ℤ-*ℤ (x.top *ℤ pos y.bottom) (y.top *ℤ pos x.bottom) (pos b *ℤ pos d) ∙ ap₂ ◌+ℤ◌ first second
+        ∙ sym (+ℤ-*ℤ (a *ℤ pos d) (c *ℤ pos b) (pos x.bottom *ℤ pos y.bottom))
       where
         first : (x.top *ℤ pos y.bottom) *ℤ (pos b *ℤ pos d) ≡ (a *ℤ pos d) *ℤ (pos x.bottom *ℤ pos y.bottom)
-        first = swap4 x.top (pos y.bottom) (pos b) (pos d) ∙ ap₂ (λ p q. p *ℤ q) v.cross (*ℤ_comm (pos y.bottom) (pos d)) ∙ swap4 a (pos x.bottom) (pos d) (pos y.bottom)
+        first = swap4 x.top (pos y.bottom) (pos b) (pos d) ∙ ap₂ (λ p q. p *ℤ q) v.cross (*ℤ_comm (pos y.bottom) (pos d))
+            ∙ swap4 a (pos x.bottom) (pos d) (pos y.bottom)
 
         second : (y.top *ℤ pos x.bottom) *ℤ (pos b *ℤ pos d) ≡ (c *ℤ pos b) *ℤ (pos x.bottom *ℤ pos y.bottom)
-        second = ap (λ z. (y.top *ℤ pos x.bottom) *ℤ z) (*ℤ_comm (pos b) (pos d)) ∙ swap4 y.top (pos x.bottom) (pos d) (pos b) ∙ ap₂ (λ p q. p *ℤ q) w.cross (*ℤ_comm (pos x.bottom) (pos b)) ∙ swap4 c (pos y.bottom) (pos b) (pos x.bottom) ∙ ap (λ z. (c *ℤ pos b) *ℤ z) (*ℤ_comm (pos y.bottom) (pos x.bottom))
+        second = ap (λ z. (y.top *ℤ pos x.bottom) *ℤ z) (*ℤ_comm (pos b) (pos d)) ∙ swap4 y.top (pos x.bottom) (pos d) (pos b)
+            ∙ ap₂ (λ p q. p *ℤ q) w.cross (*ℤ_comm (pos x.bottom) (pos b)) ∙ swap4 c (pos y.bottom) (pos b) (pos x.bottom)
+            ∙ ap (λ z. (c *ℤ pos b) *ℤ z) (*ℤ_comm (pos y.bottom) (pos x.bottom))
 
     through : Value S (x.top *ℤ pos y.bottom +ℤ y.top *ℤ pos x.bottom) (x.bottom * y.bottom) → Value S (a *ℤ pos d +ℤ c *ℤ pos b) (b * d)
-    through u = record { positive = pos_times b d v.positive w.positive; cross = carry S (x.top *ℤ pos y.bottom +ℤ y.top *ℤ pos x.bottom) (a *ℤ pos d +ℤ c *ℤ pos b) (x.bottom * y.bottom) (b * d) u same }
+    through u =
+        record {
+          positive = pos_times b d v.positive w.positive;
+          cross =
+              carry S (x.top *ℤ pos y.bottom +ℤ y.top *ℤ pos x.bottom) (a *ℤ pos d +ℤ c *ℤ pos b) (x.bottom * y.bottom) (b * d) u same;
+        }
 
 pub times_value : (x y : Rational) (a c : ℤ) (b d : ℕ) → Value x a b → Value y c d → Value (rational_times x y) (a *ℤ c) (b * d)
 unfolding rational_times
-times_value x y a c b d v w = record { positive = pos_times b d v.positive w.positive; cross = carry (over (x.top *ℤ y.top) (x.bottom * y.bottom)) (x.top *ℤ y.top) (a *ℤ c) (x.bottom * y.bottom) (b * d) (over_value (x.top *ℤ y.top) (x.bottom * y.bottom) (pos_times x.bottom y.bottom x.lowest.positive y.lowest.positive)) (swap4 x.top y.top (pos b) (pos d) ∙ ap₂ (λ p q. p *ℤ q) v.cross w.cross ∙ swap4 a (pos x.bottom) c (pos y.bottom)) }
+times_value x y a c b d v w =
+    record {
+      positive = pos_times b d v.positive w.positive;
+      cross =
+          carry (over (x.top *ℤ y.top) (x.bottom * y.bottom)) (x.top *ℤ y.top) (a *ℤ c) (x.bottom * y.bottom) (b * d)
+          (over_value (x.top *ℤ y.top) (x.bottom * y.bottom) (pos_times x.bottom y.bottom x.lowest.positive y.lowest.positive))
+          (swap4 x.top y.top (pos b) (pos d) ∙ ap₂ (λ p q. p *ℤ q) v.cross w.cross ∙ swap4 a (pos x.bottom) c (pos y.bottom));
+    }
 
 pub minus_value : (x : Rational) (a : ℤ) (b : ℕ) → Value x a b → Value (rational_minus x) (neg_ℤ a) b
 unfolding rational_minus
@@ -230,66 +274,108 @@ int_value a = self_value (rational_int a)
 
 none_value : (n : ℕ) → 0 < n → Value rational_none (pos 0) n
 unfolding rational_none
-none_value n h = value_change rational_none (pos 0 *ℤ pos n) (pos 0) (1 * n) n (zero-*ℤ (pos n)) (one_mul n) (value_times rational_none (pos 0) 1 n h (self_value rational_none))
+none_value n h = value_change rational_none (pos 0 *ℤ pos n) (pos 0) (1 * n) n (zero-*ℤ (pos n)) (one_mul n)
+    (value_times rational_none (pos 0) 1 n h (self_value rational_none))
 
 part_value : (n : ℕ) → 0 < n → Value (rational_part n) (pos 1) n
 unfolding rational_part
 part_value n h = over_value (pos 1) n h
 
 plus_assoc : (x y z : Rational) → rational_plus (rational_plus x y) z ≡ rational_plus x (rational_plus y z)
-plus_assoc x y z = value_unique (rational_plus (rational_plus x y) z) (rational_plus x (rational_plus y z)) _ _ (plus_value (rational_plus x y) z _ _ _ _ (plus_value x y _ _ _ _ (self_value x) (self_value y)) (self_value z)) (value_change (rational_plus x (rational_plus y z)) _ _ _ _ (sym (tops x.top y.top z.top (pos x.bottom) (pos y.bottom) (pos z.bottom))) (sym (mul_assoc x.bottom y.bottom z.bottom)) (plus_value x (rational_plus y z) _ _ _ _ (self_value x) (plus_value y z _ _ _ _ (self_value y) (self_value z))))
+plus_assoc x y z = value_unique (rational_plus (rational_plus x y) z) (rational_plus x (rational_plus y z)) _ _
+    (plus_value (rational_plus x y) z _ _ _ _ (plus_value x y _ _ _ _ (self_value x) (self_value y)) (self_value z))
+    (value_change (rational_plus x (rational_plus y z)) _ _ _ _ (sym (tops x.top y.top z.top (pos x.bottom) (pos y.bottom) (pos z.bottom)))
+    (sym (mul_assoc x.bottom y.bottom z.bottom))
+    (plus_value x (rational_plus y z) _ _ _ _ (self_value x) (plus_value y z _ _ _ _ (self_value y) (self_value z))))
   where
     tops : (a b c d e f : ℤ) → (a *ℤ e +ℤ b *ℤ d) *ℤ f +ℤ c *ℤ (d *ℤ e) ≡ a *ℤ (e *ℤ f) +ℤ (b *ℤ f +ℤ c *ℤ e) *ℤ d
-    tops a b c d e f = simp (+ℤ-*ℤ, *ℤ_assoc) (let p : b *ℤ (d *ℤ f) ≡ b *ℤ (f *ℤ d) = ap (λ z. b *ℤ z) (*ℤ_comm d f) in let q : c *ℤ (d *ℤ e) ≡ c *ℤ (e *ℤ d) = ap (λ z. c *ℤ z) (*ℤ_comm d e) in omega (arith, ints, p, q))
+    tops a b c d e f = simp (+ℤ-*ℤ, *ℤ_assoc)
+        (let p : b *ℤ (d *ℤ f) ≡ b *ℤ (f *ℤ d) = ap (λ z. b *ℤ z) (*ℤ_comm d f) in let q : c *ℤ (d *ℤ e) ≡ c *ℤ (e *ℤ d) =
+        ap (λ z. c *ℤ z) (*ℤ_comm d e) in omega (arith, ints, p, q))
 
 plus_comm : (x y : Rational) → rational_plus x y ≡ rational_plus y x
-plus_comm x y = value_unique (rational_plus x y) (rational_plus y x) _ _ (plus_value x y _ _ _ _ (self_value x) (self_value y)) (value_change (rational_plus y x) _ _ _ _ (swapped (y.top *ℤ pos x.bottom) (x.top *ℤ pos y.bottom)) (mul_comm y.bottom x.bottom) (plus_value y x _ _ _ _ (self_value y) (self_value x)))
+plus_comm x y = value_unique (rational_plus x y) (rational_plus y x) _ _ (plus_value x y _ _ _ _ (self_value x) (self_value y))
+    (value_change (rational_plus y x) _ _ _ _ (swapped (y.top *ℤ pos x.bottom) (x.top *ℤ pos y.bottom)) (mul_comm y.bottom x.bottom)
+    (plus_value y x _ _ _ _ (self_value y) (self_value x)))
   where
     swapped : (a b : ℤ) → a +ℤ b ≡ b +ℤ a
     swapped a b = omega (arith, ints)
 
 plus_none : (x : Rational) → rational_plus x rational_none ≡ x
-plus_none x = value_unique (rational_plus x rational_none) x _ _ (value_change (rational_plus x rational_none) _ _ _ _ (ap₂ ◌+ℤ◌ (times_one x.top) (zero-*ℤ (pos x.bottom)) ∙ +ℤ_idr x.top) (mul_one x.bottom) (plus_value x rational_none _ _ _ _ (self_value x) (none_value 1 (omega arith)))) (self_value x)
+plus_none x = value_unique (rational_plus x rational_none) x _ _
+    (value_change (rational_plus x rational_none) _ _ _ _ (ap₂ ◌+ℤ◌ (times_one x.top) (zero-*ℤ (pos x.bottom)) ∙ +ℤ_idr x.top) (mul_one x.bottom)
+    (plus_value x rational_none _ _ _ _ (self_value x) (none_value 1 (omega arith)))) (self_value x)
 
 plus_minus : (x : Rational) → rational_plus x (rational_minus x) ≡ rational_none
-plus_minus x = value_unique (rational_plus x (rational_minus x)) rational_none _ _ (value_change (rational_plus x (rational_minus x)) _ _ _ _ (ap (λ z. x.top *ℤ pos x.bottom +ℤ z) (neg_ℤ-*ℤ x.top (pos x.bottom)) ∙ +ℤ_invr (x.top *ℤ pos x.bottom)) refl (plus_value x (rational_minus x) _ _ _ _ (self_value x) (minus_value x _ _ (self_value x)))) (none_value (x.bottom * x.bottom) (pos_times x.bottom x.bottom x.lowest.positive x.lowest.positive))
+plus_minus x = value_unique (rational_plus x (rational_minus x)) rational_none _ _
+    (value_change (rational_plus x (rational_minus x)) _ _ _ _
+    (ap (λ z. x.top *ℤ pos x.bottom +ℤ z) (neg_ℤ-*ℤ x.top (pos x.bottom)) ∙ +ℤ_invr (x.top *ℤ pos x.bottom)) refl
+    (plus_value x (rational_minus x) _ _ _ _ (self_value x) (minus_value x _ _ (self_value x))))
+    (none_value (x.bottom * x.bottom) (pos_times x.bottom x.bottom x.lowest.positive x.lowest.positive))
 
 times_assoc : (x y z : Rational) → rational_times (rational_times x y) z ≡ rational_times x (rational_times y z)
-times_assoc x y z = value_unique (rational_times (rational_times x y) z) (rational_times x (rational_times y z)) _ _ (times_value (rational_times x y) z _ _ _ _ (times_value x y _ _ _ _ (self_value x) (self_value y)) (self_value z)) (value_change (rational_times x (rational_times y z)) _ _ _ _ (sym (*ℤ_assoc x.top y.top z.top)) (sym (mul_assoc x.bottom y.bottom z.bottom)) (times_value x (rational_times y z) _ _ _ _ (self_value x) (times_value y z _ _ _ _ (self_value y) (self_value z))))
+times_assoc x y z = value_unique (rational_times (rational_times x y) z) (rational_times x (rational_times y z)) _ _
+    (times_value (rational_times x y) z _ _ _ _ (times_value x y _ _ _ _ (self_value x) (self_value y)) (self_value z))
+    (value_change (rational_times x (rational_times y z)) _ _ _ _ (sym (*ℤ_assoc x.top y.top z.top)) (sym (mul_assoc x.bottom y.bottom z.bottom))
+    (times_value x (rational_times y z) _ _ _ _ (self_value x) (times_value y z _ _ _ _ (self_value y) (self_value z))))
 
 times_comm : (x y : Rational) → rational_times x y ≡ rational_times y x
-times_comm x y = value_unique (rational_times x y) (rational_times y x) _ _ (times_value x y _ _ _ _ (self_value x) (self_value y)) (value_change (rational_times y x) _ _ _ _ (*ℤ_comm y.top x.top) (mul_comm y.bottom x.bottom) (times_value y x _ _ _ _ (self_value y) (self_value x)))
+times_comm x y = value_unique (rational_times x y) (rational_times y x) _ _ (times_value x y _ _ _ _ (self_value x) (self_value y))
+    (value_change (rational_times y x) _ _ _ _ (*ℤ_comm y.top x.top) (mul_comm y.bottom x.bottom) (times_value y x _ _ _ _ (self_value y) (self_value x)))
 
 one_times : (x : Rational) → rational_times (rational_int (pos 1)) x ≡ x
-one_times x = value_unique (rational_times (rational_int (pos 1)) x) x _ _ (value_change (rational_times (rational_int (pos 1)) x) _ _ _ _ (*ℤ_comm (pos 1) x.top ∙ times_one x.top) (one_mul x.bottom) (times_value (rational_int (pos 1)) x _ _ _ _ (int_value (pos 1)) (self_value x))) (self_value x)
+one_times x = value_unique (rational_times (rational_int (pos 1)) x) x _ _
+    (value_change (rational_times (rational_int (pos 1)) x) _ _ _ _ (*ℤ_comm (pos 1) x.top ∙ times_one x.top) (one_mul x.bottom)
+    (times_value (rational_int (pos 1)) x _ _ _ _ (int_value (pos 1)) (self_value x))) (self_value x)
 
 times_plus : (x y z : Rational) → rational_times x (rational_plus y z) ≡ rational_plus (rational_times x y) (rational_times x z)
-times_plus x y z = value_unique (rational_times x (rational_plus y z)) (rational_plus (rational_times x y) (rational_times x z)) _ _ (value_change (rational_times x (rational_plus y z)) _ _ _ _ (tops x.top y.top z.top (pos x.bottom) (pos y.bottom) (pos z.bottom)) (bottoms x.bottom y.bottom z.bottom) (value_times (rational_times x (rational_plus y z)) _ _ x.bottom x.lowest.positive (times_value x (rational_plus y z) _ _ _ _ (self_value x) (plus_value y z _ _ _ _ (self_value y) (self_value z))))) (plus_value (rational_times x y) (rational_times x z) _ _ _ _ (times_value x y _ _ _ _ (self_value x) (self_value y)) (times_value x z _ _ _ _ (self_value x) (self_value z)))
+times_plus x y z = value_unique (rational_times x (rational_plus y z)) (rational_plus (rational_times x y) (rational_times x z)) _ _
+    (value_change (rational_times x (rational_plus y z)) _ _ _ _ (tops x.top y.top z.top (pos x.bottom) (pos y.bottom) (pos z.bottom))
+    (bottoms x.bottom y.bottom z.bottom)
+    (value_times (rational_times x (rational_plus y z)) _ _ x.bottom x.lowest.positive
+    (times_value x (rational_plus y z) _ _ _ _ (self_value x) (plus_value y z _ _ _ _ (self_value y) (self_value z)))))
+    (plus_value (rational_times x y) (rational_times x z) _ _ _ _ (times_value x y _ _ _ _ (self_value x) (self_value y))
+    (times_value x z _ _ _ _ (self_value x) (self_value z)))
   where
     tops : (a b c d e f : ℤ) → (a *ℤ (b *ℤ f +ℤ c *ℤ e)) *ℤ d ≡ (a *ℤ b) *ℤ (d *ℤ f) +ℤ (a *ℤ c) *ℤ (d *ℤ e)
-    tops a b c d e f = simp (*ℤ-+ℤ, +ℤ-*ℤ, *ℤ_assoc) (let p : a *ℤ (b *ℤ (f *ℤ d)) ≡ a *ℤ (b *ℤ (d *ℤ f)) = ap (λ z. a *ℤ (b *ℤ z)) (*ℤ_comm f d) in let q : a *ℤ (c *ℤ (e *ℤ d)) ≡ a *ℤ (c *ℤ (d *ℤ e)) = ap (λ z. a *ℤ (c *ℤ z)) (*ℤ_comm e d) in omega (arith, ints, p, q))
+    tops a b c d e f = simp (*ℤ-+ℤ, +ℤ-*ℤ, *ℤ_assoc)
+        (let p : a *ℤ (b *ℤ (f *ℤ d)) ≡ a *ℤ (b *ℤ (d *ℤ f)) = ap (λ z. a *ℤ (b *ℤ z)) (*ℤ_comm f d) in let q : a *ℤ (c *ℤ (e *ℤ d)) ≡ a *ℤ (c *ℤ (d *ℤ e)) =
+        ap (λ z. a *ℤ (c *ℤ z)) (*ℤ_comm e d) in omega (arith, ints, p, q))
 
     bottoms : (d e f : ℕ) → (d * (e * f)) * d ≡ (d * e) * (d * f)
     bottoms d e f = mul_assoc d (e * f) d ∙ ap (λ z. d * z) (mul_assoc e f d ∙ ap (λ z. e * z) (mul_comm f d)) ∙ sym (mul_assoc d e (d * f))
 
 int_plus : (a b : ℤ) → rational_int (a +ℤ b) ≡ rational_plus (rational_int a) (rational_int b)
-int_plus a b = value_unique (rational_int (a +ℤ b)) (rational_plus (rational_int a) (rational_int b)) _ _ (int_value (a +ℤ b)) (value_change (rational_plus (rational_int a) (rational_int b)) _ _ _ _ (ap₂ ◌+ℤ◌ (times_one a) (times_one b)) refl (plus_value (rational_int a) (rational_int b) _ _ _ _ (int_value a) (int_value b)))
+int_plus a b = value_unique (rational_int (a +ℤ b)) (rational_plus (rational_int a) (rational_int b)) _ _ (int_value (a +ℤ b))
+    (value_change (rational_plus (rational_int a) (rational_int b)) _ _ _ _ (ap₂ ◌+ℤ◌ (times_one a) (times_one b)) refl
+    (plus_value (rational_int a) (rational_int b) _ _ _ _ (int_value a) (int_value b)))
 
 int_times : (a b : ℤ) → rational_int (a *ℤ b) ≡ rational_times (rational_int a) (rational_int b)
-int_times a b = value_unique (rational_int (a *ℤ b)) (rational_times (rational_int a) (rational_int b)) _ _ (int_value (a *ℤ b)) (times_value (rational_int a) (rational_int b) _ _ _ _ (int_value a) (int_value b))
+int_times a b = value_unique (rational_int (a *ℤ b)) (rational_times (rational_int a) (rational_int b)) _ _ (int_value (a *ℤ b))
+    (times_value (rational_int a) (rational_int b) _ _ _ _ (int_value a) (int_value b))
 
 int_only : (a : ℤ) → rational_int a ≡ rational_none → a ≡ pos 0
 unfolding rational_int rational_none
 int_only a e = ap (λ x. x.top) e
 
 part_is : (n : ℕ) → 0 < n → rational_times (rational_int (pos n)) (rational_part n) ≡ rational_int (pos 1)
-part_is n h = value_unique (rational_times (rational_int (pos n)) (rational_part n)) (rational_int (pos 1)) _ _ (times_value (rational_int (pos n)) (rational_part n) _ _ _ _ (int_value (pos n)) (part_value n h)) (value_change (rational_int (pos 1)) _ _ _ _ (*ℤ_comm (pos 1) (pos n)) refl (value_times (rational_int (pos 1)) _ _ n h (int_value (pos 1))))
+part_is n h = value_unique (rational_times (rational_int (pos n)) (rational_part n)) (rational_int (pos 1)) _ _
+    (times_value (rational_int (pos n)) (rational_part n) _ _ _ _ (int_value (pos n)) (part_value n h))
+    (value_change (rational_int (pos 1)) _ _ _ _ (*ℤ_comm (pos 1) (pos n)) refl (value_times (rational_int (pos 1)) _ _ n h (int_value (pos 1))))
 
 split : (x : Rational) → (a : ℤ) × (n : ℕ) × (0 < n) × (x ≡ rational_times (rational_int a) (rational_part n))
-split x = (x.top, x.bottom, x.lowest.positive, value_unique x (rational_times (rational_int x.top) (rational_part x.bottom)) _ _ (self_value x) (value_change (rational_times (rational_int x.top) (rational_part x.bottom)) _ _ _ _ (times_one x.top) (one_mul x.bottom) (times_value (rational_int x.top) (rational_part x.bottom) _ _ _ _ (int_value x.top) (part_value x.bottom x.lowest.positive))))
+split x = (
+  x.top,
+  x.bottom,
+  x.lowest.positive,
+  value_unique x (rational_times (rational_int x.top) (rational_part x.bottom)) _ _ (self_value x)
+      (value_change (rational_times (rational_int x.top) (rational_part x.bottom)) _ _ _ _ (times_one x.top) (one_mul x.bottom)
+      (times_value (rational_int x.top) (rational_part x.bottom) _ _ _ _ (int_value x.top) (part_value x.bottom x.lowest.positive))),
+)
 
 none_true : (x : Rational) → is_zero x.top ≡ true → x ≡ rational_none
-none_true x e = value_unique x rational_none _ _ (value_change x x.top (pos 0) x.bottom x.bottom (is_zero_true x.top e) refl (self_value x)) (none_value x.bottom x.lowest.positive)
+none_true x e = value_unique x rational_none _ _ (value_change x x.top (pos 0) x.bottom x.bottom (is_zero_true x.top e) refl (self_value x))
+    (none_value x.bottom x.lowest.positive)
 
 none_false : (x : Rational) → is_zero x.top ≡ false → x ≢ rational_none
 unfolding rational_none
@@ -361,7 +447,8 @@ raw-part n = raw-over (pos 1) n
 
 pub raw_is_homomorphism : IsHomomorphism (numbers_of rationals) fractions raw
 unfolding rationals
-raw_is_homomorphism = record { one = raw-int (pos 1); plus = raw-plus; minus = raw-minus; times = raw-times; int = raw-int; part = raw-part; is_none = λ x. refl }
+raw_is_homomorphism =
+    record { one = raw-int (pos 1); plus = raw-plus; minus = raw-minus; times = raw-times; int = raw-int; part = raw-part; is_none = λ x. refl }
 
 -- and read again
 abbrev pub read : Fraction → Rational

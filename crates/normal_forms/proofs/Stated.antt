@@ -1,5 +1,5 @@
 -- What a statement and its rules have to meet, and that the laws follow.
-use Rattle.std.proofs.Common.{◌≡◌, ℕ, ◌<◌, ◌≤◌, refl, sym, ap, subst, ◌∙◌, Bool, true, false, ◌||◌, cond, List, [], ◌∷◌, ◌++◌, ℤ, ◌⊎◌, inl, inr, true≢false, ltb, lt-ltb, ltb-true, arith}
+use Rattle.std.proofs.Common.{◌≡◌, ℕ, ◌<◌, ◌≤◌, refl, sym, ap, subst, ◌∙◌, Bool, true, false, ◌||◌, cond, List, [], ◌∷◌, ◌++◌, ◌⊎◌, inl, inr, true≢false, ltb, lt-ltb, ltb-true, arith}
 use Rattle.std.proofs.lemmas.Bool.{and_parts, and_from, cases_lt}
 use Rattle.std.specs.Prelude.{◌&&◌, nat_eq, nat_lt, nat_le, if◌then◌else◌}
 use Rattle.std.specs.List.{AllByRecursion, list_any}
@@ -23,9 +23,20 @@ use Rattle.normal_forms.proofs.Units.{unit_itself, unit_of_target, unit_of_sourc
 abbrev pub in_play : ℕ → Quiver → Bool → List ℕ → ℕ → Bool
 in_play count q starred marked a = nat_lt a count && (if nat_lt a q.objects then list_any (nat_eq a) marked else (starred || nat_le a (star q a)))
 
-module _ {K : Type 0} (k : Field K) (o : Order) (g : Rules o) (normal : Form K → Form K) (sorting : Sorting) (count : ℕ) (q : Quiver) (starred : Bool) (marked : List ℕ) where
+module _ {K : Type 0} (k : Field K) (o : Order) (g : Rules o) (normal : Form K → Form K) (sorting : Sorting) (count : ℕ) (q : Quiver) (starred : Bool)
+    (marked : List ℕ) where
   abbrev pub ground : Ground k
-  ground = record { order = o; rules = g; normal = normal; sorting = sorting; quiver = q; play = in_play count q starred marked; marked = λ v. list_any (nat_eq v) marked }
+  ground =
+      record {
+        order = o;
+        rules = g;
+        normal = normal;
+        sorting = sorting;
+        quiver = q;
+        play = in_play count q starred marked;
+        marked =
+            λ v. list_any (nat_eq v) marked;
+      }
 
   -- a positive multiple is a sum of rows over the rules
   abbrev pub IsGenerated : List Term → Type 0
@@ -60,7 +71,8 @@ module _ {K : Type 0} (k : Field K) (o : Order) (g : Rules o) (normal : Form K �
           by_cases (inl l) = absurd (true≢false (sym (lt-ltb a b l) ∙ h))
           by_cases (inr r) = r
 
-      go : (b : Bool) → ltb a q.objects ≡ b → cond b (list_any (nat_eq a) marked) (starred || nat_le a (star q a)) ≡ true → ((a < q.objects) × (list_any (nat_eq a) marked ≡ true)) ⊎ ((q.objects ≤ a) × ((starred || nat_le a (star q a)) ≡ true))
+      go : (b : Bool) → ltb a q.objects ≡ b → cond b (list_any (nat_eq a) marked) (starred || nat_le a (star q a)) ≡ true
+          → ((a < q.objects) × (list_any (nat_eq a) marked ≡ true)) ⊎ ((q.objects ≤ a) × ((starred || nat_le a (star q a)) ≡ true))
       go true h m = inl (ltb-true a q.objects h, m)
       go false h m = inr (not_below a q.objects h, m)
 
@@ -72,26 +84,32 @@ module _ {K : Type 0} (k : Field K) (o : Order) (g : Rules o) (normal : Form K �
     is_quiver = c.is_quiver;
     play_range = c.play_range;
     typed = c.typed;
-    marked_play = λ v h m. and_from (ltb v count) _ (lt-ltb v count (subst (λ n. v < n) (sym c.count_is) (c.is_quiver.identity_is_letter v h))) (ap (λ b. cond b (list_any (nat_eq v) marked) (starred || nat_le v (star q v))) (lt-ltb v q.objects h) ∙ m);
+    marked_play = λ v h m. and_from (ltb v count) _ (lt-ltb v count (subst (λ n. v < n) (sym c.count_is) (c.is_quiver.identity_is_letter v h)))
+        (ap (λ b. cond b (list_any (nat_eq v) marked) (starred || nat_le v (star q v))) (lt-ltb v q.objects h) ∙ m);
     play_marked = λ v h e. by_mark v h (plays_of v e).which;
     unit_left = λ v a hv m ha e t. unit_like k o g (v ∷ a ∷ []) (a ∷ []) (left v a m (plays_of a e) t);
     unit_right = λ v a hv m ha e t. unit_like k o g (a ∷ v ∷ []) (a ∷ []) (right v a m (plays_of a e) t);
   }
     where
-      by_mark : (v : ℕ) → v < q.objects → ((v < q.objects) × (list_any (nat_eq v) marked ≡ true)) ⊎ ((q.objects ≤ v) × ((starred || nat_le v (star q v)) ≡ true)) → list_any (nat_eq v) marked ≡ true
+      by_mark : (v : ℕ) → v < q.objects → ((v < q.objects) × (list_any (nat_eq v) marked ≡ true)) ⊎
+          ((q.objects ≤ v) × ((starred || nat_le v (star q v)) ≡ true)) → list_any (nat_eq v) marked ≡ true
       by_mark v h (inl x) = x.1
       by_mark v h (inr x) = absurd (omega (arith, h, x.0))
 
       left : (v a : ℕ) → list_any (nat_eq v) marked ≡ true → Plays a → target q a ≡ v → IsGenerated (left_unit v a)
       left v a m p t = go p.which
         where
-          go : ((a < q.objects) × (list_any (nat_eq a) marked ≡ true)) ⊎ ((q.objects ≤ a) × ((starred || nat_le a (star q a)) ≡ true)) → IsGenerated (left_unit v a)
-          go (inl x) = subst (λ z. IsGenerated (left_unit v z)) (sym t ∙ c.is_quiver.identity_target a x.0) (unit_itself q starred marked assumptions IsGenerated c.generated v m)
+          go : ((a < q.objects) × (list_any (nat_eq a) marked ≡ true)) ⊎ ((q.objects ≤ a) × ((starred || nat_le a (star q a)) ≡ true))
+              → IsGenerated (left_unit v a)
+          go (inl x) = subst (λ z. IsGenerated (left_unit v z)) (sym t ∙ c.is_quiver.identity_target a x.0)
+              (unit_itself q starred marked assumptions IsGenerated c.generated v m)
           go (inr x) = unit_of_target q starred marked assumptions IsGenerated c.generated v a m x.0 (subst (λ n. a < n) c.count_is p.letter) x.1 t
 
       right : (v a : ℕ) → list_any (nat_eq v) marked ≡ true → Plays a → source q a ≡ v → IsGenerated (right_unit v a)
       right v a m p t = go p.which
         where
-          go : ((a < q.objects) × (list_any (nat_eq a) marked ≡ true)) ⊎ ((q.objects ≤ a) × ((starred || nat_le a (star q a)) ≡ true)) → IsGenerated (right_unit v a)
-          go (inl x) = subst (λ z. IsGenerated (right_unit v z)) (sym t ∙ c.is_quiver.identity_source a x.0) (unit_itself q starred marked assumptions IsGenerated c.generated v m)
+          go : ((a < q.objects) × (list_any (nat_eq a) marked ≡ true)) ⊎ ((q.objects ≤ a) × ((starred || nat_le a (star q a)) ≡ true))
+              → IsGenerated (right_unit v a)
+          go (inl x) = subst (λ z. IsGenerated (right_unit v z)) (sym t ∙ c.is_quiver.identity_source a x.0)
+              (unit_itself q starred marked assumptions IsGenerated c.generated v m)
           go (inr x) = unit_of_source q starred marked assumptions IsGenerated c.generated v a m x.0 (subst (λ n. a < n) c.count_is p.letter) x.1 t

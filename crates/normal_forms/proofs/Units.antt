@@ -25,17 +25,21 @@ all_back P [] q a = a
 all_back P (x ∷ p) q a = all_back P p q a.1
 
 -- what holds of all that a member gives
-all_marked : {A : Type 0} (P : A → Type 0) (h : ℕ → List A) (marked : List ℕ) (v : ℕ) → list_any (nat_eq v) marked ≡ true → AllByRecursion P (flat_map h marked) → AllByRecursion P (h v)
+all_marked : {A : Type 0} (P : A → Type 0) (h : ℕ → List A) (marked : List ℕ) (v : ℕ) → list_any (nat_eq v) marked ≡ true
+    → AllByRecursion P (flat_map h marked) → AllByRecursion P (h v)
 all_marked P h [] v e a = absurd (true≢false (sym e))
-all_marked P h (m ∷ marked) v e a = go (λ j. all_marked P h marked v j (all_back P (h m) (flat_map h marked) a)) (or_cases (eqb v m) (list_any (nat_eq v) marked) e)
+all_marked P h (m ∷ marked) v e a = go (λ j. all_marked P h marked v j (all_back P (h m) (flat_map h marked) a))
+    (or_cases (eqb v m) (list_any (nat_eq v) marked) e)
   where
     go : (list_any (nat_eq v) marked ≡ true → AllByRecursion P (h v)) → (eqb v m ≡ true) ⊎ (list_any (nat_eq v) marked ≡ true) → AllByRecursion P (h v)
     go rest (inl i) = subst (λ z. AllByRecursion P (h z)) (sym (eqb-true v m i)) (all_front P (h m) (flat_map h marked) a)
     go rest (inr j) = rest j
 
-all_range : {A : Type 0} (P : A → Type 0) (h : ℕ → List A) (n b a : ℕ) → b ≤ a → a < b + n → AllByRecursion P (flat_map h (range_with_len b n)) → AllByRecursion P (h a)
+all_range : {A : Type 0} (P : A → Type 0) (h : ℕ → List A) (n b a : ℕ) → b ≤ a → a < b + n → AllByRecursion P (flat_map h (range_with_len b n))
+    → AllByRecursion P (h a)
 all_range P h zero b a p q all = absurd (omega arith)
-all_range P h (suc n) b a p q all = go (λ e. all_range P h n (b + 1) a (omega (arith, e)) (omega (arith, q)) (all_back P (h b) (flat_map h (range_with_len (b + 1) n)) all)) (order b a)
+all_range P h (suc n) b a p q all = go
+    (λ e. all_range P h n (b + 1) a (omega (arith, e)) (omega (arith, q)) (all_back P (h b) (flat_map h (range_with_len (b + 1) n)) all)) (order b a)
   where
     order : (b a : ℕ) → (b ≡ a) ⊎ (b ≢ a)
     order b a = by_test (eqb b a) refl
@@ -48,25 +52,39 @@ all_range P h (suc n) b a p q all = go (λ e. all_range P h n (b + 1) a (omega (
     go rest (inl e) = subst (λ z. AllByRecursion P (h z)) e (all_front P (h b) (flat_map h (range_with_len (b + 1) n)) all)
     go rest (inr e) = rest e
 
-module _ (q : Quiver) (starred : Bool) (marked : List ℕ) (assumptions : List (List (ℤ × List ℕ))) (P : List (ℤ × List ℕ) → Type 0) (all : AllByRecursion P (generators_of q starred marked assumptions)) where
+module _ (q : Quiver) (starred : Bool) (marked : List ℕ) (assumptions : List (List (ℤ × List ℕ))) (P : List (ℤ × List ℕ) → Type 0)
+    (all : AllByRecursion P (generators_of q starred marked assumptions)) where
   of_mark : (v : ℕ) → list_any (nat_eq v) marked ≡ true → AllByRecursion P (units q starred v)
-  of_mark v m = all_marked P (units q starred) marked v m (all_back P (cond starred (flat_map (new_adjoint q) assumptions) []) (flat_map (units q starred) marked) (all_back P assumptions (cond starred (flat_map (new_adjoint q) assumptions) [] ++ flat_map (units q starred) marked) all))
+  of_mark v m = all_marked P (units q starred) marked v m
+      (all_back P (cond starred (flat_map (new_adjoint q) assumptions) []) (flat_map (units q starred) marked)
+      (all_back P assumptions (cond starred (flat_map (new_adjoint q) assumptions) [] ++ flat_map (units q starred) marked) all))
 
   pub unit_itself : (v : ℕ) → list_any (nat_eq v) marked ≡ true → P (left_unit v v)
   unit_itself v m = (of_mark v m).0
 
-  of_letter : (v a : ℕ) → list_any (nat_eq v) marked ≡ true → q.objects ≤ a → a < letters q → (starred || nat_le a (star q a)) ≡ true → AllByRecursion P (cond (eqb (target q a) v) (left_unit v a ∷ []) [] ++ cond (eqb (source q a) v) (right_unit v a ∷ []) [])
-  of_letter v a m h i e = subst (λ b. AllByRecursion P (cond b (cond (eqb (target q a) v) (left_unit v a ∷ []) [] ++ cond (eqb (source q a) v) (right_unit v a ∷ []) []) [])) e (all_range P (letter_units q starred v) (letters q - q.objects) q.objects a h (omega arith) (of_mark v m).1)
+  of_letter : (v a : ℕ) → list_any (nat_eq v) marked ≡ true → q.objects ≤ a → a < letters q → (starred || nat_le a (star q a)) ≡ true
+      → AllByRecursion P (cond (eqb (target q a) v) (left_unit v a ∷ []) [] ++ cond (eqb (source q a) v) (right_unit v a ∷ []) [])
+  of_letter v a m h i e = subst
+      (λ b. AllByRecursion P (cond b (cond (eqb (target q a) v) (left_unit v a ∷ []) [] ++ cond (eqb (source q a) v) (right_unit v a ∷ []) []) [])) e
+      (all_range P (letter_units q starred v) (letters q - q.objects) q.objects a h (omega arith) (of_mark v m).1)
 
-  pub unit_of_target : (v a : ℕ) → list_any (nat_eq v) marked ≡ true → q.objects ≤ a → a < letters q → (starred || nat_le a (star q a)) ≡ true → target q a ≡ v → P (left_unit v a)
-  unit_of_target v a m h i e t = (subst (λ b. AllByRecursion P (cond b (left_unit v a ∷ []) [])) (eq-eqb (target q a) v t) (all_front P (cond (eqb (target q a) v) (left_unit v a ∷ []) []) (cond (eqb (source q a) v) (right_unit v a ∷ []) []) (of_letter v a m h i e))).0
+  pub unit_of_target : (v a : ℕ) → list_any (nat_eq v) marked ≡ true → q.objects ≤ a → a < letters q → (starred || nat_le a (star q a)) ≡ true
+      → target q a ≡ v → P (left_unit v a)
+  unit_of_target v a m h i e t =
+      (subst (λ b. AllByRecursion P (cond b (left_unit v a ∷ []) [])) (eq-eqb (target q a) v t)
+      (all_front P (cond (eqb (target q a) v) (left_unit v a ∷ []) []) (cond (eqb (source q a) v) (right_unit v a ∷ []) []) (of_letter v a m h i e))).0
 
-  pub unit_of_source : (v a : ℕ) → list_any (nat_eq v) marked ≡ true → q.objects ≤ a → a < letters q → (starred || nat_le a (star q a)) ≡ true → source q a ≡ v → P (right_unit v a)
-  unit_of_source v a m h i e t = (subst (λ b. AllByRecursion P (cond b (right_unit v a ∷ []) [])) (eq-eqb (source q a) v t) (all_back P (cond (eqb (target q a) v) (left_unit v a ∷ []) []) (cond (eqb (source q a) v) (right_unit v a ∷ []) []) (of_letter v a m h i e))).0
+  pub unit_of_source : (v a : ℕ) → list_any (nat_eq v) marked ≡ true → q.objects ≤ a → a < letters q → (starred || nat_le a (star q a)) ≡ true
+      → source q a ≡ v → P (right_unit v a)
+  unit_of_source v a m h i e t =
+      (subst (λ b. AllByRecursion P (cond b (right_unit v a ∷ []) [])) (eq-eqb (source q a) v t)
+      (all_back P (cond (eqb (target q a) v) (left_unit v a ∷ []) []) (cond (eqb (source q a) v) (right_unit v a ∷ []) []) (of_letter v a m h i e))).0
 
 -- x - y in the ideal makes the words x and y alike
-pub unit_like : {K : Type 0} (k : Field K) (o : Order) (g : Rules o) (x y : Word) → Span (AnyRow o g) (coefficient_of (((pos 1, x) ∷ (negsuc 0, y) ∷ []))) → Cong k o g ((k.one, x) ∷ []) ((k.one, y) ∷ [])
-unit_like {K = K} k o g x y h = cong_left k o g ((k.one, x) ∷ []) (L ++ Y) Y (record { at = same }) (cong_after k o g L [] Y (ideal_like k o g (((pos 1, x) ∷ (negsuc 0, y) ∷ [])) h))
+pub unit_like : {K : Type 0} (k : Field K) (o : Order) (g : Rules o) (x y : Word) → Span (AnyRow o g) (coefficient_of (((pos 1, x) ∷ (negsuc 0, y) ∷ [])))
+    → Cong k o g ((k.one, x) ∷ []) ((k.one, y) ∷ [])
+unit_like {K = K} k o g x y h = cong_left k o g ((k.one, x) ∷ []) (L ++ Y) Y (record { at = same })
+    (cong_after k o g L [] Y (ideal_like k o g (((pos 1, x) ∷ (negsuc 0, y) ∷ [])) h))
   where
     L : Form K
     L = lifted k k.one (((pos 1, x) ∷ (negsuc 0, y) ∷ []))
@@ -78,7 +96,11 @@ unit_like {K = K} k o g x y h = cong_left k o g ((k.one, x) ∷ []) (L ++ Y) Y (
     none_left = refl
 
     minus_one_is : k.int (negsuc 0) ≡ k.minus k.one
-    minus_one_is = minus_unique k k.one (k.int (negsuc 0)) (ap (λ z. k.plus z (k.int (negsuc 0))) (sym k.int_one) ∙ sym (k.int_plus (pos 1) (negsuc 0)) ∙ int_none k)
+    minus_one_is = minus_unique k k.one (k.int (negsuc 0))
+        (ap (λ z. k.plus z (k.int (negsuc 0))) (sym k.int_one) ∙ sym (k.int_plus (pos 1) (negsuc 0)) ∙ int_none k)
 
     same : (w : Word) → look k ((k.one, x) ∷ []) w ≡ look k (L ++ Y) w
-    same w = sym (ap₂ (λ a b. k.plus (k.times a (hit k x w)) b) (k.one_times (k.int (pos 1)) ∙ k.int_one) (ap₂ k.plus (ap (λ z. k.times z (hit k y w)) (k.one_times (k.int (negsuc 0)) ∙ minus_one_is) ∙ minus_one k (hit k y w)) (k.plus_none (k.times k.one (hit k y w)) ∙ k.one_times (hit k y w)) ∙ k.plus_comm (k.minus (hit k y w)) (hit k y w) ∙ k.plus_minus (hit k y w)))
+    same w = sym
+        (ap₂ (λ a b. k.plus (k.times a (hit k x w)) b) (k.one_times (k.int (pos 1)) ∙ k.int_one)
+        (ap₂ k.plus (ap (λ z. k.times z (hit k y w)) (k.one_times (k.int (negsuc 0)) ∙ minus_one_is) ∙ minus_one k (hit k y w))
+        (k.plus_none (k.times k.one (hit k y w)) ∙ k.one_times (hit k y w)) ∙ k.plus_comm (k.minus (hit k y w)) (hit k y w) ∙ k.plus_minus (hit k y w)))

@@ -1,5 +1,5 @@
 -- The rational normal form of a sum of words is a normal form by the rules.
-use Rattle.std.proofs.Common.{◌≡◌, ◌≢◌, ℕ, zero, ℤ, suc, ◌+◌, ◌<◌, pos, Bool, true, false, not, ◌&&◌, cond, List, [], ◌∷◌, ◌++◌, length, map, take, drop, filter, slice_get, Option, Some, None, MatchOption, refl, sym, ap, ap₂, ◌∙◌, subst, append-nil}
+use Rattle.std.proofs.Common.{◌≡◌, ◌≢◌, ℕ, zero, ℤ, suc, ◌+◌, pos, Bool, true, false, not, ◌&&◌, cond, List, [], ◌∷◌, ◌++◌, length, take, drop, filter, Option, Some, None, MatchOption, refl, sym, ap, ap₂, ◌∙◌, subst, append-nil}
 use Rattle.std.proofs.lemmas.Bool.{false_from_ne_true}
 use Rattle.std.proofs.lemmas.Bool.Decides.{Decides-int_eq}
 use Rattle.std.proofs.lemmas.List.Elements.{All-from_recursion, recursion_from_All}
@@ -7,7 +7,7 @@ use Rattle.std.specs.List.{All, AllByRecursion}
 use Rattle.std.specs.Int.RustNames.{unsigned_abs}
 use Rattle.std.specs.Ordering.{int_eq}
 use Rattle.definitions.specs.Poly.{Word, Term, word_eq, coefficient_of}
-use Rattle.word_core.specs.Occurrence.{OccursAt, IsFirstPlace, OccursNowhere}
+use Rattle.word_core.specs.Occurrence.{IsFirstPlace, OccursNowhere}
 use Rattle.word_orders.specs.Admissible.{Compare, IsAdmissible}
 use Rattle.word_orders.specs.Orders.{Order}
 use Rattle.word_orders.proofs.Orders.{over_range, less_below}
@@ -27,13 +27,13 @@ use Rattle.confluence.proofs.LedRules.{led_of, leds_of, led_at-is, has_led, rule
 use Rattle.confluence.proofs.Meets.{Rules}
 use Rattle.confluence.proofs.Parts.{filtered, is_lower, parted}
 use Rattle.confluence.proofs.ReducibleLaws.{order, ordered}
-use Rattle.normal_forms.specs.Forms.{Form, with_words, multiple_form}
+use Rattle.normal_forms.specs.Forms.{Form, with_words}
 use Rattle.normal_forms.specs.RationalForms.{IsGrounded, grounded, rule_or, first_rule, other_terms, form_where, lower_forms, form_by, word_form, rational_normal_form}
 use Rattle.normal_forms.proofs.Field.{Field, numbers_of}
 use Rattle.normal_forms.proofs.FieldLaws.{times_one, minus_times}
 use Rattle.normal_forms.proofs.Forms.{Each, scaled}
 use Rattle.normal_forms.proofs.Congruence.{lifted, Irreducible}
-use Rattle.normal_forms.proofs.Normal.{Normal, done, keep, step, lower, normal-append, normal_scaled, tail_less}
+use Rattle.normal_forms.proofs.Normal.{Normal, done, keep, step, normal-append, normal_scaled, tail_less}
 
 -- the first rule whose leading word occurs in the word, with its number and its place
 pub record IsFound (rules : List Rule) (word : Word) (found : Rule × ℕ) : Type 0 where
@@ -50,7 +50,8 @@ first_rule-tells [] word = tt
 first_rule-tells (g ∷ rules) word = go (place_in word g.lead) (place_in-tells word g.lead) (first_rule rules word) (first_rule-tells rules word)
   where
     go : (p : Option ℕ) → MatchOption p (OccursNowhere word g.lead) (IsFirstPlace word g.lead) → (later : Option (Rule × ℕ))
-        → MatchOption later (HasNoLead rules word) (IsFound rules word) → MatchOption (rule_or g p later) (HasNoLead (g ∷ rules) word) (IsFound (g ∷ rules) word)
+        → MatchOption later (HasNoLead rules word) (IsFound rules word)
+        → MatchOption (rule_or g p later) (HasNoLead (g ∷ rules) word) (IsFound (g ∷ rules) word)
     go (Some place) at later rest = record { number = 1; numbered = refl; splits = split_at word g.lead place at.occurs }
     go None nowhere None rest = (nowhere, rest)
     go None nowhere (Some f) rest = record { number = suc rest.number; numbered = up rest.number rest.numbered; splits = rest.splits }
@@ -65,7 +66,8 @@ same_kept [] one other each = refl
 same_kept (t ∷ p) one other each = ap₂ (λ b rest. cond b (t ∷ rest) rest) each.0 (same_kept p one other each.1)
 
 pub other_terms-parted : (letters : ℕ) (compare : Compare) (g : Rule) → IsRule letters compare g → other_terms g ≡ (parted (led_of g)).tail
-other_terms-parted letters compare g is = same_kept g.poly.terms (λ w. not (word_eq g.lead w)) (is_lower (led_of g)) (words_listed Same g.poly.terms distinct nonzero each)
+other_terms-parted letters compare g is = same_kept g.poly.terms (λ w. not (word_eq g.lead w)) (is_lower (led_of g))
+    (words_listed Same g.poly.terms distinct nonzero each)
   where
     Same : Word → Type 0
     Same w = not (word_eq g.lead w) ≡ is_lower (led_of g) w
@@ -81,9 +83,11 @@ other_terms-parted letters compare g is = same_kept g.poly.terms (λ w. not (wor
     true_right false = refl
 
     each : (w : Word) → coefficient_of g.poly.terms w ≢ pos 0 → Same w
-    each w some = true_right (not (word_eq g.lead w)) ∙ ap (λ b. not (word_eq g.lead w) && not b) (sym (false_from_ne_true (int_eq (coefficient_of g.poly.terms w) (pos 0)) (λ e. some ((Decides-int_eq (coefficient_of g.poly.terms w) (pos 0)).0 e))))
+    each w some = true_right (not (word_eq g.lead w)) ∙ ap (λ b. not (word_eq g.lead w) && not b)
+        (sym (false_from_ne_true (int_eq (coefficient_of g.poly.terms w) (pos 0)) (λ e. some ((Decides-int_eq (coefficient_of g.poly.terms w) (pos 0)).0 e))))
 
-module _ {K : Type 0} (k : Field K) (letters : ℕ) (compare : Compare) (rank : List ℕ → List ℕ) (laws : IsAdmissible letters compare rank) (rules : List Rule) (are : All (IsRule letters compare) rules) where
+module _ {K : Type 0} (k : Field K) (letters : ℕ) (compare : Compare) (rank : List ℕ → List ℕ) (laws : IsAdmissible letters compare rank) (rules : List Rule)
+    (are : All (IsRule letters compare) rules) where
   abbrev o : Order
   o = order letters compare rank laws rules are
 
@@ -97,26 +101,33 @@ module _ {K : Type 0} (k : Field K) (letters : ℕ) (compare : Compare) (rank : 
   no_lead word none = record { at = λ i l r has e. at i l r e (rule_of_number rules i has) }
     where
       at : (i : ℕ) (l r : Word) → word ≡ l ++ ((g.rule i).lead ++ r) → ((f : Rule) × (rule_at rules i ≡ Some f)) → ⊥
-      at i l r e (f, numbered) = rule_at-all (λ f. OccursNowhere word f.lead) rules i f numbered (All-from_recursion (λ f. OccursNowhere word f.lead) rules none) (length l)
+      at i l r e (f, numbered) = rule_at-all (λ f. OccursNowhere word f.lead) rules i f numbered
+          (All-from_recursion (λ f. OccursNowhere word f.lead) rules none) (length l)
           (record { before = l; after = r; splits = e ∙ ap (λ x. l ++ (x.lead ++ r)) (led_at-is rules i f numbered); at_place = refl })
 
   -- what a term of a rule is replaced by, written both ways
   factor : (q : ℕ) (c : ℤ) → k.times (k.times (k.minus (k.int c)) (k.part q)) k.one ≡ k.times (k.minus (k.times k.one (k.part q))) (k.int c)
-  factor q c = times_one k _ ∙ minus_times k (k.int c) (k.part q) ∙ ap k.minus (k.times_comm (k.int c) (k.part q)) ∙ sym (ap (λ x. k.times (k.minus x) (k.int c)) (k.one_times (k.part q)) ∙ minus_times k (k.part q) (k.int c))
+  factor q c = times_one k _ ∙ minus_times k (k.int c) (k.part q) ∙ ap k.minus (k.times_comm (k.int c) (k.part q))
+      ∙ sym (ap (λ x. k.times (k.minus x) (k.int c)) (k.one_times (k.part q)) ∙ minus_times k (k.part q) (k.int c))
 
   -- the form of a word that is below
-  taken : (p : Form K) (b : Bool) → b ≡ true → (form : b ≡ true → Form K) → ((e : b ≡ true) → Normal k o g p (form e)) → Normal k o g p (form_where (numbers_of k) below rules b form)
+  taken : (p : Form K) (b : Bool) → b ≡ true → (form : b ≡ true → Form K) → ((e : b ≡ true) → Normal k o g p (form e))
+      → Normal k o g p (form_where (numbers_of k) below rules b form)
   taken p true e form each = each refl
   taken p false e form each = absurd (cc)
 
   -- at the place of a rule, the sum over its other terms
-  module _ (M : Word) (form : (L : Word) → below L M ≡ true → Form K) (each : (L : Word) (e : below L M ≡ true) → Normal k o g ((k.one, L) ∷ []) (form L e)) (q : ℕ) (l r : Word) where
+  module _ (M : Word) (form : (L : Word) → below L M ≡ true → Form K) (each : (L : Word) (e : below L M ≡ true) → Normal k o g ((k.one, L) ∷ []) (form L e))
+      (q : ℕ) (l r : Word) where
     lower_normal : (p : List Term) → AllWords (λ u. o.Less (l ++ (u ++ r)) M) p
-        → Normal k o g (with_words (λ u. l ++ (u ++ r)) (lifted k (k.minus (k.times k.one (k.part q))) p)) (lower_forms (numbers_of k) below rules M form q l r p)
+        → Normal k o g (with_words (λ u. l ++ (u ++ r)) (lifted k (k.minus (k.times k.one (k.part q))) p))
+        (lower_forms (numbers_of k) below rules M form q l r p)
     lower_normal [] less = done
     lower_normal (t ∷ p) less = normal-append k o g ((k.times (k.minus (k.times k.one (k.part q))) (k.int t.0), L) ∷ []) _ _ _
         (subst (λ c. Normal k o g ((c, L) ∷ []) (scaled k d (form_where (numbers_of k) below rules (below L M) (form L)))) (factor q t.0)
-        (normal_scaled k o g d ((k.one, L) ∷ []) _ (taken ((k.one, L) ∷ []) (below L M) (test_from_below letters compare L M (less_below letters compare rank laws L M less.0)) (form L) (each L))))
+        (normal_scaled k o g d ((k.one, L) ∷ []) _
+        (taken ((k.one, L) ∷ []) (below L M) (test_from_below letters compare L M (less_below letters compare rank laws L M less.0)) (form L)
+        (each L))))
         (lower_normal p less.1)
       where
         L : Word
@@ -131,10 +142,12 @@ module _ {K : Type 0} (k : Field K) (letters : ℕ) (compare : Compare) (rank : 
       form : (L : Word) → below L M ≡ true → Form K
       form L e = word_form (numbers_of k) below rules L (down L e)
 
-      go : (f : Option (Rule × ℕ)) → MatchOption f (HasNoLead rules M) (IsFound rules M) → ((L : Word) (e : below L M ≡ true) → o.Range L → Normal k o g ((k.one, L) ∷ []) (form L e))
+      go : (f : Option (Rule × ℕ)) → MatchOption f (HasNoLead rules M) (IsFound rules M)
+          → ((L : Word) (e : below L M ≡ true) → o.Range L → Normal k o g ((k.one, L) ∷ []) (form L e))
           → Normal k o g ((k.one, M) ∷ []) (form_by (numbers_of k) below rules M form f)
       go None none each = keep k.one M [] [] (no_lead M none) done
-      go (Some f) found each = subst (Normal k o g ((k.one, M) ∷ [])) (append-nil _) (step k.one M found.number l r _ [] [] has splits (subst Replaced (sym is) at_terms) done)
+      go (Some f) found each = subst (Normal k o g ((k.one, M) ∷ [])) (append-nil _)
+          (step k.one M found.number l r _ [] [] has splits (subst Replaced (sym is) at_terms) done)
         where
           l : Word
           l = take f.1 M
@@ -155,7 +168,8 @@ module _ {K : Type 0} (k : Field K) (letters : ℕ) (compare : Compare) (rank : 
           forms = lower_forms (numbers_of k) below rules M form (unsigned_abs f.0.leading) l r
 
           Replaced : Led → Type 0
-          Replaced x = Normal k o g (with_words (λ u. l ++ (u ++ r)) (lifted k (k.minus (k.times k.one (k.part x.leading))) (parted x).tail)) (forms (other_terms f.0))
+          Replaced x = Normal k o g (with_words (λ u. l ++ (u ++ r)) (lifted k (k.minus (k.times k.one (k.part x.leading))) (parted x).tail))
+              (forms (other_terms f.0))
 
           less : AllWords (λ u. o.Less (l ++ (u ++ r)) M) (parted (led_of f.0)).tail
           less = subst (λ x. AllWords (λ u. o.Less (l ++ (u ++ r)) M) (parted x).tail) is (tail_less k o g found.number l r M has splits range)
@@ -164,12 +178,16 @@ module _ {K : Type 0} (k : Field K) (letters : ℕ) (compare : Compare) (rank : 
           in_range L e = over_range letters compare rank laws L (below_from_test letters compare L M e).left
 
           at_terms : Replaced (led_of f.0)
-          at_terms = subst (λ p. Normal k o g (with_words (λ u. l ++ (u ++ r)) (lifted k (k.minus (k.times k.one (k.part (unsigned_abs f.0.leading)))) (parted (led_of f.0)).tail)) (forms p))
+          at_terms = subst
+              (λ p. Normal k o g
+              (with_words (λ u. l ++ (u ++ r)) (lifted k (k.minus (k.times k.one (k.part (unsigned_abs f.0.leading)))) (parted (led_of f.0)).tail)) (forms p))
               (sym (other_terms-parted letters compare f.0 (rule_at-all (IsRule letters compare) rules found.number f.0 found.numbered are)))
               (lower_normal M form (λ L e. each L e (in_range L e)) (unsigned_abs f.0.leading) l r (parted (led_of f.0)).tail less)
 
-  pub normal_form_is : (all : (w : Word) → IsGrounded below w) (p : Form K) → Each o.Range p → Normal k o g p (rational_normal_form (numbers_of k) below rules all p)
+  pub normal_form_is : (all : (w : Word) → IsGrounded below w) (p : Form K) → Each o.Range p
+      → Normal k o g p (rational_normal_form (numbers_of k) below rules all p)
   normal_form_is all [] range = done
   normal_form_is all (t ∷ p) range = normal-append k o g ((t.0, t.1) ∷ []) _ p _
-      (subst (λ c. Normal k o g ((c, t.1) ∷ []) (scaled k t.0 (word_form (numbers_of k) below rules t.1 (all t.1)))) (times_one k t.0) (normal_scaled k o g t.0 ((k.one, t.1) ∷ []) _ (word_normal t.1 (all t.1) range.0)))
+      (subst (λ c. Normal k o g ((c, t.1) ∷ []) (scaled k t.0 (word_form (numbers_of k) below rules t.1 (all t.1)))) (times_one k t.0)
+      (normal_scaled k o g t.0 ((k.one, t.1) ∷ []) _ (word_normal t.1 (all t.1) range.0)))
       (normal_form_is all p range.1)

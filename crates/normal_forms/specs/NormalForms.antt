@@ -24,7 +24,6 @@ pub record IsNonzero (x : Fraction) : Type 0 where
   pub lowest : IsLowest x.top x.bottom
   pub nonzero : is_zero x.top ≡ false
 
--- Of the parts of a statement and rules.
 -- whether the object is marked
 abbrev pub is_marked_in : Parts → ℕ → Bool
 is_marked_in p v = list_any (nat_eq v) (numbers p.marked)
@@ -45,7 +44,8 @@ module _ (p : Parts) (rules : List Rule) where
     pub target_is_object : m.target < (quiver_of p.quiver).objects
     pub nonzero : AllByRecursion (λ t. IsNonzero t.0) m.form
     pub ascending : IsAscending comes_before m.form
-    pub words : AllByRecursion (λ t. LeadsInPlay (quiver_of p.quiver) (is_in_play p.quiver p.starred (numbers p.marked)) (is_marked_in p) m.source m.target t.1) m.form
+    pub words : AllByRecursion
+        (λ t. LeadsInPlay (quiver_of p.quiver) (is_in_play p.quiver p.starred (numbers p.marked)) (is_marked_in p) m.source m.target t.1) m.form
     pub irreducible : AllByRecursion (λ t. All (λ g. OccursNowhere t.1 g.lead) rules) m.form
 
   -- the rational normal form of a sum of words
@@ -54,7 +54,8 @@ module _ (p : Parts) (rules : List Rule) where
 
   -- Objects are those of the quiver, and maps those above. Both are there only where the rules are a basis.
   abbrev pub normal_forms : Structure ℕ (NormalMap Fraction)
-  normal_forms = structure_of fractions comes_before normal_form (is_marked_in p) (λ v. (v < (quiver_of p.quiver).objects) × IsBasis) (λ m. IsNormalMap m × IsBasis)
+  normal_forms = structure_of fractions comes_before normal_form (is_marked_in p) (λ v. (v < (quiver_of p.quiver).objects) × IsBasis)
+      (λ m. IsNormalMap m × IsBasis)
 
   abbrev pub forms_representation : Representation ℕ (NormalMap Fraction)
   forms_representation = record {

@@ -35,7 +35,8 @@ module _ {K : Type 0} (k : Numbers K) (below : Word → Word → Bool) (rules : 
   abbrev pub lower_forms : (M : Word) → ((L : Word) → below L M ≡ true → Form K) → ℕ → Word → Word → List Term → Form K
   lower_forms M form q l r [] = []
   lower_forms M form q l r (t ∷ p) =
-      multiple_form k (k.times (k.minus (k.int t.0)) (k.part q)) (form_where (below (l ++ (t.1 ++ r)) M) (form (l ++ (t.1 ++ r)))) ++ lower_forms M form q l r p
+      multiple_form k (k.times (k.minus (k.int t.0)) (k.part q))
+      (form_where (below (l ++ (t.1 ++ r)) M) (form (l ++ (t.1 ++ r)))) ++ lower_forms M form q l r p
 
   -- Where no leading word occurs, once the word itself; else, with l lead r the word, the sum over the other terms.
   abbrev pub form_by : (M : Word) → ((L : Word) → below L M ≡ true → Form K) → Option (Rule × ℕ) → Form K

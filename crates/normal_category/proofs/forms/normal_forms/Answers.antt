@@ -11,4 +11,5 @@ returns-clause-sharp c =
     let list = c.args.rules.now.rules in
     let typed : All (IsTypedIn parts) list = search rules in
     let plays : All (PlaysIn parts) list = search rules in
-    problem_is_sharp c.args.problem.now list c.requires.are_rules c.requires.resolved c.requires.generated (typed_in_play parts list typed plays) c.args.claim c.requires.first c.requires.last c.requires.outside
+    problem_is_sharp c.args.problem.now list c.requires.are_rules c.requires.resolved c.requires.generated
+    (typed_in_play parts list typed plays) c.args.claim c.requires.first c.requires.last c.requires.outside

@@ -1,4 +1,4 @@
-use Rattle.std.proofs.Common.{◌≡◌, Bool, true, false, arith, get_or, slice_get, Some}
+use Rattle.std.proofs.Common.{◌≡◌, arith, get_or, slice_get, Some}
 use Rattle.std.proofs.lemmas.Option.{slice_get-get_or}
 use Rattle.adjoint_rules.specs.Problem.{numbers, is_in_play}
 use Rattle.normal_category.specs.Faults.{PlaysIn}
@@ -26,4 +26,5 @@ loop-place-preserved c =
     (plays_from_test (is_in_play p.quiver p.starred (numbers p.marked)) rule.poly c.has_letters_in_play.result c.has_letters_in_play.ensures (grind arith))
 
 pub returns-clause-none : goal.returns-clause-none
-returns-clause-none c = all_passed (PlaysIn c.args.parts.now) c.args.rules.now c.loop-place.place (omega (arith, c.loop-place-test.false)) c.loop-place.invariant
+returns-clause-none c = all_passed (PlaysIn c.args.parts.now) c.args.rules.now c.loop-place.place
+    (omega (arith, c.loop-place-test.false)) c.loop-place.invariant
