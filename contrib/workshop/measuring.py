@@ -1,0 +1,82 @@
+"""What measure.py and its tables share: plain programs that are built, and runs whose time and memory is told."""
+from __future__ import annotations
+
+import os
+import resource
+import time
+from pathlib import Path
+from typing import Callable, Iterator, List, NamedTuple
+
+from trying import CONTRIB, PROGRAM, Failed, installed, need, run
+
+OPPROVE = Path(os.environ.get("OPPROVE", PROGRAM))
+RUNS, PATIENCE, MEMORY_LIMIT = 3, 10, 8 * 10**9
+NO_MEMORY = 6
+
+Text = Iterator[str]
+
+
+class Usage(NamedTuple):
+    status: int
+    seconds: float  # of processors
+    megabytes: float
+    wall: float
+
+
+def build(name: str, folder: Path) -> str:
+    """A plain program of contrib/, built by rustc, which a busy machine may keep for minutes."""
+    program = folder / name
+    answer = run(installed("rustc"), "--edition", "2021", "-O", CONTRIB / "workshop" / f"{name}.rs", "-o", program, seconds=600)
+    need(answer.status == 0, answer.error)
+    return str(program)
+
+
+def bound() -> None:
+    """Bounds the memory of each run from here on, behind rustc."""
+    resource.setrlimit(resource.RLIMIT_AS, (MEMORY_LIMIT, MEMORY_LIMIT))
+
+
+def write(path: Path, text: Text) -> int:
+    with path.open("w", newline="\n", encoding="utf-8") as file:
+        file.writelines(text)
+    return path.stat().st_size
+
+
+def measured(words: List[str], out: Path) -> Usage:
+    """One run, whose answer goes to a file. A program that is ended by a signal found no memory."""
+    to_file = (os.POSIX_SPAWN_OPEN, 1, str(out), os.O_WRONLY | os.O_CREAT | os.O_TRUNC, 0o600)
+    silent = (os.POSIX_SPAWN_OPEN, 2, os.devnull, os.O_WRONLY, 0)
+    start = time.monotonic()
+    process = os.posix_spawn(words[0], words, os.environ, file_actions=[to_file, silent])
+    _, ending, usage = os.wait4(process, 0)
+    status = os.WEXITSTATUS(ending) if os.WIFEXITED(ending) else NO_MEMORY
+    return Usage(status, usage.ru_utime + usage.ru_stime, usage.ru_maxrss / 1000, time.monotonic() - start)
+
+
+def least(words: List[str], out: Path, is_right: Callable[[int, str], bool]) -> Usage:
+    """The least of some runs, of each of which the status and the answer are right, or which find no memory."""
+    return least_by(words, out, lambda status: is_right(status, out.read_text(encoding="utf-8")))
+
+
+def least_by(words: List[str], out: Path, is_right: Callable[[int], bool]) -> Usage:
+    """The same, of runs whose answers are looked at in their file, so that long ones take no memory here."""
+    runs: List[Usage] = []
+    while len(runs) < RUNS and sum(usage.seconds for usage in runs) < PATIENCE:
+        runs.append(measured(words, out))
+        if not is_right(runs[-1].status) and runs[-1].status != NO_MEMORY:
+            with out.open(encoding="utf-8") as file:
+                raise Failed(str((words, runs[-1], file.read(200))))
+    columns = list(zip(*runs))
+    return Usage(runs[-1].status, *map(min, columns[1:]))
+
+
+def told(usage: Usage) -> str:
+    if usage.status == NO_MEMORY:
+        return f"{usage.seconds:.3f} | none left"
+    floor = resource.getrusage(resource.RUSAGE_SELF).ru_maxrss / 1000
+    return f"{usage.seconds:.3f} | {'' if usage.megabytes > 1.05 * floor else 'below '}{usage.megabytes:.0f}"
+
+
+def quotient(own: Usage, other: Usage) -> float:
+    """Of the times, and 0 where there is none."""
+    return 0.0 if NO_MEMORY in (own.status, other.status) or not other.seconds else own.seconds / other.seconds
