@@ -28,27 +28,27 @@ use Rattle.representations.specs.Evidence.{IsEvidenceSound, IsEvidenceStarSound}
 
 module _ {Object Arrow : Type 0} {s : Structure Object Arrow} (laws : PreadditiveLaws s) (q : Quiver) (f : Representation Object Arrow) (rep : Represents s q f) where
   module _ (u v : ℕ) (in_u : u < q.objects) (in_v : v < q.objects) where
-    abbrev none : Arrow
+    abbrev pub none : Arrow
     none = s.zero (f.object u) (f.object v)
 
     -- the sum of p at the signature (u, v)
-    abbrev sum_at : List (ℤ × List ℕ) → Arrow
+    abbrev pub sum_at : List (ℤ × List ℕ) → Arrow
     sum_at p = linear none s.add s.negate (word_at laws q f rep u v) p
 
     abbrev times_at : ℤ → Arrow → Arrow
     times_at = times none s.add s.negate
 
-    abbrev group : IsGroup (IsArrow s (f.object u) (f.object v)) (s.zero (f.object u) (f.object v)) s.add s.negate
+    abbrev pub group : IsGroup (IsArrow s (f.object u) (f.object v)) (s.zero (f.object u) (f.object v)) s.add s.negate
     group = group_at laws q f rep u v in_u in_v
 
-    word_in : (w : List ℕ) → IsArrow s (f.object u) (f.object v) (word_at laws q f rep u v w)
+    pub word_in : (w : List ℕ) → IsArrow s (f.object u) (f.object v) (word_at laws q f rep u v w)
     word_in = word_at_is_arrow laws q f rep u v in_u in_v
 
     -- between any two words the polynomial has the sum zero
-    abbrev IsNothing : List (ℤ × List ℕ) → Type 0
+    abbrev pub IsNothing : List (ℤ × List ℕ) → Type 0
     IsNothing p = (l r : List ℕ) → sum_at (poly_between l p r) ≡ none
 
-    generators_vanish : (generators : List (List (ℤ × List ℕ))) → AllByRecursion (HasSignature q) generators → AllByRecursion (HasValueZero s q f) generators → AllByRecursion IsNothing generators
+    pub generators_vanish : (generators : List (List (ℤ × List ℕ))) → AllByRecursion (HasSignature q) generators → AllByRecursion (HasValueZero s q f) generators → AllByRecursion IsNothing generators
     generators_vanish [] typed vanish = tt
     generators_vanish (g ∷ generators) typed vanish = (
       λ l r.
@@ -58,7 +58,7 @@ module _ {Object Arrow : Type 0} {s : Structure Object Arrow} (laws : Preadditiv
       generators_vanish generators typed.1 vanish.1,
     )
 
-    nothing_at : (ps : List (List (ℤ × List ℕ))) → AllByRecursion IsNothing ps → (n : ℕ) → IsNothing (generator_at ps n)
+    pub nothing_at : (ps : List (List (ℤ × List ℕ))) → AllByRecursion IsNothing ps → (n : ℕ) → IsNothing (generator_at ps n)
     nothing_at ps h zero l r = refl
     nothing_at [] h (suc n) l r = refl
     nothing_at (p ∷ ps) h (suc zero) l r = h.0 l r
@@ -76,7 +76,7 @@ module _ {Object Arrow : Type 0} {s : Structure Object Arrow} (laws : Preadditiv
           ∙ linear-scale group (word_at laws q f rep u v) word_in row.coef (poly_between (l ++ row.left) p (row.right ++ r))
           ∙ ap (times_at row.coef) (source_vanishes row.from (l ++ row.left) (row.right ++ r)) ∙ times-none group row.coef
 
-      rows_vanish : (rows : List LemmaRow) → IsNothing (lemma_sum generators lemmas rows)
+      pub rows_vanish : (rows : List LemmaRow) → IsNothing (lemma_sum generators lemmas rows)
       rows_vanish [] l r = refl
       rows_vanish (row ∷ rows) l r =
           let first = lemma_row_poly generators lemmas row in
@@ -86,7 +86,7 @@ module _ {Object Arrow : Type 0} {s : Structure Object Arrow} (laws : Preadditiv
           ∙ ap₂ s.add (row_vanishes row l r) (rows_vanish rows l r) ∙ group.add_zero none group.zero_in
 
       -- a polynomial vanishes with its rows, where the scale divides an integer that cancels
-      lemma_vanishes : (d : ℤ) → Cancels s d → (lemma : Lemma) (p : List (ℤ × List ℕ)) → IsShareOf d lemma → AddsUpTo generators lemmas lemma p → IsNothing p
+      pub lemma_vanishes : (d : ℤ) → Cancels s d → (lemma : Lemma) (p : List (ℤ × List ℕ)) → IsShareOf d lemma → AddsUpTo generators lemmas lemma p → IsNothing p
       lemma_vanishes d cancels lemma p share adds_up l r =
           let k = lemma.scale in
           let m = int_div d k in
