@@ -5,14 +5,9 @@ use Rattle.std.proofs.lemmas.List.{append_assoc, length_push, length-take-le, ge
 use Rattle.std.proofs.lemmas.Bool.{cases_lt}
 use Rattle.rule_index.specs.declared.tree.Node.{Node}
 use Rattle.rule_index.specs.Prefixes.{word_at}
-use Rattle.rule_index.specs.Automaton.{longest, node_at, root, grown, letters_of, words_of, IsSpelled, IsLinked}
+use Rattle.rule_index.specs.Automaton.{longest, node_at, root, grown, words_of, IsSpelled, IsLinked}
 use Rattle.rule_index.specs.Cuts.{IsKept}
 use Rattle.rule_index.proofs.FirstWords.{longest-fewer}
-
-pub letters_of-take : (n : ℕ) (nodes : List Node) → letters_of (take n nodes) ≡ take n (letters_of nodes)
-letters_of-take zero nodes = refl
-letters_of-take (suc n) [] = refl
-letters_of-take (suc n) (m ∷ nodes) = ap (λ ls. m.letter ∷ ls) (letters_of-take n nodes)
 
 record Longer (words all : List (List ℕ)) : Type 0 where
   more : List (List ℕ)

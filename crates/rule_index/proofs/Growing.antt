@@ -8,10 +8,10 @@ use Rattle.std.proofs.lemmas.Bool.{cases_lt}
 use Rattle.rule_index.specs.declared.tree.Node.{Node}
 use Rattle.rule_index.specs.declared.tree.Tree.{Tree}
 use Rattle.rule_index.specs.Prefixes.{same_word, has, word_at}
-use Rattle.rule_index.specs.Automaton.{longest, ends_with, first_of, node_at, added_node, letters_of, words_of, Lists, ListsBelow, IsChild, IsTree, IsChained, IsSpelled, IsLinked, IsLongest, IsMarked, IsEnds, IsRelinked, IsGrown, HasRoom}
+use Rattle.rule_index.specs.Automaton.{longest, ends_with, first_of, node_at, added_node, words_of, Lists, ListsBelow, IsChild, IsTree, IsChained, IsSpelled, IsLinked, IsLongest, IsMarked, IsEnds, IsRelinked, IsGrown, HasLetters, HasRoom}
 use Rattle.rule_index.proofs.Suffixes.{has-push, ends-longest, ends-short, longest-other, longest-new, longest-old, same-true}
 use Rattle.rule_index.proofs.Firsts.{same_first}
-use Rattle.rule_index.proofs.Pushing.{push-old, push-new, Same, is_same, is_other, same_or, spelled-push, letters_of-push, words-push}
+use Rattle.rule_index.proofs.Pushing.{push-old, push-new, Same, is_same, is_other, same_or, spelled-push, words-push}
 use Rattle.rule_index.proofs.Spelled.{child-has, child-word, child-absent}
 
 pub clash : {b : Bool} → b ≡ true → b ≡ false → ⊥
@@ -189,10 +189,10 @@ has_too words w word e = go (has words w) (same_word w word) refl refl
     go false false h s = refl
 
 -- the node is there already
-pub grown-same : (tree : Tree) → IsTree tree.nodes.items tree.heads.items tree.nexts.items tree.links.items → length tree.leasts.items ≡ length tree.nodes.items → (at letter node : ℕ) (ends : List ℕ)
+pub grown-same : (tree : Tree) → IsTree tree.nodes.items tree.heads.items tree.nexts.items tree.links.items → HasLetters tree → length tree.leasts.items ≡ length tree.nodes.items → (at letter node : ℕ) (ends : List ℕ)
     → IsEnds (words_of tree.nodes.items) (word_at (words_of tree.nodes.items) at ++ letter ∷ []) ends → IsChild tree.nodes.items at letter node
     → IsGrown tree tree (word_at (words_of tree.nodes.items) at ++ letter ∷ []) ends node
-grown-same tree h size at letter node ends are child =
+grown-same tree h letters size at letter node ends are child =
     let nodes = tree.nodes.items in
     let words = words_of nodes in
     record {
@@ -203,9 +203,9 @@ grown-same tree h size at letter node ends are child =
       sized = size;
       marked = λ entries m. m;
       only = λ w. has_too words w (word_at words at ++ letter ∷ []) (child-has nodes words h.spelled at letter node child);
-      room = λ count r. record { nodes = omega (arith, r.nodes); letters = omega (arith, r.letters); nexts = omega (arith, r.nexts); links = omega (arith, r.links); leasts = omega (arith, r.leasts) };
+      room = λ count r. record { nodes = omega (arith, r.nodes); nexts = omega (arith, r.nexts); letter_nexts = omega (arith, r.letter_nexts); links = omega (arith, r.links); leasts = omega (arith, r.leasts) };
       front = take-length nodes;
-      lettered = λ e. e;
+      lettered = letters;
     }
 
 -- the node is new
@@ -215,7 +215,7 @@ module _ (old new : Tree) (h : IsTree old.nodes.items old.heads.items old.nexts.
     (link_is : IsLongest old.nodes.items (drop 1 (word_at (words_of old.nodes.items) at ++ letter ∷ [])) link)
     (nodes_are : new.nodes.items ≡ old.nodes.items ++ added_node old.nodes.items at letter ∷ [])
     (chained : IsChained new.nodes.items (length new.nodes.items) new.heads.items new.nexts.items)
-    (letters_are : new.letters.items ≡ old.letters.items ++ letter ∷ [])
+    (letters : HasLetters new)
     (leasts_are : new.leasts.items ≡ old.leasts.items ++ get_or old.leasts.items link None ∷ [])
     (links_size : length new.links.items ≡ length (old.links.items ++ link ∷ []))
     (moved : (k : ℕ) → k < length (old.links.items ++ link ∷ []) → IsRelinked new.nodes.items ends (length ends) (length old.nodes.items) (get_or (old.links.items ++ link ∷ []) k 0) (get_or new.links.items k 0) k)
@@ -274,5 +274,5 @@ module _ (old new : Tree) (h : IsTree old.nodes.items old.heads.items old.nexts.
     only = λ w. ap (λ ws. has ws w) words_are ∙ has-push words word w;
     room = room;
     front = ap (take (length nodes)) nodes_are ∙ take-append_seam nodes (n ∷ []);
-    lettered = λ e. letters_are ∙ ap (λ ls. ls ++ letter ∷ []) e ∙ sym (ap letters_of nodes_are ∙ letters_of-push nodes n);
+    lettered = letters;
   }

@@ -8,7 +8,7 @@ use Rattle.rule_index.specs.declared.tree.Node.{Node}
 use Rattle.rule_index.specs.declared.tree.Tree.{Tree}
 use Rattle.rule_index.specs.Matches.{begins_with}
 use Rattle.rule_index.specs.Prefixes.{same_word, has, word_at}
-use Rattle.rule_index.specs.Automaton.{ends_with, first_of, marked, letters_of, words_of, Lists, ListsBelow, IsTree, IsSpelled, IsMarked, IsMarkedAt, IsEnds, IsGrown, IsGrowing, IsInserted, HasRoom}
+use Rattle.rule_index.specs.Automaton.{ends_with, first_of, marked, words_of, Lists, ListsBelow, IsTree, IsSpelled, IsMarked, IsMarkedAt, IsEnds, IsGrown, IsGrowing, IsInserted, HasLetters, HasRoom}
 use Rattle.rule_index.proofs.Suffixes.{same-true, has-at}
 use Rattle.rule_index.proofs.Pushing.{Same, is_same, is_other, same_or}
 use Rattle.rule_index.proofs.Fronts.{front-more}
@@ -34,13 +34,13 @@ growing-more old mid new word index at letter next ends ends' h inside read g = 
   only = λ w e. only w (or_either (has (words_of mid.nodes.items) w) (same_word w (word_at (words_of mid.nodes.items) at ++ letter ∷ [])) (sym (g.only w) ∙ e));
   room = g.room (length word - (index + 1)) (record {
     nodes = omega (arith, h.room.nodes);
-    letters = omega (arith, h.room.letters);
     nexts = omega (arith, h.room.nexts);
+    letter_nexts = omega (arith, h.room.letter_nexts);
     links = omega (arith, h.room.links);
     leasts = omega (arith, h.room.leasts);
   });
   front = front-more old.nodes.items mid.nodes.items new.nodes.items h.front g.front;
-  lettered = λ e. g.lettered (h.lettered e);
+  lettered = g.lettered;
 }
   where
     reached : word_at (words_of mid.nodes.items) at ++ letter ∷ [] ≡ take (index + 1) word
@@ -148,11 +148,11 @@ module _ (nodes : List Node) (words : List (List ℕ)) (spelled : IsSpelled node
 
 -- all letters, and then the marks
 pub inserted : (old mid new : Tree) (word : List ℕ) (place at : ℕ) (ends : List ℕ) (first : List (Option ℕ)) → IsGrowing old mid word (length word) at ends
-    → new.nodes.items ≡ mid.nodes.items → new.letters.items ≡ mid.letters.items → new.heads.items ≡ mid.heads.items → new.nexts.items ≡ mid.nexts.items → new.links.items ≡ mid.links.items
+    → new.nodes.items ≡ mid.nodes.items → HasLetters new → new.heads.items ≡ mid.heads.items → new.nexts.items ≡ mid.nexts.items → new.links.items ≡ mid.links.items
     → first ≡ set mid.leasts.items at (marked (get_or mid.leasts.items at None) place) → length new.leasts.items ≡ length first
     → ((k : ℕ) → k < length first → IsMarkedAt ends (length ends) place (get_or first k None) (get_or new.leasts.items k None) k)
     → IsInserted old new word place
-inserted old mid new word place at ends first h nodes_are letters_are heads_are nexts_are links_are first_is size moved =
+inserted old mid new word place at ends first h nodes_are letters heads_are nexts_are links_are first_is size moved =
     let whole : take (length word) word ≡ word = take_all (length word) word (omega arith) in
     record {
       tree = tree_of_same mid.nodes.items new.nodes.items mid.heads.items new.heads.items mid.nexts.items new.nexts.items mid.links.items new.links.items nodes_are heads_are nexts_are links_are h.tree;
@@ -162,12 +162,12 @@ inserted old mid new word place at ends first h nodes_are letters_are heads_are 
           entries number place mid.leasts.items first new.leasts.items count (h.marked entries m) first_is size moved);
       only = λ w e. h.only w (subst (λ ns. has (words_of ns) w ≡ true) nodes_are e);
       front = ap (take (length old.nodes.items)) nodes_are ∙ h.front;
-      lettered = λ e. letters_are ∙ h.lettered e ∙ ap letters_of (sym nodes_are);
+      lettered = letters;
     }
 
 -- no letter yet
-pub growing-none : (tree : Tree) (word : List ℕ) → IsTree tree.nodes.items tree.heads.items tree.nexts.items tree.links.items → length tree.leasts.items ≡ length tree.nodes.items → HasRoom tree (length word) → IsGrowing tree tree word 0 0 (others tree.nodes.items)
-growing-none tree word h size room = record {
+pub growing-none : (tree : Tree) (word : List ℕ) → IsTree tree.nodes.items tree.heads.items tree.nexts.items tree.links.items → HasLetters tree → length tree.leasts.items ≡ length tree.nodes.items → HasRoom tree (length word) → IsGrowing tree tree word 0 0 (others tree.nodes.items)
+growing-none tree word h letters size room = record {
   tree = h;
   inside = h.chained.some;
   word_is = h.spelled.empty;
@@ -175,7 +175,7 @@ growing-none tree word h size room = record {
   sized = size;
   marked = λ entries m. m;
   only = λ w e. inl e;
-  room = record { nodes = omega (arith, room.nodes); letters = omega (arith, room.letters); nexts = omega (arith, room.nexts); links = omega (arith, room.links); leasts = omega (arith, room.leasts) };
+  room = record { nodes = omega (arith, room.nodes); nexts = omega (arith, room.nexts); letter_nexts = omega (arith, room.letter_nexts); links = omega (arith, room.links); leasts = omega (arith, room.leasts) };
   front = take-length tree.nodes.items;
-  lettered = λ e. e;
+  lettered = letters;
 }

@@ -5,7 +5,7 @@ use Rattle.std.proofs.lemmas.Bool.{cases_lt}
 use Rattle.std.proofs.lemmas.Bool.Decides.{eqb_tells}
 use Rattle.rule_index.specs.declared.tree.Node.{Node}
 use Rattle.rule_index.specs.Prefixes.{has, word_at}
-use Rattle.rule_index.specs.Automaton.{node_at, root, grown, words_of, IsSpelled, letters_of}
+use Rattle.rule_index.specs.Automaton.{node_at, root, grown, words_of, IsSpelled}
 use Rattle.rule_index.proofs.Suffixes.{has-at}
 
 pub push-old : {X : Type 0} (xs : List X) (y d : X) (k : ℕ) → k ≢ length xs → get_or (xs ++ y ∷ []) k d ≡ get_or xs k d
@@ -35,10 +35,6 @@ push-below xs y n below all k = go (same_or k (length xs))
     go : Same k (length xs) → get_or (xs ++ y ∷ []) k 0 < n
     go (is_same e) = omega (arith, push-new xs y 0 k e)
     go (is_other o) = omega (arith, push-old xs y 0 k o, all k)
-
-pub letters_of-push : (nodes : List Node) (n : Node) → letters_of (nodes ++ n ∷ []) ≡ letters_of nodes ++ n.letter ∷ []
-letters_of-push [] n = refl
-letters_of-push (m ∷ nodes) n = ap (λ ls. m.letter ∷ ls) (letters_of-push nodes n)
 
 -- the words of the nodes
 grown-append : (words : List (List ℕ)) (nodes : List Node) (n : Node) → grown words (nodes ++ n ∷ []) ≡ grown words nodes ++ (word_at (grown words nodes) n.parent ++ n.letter ∷ []) ∷ []

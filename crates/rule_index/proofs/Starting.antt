@@ -6,7 +6,7 @@ use Rattle.std.proofs.lemmas.List.FromFn.{get_or-range_with_len, length-range_wi
 use Rattle.std.proofs.lemmas.Bool.{cases_lt}
 use Rattle.rule_index.specs.declared.tree.Node.{Node}
 use Rattle.rule_index.specs.Prefixes.{word_at}
-use Rattle.rule_index.specs.Automaton.{node_at, Lists, IsSpelled, IsEnds, IsStarts}
+use Rattle.rule_index.specs.Automaton.{node_at, Lists, IsSpelled, IsEnds, IsStarts, IsStartsAbove}
 use Rattle.rule_index.proofs.Pushing.{Same, is_same, is_other, same_or}
 use Rattle.rule_index.proofs.Ending.{ends-nothing, ends-advanced}
 
@@ -24,42 +24,38 @@ lists-either xs x k l = go (cases_lt l.0 (length xs))
     go (inl below) = inl (l.0, below, sym (get_or_append_left xs (x ∷ []) 0 l.0 below) ∙ l.2)
     go (inr above) = inr (sym l.2 ∙ get_or_push xs x 0 l.0 (omega (arith, l.1, length_push xs x)))
 
-pub starts-none : (nodes : List Node) (letter : ℕ) → IsStarts nodes 0 letter []
-starts-none nodes letter = record {
-  inside = λ k l. absurd (omega (arith, l.1));
-  above = λ k l. absurd (omega (arith, l.1));
-  letter_is = λ k l. absurd (omega (arith, l.1));
-  complete = λ k below above e. absurd (omega arith);
-}
-
-module _ (nodes : List Node) (n letter : ℕ) (starts : List ℕ) (h : IsStarts nodes n letter starts) where
-  pub starts-push : 0 < (node_at nodes n).parent → (node_at nodes n).letter ≡ letter → IsStarts nodes (n + 1) letter (starts ++ n ∷ [])
-  starts-push some is = record {
-    inside = λ k l. by (λ j. j < n + 1) (λ j m. omega (arith, h.inside j m)) (omega arith) k (lists-either starts n k l);
+-- the node, and the next one down that may have the letter
+module _ (nodes : List Node) (n low letter : ℕ) (starts : List ℕ) (h : IsStartsAbove nodes n letter starts)
+    (between : (k : ℕ) → low < k → k < n → (node_at nodes k).letter ≡ letter → ⊥) where
+  pub starts-push : n < length nodes → 0 < (node_at nodes n).parent → (node_at nodes n).letter ≡ letter → IsStartsAbove nodes low letter (starts ++ n ∷ [])
+  starts-push within some is = record {
+    inside = λ k l. by (λ j. j < length nodes) h.inside within k (lists-either starts n k l);
     above = λ k l. by (λ j. 0 < (node_at nodes j).parent) h.above some k (lists-either starts n k l);
     letter_is = λ k l. by (λ j. (node_at nodes j).letter ≡ letter) h.letter_is is k (lists-either starts n k l);
-    complete = λ k below above e. complete k below above e (same_or k n);
+    complete = λ k high below above e. complete k high below above e (same_or k n) (cases_lt k n);
   }
     where
       by : (P : ℕ → Type 0) → ((j : ℕ) → Lists starts j → P j) → P n → (k : ℕ) → Lists starts k ⊎ (k ≡ n) → P k
       by P old new k (inl l) = old k l
       by P old new k (inr e) = subst P (sym e) new
 
-      complete : (k : ℕ) → k < n + 1 → 0 < (node_at nodes k).parent → (node_at nodes k).letter ≡ letter → Same k n → Lists (starts ++ n ∷ []) k
-      complete k below above e (is_same s) = subst (λ j. Lists (starts ++ n ∷ []) j) (sym s) (lists-last starts n)
-      complete k below above e (is_other o) = lists-push starts n k (h.complete k (omega (arith, below, o)) above e)
+      complete : (k : ℕ) → low < k → k < length nodes → 0 < (node_at nodes k).parent → (node_at nodes k).letter ≡ letter → Same k n → (k < n) ⊎ (n ≤ k) → Lists (starts ++ n ∷ []) k
+      complete k high below above e (is_same s) side = subst (λ j. Lists (starts ++ n ∷ []) j) (sym s) (lists-last starts n)
+      complete k high below above e (is_other o) (inl under) = absurd (between k high under e)
+      complete k high below above e (is_other o) (inr over) = lists-push starts n k (h.complete k (omega (arith, over, o)) below above e)
 
-  pub starts-skip : (0 < (node_at nodes n).parent → (node_at nodes n).letter ≡ letter → ⊥) → IsStarts nodes (n + 1) letter starts
+  pub starts-skip : (0 < (node_at nodes n).parent → (node_at nodes n).letter ≡ letter → ⊥) → IsStartsAbove nodes low letter starts
   starts-skip none = record {
-    inside = λ k l. omega (arith, h.inside k l);
+    inside = h.inside;
     above = h.above;
     letter_is = h.letter_is;
-    complete = λ k below above e. complete k below above e (same_or k n);
+    complete = λ k high below above e. complete k high below above e (same_or k n) (cases_lt k n);
   }
     where
-      complete : (k : ℕ) → k < n + 1 → 0 < (node_at nodes k).parent → (node_at nodes k).letter ≡ letter → Same k n → Lists starts k
-      complete k below above e (is_same s) = absurd (none (subst (λ j. 0 < (node_at nodes j).parent) s above) (subst (λ j. (node_at nodes j).letter ≡ letter) s e))
-      complete k below above e (is_other o) = h.complete k (omega (arith, below, o)) above e
+      complete : (k : ℕ) → low < k → k < length nodes → 0 < (node_at nodes k).parent → (node_at nodes k).letter ≡ letter → Same k n → (k < n) ⊎ (n ≤ k) → Lists starts k
+      complete k high below above e (is_same s) side = absurd (none (subst (λ j. 0 < (node_at nodes j).parent) s above) (subst (λ j. (node_at nodes j).letter ≡ letter) s e))
+      complete k high below above e (is_other o) (inl under) = absurd (between k high under e)
+      complete k high below above e (is_other o) (inr over) = h.complete k (omega (arith, over, o)) below above e
 
 -- all nodes but the root
 abbrev pub others : List Node → List ℕ

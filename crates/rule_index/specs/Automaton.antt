@@ -1,5 +1,5 @@
 -- The nodes of the automaton, and what its steps do to them.
-use Rattle.std.specs.Prelude.{◌≡◌, vec_len, take, ◌-◌, ℕ, suc, ◌+◌, ◌<◌, ◌≤◌, ◌⊎◌, ◌||◌, Bool, true, nat_lt, ◌*◌, ◌%◌, ◌^◌, bit_and, List, [], ◌∷◌, ◌++◌, length, get_or, drop, map, Option, Some, None, min, if◌then◌else◌}
+use Rattle.std.specs.Prelude.{◌≡◌, vec_len, take, ◌-◌, ℕ, suc, ◌+◌, ◌<◌, ◌≤◌, ◌⊎◌, ◌||◌, Bool, true, nat_lt, ◌*◌, ◌%◌, ◌^◌, bit_and, List, [], ◌∷◌, ◌++◌, length, get_or, drop, Option, Some, None, min, if◌then◌else◌}
 use Rattle.std.specs.List.{All}
 use Rattle.std.specs.Option.{option_map}
 use Rattle.std.specs.Vec.{vec_capacity}
@@ -62,10 +62,6 @@ abbrev pub words_of : List Node → List (List ℕ)
 words_of [] = []
 words_of (n ∷ nodes) = grown ([] ∷ []) nodes
 
--- the last letters of the nodes
-abbrev pub letters_of : List Node → List ℕ
-letters_of nodes = map (λ n. n.letter) nodes
-
 -- of so many buckets, that of the children by a letter
 unfoldable pub bucket_of : ℕ → ℕ → ℕ → ℕ
 bucket_of count parent letter = bit_and ((parent + letter * 40503) % 2 ^ 64) (count - 1)
@@ -73,17 +69,29 @@ bucket_of count parent letter = bit_and ((parent + letter * 40503) % 2 ^ 64) (co
 abbrev pub bucket_at : List Node → ℕ → ℕ → ℕ
 bucket_at nodes count k = bucket_of count (node_at nodes k).parent (node_at nodes k).letter
 
+-- of so many buckets, that of the nodes with a letter
+unfoldable pub letter_bucket_of : ℕ → ℕ → ℕ
+letter_bucket_of count letter = letter % count
+
 -- the first nodes of each bucket are found from the last of them on
-pub record IsChained (nodes : List Node) (n : ℕ) (heads nexts : List ℕ) : Type 0 where
+pub record IsThreaded (bucket : ℕ → ℕ) (size n : ℕ) (heads nexts : List ℕ) : Type 0 where
   pub some : 0 < n
   pub wide : 0 < length heads
-  pub sized : length nexts ≡ length nodes
+  pub sized : length nexts ≡ size
   pub head_in : (b : ℕ) → get_or heads b 0 < n
-  pub head_bucket : (b : ℕ) → 0 < get_or heads b 0 → bucket_at nodes (length heads) (get_or heads b 0) ≡ b
-  pub head_last : (k : ℕ) → 0 < k → k < n → k ≤ get_or heads (bucket_at nodes (length heads) k) 0
+  pub head_bucket : (b : ℕ) → 0 < get_or heads b 0 → bucket (get_or heads b 0) ≡ b
+  pub head_last : (k : ℕ) → 0 < k → k < n → k ≤ get_or heads (bucket k) 0
   pub next_below : (k : ℕ) → 0 < k → k < n → get_or nexts k 0 < k
-  pub next_bucket : (k : ℕ) → 0 < k → k < n → 0 < get_or nexts k 0 → bucket_at nodes (length heads) (get_or nexts k 0) ≡ bucket_at nodes (length heads) k
-  pub next_last : (j k : ℕ) → 0 < j → j < k → k < n → bucket_at nodes (length heads) j ≡ bucket_at nodes (length heads) k → j ≤ get_or nexts k 0
+  pub next_bucket : (k : ℕ) → 0 < k → k < n → 0 < get_or nexts k 0 → bucket (get_or nexts k 0) ≡ bucket k
+  pub next_last : (j k : ℕ) → 0 < j → j < k → k < n → bucket j ≡ bucket k → j ≤ get_or nexts k 0
+
+-- the first nodes in the buckets of their parents and letters
+abbrev pub IsChained : List Node → ℕ → List ℕ → List ℕ → Type 0
+IsChained nodes n heads nexts = IsThreaded (bucket_at nodes (length heads)) (length nodes) n heads nexts
+
+-- the first nodes in the buckets of their letters
+abbrev pub IsLettered : List Node → ℕ → List ℕ → List ℕ → Type 0
+IsLettered nodes n heads nexts = IsThreaded (λ k. letter_bucket_of (length heads) (node_at nodes k).letter) (length nodes) n heads nexts
 
 -- the node is the child by the letter
 pub record IsChild (nodes : List Node) (at letter node : ℕ) : Type 0 where
@@ -149,10 +157,14 @@ pub record IsAdvanced (nodes : List Node) (letter : ℕ) (before after : List �
 pub record IsRelinked (nodes : List Node) (ends : List ℕ) (n node : ℕ) (before after k : ℕ) : Type 0 where
   pub either : ((after ≡ node) × ListsBelow n ends k × ((node_at nodes before).depth < (node_at nodes node).depth)) ⊎ ((after ≡ before) × (ListsBelow n ends k → (node_at nodes node).depth ≤ (node_at nodes before).depth))
 
+-- all nodes in the buckets of their letters
+abbrev pub HasLetters : Tree → Type 0
+HasLetters tree = IsLettered tree.nodes.items (length tree.nodes.items) tree.letter_heads.items tree.letter_nexts.items
+
 -- there is room for as many nodes more
 pub record HasRoom (tree : Tree) (count : ℕ) : Type 0 where
   pub nodes : vec_len tree.nodes + count ≤ vec_capacity tree.nodes
-  pub letters : vec_len tree.letters + count ≤ vec_capacity tree.letters
+  pub letter_nexts : vec_len tree.letter_nexts + count ≤ vec_capacity tree.letter_nexts
   pub nexts : vec_len tree.nexts + count ≤ vec_capacity tree.nexts
   pub links : vec_len tree.links + count ≤ vec_capacity tree.links
   pub leasts : vec_len tree.leasts + count ≤ vec_capacity tree.leasts
@@ -160,7 +172,8 @@ pub record HasRoom (tree : Tree) (count : ℕ) : Type 0 where
 -- the tree has the same nodes
 pub record IsSame (tree before : Tree) : Type 0 where
   pub nodes : tree.nodes.items ≡ before.nodes.items
-  pub letters : tree.letters.items ≡ before.letters.items
+  pub letter_heads : tree.letter_heads.items ≡ before.letter_heads.items
+  pub letter_nexts : tree.letter_nexts.items ≡ before.letter_nexts.items
   pub links : tree.links.items ≡ before.links.items
   pub leasts : tree.leasts.items ≡ before.leasts.items
 
@@ -183,7 +196,7 @@ pub record IsGrown (old new : Tree) (word ends : List ℕ) (node : ℕ) : Type 0
   pub only : (w : List ℕ) → has (words_of new.nodes.items) w ≡ (has (words_of old.nodes.items) w || same_word w word)
   pub room : (count : ℕ) → HasRoom old (count + 1) → HasRoom new count
   pub front : take (length old.nodes.items) new.nodes.items ≡ old.nodes.items
-  pub lettered : old.letters.items ≡ letters_of old.nodes.items → new.letters.items ≡ letters_of new.nodes.items
+  pub lettered : HasLetters new
 
 -- the tree has the word's letters before the place now, and else what it had
 pub record IsGrowing (old new : Tree) (word : List ℕ) (index at : ℕ) (ends : List ℕ) : Type 0 where
@@ -196,7 +209,7 @@ pub record IsGrowing (old new : Tree) (word : List ℕ) (index at : ℕ) (ends :
   pub only : (w : List ℕ) → has (words_of new.nodes.items) w ≡ true → (has (words_of old.nodes.items) w ≡ true) ⊎ (begins_with word w ≡ true)
   pub room : HasRoom new (length word - index)
   pub front : take (length old.nodes.items) new.nodes.items ≡ old.nodes.items
-  pub lettered : old.letters.items ≡ letters_of old.nodes.items → new.letters.items ≡ letters_of new.nodes.items
+  pub lettered : HasLetters new
 
 -- of the numbers, those before a place are marked now
 pub record IsMarkedAt (ends : List ℕ) (n place : ℕ) (before after : Option ℕ) (k : ℕ) : Type 0 where
@@ -208,7 +221,7 @@ pub record IsInserted (old new : Tree) (word : List ℕ) (place : ℕ) : Type 0 
   pub marked : (entries : List (List ℕ × ℕ)) (number : ℕ) → length entries ≡ place → IsMarked entries (words_of old.nodes.items) old.leasts.items → IsMarked (entries ++ (word, number) ∷ []) (words_of new.nodes.items) new.leasts.items
   pub only : (w : List ℕ) → has (words_of new.nodes.items) w ≡ true → (has (words_of old.nodes.items) w ≡ true) ⊎ (begins_with word w ≡ true)
   pub front : take (length old.nodes.items) new.nodes.items ≡ old.nodes.items
-  pub lettered : old.letters.items ≡ letters_of old.nodes.items → new.letters.items ≡ letters_of new.nodes.items
+  pub lettered : HasLetters new
 
 -- each word is a prefix
 abbrev pub IsWithin : List (List ℕ × ℕ) → List (List ℕ) → Type 0
@@ -217,11 +230,18 @@ IsWithin entries words = (w : List ℕ) → has words w ≡ true → is_prefix e
 -- the tree has the root alone
 pub record IsNewTree (tree : Tree) : Type 0 where
   pub nodes : tree.nodes.items ≡ root ∷ []
-  pub letters : tree.letters.items ≡ 0 ∷ []
+  pub lettered : HasLetters tree
   pub heads : tree.heads.items ≡ 0 ∷ []
   pub nexts : tree.nexts.items ≡ 0 ∷ []
   pub links : tree.links.items ≡ 0 ∷ []
   pub leasts : tree.leasts.items ≡ None ∷ []
+
+-- the nodes above a number that have the letter, and not the root as their parent
+pub record IsStartsAbove (nodes : List Node) (low letter : ℕ) (starts : List ℕ) : Type 0 where
+  pub inside : (k : ℕ) → Lists starts k → k < length nodes
+  pub above : (k : ℕ) → Lists starts k → 0 < (node_at nodes k).parent
+  pub letter_is : (k : ℕ) → Lists starts k → (node_at nodes k).letter ≡ letter
+  pub complete : (k : ℕ) → low < k → k < length nodes → 0 < (node_at nodes k).parent → (node_at nodes k).letter ≡ letter → Lists starts k
 
 -- the nodes below a number that have the letter, and not the root as their parent
 pub record IsStarts (nodes : List Node) (n letter : ℕ) (starts : List ℕ) : Type 0 where

@@ -3,7 +3,7 @@ use Rattle.std.specs.Prelude.{◌≡◌, ℕ, ◌+◌, ◌<◌, ◌≤◌, nat_l
 use Rattle.std.specs.List.{All}
 use Rattle.rule_index.specs.declared.tree.Tree.{Tree}
 use Rattle.rule_index.specs.Prefixes.{has, word_at}
-use Rattle.rule_index.specs.Automaton.{longest, IsTree, IsWithin}
+use Rattle.rule_index.specs.Automaton.{longest, IsTree, IsWithin, HasLetters}
 
 -- the node is that of the longest suffix among the first words
 pub record IsKept (words : List (List ℕ)) (size before after : ℕ) : Type 0 where
@@ -24,7 +24,7 @@ earlier count (Some x) = if nat_lt x count then Some x else None
 pub record IsCut (old new : Tree) (size count : ℕ) : Type 0 where
   pub tree : IsTree new.nodes.items new.heads.items new.nexts.items new.links.items
   pub nodes : new.nodes.items ≡ take size old.nodes.items
-  pub letters : new.letters.items ≡ take size old.letters.items
+  pub lettered : HasLetters new
   pub sized : length new.leasts.items ≡ size
   pub leasts : (k : ℕ) → k < size → get_or new.leasts.items k None ≡ earlier count (get_or old.leasts.items k None)
 

@@ -1,7 +1,7 @@
-//! The nodes by their parents and letters, in buckets.
+//! The nodes in buckets: by their parents and letters, and by their letters alone.
 
-ghost use Rattle.std.specs.Prelude.{◌≡◌, ℕ, ◌<◌, ◌≤◌, ◌+◌, length, IfOk, IfSome, IfNone};
-ghost use Rattle.rule_index.specs.Automaton.{IsChained, IsChild, bucket_of};
+ghost use Rattle.std.specs.Prelude.{◌≡◌, ℕ, ◌<◌, ◌≤◌, ◌+◌, length, get_or, slice_set, IfOk, IfSome, IfNone};
+ghost use Rattle.rule_index.specs.Automaton.{IsChained, IsLettered, IsChild, bucket_of, letter_bucket_of};
 
 use crate::tree::Node;
 use std::alloc::{AllocError, Global};
@@ -45,9 +45,17 @@ pub fn buckets(alloc: Global, least: usize) -> Result<Vec<usize>, AllocError>
     ensures { IfOk result (λ v. 0 < length v.items) }
 {
     match least.checked_next_power_of_two() {
-        Some(count) => Ok(vec![in alloc; 0; count]?),
+        Some(count) => empty_buckets(alloc, count),
         None => Err(AllocError),
     }
+}
+
+/// So many buckets with no node in any.
+pub fn empty_buckets(alloc: Global, count: usize) -> Result<Vec<usize>, AllocError>
+    ensures len { IfOk result (λ v. length v.items ≡ count) }
+    ensures none { IfOk result (λ v. (b : ℕ) → get_or v.items b 0 ≡ 0) }
+{
+    Ok(vec![in alloc; 0; count]?)
 }
 
 /// The node as the last of its bucket.
@@ -58,8 +66,7 @@ pub fn chain_one(nodes: &[Node], heads: &mut [usize], nexts: &mut [usize], node:
 {
     let here = nodes[node];
     let bucket = bucket(heads.len(), here.parent, here.letter);
-    nexts[node] = heads[bucket];
-    heads[bucket] = node;
+    put_last(heads, nexts, bucket, node);
 }
 
 /// All nodes in their buckets.
@@ -69,10 +76,69 @@ pub fn chain_all(nodes: &[Node], heads: &mut [usize], nexts: &mut [usize])
     requires sized { length nexts.old ≡ length nodes.now }
     ensures { IsChained nodes.now (length nodes.now) heads.new nexts.new }
 {
-    for bucket in 0..heads.len() {
-        heads[bucket] = 0;
-    }
+    clear(heads);
     for node in 1..nodes.len() {
         chain_one(nodes, heads, nexts, node);
+    }
+}
+
+/// The node as the last of the bucket of its letter.
+pub fn chain_letter(nodes: &[Node], heads: &mut [usize], nexts: &mut [usize], node: usize)
+    requires lettered { IsLettered nodes.now node heads.old nexts.old }
+    requires inside { node < length nodes.now }
+    ensures { IsLettered nodes.now (node + 1) heads.new nexts.new }
+{
+    let bucket = letter_bucket(heads.len(), nodes[node].letter);
+    put_last(heads, nexts, bucket, node);
+}
+
+/// All nodes in the buckets of their letters.
+pub fn chain_letters(nodes: &[Node], heads: &mut [usize], nexts: &mut [usize])
+    requires some { 0 < length nodes.now }
+    requires wide { 0 < length heads.old }
+    requires sized { length nexts.old ≡ length nodes.now }
+    ensures { IsLettered nodes.now (length nodes.now) heads.new nexts.new }
+{
+    clear(heads);
+    for node in 1..nodes.len() {
+        chain_letter(nodes, heads, nexts, node);
+    }
+}
+
+/// The last node in the bucket of the letter, and 0 where there is none.
+pub fn last_by_letter(heads: &[usize], letter: u16) -> usize
+    requires { 0 < length heads.now }
+    ensures { result ≡ get_or heads.now (letter_bucket_of (length heads.now) letter) 0 }
+{
+    heads[letter_bucket(heads.len(), letter)]
+}
+
+// Of so many buckets, that of the letter.
+fn letter_bucket(count: usize, letter: u16) -> usize
+    requires { 0 < count }
+    ensures is { result ≡ letter_bucket_of count letter }
+    ensures inside { result < count }
+{
+    letter as usize % count
+}
+
+// The node as the last of the bucket.
+fn put_last(heads: &mut [usize], nexts: &mut [usize], bucket: usize, node: usize)
+    requires bucket_in { bucket < length heads.old }
+    requires node_in { node < length nexts.old }
+    ensures heads { heads.new ≡ slice_set heads.old bucket node }
+    ensures nexts { nexts.new ≡ slice_set nexts.old node (get_or heads.old bucket 0) }
+{
+    nexts[node] = heads[bucket];
+    heads[bucket] = node;
+}
+
+// No node in any bucket.
+fn clear(heads: &mut [usize])
+    ensures len { length heads.new ≡ length heads.old }
+    ensures none { (b : ℕ) → get_or heads.new b 0 ≡ 0 }
+{
+    for bucket in 0..heads.len() {
+        heads[bucket] = 0;
     }
 }

@@ -1,15 +1,16 @@
 //! The tree of the first words alone.
 
 ghost use Rattle.std.specs.Prelude.{◌≡◌, ℕ, ◌<◌, ◌≤◌, length, get_or, None};
-ghost use Rattle.rule_index.specs.Automaton.{IsTree, IsLinked, IsSpelled, words_of};
+ghost use Rattle.rule_index.specs.Automaton.{IsTree, IsLinked, IsSpelled, HasLetters, words_of};
 ghost use Rattle.rule_index.specs.Cuts.{IsKept, IsLinkedFrom, IsCut, earlier as earlier_of};
 
-use crate::chains::chain_all;
+use crate::chains::{chain_all, chain_letters};
 use crate::tree::Tree;
 
 /// The first nodes, as many as `size` says, without the places from `count` on.
 pub fn cut(tree: &mut Tree, size: usize, count: usize)
     requires tree { IsTree tree.old.nodes.items tree.old.heads.items tree.old.nexts.items tree.old.links.items }
+    requires lettered { HasLetters tree.old }
     requires sized { length tree.old.leasts.items ≡ length tree.old.nodes.items }
     requires some { 0 < size }
     requires inside { size ≤ length tree.old.nodes.items }
@@ -17,11 +18,12 @@ pub fn cut(tree: &mut Tree, size: usize, count: usize)
 {
     cut_links(tree, size);
     tree.nodes.truncate(size);
-    tree.letters.truncate(size);
     tree.nexts.truncate(size);
+    tree.letter_nexts.truncate(size);
     tree.links.truncate(size);
     tree.leasts.truncate(size);
     chain_all(&tree.nodes, &mut tree.heads, &mut tree.nexts);
+    chain_letters(&tree.nodes, &mut tree.letter_heads, &mut tree.letter_nexts);
     keep_earlier(&mut tree.leasts, count);
 }
 
@@ -49,9 +51,10 @@ fn cut_links(tree: &mut Tree, size: usize)
     requires some { 0 < size }
     requires inside { size ≤ length tree.old.nodes.items }
     ensures nodes { tree.new.nodes.items ≡ tree.old.nodes.items }
-    ensures letters { tree.new.letters.items ≡ tree.old.letters.items }
     ensures heads { tree.new.heads.items ≡ tree.old.heads.items }
     ensures nexts { tree.new.nexts.items ≡ tree.old.nexts.items }
+    ensures letter_heads { tree.new.letter_heads.items ≡ tree.old.letter_heads.items }
+    ensures letter_nexts { tree.new.letter_nexts.items ≡ tree.old.letter_nexts.items }
     ensures leasts { tree.new.leasts.items ≡ tree.old.leasts.items }
     ensures len { length tree.new.links.items ≡ length tree.old.links.items }
     ensures links { (k : ℕ) → k < size → IsKept (words_of tree.old.nodes.items) size (get_or tree.old.links.items k 0) (get_or tree.new.links.items k 0) }

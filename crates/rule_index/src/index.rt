@@ -4,7 +4,7 @@ ghost use Rattle.std.specs.Prelude.{◌≡◌, ◌<◌, [], ◌∷◌, ◌++◌,
 ghost use Rattle.std.specs.List.{All};
 ghost use Rattle.rule_index.specs.Matches.{IsAscending, IsLeastMatch, HasNoMatch, match_of, match_or, place_in};
 ghost use Rattle.rule_index.specs.Prefixes.{IsPrefixCount};
-ghost use Rattle.rule_index.specs.Automaton.{IsTree, IsMarked, letters_of, words_of};
+ghost use Rattle.rule_index.specs.Automaton.{IsTree, IsMarked, HasLetters, words_of};
 ghost use Rattle.rule_index.specs.Cuts.{IsCounted};
 
 use crate::cutting::cut;
@@ -24,7 +24,7 @@ pub struct Index {
     ghost ascending: { IsAscending entries },
     ghost grown: { IsTree tree.nodes.items tree.heads.items tree.nexts.items tree.links.items },
     ghost marked: { IsMarked entries (words_of tree.nodes.items) tree.leasts.items },
-    ghost lettered: { tree.letters.items ≡ letters_of tree.nodes.items },
+    ghost lettered: { HasLetters tree },
     ghost counted: { IsCounted entries (words_of tree.nodes.items) sizes.items },
 }
 
@@ -62,7 +62,7 @@ impl Index {
         self.sizes.reserve(1)?;
         let alloc = self.entries.allocator();
         let first = word.letter(0).0;
-        let ends = starts(alloc, &self.tree.nodes, &self.tree.letters, first)?;
+        let ends = starts(alloc, &self.tree, first)?;
         let place = self.entries.len();
         self.entries.push((copy, number))?;
         insert(&mut self.tree, word, place, ends);

@@ -2,39 +2,35 @@
 
 ghost use Rattle.std.specs.Prelude.{IsTrue, ◌↔◌, ◌≡◌, ℕ, [], ◌∷◌, ◌++◌, ◌+◌, ◌<◌, length, drop, get_or, slice_index, slice_set, None, IfOk};
 ghost use Rattle.rule_index.specs.Prefixes.{word_at};
-ghost use Rattle.rule_index.specs.Automaton.{IsChained, IsChild, IsSpelled, IsTree, IsLongest, words_of, marked, relinked, added_node, node_at, letters_of, Lists, IsAdvanced, IsRelinked, HasRoom, IsEnds, IsGrown, IsGrowing, IsMarkedAt, IsInserted, IsStarts};
+ghost use Rattle.rule_index.specs.Automaton.{IsChained, IsChild, IsSpelled, IsTree, IsLongest, words_of, marked, relinked, added_node, node_at, HasLetters, Lists, IsAdvanced, IsRelinked, HasRoom, IsEnds, IsGrown, IsGrowing, IsMarkedAt, IsInserted, IsStarts};
 
-use crate::chains::{chain_one, child};
+use crate::chains::{chain_letter, chain_one, child, last_by_letter};
 use crate::tree::{Node, Tree, put, step};
 use std::alloc::{AllocError, Global};
 use word_core::Word;
 
-// Whether the node has this letter, and not the root as its parent.
-fn is_start(nodes: &[Node], letters: &[u16], node: usize, letter: u16) -> bool
-    requires lettered { letters.now ≡ letters_of nodes.now }
-    requires inside { node < length nodes.now }
-    ensures { IsTrue result ↔ ((0 < (node_at nodes.now node).parent) × ((node_at nodes.now node).letter ≡ letter)) }
-{
-    letters[node] == letter && nodes[node].parent != 0
-}
-
 /// The nodes by this letter whose parent isn't the root.
-pub fn starts(
-    alloc: Global,
-    nodes: &[Node],
-    letters: &[u16],
-    letter: u16,
-) -> Result<Vec<usize>, AllocError>
-    requires { letters.now ≡ letters_of nodes.now }
-    ensures { IfOk result (λ v. IsStarts nodes.now (length nodes.now) letter v.items) }
+pub fn starts(alloc: Global, tree: &Tree, letter: u16) -> Result<Vec<usize>, AllocError>
+    requires tree { IsTree tree.now.nodes.items tree.now.heads.items tree.now.nexts.items tree.now.links.items }
+    requires lettered { HasLetters tree.now }
+    ensures { IfOk result (λ v. IsStarts tree.now.nodes.items (length tree.now.nodes.items) letter v.items) }
 {
     let mut starts = Vec::new(alloc);
-    for node in 0..nodes.len() {
-        if is_start(nodes, letters, node, letter) {
+    let mut node = last_by_letter(&tree.letter_heads, letter);
+    while node != 0 {
+        if is_start(tree.nodes[node], letter) {
             starts.push(node)?;
         }
+        node = tree.letter_nexts[node];
     }
     Ok(starts)
+}
+
+// Whether the node has this letter, and not the root as its parent.
+fn is_start(node: Node, letter: u16) -> bool
+    ensures { IsTrue result ↔ ((0 < node.parent) × (node.letter ≡ letter)) }
+{
+    node.letter == letter && node.parent != 0
 }
 
 // The children of some nodes by this letter.
@@ -76,12 +72,13 @@ fn link_of(tree: &Tree, at: usize, letter: u16) -> usize
 // A new child of the node.
 fn add(tree: &mut Tree, at: usize, letter: u16, link: usize)
     requires tree { IsTree tree.old.nodes.items tree.old.heads.items tree.old.nexts.items tree.old.links.items }
+    requires lettered { HasLetters tree.old }
     requires inside { at < length tree.old.nodes.items }
     requires link_in { link < length tree.old.leasts.items }
     requires room { HasRoom tree.old 1 }
     ensures nodes { tree.new.nodes.items ≡ tree.old.nodes.items ++ added_node tree.old.nodes.items at letter ∷ [] }
     ensures chained { IsChained tree.new.nodes.items (length tree.new.nodes.items) tree.new.heads.items tree.new.nexts.items }
-    ensures letters { tree.new.letters.items ≡ tree.old.letters.items ++ letter ∷ [] }
+    ensures lettered { HasLetters tree.new }
     ensures links { tree.new.links.items ≡ tree.old.links.items ++ link ∷ [] }
     ensures leasts { tree.new.leasts.items ≡ tree.old.leasts.items ++ get_or tree.old.leasts.items link None ∷ [] }
     ensures room { (count : ℕ) → HasRoom tree.old (count + 1) → HasRoom tree.new count }
@@ -98,10 +95,16 @@ fn add(tree: &mut Tree, at: usize, letter: u16, link: usize)
         },
     );
     put(&mut tree.nexts, 0);
+    put(&mut tree.letter_nexts, 0);
     put(&mut tree.links, link);
     put(&mut tree.leasts, least);
-    put(&mut tree.letters, letter);
     chain_one(&tree.nodes, &mut tree.heads, &mut tree.nexts, node);
+    chain_letter(
+        &tree.nodes,
+        &mut tree.letter_heads,
+        &mut tree.letter_nexts,
+        node,
+    );
 }
 
 // The node becomes the link of this one, where its link is less deep.
@@ -131,6 +134,7 @@ fn relink(nodes: &[Node], links: &mut [usize], ends: &[usize], node: usize)
 // A new child by this letter, with all links as they should be.
 fn grow_new(tree: &mut Tree, at: usize, letter: u16, ends: &[usize]) -> usize
     requires tree { IsTree tree.old.nodes.items tree.old.heads.items tree.old.nexts.items tree.old.links.items }
+    requires lettered { HasLetters tree.old }
     requires inside { at < length tree.old.nodes.items }
     requires absent { (k : ℕ) → IsChild tree.old.nodes.items at letter k → ⊥ }
     requires sized { length tree.old.leasts.items ≡ length tree.old.nodes.items }
@@ -148,6 +152,7 @@ fn grow_new(tree: &mut Tree, at: usize, letter: u16, ends: &[usize]) -> usize
 // The child by this letter, made where there's none.
 fn grow(tree: &mut Tree, at: usize, letter: u16, ends: &[usize]) -> usize
     requires tree { IsTree tree.old.nodes.items tree.old.heads.items tree.old.nexts.items tree.old.links.items }
+    requires lettered { HasLetters tree.old }
     requires inside { at < length tree.old.nodes.items }
     requires sized { length tree.old.leasts.items ≡ length tree.old.nodes.items }
     requires room { HasRoom tree.old 1 }
@@ -183,6 +188,7 @@ fn mark_all(leasts: &mut [Option<usize>], ends: &[usize], place: usize)
 // The node of the word, with all its prefixes made.
 fn grow_all(tree: &mut Tree, word: &Word, ends: &mut Vec<usize>) -> usize
     requires tree { IsTree tree.old.nodes.items tree.old.heads.items tree.old.nexts.items tree.old.links.items }
+    requires lettered { HasLetters tree.old }
     requires sized { length tree.old.leasts.items ≡ length tree.old.nodes.items }
     requires room { HasRoom tree.old (length word.now) }
     requires nonempty { 0 < length word.now }
@@ -201,6 +207,7 @@ fn grow_all(tree: &mut Tree, word: &Word, ends: &mut Vec<usize>) -> usize
 /// The word at this place among the words.
 pub fn insert(tree: &mut Tree, word: &Word, place: usize, ends: Vec<usize>)
     requires tree { IsTree tree.old.nodes.items tree.old.heads.items tree.old.nexts.items tree.old.links.items }
+    requires lettered { HasLetters tree.old }
     requires sized { length tree.old.leasts.items ≡ length tree.old.nodes.items }
     requires room { HasRoom tree.old (length word.now) }
     requires nonempty { 0 < length word.now }

@@ -5,9 +5,12 @@ ghost use Rattle.std.specs.Vec.{vec_capacity};
 ghost use Rattle.rule_index.specs.Prefixes.{word_at};
 ghost use Rattle.rule_index.specs.Automaton.{IsTree, IsLongest, IsMarked, words_of, first_of, occurs, sooner as sooner_of, marked, HasRoom, IsSame, IsNewTree};
 
-use crate::chains::{buckets, chain_all, child};
+use crate::chains::{buckets, chain_all, child, empty_buckets};
 use std::alloc::{AllocError, Global};
 use word_core::Word;
+
+// More than a statement has letters, so that each has a bucket of its own there.
+const LETTER_BUCKETS: usize = 4096;
 
 /// A prefix of the words: that of the parent with one letter more.
 #[derive(Clone, Copy)]
@@ -24,12 +27,14 @@ pub struct Node {
 #[derive(Drop)]
 pub struct Tree {
     pub nodes: Vec<Node>,
-    /// Of each node the last letter, to be gone over quickly.
-    pub letters: Vec<u16>,
     /// Of each bucket its last node, and 0 where there is none. A node is in the bucket of its parent and letter.
     pub heads: Vec<usize>,
     /// Of each node the one before it in its bucket, and 0 where there is none.
     pub nexts: Vec<usize>,
+    /// Of each bucket of letters its last node, and 0 where there is none.
+    pub letter_heads: Vec<usize>,
+    /// Of each node the one before it in the bucket of its letter, and 0 where there is none.
+    pub letter_nexts: Vec<usize>,
     /// Of each node that of its longest proper suffix that is a prefix too.
     pub links: Vec<usize>,
     /// Of each node the place of the first word that it ends with.
@@ -117,21 +122,22 @@ pub fn new_tree(alloc: Global) -> Result<Tree, AllocError>
         letter: 0,
         depth: 0,
     })?;
-    let mut letters = Vec::new(alloc);
-    letters.push(0)?;
     let mut heads = Vec::new(alloc);
     heads.push(0)?;
     let mut nexts = Vec::new(alloc);
     nexts.push(0)?;
+    let mut letter_nexts = Vec::new(alloc);
+    letter_nexts.push(0)?;
     let mut links = Vec::new(alloc);
     links.push(0)?;
     let mut leasts = Vec::new(alloc);
     leasts.push(None)?;
     Ok(Tree {
         nodes,
-        letters,
         heads,
         nexts,
+        letter_heads: empty_buckets(alloc, LETTER_BUCKETS)?,
+        letter_nexts,
         links,
         leasts,
     })
@@ -145,8 +151,8 @@ pub fn reserve(tree: &mut Tree, count: usize) -> Result<(), AllocError>
     ensures room { OnOk result (HasRoom tree.new count) }
 {
     tree.nodes.reserve(count)?;
-    tree.letters.reserve(count)?;
     tree.nexts.reserve(count)?;
+    tree.letter_nexts.reserve(count)?;
     tree.links.reserve(count)?;
     tree.leasts.reserve(count)?;
     let nodes = tree.nodes.len().saturating_add(count);

@@ -24,7 +24,7 @@ loop-index-init c =
     let grown : IsGrown tree c.grow-at.new.tree (word_at (words_of tree.nodes.items) 0 ++ letter ∷ []) c.args.ends.now.items c.grow-at.result =
     subst (λ es. IsGrown tree c.grow-at.new.tree (word_at (words_of tree.nodes.items) 0 ++ letter ∷ []) es c.grow-at.result) c.deref.ensures.value c.grow-at.ensures in
     growing-more tree tree c.grow-at.new.tree c.args.word.now 0 0 letter c.grow-at.result (others tree.nodes.items) c.args.ends.now.items
-    (growing-none tree c.args.word.now c.requires.tree c.requires.sized c.requires.room) c.requires.nonempty c.letter.ensures grown
+    (growing-none tree c.args.word.now c.requires.tree c.requires.lettered c.requires.sized c.requires.room) c.requires.nonempty c.letter.ensures grown
 
 pub advance-requires-clause-inside : goal.advance-requires-clause-inside
 advance-requires-clause-inside c = λ k l.
@@ -53,5 +53,5 @@ loop-index-preserved c =
 
 pub returns : goal.returns
 returns c =
-    let all : c.loop-index.index ≡ length c.args.word.now = omega (arith, c.len-index-end.ensures.exact, c.requires.nonempty) in
+    let all : c.loop-index.index ≡ length c.args.word.now = omega (arith, c.loop-index.auto.index, c.loop-index.auto.index-end, c.loop-index-test.false, c.len-index-end.ensures.exact, c.requires.nonempty) in
     subst (λ n. IsGrowing c.args.tree.now c.loop-index.tree c.args.word.now n c.loop-index.at c.loop-index.ends.items) all c.loop-index.invariant

@@ -28,13 +28,13 @@ returns c =
     let old = c.args.tree.now in
     let link = c.link_of-link.result in
     let ends = c.args.ends.now in
-    let new : Tree = record { nodes = c.add.new.tree.nodes; letters = c.add.new.tree.letters; heads = c.add.new.tree.heads; nexts = c.add.new.tree.nexts; links = with_items c.add.new.tree.links c.relink.new.links; leasts = c.add.new.tree.leasts } in
+    let new : Tree = record { nodes = c.add.new.tree.nodes; heads = c.add.new.tree.heads; nexts = c.add.new.tree.nexts; letter_heads = c.add.new.tree.letter_heads; letter_nexts = c.add.new.tree.letter_nexts; links = with_items c.add.new.tree.links c.relink.new.links; leasts = c.add.new.tree.leasts } in
     let count : c.len-node.result ≡ length old.nodes.items = omega (arith, c.len-node.ensures) in
     let links : new.links.items ≡ c.relink.new.links = with_items_is c.add.new.tree.links c.relink.new.links (omega (arith, c.relink.auto.links, c.deref_mut.ensures.len)) in
     let before : c.deref_mut.result.now ≡ old.links.items ++ link ∷ [] = c.deref_mut.ensures.value ∙ c.add.ensures.links in
     subst (λ node. IsGrown old new (word_at (words_of old.nodes.items) c.args.at ++ c.args.letter ∷ []) ends node) (sym count)
     (grown-new old new c.requires.tree c.requires.sized c.args.at c.args.letter link ends c.requires.inside c.requires.absent c.requires.ends c.link_of-link.ensures
-    c.add.ensures.nodes c.add.ensures.chained c.add.ensures.letters c.add.ensures.leasts
+    c.add.ensures.nodes c.add.ensures.chained c.add.ensures.lettered c.add.ensures.leasts
     (ap length links ∙ c.relink.auto.links ∙ ap length before)
     (λ k below.
     let m0 = c.relink.ensures k (subst (λ ls. k < length ls) (sym before) below) in
@@ -45,4 +45,4 @@ returns c =
     let m3 : IsRelinked new.nodes.items ends (length ends) (length old.nodes.items) (get_or (old.links.items ++ link ∷ []) k 0) (get_or c.relink.new.links k 0) k =
     subst (λ ls. IsRelinked new.nodes.items ends (length ends) (length old.nodes.items) (get_or ls k 0) (get_or c.relink.new.links k 0) k) before m2 in
     subst (λ ls. IsRelinked new.nodes.items ends (length ends) (length old.nodes.items) (get_or (old.links.items ++ link ∷ []) k 0) (get_or ls k 0) k) (sym links) m3)
-    (λ more r. let r' = c.add.ensures.room more r in record { nodes = r'.nodes; letters = r'.letters; nexts = r'.nexts; links = r'.links; leasts = r'.leasts }))
+    (λ more r. let r' = c.add.ensures.room more r in record { nodes = r'.nodes; nexts = r'.nexts; letter_nexts = r'.letter_nexts; links = r'.links; leasts = r'.leasts }))

@@ -20,14 +20,14 @@ returns c =
     let first = c.mark.new.leasts in
     let last = c.mark_all.new.leasts in
     let both = with_items (with_items mid.leasts first) last in
-    let new : Tree = record { nodes = mid.nodes; letters = mid.letters; heads = mid.heads; nexts = mid.nexts; links = mid.links; leasts = both } in
+    let new : Tree = record { nodes = mid.nodes; heads = mid.heads; nexts = mid.nexts; letter_heads = mid.letter_heads; letter_nexts = mid.letter_nexts; links = mid.links; leasts = both } in
     let first_size : length first ≡ length mid.leasts.items = omega (arith, c.mark.auto.leasts, c.deref_mut.ensures.len) in
     let one : (with_items mid.leasts first).items ≡ first = with_items_is mid.leasts first (omega (arith, c.mark.auto.leasts, c.deref_mut.ensures.len)) in
     let two : new.leasts.items ≡ last = with_items_is (with_items mid.leasts first) last (omega (arith, c.mark_all.auto.leasts, c.deref_mut-2.ensures.len)) in
     let read : c.deref_mut-2.result.now ≡ first = c.deref_mut-2.ensures.value ∙ one in
     let first_is : first ≡ set mid.leasts.items at (marked (get_or mid.leasts.items at None) place) =
     subst (λ ls. first ≡ set ls at (marked (get_or ls at None) place)) c.deref_mut.ensures.value c.mark.ensures in
-    inserted c.args.tree.now mid new c.args.word.now place at ends first c.grow_all-at.ensures refl refl refl refl refl first_is
+    inserted c.args.tree.now mid new c.args.word.now place at ends first c.grow_all-at.ensures refl c.grow_all-at.ensures.lettered refl refl refl first_is
     (ap length two ∙ c.mark_all.auto.leasts ∙ ap length read)
     (λ k below.
     let m0 = c.mark_all.ensures k (subst (λ ls. k < length ls) (sym read) below) in

@@ -1,20 +1,32 @@
-use Rattle.std.proofs.Common.{◌≡◌, ◌⊎◌, ◌<◌, true, ◌++◌, ◌∷◌, [], ◌∙◌, ℕ, List, length, get_or, take, subst, sym, ap, arith}
+use Rattle.std.proofs.Common.{◌≡◌, ◌⊎◌, ◌<◌, true, ◌++◌, ◌∷◌, [], ◌∙◌, ℕ, List, length, take, subst, sym, ap, arith}
 use Rattle.std.proofs.lemmas.List.Quantifiers.{all_pairs_push}
+use Rattle.rule_index.specs.declared.tree.Tree.{Tree}
 use Rattle.rule_index.specs.Matches.{IsAscending, begins_with}
 use Rattle.rule_index.specs.Prefixes.{has}
-use Rattle.rule_index.specs.Automaton.{IsStarts, IsMarked, IsWithin, letters_of, words_of}
+use Rattle.rule_index.specs.Automaton.{IsStarts, IsMarked, IsWithin, IsLettered, IsSame, HasLetters, words_of}
 use Rattle.rule_index.specs.Cuts.{IsCounted}
 use Rattle.rule_index.proofs.Counting.{within-push}
 use Rattle.rule_index.proofs.Counted.{counted-within, counted-push}
 use Rattle.rule_index.proofs.FrontNodes.{words_of-take}
 use Rattle.rule_index.proofs.index.Index.insert.Goals as goal
 
+-- the same nodes in the same buckets of letters
+same_letters : (tree before : Tree) → IsSame tree before → HasLetters before → HasLetters tree
+same_letters tree before same h =
+    subst (λ ns. IsLettered ns (length ns) tree.letter_heads.items tree.letter_nexts.items) (sym same.nodes)
+    (subst (λ hs. IsLettered before.nodes.items (length before.nodes.items) hs tree.letter_nexts.items) (sym same.letter_heads)
+    (subst (λ xs. IsLettered before.nodes.items (length before.nodes.items) before.letter_heads.items xs) (sym same.letter_nexts) h))
+
+pub starts-requires-clause-lettered : goal.starts-requires-clause-lettered
+starts-requires-clause-lettered c = same_letters c.reserve.new.tree c.self.inside.tree c.reserve.ensures.same c.self.inside.lettered
+
+pub insert-requires-clause-lettered : goal.insert-requires-clause-lettered
+insert-requires-clause-lettered c = same_letters c.reserve.new.tree c.self.inside.tree c.reserve.ensures.same c.self.inside.lettered
+
 pub insert-requires-clause-starts : goal.insert-requires-clause-starts
 insert-requires-clause-starts c =
-    let ends = c.in_ok-ends.ends.items in
-    let letter = get_or c.args.word.now 0 0 in
-    subst (λ ns. IsStarts ns (length ns) letter ends) c.deref.ensures.value
-    (subst (λ x. IsStarts c.deref.result.now (length c.deref.result.now) x ends) c.letter-first.ensures c.in_ok-ends.ensures)
+    let nodes = c.reserve.new.tree.nodes.items in
+    subst (λ x. IsStarts nodes (length nodes) x c.in_ok-ends.ends.items) c.letter-first.ensures c.in_ok-ends.ensures
 
 pub invariant_of-self-inside-2 : goal.invariant_of-self-inside-2
 invariant_of-self-inside-2 c =
@@ -47,7 +59,6 @@ invariant_of-self-inside-2 c =
     ap (λ n. take n words) i.grown.spelled.sized ∙ sym (words_of-take (length i.tree.nodes.items) tree.nodes.items i.grown.chained.some) ∙ ap words_of nodes_front in
     let counted : IsCounted (entries ++ (word, number) ∷ []) words (i.sizes.items ++ length words ∷ []) =
     counted-push entries old i.sizes.items counted_before (word, number) words front within marked.listed in
-    let lettered : tree.letters.items ≡ letters_of tree.nodes.items = done.lettered (same.letters ∙ i.lettered ∙ ap letters_of (sym same.nodes)) in
     let count : c.len-2.result ≡ length words = omega (arith, c.len-2.ensures, done.tree.spelled.sized) in
     let sizes_are : c.put.new.items.items ≡ i.sizes.items ++ length words ∷ [] =
     c.put.ensures.items ∙ ap (λ ns. ns ++ c.len-2.result ∷ []) c.reserve-2.ensures.items ∙ ap (λ n. i.sizes.items ++ n ∷ []) count in (
@@ -56,7 +67,7 @@ invariant_of-self-inside-2 c =
         done.tree,
         (
           subst (λ es. IsMarked es words tree.leasts.items) (sym added) marked,
-          (lettered, (subst (λ es. IsCounted es words c.put.new.items.items) (sym added) (subst (IsCounted (entries ++ (word, number) ∷ []) words) (sym sizes_are) counted), tt)),
+          (done.lettered, (subst (λ es. IsCounted es words c.put.new.items.items) (sym added) (subst (IsCounted (entries ++ (word, number) ∷ []) words) (sym sizes_are) counted), tt)),
         ),
       ),
     )
@@ -72,7 +83,7 @@ invariant_of-self-inside c =
         c.reserve.ensures.tree,
         (
           subst (λ ls. IsMarked i.entries (words_of tree.nodes.items) ls) (sym same.leasts) (subst (λ ns. IsMarked i.entries (words_of ns) i.tree.leasts.items) (sym same.nodes) i.marked),
-          (same.letters ∙ i.lettered ∙ ap letters_of (sym same.nodes), (subst (λ ns. IsCounted i.entries (words_of ns) i.sizes.items) (sym same.nodes) i.counted, tt)),
+          (same_letters tree i.tree same i.lettered, (subst (λ ns. IsCounted i.entries (words_of ns) i.sizes.items) (sym same.nodes) i.counted, tt)),
         ),
       ),
     )

@@ -1,10 +1,10 @@
 use Rattle.std.proofs.Common.{◌≡◌, ◌<◌, ◌≤◌, ◌+◌, ◌∙◌, length, get_or, take, subst, sym, ap, arith}
 use Rattle.std.proofs.lemmas.List.{get_or_read}
 use Rattle.rule_index.specs.Matches.{IsAscending}
-use Rattle.rule_index.specs.Automaton.{IsMarked, letters_of, words_of}
+use Rattle.rule_index.specs.Automaton.{IsMarked, words_of}
 use Rattle.rule_index.specs.Cuts.{IsCounted, IsCut}
 use Rattle.rule_index.proofs.Fronts.{ascending-take}
-use Rattle.rule_index.proofs.FrontNodes.{letters_of-take, words_of-take}
+use Rattle.rule_index.proofs.FrontNodes.{words_of-take}
 use Rattle.rule_index.proofs.Counted.{marked-cut, counted-cut}
 use Rattle.rule_index.proofs.index.Index.truncate.Goals as goal
 
@@ -31,7 +31,7 @@ invariant_of-self-inside c =
         (
           subst (λ es. IsMarked es (words_of tree.nodes.items) tree.leasts.items) (sym entries_are) (subst (λ ws. IsMarked (take count i.entries) ws tree.leasts.items) (sym words_are) marked),
           (
-            cut.letters ∙ ap (take size) i.lettered ∙ sym (letters_of-take size nodes) ∙ ap letters_of (sym cut.nodes),
+            cut.lettered,
             (
               subst (λ es. IsCounted es (words_of tree.nodes.items) c.truncate-2.new.self.items) (sym entries_are)
                   (subst (λ ws. IsCounted (take count i.entries) ws c.truncate-2.new.self.items) (sym words_are) (subst (IsCounted (take count i.entries) (take size words)) (sym c.truncate-2.ensures.items) counted)),

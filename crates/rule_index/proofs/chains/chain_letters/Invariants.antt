@@ -1,0 +1,10 @@
+use Rattle.std.proofs.Common.{◌≤◌, length}
+use Rattle.rule_index.specs.Automaton.{IsLettered}
+use Rattle.rule_index.proofs.chains.chain_letters.Given as goal
+
+-- the nodes so far
+abbrev pub invariant-loop-node : goal.invariant-loop-node
+invariant-loop-node l = record {
+  within : l.node ≤ length l.nodes;
+  lettered : IsLettered l.nodes l.node l.heads l.nexts;
+}
