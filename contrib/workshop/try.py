@@ -353,6 +353,12 @@ def trusted_files() -> str:
     return answer.out.split(":")[0] + " are listed to be trusted"
 
 
+def mapped_calls() -> str:
+    answer = run(sys.executable, CONTRIB / "workshop" / "unmapped.py")
+    need(answer == Answer(0, "", ""), f"no row of docs/PROOF_MAP.md names {', '.join(answer.out.split())}")
+    return "each public function has a row of docs/PROOF_MAP.md"
+
+
 def costly_files() -> str:
     sizes = {
         "overlaps 500": 496_540, "sorted 498": 287_613, "unending 100": 57_068, "rests 100": 429_121, "rows 10": 41_295,
@@ -382,7 +388,7 @@ def groups(folder: Path) -> Dict[str, List[Callable[[], str]]]:
     checks["package"], checks["release"] = [try_python.package], [try_release.release]
     return {
         "checker": [
-            examples, lambda: reports(folder), lambda: changes(folder), lambda: bad_input(folder), translations, trusted_files,
+            examples, lambda: reports(folder), lambda: changes(folder), lambda: bad_input(folder), translations, trusted_files, mapped_calls,
             *(functools.partial(check, folder) for check in try_models.CHECKS + try_language.CHECKS),
         ],
         **{word: [functools.partial(check, folder) for check in found] for word, found in checks.items()},
