@@ -1,0 +1,35 @@
+-- Each text has one list of tokens or one first fault, and these are what is read.
+use Rattle.std.specs.Prelude.{◌≡◌, ◌⊎◌, ◌↔◌, ℕ, List, Ok, Err}
+use Rattle.statement_tokens.specs.Token.{tokens_of}
+use Rattle.token_laws.specs.Tokens.{AreTokens, IsFirstScanFault}
+use Rattle.statement_tokens.specs.declared.place.Spot.{Spot}
+use Rattle.statement_tokens.specs.declared.scan.ScanFault.{ScanFault}
+use Rattle.statement_tokens.specs.declared.token.Token.{Token}
+
+abbrev pub HasTokensOrFault : List ℕ → Type 0
+HasTokensOrFault text = ((tokens : List Token) × AreTokens text tokens) ⊎ ((fault : ScanFault) × (at : Spot) × IsFirstScanFault text fault at)
+
+-- Each text has tokens or a first fault.
+abbrev pub EachTextHasTokensOrFault : Type 0
+EachTextHasTokensOrFault = (text : List ℕ) → HasTokensOrFault text
+
+-- No text has two lists of tokens.
+abbrev pub TokensAreUnique : Type 0
+TokensAreUnique = (text : List ℕ) (tokens others : List Token) → AreTokens text tokens → AreTokens text others → tokens ≡ others
+
+-- No text has two first faults, or one fault at two places.
+abbrev pub FirstScanFaultsAreUnique : Type 0
+FirstScanFaultsAreUnique = (text : List ℕ) (fault other : ScanFault) (at there : Spot) → IsFirstScanFault text fault at → IsFirstScanFault text other there
+    → (fault ≡ other) × (at ≡ there)
+
+-- No text that has tokens has a first fault.
+abbrev pub TokensHaveNoFault : Type 0
+TokensHaveNoFault = (text : List ℕ) (tokens : List Token) (fault : ScanFault) (at : Spot) → AreTokens text tokens → IsFirstScanFault text fault at → ⊥
+
+-- The tokens that are read of a text are its tokens, and no others.
+abbrev pub TokensAreRead : Type 0
+TokensAreRead = (text : List ℕ) (tokens : List Token) → AreTokens text tokens ↔ (tokens_of text ≡ Ok tokens)
+
+-- The fault that is told of a text is its first one, with its place.
+abbrev pub FirstScanFaultsAreTold : Type 0
+FirstScanFaultsAreTold = (text : List ℕ) (fault : ScanFault) (at : Spot) → IsFirstScanFault text fault at ↔ (tokens_of text ≡ Err (record { fault = fault; at = at }))

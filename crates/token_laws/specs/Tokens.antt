@@ -1,0 +1,98 @@
+-- The tokens of a text, with their places, and the first fault of a text that has none.
+use Rattle.std.specs.Prelude.{◌≡◌, ℕ, ◌+◌, ◌^◌, List, [], ◌∷◌, ◌++◌, length, nat_lt, nat_le, Option, Some, None, pos, if◌then◌else◌, ◌⊎◌}
+use Rattle.std.specs.Str.{encode_utf8_all}
+use Rattle.statement_tokens.specs.Limits.{name_limit}
+use Rattle.statement_tokens.specs.Language.{language_of}
+use Rattle.statement_tokens.specs.Token.{right_of, below, end_of, value_from}
+use Rattle.token_laws.specs.Pieces.{Piece, line_feed, return_and_line_feed, blank, tab, comment, name, literal, sign, piece_text, pieces_text, IsLongest, BeginsNone}
+use Rattle.statement_tokens.specs.declared.place.Spot.{Spot}
+use Rattle.statement_tokens.specs.declared.token.Token.{Token}
+use Rattle.statement_tokens.specs.declared.token.TokenKind.{TokenKind}
+use Rattle.statement_tokens.specs.declared.token.TokenKind.TheVariants as kind
+use Rattle.statement_tokens.specs.declared.language.Language.{Language}
+use Rattle.statement_tokens.specs.declared.language.Language.TheVariants.{First, Second}
+use Rattle.statement_tokens.specs.declared.scan.ScanFault.{ScanFault}
+use Rattle.statement_tokens.specs.declared.scan.ScanFault.TheVariants.{BadToken, LiteralTooLarge}
+
+-- ---- places: lines and characters are counted from 1
+
+abbrev pub behind : Piece → Spot → Spot
+behind line_feed at = below at
+behind return_and_line_feed at = below at
+behind piece at = right_of at (length (piece_text piece))
+
+abbrev pub place_behind : List Piece → Spot → Spot
+place_behind [] at = at
+place_behind (piece ∷ pieces) at = place_behind pieces (behind piece at)
+
+-- ---- tokens
+
+-- the tokens that are read with a piece at a place; past is the column past the last token of its line, 0 where it has none
+abbrev pub tokens_with : Piece → Spot → ℕ → List Token
+tokens_with line_feed at past = end_of at.line past
+tokens_with return_and_line_feed at past = end_of at.line past
+tokens_with blank at past = []
+tokens_with tab at past = []
+tokens_with (comment cs) at past = []
+tokens_with (name cs) at past = record { at = at; kind = kind.Name (encode_utf8_all cs) } ∷ []
+tokens_with (literal cs) at past = record { at = at; kind = kind.Literal (pos (value_from 0 cs)) } ∷ []
+tokens_with (sign k) at past = record { at = at; kind = k } ∷ []
+
+-- the column past the last token of the line, behind a piece
+abbrev pub past_behind : Piece → Spot → ℕ → ℕ
+past_behind line_feed at past = 0
+past_behind return_and_line_feed at past = 0
+past_behind blank at past = past
+past_behind tab at past = past
+past_behind (comment cs) at past = past
+past_behind piece at past = at.column + length (piece_text piece)
+
+abbrev pub tokens_at : List Piece → Spot → ℕ → List Token
+tokens_at [] at past = []
+tokens_at (piece ∷ pieces) at past = tokens_with piece at past ++ tokens_at pieces (behind piece at) (past_behind piece at past)
+
+-- the tokens of the pieces that a text begins with
+abbrev pub tokens_in : List Piece → List Token
+tokens_in pieces = tokens_at pieces (record { line = 1; column = 1 }) 0
+
+-- ---- which pieces are faulty
+
+abbrev pub sign_fault : TokenKind → Language → Option ScanFault
+sign_fault kind.Caret First = Some BadToken
+sign_fault k language = None
+
+-- a name has at most 32 bytes, a literal is below 2^127, and a caret is a token of the second language alone
+abbrev pub fault_of : Language → Piece → Option ScanFault
+fault_of language (name cs) = if nat_le (length (encode_utf8_all cs)) name_limit then None else Some BadToken
+fault_of language (literal cs) = if nat_lt (value_from 0 cs) (2 ^ 127) then None else Some LiteralTooLarge
+fault_of language (sign k) = sign_fault k language
+fault_of language piece = None
+
+-- in front of the rest each piece is the longest at its place, and none is faulty in the language
+abbrev pub AreGood : Language → List Piece → List ℕ → Type 0
+AreGood language [] rest = Unit {0}
+AreGood language (piece ∷ pieces) rest = IsLongest piece (pieces_text pieces ++ rest) × (fault_of language piece ≡ None) × AreGood language pieces rest
+
+-- ---- texts
+
+-- the text is good pieces and no more, and these are their tokens; its end ends the last line
+pub record AreTokens (text : List ℕ) (tokens : List Token) : Type 0 where
+  pub pieces : List Piece
+  pub cut : text ≡ pieces_text pieces
+  pub good : AreGood (language_of tokens) pieces []
+  pub are : tokens ≡ tokens_in (pieces ++ line_feed ∷ [])
+
+-- the longest piece that the text begins with has the fault in the language, or no piece begins with the character that stands there
+abbrev pub Begins : Language → List ℕ → ScanFault → Type 0
+Begins language text fault =
+    ((piece : Piece) × (rest : List ℕ) × (text ≡ piece_text piece ++ rest) × IsLongest piece rest × (fault_of language piece ≡ Some fault))
+    ⊎ ((c : ℕ) × (rest : List ℕ) × (text ≡ c ∷ rest) × BeginsNone text × (fault ≡ BadToken))
+
+-- the text is good pieces up to this place, where the fault is
+pub record IsFirstScanFault (text : List ℕ) (fault : ScanFault) (at : Spot) : Type 0 where
+  pub pieces : List Piece
+  pub rest : List ℕ
+  pub cut : text ≡ pieces_text pieces ++ rest
+  pub good : AreGood (language_of (tokens_in pieces)) pieces rest
+  pub faulty : Begins (language_of (tokens_in pieces)) rest fault
+  pub place : at ≡ place_behind pieces (record { line = 1; column = 1 })
