@@ -1,5 +1,6 @@
 -- What a text begins with: a longest piece, or none.
-use Rattle.std.proofs.Common.{◌≡◌, ℕ, ◌+◌, ◌≤◌, ◌==◌, ◌&&◌, Bool, true, false, cond, not, List, [], ◌∷◌, ◌++◌, length, drop, zero, suc, ◌<◌, refl, sym, ap, subst, ◌∙◌, arith, ◌⊎◌, inl, inr}
+use Rattle.std.proofs.Common.{◌≡◌, ℕ, ◌+◌, ◌≤◌, ◌==◌, ◌&&◌, Bool, true, false, cond, not, List, [], ◌∷◌, ◌++◌}
+use Rattle.std.proofs.Common.{length, drop, zero, suc, ◌<◌, refl, sym, ap, subst, ◌∙◌, arith, ◌⊎◌, inl, inr}
 use Rattle.std.specs.Prelude.{if◌then◌else◌, take}
 use Rattle.std.specs.Char.{is_ascii_alphabetic}
 use Rattle.std.specs.List.{prefix_len, take_while, list_all}
@@ -10,7 +11,8 @@ use Rattle.unicode_ident.specs.Ident.{is_xid_continue}
 use Rattle.unicode_ident.proofs.IdentLemmas.{is_xid_start-ascii}
 use Rattle.statement_tokens.specs.declared.token.TokenKind.{TokenKind}
 use Rattle.statement_tokens.specs.declared.token.TokenKind.TheVariants as kind
-use Rattle.token_laws.specs.Pieces.{Piece, line_feed, return_and_line_feed, blank, tab, comment, name, literal, sign, piece_text, is_piece, IsLongest, BeginsNone}
+use Rattle.token_laws.specs.Pieces.{Piece, line_feed, return_and_line_feed, blank, tab, comment, name}
+use Rattle.token_laws.specs.Pieces.{literal, sign, piece_text, is_piece, IsLongest, BeginsNone}
 use Rattle.statement_tokens.specs.Token.{starts_name, is_digit, is_inside_line, begins_with}
 use Rattle.statement_syntax.proofs.Spelled.{and_first, and_second, EachIs}
 use Rattle.statement_syntax.proofs.Rescan.{plain_start}
@@ -86,7 +88,8 @@ module _ (c : ℕ) (rest more : List ℕ) where
       let parts = and_both (starts_name d) (list_all is_xid_continue cs) is in
       let plain = plain_start d parts.0 in
       let long = front_passes is_xid_continue cs more (each_is is_xid_continue cs parts.1) in
-      subst (λ c. suc (length cs) ≤ 1 + goes_on c rest) first (subst (λ r. suc (length cs) ≤ 1 + goes_on d r) behind (rw (plain.3, plain.4, parts.0) (omega (arith, long))))
+      subst (λ c. suc (length cs) ≤ 1 + goes_on c rest) first
+      (subst (λ r. suc (length cs) ≤ 1 + goes_on d r) behind (rw (plain.3, plain.4, parts.0) (omega (arith, long))))
   no_longer (literal []) is e = absurd cc
   no_longer (literal (d ∷ cs)) is e =
       let first : d ≡ c = cc in
@@ -94,10 +97,12 @@ module _ (c : ℕ) (rest more : List ℕ) where
       let parts = and_both (is_digit d) (list_all is_digit cs) is in
       let plain = plain_digit d parts.0 in
       let long = front_passes is_digit cs more (each_is is_digit cs parts.1) in
-      subst (λ c. suc (length cs) ≤ 1 + goes_on c rest) first (subst (λ r. suc (length cs) ≤ 1 + goes_on d r) behind (rw (plain.return, plain.comment, plain.name, parts.0) (omega (arith, long))))
+      subst (λ c. suc (length cs) ≤ 1 + goes_on c rest) first
+      (subst (λ r. suc (length cs) ≤ 1 + goes_on d r) behind (rw (plain.return, plain.comment, plain.name, parts.0) (omega (arith, long))))
   no_longer (sign k) is e = no_longer_sign k is e
 
-longest_by : (piece : Piece) (later : List ℕ) (c : ℕ) (rest : List ℕ) → is_piece piece ≡ true → piece_text piece ++ later ≡ c ∷ rest → 1 + goes_on c rest ≤ length (piece_text piece)
+longest_by : (piece : Piece) (later : List ℕ) (c : ℕ) (rest : List ℕ) → is_piece piece ≡ true → piece_text piece ++ later ≡ c ∷ rest
+    → 1 + goes_on c rest ≤ length (piece_text piece)
     → IsLongest piece later
 longest_by piece later c rest is whole long = record {
   is = is;
@@ -169,7 +174,8 @@ module _ (c : ℕ) (rest more : List ℕ) (none : NoTest c rest) where
   no_piece return_and_line_feed is e =
       let first : 13 ≡ c = cc in
       let behind : 10 ∷ more ≡ rest = cc in
-      not_both ((c == 13) && begins_with 10 rest) (subst (λ d. ((d == 13) && begins_with 10 rest) ≡ true) first (subst (λ r. begins_with 10 r ≡ true) behind refl)) none.not_return
+      not_both ((c == 13) && begins_with 10 rest)
+      (subst (λ d. ((d == 13) && begins_with 10 rest) ≡ true) first (subst (λ r. begins_with 10 r ≡ true) behind refl)) none.not_return
   no_piece blank is e = let first : 32 ≡ c = cc in not_first 32 first none.not_blank
   no_piece tab is e = let first : 9 ≡ c = cc in not_first 9 first none.not_tab
   no_piece (comment cs) is e = let first : 35 ≡ c = cc in not_first 35 first none.not_comment
@@ -228,7 +234,8 @@ module _ (c : ℕ) (rest : List ℕ) where
       record { piece = piece; later = rest; cut = sym whole; is = longest_by piece rest c rest is whole (omega (arith, size, none')) }
 
   -- a piece with all that go on with it
-  running : (piece : Piece) (p : ℕ → Bool) → is_piece piece ≡ true → piece_text piece ≡ c ∷ take_while p rest → goes_on c rest ≡ prefix_len p rest → Longest (c ∷ rest)
+  running : (piece : Piece) (p : ℕ → Bool) → is_piece piece ≡ true → piece_text piece ≡ c ∷ take_while p rest → goes_on c rest ≡ prefix_len p rest
+      → Longest (c ∷ rest)
   running piece p is text goes =
       let later = drop (prefix_len p rest) rest in
       let whole : piece_text piece ++ later ≡ c ∷ rest = ap (λ x. x ++ later) text ∙ ap (λ r. c ∷ r) (take-append-drop (prefix_len p rest) rest) in
@@ -241,7 +248,12 @@ module _ (c : ℕ) (rest : List ℕ) where
       let parts = and_both (c == 13) (begins_with 10 rest) e in
       let behind = begins_so 10 rest parts.1 in
       let whole : 13 ∷ 10 ∷ behind.0 ≡ c ∷ rest = ap (λ x. x ∷ 10 ∷ behind.0) (sym (eqb-true c 13 parts.0)) ∙ ap (λ r. c ∷ r) (sym behind.1) in
-      record { piece = return_and_line_feed; later = behind.0; cut = sym whole; is = longest_by return_and_line_feed behind.0 c rest refl whole (rw (parts.0) (omega arith)) }
+      record {
+        piece = return_and_line_feed;
+        later = behind.0;
+        cut = sym whole;
+        is = longest_by return_and_line_feed behind.0 c rest refl whole (rw (parts.0) (omega arith));
+      }
 
   commented : (c == 35) ≡ true → Longest (c ∷ rest)
   unfolding goes_on
@@ -273,18 +285,21 @@ module _ (c : ℕ) (rest : List ℕ) where
       let goes : goes_on c rest ≡ 1 = ap (λ n. goes_on n rest) same ∙ rw (is_xid_start-ascii 45 (omega arith), f) refl in
       record { piece = sign kind.Arrow; later = behind.0; cut = sym whole; is = longest_by (sign kind.Arrow) behind.0 c rest refl whole (omega (arith, goes)) }
 
-  plain_ascii : (n : ℕ) → n < 128 → is_ascii_alphabetic n ≡ false → (n == 95) ≡ false → (n == 13) ≡ false → (n == 35) ≡ false → is_digit n ≡ false → ((n == 45) && begins_with 62 rest) ≡ false → goes_on n rest ≡ 0
+  plain_ascii : (n : ℕ) → n < 128 → is_ascii_alphabetic n ≡ false → (n == 95) ≡ false → (n == 13) ≡ false → (n == 35) ≡ false → is_digit n ≡ false
+      → ((n == 45) && begins_with 62 rest) ≡ false → goes_on n rest ≡ 0
   unfolding goes_on
   plain_ascii n small a b d e f g = rw (d, e, is_xid_start-ascii n small, a, b, f, g) refl
 
-  one : (n : ℕ) → n < 128 → is_ascii_alphabetic n ≡ false → (n == 95) ≡ false → (n == 13) ≡ false → (n == 35) ≡ false → is_digit n ≡ false → ((n == 45) && begins_with 62 rest) ≡ false
+  one : (n : ℕ) → n < 128 → is_ascii_alphabetic n ≡ false → (n == 95) ≡ false → (n == 13) ≡ false → (n == 35) ≡ false → is_digit n ≡ false
+      → ((n == 45) && begins_with 62 rest) ≡ false
       → (piece : Piece) → is_piece piece ≡ true → piece_text piece ≡ n ∷ [] → (c == n) ≡ true → Longest (c ∷ rest)
   one n small a b d e f g piece is text same = alone piece n is text (plain_ascii n small a b d e f g) same
 
   abbrev Found : Type 0
   Found = Longest (c ∷ rest) ⊎ BeginsNone (c ∷ rest)
 
-  sign_here : (n : ℕ) → n < 128 → is_ascii_alphabetic n ≡ false → (n == 95) ≡ false → (n == 13) ≡ false → (n == 35) ≡ false → is_digit n ≡ false → (n == 45) ≡ false
+  sign_here : (n : ℕ) → n < 128 → is_ascii_alphabetic n ≡ false → (n == 95) ≡ false → (n == 13) ≡ false → (n == 35) ≡ false → is_digit n ≡ false
+      → (n == 45) ≡ false
       → (piece : Piece) → is_piece piece ≡ true → piece_text piece ≡ n ∷ [] → ((c == n) ≡ false → Found) → Found
   sign_here n small a b d e f g piece is text others =
       by_test (c == n) (λ same. inl (one n small a b d e f (ap (λ x. x && begins_with 62 rest) g) piece is text same)) others
@@ -298,7 +313,8 @@ module _ (c : ℕ) (rest : List ℕ) where
       by_test (c == 35) (λ e. inl (commented e)) (λ not_comment.
       by_test (starts_name c) (λ e. inl (named e)) (λ not_name.
       by_test (is_digit c) (λ e. inl (counted e)) (λ not_digit.
-      by_test (c == 45) (λ e. by_test (begins_with 62 rest) (λ f. inl (arrow e f)) (λ f. inl (one 45 (omega arith) refl refl refl refl refl f (sign kind.Minus) refl refl e))) (λ not_minus.
+      by_test (c == 45) (λ e. by_test (begins_with 62 rest) (λ f. inl (arrow e f))
+      (λ f. inl (one 45 (omega arith) refl refl refl refl refl f (sign kind.Minus) refl refl e))) (λ not_minus.
       sign_here 58 (omega arith) refl refl refl refl refl refl (sign kind.Colon) refl refl (λ not_colon.
       sign_here 61 (omega arith) refl refl refl refl refl refl (sign kind.Equals) refl refl (λ not_equals.
       sign_here 43 (omega arith) refl refl refl refl refl refl (sign kind.Plus) refl refl (λ not_plus.
@@ -309,6 +325,21 @@ module _ (c : ℕ) (rest : List ℕ) where
       sign_here 39 (omega arith) refl refl refl refl refl refl (sign kind.Quote) refl refl (λ not_quote.
       sign_here 94 (omega arith) refl refl refl refl refl refl (sign kind.Caret) refl refl (λ not_caret.
       inr (none_begins c rest (record {
-        not_line = not_line; not_blank = not_blank; not_tab = not_tab; not_return = not_return; not_comment = not_comment; not_name = not_name; not_digit = not_digit; not_minus = not_minus; not_colon = not_colon; not_equals = not_equals; not_plus = not_plus;
-        not_opens = not_opens; not_closes = not_closes; not_opens_square = not_opens_square; not_closes_square = not_closes_square; not_quote = not_quote; not_caret = not_caret;
+        not_line = not_line;
+        not_blank = not_blank;
+        not_tab = not_tab;
+        not_return = not_return;
+        not_comment = not_comment;
+        not_name = not_name;
+        not_digit = not_digit;
+        not_minus = not_minus;
+        not_colon = not_colon;
+        not_equals = not_equals;
+        not_plus = not_plus;
+        not_opens = not_opens;
+        not_closes = not_closes;
+        not_opens_square = not_opens_square;
+        not_closes_square = not_closes_square;
+        not_quote = not_quote;
+        not_caret = not_caret;
       })))))))))))))))))))

@@ -1,5 +1,6 @@
 -- The scanner reads a text piece by piece.
-use Rattle.std.proofs.Common.{◌≡◌, ℕ, ◌+◌, ◌≤◌, ◌<◌, ◌==◌, ◌&&◌, Bool, true, false, cond, zero, suc, List, [], ◌∷◌, ◌++◌, length, Option, Some, None, Result, Ok, Err, refl, sym, ap, ap₂, subst, ◌∙◌, append_assoc, append-nil, length-append, arith}
+use Rattle.std.proofs.Common.{◌≡◌, ℕ, ◌+◌, ◌≤◌, ◌<◌, ◌==◌, ◌&&◌, Bool, true, false, cond, zero, suc, List, [], ◌∷◌, ◌++◌}
+use Rattle.std.proofs.Common.{length, Option, Some, None, Result, Ok, Err, refl, sym, ap, ap₂, subst, ◌∙◌, append_assoc, append-nil, length-append, arith}
 use Rattle.std.specs.Prelude.{if◌then◌else◌, pos, nat_le, nat_lt, ◌^◌}
 use Rattle.std.specs.List.{prefix_len, take_while, list_all}
 use Rattle.std.specs.Str.{encode_utf8_all}
@@ -20,12 +21,15 @@ use Rattle.statement_tokens.specs.declared.scan.ScanFault.TheVariants.{BadToken,
 use Rattle.statement_tokens.specs.declared.scan.Placed.{Placed}
 use Rattle.statement_tokens.specs.Limits.{name_limit}
 use Rattle.statement_tokens.specs.Language.{language_of}
-use Rattle.token_laws.specs.Pieces.{Piece, line_feed, return_and_line_feed, blank, tab, comment, name, literal, sign, piece_text, is_piece, IsLongest, BeginsNone}
+use Rattle.token_laws.specs.Pieces.{Piece, line_feed, return_and_line_feed, blank, tab, comment, name}
+use Rattle.token_laws.specs.Pieces.{literal, sign, piece_text, is_piece, IsLongest, BeginsNone}
 use Rattle.token_laws.specs.Tokens.{behind, tokens_with, past_behind, sign_fault, fault_of}
-use Rattle.statement_tokens.specs.Token.{starts_name, is_digit, is_inside_line, value_from, right_of, below, end_of, ◌>>=◌, item_at, tokens_from, placed, begins_with, name_of, literal_of, with_front}
+use Rattle.statement_tokens.specs.Token.{starts_name, is_digit, is_inside_line, value_from, right_of, below, end_of, ◌>>=◌}
+use Rattle.statement_tokens.specs.Token.{item_at, tokens_from, placed, begins_with, name_of, literal_of, with_front}
 use Rattle.statement_tokens.proofs.Scanning.{skipped}
 use Rattle.statement_syntax.proofs.Spelled.{EachIs}
-use Rattle.statement_syntax.proofs.Rescan.{StopsAt, prefix_is, name_back, colon_back, equals_back, plus_back, open_back, close_back, open_square_back, close_square_back, quote_back, caret_back, arrow_back}
+use Rattle.statement_syntax.proofs.Rescan.{StopsAt, prefix_is, name_back, colon_back, equals_back, plus_back, open_back}
+use Rattle.statement_syntax.proofs.Rescan.{close_back, open_square_back, close_square_back, quote_back, caret_back, arrow_back}
 use Rattle.statement_syntax.proofs.Literals.{plain_digit}
 use Rattle.token_laws.proofs.Longest.{and_both, each_is, no_test}
 
@@ -47,22 +51,26 @@ module _ (piece : Piece) (later : List ℕ) (is : IsLongest piece later) where
   -- no piece has one character more
   no_longer : (other : Piece) (d : ℕ) (ds : List ℕ) → later ≡ d ∷ ds → is_piece other ≡ true → piece_text other ≡ piece_text piece ++ d ∷ [] → ⊥
   no_longer other d ds more good text =
-      let short = is.longest other ds good (ap (λ x. x ++ ds) text ∙ append_assoc (piece_text piece) (d ∷ []) ds ∙ ap (λ x. piece_text piece ++ x) (sym more)) in
+      let short = is.longest other ds good (ap (λ x. x ++ ds) text ∙ append_assoc (piece_text piece) (d ∷ []) ds
+      ∙ ap (λ x. piece_text piece ++ x) (sym more)) in
       omega (arith, short, ap length text ∙ length-append (piece_text piece) (d ∷ []))
 
 name_stops : (c : ℕ) (cs later : List ℕ) → IsLongest (name (c ∷ cs)) later → StopsAt is_xid_continue later
 name_stops c cs later is =
     let parts = and_both (starts_name c) (list_all is_xid_continue cs) is.is in
-    stops is_xid_continue later (λ d ds more goes. no_longer (name (c ∷ cs)) later is (name (c ∷ (cs ++ d ∷ []))) d ds more (rw (parts.0) (one_more is_xid_continue cs d parts.1 goes)) refl)
+    stops is_xid_continue later (λ d ds more goes. no_longer (name (c ∷ cs)) later is (name (c ∷ (cs ++ d ∷ []))) d ds more
+    (rw (parts.0) (one_more is_xid_continue cs d parts.1 goes)) refl)
 
 literal_stops : (c : ℕ) (cs later : List ℕ) → IsLongest (literal (c ∷ cs)) later → StopsAt is_digit later
 literal_stops c cs later is =
     let parts = and_both (is_digit c) (list_all is_digit cs) is.is in
-    stops is_digit later (λ d ds more goes. no_longer (literal (c ∷ cs)) later is (literal (c ∷ (cs ++ d ∷ []))) d ds more (rw (parts.0) (one_more is_digit cs d parts.1 goes)) refl)
+    stops is_digit later (λ d ds more goes. no_longer (literal (c ∷ cs)) later is (literal (c ∷ (cs ++ d ∷ []))) d ds more
+    (rw (parts.0) (one_more is_digit cs d parts.1 goes)) refl)
 
 comment_stops : (cs later : List ℕ) → IsLongest (comment cs) later → StopsAt is_inside_line later
 comment_stops cs later is =
-    stops is_inside_line later (λ d ds more goes. no_longer (comment cs) later is (comment (cs ++ d ∷ [])) d ds more (one_more is_inside_line cs d is.is goes) refl)
+    stops is_inside_line later (λ d ds more goes. no_longer (comment cs) later is (comment (cs ++ d ∷ [])) d ds more
+    (one_more is_inside_line cs d is.is goes) refl)
 
 no_arrow : (later : List ℕ) → IsLongest (sign kind.Minus) later → begins_with 62 later ≡ false
 no_arrow [] is = refl
@@ -97,11 +105,13 @@ module _ (before : List Token) (c : ℕ) (cs later : List ℕ) (at : Spot) (past
       ∙ ap (λ x. tokens_from front x 0 (right_of (right_of at 1) (length cs)) end) (drop_at cs later (length cs) refl)
       ∙ ap (λ to. tokens_from front later 0 to end) right
 
-  turn : (read : Result Item ScanFault) → item_at before c (cs ++ later) ≡ read → tokens_from before (c ∷ (cs ++ later)) 0 at past ≡ placed before read at past next
+  turn : (read : Result Item ScanFault) → item_at before c (cs ++ later) ≡ read → tokens_from before (c ∷ (cs ++ later)) 0 at past
+      ≡ placed before read at past next
   unfolding tokens_from
   turn read is = ap (λ i. placed before i at past next) is
 
-  gap : item_at before c (cs ++ later) ≡ Ok (item.Gap (length cs)) → tokens_from before (c ∷ (cs ++ later)) 0 at past ≡ with_front [] (tokens_from (before ++ []) later 0 there past)
+  gap : item_at before c (cs ++ later) ≡ Ok (item.Gap (length cs)) → tokens_from before (c ∷ (cs ++ later)) 0 at past
+      ≡ with_front [] (tokens_from (before ++ []) later 0 there past)
   gap is =
       turn (Ok (item.Gap (length cs))) is ∙ over before past ∙ ap (λ front. tokens_from front later 0 there past) (sym (append-nil before))
       ∙ sym (front_none (tokens_from (before ++ []) later 0 there past))
@@ -124,7 +134,17 @@ literal_read : (before : List Token) (c : ℕ) (cs rest : List ℕ) → is_digit
 unfolding item_at
 literal_read before c cs rest digit each ends =
     let plain = plain_digit c digit in
-    rw (plain.line, plain.blank, plain.tab, plain.return, plain.comment, plain.name, digit, prefix_is is_digit cs rest each ends, take_at cs rest (length cs) refl) refl
+    rw (
+      plain.line,
+      plain.blank,
+      plain.tab,
+      plain.return,
+      plain.comment,
+      plain.name,
+      digit,
+      prefix_is is_digit cs rest each ends,
+      take_at cs rest (length cs) refl,
+    ) refl
 
 minus_read : (before : List Token) (rest : List ℕ) → begins_with 62 rest ≡ false → item_at before 45 rest ≡ Ok (item.Token kind.Minus 0)
 unfolding item_at
@@ -145,7 +165,8 @@ ReadsPiece before piece later at past =
     tokens_from before (piece_text piece ++ later) 0 at past
     ≡ with_front (tokens_with piece at past) (tokens_from (before ++ tokens_with piece at past) later 0 (behind piece at) (past_behind piece at past))
 
-reads_sign : (before : List Token) (k : TokenKind) (later : List ℕ) (at : Spot) (past : ℕ) → IsLongest (sign k) later → sign_fault k (language_of before) ≡ None → ReadsPiece before (sign k) later at past
+reads_sign : (before : List Token) (k : TokenKind) (later : List ℕ) (at : Spot) (past : ℕ) → IsLongest (sign k) later
+    → sign_fault k (language_of before) ≡ None → ReadsPiece before (sign k) later at past
 reads_sign before (kind.Name t) later at past is good = let none = is.is in absurd cc
 reads_sign before (kind.Literal v) later at past is good = let none = is.is in absurd cc
 reads_sign before kind.End later at past is good = let none = is.is in absurd cc
@@ -165,7 +186,8 @@ reads_sign before kind.Caret later at past is good = token before 94 [] later at
     second First good = absurd cc
     second Second good = refl
 
-pub reads_piece : (before : List Token) (piece : Piece) (later : List ℕ) (at : Spot) (past : ℕ) → IsLongest piece later → fault_of (language_of before) piece ≡ None → ReadsPiece before piece later at past
+pub reads_piece : (before : List Token) (piece : Piece) (later : List ℕ) (at : Spot) (past : ℕ) → IsLongest piece later
+    → fault_of (language_of before) piece ≡ None → ReadsPiece before piece later at past
 unfolding tokens_from item_at
 reads_piece before line_feed later at past is good = refl
 reads_piece before return_and_line_feed later at past is good = refl
@@ -194,7 +216,8 @@ reads_piece before (sign k) later at past is good = reads_sign before k later at
 abbrev Stops : List Token → List ℕ → Spot → ℕ → ScanFault → Type 0
 Stops before text at past f = tokens_from before text 0 at past ≡ Err (record { fault = f; at = at })
 
-stops_sign : (before : List Token) (k : TokenKind) (later : List ℕ) (at : Spot) (past : ℕ) (f : ScanFault) (l : Language) → language_of before ≡ l → sign_fault k l ≡ Some f
+stops_sign : (before : List Token) (k : TokenKind) (later : List ℕ) (at : Spot) (past : ℕ) (f : ScanFault) (l : Language) → language_of before ≡ l
+    → sign_fault k l ≡ Some f
     → Stops before (piece_text (sign k) ++ later) at past f
 unfolding item_at
 stops_sign before kind.Caret later at past f First first is =
@@ -203,7 +226,8 @@ stops_sign before kind.Caret later at past f First first is =
 stops_sign before kind.Caret later at past f Second second is = absurd cc
 stops_sign before k later at past f l same is = absurd cc
 
-pub stops_piece : (before : List Token) (piece : Piece) (later : List ℕ) (at : Spot) (past : ℕ) (f : ScanFault) → IsLongest piece later → fault_of (language_of before) piece ≡ Some f
+pub stops_piece : (before : List Token) (piece : Piece) (later : List ℕ) (at : Spot) (past : ℕ) (f : ScanFault) → IsLongest piece later
+    → fault_of (language_of before) piece ≡ Some f
     → Stops before (piece_text piece ++ later) at past f
 stops_piece before line_feed later at past f is faulty = absurd cc
 stops_piece before return_and_line_feed later at past f is faulty = absurd cc
@@ -233,4 +257,22 @@ unfolding item_at
 stops_none before c rest at past none =
     let lacks = no_test c rest none in
     fault before c [] rest at past BadToken
-    (rw (lacks.not_line, lacks.not_blank, lacks.not_tab, lacks.not_return, lacks.not_comment, lacks.not_name, lacks.not_digit, lacks.not_minus, lacks.not_colon, lacks.not_equals, lacks.not_plus, lacks.not_opens, lacks.not_closes, lacks.not_opens_square, lacks.not_closes_square, lacks.not_quote, lacks.not_caret) refl)
+    (rw (
+      lacks.not_line,
+      lacks.not_blank,
+      lacks.not_tab,
+      lacks.not_return,
+      lacks.not_comment,
+      lacks.not_name,
+      lacks.not_digit,
+      lacks.not_minus,
+      lacks.not_colon,
+      lacks.not_equals,
+      lacks.not_plus,
+      lacks.not_opens,
+      lacks.not_closes,
+      lacks.not_opens_square,
+      lacks.not_closes_square,
+      lacks.not_quote,
+      lacks.not_caret,
+    ) refl)

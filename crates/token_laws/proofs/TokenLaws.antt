@@ -1,5 +1,6 @@
 -- Each text has one list of tokens or one first fault, and the scanner reads them.
-use Rattle.std.proofs.Common.{◌≡◌, ℕ, ◌+◌, ◌≤◌, ◌<◌, ◌&&◌, Bool, true, false, zero, suc, List, [], ◌∷◌, ◌++◌, length, Option, Some, None, Result, Ok, Err, refl, sym, ap, subst, ◌∙◌, append_assoc, append-nil, length-append, arith, ◌⊎◌, inl, inr}
+use Rattle.std.proofs.Common.{◌≡◌, ℕ, ◌+◌, ◌≤◌, ◌<◌, ◌&&◌, Bool, true, false, zero, suc, List, [], ◌∷◌, ◌++◌, length, Option}
+use Rattle.std.proofs.Common.{Some, None, Result, Ok, Err, refl, sym, ap, subst, ◌∙◌, append_assoc, append-nil, length-append, arith, ◌⊎◌, inl, inr}
 use Rattle.std.specs.Prelude.{if◌then◌else◌}
 use Rattle.statement_tokens.specs.declared.place.Spot.{Spot}
 use Rattle.statement_tokens.specs.declared.token.Token.{Token}
@@ -11,9 +12,12 @@ use Rattle.statement_tokens.specs.declared.scan.ScanFault.{ScanFault}
 use Rattle.statement_tokens.specs.declared.scan.ScanFault.TheVariants.{BadToken, LiteralTooLarge}
 use Rattle.statement_tokens.specs.declared.scan.Placed.{Placed}
 use Rattle.statement_tokens.specs.Language.{is_language_word, is_two, is_end, language_of}
-use Rattle.token_laws.specs.Pieces.{Piece, line_feed, return_and_line_feed, blank, tab, comment, name, literal, sign, piece_text, pieces_text, is_some, is_piece, IsLongest, BeginsNone}
-use Rattle.token_laws.specs.Tokens.{behind, place_behind, tokens_with, past_behind, tokens_at, tokens_in, sign_fault, fault_of, AreGood, AreTokens, Begins, IsFirstScanFault}
-use Rattle.token_laws.specs.Laws.{HasTokensOrFault, EachTextHasTokensOrFault, TokensAreUnique, FirstScanFaultsAreUnique, TokensHaveNoFault, TokensAreRead, FirstScanFaultsAreTold}
+use Rattle.token_laws.specs.Pieces.{Piece, line_feed, return_and_line_feed, blank, tab, comment, name, literal}
+use Rattle.token_laws.specs.Pieces.{sign, piece_text, pieces_text, is_some, is_piece, IsLongest, BeginsNone}
+use Rattle.token_laws.specs.Tokens.{behind, place_behind, tokens_with, past_behind, tokens_at, tokens_in}
+use Rattle.token_laws.specs.Tokens.{sign_fault, fault_of, AreGood, AreTokens, Begins, IsFirstScanFault}
+use Rattle.token_laws.specs.Laws.{HasTokensOrFault, EachTextHasTokensOrFault, TokensAreUnique, FirstScanFaultsAreUnique}
+use Rattle.token_laws.specs.Laws.{TokensHaveNoFault, TokensAreRead, FirstScanFaultsAreTold}
 use Rattle.statement_tokens.specs.Token.{end_of, ◌>>=◌, tokens_from, tokens_of, with_front}
 use Rattle.token_laws.proofs.Longest.{Longest, begins_with_longest}
 use Rattle.token_laws.proofs.Pieces.{Read, front_none, reads_piece, stops_piece, stops_none}
@@ -54,7 +58,8 @@ no_second true true true (inr (inl e)) is = absurd cc
 no_second true true true (inr (inr e)) is = absurd cc
 
 -- a caret doesn't tell that the language is the second one
-was_second : (before more : List Token) (at : Spot) → language_of (before ++ record { at = at; kind = kind.Caret } ∷ more) ≡ Second → language_of before ≡ Second
+was_second : (before more : List Token) (at : Spot) → language_of (before ++ record { at = at; kind = kind.Caret } ∷ more) ≡ Second
+    → language_of before ≡ Second
 was_second [] [] at is = absurd cc
 was_second [] (b ∷ []) at is = absurd cc
 was_second [] (b ∷ c ∷ more) at is = absurd (no_second false (is_two b.kind) (is_end c.kind) (inl refl) is)
@@ -63,7 +68,8 @@ was_second (a ∷ []) (c ∷ more) at is = absurd (no_second (is_language_word a
 was_second (a ∷ b ∷ []) more at is = absurd (no_second (is_language_word a.kind) (is_two b.kind) false (inr (inr refl)) is)
 was_second (a ∷ b ∷ c ∷ before) more at is = is
 
-was_good : (before more : List Token) (piece : Piece) (at : Spot) (past : ℕ) → fault_of (language_of (before ++ (tokens_with piece at past ++ more))) piece ≡ None → fault_of (language_of before) piece ≡ None
+was_good : (before more : List Token) (piece : Piece) (at : Spot) (past : ℕ)
+    → fault_of (language_of (before ++ (tokens_with piece at past ++ more))) piece ≡ None → fault_of (language_of before) piece ≡ None
 was_good before more (sign kind.Caret) at past good =
     caret_free (language_of (before ++ record { at = at; kind = kind.Caret } ∷ more)) (language_of before) (was_second before more at) good
 was_good before more (sign k) at past good = good
@@ -81,23 +87,28 @@ abbrev past_after : List Piece → Spot → ℕ → ℕ
 past_after [] at past = past
 past_after (piece ∷ pieces) at past = past_after pieces (behind piece at) (past_behind piece at past)
 
-tokens_more : (pieces more : List Piece) (at : Spot) (past : ℕ) → tokens_at (pieces ++ more) at past ≡ tokens_at pieces at past ++ tokens_at more (place_behind pieces at) (past_after pieces at past)
+tokens_more : (pieces more : List Piece) (at : Spot) (past : ℕ) → tokens_at (pieces ++ more) at past
+    ≡ tokens_at pieces at past ++ tokens_at more (place_behind pieces at) (past_after pieces at past)
 tokens_more [] more at past = refl
 tokens_more (piece ∷ pieces) more at past =
     ap (λ ts. tokens_with piece at past ++ ts) (tokens_more pieces more (behind piece at) (past_behind piece at past))
-    ∙ sym (append_assoc (tokens_with piece at past) (tokens_at pieces (behind piece at) (past_behind piece at past)) (tokens_at more (place_behind (piece ∷ pieces) at) (past_after (piece ∷ pieces) at past)))
+    ∙ sym (append_assoc (tokens_with piece at past) (tokens_at pieces (behind piece at) (past_behind piece at past))
+    (tokens_at more (place_behind (piece ∷ pieces) at) (past_after (piece ∷ pieces) at past)))
 
 -- all tokens of pieces with which the text ends
 closed : (pieces : List Piece) → tokens_in (pieces ++ line_feed ∷ []) ≡ tokens_in pieces ++ end_of (place_behind pieces start).line (past_after pieces start 0)
-closed pieces = tokens_more pieces (line_feed ∷ []) start 0 ∙ ap (λ ts. tokens_in pieces ++ ts) (append-nil (end_of (place_behind pieces start).line (past_after pieces start 0)))
+closed pieces = tokens_more pieces (line_feed ∷ []) start 0
+    ∙ ap (λ ts. tokens_in pieces ++ ts) (append-nil (end_of (place_behind pieces start).line (past_after pieces start 0)))
 
 -- each piece is the longest at its place, and good behind the tokens in front of it
 abbrev GoOn : List Token → List Piece → List ℕ → Spot → ℕ → Type 0
 GoOn before [] rest at past = Unit {0}
 GoOn before (piece ∷ pieces) rest at past =
-    IsLongest piece (pieces_text pieces ++ rest) × (fault_of (language_of before) piece ≡ None) × GoOn (before ++ tokens_with piece at past) pieces rest (behind piece at) (past_behind piece at past)
+    IsLongest piece (pieces_text pieces ++ rest) × (fault_of (language_of before) piece ≡ None) × GoOn (before ++ tokens_with piece at past) pieces rest
+    (behind piece at) (past_behind piece at past)
 
-go_on : (before more : List Token) (pieces : List Piece) (rest : List ℕ) (at : Spot) (past : ℕ) → AreGood (language_of (before ++ (tokens_at pieces at past ++ more))) pieces rest → GoOn before pieces rest at past
+go_on : (before more : List Token) (pieces : List Piece) (rest : List ℕ) (at : Spot) (past : ℕ)
+    → AreGood (language_of (before ++ (tokens_at pieces at past ++ more))) pieces rest → GoOn before pieces rest at past
 go_on before more [] rest at past good = tt
 go_on before more (piece ∷ pieces) rest at past good =
     let here = tokens_with piece at past in
@@ -106,10 +117,11 @@ go_on before more (piece ∷ pieces) rest at past good =
       good.0,
       was_good before (later ++ more) piece at past (subst (λ ts. fault_of (language_of ts) piece ≡ None) one good.1),
       go_on (before ++ here) more pieces rest (behind piece at) (past_behind piece at past)
-      (subst (λ ts. AreGood (language_of ts) pieces rest) (one ∙ sym (append_assoc before here (later ++ more))) good.2),
+          (subst (λ ts. AreGood (language_of ts) pieces rest) (one ∙ sym (append_assoc before here (later ++ more))) good.2),
     )
 
-are_good : (before more : List Token) (pieces : List Piece) (rest : List ℕ) (at : Spot) (past : ℕ) → GoOn before pieces rest at past → AreGood (language_of (before ++ (tokens_at pieces at past ++ more))) pieces rest
+are_good : (before more : List Token) (pieces : List Piece) (rest : List ℕ) (at : Spot) (past : ℕ) → GoOn before pieces rest at past
+    → AreGood (language_of (before ++ (tokens_at pieces at past ++ more))) pieces rest
 are_good before more [] rest at past good = tt
 are_good before more (piece ∷ pieces) rest at past good =
     let here = tokens_with piece at past in
@@ -118,7 +130,7 @@ are_good before more (piece ∷ pieces) rest at past good =
       good.0,
       stays_good before ((here ++ later) ++ more) piece good.1,
       subst (λ ts. AreGood (language_of ts) pieces rest) (sym (one ∙ sym (append_assoc before here (later ++ more))))
-      (are_good (before ++ here) more pieces rest (behind piece at) (past_behind piece at past) good.2),
+          (are_good (before ++ here) more pieces rest (behind piece at) (past_behind piece at past) good.2),
     )
 
 fronts : (a b : List Token) (r : Read) → with_front a (with_front b r) ≡ with_front (a ++ b) r
@@ -158,10 +170,13 @@ read_are text tokens are =
     ∙ ap (with_front (tokens_in pieces)) (ended (tokens_in pieces) (place_behind pieces start) (past_after pieces start 0))
     ∙ ap (λ ts. Ok ts) (sym all)
 
-stops_at : (before : List Token) (rest : List ℕ) (at : Spot) (past : ℕ) (f : ScanFault) → Begins (language_of before) rest f → tokens_from before rest 0 at past ≡ Err (record { fault = f; at = at })
-stops_at before rest at past f (inl (piece, later, text, is, faulty)) = ap (λ cs. tokens_from before cs 0 at past) text ∙ stops_piece before piece later at past f is faulty
+stops_at : (before : List Token) (rest : List ℕ) (at : Spot) (past : ℕ) (f : ScanFault) → Begins (language_of before) rest f
+    → tokens_from before rest 0 at past ≡ Err (record { fault = f; at = at })
+stops_at before rest at past f (inl (piece, later, text, is, faulty)) =
+    ap (λ cs. tokens_from before cs 0 at past) text ∙ stops_piece before piece later at past f is faulty
 stops_at before rest at past f (inr (c, later, text, none, bad)) =
-    ap (λ cs. tokens_from before cs 0 at past) text ∙ stops_none before c later at past (subst BeginsNone text none) ∙ ap (λ f. Err (record { fault = f; at = at })) (sym bad)
+    ap (λ cs. tokens_from before cs 0 at past) text ∙ stops_none before c later at past (subst BeginsNone text none)
+    ∙ ap (λ f. Err (record { fault = f; at = at })) (sym bad)
 
 read_first : (text : List ℕ) (f : ScanFault) (at : Spot) → IsFirstScanFault text f at → tokens_of text ≡ Err (record { fault = f; at = at })
 read_first text f at first =
@@ -233,28 +248,36 @@ cut n [] short before at past = here_ends before [] at past (inl refl)
 cut zero (c ∷ rest) short before at past = absurd (omega (arith, short))
 cut (suc n) (c ∷ rest) short before at past =
     by_longest before c rest at past
-    (λ l. cut n l.later (omega (arith, short, some_character c rest l)) (before ++ tokens_with l.piece at past) (behind l.piece at) (past_behind l.piece at past))
+    (λ l. cut n l.later (omega (arith, short, some_character c rest l)) (before ++ tokens_with l.piece at past) (behind l.piece at)
+    (past_behind l.piece at past))
     (begins_with_longest c rest)
 
 told : (text : List ℕ) (c : Cut [] text start 0) → IsAtEnd (language_of (tokens_in c.pieces)) c.rest → HasTokensOrFault text
 told text c (inl none) =
     let last = end_of (place_behind c.pieces start).line (past_after c.pieces start 0) in
     let all = closed c.pieces in
-    inl (tokens_in (c.pieces ++ line_feed ∷ []), record {
-      pieces = c.pieces;
-      cut = c.cut ∙ ap (λ x. pieces_text c.pieces ++ x) none ∙ append-nil (pieces_text c.pieces);
-      good = subst (AreGood (language_of (tokens_in (c.pieces ++ line_feed ∷ []))) c.pieces) none
-          (subst (λ ts. AreGood (language_of ts) c.pieces c.rest) (sym all) (are_good [] last c.pieces c.rest start 0 c.good));
-      are = refl;
-    })
-told text c (inr (f, faulty)) = inr (f, place_behind c.pieces start, record {
-  pieces = c.pieces;
-  rest = c.rest;
-  cut = c.cut;
-  good = subst (λ ts. AreGood (language_of ts) c.pieces c.rest) (append-nil (tokens_in c.pieces)) (are_good [] [] c.pieces c.rest start 0 c.good);
-  faulty = faulty;
-  place = refl;
-})
+    inl (
+      tokens_in (c.pieces ++ line_feed ∷ []),
+      record {
+        pieces = c.pieces;
+        cut = c.cut ∙ ap (λ x. pieces_text c.pieces ++ x) none ∙ append-nil (pieces_text c.pieces);
+        good = subst (AreGood (language_of (tokens_in (c.pieces ++ line_feed ∷ []))) c.pieces) none
+            (subst (λ ts. AreGood (language_of ts) c.pieces c.rest) (sym all) (are_good [] last c.pieces c.rest start 0 c.good));
+        are = refl;
+      },
+    )
+told text c (inr (f, faulty)) = inr (
+  f,
+  place_behind c.pieces start,
+  record {
+    pieces = c.pieces;
+    rest = c.rest;
+    cut = c.cut;
+    good = subst (λ ts. AreGood (language_of ts) c.pieces c.rest) (append-nil (tokens_in c.pieces)) (are_good [] [] c.pieces c.rest start 0 c.good);
+    faulty = faulty;
+    place = refl;
+  },
+)
 
 pub each_text_has_tokens_or_fault : EachTextHasTokensOrFault
 each_text_has_tokens_or_fault text = let c = cut (length text) text (omega arith) [] start 0 in told text c c.end
@@ -268,11 +291,13 @@ same_placed : (p q : Placed) → (let r : Read = Err p in r) ≡ Err q → p ≡
 same_placed p q is = cc
 
 pub tokens_are_unique : TokensAreUnique
-tokens_are_unique text tokens others one other = let both : (let r : Read = Ok tokens in r) ≡ Ok others = sym (read_are text tokens one) ∙ read_are text others other in cc
+tokens_are_unique text tokens others one other =
+    let both : (let r : Read = Ok tokens in r) ≡ Ok others = sym (read_are text tokens one) ∙ read_are text others other in cc
 
 pub first_scan_faults_are_unique : FirstScanFaultsAreUnique
 first_scan_faults_are_unique text f g at there one other =
-    let same = same_placed (record { fault = f; at = at }) (record { fault = g; at = there }) (sym (read_first text f at one) ∙ read_first text g there other) in
+    let same = same_placed (record { fault = f; at = at }) (record { fault = g; at = there })
+    (sym (read_first text f at one) ∙ read_first text g there other) in
     (ap (λ (p : Placed). p.fault) same, ap (λ (p : Placed). p.at) same)
 
 pub tokens_have_no_fault : TokensHaveNoFault
@@ -284,7 +309,10 @@ are_read : (text : List ℕ) (tokens : List Token) → tokens_of text ≡ Ok tok
 are_read text tokens read = by (each_text_has_tokens_or_fault text)
   where
     by : HasTokensOrFault text → AreTokens text tokens
-    by (inl (others, are)) = let same : (let r : Read = Ok others in r) ≡ Ok tokens = sym (read_are text others are) ∙ read in let one : others ≡ tokens = cc in subst (AreTokens text) one are
+    by (inl (others, are)) =
+        let same : (let r : Read = Ok others in r) ≡ Ok tokens = sym (read_are text others are) ∙ read in
+        let one : others ≡ tokens = cc in
+        subst (AreTokens text) one are
     by (inr (f, at, first)) = absurd (no_both tokens (record { fault = f; at = at }) (sym read ∙ read_first text f at first))
 
 first_read : (text : List ℕ) (f : ScanFault) (at : Spot) → tokens_of text ≡ Err (record { fault = f; at = at }) → IsFirstScanFault text f at

@@ -32,4 +32,5 @@ TokensAreRead = (text : List ℕ) (tokens : List Token) → AreTokens text token
 
 -- The fault that is told of a text is its first one, with its place.
 abbrev pub FirstScanFaultsAreTold : Type 0
-FirstScanFaultsAreTold = (text : List ℕ) (fault : ScanFault) (at : Spot) → IsFirstScanFault text fault at ↔ (tokens_of text ≡ Err (record { fault = fault; at = at }))
+FirstScanFaultsAreTold = (text : List ℕ) (fault : ScanFault) (at : Spot)
+    → IsFirstScanFault text fault at ↔ (tokens_of text ≡ Err (record { fault = fault; at = at }))

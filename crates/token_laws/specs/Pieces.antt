@@ -69,7 +69,8 @@ is_piece other = true
 -- in front of the rest the piece is the longest that begins at its place
 pub record IsLongest (piece : Piece) (rest : List ℕ) : Type 0 where
   pub is : IsTrue (is_piece piece)
-  pub longest : (other : Piece) (more : List ℕ) → IsTrue (is_piece other) → piece_text other ++ more ≡ piece_text piece ++ rest → length (piece_text other) ≤ length (piece_text piece)
+  pub longest : (other : Piece) (more : List ℕ) → IsTrue (is_piece other) → piece_text other ++ more ≡ piece_text piece ++ rest
+      → length (piece_text other) ≤ length (piece_text piece)
 
 -- no piece begins with the first of these characters
 abbrev pub BeginsNone : List ℕ → Type 0

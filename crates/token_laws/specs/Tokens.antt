@@ -4,7 +4,8 @@ use Rattle.std.specs.Str.{encode_utf8_all}
 use Rattle.statement_tokens.specs.Limits.{name_limit}
 use Rattle.statement_tokens.specs.Language.{language_of}
 use Rattle.statement_tokens.specs.Token.{right_of, below, end_of, value_from}
-use Rattle.token_laws.specs.Pieces.{Piece, line_feed, return_and_line_feed, blank, tab, comment, name, literal, sign, piece_text, pieces_text, IsLongest, BeginsNone}
+use Rattle.token_laws.specs.Pieces.{Piece, line_feed, return_and_line_feed, blank, tab, comment, name}
+use Rattle.token_laws.specs.Pieces.{literal, sign, piece_text, pieces_text, IsLongest, BeginsNone}
 use Rattle.statement_tokens.specs.declared.place.Spot.{Spot}
 use Rattle.statement_tokens.specs.declared.token.Token.{Token}
 use Rattle.statement_tokens.specs.declared.token.TokenKind.{TokenKind}

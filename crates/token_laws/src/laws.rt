@@ -1,6 +1,7 @@
 //! What holds of the tokens of all texts. The functions do nothing when they run.
 
-ghost use Rattle.token_laws.specs.Laws.{EachTextHasTokensOrFault, TokensAreUnique, FirstScanFaultsAreUnique, TokensHaveNoFault, TokensAreRead, FirstScanFaultsAreTold};
+ghost use Rattle.token_laws.specs.Laws.{EachTextHasTokensOrFault, TokensAreUnique, FirstScanFaultsAreUnique};
+ghost use Rattle.token_laws.specs.Laws.{TokensHaveNoFault, TokensAreRead, FirstScanFaultsAreTold};
 
 /// Each text has tokens or a first fault.
 pub fn each_text_has_tokens_or_a_fault()
