@@ -1,8 +1,8 @@
 -- The scanner reads a text piece by piece.
-use Rattle.std.proofs.Common.{◌≡◌, ℕ, ◌+◌, ◌≤◌, ◌<◌, ◌==◌, ◌&&◌, Bool, true, false, cond, zero, suc, List, [], ◌∷◌, ◌++◌}
-use Rattle.std.proofs.Common.{length, Option, Some, None, Result, Ok, Err, refl, sym, ap, ap₂, subst, ◌∙◌, append_assoc, append-nil, length-append, arith}
+use Rattle.std.proofs.Common.{◌≡◌, ℕ, ◌+◌, ◌==◌, Bool, true, false, List, [], ◌∷◌, ◌++◌}
+use Rattle.std.proofs.Common.{length, Option, Some, None, Result, Ok, Err, refl, sym, ap, ◌∙◌, append_assoc, append-nil, length-append, arith}
 use Rattle.std.specs.Prelude.{if◌then◌else◌, pos, nat_le, nat_lt, ◌^◌}
-use Rattle.std.specs.List.{prefix_len, take_while, list_all}
+use Rattle.std.specs.List.{list_all}
 use Rattle.std.specs.Str.{encode_utf8_all}
 use Rattle.std.proofs.lemmas.List.{drop_at, take_at}
 use Rattle.std.proofs.lemmas.Bool.{eqb-true}
@@ -24,8 +24,8 @@ use Rattle.statement_tokens.specs.Language.{language_of}
 use Rattle.token_laws.specs.Pieces.{Piece, line_feed, return_and_line_feed, blank, tab, comment, name}
 use Rattle.token_laws.specs.Pieces.{literal, sign, piece_text, is_piece, IsLongest, BeginsNone}
 use Rattle.token_laws.specs.Tokens.{behind, tokens_with, past_behind, sign_fault, fault_of}
-use Rattle.statement_tokens.specs.Token.{starts_name, is_digit, is_inside_line, value_from, right_of, below, end_of, ◌>>=◌}
-use Rattle.statement_tokens.specs.Token.{item_at, tokens_from, placed, begins_with, name_of, literal_of, with_front}
+use Rattle.statement_tokens.specs.Token.{starts_name, is_digit, is_inside_line, value_from, right_of}
+use Rattle.statement_tokens.specs.Token.{item_at, tokens_from, placed, begins_with, literal_of, with_front}
 use Rattle.statement_tokens.proofs.Scanning.{skipped}
 use Rattle.statement_syntax.proofs.Spelled.{EachIs}
 use Rattle.statement_syntax.proofs.Rescan.{StopsAt, prefix_is, name_back, colon_back, equals_back, plus_back, open_back}

@@ -1,15 +1,14 @@
 -- Each text has one list of tokens or one first fault, and the scanner reads them.
-use Rattle.std.proofs.Common.{◌≡◌, ℕ, ◌+◌, ◌≤◌, ◌<◌, ◌&&◌, Bool, true, false, zero, suc, List, [], ◌∷◌, ◌++◌, length, Option}
-use Rattle.std.proofs.Common.{Some, None, Result, Ok, Err, refl, sym, ap, subst, ◌∙◌, append_assoc, append-nil, length-append, arith, ◌⊎◌, inl, inr}
+use Rattle.std.proofs.Common.{◌≡◌, ℕ, ◌≤◌, ◌&&◌, Bool, true, false, zero, suc, List, [], ◌∷◌, ◌++◌, length, Option}
+use Rattle.std.proofs.Common.{Some, None, Ok, Err, refl, sym, ap, subst, ◌∙◌, append_assoc, append-nil, length-append, arith, ◌⊎◌, inl, inr}
 use Rattle.std.specs.Prelude.{if◌then◌else◌}
 use Rattle.statement_tokens.specs.declared.place.Spot.{Spot}
 use Rattle.statement_tokens.specs.declared.token.Token.{Token}
-use Rattle.statement_tokens.specs.declared.token.TokenKind.{TokenKind}
 use Rattle.statement_tokens.specs.declared.token.TokenKind.TheVariants as kind
 use Rattle.statement_tokens.specs.declared.language.Language.{Language}
 use Rattle.statement_tokens.specs.declared.language.Language.TheVariants.{First, Second}
 use Rattle.statement_tokens.specs.declared.scan.ScanFault.{ScanFault}
-use Rattle.statement_tokens.specs.declared.scan.ScanFault.TheVariants.{BadToken, LiteralTooLarge}
+use Rattle.statement_tokens.specs.declared.scan.ScanFault.TheVariants.{BadToken}
 use Rattle.statement_tokens.specs.declared.scan.Placed.{Placed}
 use Rattle.statement_tokens.specs.Language.{is_language_word, is_two, is_end, language_of}
 use Rattle.token_laws.specs.Pieces.{Piece, line_feed, return_and_line_feed, blank, tab, comment, name, literal}
@@ -18,7 +17,7 @@ use Rattle.token_laws.specs.Tokens.{behind, place_behind, tokens_with, past_behi
 use Rattle.token_laws.specs.Tokens.{sign_fault, fault_of, AreGood, AreTokens, Begins, IsFirstScanFault}
 use Rattle.token_laws.specs.Laws.{HasTokensOrFault, EachTextHasTokensOrFault, TokensAreUnique, FirstScanFaultsAreUnique}
 use Rattle.token_laws.specs.Laws.{TokensHaveNoFault, TokensAreRead, FirstScanFaultsAreTold}
-use Rattle.statement_tokens.specs.Token.{end_of, ◌>>=◌, tokens_from, tokens_of, with_front}
+use Rattle.statement_tokens.specs.Token.{end_of, tokens_from, tokens_of, with_front}
 use Rattle.token_laws.proofs.Longest.{Longest, begins_with_longest}
 use Rattle.token_laws.proofs.Pieces.{Read, front_none, reads_piece, stops_piece, stops_none}
 

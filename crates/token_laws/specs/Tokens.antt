@@ -11,7 +11,7 @@ use Rattle.statement_tokens.specs.declared.token.Token.{Token}
 use Rattle.statement_tokens.specs.declared.token.TokenKind.{TokenKind}
 use Rattle.statement_tokens.specs.declared.token.TokenKind.TheVariants as kind
 use Rattle.statement_tokens.specs.declared.language.Language.{Language}
-use Rattle.statement_tokens.specs.declared.language.Language.TheVariants.{First, Second}
+use Rattle.statement_tokens.specs.declared.language.Language.TheVariants.{First}
 use Rattle.statement_tokens.specs.declared.scan.ScanFault.{ScanFault}
 use Rattle.statement_tokens.specs.declared.scan.ScanFault.TheVariants.{BadToken, LiteralTooLarge}
 
