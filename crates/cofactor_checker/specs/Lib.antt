@@ -7,5 +7,6 @@ pub mod Difference
 pub mod PlainRows
 pub mod Lemmas
 pub mod LemmaAcceptance
+pub mod Goals
 pub mod Evidence
 pub mod Laws

@@ -17,7 +17,7 @@ use std::collections::BTreeMap;
 use word_core::Word;
 
 /// The first product of the denominator with a coefficient that leaves the range.
-pub(crate) fn overflow_of_multiple(denominator: i128, claim: &[(i128, Word)]) -> Option<Overflow>
+pub fn overflow_of_multiple(denominator: i128, claim: &[(i128, Word)]) -> Option<Overflow>
     requires denominator { IsCoefficient denominator }
     requires coefficients { All (λ t. IsCoefficient t.0) claim.now }
     ensures { result ≡ first_overflow (products denominator claim.now) }

@@ -4,8 +4,8 @@ ghost use Rattle.adjoint_rules.specs.Problem.{polynomials};
 ghost use Rattle.cofactor_checker.specs.LemmaAcceptance.{IsPositive, HasTightScales, IsFirstLoose, HasLooseGoal};
 ghost use Rattle.cofactor_checker.specs.LemmaAcceptance.{AcceptsLemmas, RefusesLemmaCertificate, IsReadable};
 
-use crate::compare::{least_difference, overflow_of_multiple};
-use crate::lemma_rows::add_lemma_rows;
+use crate::compare::overflow_of_multiple;
+use crate::goal::check_goal;
 use crate::lemmas::make_lemmas;
 use crate::rows::numbered;
 use crate::scales::{divides, first_loose, have_scales};
@@ -69,17 +69,16 @@ pub(crate) fn check_lemmas(
     }
     let made = make_lemmas(alloc, generators, certificate.lemmas.as_slice())?;
     let lemmas = made.polynomials.as_slice();
-    let rows = certificate.goal.rows.as_slice();
-    let sum = add_lemma_rows(alloc, generators, lemmas, rows, made.rows)?;
-    match least_difference(&sum, scale, claim.terms.as_slice())? {
-        None => Ok(Accepted {
-            claim: certificate.claim,
-            denominator: certificate.denominator,
-        }),
-        Some(difference) => Err(Refusal::Differs {
-            word: difference.word,
-            want: difference.want,
-            got: difference.got,
-        }),
-    }
+    check_goal(
+        alloc,
+        claim,
+        generators,
+        lemmas,
+        &certificate.goal,
+        made.rows,
+    )?;
+    Ok(Accepted {
+        claim: certificate.claim,
+        denominator: certificate.denominator,
+    })
 }

@@ -6,6 +6,7 @@ mod accepted;
 mod certificate;
 mod compare;
 mod evidence;
+mod goal;
 mod laws;
 mod lemma_certificate;
 mod lemma_rows;
@@ -18,11 +19,15 @@ mod sum;
 
 pub use accepted::Accepted;
 pub use certificate::{check, check_over};
+pub use compare::overflow_of_multiple;
 pub use evidence::check_evidence;
+pub use goal::check_goal;
 pub use laws::{
     accepted_evidence_adds_up, accepted_evidence_is_not_refused, each_certificate_is_judged,
     evidence_is_judged, evidence_refusal_is_unique, refusal_is_unique,
 };
 pub use lemmas::KEPT_LIMIT;
+pub use polynomial::make_polynomial;
 pub use refusal::Refusal;
-pub use rows::SUM_LIMIT;
+pub use rows::{SUM_LIMIT, numbered};
+pub use scales::divides;

@@ -30,7 +30,7 @@ fn indivisible<'a>(terms: &'a [(i128, Word)], scale: i128) -> Option<&'a (i128, 
 }
 
 /// The polynomial of the lemma with this number, before which so many rows stand, or what is told of the lemma.
-pub(crate) fn make_polynomial(
+pub fn make_polynomial(
     alloc: Global,
     generators: &[Poly],
     lemmas: &[Poly],

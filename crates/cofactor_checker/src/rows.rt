@@ -20,7 +20,7 @@ use word_core::Word;
 pub const SUM_LIMIT: usize = 200_000;
 
 /// The item with this number, counted from 1.
-pub(crate) fn numbered<T>(items: &[T], number: u32) -> Option<&T>
+pub fn numbered<T>(items: &[T], number: u32) -> Option<&T>
     ensures found { IfSome result (λ item. slice_get items.now (number - 1) ≡ Some item.now) }
     ensures in_range { IfSome result (λ _. IsNumberUpTo (length items.now) number) }
     ensures absent { IfNone result (IsNumberUpTo (length items.now) number → ⊥) }

@@ -6,7 +6,7 @@ ghost use Rattle.cofactor_checker.specs.LemmaAcceptance.{HasScale, AreTight, IsF
 use cofactor_trace::Lemma;
 
 /// Whether a number divides another.
-pub(crate) fn divides(by: i128, value: i128) -> bool
+pub fn divides(by: i128, value: i128) -> bool
     requires { pos 1 ≤ℤ by }
     ensures { result ≡ nat_eq (unsigned_abs value % unsigned_abs by) 0 }
 {

@@ -1,0 +1,6 @@
+pub mod Cancellations
+pub mod Meaning
+pub mod Items
+pub mod Acceptance
+pub mod Laws
+pub mod Inner
