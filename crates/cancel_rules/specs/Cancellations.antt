@@ -48,7 +48,7 @@ AreOfItems q proof generators before (i ∷ items) (p ∷ ps) = IsOfItem q proof
 
 -- The proof leads to the claim, with these polynomials of its items. The goal is one more lemma, and the declared letters are letters of the quiver.
 pub record IsCancellationOf (q : Quiver) (generators polynomials : List Poly) (proof : Cancellation) (claim : Poly) : Type 0 where
-  pub in_quiver : All (λ a. a.0 < letters q) (proof.monic ++ proof.epic)
+  pub in_quiver : (end : Side) → All (λ a. a.0 < letters q) (declared_for proof end)
   pub positive : pos 0 <ℤ proof.denominator
   pub items : AreOfItems q proof generators [] proof.items polynomials
   pub share : IsShareOf proof.denominator proof.goal

@@ -31,44 +31,45 @@ use Rattle.cofactor_checker.specs.PlainRows.{plain_row, plain_rows, plain_sum, I
 use Rattle.cofactor_checker.specs.Lemmas.{LemmaRowsPass, lemma_polynomial, term_total, IsDivisible, IsMade, LemmaPasses, LemmasPass, RefusesLemmaRows, IsLeastIndivisible, RefusesLemma, RefusesLemmas, row_count}
 use Rattle.cofactor_checker.specs.Acceptance.{IsMemory}
 use Rattle.cofactor_checker.specs.LemmaAcceptance.{goal_claim, all_polynomials, HasScale, IsTight, IsPositive, GoalIsPosed, HasShares, GoalBegins, HasLemmas, AcceptsLemmas, RefusesLemmaCertificate}
+use Rattle.cofactor_checker.specs.Goals.{ReachesClaim, RefusesGoal}
 use Rattle.cofactor_checker.specs.Laws.{EvidenceIsJudged}
 use Rattle.cofactor_checker.specs.declared.refusal.Refusal.TheVariants as refusal
 use Rattle.cofactor_checker.proofs.Each.{divides_from, not_divides_from}
-use Rattle.cofactor_checker.proofs.LemmaOutcomes.{refuses_from_lemmas, refuses_from_goal}
+use Rattle.cofactor_checker.proofs.LemmaOutcomes.{goal_from_rows, refuses_from_lemmas, refuses_from_goal}
 use Rattle.cofactor_checker.proofs.Blocks.{Stops, BlockJudged, adds_up, stops_at, block_judged}
 
 -- ---- tests with two answers
 
--- the first lemma of which something doesn't hold
-record FirstNot (P : Lemma → Type 0) (lemmas : List Lemma) : Type 0 where
-  before : ℕ
-  lemma : Lemma
-  there : slice_get lemmas before ≡ Some lemma
-  earlier : All P (take before lemmas)
-  fails : P lemma → ⊥
+-- the first item of which something doesn't hold
+pub record FirstNot {X : Type 0} (P : X → Type 0) (items : List X) : Type 0 where
+  pub before : ℕ
+  pub item : X
+  pub there : slice_get items before ≡ Some item
+  pub earlier : All P (take before items)
+  pub fails : P item → ⊥
 
-first_not : (P : Lemma → Type 0) → ((l : Lemma) → P l ⊎ (P l → ⊥)) → (lemmas : List Lemma) → All P lemmas ⊎ FirstNot P lemmas
+pub first_not : {X : Type 0} (P : X → Type 0) → ((x : X) → P x ⊎ (P x → ⊥)) → (items : List X) → All P items ⊎ FirstNot P items
 first_not P test [] = inl (All-nil P)
-first_not P test (l ∷ lemmas) = by (test l) (first_not P test lemmas)
+first_not {X = X} P test (x ∷ items) = by (test x) (first_not P test items)
   where
-    by : P l ⊎ (P l → ⊥) → All P lemmas ⊎ FirstNot P lemmas → All P (l ∷ lemmas) ⊎ FirstNot P (l ∷ lemmas)
-    by (inr lacks) rest = inr (record { before = 0; lemma = l; there = refl; earlier = All-nil P; fails = lacks })
-    by (inl holds) (inl each) = inl (All-cons P l lemmas holds each)
-    by (inl holds) (inr first) = inr (record { before = suc first.before; lemma = first.lemma; there = first.there; earlier = All-cons P l (take first.before lemmas) holds first.earlier; fails = first.fails })
+    by : P x ⊎ (P x → ⊥) → All P items ⊎ FirstNot P items → All P (x ∷ items) ⊎ FirstNot P (x ∷ items)
+    by (inr lacks) rest = inr (record { before = 0; item = x; there = refl; earlier = All-nil P; fails = lacks })
+    by (inl holds) (inl each) = inl (All-cons P x items holds each)
+    by (inl holds) (inr first) = inr (record { before = suc first.before; item = first.item; there = first.there; earlier = All-cons P x (take first.before items) holds first.earlier; fails = first.fails })
 
 -- one of which it doesn't hold is one of all
-not_each : (P : Lemma → Type 0) (lemmas : List Lemma) → FirstNot P lemmas → All P lemmas → ⊥
-not_each P lemmas first each =
-    first.fails (subst P (get_or_from_slice_get lemmas first.before first.lemma first.lemma first.there) (each first.before first.lemma (slice_get_within lemmas first.before first.lemma first.there)))
+pub not_each : {X : Type 0} (P : X → Type 0) (items : List X) → FirstNot P items → All P items → ⊥
+not_each P items first each =
+    first.fails (subst P (get_or_from_slice_get items first.before first.item first.item first.there) (each first.before first.item (slice_get_within items first.before first.item first.there)))
 
-divides_or : (s z : ℤ) → (unsigned_abs s ∣ unsigned_abs z) ⊎ (unsigned_abs s ∣ unsigned_abs z → ⊥)
+pub divides_or : (s z : ℤ) → (unsigned_abs s ∣ unsigned_abs z) ⊎ (unsigned_abs s ∣ unsigned_abs z → ⊥)
 divides_or s z = by (nat_eq (unsigned_abs z % unsigned_abs s) 0) refl
   where
     by : (b : Bool) → nat_eq (unsigned_abs z % unsigned_abs s) 0 ≡ b → (unsigned_abs s ∣ unsigned_abs z) ⊎ (unsigned_abs s ∣ unsigned_abs z → ⊥)
     by true is = inl (divides_from (unsigned_abs s) (unsigned_abs z) is)
     by false is = inr (not_divides_from (unsigned_abs s) (unsigned_abs z) is)
 
-positive_or : (z : ℤ) → (pos 1 ≤ℤ z) ⊎ (pos 1 ≤ℤ z → ⊥)
+pub positive_or : (z : ℤ) → (pos 1 ≤ℤ z) ⊎ (pos 1 ≤ℤ z → ⊥)
 positive_or (pos zero) = inr (λ least. omega (arith, ints, least))
 positive_or (pos (suc n)) = inl (omega (arith, ints))
 positive_or (negsuc n) = inr (λ least. omega (arith, ints, least))
@@ -152,6 +153,19 @@ module _ (gs ls : List (List (ℤ × List ℕ))) (before : ℕ) (rows : List Lem
         by (adds_up passed same) = sum_is passed same
         by (stops_at r h) = by_stop r h
 
+-- ---- the goal
+module _ (gs ls : List (List (ℤ × List ℕ))) (before : ℕ) (goal : Lemma) (claim : List (ℤ × List ℕ)) where
+  abbrev pub GoalOutcome : Type 0
+  GoalOutcome = ReachesClaim gs ls goal claim ⊎ ((e : Refusal) × RefusesGoal gs ls before goal claim e × (IsMemory e → ⊥))
+
+  by_goal_rows : RowsOutcome gs ls before goal.rows claim goal.scale → GoalOutcome
+  by_goal_rows (sum_is passed same) = inl (record { rows = passed; sum = same })
+  by_goal_rows (sum_differs passed word want got differs) = inr (refusal.Differs word want got, record { rows = passed; difference = differs }, λ none. none)
+  by_goal_rows (row_fails failed) = inr (failed.told, goal_from_rows gs ls before goal claim failed.told failed.refuses, failed.apart)
+
+  pub goal_outcome : HasScale goal → first_overflow (products goal.scale claim) ≡ None → GoalOutcome
+  goal_outcome least fits = by_goal_rows (rows_outcome gs ls before goal.rows claim goal.scale least fits)
+
 -- ---- one lemma after another
 module _ (gs : List (List (ℤ × List ℕ))) where
   lemma_of_rows : (ps : List (List (ℤ × List ℕ))) (before : ℕ) (l : Lemma) (e : Refusal) → RefusesLemmaRows gs ps before l.rows e → RefusesLemma gs ps before l e
@@ -163,7 +177,7 @@ module _ (gs : List (List (ℤ × List ℕ))) where
   lemma_of_rows ps before l other h = absurd h
 
   module _ (ps : List (List (ℤ × List ℕ))) (before : ℕ) (l : Lemma) where
-    abbrev LemmaOutcome : Type 0
+    abbrev pub LemmaOutcome : Type 0
     LemmaOutcome = LemmaPasses gs ps l ⊎ ((e : Refusal) × RefusesLemma gs ps before l e × (IsMemory e → ⊥))
 
     abbrev sum : List (ℤ × List ℕ)
@@ -186,7 +200,7 @@ module _ (gs : List (List (ℤ × List ℕ))) where
     by_lemma_rows (sum_differs passed word want got differs) = by_rest passed (divisible_or l.scale sum)
     by_lemma_rows (row_fails failed) = inr (failed.told, lemma_of_rows ps before l failed.told failed.refuses, failed.apart)
 
-    lemma_outcome : LemmaOutcome
+    pub lemma_outcome : LemmaOutcome
     lemma_outcome = by_lemma_rows (rows_outcome gs ps before l.rows [] (pos 1) (omega (arith, ints)) refl)
 
   abbrev LemmasOutcome : List (List (ℤ × List ℕ)) → ℕ → List Lemma → Type 0
@@ -206,13 +220,12 @@ module _ (claims gs : List (List (ℤ × List ℕ))) (c : LemmaCertificate) wher
   abbrev IsJudged : Type 0
   IsJudged = AcceptsLemmas claims gs c ⊎ ((e : Refusal) × RefusesLemmaCertificate claims gs c e × (IsMemory e → ⊥))
 
-  by_goal : HasLemmas claims gs c → RowsOutcome gs (all_polynomials gs c) (row_count c.lemmas) c.goal.rows (goal_claim claims c) c.goal.scale → IsJudged
-  by_goal has (sum_is passed same) = inl (record { adds_up = record { lemmas = has; rows = passed }; sum = same })
-  by_goal has (sum_differs passed word want got differs) = inr (refusal.Differs word want got, record { adds_up = record { lemmas = has; rows = passed }; difference = differs }, λ none. none)
-  by_goal has (row_fails failed) = inr (failed.told, refuses_from_goal claims gs c has failed.told failed.refuses, failed.apart)
+  by_goal : HasLemmas claims gs c → GoalOutcome gs (all_polynomials gs c) (row_count c.lemmas) c.goal (goal_claim claims c) → IsJudged
+  by_goal has (inl reached) = inl (record { adds_up = record { lemmas = has; rows = reached.rows }; sum = reached.sum })
+  by_goal has (inr failed) = inr (failed.0, refuses_from_goal claims gs c has failed.0 failed.1, failed.2)
 
   by_lemmas : GoalBegins claims c → LemmasOutcome gs [] 0 c.lemmas → IsJudged
-  by_lemmas begins (inl passed) = by_goal (record { begins = begins; lemmas = passed }) (rows_outcome gs (all_polynomials gs c) (row_count c.lemmas) c.goal.rows (goal_claim claims c) c.goal.scale begins.shares.posed.positive.goal begins.products)
+  by_lemmas begins (inl passed) = by_goal (record { begins = begins; lemmas = passed }) (goal_outcome gs (all_polynomials gs c) (row_count c.lemmas) c.goal (goal_claim claims c) begins.shares.posed.positive.goal begins.products)
   by_lemmas begins (inr failed) = inr (failed.0, refuses_from_lemmas claims gs c begins failed.0 failed.1, failed.2)
 
   by_multiple : HasShares claims c → (first : Option Overflow) → first_overflow (products c.goal.scale (goal_claim claims c)) ≡ first → IsJudged
@@ -223,7 +236,7 @@ module _ (claims gs : List (List (ℤ × List ℕ))) (c : LemmaCertificate) wher
   by_scales posed (inl tight) (inl goal_tight) = by_multiple (record { posed = posed; tight = record { lemmas = record { each = tight }; goal = goal_tight } }) (first_overflow (products c.goal.scale (goal_claim claims c))) refl
   by_scales posed (inl tight) (inr loose) = inr (refusal.LooseScale 0, (posed, inr (record { numbered = refl; lemmas = record { each = tight }; loose = loose })), λ none. none)
   by_scales posed (inr first) other =
-      inr (refusal.LooseScale (first.before + 1), (posed, inl (record { before = first.before; lemma = first.lemma; numbered = refl; there = first.there; earlier = record { each = first.earlier }; loose = first.fails })), λ none. none)
+      inr (refusal.LooseScale (first.before + 1), (posed, inl (record { before = first.before; lemma = first.item; numbered = refl; there = first.there; earlier = record { each = first.earlier }; loose = first.fails })), λ none. none)
 
   by_positive : IsNumberUpTo (length claims) c.claim → IsPositive c ⊎ (IsPositive c → ⊥) → IsJudged
   by_positive claim (inl positive) = by_scales (record { claim = claim; positive = positive }) (first_not (IsTight c.denominator) (λ l. divides_or l.scale c.denominator) c.lemmas) (divides_or c.goal.scale c.denominator)

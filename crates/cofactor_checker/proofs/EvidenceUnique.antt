@@ -24,7 +24,8 @@ use Rattle.cofactor_checker.proofs.Unique.{refusal_is_unique}
 use Rattle.cofactor_checker.specs.PlainRows.{plain_rows, plain_sum, IsGenerator, IsLemma}
 use Rattle.cofactor_checker.specs.Lemmas.{LemmaRowsPass, lemma_polynomial, term_total, IsDivisible, LemmasPass, RefusesLemmaRows, IsLeastIndivisible, RefusesLemma, RefusesLemmas, row_count}
 use Rattle.cofactor_checker.specs.Acceptance.{IsMemory}
-use Rattle.cofactor_checker.specs.LemmaAcceptance.{goal_claim, all_polynomials, IsTight, IsPositive, GoalIsPosed, HasTightScales, HasShares, GoalBegins, HasLemmas, IsFirstLoose, HasLooseGoal, RefusesBlock, RefusesLemmaCertificate}
+use Rattle.cofactor_checker.specs.LemmaAcceptance.{goal_claim, all_polynomials, HasScale, IsTight, IsPositive, GoalIsPosed, HasTightScales, HasShares, GoalBegins, HasLemmas, IsFirstLoose, HasLooseGoal, RefusesBlock, RefusesLemmaCertificate}
+use Rattle.cofactor_checker.specs.Goals.{RefusesGoal}
 use Rattle.cofactor_checker.specs.Laws.{EvidenceRefusalIsUnique, AcceptedEvidenceIsNotRefused}
 use Rattle.cofactor_checker.specs.declared.refusal.Refusal.TheVariants as refusal
 use Rattle.cofactor_checker.proofs.Blocks.{Stops, none_some, stops_once, stops_never}
@@ -102,6 +103,16 @@ module _ (gs ls : List (List (ℤ × List ℕ))) (before : ℕ) (rows : List Lem
         let same : h.stop_at ≡ k.stop_at = stops_once (gs ++ ls) claim scale (plain_rows gs ls rows) least fits h.stop_at k.stop_at h.stops k.stops in
         told_once h.stop_at e f h.told (subst (λ r. Told r f) (sym same) k.told)
 
+-- ---- the goal
+module _ (gs ls : List (List (ℤ × List ℕ))) (before : ℕ) (goal : Lemma) (claim : List (ℤ × List ℕ)) where
+  goal_stopped : (e : Refusal) → RefusesGoal gs ls before goal claim e → (IsMemory e → ⊥) → Stopped gs ls before goal.rows claim goal.scale e
+  goal_stopped (refusal.Differs word want got) h not = record { stop_at = refusal.Differs word want got; stops = (h.rows, h.difference); told = refl }
+  goal_stopped other h not = stopped gs ls before goal.rows claim goal.scale other h not
+
+  pub goal_once : HasScale goal → first_overflow (products goal.scale claim) ≡ None
+      → (e f : Refusal) → RefusesGoal gs ls before goal claim e → RefusesGoal gs ls before goal claim f → (IsMemory e → ⊥) → (IsMemory f → ⊥) → e ≡ f
+  goal_once least fits e f h k not not' = stopped_once gs ls before goal.rows claim goal.scale least fits e f (goal_stopped e h not) (goal_stopped f k not')
+
 -- ---- one lemma
 least_once : (s : ℤ) (p : List (ℤ × List ℕ)) (word word' : List ℕ) (got got' : ℤ) → IsLeastIndivisible s p word got → IsLeastIndivisible s p word' got' → ◌≡◌ {A = ℤ × List ℕ} (got, word) (got', word')
 least_once s [] word word' got got' h k = absurd h
@@ -169,7 +180,7 @@ module _ (gs : List (List (ℤ × List ℕ))) where
     lemma_told e f (suc (suc zero)) h k = h ∙ sym k
     lemma_told e f (suc (suc (suc n))) h k = h ∙ sym k
 
-    lemma_once : (e f : Refusal) → RefusesLemma gs ps before l e → RefusesLemma gs ps before l f → (IsMemory e → ⊥) → (IsMemory f → ⊥) → e ≡ f
+    pub lemma_once : (e f : Refusal) → RefusesLemma gs ps before l e → RefusesLemma gs ps before l f → (IsMemory e → ⊥) → (IsMemory f → ⊥) → e ≡ f
     lemma_once e f h k not not' = told_is_one (lemma_fails e h not) (lemma_fails f k not') (lemma_told e f)
 
   -- ---- one lemma after another
@@ -181,11 +192,11 @@ module _ (gs : List (List (ℤ × List ℕ))) where
   lemmas_once ps before (l ∷ lemmas) e f (inr h) (inr k) not not' = lemmas_once (ps ++ lemma_polynomial gs ps l ∷ []) (before + length l.rows) lemmas e f h.1 k.1 not not'
 
 -- ---- the first scale that doesn't divide
-among_first : (P : Lemma → Type 0) (lemmas : List Lemma) (n i : ℕ) (l : Lemma) → AllByRecursion P (take n lemmas) → i < n → slice_get lemmas i ≡ Some l → P l
-among_first P [] n i l each below there = let within = slice_get_within [] i l there in absurd (omega arith)
-among_first P (x ∷ lemmas) zero i l each below there = absurd (omega arith)
-among_first P (x ∷ lemmas) (suc n) zero l each below there = let both : Some x ≡ Some l = there in let one : x ≡ l = cc in subst P one each.0
-among_first P (x ∷ lemmas) (suc n) (suc i) l each below there = among_first P lemmas n i l each.1 (omega arith) there
+pub among_first : {X : Type 0} (P : X → Type 0) (items : List X) (n i : ℕ) (x : X) → AllByRecursion P (take n items) → i < n → slice_get items i ≡ Some x → P x
+among_first P [] n i x each below there = let within = slice_get_within [] i x there in absurd (omega arith)
+among_first P (y ∷ items) zero i x each below there = absurd (omega arith)
+among_first P (y ∷ items) (suc n) zero x each below there = let both : Some y ≡ Some x = there in let one : y ≡ x = cc in subst P one each.0
+among_first P (y ∷ items) (suc n) (suc i) x each below there = among_first P items n i x each.1 (omega arith) there
 
 module _ (c : LemmaCertificate) where
   abbrev IsLoose : ℕ → Type 0

@@ -11,6 +11,7 @@ use Rattle.cofactor_checker.proofs.RowSums.{Names}
 use Rattle.cofactor_trace.specs.LemmaRows.{IsEvidenceOf}
 use Rattle.cofactor_checker.specs.Lemmas.{lemma_polynomial, RefusesLemma, RefusesLemmaRows, RefusesLemmas, row_count}
 use Rattle.cofactor_checker.specs.LemmaAcceptance.{goal_claim, all_polynomials, HasShares, GoalBegins, HasLemmas, AcceptsLemmas, RefusesLemmaCertificate}
+use Rattle.cofactor_checker.specs.Goals.{RefusesGoal}
 use Rattle.cofactor_checker.specs.declared.refusal.Refusal.{Refusal}
 use Rattle.cofactor_checker.specs.declared.refusal.Refusal.TheVariants as refusal
 use Rattle.cofactor_checker.proofs.LemmaSums.{shows}
@@ -26,6 +27,11 @@ never gs e none ps rows (l ∷ lemmas) (inr later) = never gs e none (ps ++ lemm
 pub begins : {claims : List Poly} {c : LemmaCertificate} {p : Poly} → HasShares (polynomials claims) c → Names claims c.claim p → first_overflow (products c.goal.scale p.terms) ≡ None → GoalBegins (polynomials claims) c
 begins shares names none = record { shares = shares; products = rw names.terms at none }
 
+-- a refusal of a row of the goal is one of the goal
+pub goal_from_rows : (gs ls : List (List (ℤ × List ℕ))) (before : ℕ) (goal : Lemma) (claim : List (ℤ × List ℕ)) (e : Refusal) → RefusesLemmaRows gs ls before goal.rows e → RefusesGoal gs ls before goal claim e
+goal_from_rows gs ls before goal claim (refusal.Differs word want got) refused = absurd refused
+goal_from_rows gs ls before goal claim other refused = refused
+
 module _ (claims gs : List (List (ℤ × List ℕ))) (c : LemmaCertificate) where
   -- a refusal of a lemma, where the lemmas are reached
   pub refuses_from_lemmas : GoalBegins claims c → (e : Refusal) → RefusesLemmas gs [] 0 c.lemmas e → RefusesLemmaCertificate claims gs c e
@@ -37,12 +43,13 @@ module _ (claims gs : List (List (ℤ × List ℕ))) (c : LemmaCertificate) wher
   refuses_from_lemmas begins (refusal.Differs word want got) refused = absurd (never gs (refusal.Differs word want got) (λ ps rows l none. none) [] 0 c.lemmas refused)
   refuses_from_lemmas begins other refused = inl (begins, refused)
 
-  -- a refusal of a row of the goal, where these are reached
-  pub refuses_from_goal : HasLemmas claims gs c → (e : Refusal) → RefusesLemmaRows gs (all_polynomials gs c) (row_count c.lemmas) c.goal.rows e → RefusesLemmaCertificate claims gs c e
+  -- a refusal of a row of the goal, where these are reached, or of their sum
+  pub refuses_from_goal : HasLemmas claims gs c → (e : Refusal) → RefusesGoal gs (all_polynomials gs c) (row_count c.lemmas) c.goal (goal_claim claims c) e → RefusesLemmaCertificate claims gs c e
   refuses_from_goal has (refusal.Overflow row o) refused = inr (inr (has, refused))
   refuses_from_goal has (refusal.NoSuchGenerator row) refused = inr (has, refused)
   refuses_from_goal has (refusal.NoSuchLemma row) refused = inr (has, refused)
   refuses_from_goal has (refusal.Size row) refused = inr (has, refused)
+  refuses_from_goal has (refusal.Differs word want got) refused = record { adds_up = record { lemmas = has; rows = refused.rows }; difference = refused.difference }
   refuses_from_goal has (refusal.Memory failed) refused = tt
   refuses_from_goal has other refused = absurd refused
 

@@ -27,7 +27,7 @@ times_back : (s : ℤ) (p : List (ℤ × List ℕ)) → AllByRecursion (λ t. un
 times_back s [] each = refl
 times_back s (t ∷ p) each = ap₂ (λ z q. (z, t.1) ∷ q) (quotient_times t.0 s each.0) (times_back s p each.1)
 
-lemma_adds_up : (gs ps : List (List (ℤ × List ℕ))) (l : Lemma) → LemmaPasses gs ps l → AddsUpTo gs ps l (lemma_polynomial gs ps l)
+pub lemma_adds_up : (gs ps : List (List (ℤ × List ℕ))) (l : Lemma) → LemmaPasses gs ps l → AddsUpTo gs ps l (lemma_polynomial gs ps l)
 lemma_adds_up gs ps l passes = record {
   at = λ w.
       ap (λ q. coefficient_of q w) (sums_agree gs ps l.rows) ∙ sym (coefficient_of-collected (plain_sum gs ps l.rows) w)

@@ -21,4 +21,5 @@ pub mod Shown
 pub mod Blocks
 pub mod EvidenceUnique
 pub mod EvidenceJudged
+pub mod LetterSums
 mod Examples

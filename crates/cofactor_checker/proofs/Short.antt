@@ -12,6 +12,7 @@ use Rattle.cofactor_checker.specs.PlainRows.{plain_rows}
 use Rattle.cofactor_checker.specs.Lemmas.{lemma_polynomial, LemmaRowsPass, LemmaPasses, LemmasPass, IsLeastIndivisible, RefusesLemma, RefusesLemmaRows, RefusesLemmas}
 use Rattle.cofactor_checker.specs.Acceptance.{IsMemory}
 use Rattle.cofactor_checker.specs.LemmaAcceptance.{IsTight, AcceptsLemmas, RefusesLemmaCertificate, RefusesBlock, all_polynomials}
+use Rattle.cofactor_checker.specs.Goals.{ReachesClaim, RefusesGoal}
 use Rattle.cofactor_checker.specs.declared.refusal.Refusal.{Refusal}
 use Rattle.cofactor_checker.specs.declared.refusal.Refusal.TheVariants as refusal
 
@@ -31,6 +32,10 @@ module _ (gs : List (List (ℤ × List ℕ))) where
       let small = (passes_there (plain_rows gs ps rows) pass h.outgrows.before h.outgrows.row h.outgrows.reached.row).size in let large = h.outgrows.size in absurd (omega arith)
   short_row ps before rows pass (refusal.Memory failed) h = tt
   short_row ps before rows pass other h = absurd h
+
+  pub short_goal : (ps : List (List (ℤ × List ℕ))) (before : ℕ) (goal : Lemma) (claim : List (ℤ × List ℕ)) → ReachesClaim gs ps goal claim → (e : Refusal) → RefusesGoal gs ps before goal claim e → IsMemory e
+  short_goal ps before goal claim reached (refusal.Differs word want got) h = h.difference.differ (sym h.difference.wanted_there ∙ sym (reached.sum.at word) ∙ h.difference.found_there)
+  short_goal ps before goal claim reached other h = short_row ps before goal.rows reached.rows other h
 
   pub short_lemma : (ps : List (List (ℤ × List ℕ))) (before : ℕ) (l : Lemma) → LemmaPasses gs ps l → (e : Refusal) → RefusesLemma gs ps before l e → IsMemory e
   short_lemma ps before l pass (refusal.NoSuchGenerator row) h = short_row ps before l.rows pass.made.rows (refusal.NoSuchGenerator row) h

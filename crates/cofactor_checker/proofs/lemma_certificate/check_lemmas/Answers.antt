@@ -5,16 +5,14 @@ use Rattle.std.specs.List.{All}
 use Rattle.coef_int.specs.Range.{IsCoefficient}
 use Rattle.nc_polynomial.specs.Terms.{products}
 use Rattle.adjoint_rules.specs.Problem.{polynomials}
-use Rattle.cofactor_checker.specs.Running.{IsSumOf}
-use Rattle.cofactor_checker.proofs.Outcomes.{sums_agree, sums_differ}
 use Rattle.cofactor_checker.proofs.RowSums.{Names, named, length-polynomials}
 use Rattle.cofactor_checker.specs.Rows.{IsNumberUpTo}
-use Rattle.cofactor_checker.specs.PlainRows.{plain_sum}
-use Rattle.cofactor_checker.specs.Lemmas.{LemmasPass, lemma_polynomials, RefusesLemmaRows, RefusesLemmas, row_count}
-use Rattle.cofactor_checker.specs.LemmaAcceptance.{all_polynomials, HasScale, IsRanged, HasShares, GoalBegins, HasLemmas, GoalAddsUp}
+use Rattle.cofactor_checker.specs.Goals.{ReachesClaim, RefusesGoal}
+use Rattle.cofactor_checker.specs.Lemmas.{LemmasPass, lemma_polynomials, RefusesLemmas, row_count}
+use Rattle.cofactor_checker.specs.LemmaAcceptance.{goal_claim, all_polynomials, HasScale, IsRanged, HasShares, GoalBegins, HasLemmas}
 use Rattle.cofactor_checker.proofs.LemmaOutcomes.{begins, refuses_from_lemmas, refuses_from_goal}
 use Rattle.cofactor_checker.proofs.lemma_certificate.check_lemmas.Goals as goal
-use Rattle.cofactor_checker.proofs.lemma_certificate.check_lemmas.Goals.{In-Some, After-overflow_of_multiple, After-make_lemmas, In_ok-made, In_ok-sum}
+use Rattle.cofactor_checker.proofs.lemma_certificate.check_lemmas.Goals.{In-Some, After-overflow_of_multiple, After-make_lemmas, In_ok-made}
 
 -- the certificate names the claim
 claim : (c : In-Some) → Names c.args.claims.now c.args.certificate.now.claim c.in-Some.claim.now
@@ -37,16 +35,6 @@ lemmas c begun = record { begins = begun; lemmas = subst (λ lemmas. LemmasPass 
 made : (c : In_ok-made) → polynomials c.in_ok-made.made.polynomials ≡ all_polynomials (polynomials c.args.generators.now) c.args.certificate.now
 made c = subst (λ lemmas. polynomials c.in_ok-made.made.polynomials ≡ lemma_polynomials (polynomials c.args.generators.now) [] lemmas) c.as_slice-2.ensures c.in_ok-made.ensures.polynomials
 
--- the rows of its goal pass, and the map is their sum
-adds_up : (c : In_ok-sum) → polynomials c.in_ok-made.made.polynomials ≡ all_polynomials (polynomials c.args.generators.now) c.args.certificate.now
-    → HasLemmas (polynomials c.args.claims.now) (polynomials c.args.generators.now) c.args.certificate.now → GoalAddsUp (polynomials c.args.claims.now) (polynomials c.args.generators.now) c.args.certificate.now
-adds_up c same has =
-    record { lemmas = has; rows = rw (← same, ← c.as_slice-lemmas.ensures, ← c.as_slice-rows.ensures) c.in_ok-sum.ensures.passed }
-
-sum : (c : In_ok-sum) → polynomials c.in_ok-made.made.polynomials ≡ all_polynomials (polynomials c.args.generators.now) c.args.certificate.now
-    → IsSumOf c.in_ok-sum.sum (plain_sum (polynomials c.args.generators.now) (all_polynomials (polynomials c.args.generators.now) c.args.certificate.now) c.args.certificate.now.goal.rows)
-sum c same = rw (← same, ← c.as_slice-lemmas.ensures, ← c.as_slice-rows.ensures) c.in_ok-sum.ensures.sum
-
 pub returns-in-Some-overflow_of_multiple-clause-refuses : goal.returns-in-Some-overflow_of_multiple-clause-refuses
 returns-in-Some-overflow_of_multiple-clause-refuses c =
     let passed = goal.at.returns-in-Some-overflow_of_multiple-clause-refuses c in
@@ -66,38 +54,31 @@ returns-in_err-made-clause-refuses c =
     in
     rw back (refuses_from_lemmas (polynomials c.args.claims.now) (polynomials c.args.generators.now) c.args.certificate.now begun e of_lemmas)
 
-pub returns-in_err-sum-clause-refuses : goal.returns-in_err-sum-clause-refuses
-returns-in_err-sum-clause-refuses c =
-    let passed = goal.at.returns-in_err-sum-clause-refuses c in
+pub returns-in_err-check_goal-clause-refuses : goal.returns-in_err-check_goal-clause-refuses
+returns-in_err-check_goal-clause-refuses c =
+    let passed = goal.at.returns-in_err-check_goal-clause-refuses c in
     let names = claim passed.In-Some in
     let has = lemmas passed.In_ok-made (begins (shares passed.After-overflow_of_multiple names) names (fits passed.After-make_lemmas)) in
     let gs = polynomials c.args.generators.now in
     let certificate = c.args.certificate.now in
-    let e = c.in_err-sum.field-0.0 in
-    let back : c.from_residual-in_err-sum.result ≡ Err e = search rules in
+    let e = c.in_err-check_goal.field-0.0 in
+    let back : c.from_residual-in_err-check_goal.result ≡ Err e = search rules in
     let before : c.in_ok-made.made.rows ≡ row_count certificate.lemmas = c.in_ok-made.ensures.rows ∙ ap row_count c.as_slice-2.ensures in
     let same = made passed.In_ok-made in
-    let of_rows : RefusesLemmaRows gs (all_polynomials gs certificate) (row_count certificate.lemmas) certificate.goal.rows e = rw (← same, ← before, ← c.as_slice-lemmas.ensures, ← c.as_slice-rows.ensures) c.in_err-sum.ensures.refused in
-    rw back (refuses_from_goal (polynomials c.args.claims.now) gs certificate has e of_rows)
+    let of_goal : RefusesGoal gs (all_polynomials gs certificate) (row_count certificate.lemmas) certificate.goal (goal_claim (polynomials c.args.claims.now) certificate) e =
+    rw (← same, ← before, ← c.as_slice-lemmas.ensures, ← names.terms) c.in_err-check_goal.ensures.refused in
+    rw back (refuses_from_goal (polynomials c.args.claims.now) gs certificate has e of_goal)
 
-pub returns-in-None-clause-accepts : goal.returns-in-None-clause-accepts
-returns-in-None-clause-accepts c =
-    let passed = goal.at.returns-in-None-clause-accepts c in
+pub returns-clause-accepts : goal.returns-clause-accepts
+returns-clause-accepts c =
+    let passed = goal.at.returns-clause-accepts c in
     let names = claim passed.In-Some in
+    let gs = polynomials c.args.generators.now in
+    let certificate = c.args.certificate.now in
     let same = made passed.In_ok-made in
     let has = lemmas passed.In_ok-made (begins (shares passed.After-overflow_of_multiple names) names (fits passed.After-make_lemmas)) in
-    record { adds_up = adds_up passed.In_ok-sum same has; sum = sums_agree c.args.certificate.now.goal.scale (sum passed.In_ok-sum same) names.terms (search rules) }
-
-pub returns-clause-refuses : goal.returns-clause-refuses
-returns-clause-refuses c =
-    let passed = goal.at.returns-clause-refuses c in
-    let names = claim passed.In-Some in
-    let same = made passed.In_ok-made in
-    let has = lemmas passed.In_ok-made (begins (shares passed.After-overflow_of_multiple names) names (fits passed.After-make_lemmas)) in
-    let d = c.in-Some-2.difference in
-    let want_is : to_z w128 (of_z w128 d.want) ≡ d.want = search rules in
-    let got_is : to_z w128 (of_z w128 d.got) ≡ d.got = search rules in
-    rw (want_is, got_is) (record { adds_up = adds_up passed.In_ok-sum same has; difference = sums_differ c.args.certificate.now.goal.scale (sum passed.In_ok-sum same) names.terms (search rules) })
+    let reached : ReachesClaim gs (all_polynomials gs certificate) certificate.goal (goal_claim (polynomials c.args.claims.now) certificate) = rw (← same, ← c.as_slice-lemmas.ensures, ← names.terms) c.in_ok-check_goal.ensures.reaches in
+    record { adds_up = record { lemmas = has; rows = reached.rows }; sum = reached.sum }
 
 pub returns-in_default-clause-refuses : goal.returns-in_default-clause-refuses
 returns-in_default-clause-refuses c number = c.in_default.ensures.absent (subst (λ k. IsNumberUpTo k c.args.certificate.now.claim) (length-polynomials c.args.claims.now) number)
@@ -127,13 +108,12 @@ make_lemmas-requires-clause-scales c =
     let yes : IsTrue c.is_positive.result = search rules in
     subst (λ lemmas. All HasScale lemmas) (sym c.as_slice-2.ensures) (c.is_positive.ensures.0 yes).lemmas
 
-pub add_lemma_rows-requires-clause-count : goal.add_lemma_rows-requires-clause-count
-add_lemma_rows-requires-clause-count c =
+pub check_goal-requires-clause-count : goal.check_goal-requires-clause-count
+check_goal-requires-clause-count c =
     let before : c.in_ok-made.made.rows ≡ row_count c.args.certificate.now.lemmas = c.in_ok-made.ensures.rows ∙ ap row_count c.as_slice-2.ensures in
-    rw (before, c.as_slice-rows.ensures) c.requires.few_rows
+    rw before c.requires.few_rows
 
-pub add_lemma_rows-requires-clause-coefficients : goal.add_lemma_rows-requires-clause-coefficients
-add_lemma_rows-requires-clause-coefficients c = subst (λ rows. All (λ r. IsCoefficient r.coef) rows) (sym c.as_slice-rows.ensures) c.requires.goal.rows
-
-pub least_difference-requires-clause-running : goal.least_difference-requires-clause-running
-least_difference-requires-clause-running c = c.in_ok-sum.ensures.running
+pub check_goal-requires-clause-scale : goal.check_goal-requires-clause-scale
+check_goal-requires-clause-scale c =
+    let yes : IsTrue c.is_positive.result = search rules in
+    (c.is_positive.ensures.0 yes).goal

@@ -1,0 +1,11 @@
+pub mod Words
+pub mod Stripped
+pub mod Meaning
+pub mod Without
+pub mod Typing
+pub mod Shown
+pub mod Outcomes
+pub mod Short
+pub mod Judged
+pub mod Unique
+pub mod Letters

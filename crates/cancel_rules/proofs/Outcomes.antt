@@ -1,0 +1,31 @@
+-- What is told of a part of a proof is told of the proof.
+use Rattle.std.proofs.Common.{inl, inr, ℕ, ℤ, ◌+◌, List, [], ◌∷◌, ◌++◌}
+use Rattle.definitions.specs.Quiver.{Quiver}
+use Rattle.cofactor_checker.specs.Goals.{RefusesGoal}
+use Rattle.cofactor_checker.specs.declared.refusal.Refusal.{Refusal}
+use Rattle.cofactor_checker.specs.declared.refusal.Refusal.TheVariants as common
+use Rattle.cancel_rules.specs.declared.cancellation.Cancellation.{Cancellation}
+use Rattle.cancel_rules.specs.declared.refusal.CancelRefusal.{CancelRefusal}
+use Rattle.cancel_rules.specs.declared.refusal.CancelRefusal.TheVariants as refusal
+use Rattle.cancel_rules.specs.Items.{row_total, RefusesItems}
+use Rattle.cancel_rules.specs.Acceptance.{claim_named, all_items, CancelBegins, HasItems, RefusesBeginning, RefusesParts, RefusesCommon, RefusesCancellation}
+
+module _ (q : Quiver) (claims generators : List (List (ℤ × List ℕ))) (proof : Cancellation) where
+  -- before the items
+  pub refuses_from_beginning : (e : Refusal) → RefusesBeginning claims proof e → RefusesCancellation q claims generators proof (refusal.Common e)
+  refuses_from_beginning (common.Memory failed) told = tt
+  refuses_from_beginning other told = inl told
+
+  from_parts : (e : CancelRefusal) → RefusesParts q claims generators proof e → RefusesCancellation q claims generators proof e
+  from_parts (refusal.Common (common.Memory failed)) told = tt
+  from_parts (refusal.Common other) told = inr told
+  from_parts other told = told
+
+  -- of an item, where the items are reached
+  pub refuses_from_items : CancelBegins claims proof → (e : CancelRefusal) → RefusesItems q proof generators [] 0 proof.items e → RefusesCancellation q claims generators proof e
+  refuses_from_items begins e told = from_parts e (inl (begins, told))
+
+  -- of the goal, where it is reached
+  pub refuses_from_goal : HasItems q claims generators proof → (e : Refusal) → RefusesGoal generators (all_items generators proof) (row_total proof.items) proof.goal (claim_named claims proof) e
+      → RefusesCancellation q claims generators proof (refusal.Common e)
+  refuses_from_goal has e told = from_parts (refusal.Common e) (inr (has, told))

@@ -1,0 +1,53 @@
+-- What an accepted proof shows.
+use Rattle.std.proofs.Common.{◌≡◌, ◌≢◌, ℕ, ℤ, List, [], ◌∷◌, ◌++◌, All, refl, sym, ap, subst, ◌∙◌, arith}
+use Rattle.std.specs.List.{AllByRecursion}
+use Rattle.std.proofs.lemmas.Int.{ints}
+use Rattle.std.proofs.lemmas.List.Elements.{recursion_from_All, All-from_recursion}
+use Rattle.definitions.specs.Poly.{SamePolynomial, coefficient_of}
+use Rattle.definitions.specs.Quiver.{Quiver}
+use Rattle.definitions.specs.Combination.{generator_at}
+use Rattle.cofactor_checker.specs.LemmaAcceptance.{HasScale, IsTight}
+use Rattle.cofactor_checker.proofs.LemmaSums.{sums_agree, lemma_adds_up}
+use Rattle.cancel_rules.specs.declared.cancellation.Item.{Item}
+use Rattle.cancel_rules.specs.declared.cancellation.Item.TheVariants as item
+use Rattle.cancel_rules.specs.declared.cancellation.Cancellation.{Cancellation}
+use Rattle.cancel_rules.specs.Cancellations.{put_back, IsOfItem, AreOfItems}
+use Rattle.cancel_rules.specs.Items.{stripped, item_polynomial, item_polynomials, HasAtEnd, ItemPasses, ItemsPass}
+use Rattle.cancel_rules.specs.Acceptance.{OfLemma, all_items}
+use Rattle.cancel_rules.specs.Laws.{AcceptedCancellationLeads}
+use Rattle.cancel_rules.proofs.Without.{put_back_stripped, words_left}
+
+module _ (q : Quiver) (proof : Cancellation) (generators : List (List (ℤ × List ℕ))) where
+  item_is : (before : List (List (ℤ × List ℕ))) (i : Item) → OfLemma HasScale i → OfLemma (IsTight proof.denominator) i → ItemPasses q proof generators before i
+      → IsOfItem q proof generators before i (item_polynomial generators before i)
+  item_is before (item.Lemma l) scale tight passes = ((omega (arith, ints, scale), tight), lemma_adds_up generators before l passes)
+  item_is before (item.Cancel letter end number) scale tight passes =
+      let whole = generator_at before number in
+      let at_end = recursion_from_All (λ t. HasAtEnd end letter.0 t.1) whole passes.comes_off.words in
+      record {
+        declared = passes.comes_off.item.letter.declared;
+        typed = passes.comes_off.item.typed;
+        same = record { at = λ w. sym (ap (λ p. coefficient_of p w) (put_back_stripped end letter.0 whole at_end)) };
+        words = All-from_recursion (λ t. t.1 ≢ []) (stripped end whole) (words_left end letter.0 whole at_end);
+      }
+
+  items_are : (before : List (List (ℤ × List ℕ))) (items : List Item) → AllByRecursion (OfLemma HasScale) items → AllByRecursion (OfLemma (IsTight proof.denominator)) items → ItemsPass q proof generators before items
+      → AreOfItems q proof generators before items (item_polynomials generators before items)
+  items_are before [] scales tight pass = tt
+  items_are before (i ∷ items) scales tight pass =
+      (item_is before i scales.0 tight.0 pass.0, items_are (before ++ item_polynomial generators before i ∷ []) items scales.1 tight.1 pass.1)
+
+pub accepted_cancellation_leads : AcceptedCancellationLeads
+accepted_cancellation_leads q claims generators proof in_quiver accepted =
+    let begins = accepted.items.begins in
+    let positive = begins.shares.posed.positive in
+    let least = positive.denominator in
+    let goal_least = positive.goal in
+    record {
+      in_quiver = in_quiver;
+      positive = omega (arith, ints, least);
+      items = items_are q proof generators [] proof.items (recursion_from_All (OfLemma HasScale) proof.items positive.items)
+          (recursion_from_All (OfLemma (IsTight proof.denominator)) proof.items begins.shares.tight.items) accepted.items.items;
+      share = (omega (arith, ints, goal_least), begins.shares.tight.goal);
+      goal = record { at = λ w. ap (λ p. coefficient_of p w) (sums_agree generators (all_items generators proof) proof.goal.rows) ∙ accepted.goal.sum.at w };
+    }

@@ -1,0 +1,137 @@
+-- Words without the letter at an end, and polynomials without it, which stay in their order.
+use Rattle.std.proofs.Common.{◌≡◌, ◌≢◌, ◌⊎◌, inl, inr, ℕ, zero, suc, ◌+◌, ◌-◌, ◌<◌, ◌≤◌, ℤ, pos, Bool, true, false, List, [], ◌∷◌, ◌++◌, All, length, map, drop, take, refl, sym, ap, ap₂, subst, ◌∙◌, arith, length-append, length-drop, append-nil}
+use Rattle.std.proofs.lemmas.List.{length-take}
+use Rattle.std.proofs.lemmas.List.Elements.{recursion_from_All, All-from_recursion, All-take, All-drop}
+use Rattle.std.proofs.Math.Seq.{take-append_seam}
+use Rattle.std.specs.List.{AllByRecursion}
+use Rattle.definitions.specs.Poly.{Term, word_eq}
+use Rattle.definitions.proofs.Linear.{word_eq-true, word_eq-same}
+use Rattle.std.specs.declared.cmp.Ordering.TheVariants.{Greater}
+use Rattle.coef_int.specs.Range.{IsCoefficient}
+use Rattle.word_core.specs.Canonical.{word_cmp}
+use Rattle.word_core.specs.Letters.{IsOver}
+use Rattle.word_core.proofs.CanonicalLaws.{word_cmp-around}
+use Rattle.nc_polynomial.specs.Shape.{IsCanonical}
+use Rattle.nc_polynomial.proofs.Shapes.{Descends, IsDescending-from_recursion, recursion_from_IsDescending}
+use Rattle.cancel_rules.specs.declared.cancellation.Side.{Side}
+use Rattle.cancel_rules.specs.declared.cancellation.Side.TheVariants as side
+use Rattle.cancel_rules.specs.Cancellations.{with_letter, put_back}
+use Rattle.cancel_rules.specs.Items.{word_without, stripped, HasAtEnd}
+
+-- the letter put on and taken off again
+pub without_with : (end : Side) (a : ℕ) (w : List ℕ) → word_without end (with_letter end a w) ≡ w
+without_with side.Left a w = refl
+without_with side.Right a w =
+    let long = length-append w (a ∷ []) in
+    let short : length (w ++ a ∷ []) - 1 ≡ length w = omega arith in
+    ap (λ n. take n (w ++ a ∷ [])) short ∙ take-append_seam w (a ∷ [])
+
+module _ (end : Side) (a : ℕ) where
+  -- what is left of a word is what is beside the letter
+  pub rest_is : (w : List ℕ) (h : HasAtEnd end a w) → word_without end w ≡ h.rest
+  rest_is w h = ap (word_without end) h.whole ∙ without_with end a h.rest
+
+  pub whole_again : (w : List ℕ) → HasAtEnd end a w → with_letter end a (word_without end w) ≡ w
+  whole_again w h = ap (with_letter end a) (rest_is w h) ∙ sym h.whole
+
+  pub rest_some : (w : List ℕ) → HasAtEnd end a w → word_without end w ≢ []
+  rest_some w h none = h.others (sym (rest_is w h) ∙ none)
+
+  -- a word has the letter at the end, and others, or it has not
+  pub at_end_or : (w : List ℕ) → HasAtEnd end a w ⊎ (HasAtEnd end a w → ⊥)
+  at_end_or w = by (word_without end w) refl (word_eq w (with_letter end a (word_without end w))) refl
+    where
+      by : (rest : List ℕ) → word_without end w ≡ rest → (b : Bool) → word_eq w (with_letter end a (word_without end w)) ≡ b → HasAtEnd end a w ⊎ (HasAtEnd end a w → ⊥)
+      by [] none b is = inr (λ h. rest_some w h none)
+      by (c ∷ rest) some true is = inl (record { rest = word_without end w; others = λ none. apart c rest (sym some ∙ none); whole = word_eq-true w (with_letter end a (word_without end w)) is })
+        where
+          apart : (c : ℕ) (rest : List ℕ) → c ∷ rest ≡ [] → ⊥
+          apart c rest same = absurd (cc)
+      by (c ∷ rest) some false is = inr (λ h. clash (word_eq w (with_letter end a (word_without end w))) (ap (λ v. word_eq w v) (whole_again w h) ∙ word_eq-same w) is)
+        where
+          clash : (b : Bool) → b ≡ true → b ≡ false → ⊥
+          clash b one other = absurd (cc)
+
+  -- each word of a polynomial
+  abbrev pub AllAtEnd : List Term → Type 0
+  AllAtEnd p = AllByRecursion (λ t. HasAtEnd end a t.1) p
+
+  pub put_back_stripped : (p : List Term) → AllByRecursion (λ t. HasAtEnd end a t.1) p → put_back end a (stripped end p) ≡ p
+  put_back_stripped [] all = refl
+  put_back_stripped (t ∷ p) all = ap₂ (λ w rest. (t.0, w) ∷ rest) (whole_again t.1 all.0) (put_back_stripped p all.1)
+
+  pub words_left : (p : List Term) → AllByRecursion (λ t. HasAtEnd end a t.1) p → AllByRecursion (λ t. t.1 ≢ []) (stripped end p)
+  words_left [] all = tt
+  words_left (t ∷ p) all = (rest_some t.1 all.0, words_left p all.1)
+
+  -- ---- the order of words
+
+  compared : (v w : List ℕ) → word_cmp (with_letter end a v) (with_letter end a w) ≡ word_cmp v w
+  compared v w = by end
+    where
+      by : (end : Side) → word_cmp (with_letter end a v) (with_letter end a w) ≡ word_cmp v w
+      by side.Left = ap₂ (λ x y. word_cmp (a ∷ x) (a ∷ y)) (sym (append-nil v)) (sym (append-nil w)) ∙ word_cmp-around (a ∷ []) v w []
+      by side.Right = word_cmp-around [] v w (a ∷ [])
+
+  above : (v w : List ℕ) → HasAtEnd end a v → HasAtEnd end a w → word_cmp v w ≡ Greater → word_cmp (word_without end v) (word_without end w) ≡ Greater
+  above v w h k greater =
+      sym (compared (word_without end v) (word_without end w)) ∙ ap₂ word_cmp (whole_again v h) (whole_again w k) ∙ greater
+
+  all_above : (v : List ℕ) (p : List Term) → HasAtEnd end a v → AllByRecursion (λ t. HasAtEnd end a t.1) p → AllByRecursion (λ t. word_cmp v t.1 ≡ Greater) p
+      → AllByRecursion (λ t. word_cmp (word_without end v) t.1 ≡ Greater) (stripped end p)
+  all_above v [] h all greater = tt
+  all_above v (t ∷ p) h all greater = (above v t.1 h all.0 greater.0, all_above v p h all.1 greater.1)
+
+  descends : (p : List Term) → AllByRecursion (λ t. HasAtEnd end a t.1) p → Descends p → Descends (stripped end p)
+  descends [] all d = tt
+  descends (t ∷ p) all d = (all_above t.1 p all.0 all.1 d.0, descends p all.1 d.1)
+
+-- ---- what else a polynomial keeps
+module _ (end : Side) where
+  coefficients : (P : ℤ → Type 0) (p : List Term) → AllByRecursion (λ t. P t.0) p → AllByRecursion (λ t. P t.0) (stripped end p)
+  coefficients P [] all = tt
+  coefficients P (t ∷ p) all = (all.0, coefficients P p all.1)
+
+  shorter : (w : List ℕ) → length (word_without end w) ≤ length w
+  shorter w = by end
+    where
+      by : (end : Side) → length (word_without end w) ≤ length w
+      by side.Left = let long = length-drop 1 w in omega arith
+      by side.Right = let long = length-take (length w - 1) w in grind arith
+
+  short : (p : List Term) → AllByRecursion (λ t. length t.1 ≤ 500) p → AllByRecursion (λ t. length t.1 ≤ 500) (stripped end p)
+  short [] all = tt
+  short (t ∷ p) all = (let less = shorter t.1 in let within = all.0 in omega arith, short p all.1)
+
+  as_many : (p : List Term) → length (stripped end p) ≡ length p
+  as_many [] = refl
+  as_many (t ∷ p) = ap suc (as_many p)
+
+-- what is left of a polynomial is one
+pub canonical_stripped : (end : Side) (a : ℕ) (p : List Term) → IsCanonical p → All (λ t. HasAtEnd end a t.1) p → IsCanonical (stripped end p)
+canonical_stripped end a p canonical at_end =
+    let all = recursion_from_All (λ t. HasAtEnd end a t.1) p at_end in
+    let few = canonical.few in
+    let many = as_many end p in
+    record {
+      shaped = record {
+        descending = IsDescending-from_recursion (stripped end p) (descends end a p all (recursion_from_IsDescending p canonical.shaped.descending));
+        nonzero = All-from_recursion (λ t. t.0 ≢ pos 0) (stripped end p) (coefficients end (λ z. z ≢ pos 0) p (recursion_from_All (λ t. t.0 ≢ pos 0) p canonical.shaped.nonzero));
+        in_range = All-from_recursion (λ t. IsCoefficient t.0) (stripped end p) (coefficients end IsCoefficient p (recursion_from_All (λ t. IsCoefficient t.0) p canonical.shaped.in_range));
+      };
+      short = All-from_recursion (λ t. length t.1 ≤ 500) (stripped end p) (short end p (recursion_from_All (λ t. length t.1 ≤ 500) p canonical.short));
+      few = omega arith;
+    }
+
+-- and its letters are among those of the whole
+module _ (letters : ℕ) where
+  pub word_over : (end : Side) (w : List ℕ) → IsOver letters w → IsOver letters (word_without end w)
+  word_over side.Left w over = All-drop (λ a. a < letters) 1 w over
+  word_over side.Right w over = All-take (λ a. a < letters) (length w - 1) w over
+
+  pub stripped_over : (end : Side) (p : List Term) → All (λ t. IsOver letters t.1) p → All (λ t. IsOver letters t.1) (stripped end p)
+  stripped_over end p over = All-from_recursion (λ t. IsOver letters t.1) (stripped end p) (each p (recursion_from_All (λ t. IsOver letters t.1) p over))
+    where
+      each : (p : List Term) → AllByRecursion (λ t. IsOver letters t.1) p → AllByRecursion (λ t. IsOver letters t.1) (stripped end p)
+      each [] all = tt
+      each (t ∷ p) all = (word_over end t.1 all.0, each p all.1)

@@ -1,0 +1,224 @@
+-- Sums of rows over the letters of a quiver have words over these letters alone, and so do the polynomials of lemmas.
+use Rattle.std.proofs.Common.{ltb-true, lt-ltb, ◌≡◌, ◌≢◌, inl, inr, ℕ, zero, suc, ◌<◌, ℤ, pos, ◌+ℤ◌, ◌*ℤ◌, Bool, true, false, List, [], ◌∷◌, ◌++◌, map, int_div, refl, sym, ap, ap₂, subst, ◌∙◌, get_or, ltb}
+use Rattle.std.proofs.lemmas.Bool.{and_parts, and_from}
+use Rattle.std.proofs.lemmas.Bool.Decides.{Decides-int_eq}
+use Rattle.std.proofs.lemmas.List.Elements.{recursion_from_All, All-from_recursion}
+use Rattle.std.proofs.lemmas.List.Folds.{list_all-append}
+use Rattle.std.proofs.Math.IntN.{*ℤ-zero}
+use Rattle.std.specs.List.{AllByRecursion, list_all}
+use Rattle.std.specs.Ordering.{int_eq}
+use Rattle.definitions.specs.Poly.{Term, word_eq, coefficient_of, poly_multiple, poly_between}
+use Rattle.definitions.specs.Quiver.{Quiver, letters, source, leads, is_path}
+use Rattle.definitions.specs.Combination.{Row, generator_at, row_poly, row_sum}
+use Rattle.definitions.specs.Soundness.{HasSignature}
+use Rattle.definitions.proofs.Coefficients.{coefficient_of-append, coefficient_of-multiple}
+use Rattle.definitions.proofs.Linear.{word_eq-true, coefficient_other}
+use Rattle.definitions.proofs.Paths.{step}
+use Rattle.definitions.proofs.Projection.{coefficient_of-between_zero}
+use Rattle.definitions.proofs.UnitSound.{all-append}
+use Rattle.word_core.specs.Letters.{IsOver}
+use Rattle.nc_polynomial.specs.Collected.{collected}
+use Rattle.nc_polynomial.proofs.CollectedTerms.{coefficient_of-collected, descending-collected, nonzero-collected}
+use Rattle.nc_polynomial.proofs.Distinct.{distinct-descending, words_listed}
+use Rattle.quiver.specs.Declarations.{letter_count, quiver_of}
+use Rattle.quiver.proofs.Counts.{letters-quiver_of}
+use Rattle.cofactor_trace.specs.declared.evidence.LemmaRow.{LemmaRow}
+use Rattle.cofactor_trace.specs.declared.evidence.Lemma.{Lemma}
+use Rattle.adjoint_rules.specs.declared.problem.Problem.{Problem}
+use Rattle.adjoint_rules.specs.Problem.{polynomials}
+use Rattle.adjoint_rules.proofs.Generators.{claims_have_signatures, generators_have_signatures}
+use Rattle.cofactor_checker.specs.declared.refusal.Refusal.TheVariants as refusal
+use Rattle.cofactor_checker.specs.PlainRows.{plain_rows, plain_sum}
+use Rattle.cofactor_checker.specs.Lemmas.{lemma_polynomial, lemma_polynomials, IsLeastIndivisible, LeavesRest, RefusesLemmas}
+
+module _ (q : Quiver) where
+  -- whether all letters are letters of the quiver
+  abbrev pub is_over : List ℕ → Bool
+  is_over w = list_all (λ a. ltb a (letters q)) w
+
+  -- no other word has a coefficient
+  abbrev pub Stays : List (ℤ × List ℕ) → Type 0
+  Stays p = (x : List ℕ) → is_over x ≡ false → coefficient_of p x ≡ pos 0
+
+  -- no other word stands there
+  abbrev pub Lists : List (ℤ × List ℕ) → Type 0
+  Lists p = AllByRecursion (λ t. is_over t.1 ≡ true) p
+
+  pub clash : (b : Bool) → b ≡ true → b ≡ false → ⊥
+  clash true one other = absurd cc
+  clash false one other = absurd cc
+
+  pub not_true : (b : Bool) → (b ≡ true → ⊥) → b ≡ false
+  not_true true never = absurd (never refl)
+  not_true false never = refl
+
+  -- what has no coefficient but zero
+  pub zero_from : (n : ℤ) → (n ≢ pos 0 → ⊥) → n ≡ pos 0
+  zero_from n never = go (int_eq n (pos 0)) refl
+    where
+      go : (b : Bool) → int_eq n (pos 0) ≡ b → n ≡ pos 0
+      go true is = (Decides-int_eq n (pos 0)).0 is
+      go false is = absurd (never (λ same. clash (int_eq n (pos 0)) ((Decides-int_eq n (pos 0)).1 same) is))
+
+  pub leads_over : (u v : ℕ) (w : List ℕ) → leads q u v w ≡ true → is_over w ≡ true
+  leads_over u v [] is = refl
+  leads_over u v (a ∷ w) is =
+      let s = step q u v a w is in
+      and_from (ltb a (letters q)) _ (and_parts (ltb a (letters q)) _ is).0 (leads_over u (source q a) w s.rest)
+
+  pub path_over : (u v : ℕ) (w : List ℕ) → is_path q u v w ≡ true → is_over w ≡ true
+  path_over u v [] is = refl
+  path_over u v (a ∷ w) is = leads_over u v (a ∷ w) is
+
+  -- ---- what stays over the letters
+
+  -- a word with a coefficient is over the letters
+  over_where : (p : List (ℤ × List ℕ)) → Stays p → (w : List ℕ) → coefficient_of p w ≢ pos 0 → is_over w ≡ true
+  over_where p stays w there = go (is_over w) refl
+    where
+      go : (b : Bool) → is_over w ≡ b → b ≡ true
+      go true is = refl
+      go false is = absurd (there (stays w is))
+
+  pub typed_stays : (p : List (ℤ × List ℕ)) → HasSignature q p → Stays p
+  typed_stays p has x past = zero_from (coefficient_of p x) (λ there. clash (is_over x) (path_over has.source has.target x (has.typed.at x there)) past)
+
+  pub typed_stay : (ps : List (List (ℤ × List ℕ))) → AllByRecursion (HasSignature q) ps → AllByRecursion Stays ps
+  typed_stay [] all = tt
+  typed_stay (p ∷ ps) all = (typed_stays p all.0, typed_stay ps all.1)
+
+  pub listed_stays : (p : List (ℤ × List ℕ)) → Lists p → Stays p
+  listed_stays [] all x past = refl
+  listed_stays (t ∷ p) all x past =
+      coefficient_other x t p (not_true (word_eq t.1 x) (λ same. clash (is_over x) (ap is_over (sym (word_eq-true t.1 x same)) ∙ all.0) past)) ∙ listed_stays p all.1 x past
+
+  pub multiple_stays : (k : ℤ) (p : List (ℤ × List ℕ)) → Stays p → Stays (poly_multiple k p)
+  multiple_stays k p stays x past = coefficient_of-multiple k p x ∙ ap (λ n. k *ℤ n) (stays x past) ∙ *ℤ-zero k
+
+  pub between_stays : (l r : List ℕ) (p : List (ℤ × List ℕ)) → is_over l ≡ true → is_over r ≡ true → Stays p → Stays (poly_between l p r)
+  between_stays l r p left right stays x past = coefficient_of-between_zero l r x p other
+    where
+      other : (w : List ℕ) → coefficient_of p w ≢ pos 0 → word_eq (l ++ (w ++ r)) x ≡ false
+      other w there = not_true (word_eq (l ++ (w ++ r)) x) (λ same.
+          let inner = list_all-append (λ a. ltb a (letters q)) w r ∙ and_from (is_over w) (is_over r) (over_where p stays w there) right in
+          let whole = list_all-append (λ a. ltb a (letters q)) l (w ++ r) ∙ and_from (is_over l) (is_over (w ++ r)) left inner in
+          clash (is_over x) (ap is_over (sym (word_eq-true (l ++ (w ++ r)) x same)) ∙ whole) past)
+
+  pub get_stays : (ps : List (List (ℤ × List ℕ))) (n : ℕ) → AllByRecursion Stays ps → Stays (get_or ps n [])
+  get_stays [] n all = λ x past. refl
+  get_stays (p ∷ ps) zero all = all.0
+  get_stays (p ∷ ps) (suc n) all = get_stays ps n all.1
+
+  pub at_stays : (ps : List (List (ℤ × List ℕ))) (n : ℕ) → AllByRecursion Stays ps → Stays (generator_at ps n)
+  at_stays ps zero all = λ x past. refl
+  at_stays ps (suc n) all = get_stays ps n all
+
+  -- ---- rows
+
+  -- the words of each row are over the letters
+  abbrev pub AreOver : List Row → Type 0
+  AreOver rows = AllByRecursion (λ r. (is_over r.left ≡ true) × (is_over r.right ≡ true)) rows
+
+  pub sum_stays : (generators : List (List (ℤ × List ℕ))) (rows : List Row) → AllByRecursion Stays generators → AreOver rows → Stays (row_sum generators rows)
+  sum_stays generators [] all over x past = refl
+  sum_stays generators (r ∷ rows) all over x past =
+      let g : List (ℤ × List ℕ) = generator_at generators r.generator in
+      let row : Stays (row_poly generators r) = multiple_stays r.coefficient (poly_between r.left g r.right) (between_stays r.left r.right g over.0.0 over.0.1 (at_stays generators r.generator all)) in
+      coefficient_of-append (row_poly generators r) (row_sum generators rows) x ∙ ap₂ ◌+ℤ◌ (row x past) (sum_stays generators rows all over.1 x past)
+
+  -- a word at which a multiple and a sum differ
+  pub difference_is_over : (k : ℤ) (claim sum : List (ℤ × List ℕ)) (word : List ℕ) (want got : ℤ) → Stays claim → Stays sum
+      → coefficient_of (poly_multiple k claim) word ≡ want → coefficient_of sum word ≡ got → want ≢ got → is_over word ≡ true
+  difference_is_over k claim sum word want got claim_stays stays wanted found differ = go (is_over word) refl
+    where
+      go : (b : Bool) → is_over word ≡ b → b ≡ true
+      go true is = refl
+      go false is = absurd (differ (sym wanted ∙ multiple_stays k claim claim_stays word is ∙ sym (stays word is) ∙ found))
+
+  -- ---- lemmas
+
+  -- the words of each of its rows are over the letters
+  abbrev pub IsLemmaOver : Lemma → Type 0
+  IsLemmaOver l = AllByRecursion (λ r. (is_over r.left ≡ true) × (is_over r.right ≡ true)) l.rows
+
+  pub plain_over : (generators lemmas : List (List (ℤ × List ℕ))) (rows : List LemmaRow) → AllByRecursion (λ r. (is_over r.left ≡ true) × (is_over r.right ≡ true)) rows → AreOver (plain_rows generators lemmas rows)
+  plain_over generators lemmas [] over = tt
+  plain_over generators lemmas (r ∷ rows) over = (over.0, plain_over generators lemmas rows over.1)
+
+  pub collected_lists : (p : List (ℤ × List ℕ)) → Stays p → Lists (collected p)
+  collected_lists p stays =
+      words_listed (λ w. is_over w ≡ true) (collected p) (distinct-descending (collected p) (descending-collected p)) (nonzero-collected p)
+      (λ w there. over_where p stays w (λ none. there (coefficient_of-collected p w ∙ none)))
+
+  pub least_over : (scale : ℤ) (p : List (ℤ × List ℕ)) (word : List ℕ) (got : ℤ) → Lists p → IsLeastIndivisible scale p word got → is_over word ≡ true
+  least_over scale [] word got all none = absurd none
+  least_over scale (t ∷ p) word got all (inl later) = least_over scale p word got all.1 later
+  least_over scale (t ∷ p) word got all (inr here) = subst (λ (u : Term). is_over u.1 ≡ true) here.1.1 all.0
+
+  pub divided_lists : (scale : ℤ) (p : List (ℤ × List ℕ)) → Lists p → Lists (map (λ t. (int_div t.0 scale, t.1)) p)
+  divided_lists scale [] all = tt
+  divided_lists scale (t ∷ p) all = (all.0, divided_lists scale p all.1)
+
+  module _ (generators : List (List (ℤ × List ℕ))) (stay : AllByRecursion Stays generators) where
+    pub plain_stays : (before : List (List (ℤ × List ℕ))) (l : Lemma) → AllByRecursion Stays before → IsLemmaOver l → Stays (plain_sum generators before l.rows)
+    plain_stays before l earlier over = sum_stays (generators ++ before) (plain_rows generators before l.rows) (all-append Stays generators before stay earlier) (plain_over generators before l.rows over)
+
+    pub lemma_lists : (before : List (List (ℤ × List ℕ))) (l : Lemma) → AllByRecursion Stays before → IsLemmaOver l → Lists (lemma_polynomial generators before l)
+    lemma_lists before l earlier over =
+        let sum : List (ℤ × List ℕ) = plain_sum generators before l.rows in
+        divided_lists l.scale (collected sum) (collected_lists sum (plain_stays before l earlier over))
+
+    pub lemma_stays : (before : List (List (ℤ × List ℕ))) (l : Lemma) → AllByRecursion Stays before → IsLemmaOver l → Stays (lemma_polynomial generators before l)
+    lemma_stays before l earlier over = listed_stays (lemma_polynomial generators before l) (lemma_lists before l earlier over)
+
+    -- a word of the sum of its rows that the scale doesn't divide
+    pub rest_is_over : (before : List (List (ℤ × List ℕ))) (l : Lemma) (lemma : ℕ) (word : List ℕ) (got : ℤ) → AllByRecursion Stays before → IsLemmaOver l → LeavesRest generators before l lemma word got → is_over word ≡ true
+    rest_is_over before l lemma word got earlier over leaves =
+        let sum : List (ℤ × List ℕ) = plain_sum generators before l.rows in
+        least_over l.scale (collected sum) word got (collected_lists sum (plain_stays before l earlier over)) leaves.least.least
+
+    pub with_lemma : (before : List (List (ℤ × List ℕ))) (l : Lemma) → AllByRecursion Stays before → IsLemmaOver l → AllByRecursion Stays (before ++ lemma_polynomial generators before l ∷ [])
+    with_lemma before l earlier over = all-append Stays before (lemma_polynomial generators before l ∷ []) earlier (lemma_stays before l earlier over, tt)
+
+    pub lemmas_stay : (before : List (List (ℤ × List ℕ))) (lemmas : List Lemma) → AllByRecursion Stays before → AllByRecursion IsLemmaOver lemmas → AllByRecursion Stays (lemma_polynomials generators before lemmas)
+    lemmas_stay before [] earlier over = tt
+    lemmas_stay before (l ∷ lemmas) earlier over =
+        (lemma_stays before l earlier over.0, lemmas_stay (before ++ lemma_polynomial generators before l ∷ []) lemmas (with_lemma before l earlier over.0) over.1)
+
+    -- a word that the scale of one of them doesn't divide
+    pub indivisible_is_over : (before : List (List (ℤ × List ℕ))) (rows : ℕ) (lemmas : List Lemma) (lemma : ℕ) (word : List ℕ) (got : ℤ) → AllByRecursion Stays before → AllByRecursion IsLemmaOver lemmas
+        → RefusesLemmas generators before rows lemmas (refusal.NotDivisible lemma word got) → is_over word ≡ true
+    indivisible_is_over before rows [] lemma word got earlier over none = absurd none
+    indivisible_is_over before rows (l ∷ lemmas) lemma word got earlier over (inl leaves) = rest_is_over before l lemma word got earlier over.0 leaves
+    indivisible_is_over before rows (l ∷ lemmas) lemma word got earlier over (inr later) =
+        indivisible_is_over (before ++ lemma_polynomial generators before l ∷ []) _ lemmas lemma word got (with_lemma before l earlier over.0) over.1 later.1
+
+-- ---- over a problem
+
+module _ (problem : Problem) where
+  abbrev pub drawn : Quiver
+  drawn = quiver_of problem.parts.quiver
+
+  pub over_from : (w : List ℕ) → AllByRecursion (λ a. a < letter_count problem.parts.quiver) w → is_over drawn w ≡ true
+  over_from [] all = refl
+  over_from (a ∷ w) all =
+      let inside : a < letters drawn = subst (λ n. a < n) (sym (letters-quiver_of problem.parts.quiver)) all.0 in
+      and_from (ltb a (letters drawn)) _ (lt-ltb a (letters drawn) inside) (over_from w all.1)
+
+  pub over_to : (w : List ℕ) → is_over drawn w ≡ true → AllByRecursion (λ a. a < letter_count problem.parts.quiver) w
+  over_to [] is = tt
+  over_to (a ∷ w) is =
+      let parts = and_parts (ltb a (letters drawn)) _ is in
+      (subst (λ n. a < n) (letters-quiver_of problem.parts.quiver) (ltb-true a (letters drawn) parts.0), over_to w parts.1)
+
+  pub word_over : (w : List ℕ) → IsOver (letter_count problem.parts.quiver) w → is_over drawn w ≡ true
+  word_over w over = over_from w (recursion_from_All (λ a. a < letter_count problem.parts.quiver) w over)
+
+  pub over_word : (w : List ℕ) → is_over drawn w ≡ true → IsOver (letter_count problem.parts.quiver) w
+  over_word w is = All-from_recursion (λ a. a < letter_count problem.parts.quiver) w (over_to w is)
+
+  pub generators_stay : AllByRecursion (Stays drawn) (polynomials problem.generators)
+  generators_stay = typed_stay drawn (polynomials problem.generators) (generators_have_signatures problem.parts problem.posed problem.generators problem.closed)
+
+  pub claim_stays : (number : ℕ) → Stays drawn (generator_at (polynomials problem.parts.claims) number)
+  claim_stays number = at_stays drawn (polynomials problem.parts.claims) number (typed_stay drawn (polynomials problem.parts.claims) (claims_have_signatures problem.parts problem.posed))
