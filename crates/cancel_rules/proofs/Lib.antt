@@ -9,3 +9,4 @@ pub mod Short
 pub mod Judged
 pub mod Unique
 pub mod Letters
+pub mod Steps

@@ -119,7 +119,8 @@ pub(crate) fn make_items(
     let mut polynomials = Listing::new(alloc);
     let mut rows = 0u32;
     let mut kept = 0usize;
-    for item in proof.items.as_slice() {
+    let items = proof.items.as_slice();
+    for item in items {
         let before = polynomials.as_slice();
         let polynomial = make_item(alloc, problem, &marks, before, item, rows)?;
         rows += rows_in(item);

@@ -26,9 +26,9 @@ returns-in_err-sum-clause-refused c =
     let of_rows : RefusesLemmaRows gs ls c.args.before c.args.goal.now.rows e = rw (← c.as_slice-rows.ensures) c.in_err-sum.ensures.refused in
     rw back (goal_from_rows gs ls c.args.before c.args.goal.now c.args.claim.now.terms e of_rows)
 
-pub returns-in_None-clause-reaches : goal.returns-in_None-clause-reaches
-returns-in_None-clause-reaches c =
-    let passed_to = goal.at.returns-in_None-clause-reaches c in
+pub returns-in-None-clause-reaches : goal.returns-in-None-clause-reaches
+returns-in-None-clause-reaches c =
+    let passed_to = goal.at.returns-in-None-clause-reaches c in
     record { rows = passed passed_to.In_ok-sum; sum = sums_agree c.args.goal.now.scale (sum passed_to.In_ok-sum) refl (search rules) }
 
 pub returns-clause-refused : goal.returns-clause-refused

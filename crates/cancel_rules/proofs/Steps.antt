@@ -1,0 +1,69 @@
+-- One item after another.
+use Rattle.std.proofs.Common.{◌≡◌, inl, inr, ℕ, ◌+◌, ◌<◌, ◌≤◌, ℤ, List, [], ◌∷◌, ◌++◌, length, drop, get_or, refl, sym, ap, subst, ◌∙◌, append_assoc, arith}
+use Rattle.std.proofs.lemmas.List.{drop_all, append-nil}
+use Rattle.definitions.specs.Quiver.{Quiver}
+use Rattle.nc_polynomial.proofs.Steps.{drop_next}
+use Rattle.cofactor_checker.specs.Lemmas.{term_total}
+use Rattle.cancel_rules.specs.declared.cancellation.Item.{Item}
+use Rattle.cancel_rules.specs.declared.cancellation.Item.TheVariants as item
+use Rattle.cancel_rules.specs.declared.cancellation.Cancellation.{Cancellation}
+use Rattle.cancel_rules.specs.declared.refusal.CancelRefusal.{CancelRefusal}
+use Rattle.cancel_rules.specs.declared.refusal.CancelRefusal.TheVariants as refusal
+use Rattle.cofactor_checker.specs.declared.refusal.Refusal.TheVariants as common
+use Rattle.cancel_rules.specs.Items.{item_polynomial, item_polynomials, row_total, rows_in, ItemPasses, ItemsPass, RefusesItem, RefusesItems}
+use Rattle.cancel_rules.specs.Inner.{IsMadeItem}
+
+-- The items before this one are made: these are their polynomials, and they have so many rows.
+pub record ItemsUpTo (q : Quiver) (proof : Cancellation) (gs ps : List (List (ℤ × List ℕ))) (items : List Item) (rows i : ℕ) : Type 0 where
+  pub counted : rows + row_total (drop i items) ≡ row_total items
+  pub made : ps ++ item_polynomials gs ps (drop i items) ≡ item_polynomials gs [] items
+  pub pass : ItemsPass q proof gs ps (drop i items) → ItemsPass q proof gs [] items
+  pub refuse : (e : CancelRefusal) → RefusesItems q proof gs ps rows (drop i items) e → RefusesItems q proof gs [] 0 items e
+
+pub begins : (q : Quiver) (proof : Cancellation) (gs : List (List (ℤ × List ℕ))) (items : List Item) → ItemsUpTo q proof gs [] items 0 0
+begins q proof gs items = record { counted = omega arith; made = refl; pass = λ all. all; refuse = λ e refused. refused }
+
+module _ (q : Quiver) (proof : Cancellation) (gs ps : List (List (ℤ × List ℕ))) (items : List Item) (rows i : ℕ) (so_far : ItemsUpTo q proof gs ps items rows i) where
+  module _ (past : length items ≤ i) where
+    none_left : drop i items ≡ []
+    none_left = drop_all i items past
+
+    pub all_made : ps ≡ item_polynomials gs [] items
+    all_made = sym (append-nil ps) ∙ sym (ap (λ rest. ps ++ item_polynomials gs ps rest) none_left) ∙ so_far.made
+
+    pub all_pass : ItemsPass q proof gs [] items
+    all_pass = so_far.pass (subst (ItemsPass q proof gs ps) (sym none_left) tt)
+
+    pub all_counted : rows ≡ row_total items
+    all_counted = let rest = ap row_total none_left in let whole = so_far.counted in omega arith
+
+  module _ (x : Item) (inside : i < length items) (is : x ≡ get_or items i x) where
+    abbrev p : List (ℤ × List ℕ)
+    p = item_polynomial gs ps x
+
+    next : drop i items ≡ x ∷ drop (i + 1) items
+    next = drop_next items i x inside is
+
+    pub counted_next : (rows + rows_in x) + row_total (drop (i + 1) items) ≡ row_total items
+    counted_next = let one = ap row_total next in let whole = so_far.counted in omega arith
+
+    pub refuse_here : (e : CancelRefusal) → RefusesItem q proof gs ps rows x e → RefusesItems q proof gs [] 0 items e
+    refuse_here e refused = so_far.refuse e (subst (λ rest. RefusesItems q proof gs ps rows rest e) (sym next) (inl refused))
+
+    pub goes_on : ItemPasses q proof gs ps x → ItemsUpTo q proof gs (ps ++ p ∷ []) items (rows + rows_in x) (i + 1)
+    goes_on passes = record {
+      counted = counted_next;
+      made = append_assoc ps (p ∷ []) (item_polynomials gs (ps ++ p ∷ []) (drop (i + 1) items)) ∙ sym (ap (λ rest. ps ++ item_polynomials gs ps rest) next) ∙ so_far.made;
+      pass = λ later. so_far.pass (subst (ItemsPass q proof gs ps) (sym next) (passes, later));
+      refuse = λ e later. so_far.refuse e (subst (λ rest. RefusesItems q proof gs ps rows rest e) (sym next) (inr (passes, later)));
+    }
+
+-- the last test of an item: the terms of all polynomials so far
+pub passes_with : (q : Quiver) (proof : Cancellation) (gs ps : List (List (ℤ × List ℕ))) (x : Item) → IsMadeItem q proof gs ps x → term_total ps + length (item_polynomial gs ps x) ≤ 1000000 → ItemPasses q proof gs ps x
+passes_with q proof gs ps (item.Lemma l) made few = record { made = made; kept = few }
+passes_with q proof gs ps (item.Cancel letter end number) made few = record { comes_off = made; kept = few }
+
+pub keeps_too_much : (q : Quiver) (proof : Cancellation) (gs ps : List (List (ℤ × List ℕ))) (rows : ℕ) (x : Item) → IsMadeItem q proof gs ps x → 1000000 < term_total ps + length (item_polynomial gs ps x)
+    → (row : ℕ) → row ≡ rows + rows_in x → RefusesItem q proof gs ps rows x (refusal.Common (common.Kept row))
+keeps_too_much q proof gs ps rows (item.Lemma l) made many row last = record { last_row = last; made = made; kept = many }
+keeps_too_much q proof gs ps rows (item.Cancel letter end number) made many row last = record { last_row = omega (arith, last); comes_off = made; kept = many }
