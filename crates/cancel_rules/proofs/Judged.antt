@@ -68,8 +68,8 @@ module _ (q : Quiver) (proof : Cancellation) where
         inr (refusal.NotStripped (length before + 1), record { numbered = refl; item = typed; words = not_each (λ t. HasAtEnd end letter.0 t.1) whole first }, λ none. none)
 
     by_type : IsDeclaredLetter proof before letter end number → HasSignature q whole ⊎ (HasSignature q whole → ⊥) → CancelOutcome
-    by_type declared (inl typed) = by_words (record { letter = declared; typed = typed }) (first_not (λ (t : ℤ × List ℕ). HasAtEnd end letter.0 t.1) (λ t. at_end_or end letter.0 t.1) whole)
-    by_type declared (inr untyped) = inr (refusal.NotTyped (length before + 1), record { numbered = refl; letter = declared; typed = untyped }, λ none. none)
+    by_type declared (inl typed) = by_words (record { of_letter = declared; typed = typed }) (first_not (λ (t : ℤ × List ℕ). HasAtEnd end letter.0 t.1) (λ t. at_end_or end letter.0 t.1) whole)
+    by_type declared (inr untyped) = inr (refusal.NotTyped (length before + 1), record { numbered = refl; of_letter = declared; typed = untyped }, λ none. none)
 
     by_letter : IsNumberUpTo (length before) number → Contains (declared_for proof end) letter ⊎ (Contains (declared_for proof end) letter → ⊥) → CancelOutcome
     by_letter earlier (inl declared) = by_type (record { earlier = earlier; declared = declared }) (has_signature_or q whole)
@@ -142,7 +142,7 @@ module _ (q : Quiver) (claims generators : List (List (ℤ × List ℕ))) (proof
       inr (
         refusal.Common (common.LooseScale (first.before + 1)),
         refuses_from_beginning q claims generators proof (common.LooseScale (first.before + 1))
-        (posed, inl (record { before = first.before; item = first.item; numbered = refl; there = first.there; earlier = first.earlier; loose = first.fails })),
+            (posed, inl (record { before = first.before; item = first.item; numbered = refl; there = first.there; earlier = first.earlier; loose = first.fails })),
         λ none. none,
       )
 

@@ -10,3 +10,5 @@ pub mod Judged
 pub mod Unique
 pub mod Letters
 pub mod Steps
+pub mod Marking
+pub mod Ends

@@ -21,8 +21,8 @@ use Rattle.cancel_rules.specs.Laws.{AcceptedCancellationIsNotRefused}
 module _ (q : Quiver) (proof : Cancellation) (generators : List (List (ℤ × List ℕ))) where
   pub short_cancel : (before : List (List (ℤ × List ℕ))) (rows : ℕ) (letter : Letter) (end : Side) (number : ℕ) → CancelPasses q proof before letter end number
       → (e : CancelRefusal) → RefusesCancel q proof before rows letter end number e → IsMemory e
-  short_cancel before rows letter end number passes (refusal.NoSuchItem told) h = h.earlier passes.comes_off.item.letter.earlier
-  short_cancel before rows letter end number passes (refusal.NotDeclared told) h = h.declared passes.comes_off.item.letter.declared
+  short_cancel before rows letter end number passes (refusal.NoSuchItem told) h = h.earlier passes.comes_off.item.of_letter.earlier
+  short_cancel before rows letter end number passes (refusal.NotDeclared told) h = h.declared passes.comes_off.item.of_letter.declared
   short_cancel before rows letter end number passes (refusal.NotTyped told) h = h.typed passes.comes_off.item.typed
   short_cancel before rows letter end number passes (refusal.NotStripped told) h = h.words passes.comes_off.words
   short_cancel before rows letter end number passes (refusal.Common (common.Kept row)) h = let small = passes.kept in let large = h.kept in absurd (omega arith)

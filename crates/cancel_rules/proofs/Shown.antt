@@ -25,7 +25,7 @@ module _ (q : Quiver) (proof : Cancellation) (generators : List (List (ℤ × Li
       let whole = generator_at before number in
       let at_end = recursion_from_All (λ t. HasAtEnd end letter.0 t.1) whole passes.comes_off.words in
       record {
-        declared = passes.comes_off.item.letter.declared;
+        declared = passes.comes_off.item.of_letter.declared;
         typed = passes.comes_off.item.typed;
         same = record { at = λ w. sym (ap (λ p. coefficient_of p w) (put_back_stripped end letter.0 whole at_end)) };
         words = All-from_recursion (λ t. t.1 ≢ []) (stripped end whole) (words_left end letter.0 whole at_end);

@@ -100,8 +100,7 @@ module _ {Object Arrow : Type 0} {s : Structure Object Arrow} (laws : Preadditiv
       behind_leads b w path =
           let parts = split q has.source has.target (b ∷ w) (a ∷ []) path in
           let last = step q has.source parts.middle a [] parts.right in
-          let start : has.source ≡ source q a = eqb-true has.source (source q a) last.rest in
-          (
+          let start : has.source ≡ source q a = eqb-true has.source (source q a) last.rest in (
             subst (λ k. leads q k has.target (b ∷ w) ≡ true) (sym last.target) parts.left,
             subst (λ k. leads q (source q a) k (a ∷ []) ≡ true) (sym last.target) (subst (λ k. leads q k parts.middle (a ∷ []) ≡ true) start parts.right),
           )

@@ -54,12 +54,12 @@ module _ (q : Quiver) (proof : Cancellation) (before : List (List (ℤ × List �
   declared_before h = ((tt, h.earlier), h.declared)
 
   typed_before : IsTypedItem q proof before letter end number → Before CancelTest 3
-  typed_before h = (declared_before h.letter, h.typed)
+  typed_before h = (declared_before h.of_letter, h.typed)
 
   cancel_fails : (e : CancelRefusal) → RefusesCancel q proof before rows letter end number e → (IsMemory e → ⊥) → Fails CancelTest CancelTells e
   cancel_fails (refusal.NoSuchItem told) h not = record { number = 0; before = tt; fails = h.earlier; told = ap refusal.NoSuchItem h.numbered }
   cancel_fails (refusal.NotDeclared told) h not = record { number = 1; before = (tt, h.earlier); fails = h.declared; told = ap refusal.NotDeclared h.numbered }
-  cancel_fails (refusal.NotTyped told) h not = record { number = 2; before = declared_before h.letter; fails = h.typed; told = ap refusal.NotTyped h.numbered }
+  cancel_fails (refusal.NotTyped told) h not = record { number = 2; before = declared_before h.of_letter; fails = h.typed; told = ap refusal.NotTyped h.numbered }
   cancel_fails (refusal.NotStripped told) h not = record { number = 3; before = typed_before h.item; fails = h.words; told = ap refusal.NotStripped h.numbered }
   cancel_fails (refusal.Common (common.Kept row)) h not = record {
     number = 4;

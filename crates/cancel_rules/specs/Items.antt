@@ -65,7 +65,7 @@ pub record IsDeclaredLetter (proof : Cancellation) (before : List Poly) (letter 
 
 -- So it is, and the polynomial is typed.
 pub record IsTypedItem (q : Quiver) (proof : Cancellation) (before : List Poly) (letter : Letter) (end : Side) (number : ℕ) : Type 0 where
-  pub letter : IsDeclaredLetter proof before letter end number
+  pub of_letter : IsDeclaredLetter proof before letter end number
   pub typed : HasSignature q (generator_at before number)
 
 -- So it is, and each word has the letter at that end, and others.
@@ -92,7 +92,7 @@ pub record LacksDeclaration (proof : Cancellation) (before : List Poly) (letter 
 -- The letter is declared, and the polynomial isn't typed.
 pub record LacksType (q : Quiver) (proof : Cancellation) (before : List Poly) (letter : Letter) (end : Side) (number told : ℕ) : Type 0 where
   pub numbered : told ≡ length before + 1
-  pub letter : IsDeclaredLetter proof before letter end number
+  pub of_letter : IsDeclaredLetter proof before letter end number
   pub typed : HasSignature q (generator_at before number) → ⊥
 
 -- The polynomial is typed, and a word of it doesn't have the letter at that end, or has no other.

@@ -8,7 +8,7 @@ ghost use Rattle.cancel_rules.specs.Inner.{IsPolyOver, MarksDeclared, IsMadeItem
 ghost use Rattle.cancel_rules.specs.Items.{stripped, item_polynomial, item_polynomials, row_total, rows_in, ComesOff, ItemsPass, RefusesCancel, RefusesItem, RefusesItems};
 ghost use Rattle.cancel_rules.specs.Acceptance.{OfLemma, HasPositiveScales, IsLetterOf, IsReadableItem, IsReadableCancellation};
 
-use crate::marks::{Marks, marks};
+use crate::marks::{Marks, declared_marks};
 use crate::strip::{is_typed, strip};
 use crate::{CancelRefusal, Cancellation, Item, Side};
 use adjoint_rules::Problem;
@@ -115,7 +115,7 @@ pub(crate) fn make_items(
     ensures passed { OnOk result (ItemsPass (quiver_of problem.now.parts.quiver) proof.now (polynomials problem.now.generators) [] proof.now.items) }
     ensures refused { IfErr result (RefusesItems (quiver_of problem.now.parts.quiver) proof.now (polynomials problem.now.generators) [] 0 proof.now.items) }
 {
-    let marks = marks(alloc, proof, problem.parts.quiver.letters())?;
+    let marks = declared_marks(alloc, proof, problem.parts.quiver.letters())?;
     let mut polynomials = Listing::new(alloc);
     let mut rows = 0u32;
     let mut kept = 0usize;

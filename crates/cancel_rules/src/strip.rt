@@ -31,14 +31,20 @@ fn rest_of(word: &Word, letter: Letter, side: Side) -> Result<Option<Word>, Allo
     if length < 2 {
         return Ok(None);
     }
-    let (end, from, to) = match side {
-        Side::Left => (0, 1, length),
-        Side::Right => (length - 1, 0, length - 1),
-    };
-    if word.letter(end) != letter {
-        return Ok(None);
+    match side {
+        Side::Left => {
+            if word.letter(0) != letter {
+                return Ok(None);
+            }
+            Ok(Some(word.slice(1, length)?))
+        }
+        Side::Right => {
+            if word.letter(length - 1) != letter {
+                return Ok(None);
+            }
+            Ok(Some(word.slice(0, length - 1)?))
+        }
     }
-    Ok(Some(word.slice(from, to)?))
 }
 
 /// The polynomial without the letter at that end of each word; `None` exactly where a word doesn't have it there, or has
