@@ -12,3 +12,5 @@ pub mod Letters
 pub mod Steps
 pub mod Marking
 pub mod Ends
+pub mod Divides
+pub mod Signed

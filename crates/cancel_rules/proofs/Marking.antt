@@ -31,8 +31,7 @@ one_more letters a marks inside so_far = record { each = λ b. by b (cases_eq b.
       λ h. ap (λ n. get_or (set marks a.0 true) n false) same ∙ get_or-set_same marks a.0 true false inside,
     )
     by b (inr apart) =
-        let other = get_or-set_other marks a.0 b.0 true false apart in
-        (
+        let other = get_or-set_other marks a.0 b.0 true false apart in (
           λ is. Contains-append_left letters (a ∷ []) b ((so_far.each b).0 (sym other ∙ is)),
           λ h. other ∙ (so_far.each b).1 (first b apart (Contains-push_cases letters a b h)),
         )

@@ -1,5 +1,6 @@
 -- Items vanish one after another, and with them the claim.
 use Rattle.std.proofs.Common.{◌≡◌, ◌≢◌, ℕ, zero, suc, ◌<◌, ℤ, Bool, true, List, [], ◌∷◌, ◌++◌, All, sym, refl, ap, ap₂, subst, ◌∙◌, append_assoc, append-nil}
+use Rattle.std.proofs.lemmas.Bool.{and_from}
 use Rattle.std.proofs.lemmas.List.Elements.{All-contains, recursion_from_All}
 use Rattle.std.specs.List.{AllByRecursion, list_all}
 use Rattle.definitions.specs.Category.{Structure, IsArrow, PreadditiveLaws, InvolutionLaws}
@@ -23,14 +24,14 @@ use Rattle.cancel_rules.specs.Cancellations.{put_back, declared_for, IsWithout, 
 use Rattle.cancel_rules.specs.Meaning.{AreMonic, AreEpic, IsCancellationSound, IsCancellationStarSound}
 use Rattle.cancel_rules.proofs.Stripped.{is_some, IsNothing, whole_is_zero, front_is_nothing, behind_is_nothing}
 
+some_word : (w : List ℕ) → w ≢ [] → is_some w ≡ true
+some_word [] some = absurd (some refl)
+some_word (a ∷ w) some = refl
+
 -- no word is empty
 some_words : (p : List (ℤ × List ℕ)) → AllByRecursion (λ t. t.1 ≢ []) p → list_all (λ t. is_some t.1) p ≡ true
 some_words [] all = refl
-some_words (t ∷ p) all = go t.1 all.0
-  where
-    go : (w : List ℕ) → w ≢ [] → list_all (λ t. is_some t.1) ((t.0, w) ∷ p) ≡ true
-    go [] some = absurd (some refl)
-    go (a ∷ w) some = some_words p all.1
+some_words (t ∷ p) all = and_from (is_some t.1) (list_all (λ u. is_some u.1) p) (some_word t.1 all.0) (some_words p all.1)
 
 put_back_front : (a : ℕ) (p : List (ℤ × List ℕ)) → put_back side.Left a p ≡ poly_between (a ∷ []) p []
 put_back_front a [] = refl

@@ -1,5 +1,5 @@
 -- What is told of a part of a proof is told of the proof.
-use Rattle.std.proofs.Common.{inl, inr, ℕ, ℤ, ◌+◌, List, [], ◌∷◌, ◌++◌}
+use Rattle.std.proofs.Common.{◌≡◌, inl, inr, ℕ, ℤ, ◌+◌, List, [], ◌∷◌, ◌++◌, Result, Ok, Err, IfErr, IsErrAnd, sym, subst}
 use Rattle.definitions.specs.Quiver.{Quiver}
 use Rattle.cofactor_checker.specs.Goals.{RefusesGoal}
 use Rattle.cofactor_checker.specs.declared.refusal.Refusal.{Refusal}
@@ -29,3 +29,8 @@ module _ (q : Quiver) (claims generators : List (List (ℤ × List ℕ))) (proof
   pub refuses_from_goal : HasItems q claims generators proof → (e : Refusal) → RefusesGoal generators (all_items generators proof) (row_total proof.items) proof.goal (claim_named claims proof) e
       → RefusesCancellation q claims generators proof (refusal.Common e)
   refuses_from_goal has e told = from_parts (refusal.Common e) (inr (has, told))
+
+-- a refusal in the words of certificates that is handed on
+pub err_told : {A : Type 0} (P : CancelRefusal → Type 0) (r : Result A CancelRefusal) (x : Refusal) → IsErrAnd r (λ e. e ≡ refusal.Common x) → P (refusal.Common x) → IfErr r P
+err_told P (Ok a) x told p = absurd told
+err_told P (Err e) x told p = subst P (sym told) p

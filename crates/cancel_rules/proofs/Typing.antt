@@ -11,10 +11,7 @@ use Rattle.nc_polynomial.proofs.CollectedTerms.{coefficient_of-collected, descen
 use Rattle.nc_polynomial.proofs.Distinct.{distinct-descending, words_listed}
 
 module _ (q : Quiver) where
-  -- each word is a path from u to v
-  abbrev Paths : ℕ → ℕ → List Term → Type 0
-  Paths u v p = AllByRecursion (λ t. is_path q u v t.1 ≡ true) p
-
+  -- each word is a path from u to v, or one isn't
   paths_or : (u v : ℕ) (p : List Term) → AllByRecursion (λ t. is_path q u v t.1 ≡ true) p ⊎ (AllByRecursion (λ t. is_path q u v t.1 ≡ true) p → ⊥)
   paths_or u v [] = inl tt
   paths_or u v (t ∷ p) = by (is_path q u v t.1) refl (paths_or u v p)

@@ -99,12 +99,6 @@ module _ (q : Quiver) (proof : Cancellation) (generators : List (List (ℤ × Li
 
 -- ---- the first scale that doesn't divide
 module _ (proof : Cancellation) where
-  abbrev Tight : Item → Type 0
-  Tight = OfLemma (IsTight proof.denominator)
-
-  abbrev IsLoose : ℕ → Type 0
-  IsLoose told = IsFirstLooseItem proof.denominator proof.items told ⊎ CancelHasLooseGoal proof told
-
   not_tight : (told : ℕ) → IsFirstLooseItem proof.denominator proof.items told → All (OfLemma (IsTight proof.denominator)) proof.items → ⊥
   not_tight told h each =
       h.loose (subst (OfLemma (IsTight proof.denominator)) (get_or_from_slice_get proof.items h.before h.item h.item h.there) (each h.before h.item (slice_get_within proof.items h.before h.item h.there)))

@@ -18,7 +18,8 @@ fn claim_of<'a>(problem: &'a Problem, proof: &Cancellation) -> Result<&'a Poly, 
     ensures begins { OnOk result (CancelBegins (polynomials problem.now.parts.claims) proof.now) }
     ensures refused { IfErr result (RefusesBeginning (polynomials problem.now.parts.claims) proof.now) }
 {
-    let Some(claim) = numbered(problem.parts.claims.as_slice(), proof.claim) else {
+    let claims = problem.parts.claims.as_slice();
+    let Some(claim) = numbered(claims, proof.claim) else {
         return Err(Refusal::NoSuchClaim);
     };
     if !is_positive(proof) {
@@ -27,10 +28,10 @@ fn claim_of<'a>(problem: &'a Problem, proof: &Cancellation) -> Result<&'a Poly, 
     if let Some(lemma) = loose_scale(proof) {
         return Err(Refusal::LooseScale { lemma });
     }
-    match overflow_of_multiple(proof.goal.scale, claim.terms.as_slice()) {
-        None => Ok(claim),
-        Some(overflow) => Err(Refusal::Overflow { row: 0, overflow }),
+    if let Some(overflow) = overflow_of_multiple(proof.goal.scale, claim.terms.as_slice()) {
+        return Err(Refusal::Overflow { row: 0, overflow });
     }
+    Ok(claim)
 }
 
 /// Whether the proof leads to the claim that it names, over the generators of the problem: its items follow one after
