@@ -14,3 +14,4 @@ pub mod Marking
 pub mod Ends
 pub mod Divides
 pub mod Signed
+pub mod Found

@@ -4,11 +4,14 @@ use Rattle.definitions.specs.Quiver.{Quiver}
 use Rattle.cofactor_checker.specs.Goals.{RefusesGoal}
 use Rattle.cofactor_checker.specs.declared.refusal.Refusal.{Refusal}
 use Rattle.cofactor_checker.specs.declared.refusal.Refusal.TheVariants as common
+use Rattle.word_core.specs.declared.letter.Letter.{Letter}
+use Rattle.cancel_rules.specs.declared.cancellation.Side.{Side}
+use Rattle.cancel_rules.specs.declared.cancellation.Item.TheVariants as item
 use Rattle.cancel_rules.specs.declared.cancellation.Cancellation.{Cancellation}
 use Rattle.cancel_rules.specs.declared.refusal.CancelRefusal.{CancelRefusal}
 use Rattle.cancel_rules.specs.declared.refusal.CancelRefusal.TheVariants as refusal
-use Rattle.cancel_rules.specs.Items.{row_total, RefusesItems}
-use Rattle.cancel_rules.specs.Acceptance.{claim_named, all_items, CancelBegins, HasItems, RefusesBeginning, RefusesParts, RefusesCommon, RefusesCancellation}
+use Rattle.cancel_rules.specs.Items.{row_total, RefusesCancel, RefusesItem, RefusesItems}
+use Rattle.cancel_rules.specs.Acceptance.{claim_named, all_items, CancelBegins, HasItems, RefusesBeginning, RefusesParts, RefusesCommon, RefusesCancellation, IsMemory}
 
 module _ (q : Quiver) (claims generators : List (List (ℤ × List ℕ))) (proof : Cancellation) where
   -- before the items
@@ -34,3 +37,20 @@ module _ (q : Quiver) (claims generators : List (List (ℤ × List ℕ))) (proof
 pub err_told : {A : Type 0} (P : CancelRefusal → Type 0) (r : Result A CancelRefusal) (x : Refusal) → IsErrAnd r (λ e. e ≡ refusal.Common x) → P (refusal.Common x) → IfErr r P
 err_told P (Ok a) x told p = absurd told
 err_told P (Err e) x told p = subst P (sym told) p
+
+-- want of memory
+pub memory_only : {A : Type 0} (r : Result A CancelRefusal) → IsErrAnd r IsMemory → IfErr r IsMemory
+memory_only (Ok a) told = absurd told
+memory_only (Err e) told = told
+
+pub memory_told : {A : Type 0} (q : Quiver) (claims generators : List (List (ℤ × List ℕ))) (proof : Cancellation) (r : Result A CancelRefusal) → IsErrAnd r IsMemory → IfErr r (λ e. RefusesCancellation q claims generators proof e)
+memory_told q claims generators proof (Ok a) told = absurd told
+memory_told q claims generators proof (Err (refusal.Common (common.Memory f))) told = tt
+memory_told q claims generators proof (Err (refusal.Common other)) told = absurd told
+memory_told q claims generators proof (Err other) told = absurd told
+
+-- what is told of a cancellation is told of its item
+pub cancel_refused : {A : Type 0} (q : Quiver) (proof : Cancellation) (generators before : List (List (ℤ × List ℕ))) (rows : ℕ) (letter : Letter) (end : Side) (number : ℕ) (r : Result A CancelRefusal)
+    → IfErr r (λ e. RefusesCancel q proof before rows letter end number e) → IfErr r (λ e. RefusesItem q proof generators before rows (item.Cancel letter end number) e)
+cancel_refused q proof generators before rows letter end number (Ok a) told = tt
+cancel_refused q proof generators before rows letter end number (Err e) told = told

@@ -1,6 +1,7 @@
 -- One item after another.
-use Rattle.std.proofs.Common.{◌≡◌, inl, inr, ℕ, ◌+◌, ◌<◌, ◌≤◌, ℤ, List, [], ◌∷◌, ◌++◌, length, drop, get_or, refl, sym, ap, subst, ◌∙◌, append_assoc, arith}
+use Rattle.std.proofs.Common.{◌≡◌, inl, inr, ℕ, ◌+◌, ◌<◌, ◌≤◌, ℤ, List, [], ◌∷◌, ◌++◌, length, drop, get_or, Result, Ok, Err, IfErr, IsErrAnd, refl, sym, ap, subst, ◌∙◌, append_assoc, arith}
 use Rattle.std.proofs.lemmas.List.{drop_all, append-nil}
+use Rattle.std.specs.declared.alloc.AllocError.{AllocError}
 use Rattle.definitions.specs.Quiver.{Quiver}
 use Rattle.nc_polynomial.proofs.Steps.{drop_next}
 use Rattle.cofactor_checker.specs.Lemmas.{term_total}
@@ -11,6 +12,7 @@ use Rattle.cancel_rules.specs.declared.refusal.CancelRefusal.{CancelRefusal}
 use Rattle.cancel_rules.specs.declared.refusal.CancelRefusal.TheVariants as refusal
 use Rattle.cofactor_checker.specs.declared.refusal.Refusal.TheVariants as common
 use Rattle.cancel_rules.specs.Items.{item_polynomial, item_polynomials, row_total, rows_in, ItemPasses, ItemsPass, RefusesItem, RefusesItems}
+use Rattle.cancel_rules.specs.Acceptance.{IsMemory}
 use Rattle.cancel_rules.specs.Inner.{IsMadeItem}
 
 -- The items before this one are made: these are their polynomials, and they have so many rows.
@@ -57,6 +59,17 @@ module _ (q : Quiver) (proof : Cancellation) (gs ps : List (List (ℤ × List �
       pass = λ later. so_far.pass (subst (ItemsPass q proof gs ps) (sym next) (passes, later));
       refuse = λ e later. so_far.refuse e (subst (λ rest. RefusesItems q proof gs ps rows rest e) (sym next) (inr (passes, later)));
     }
+
+    of_memory : (y : Item) (f : AllocError) → RefusesItem q proof gs ps rows y (refusal.Common (common.Memory f))
+    of_memory (item.Lemma l) f = tt
+    of_memory (item.Cancel letter end number) f = tt
+
+    -- want of memory at this item
+    pub memory_here : {A : Type 0} (r : Result A CancelRefusal) → IsErrAnd r IsMemory → IfErr r (λ e. RefusesItems q proof gs [] 0 items e)
+    memory_here (Ok a) told = absurd told
+    memory_here (Err (refusal.Common (common.Memory f))) told = refuse_here (refusal.Common (common.Memory f)) (of_memory x f)
+    memory_here (Err (refusal.Common other)) told = absurd told
+    memory_here (Err other) told = absurd told
 
 -- the last test of an item: the terms of all polynomials so far
 pub passes_with : (q : Quiver) (proof : Cancellation) (gs ps : List (List (ℤ × List ℕ))) (x : Item) → IsMadeItem q proof gs ps x → term_total ps + length (item_polynomial gs ps x) ≤ 1000000 → ItemPasses q proof gs ps x

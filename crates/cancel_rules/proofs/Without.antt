@@ -135,3 +135,8 @@ module _ (letters : ℕ) where
       each : (p : List Term) → AllByRecursion (λ t. IsOver letters t.1) p → AllByRecursion (λ t. IsOver letters t.1) (stripped end p)
       each [] all = tt
       each (t ∷ p) all = (word_over end t.1 all.0, each p all.1)
+
+-- one term more
+pub stripped_push : (end : Side) (p : List Term) (t : Term) → stripped end (p ++ t ∷ []) ≡ stripped end p ++ (t.0, word_without end t.1) ∷ []
+stripped_push end [] t = refl
+stripped_push end (u ∷ p) t = ap (λ rest. (u.0, word_without end u.1) ∷ rest) (stripped_push end p t)

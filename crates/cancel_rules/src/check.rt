@@ -4,6 +4,7 @@ ghost use Rattle.cancel_rules.specs.Acceptance.{claim_named, CancelBegins, Refus
 ghost use Rattle.adjoint_rules.specs.Problem.{polynomials};
 
 use crate::items::make_items;
+use crate::marks::declared_marks;
 use crate::scales::{is_positive, loose_scale};
 use crate::{CancelRefusal, Cancellation};
 use adjoint_rules::Problem;
@@ -50,7 +51,8 @@ pub fn check_cancellation(
     ensures complete { IsAccepted problem.now proof.now → IfErr result IsMemory }
 {
     let claim = claim_of(problem, proof)?;
-    let made = make_items(alloc, problem, proof)?;
+    let marks = declared_marks(alloc, proof, problem.parts.quiver.letters())?;
+    let made = make_items(alloc, problem, proof, &marks)?;
     let generators = problem.generators.as_slice();
     let items = made.polynomials.as_slice();
     check_goal(alloc, claim, generators, items, &proof.goal, made.rows)?;

@@ -8,7 +8,7 @@ ghost use Rattle.cancel_rules.specs.Inner.{IsPolyOver, MarksDeclared, IsMadeItem
 ghost use Rattle.cancel_rules.specs.Items.{stripped, item_polynomial, item_polynomials, row_total, rows_in, ComesOff, ItemsPass, RefusesCancel, RefusesItem, RefusesItems};
 ghost use Rattle.cancel_rules.specs.Acceptance.{OfLemma, HasPositiveScales, IsLetterOf, IsReadableItem, IsReadableCancellation};
 
-use crate::marks::{Marks, declared_marks};
+use crate::marks::Marks;
 use crate::strip::{is_typed, strip};
 use crate::{CancelRefusal, Cancellation, Item, Side};
 use adjoint_rules::Problem;
@@ -66,7 +66,11 @@ fn cancel(
     if !is_typed(&problem.parts.quiver, whole) {
         return Err(CancelRefusal::NotTyped { item: number });
     }
-    strip(alloc, whole, letter, side)?.ok_or(CancelRefusal::NotStripped { item: number })
+    let stripped = strip(alloc, whole, letter, side)?;
+    match stripped {
+        Some(polynomial) => Ok(polynomial),
+        None => Err(CancelRefusal::NotStripped { item: number }),
+    }
 }
 
 // The polynomial of an item behind these polynomials, before which so many rows stand, or what is told of it.
@@ -107,7 +111,9 @@ pub(crate) fn make_items(
     alloc: Global,
     problem: &Problem,
     proof: &Cancellation,
+    marks: &Marks,
 ) -> Result<MadeItems, CancelRefusal>
+    requires marks { MarksDeclared proof.now marks.now }
     requires readable { IsReadableCancellation problem.now.parts.quiver proof.now }
     requires scales { HasPositiveScales proof.now }
     ensures polynomials { IfOk result (λ made. polynomials made.polynomials ≡ item_polynomials (polynomials problem.now.generators) [] proof.now.items) }
@@ -115,14 +121,13 @@ pub(crate) fn make_items(
     ensures passed { OnOk result (ItemsPass (quiver_of problem.now.parts.quiver) proof.now (polynomials problem.now.generators) [] proof.now.items) }
     ensures refused { IfErr result (RefusesItems (quiver_of problem.now.parts.quiver) proof.now (polynomials problem.now.generators) [] 0 proof.now.items) }
 {
-    let marks = declared_marks(alloc, proof, problem.parts.quiver.letters())?;
     let mut polynomials = Listing::new(alloc);
     let mut rows = 0u32;
     let mut kept = 0usize;
     let items = proof.items.as_slice();
     for item in items {
         let before = polynomials.as_slice();
-        let polynomial = make_item(alloc, problem, &marks, before, item, rows)?;
+        let polynomial = make_item(alloc, problem, marks, before, item, rows)?;
         rows += rows_in(item);
         kept += polynomial.terms();
         if kept > KEPT_LIMIT {

@@ -14,7 +14,7 @@ use Rattle.cancel_rules.specs.declared.refusal.CancelRefusal.TheVariants.{Common
 use Rattle.cancel_rules.specs.Cancellations.{declared_for}
 use Rattle.cancel_rules.specs.Items.{row_total, RefusesItems}
 use Rattle.cancel_rules.specs.Acceptance.{claim_named, all_items, HasItems, AcceptsCancellation, RefusesCancellation, IsReadableCancellation, IsMemory}
-use Rattle.cancel_rules.proofs.Outcomes.{refuses_from_beginning, refuses_from_items, refuses_from_goal, err_told}
+use Rattle.cancel_rules.proofs.Outcomes.{refuses_from_beginning, refuses_from_items, refuses_from_goal, err_told, memory_only, memory_told}
 use Rattle.cancel_rules.proofs.Shown.{accepted_cancellation_leads}
 use Rattle.cancel_rules.proofs.Short.{short}
 use Rattle.cancel_rules.proofs.check.check_cancellation.Goals as goal
@@ -40,6 +40,20 @@ returns-in_err-claim-clause-complete c = λ accepted.
     let passed = goal.at.returns-in_err-claim-clause-complete c in
     err_told IsMemory c.from_residual.result c.in_err-claim.field-0.0 c.from_residual.ensures.1
     (short (quiver_of c.args.problem.now.parts.quiver) (polynomials c.args.problem.now.parts.claims) (polynomials c.args.problem.now.generators) c.args.proof.now accepted (Common c.in_err-claim.field-0.0) (begun_wrong passed.In_err-claim))
+
+-- the tables of letters
+pub returns-in_err-marks-clause-refuses : goal.returns-in_err-marks-clause-refuses
+returns-in_err-marks-clause-refuses c =
+    memory_told (quiver_of c.args.problem.now.parts.quiver) (polynomials c.args.problem.now.parts.claims) (polynomials c.args.problem.now.generators) c.args.proof.now c.from_residual-in_err-marks.result c.from_residual-in_err-marks.ensures.1
+
+pub returns-in_err-marks-clause-complete : goal.returns-in_err-marks-clause-complete
+returns-in_err-marks-clause-complete c = λ accepted. memory_only c.from_residual-in_err-marks.result c.from_residual-in_err-marks.ensures.1
+
+pub declared_marks-requires-clause-monic : goal.declared_marks-requires-clause-monic
+declared_marks-requires-clause-monic c = rw c.letters.ensures.count c.requires.monic
+
+pub declared_marks-requires-clause-epic : goal.declared_marks-requires-clause-epic
+declared_marks-requires-clause-epic c = rw c.letters.ensures.count c.requires.epic
 
 -- an item
 item_wrong : (c : In_err-made) → RefusesCancellation (quiver_of c.args.problem.now.parts.quiver) (polynomials c.args.problem.now.parts.claims) (polynomials c.args.problem.now.generators) c.args.proof.now c.in_err-made.field-0.0

@@ -12,7 +12,7 @@ use Rattle.cancel_rules.specs.declared.refusal.CancelRefusal.TheVariants as refu
 use Rattle.cancel_rules.specs.Items.{item_polynomial, rows_in, ItemPasses, RefusesItem, RefusesItems}
 use Rattle.cancel_rules.specs.Acceptance.{OfLemma, IsReadableItem}
 use Rattle.cancel_rules.specs.Inner.{IsPolyOver, IsMadeItem, MarksDeclared}
-use Rattle.cancel_rules.proofs.Steps.{ItemsUpTo, refuse_here, goes_on, passes_with, keeps_too_much}
+use Rattle.cancel_rules.proofs.Steps.{ItemsUpTo, refuse_here, goes_on, memory_here, passes_with, keeps_too_much}
 use Rattle.cancel_rules.proofs.items.make_items.Goals as goal
 
 pub returns-then-kept-gt-KEPT_LIMIT-clause-refused : goal.returns-then-kept-gt-KEPT_LIMIT-clause-refused
@@ -26,15 +26,15 @@ returns-then-kept-gt-KEPT_LIMIT-clause-refused c =
     let list_is : c.as_slice-before.result.now ≡ c.loop-item.polynomials = search rules in
     let same_there : p.terms ≡ item_polynomial gs (polynomials c.as_slice-before.result.now) x = c.in_ok-polynomial.ensures.polynomial in
     let same : p.terms ≡ item_polynomial gs ps x = subst (λ b. p.terms ≡ item_polynomial gs (polynomials b) x) list_is same_there in
-    let made : IsMadeItem q proof gs ps x = subst (λ b. IsMadeItem q proof gs (polynomials b) x) list_is (c.in_ok-polynomial.ensures.made proof c.in_ok-marks.ensures) in
+    let made : IsMadeItem q proof gs ps x = subst (λ b. IsMadeItem q proof gs (polynomials b) x) list_is (c.in_ok-polynomial.ensures.made proof c.requires.marks) in
     let count : c.terms-kept.result ≡ length p.terms = search rules in
     let large : 1000000 < c.loop-item.kept + c.terms-kept.result = search rules in
     let kept = c.loop-item.invariant.kept in
     let long = count ∙ ap length same in
-    let rows : c.rows_in.result ≡ rows_in x = search rules in
+    let rows : c.rows_in-rows.result ≡ rows_in x = search rules in
     let here = refuse_here q proof gs ps c.as_slice-items.result.now c.loop-item.rows c.loop-item.item-index c.loop-item.invariant.so_far x c.loop-item-test.true c.item-item.is
-    (refusal.Common (common.Kept (c.loop-item.rows + c.rows_in.result)))
-    (keeps_too_much q proof gs ps c.loop-item.rows x made (omega arith) (c.loop-item.rows + c.rows_in.result) (ap (λ n. c.loop-item.rows + n) rows)) in
+    (refusal.Common (common.Kept (c.loop-item.rows + c.rows_in-rows.result)))
+    (keeps_too_much q proof gs ps c.loop-item.rows x made (omega arith) (c.loop-item.rows + c.rows_in-rows.result) (ap (λ n. c.loop-item.rows + n) rows)) in
     rw (← c.as_slice-items.ensures) here
 
 pub loop-item-preserved : goal.loop-item-preserved
@@ -50,12 +50,12 @@ loop-item-preserved c =
     let list_is : c.as_slice-before.result.now ≡ c.loop-item.polynomials = search rules in
     let same_there : p.terms ≡ item_polynomial gs (polynomials c.as_slice-before.result.now) x = c.in_ok-polynomial.ensures.polynomial in
     let same : p.terms ≡ item_polynomial gs ps x = subst (λ b. p.terms ≡ item_polynomial gs (polynomials b) x) list_is same_there in
-    let made : IsMadeItem q proof gs ps x = subst (λ b. IsMadeItem q proof gs (polynomials b) x) list_is (c.in_ok-polynomial.ensures.made proof c.in_ok-marks.ensures) in
+    let made : IsMadeItem q proof gs ps x = subst (λ b. IsMadeItem q proof gs (polynomials b) x) list_is (c.in_ok-polynomial.ensures.made proof c.requires.marks) in
     let count : c.terms-kept.result ≡ length p.terms = search rules in
     let small : c.loop-item.kept + c.terms-kept.result ≤ 1000000 = search rules in
     let kept = c.loop-item.invariant.kept in
     let long = count ∙ ap length same in
-    let rows : c.rows_in.result ≡ rows_in x = search rules in
+    let rows : c.rows_in-rows.result ≡ rows_in x = search rules in
     let pushed : c.push.new.self ≡ before ++ p ∷ [] = search rules in
     let more = ap length pushed ∙ length-append before (p ∷ []) in
     let counted = c.loop-item.invariant.made in
@@ -80,3 +80,9 @@ pub make_item-requires-clause-readable : goal.make_item-requires-clause-readable
 make_item-requires-clause-readable c =
     let ds = c.args.problem.now.parts.quiver in
     at_item (IsReadableItem ds) c.as_slice-items.result.now c.loop-item.item-index c.item-item.result c.loop-item-test.true c.item-item.is (subst (All (IsReadableItem ds)) (sym c.as_slice-items.ensures) c.requires.readable.items)
+
+pub returns-in_err-push-clause-refused : goal.returns-in_err-push-clause-refused
+returns-in_err-push-clause-refused c =
+    let here = memory_here (quiver_of c.args.problem.now.parts.quiver) c.args.proof.now (polynomials c.args.problem.now.generators) (polynomials c.loop-item.polynomials) c.as_slice-items.result.now c.loop-item.rows c.loop-item.item-index
+    c.loop-item.invariant.so_far c.item-item.result c.loop-item-test.true c.item-item.is c.from_residual-in_err-push.result c.from_residual-in_err-push.ensures.1 in
+    rw (← c.as_slice-items.ensures) here

@@ -1,11 +1,22 @@
-use Rattle.std.proofs.Common.{rules, ◌≡◌, ◌<◌, [], ◌∷◌, ◌++◌, false, length, replicate, take, sym, ap, subst, ◌∙◌, arith}
-use Rattle.std.proofs.lemmas.List.{length-set}
-use Rattle.nc_polynomial.proofs.Steps.{take_next}
-use Rattle.cofactor_checker.proofs.Each.{at_item}
+use Rattle.std.proofs.Common.{◌≡◌, ◌<◌, [], ◌∷◌, ◌++◌, true, get_or, length, set, take, sym, subst, ◌∙◌}
+use Rattle.std.proofs.lemmas.List.{length-set, take_more}
 use Rattle.word_core.specs.declared.letter.Letter.{Letter}
 use Rattle.cancel_rules.specs.Inner.{MarksLetters}
-use Rattle.cancel_rules.proofs.Marking.{nothing_marked, one_more}
+use Rattle.cancel_rules.proofs.Marking.{one_more}
 use Rattle.cancel_rules.proofs.marks.marks_of.Goals as goal
 
 pub loop-letter-preserved : goal.loop-letter-preserved
-loop-letter-preserved c = ?
+loop-letter-preserved c =
+    let letters = c.args.letters.now in
+    let i = c.loop-letter.letter-index in
+    let marks = c.loop-letter.marks.items in
+    let none : Letter = record { 0 = 0 } in
+    let a : Letter = get_or letters i none in
+    let long = c.loop-letter.invariant.long in
+    let inside : a.0 < c.args.count = c.requires i none c.loop-letter-test.true in
+    let marked : MarksLetters (take i letters ++ a ∷ []) (set marks a.0 true) = one_more (take i letters) a marks (subst (λ n. a.0 < n) (sym long) inside) c.loop-letter.invariant.marked in
+    record {
+      long = length-set marks c.from.result true ∙ long;
+      marked = subst (λ xs. MarksLetters xs (set marks c.from.result true)) (sym (take_more letters i none c.loop-letter-test.true))
+          (subst (λ n. MarksLetters (take i letters ++ a ∷ []) (set marks n true)) (sym c.from.ensures) marked);
+    }

@@ -1,4 +1,4 @@
-use Rattle.std.proofs.Common.{rules, ◌≡◌, All, length, take, refl, subst, arith, to_z, of_z}
+use Rattle.std.proofs.Common.{rules, ◌≡◌, All, length, take, refl, sym, subst, arith, to_z, of_z}
 use mir.Syntax.{w128}
 use Rattle.std.proofs.lemmas.Option.{slice_get_read}
 use Rattle.cofactor_checker.specs.LemmaAcceptance.{HasScale, IsTight}
@@ -22,7 +22,7 @@ returns-then-not-is_tight-clause-loose c =
       numbered = omega arith;
       there = slice_get_read items (length items) i c.item-item.result refl c.loop-item-test.true c.item-item.is;
       earlier = earlier;
-      loose = λ tight. clash c.is_tight.result (c.is_tight.ensures.1 tight) c.if-not-is_tight.true;
+      loose = λ tight. clash c.is_tight.result (c.is_tight.ensures.1 (subst (λ z. OfLemma (IsTight z) c.item-item.result) (sym is) tight)) c.if-not-is_tight.true;
     }
 
 pub loop-item-preserved : goal.loop-item-preserved
@@ -31,7 +31,7 @@ loop-item-preserved c =
     let earlier = subst (λ z. All (OfLemma (IsTight z)) (take c.loop-item.item-index c.args.items.now)) is c.loop-item.invariant.tight in
     rw is (record {
       numbered = omega arith;
-      tight = all_more (OfLemma (IsTight c.args.denominator)) c.args.items.now c.loop-item.item-index c.item-item.result c.loop-item-test.true c.item-item.is earlier (c.is_tight.ensures.0 c.if-not-is_tight.false);
+      tight = all_more (OfLemma (IsTight c.args.denominator)) c.args.items.now c.loop-item.item-index c.item-item.result c.loop-item-test.true c.item-item.is earlier (subst (λ z. OfLemma (IsTight z) c.item-item.result) is (c.is_tight.ensures.0 c.if-not-is_tight.false));
     })
 
 pub returns-clause-tight : goal.returns-clause-tight

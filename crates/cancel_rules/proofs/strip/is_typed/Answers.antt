@@ -6,7 +6,7 @@ use Rattle.cancel_rules.proofs.strip.is_typed.Goals as goal
 pub returns-then-terms-eq0 : goal.returns-then-terms-eq0
 returns-then-terms-eq0 c =
     let none : length c.args.poly.now.terms ≡ 0 = search rules in
-    (λ is. zero_is_typed (quiver_of c.args.quiver.now) c.requires.object c.args.poly.now.terms none, λ has. refl)
+    (λ is. zero_is_typed (quiver_of c.args.quiver.now) c.requires.object c.args.poly.now.terms none, λ has. search rules)
 
 pub returns-else-terms-eq0 : goal.returns-else-terms-eq0
 returns-else-terms-eq0 c =

@@ -1,9 +1,10 @@
-use Rattle.std.proofs.Common.{rules, ◌≡◌, All, length, take, ◌≤◌, sym, ap, subst, ◌∙◌, arith}
+use Rattle.std.proofs.Common.{rules, ◌≡◌, ◌≤◌, ℕ, ℤ, List, [], ◌∷◌, ◌++◌, All, length, take, sym, ap, ap₂, subst, ◌∙◌}
 use Rattle.std.proofs.lemmas.List.{take_all}
 use Rattle.nc_polynomial.specs.Shape.{IsCanonical}
-use Rattle.cofactor_checker.proofs.Each.{all_more, all_whole, at_item}
+use Rattle.nc_polynomial.proofs.Steps.{take_next}
+use Rattle.cofactor_checker.proofs.Each.{all_more, all_whole}
 use Rattle.cancel_rules.specs.Items.{stripped, HasAtEnd}
-use Rattle.cancel_rules.proofs.Without.{canonical_stripped}
+use Rattle.cancel_rules.proofs.Without.{canonical_stripped, stripped_push}
 use Rattle.cancel_rules.proofs.strip.strip.Goals as goal
 
 pub invariant_of-result : goal.invariant_of-result
@@ -15,4 +16,16 @@ invariant_of-result c =
     record { canonical = subst IsCanonical (sym is) (canonical_stripped c.args.side c.args.letter.0 p.terms p.canonical at_end) }
 
 pub loop-term-preserved : goal.loop-term-preserved
-loop-term-preserved c = ?
+loop-term-preserved c =
+    let p = c.args.poly.now.terms in
+    let i = c.loop-term.term-index in
+    let t = c.term-item.result in
+    let end = c.args.side in
+    let rest = c.in-Some.rest in
+    let has = rw c.in-Some.is at c.in_ok-rest.ensures in
+    let pushed : c.push.new.self ≡ c.loop-term.terms ++ (t.0, rest) ∷ [] = search rules in
+    record {
+      at_end = all_more (λ (u : ℤ × List ℕ). HasAtEnd c.args.side c.args.letter.0 u.1) p i t c.loop-term-test.true c.term-item.is c.loop-term.invariant.at_end has.0;
+      made = pushed ∙ ap₂ (λ (ts : List (ℤ × List ℕ)) (w : List ℕ). ts ++ (t.0, w) ∷ []) c.loop-term.invariant.made has.1
+          ∙ sym (ap (stripped end) (take_next p i t c.loop-term-test.true c.term-item.is) ∙ stripped_push end (take i p) t);
+    }
