@@ -1,4 +1,4 @@
-use Rattle.std.proofs.Common.{rules, ◌≡◌, ◌+◌, ◌<◌, ◌≤◌, ◌++◌, [], ◌∷◌, All, length, Err, sym, ap, subst, ◌∙◌, arith}
+use Rattle.std.proofs.Common.{rules, ◌≡◌, ◌+◌, ◌<◌, ◌≤◌, ◌++◌, [], ◌∷◌, All, length, IfErr, sym, ap, subst, ◌∙◌, arith}
 use Rattle.std.proofs.lemmas.List.{length-append}
 use Rattle.std.proofs.lemmas.List.Elements.{All-push}
 use Rattle.quiver.specs.Declarations.{quiver_of}
@@ -85,4 +85,4 @@ pub returns-in_err-push-clause-refused : goal.returns-in_err-push-clause-refused
 returns-in_err-push-clause-refused c =
     let here = memory_here (quiver_of c.args.problem.now.parts.quiver) c.args.proof.now (polynomials c.args.problem.now.generators) (polynomials c.loop-item.polynomials) c.as_slice-items.result.now c.loop-item.rows c.loop-item.item-index
     c.loop-item.invariant.so_far c.item-item.result c.loop-item-test.true c.item-item.is c.from_residual-in_err-push.result c.from_residual-in_err-push.ensures.1 in
-    rw (← c.as_slice-items.ensures) here
+    subst (λ items. IfErr c.from_residual-in_err-push.result (λ e. RefusesItems (quiver_of c.args.problem.now.parts.quiver) c.args.proof.now (polynomials c.args.problem.now.generators) [] 0 items e)) c.as_slice-items.ensures here

@@ -1,4 +1,4 @@
-use Rattle.std.proofs.Common.{rules, ◌≡◌, ◌≤◌, ℕ, ℤ, List, [], ◌∷◌, ◌++◌, All, length, take, sym, ap, ap₂, subst, ◌∙◌}
+use Rattle.std.proofs.Common.{rules, ◌≡◌, ◌<◌, ◌≤◌, get_or, ℕ, ℤ, List, [], ◌∷◌, ◌++◌, All, length, take, sym, ap, ap₂, subst, ◌∙◌}
 use Rattle.std.proofs.lemmas.List.{take_all}
 use Rattle.nc_polynomial.specs.Shape.{IsCanonical}
 use Rattle.nc_polynomial.proofs.Steps.{take_next}
@@ -22,10 +22,13 @@ loop-term-preserved c =
     let t = c.term-item.result in
     let end = c.args.side in
     let rest = c.in-Some.rest in
+    let same : c.as_slice-term-items.result.now ≡ p = search rules in
+    let below : i < length p = subst (λ (terms : List (ℤ × List ℕ)). i < length terms) same c.loop-term-test.true in
+    let is : t ≡ get_or p i t = subst (λ (terms : List (ℤ × List ℕ)). t ≡ get_or terms i t) same c.term-item.is in
     let has = rw c.in-Some.is at c.in_ok-rest.ensures in
     let pushed : c.push.new.self ≡ c.loop-term.terms ++ (t.0, rest) ∷ [] = search rules in
     record {
-      at_end = all_more (λ (u : ℤ × List ℕ). HasAtEnd c.args.side c.args.letter.0 u.1) p i t c.loop-term-test.true c.term-item.is c.loop-term.invariant.at_end has.0;
+      at_end = all_more (λ (u : ℤ × List ℕ). HasAtEnd c.args.side c.args.letter.0 u.1) p i t below is c.loop-term.invariant.at_end has.0;
       made = pushed ∙ ap₂ (λ (ts : List (ℤ × List ℕ)) (w : List ℕ). ts ++ (t.0, w) ∷ []) c.loop-term.invariant.made has.1
-          ∙ sym (ap (stripped end) (take_next p i t c.loop-term-test.true c.term-item.is) ∙ stripped_push end (take i p) t);
+          ∙ sym (ap (stripped end) (take_next p i t below is) ∙ stripped_push end (take i p) t);
     }
