@@ -1,5 +1,5 @@
 -- Tests of scales.
-use Rattle.std.proofs.Common.{◌≡◌, ℕ, ◌%◌, nat_eq, Bool, true, false, refl, sym, ◌∙◌}
+use Rattle.std.proofs.Common.{◌≡◌, ℕ, ◌%◌, nat_eq, Bool, true, false, refl, sym}
 use Rattle.std.specs.Int.{◌∣◌}
 use Rattle.cofactor_checker.proofs.Each.{divides_from, not_divides_from}
 

@@ -1,5 +1,5 @@
 -- Each proof is accepted, or one of its tests is the first that fails.
-use Rattle.std.proofs.Common.{◌≡◌, ◌⊎◌, inl, inr, ℕ, ◌+◌, ◌<◌, ◌≤◌, ℤ, pos, ◌≤ℤ◌, List, [], ◌∷◌, ◌++◌, length, All, Option, Some, None, refl, sym, ap, arith}
+use Rattle.std.proofs.Common.{◌≡◌, ◌⊎◌, inl, inr, ℕ, ◌+◌, ◌<◌, ◌≤◌, ℤ, pos, ◌≤ℤ◌, List, [], ◌∷◌, ◌++◌, length, All, Option, Some, None, refl, ap, arith}
 use Rattle.std.specs.List.{Contains}
 use Rattle.std.proofs.lemmas.Bool.{cases_lt, cases_eq}
 use Rattle.std.proofs.lemmas.List.Elements.{Contains-append_right, Contains-append_cases, Contains-push_cases}
@@ -12,7 +12,7 @@ use Rattle.definitions.specs.Soundness.{HasSignature}
 use Rattle.nc_polynomial.specs.Terms.{products}
 use Rattle.cofactor_trace.specs.declared.evidence.Lemma.{Lemma}
 use Rattle.cofactor_checker.specs.Rows.{IsNumberUpTo}
-use Rattle.cofactor_checker.specs.Lemmas.{LemmaPasses, RefusesLemma, term_total}
+use Rattle.cofactor_checker.specs.Lemmas.{LemmaPasses, term_total}
 use Rattle.cofactor_checker.specs.LemmaAcceptance.{HasScale, IsTight}
 use Rattle.cofactor_checker.specs.declared.refusal.Refusal.TheVariants as common
 use Rattle.cofactor_checker.proofs.Judged.{numbered_or}
@@ -25,7 +25,7 @@ use Rattle.cancel_rules.specs.declared.refusal.CancelRefusal.{CancelRefusal}
 use Rattle.cancel_rules.specs.declared.refusal.CancelRefusal.TheVariants as refusal
 use Rattle.cancel_rules.specs.Cancellations.{declared_for}
 use Rattle.cancel_rules.specs.Items.{stripped, item_polynomial, row_total, rows_in, HasAtEnd, IsDeclaredLetter, IsTypedItem, ComesOff, CancelPasses, RefusesCancel, ItemPasses, ItemsPass, RefusesItem, RefusesItems}
-use Rattle.cancel_rules.specs.Acceptance.{claim_named, all_items, OfLemma, HasPositiveScales, CancelIsPosed, HasDivisors, CancelHasShares, CancelBegins, HasItems, AcceptsCancellation, RefusesCancellation, IsMemory}
+use Rattle.cancel_rules.specs.Acceptance.{claim_named, all_items, OfLemma, HasPositiveScales, CancelIsPosed, CancelHasShares, CancelBegins, HasItems, AcceptsCancellation, RefusesCancellation, IsMemory}
 use Rattle.cancel_rules.specs.Laws.{CancellationIsJudged}
 use Rattle.cancel_rules.proofs.Outcomes.{refuses_from_beginning, refuses_from_items, refuses_from_goal}
 use Rattle.cancel_rules.proofs.Typing.{has_signature_or}

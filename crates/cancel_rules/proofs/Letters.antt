@@ -1,14 +1,13 @@
 -- The polynomials of items have letters of the quiver alone, and so do the words that refusals name.
-use Rattle.std.proofs.Common.{◌≡◌, inl, inr, ℕ, zero, suc, ◌+◌, ◌<◌, ℤ, Bool, true, List, [], ◌∷◌, ◌++◌, All, map, refl, sym, ap, subst, get_or}
+use Rattle.std.proofs.Common.{◌≡◌, inl, inr, ℕ, zero, suc, ◌+◌, ℤ, true, List, [], ◌∷◌, ◌++◌, All}
 use Rattle.std.specs.List.{AllByRecursion}
 use Rattle.std.proofs.lemmas.List.Elements.{recursion_from_All, All-from_recursion}
 use Rattle.definitions.specs.Poly.{Term}
-use Rattle.definitions.specs.Quiver.{Quiver}
 use Rattle.definitions.specs.Combination.{generator_at}
 use Rattle.definitions.proofs.StarSound.{all-append}
 use Rattle.word_core.specs.Letters.{IsOver}
 use Rattle.nc_polynomial.specs.declared.poly.Poly.{Poly}
-use Rattle.quiver.specs.Declarations.{letter_count, quiver_of}
+use Rattle.quiver.specs.Declarations.{letter_count}
 use Rattle.cofactor_trace.specs.declared.evidence.LemmaRow.{LemmaRow}
 use Rattle.cofactor_trace.specs.declared.evidence.Lemma.{Lemma}
 use Rattle.adjoint_rules.specs.declared.problem.Problem.{Problem}
@@ -18,7 +17,6 @@ use Rattle.cofactor_checker.specs.PlainRows.{plain_sum}
 use Rattle.cofactor_checker.specs.declared.refusal.Refusal.TheVariants as common
 use Rattle.cofactor_checker.proofs.LetterSums.{is_over, Lists, Stays, IsLemmaOver, listed_stays, plain_stays, lemma_lists, rest_is_over, difference_is_over, drawn, word_over, over_word, generators_stay, claim_stays}
 use Rattle.cancel_rules.specs.declared.cancellation.Side.{Side}
-use Rattle.cancel_rules.specs.declared.cancellation.Side.TheVariants as side
 use Rattle.cancel_rules.specs.declared.cancellation.Item.{Item}
 use Rattle.cancel_rules.specs.declared.cancellation.Item.TheVariants as item
 use Rattle.cancel_rules.specs.declared.cancellation.Cancellation.{Cancellation}

@@ -1,9 +1,9 @@
 -- Items vanish one after another, and with them the claim.
-use Rattle.std.proofs.Common.{◌≡◌, ◌≢◌, ℕ, zero, suc, ◌<◌, ℤ, Bool, true, List, [], ◌∷◌, ◌++◌, All, sym, refl, ap, ap₂, subst, ◌∙◌, append_assoc, append-nil}
+use Rattle.std.proofs.Common.{◌≡◌, ◌≢◌, ℕ, ◌<◌, ℤ, true, List, [], ◌∷◌, ◌++◌, All, sym, refl, ap, ap₂, subst, ◌∙◌, append_assoc, append-nil}
 use Rattle.std.proofs.lemmas.Bool.{and_from}
 use Rattle.std.proofs.lemmas.List.Elements.{All-contains, recursion_from_All}
 use Rattle.std.specs.List.{AllByRecursion, list_all}
-use Rattle.definitions.specs.Category.{Structure, IsArrow, PreadditiveLaws, InvolutionLaws}
+use Rattle.definitions.specs.Category.{Structure, PreadditiveLaws, InvolutionLaws}
 use Rattle.definitions.specs.Poly.{SamePolynomial, poly_between}
 use Rattle.definitions.specs.Quiver.{Quiver, IsQuiver, letters}
 use Rattle.definitions.specs.Representation.{Representation, Represents, Cancels}
@@ -20,7 +20,7 @@ use Rattle.cancel_rules.specs.declared.cancellation.Side.TheVariants as side
 use Rattle.cancel_rules.specs.declared.cancellation.Item.{Item}
 use Rattle.cancel_rules.specs.declared.cancellation.Item.TheVariants as item
 use Rattle.cancel_rules.specs.declared.cancellation.Cancellation.{Cancellation}
-use Rattle.cancel_rules.specs.Cancellations.{put_back, declared_for, IsWithout, IsOfItem, AreOfItems, IsCancellationOf}
+use Rattle.cancel_rules.specs.Cancellations.{put_back, declared_for, IsOfItem, AreOfItems}
 use Rattle.cancel_rules.specs.Meaning.{AreMonic, AreEpic, IsCancellationSound, IsCancellationStarSound}
 use Rattle.cancel_rules.proofs.Stripped.{is_some, IsNothing, whole_is_zero, front_is_nothing, behind_is_nothing}
 

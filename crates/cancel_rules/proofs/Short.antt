@@ -1,6 +1,5 @@
 -- What is accepted is refused for want of memory alone.
-use Rattle.std.proofs.Common.{inl, inr, ◌⊎◌, ◌+◌, ℕ, ℤ, List, [], ◌∷◌, ◌++◌, length, Option, Some, None, ◌≡◌, subst, arith}
-use Rattle.std.proofs.lemmas.List.Elements.{All-contains}
+use Rattle.std.proofs.Common.{inl, inr, ◌+◌, ℕ, ℤ, List, [], ◌∷◌, ◌++◌, subst, arith}
 use Rattle.std.proofs.lemmas.Option.{slice_get_within, get_or_from_slice_get}
 use Rattle.definitions.specs.Quiver.{Quiver}
 use Rattle.word_core.specs.declared.letter.Letter.{Letter}

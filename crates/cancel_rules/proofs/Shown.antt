@@ -1,9 +1,9 @@
 -- What an accepted proof shows.
-use Rattle.std.proofs.Common.{◌≡◌, ◌≢◌, ℕ, ℤ, List, [], ◌∷◌, ◌++◌, All, refl, sym, ap, subst, ◌∙◌, arith}
+use Rattle.std.proofs.Common.{◌≢◌, ℕ, ℤ, List, [], ◌∷◌, ◌++◌, sym, ap, ◌∙◌, arith}
 use Rattle.std.specs.List.{AllByRecursion}
 use Rattle.std.proofs.lemmas.Int.{ints}
 use Rattle.std.proofs.lemmas.List.Elements.{recursion_from_All, All-from_recursion}
-use Rattle.definitions.specs.Poly.{SamePolynomial, coefficient_of}
+use Rattle.definitions.specs.Poly.{coefficient_of}
 use Rattle.definitions.specs.Quiver.{Quiver}
 use Rattle.definitions.specs.Combination.{generator_at}
 use Rattle.cofactor_checker.specs.LemmaAcceptance.{HasScale, IsTight}
@@ -11,7 +11,7 @@ use Rattle.cofactor_checker.proofs.LemmaSums.{sums_agree, lemma_adds_up}
 use Rattle.cancel_rules.specs.declared.cancellation.Item.{Item}
 use Rattle.cancel_rules.specs.declared.cancellation.Item.TheVariants as item
 use Rattle.cancel_rules.specs.declared.cancellation.Cancellation.{Cancellation}
-use Rattle.cancel_rules.specs.Cancellations.{put_back, IsOfItem, AreOfItems}
+use Rattle.cancel_rules.specs.Cancellations.{IsOfItem, AreOfItems}
 use Rattle.cancel_rules.specs.Items.{stripped, item_polynomial, item_polynomials, HasAtEnd, ItemPasses, ItemsPass}
 use Rattle.cancel_rules.specs.Acceptance.{OfLemma, all_items}
 use Rattle.cancel_rules.specs.Laws.{AcceptedCancellationLeads}

@@ -1,7 +1,7 @@
 -- What the signature of a polynomial tells of its type.
-use Rattle.std.proofs.Common.{eqb-true, ◌≡◌, ◌≢◌, ℕ, ◌<◌, ℤ, Bool, true, false, List, [], ◌∷◌, All, length, get_or, Option, Some, None, IfSome, IfNone, is_some, refl, sym, ap, subst, ◌∙◌, arith}
+use Rattle.std.proofs.Common.{eqb-true, ◌≡◌, ◌≢◌, ℕ, ◌<◌, Bool, true, false, List, [], ◌∷◌, All, length, Option, Some, None, IfSome, IfNone, is_some, refl, sym, ap, subst, arith}
 use Rattle.definitions.specs.Poly.{Term}
-use Rattle.definitions.specs.Quiver.{Quiver, IsQuiver, letters, source, target, leads, is_path, IsTyped}
+use Rattle.definitions.specs.Quiver.{Quiver, IsQuiver, source, leads, is_path, IsTyped}
 use Rattle.definitions.specs.Soundness.{HasSignature}
 use Rattle.definitions.proofs.Paths.{step}
 use Rattle.quiver.specs.declared.named.Sig.{Sig}

@@ -1,8 +1,8 @@
 -- Each polynomial is typed or not.
-use Rattle.std.proofs.Common.{ltb-true, lt-ltb, ◌≡◌, ◌≢◌, ◌⊎◌, inl, inr, ℕ, ◌<◌, ◌≤◌, ℤ, pos, Bool, true, false, List, [], ◌∷◌, ◌++◌, Option, Some, None, refl, sym, ap, subst, ◌∙◌, arith}
-use Rattle.std.proofs.lemmas.Bool.{and_parts, and_from, cases_lt}
-use Rattle.std.specs.List.{AllByRecursion, list_all}
-use Rattle.definitions.specs.Poly.{Term, coefficient_of}
+use Rattle.std.proofs.Common.{◌≡◌, ◌⊎◌, inl, inr, ℕ, ◌<◌, ◌≤◌, Bool, true, false, List, [], ◌∷◌, Option, Some, None, refl, sym, ap, subst, ◌∙◌, arith}
+use Rattle.std.proofs.lemmas.Bool.{cases_lt}
+use Rattle.std.specs.List.{AllByRecursion}
+use Rattle.definitions.specs.Poly.{Term}
 use Rattle.definitions.specs.Quiver.{Quiver, is_path, signature_of, IsTyped}
 use Rattle.definitions.specs.Soundness.{HasSignature}
 use Rattle.definitions.proofs.Typed.{signature_from_path, typed_from_terms}

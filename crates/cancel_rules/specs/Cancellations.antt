@@ -1,5 +1,5 @@
 -- What a proof that cancels letters shows: its items, one after another, and its goal lead to a claim.
-use Rattle.std.specs.Prelude.{◌≡◌, ◌≢◌, ℕ, ◌<◌, ◌<ℤ◌, pos, List, [], ◌∷◌, ◌++◌, map, Contains, ⊤}
+use Rattle.std.specs.Prelude.{◌≢◌, ℕ, ◌<◌, ◌<ℤ◌, pos, List, [], ◌∷◌, ◌++◌, map, Contains, ⊤}
 use Rattle.std.specs.List.{All}
 use Rattle.word_core.specs.declared.letter.Letter.{Letter}
 use Rattle.definitions.specs.Poly.{Poly, SamePolynomial}

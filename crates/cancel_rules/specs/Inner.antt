@@ -1,5 +1,5 @@
 -- What the parts of the check ask of one another: tables that mark letters, and polynomials over the letters of the quiver.
-use Rattle.std.specs.Prelude.{◌↔◌, ◌<◌, Bool, false, List, get_or, Contains, IsTrue}
+use Rattle.std.specs.Prelude.{◌↔◌, Bool, false, List, get_or, Contains, IsTrue}
 use Rattle.std.specs.List.{All}
 use Rattle.word_core.specs.declared.letter.Letter.{Letter}
 use Rattle.word_core.specs.Letters.{IsOver}

@@ -1,4 +1,4 @@
-use Rattle.std.proofs.Common.{rules, ◌≡◌, ◌+◌, ◌<◌, ◌≤◌, List, None, Err, length, sym, subst, ap, ◌∙◌}
+use Rattle.std.proofs.Common.{rules, ◌≡◌, ◌<◌, List, None, Err, sym, subst}
 use Rattle.std.specs.List.{All}
 use Rattle.coef_int.specs.Operations.{first_overflow}
 use Rattle.nc_polynomial.specs.Terms.{products}
@@ -12,7 +12,7 @@ use Rattle.cancel_rules.specs.declared.cancellation.Side.TheVariants as side
 use Rattle.cancel_rules.specs.declared.cancellation.Cancellation.{Cancellation}
 use Rattle.cancel_rules.specs.declared.refusal.CancelRefusal.TheVariants.{Common}
 use Rattle.cancel_rules.specs.Cancellations.{declared_for}
-use Rattle.cancel_rules.specs.Items.{row_total, RefusesItems}
+use Rattle.cancel_rules.specs.Items.{row_total}
 use Rattle.cancel_rules.specs.Acceptance.{claim_named, all_items, HasItems, AcceptsCancellation, RefusesCancellation, IsReadableCancellation, IsMemory}
 use Rattle.cancel_rules.proofs.Outcomes.{refuses_from_beginning, refuses_from_items, refuses_from_goal, err_told, memory_only, memory_told}
 use Rattle.cancel_rules.proofs.Shown.{accepted_cancellation_leads}

@@ -1,4 +1,4 @@
-use Rattle.std.proofs.Common.{rules, ◌≡◌, Some, None, IsTrue, length, refl, sym, subst, inl, inr}
+use Rattle.std.proofs.Common.{rules, ◌≡◌, Some, None, IsTrue, length, refl, sym, subst}
 use Rattle.coef_int.specs.Operations.{first_overflow}
 use Rattle.nc_polynomial.specs.Terms.{products}
 use Rattle.adjoint_rules.specs.Problem.{polynomials}

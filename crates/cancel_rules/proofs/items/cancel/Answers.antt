@@ -1,7 +1,5 @@
-use Rattle.std.proofs.Common.{rules, ◌≡◌, ◌+◌, ◌-◌, ◌<◌, All, length, Some, slice_get, sym, subst, ap, ◌∙◌, arith}
-use Rattle.definitions.specs.Quiver.{letters}
+use Rattle.std.proofs.Common.{◌-◌, ◌<◌, All, sym, subst, ap, ◌∙◌, arith}
 use Rattle.definitions.specs.Soundness.{HasSignature}
-use Rattle.definitions.specs.Combination.{generator_at}
 use Rattle.quiver.specs.Declarations.{letter_count, quiver_of}
 use Rattle.quiver.proofs.Counts.{letters-quiver_of}
 use Rattle.adjoint_rules.specs.Problem.{polynomials}
@@ -10,8 +8,7 @@ use Rattle.cofactor_checker.specs.Rows.{IsNumberUpTo}
 use Rattle.cofactor_checker.proofs.RowSums.{Names, named, length-polynomials}
 use Rattle.word_core.specs.Letters.{IsOver}
 use Rattle.cancel_rules.specs.declared.cancellation.Cancellation.{Cancellation}
-use Rattle.cancel_rules.specs.Cancellations.{declared_for}
-use Rattle.cancel_rules.specs.Items.{stripped, HasAtEnd, IsDeclaredLetter, IsTypedItem}
+use Rattle.cancel_rules.specs.Items.{stripped, HasAtEnd, IsTypedItem}
 use Rattle.cancel_rules.specs.Inner.{IsPolyOver, MarksDeclared}
 use Rattle.cancel_rules.proofs.Divides.{clash}
 use Rattle.cancel_rules.proofs.Found.{holds_there, some_object}

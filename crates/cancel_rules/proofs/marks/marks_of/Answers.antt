@@ -1,4 +1,4 @@
-use Rattle.std.proofs.Common.{◌≡◌, ◌<◌, [], ◌∷◌, ◌++◌, true, get_or, length, set, take, sym, subst, ◌∙◌}
+use Rattle.std.proofs.Common.{◌<◌, [], ◌∷◌, ◌++◌, true, get_or, set, take, sym, subst, ◌∙◌}
 use Rattle.std.proofs.lemmas.List.{length-set, take_more}
 use Rattle.word_core.specs.declared.letter.Letter.{Letter}
 use Rattle.cancel_rules.specs.Inner.{MarksLetters}

@@ -1,4 +1,4 @@
-use Rattle.std.proofs.Common.{◌≡◌, true, false, refl, sym, ◌∙◌, arith}
+use Rattle.std.proofs.Common.{false, refl, arith}
 use Rattle.cofactor_checker.specs.LemmaAcceptance.{HasScale}
 use Rattle.cofactor_checker.proofs.Each.{all_more, all_whole, at_item}
 use Rattle.cancel_rules.specs.Acceptance.{OfLemma}
