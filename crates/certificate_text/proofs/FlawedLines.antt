@@ -33,7 +33,7 @@ use Rattle.certificate_text.specs.Evidence.{certificate_kind}
 use Rattle.certificate_text.proofs.OpenBlocks.{keeps_one, IsOpen, IsHeaded, IsClaimed, IsInPlain, IsOpened, IsInside, Lead, lead_lines, IsNext, rows_of, lemmas_front, rows_behind, rows_are, rows_outside, rows_keep_one, begin_rows, begin_plain, begin_claimed, begin_shortest, shortest, plain_outside}
 use Rattle.certificate_text.proofs.NextLines.{integer_in, lemma_finished, plain_push, plain_front-push, scaled_push, lead_lines-push}
 
-too_large : (digits : List ℕ) (flaw : Flaw) → integer_of digits ≡ Err flaw → flaw ≡ NumberTooLarge
+pub too_large : (digits : List ℕ) (flaw : Flaw) → integer_of digits ≡ Err flaw → flaw ≡ NumberTooLarge
 too_large digits flaw read = asked_err NumberTooLarge (option_map pos (number_within integer_limit digits)) flaw read
 
 module _ (most : Format) (ds : List Declaration) (flaw : Flaw) (front : List Line) (line : Line) where

@@ -30,7 +30,7 @@ use Rattle.block_text.proofs.Zips.{zip_push, zip_length}
 use Rattle.certificate_text.proofs.OpenBlocks.{IsHeaded, IsClaimed, IsInPlain, IsBegun, IsOpened, IsInside, IsOpen, Lead, lemma_tokens, lead_lines, IsNext, IsFew, rows_of, lemmas_front, are_lemmas-push, plain_front}
 
 -- two lists of lines with one line more
-behind : (front other : List Line) (line last : Line) → front ≡ other → line ≡ last → front ++ line ∷ [] ≡ other ++ last ∷ []
+pub behind : (front other : List Line) (line last : Line) → front ≡ other → line ≡ last → front ++ line ∷ [] ≡ other ++ last ∷ []
 behind front other line last same same_line = ap₂ (λ ls l. ls ++ l ∷ []) same same_line
 
 -- ---- what the lines say
@@ -55,7 +55,7 @@ pub record IsLemmaRead (before : ℕ) (line : Line) (scale : ℤ) : Type 0 where
   pub scale_value : integer_of digits ≡ Ok scale
   pub few : before < row_limit
 
-lemma_read : (before : ℕ) (line : Line) (scale : ℤ) → lemma_scale_of before line ≡ Ok scale → IsLemmaRead before line scale
+pub lemma_read : (before : ℕ) (line : Line) (scale : ℤ) → lemma_scale_of before line ≡ Ok scale → IsLemmaRead before line scale
 lemma_read before line scale read =
     bind_ok (asked BadLine (lemma_digits (before + 1) line)) _ scale read (λ digits there read_scale.
     bind_ok (integer_of digits) _ scale read_scale (λ value value_is read_room.

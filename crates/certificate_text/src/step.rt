@@ -8,7 +8,7 @@ ghost use Rattle.cofactor_trace.specs.declared.evidence.Evidence.TheVariants as 
 ghost use Rattle.certificate_text.specs.declared.place.Stage.TheVariants as stage;
 
 use crate::line::{denominator_of, goal_scale_of, is_lemmas_head, is_plain_head, lemma_scale_of};
-use crate::place::{Opened, Size, Stage};
+use crate::place::{NO_ROWS, Opened, Size, Stage};
 use crate::row::{grown, lemma_row_of, row_of};
 use block_text::{BlockKind, Flaw, LineFault, begins, claim_of};
 use cofactor_trace::{Certificate, Evidence, Format, Lemma, LemmaCertificate};
@@ -22,11 +22,6 @@ pub struct Certificates<'q> {
     pub most: Format,
     pub quiver: &'q Quiver,
 }
-
-const NO_ROWS: Size = Size {
-    rows: 0,
-    letters: 0,
-};
 
 // One of format 2 begins, where that format is read.
 fn lemmas_headed(most: Format) -> Option<Stage>
