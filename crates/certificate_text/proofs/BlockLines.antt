@@ -20,12 +20,12 @@ use Rattle.certificate_text.specs.declared.place.Stage.TheVariants as at
 use Rattle.block_text.specs.Fault.{◌>>=◌}
 use Rattle.block_text.specs.Letters.{is_number, number_within}
 use Rattle.block_text.specs.Lines.{number_limit, integer_limit, begins, integer_of, Line, claim_line, is_end}
-use Rattle.certificate_text.specs.Lines.{RowTokens, row_limit, lemma_scale_of, is_value, is_row, row_values, over_lemma, no_rows}
+use Rattle.certificate_text.specs.Lines.{RowTokens, row_limit, lemma_scale_of, is_value, is_row, row_values, over_lemma, no_rows, grown}
 use Rattle.certificate_text.specs.Blocks as tokens
 use Rattle.certificate_text.specs.Blocks.{ScaledTokens, LemmaTokens, PlainTokens, LemmasTokens, BlockTokens, row_line, denominator_line, lemma_lines, goal_lines, certificate_lines, IsBlock, IsPlainRow, IsScaled, AreLemmas, IsPlainBlock, IsLemmasBlock}
 use Rattle.certificate_text.specs.Bounds as bound
 use Rattle.certificate_text.specs.Bounds.{Bound, flaw_of, IsWithin, HasNumbersOutside, rows_in, IsScaledOf, IsCertificateOf, KeepsOne}
-use Rattle.certificate_text.specs.Reading.{next as step, begun, finish, scaled, closed_by, certificate_of, opened_of, lemma_of, certificate_steps}
+use Rattle.certificate_text.specs.Reading.{next as step, begun, finish, scaled, closed_by, certificate_of, opened_of, lemma_of, lemma_row, certificate_steps}
 use Rattle.block_text.proofs.NumberedLines.{run, run-append}
 use Rattle.block_text.proofs.Owed.{read_inside, read_block, read_inside-run}
 use Rattle.block_text.proofs.Meets.{Meets, reads, then_meets, meets-weaker, asked_meets, unless_meets}
@@ -39,10 +39,17 @@ size_steps (Ok s) made behind = refl
 size_steps (Err f) made behind = refl
 
 -- a row, the size with it, and the place behind it
-pub row_steps : {A B S M E F : Type 0} (row : Result A F) (view : A → B) (size : B → Result S F) (made : S → B → M) (behind : M → E)
+row_steps : {A B S M E F : Type 0} (row : Result A F) (view : A → B) (size : B → Result S F) (made : S → B → M) (behind : M → E)
     → (((row >>= λ a. Ok (view a)) >>= λ b. (size b >>= λ s. Ok (made s b))) >>= λ m. Ok (behind m)) ≡ (row >>= λ a. (size (view a) >>= λ s. Ok (behind (made s (view a)))))
 row_steps (Ok a) view size made behind = size_steps (size (view a)) (λ s. made s (view a)) behind
 row_steps (Err f) view size made behind = refl
+
+-- the line of a row of a lemma, and the place behind it
+pub lemma_row_takes : {E : Type 0} (ds : List Declaration) (r : RowTokens) → IsTrue (is_row r) → (size : Size) (l : Lemma) (place : Size → Lemma → E)
+    → (lemma_row ds size l (row_line r) >>= λ next. Ok (place next.0 next.1))
+    ≡ (row_values ds r >>= λ row. (grown size row.left row.right >>= λ larger. Ok (place larger (lemma_of l.scale (l.rows ++ over_lemma r.lemma row ∷ [])))))
+lemma_row_takes ds r row size l place =
+    rw (lemma_row_line_read ds r row) (row_steps (row_values ds r) (over_lemma r.lemma) (λ made. grown size made.left made.right) (λ larger made. (larger, lemma_of l.scale (l.rows ++ made ∷ []))) (λ next. place next.0 next.1))
 
 -- ---- no line of a certificate is `end`
 
@@ -127,10 +134,10 @@ module _ (K : Bound → Type 0) where
     goal_place k z front scale size rows = at.Goal (opened_of k z front size) (lemma_of scale rows)
 
     takes_in_lemma : (k : ℕ) (z : ℤ) (front : List Lemma) (scale : ℤ) (r : RowTokens) → IsTrue (is_row r) → TakesRow (step ds) K ds (lemma_place k z front scale) lemma_made r
-    takes_in_lemma k z front scale r row size rows = rw (lemma_row_line_read ds r row) (row_steps (row_values ds r) _ _ _ _)
+    takes_in_lemma k z front scale r row size rows = lemma_row_takes ds r row size (lemma_of scale rows) (λ larger l. at.Lemma (opened_of k z front larger) l)
 
     takes_in_goal : (k : ℕ) (z : ℤ) (front : List Lemma) (scale : ℤ) (r : RowTokens) → IsTrue (is_row r) → TakesRow (step ds) K ds (goal_place k z front scale) lemma_made r
-    takes_in_goal k z front scale r row size rows = rw (lemma_row_line_read ds r row) (row_steps (row_values ds r) _ _ _ _)
+    takes_in_goal k z front scale r row size rows = lemma_row_takes ds r row size (lemma_of scale rows) (λ larger l. at.Goal (opened_of k z front larger) l)
 
     -- at this place the next lemma or the goal may begin
     abbrev Waits : Opened → Stage → Type 0

@@ -18,5 +18,5 @@ pub use laws::{
 pub use line::{denominator_of, goal_scale_of, is_value, lemma_scale_of};
 pub use place::{NO_ROWS, Size};
 pub use read::{read_certificates, read_evidence};
-pub use row::{grown, lemma_row_of};
+pub use step::push_lemma_row;
 pub use write::{put_certificate, put_opening, write_certificate};
