@@ -83,10 +83,25 @@ abbrev pub letters_on : Opened → Side → List Letter
 letters_on o Left = o.monic
 letters_on o Right = o.epic
 
--- the same with others
+-- the new letters on this side, and the old ones on the other
+abbrev pub on_left : Side → List Letter → List Letter → List Letter
+on_left Left new old = new
+on_left Right new old = old
+
+abbrev pub on_right : Side → List Letter → List Letter → List Letter
+on_right Left new old = old
+on_right Right new old = new
+
+-- the same with others on this side
 abbrev pub with_letters : Opened → Side → List Letter → Opened
-with_letters o Left letters = record { claim = o.claim; denominator = o.denominator; monic = letters; epic = o.epic; items = o.items; size = o.size }
-with_letters o Right letters = record { claim = o.claim; denominator = o.denominator; monic = o.monic; epic = letters; items = o.items; size = o.size }
+with_letters o side letters = record {
+  claim = o.claim;
+  denominator = o.denominator;
+  monic = on_left side letters o.monic;
+  epic = on_right side letters o.epic;
+  items = o.items;
+  size = o.size;
+}
 
 abbrev pub called : List Declaration → Opened → CalledTokens → Result Stage Flaw
 called ds o c =
