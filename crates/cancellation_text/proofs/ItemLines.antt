@@ -128,7 +128,7 @@ module _ (K : Bound → Type 0) (ds : List Declaration) where
   cancel_of_meets before c known within few =
       then_meets _ (asked_meets K bound.names (known_letter ds c.letter) known) (λ a _ a_is.
       then_meets _ (asked_meets K bound.numbers (number_within number_limit c.item) within) (λ n _ n_is.
-      unless_meets bound.rows _ _ (λ kept. lt-leb row_limit before (few kept)) (reads _ refl (record { letter = a; item = n; letter_is = a_is; item_is = n_is; is = refl }))))
+      unless_meets bound.rows _ _ (λ kept. lt-leb row_limit before (few kept)) (reads _ refl (record { letter = a; number = n; letter_is = a_is; number_is = n_is; is = refl }))))
 
   module _ (k : ℕ) (z : ℤ) (monic epic : List Letter) where
     abbrev opened_of : List Item → Size → Opened

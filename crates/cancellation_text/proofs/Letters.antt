@@ -70,7 +70,7 @@ module _ (ds : List Declaration) (called : List CalledTokens) where
 
     once_by : (side : Side) → AreOnce ds called → is_called a (letters_on o side) ≡ false → AreOnce ds (called ++ called_of letter side ∷ [])
     once_by Left once none Left = subst (AllPairs (λ b c. b ≢ c)) (sym (own Left known)) (pushed_once Left (once Left) none)
-    once_by Left once none Right = subst (AllPairs (λ b c. b ≢ c)) (sym (others Left Right refl) ) (subst (AllPairs (λ b c. b ≢ c)) (are Right) (once Right))
+    once_by Left once none Right = subst (AllPairs (λ b c. b ≢ c)) (sym (others Left Right refl)) (subst (AllPairs (λ b c. b ≢ c)) (are Right) (once Right))
     once_by Right once none Left = subst (AllPairs (λ b c. b ≢ c)) (sym (others Right Left refl)) (subst (AllPairs (λ b c. b ≢ c)) (are Left) (once Left))
     once_by Right once none Right = subst (AllPairs (λ b c. b ≢ c)) (sym (own Right known)) (pushed_once Right (once Right) none)
 

@@ -7,3 +7,6 @@ mod ItemLines
 pub mod Reader
 pub mod EachText
 pub mod Readable
+mod LinesBack
+mod BlocksBack
+pub mod ReadBack

@@ -140,9 +140,9 @@ is_cancel ds before c i read =
     record {
       says = record {
         letter = a;
-        item = n;
+        number = n;
         letter_is = asked_ok UnknownName (known_letter ds c.letter) a a_is;
-        item_is = asked_ok NumberTooLarge (number_within number_limit c.item) n n_is;
+        number_is = asked_ok NumberTooLarge (number_within number_limit c.item) n n_is;
         is = cc;
       };
       few = leb-false row_limit before few;
@@ -150,7 +150,7 @@ is_cancel ds before c i read =
 
 pub cancel_keeps : (ds : List Declaration) (c : CancelTokens) (i : Item) → IsCancelOf ds c i → (bound : Bound) → ItemKeeps ds (cancel c) bound
 cancel_keeps ds c i says names = (says.letter, says.letter_is)
-cancel_keeps ds c i says numbers = (says.item, says.item_is)
+cancel_keeps ds c i says numbers = (says.number, says.number_is)
 cancel_keeps ds c i says words = tt
 cancel_keeps ds c i says rows = tt
 cancel_keeps ds c i says letters = tt

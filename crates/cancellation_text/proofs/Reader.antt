@@ -42,7 +42,7 @@ module _ (ds : List Declaration) where
   same_cancel : (c : CancelTokens) (v w : Item) → IsCancelOf ds c v → IsCancelOf ds c w → v ≡ w
   same_cancel c v w one two =
       let letter = same_value (known_letter ds c.letter) one.letter two.letter one.letter_is two.letter_is in
-      let number = same_value (number_within number_limit c.item) one.item two.item one.item_is two.item_is in
+      let number = same_value (number_within number_limit c.item) one.number two.number one.number_is two.number_is in
       one.is ∙ rw (letter, number) refl ∙ sym two.is
 
   same_item : (i : ItemTokens) (v w : Item) → IsItemOf ds i v → IsItemOf ds i w → v ≡ w

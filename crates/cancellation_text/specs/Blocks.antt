@@ -83,12 +83,16 @@ is_map_letter token = is_name (unstarred token)
 abbrev pub known_letter : List Declaration → List ℕ → Option Letter
 known_letter ds token = option_map (λ a. record { 0 = a }) (letter_of ds token)
 
+-- a letter, where both sides are the same
+abbrev pub on_side : Side → Side → Option Letter → Option Letter
+on_side Left Left found = found
+on_side Left Right found = None
+on_side Right Left found = None
+on_side Right Right found = found
+
 -- the letter that the line calls monic, where the side is the left one, or epic
 abbrev pub called_on : List Declaration → Side → CalledTokens → Option Letter
-called_on ds Left (record { side = Left; letter = letter }) = known_letter ds letter
-called_on ds Left (record { side = Right; letter = letter }) = None
-called_on ds Right (record { side = Left; letter = letter }) = None
-called_on ds Right (record { side = Right; letter = letter }) = known_letter ds letter
+called_on ds side c = on_side side c.side (known_letter ds c.letter)
 
 -- all of them, in the order of the lines
 abbrev pub called_letters : List Declaration → Side → List CalledTokens → List Letter

@@ -19,10 +19,10 @@ use Rattle.cancellation_text.specs.Blocks.{CancelTokens, CalledTokens, ItemToken
 -- a letter, a side and the number of an item
 pub record IsCancelOf (ds : List Declaration) (c : CancelTokens) (i : Item) : Type 0 where
   pub letter : Letter
-  pub item : ℕ
+  pub number : ℕ
   pub letter_is : known_letter ds c.letter ≡ Some letter
-  pub item_is : number_within number_limit c.item ≡ Some item
-  pub is : i ≡ item.Cancel letter c.side item
+  pub number_is : number_within number_limit c.item ≡ Some number
+  pub is : i ≡ item.Cancel letter c.side number
 
 abbrev pub IsItemOf : List Declaration → ItemTokens → Item → Type 0
 IsItemOf ds (lemma l) (item.Lemma found) = IsScaledOf ds l.scaled found

@@ -126,6 +126,10 @@ resized o size = record { claim = o.claim; denominator = o.denominator; monic = 
 abbrev pub lemma_begun : Opened → Line → Result Stage Flaw
 lemma_begun o line = lemma_scale_of (length o.items) line >>= λ scale. Ok (at.Lemma o (lemma_of scale []))
 
+-- the goal begins
+abbrev pub goal_begun : Opened → Line → Result Stage Flaw
+goal_begun o line = goal_scale_of line >>= λ scale. Ok (at.Goal o (lemma_of scale []))
+
 -- a cancellation, where the line is one, or else a lemma
 abbrev pub cancelled : List Declaration → Opened → Line → Option CancelTokens → Result Stage Flaw
 cancelled ds o line (Some c) = cancel_of ds (length o.items) c >>= λ i. Ok (at.Cancelled (with_item o i))
@@ -134,7 +138,7 @@ cancelled ds o line None = lemma_begun o line
 -- the next item, or the goal
 abbrev pub item_or_goal : List Declaration → Opened → Line → Result Stage Flaw
 item_or_goal ds o line =
-    if begins (codes "goal") line then (goal_scale_of line >>= λ scale. Ok (at.Goal o (lemma_of scale [])))
+    if begins (codes "goal") line then goal_begun o line
     else cancelled ds o line (cancel_tokens (length o.items + 1) line)
 
 -- a letter that is called monic or epic, where the line is one

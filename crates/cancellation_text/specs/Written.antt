@@ -1,5 +1,5 @@
 -- How proofs that cancel letters are written.
-use Rattle.std.specs.Prelude.{◌<◌, ℕ, suc, List, [], ◌∷◌, ◌++◌, decimal, codes}
+use Rattle.std.specs.Prelude.{◌<◌, ℕ, List, ◌++◌, decimal, codes}
 use Rattle.std.specs.List.{All, flat_map}
 use Rattle.word_core.specs.declared.letter.Letter.{Letter}
 use Rattle.quiver.specs.Declarations.{Declaration, letter_count}
@@ -9,7 +9,7 @@ use Rattle.cancel_rules.specs.declared.cancellation.Item.{Item}
 use Rattle.cancel_rules.specs.declared.cancellation.Item.TheVariants as item
 use Rattle.cancel_rules.specs.declared.cancellation.Cancellation.{Cancellation}
 use Rattle.block_text.specs.Written.{letter_text}
-use Rattle.certificate_text.specs.Written.{opening_text, lemma_text, goal_text, IsLemmaOver}
+use Rattle.certificate_text.specs.Written.{opening_text, lemma_text, numbered_texts, goal_text, IsLemmaOver}
 use Rattle.cancellation_text.specs.Blocks.{called_word, side_word}
 
 -- monic LETTER, or epic LETTER
@@ -23,8 +23,7 @@ item_text ds number (item.Cancel a side from) = codes "cancel " ++ decimal numbe
 
 -- the items with this number and the next ones
 abbrev pub items_text : List Declaration → ℕ → List Item → List ℕ
-items_text ds number [] = []
-items_text ds number (i ∷ items) = item_text ds number i ++ items_text ds (suc number) items
+items_text ds number items = numbered_texts (item_text ds) number items
 
 -- the letters that are called monic, and then those that are called epic
 abbrev pub cancellation_text : List Declaration → Cancellation → List ℕ

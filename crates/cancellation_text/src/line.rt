@@ -32,8 +32,8 @@ pub struct CancelTokens<'a> {
     pub item: &'a [u8],
 }
 
-// The token without the ' at its end.
-fn unstarred(token: &[u8]) -> &[u8]
+/// The token without the ' at its end.
+pub fn unstarred(token: &[u8]) -> &[u8]
     ensures { result.now ≡ unstarred token.now }
 {
     match token {

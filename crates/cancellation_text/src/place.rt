@@ -27,25 +27,13 @@ pub enum Stage {
     /// Behind its head.
     Headed,
     /// Behind its claim.
-    Claimed {
-        claim: u32,
-    },
+    Claimed { claim: u32 },
     /// Behind its denominator, or a letter that it calls monic or epic.
-    Called {
-        opened: Opened,
-    },
+    Called { opened: Opened },
     /// In the rows of a lemma.
-    Lemma {
-        opened: Opened,
-        lemma: Lemma,
-    },
+    Lemma { opened: Opened, lemma: Lemma },
     /// Behind a cancellation.
-    Cancelled {
-        opened: Opened,
-    },
+    Cancelled { opened: Opened },
     /// In the rows of the goal.
-    Goal {
-        opened: Opened,
-        goal: Lemma,
-    },
+    Goal { opened: Opened, goal: Lemma },
 }

@@ -1,11 +1,9 @@
 //! What is made of the lines of a proof that cancels letters.
 
-ghost use Rattle.std.specs.Prelude.{◌≡◌, [], ◌+◌, length, Ok, ⊤};
-ghost use Rattle.block_text.specs.Fault.{◌>>=◌, Reads};
+ghost use Rattle.std.specs.Prelude.{◌≡◌, [], ◌+◌, length, ⊤};
+ghost use Rattle.block_text.specs.Fault.{Reads};
 ghost use Rattle.block_text.specs.Tokens.{tokens_of};
-ghost use Rattle.certificate_text.specs.Lines.{goal_scale_of};
-ghost use Rattle.certificate_text.specs.Reading.{lemma_of};
-ghost use Rattle.cancellation_text.specs.Reading.{is_called, one_more, called, lemma_begun, cancelled, cancel_tokens, item_or_goal, calling, called_tokens, in_lemma, in_goal, proof_of, next, cancellation_steps};
+ghost use Rattle.cancellation_text.specs.Reading.{is_called, one_more, called, goal_begun, lemma_begun, cancelled, cancel_tokens, item_or_goal, calling, called_tokens, in_lemma, in_goal, proof_of, next, cancellation_steps};
 ghost use Rattle.cancellation_text.specs.Views.{called_now};
 ghost use Rattle.cancellation_text.specs.declared.place.Stage.TheVariants as stage;
 
@@ -98,7 +96,7 @@ fn lemma_begun(alloc: Global, opened: Opened, line: &[u8]) -> Result<Stage, Flaw
 
 // The rows of the goal begin.
 fn goal_begun(alloc: Global, opened: Opened, line: &[u8]) -> Result<Stage, Flaw>
-    ensures { result ≡ (goal_scale_of (tokens_of line.now) >>= λ scale. Ok (stage.Goal opened (lemma_of scale []))) }
+    ensures { result ≡ goal_begun opened (tokens_of line.now) }
 {
     let scale = goal_scale_of(line)?;
     let rows = Listing::new(alloc);
@@ -107,12 +105,7 @@ fn goal_begun(alloc: Global, opened: Opened, line: &[u8]) -> Result<Stage, Flaw>
 }
 
 // A cancellation, or the next lemma.
-fn item(
-    alloc: Global,
-    quiver: &Quiver,
-    mut opened: Opened,
-    line: &[u8],
-) -> Result<Stage, LineFault>
+fn item(alloc: Global, quiver: &Quiver, mut opened: Opened, line: &[u8]) -> Result<Stage, LineFault>
     ensures { Reads (λ s. s) result (cancelled quiver.now opened (tokens_of line.now) (cancel_tokens (length opened.items + 1) (tokens_of line.now))) }
 {
     let before = opened.items.len();
@@ -140,12 +133,7 @@ fn item_or_goal(
 }
 
 // A letter that is called monic or epic, or what stands behind all of these.
-fn calling(
-    alloc: Global,
-    quiver: &Quiver,
-    opened: Opened,
-    line: &[u8],
-) -> Result<Stage, LineFault>
+fn calling(alloc: Global, quiver: &Quiver, opened: Opened, line: &[u8]) -> Result<Stage, LineFault>
     ensures { Reads (λ s. s) result (calling quiver.now opened (tokens_of line.now) (called_tokens (tokens_of line.now))) }
 {
     match called_tokens(line) {
