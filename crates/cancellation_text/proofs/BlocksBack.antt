@@ -42,41 +42,41 @@ use Rattle.cancellation_text.proofs.Parts.{rows_of}
 -- ---- letters that are called monic or epic
 
 abbrev called_trees : List Declaration → Side → List Letter → List CalledTokens
-called_trees ds side letters = map (λ a. called_of (letter_text ds a.0) side) letters
+called_trees ds side ls = map (λ a. called_of (letter_text ds a.0) side) ls
 
 module _ (ds : List Declaration) where
-  called_are_text : (side : Side) (letters : List Letter) → All (IsWrittenMap ds) letters → IsTextOf (flat_map (called_text ds side) letters) (map called_line (called_trees ds side letters))
+  called_are_text : (side : Side) (ls : List Letter) → All (IsWrittenMap ds) ls → IsTextOf (flat_map (called_text ds side) ls) (map called_line (called_trees ds side ls))
   called_are_text side [] each = no_text
-  called_are_text side (a ∷ letters) each =
-      text-append (called_text ds side a) (flat_map (called_text ds side) letters) (called_line (called_of (letter_text ds a.0) side) ∷ []) (map called_line (called_trees ds side letters))
-      (called_is_text ds side a (All-head (IsWrittenMap ds) a letters each)) (called_are_text side letters (All-tail (IsWrittenMap ds) a letters each))
+  called_are_text side (a ∷ ls) each =
+      text-append (called_text ds side a) (flat_map (called_text ds side) ls) (called_line (called_of (letter_text ds a.0) side) ∷ []) (map called_line (called_trees ds side ls))
+      (called_is_text ds side a (All-head (IsWrittenMap ds) a ls each)) (called_are_text side ls (All-tail (IsWrittenMap ds) a ls each))
 
   -- on their own side they are these, and on the other one there are none
   own_on : (side : Side) (a : Letter) → IsWrittenMap ds a → called_on ds side (called_of (letter_text ds a.0) side) ≡ Some a
   own_on Left a of_map = of_map.known
   own_on Right a of_map = of_map.known
 
-  own_letters : (side : Side) (letters : List Letter) → All (IsWrittenMap ds) letters → called_letters ds side (called_trees ds side letters) ≡ letters
+  own_letters : (side : Side) (ls : List Letter) → All (IsWrittenMap ds) ls → called_letters ds side (called_trees ds side ls) ≡ ls
   own_letters side [] each = refl
-  own_letters side (a ∷ letters) each =
-      ap (λ found. cons_option found (called_letters ds side (called_trees ds side letters))) (own_on side a (All-head (IsWrittenMap ds) a letters each))
-      ∙ ap (λ ls. a ∷ ls) (own_letters side letters (All-tail (IsWrittenMap ds) a letters each))
+  own_letters side (a ∷ ls) each =
+      ap (λ found. cons_option found (called_letters ds side (called_trees ds side ls))) (own_on side a (All-head (IsWrittenMap ds) a ls each))
+      ∙ ap (λ ls. a ∷ ls) (own_letters side ls (All-tail (IsWrittenMap ds) a ls each))
 
-  none_on_left : (letters : List Letter) → called_letters ds Left (called_trees ds Right letters) ≡ []
+  none_on_left : (ls : List Letter) → called_letters ds Left (called_trees ds Right ls) ≡ []
   none_on_left [] = refl
-  none_on_left (a ∷ letters) = none_on_left letters
+  none_on_left (a ∷ ls) = none_on_left ls
 
-  none_on_right : (letters : List Letter) → called_letters ds Right (called_trees ds Left letters) ≡ []
+  none_on_right : (ls : List Letter) → called_letters ds Right (called_trees ds Left ls) ≡ []
   none_on_right [] = refl
-  none_on_right (a ∷ letters) = none_on_right letters
+  none_on_right (a ∷ ls) = none_on_right ls
 
-  maps_called : (side : Side) (letters : List Letter) → All (IsWrittenMap ds) letters → All (λ c. IsTrue (is_map_letter c.letter)) (called_trees ds side letters)
-  maps_called side letters each =
-      All-map (λ c. IsTrue (is_map_letter c.letter)) (λ a. called_of (letter_text ds a.0) side) letters (All-weaker (IsWrittenMap ds) (λ a. IsTrue (is_map_letter (letter_text ds a.0))) (λ a of_map. of_map.letter) letters each)
+  maps_called : (side : Side) (ls : List Letter) → All (IsWrittenMap ds) ls → All (λ c. IsTrue (is_map_letter c.letter)) (called_trees ds side ls)
+  maps_called side ls each =
+      All-map (λ c. IsTrue (is_map_letter c.letter)) (λ a. called_of (letter_text ds a.0) side) ls (All-weaker (IsWrittenMap ds) (λ a. IsTrue (is_map_letter (letter_text ds a.0))) (λ a of_map. of_map.letter) ls each)
 
-  names_called : (side : Side) (letters : List Letter) → All (IsWrittenMap ds) letters → All (λ c. IsKnown ds c.letter) (called_trees ds side letters)
-  names_called side letters each =
-      All-map (λ c. IsKnown ds c.letter) (λ a. called_of (letter_text ds a.0) side) letters (All-weaker (IsWrittenMap ds) (λ a. IsKnown ds (letter_text ds a.0)) (λ a of_map. (a, of_map.known)) letters each)
+  names_called : (side : Side) (ls : List Letter) → All (IsWrittenMap ds) ls → All (λ c. IsKnown ds c.letter) (called_trees ds side ls)
+  names_called side ls each =
+      All-map (λ c. IsKnown ds c.letter) (λ a. called_of (letter_text ds a.0) side) ls (All-weaker (IsWrittenMap ds) (λ a. IsKnown ds (letter_text ds a.0)) (λ a of_map. (a, of_map.known)) ls each)
 
 -- ---- items
 
@@ -232,14 +232,11 @@ module _ (ds : List Declaration) (proof : Cancellation) (writable : IsWritable d
   block_is_text : IsTextOf (cancellation_text ds proof) (cancellation_lines tree ++ end_line ∷ [])
   block_is_text =
       let opening = headed_is_text (codes "cancellation 1") head_line proof.claim proof.denominator head_is_text writable.claim size in
-      let called = text-append _ _ _ _ (text-append _ _ _ _ opening (called_are_text ds Left proof.monic monic)) (called_are_text ds Right proof.epic epic) in
-      let whole = text-append _ _ _ _ (text-append _ _ _ _ called items.text) (goal_is_text ds proof.goal goal) in
+      let called = text-append _ _ _ _ (called_are_text ds Left proof.monic monic) (called_are_text ds Right proof.epic epic) in
+      let whole = text-append _ _ _ _ (text-append _ _ _ _ opening called) (text-append _ _ _ _ items.text (goal_is_text ds proof.goal goal)) in
       subst (λ (ls : List Line). IsTextOf (cancellation_text ds proof) (head_line ∷ claim_line tree.claim ∷ denominator_line tree.denominator ∷ ls)) lines_are whole
     where
-      monic_lines : List Line
-      monic_lines = map called_line (called_trees ds Left proof.monic)
-
-      lines_are : ((map called_line (called_trees ds Left proof.monic) ++ map called_line (called_trees ds Right proof.epic)) ++ flat_map item_lines tree.items) ++ (goal_lines tree.goal ++ end_line ∷ [])
+      lines_are : (map called_line (called_trees ds Left proof.monic) ++ map called_line (called_trees ds Right proof.epic)) ++ (flat_map item_lines tree.items ++ (goal_lines tree.goal ++ end_line ∷ []))
           ≡ (map called_line tree.called ++ (flat_map item_lines tree.items ++ goal_lines tree.goal)) ++ end_line ∷ []
       lines_are = rw (map-append called_line (called_trees ds Left proof.monic) (called_trees ds Right proof.epic)) (simp append_assoc refl)
 

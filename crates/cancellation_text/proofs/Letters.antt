@@ -1,5 +1,5 @@
 -- The letters that the lines so far call monic and epic, and one more.
-use Rattle.std.proofs.Common.{◌≡◌, ◌≢◌, ◌<◌, ℕ, true, false, nat_eq, List, [], ◌∷◌, ◌++◌, Some, None, Ok, Err, arith, refl, sym, ap, ◌∙◌, subst, length, length-append, append-nil, get_or, eq-eqb}
+use Rattle.std.proofs.Common.{◌≡◌, ◌≢◌, ◌<◌, ℕ, Bool, true, false, nat_eq, List, [], ◌∷◌, ◌++◌, Some, None, Ok, Err, arith, refl, sym, ap, ◌∙◌, subst, length, length-append, append-nil, get_or, eq-eqb}
 use Rattle.std.specs.List.{All, AllPairs, cons_option, filter_map, list_any}
 use Rattle.std.proofs.lemmas.Bool.{ne_eqb}
 use Rattle.std.proofs.lemmas.List.{get_or_append_left}
@@ -23,8 +23,11 @@ AreCalled ds called o = (side : Side) → called_letters ds side called ≡ lett
 abbrev pub AreOnce : List Declaration → List CalledTokens → Type 0
 AreOnce ds called = (side : Side) → AllPairs (λ a c. a ≢ c) (called_letters ds side called)
 
-abbrev same_test : Letter → Letter → _
+abbrev same_test : Letter → Letter → Bool
 same_test a b = nat_eq b.0 a.0
+
+abbrev numbered : ℕ → Letter
+numbered n = record { 0 = n }
 
 -- ---- a letter that is none of others
 
@@ -41,7 +44,7 @@ none_before a xs ys once = list_any_none (same_test a) xs each
     each : All (λ b. nat_eq b.0 a.0 ≡ false) xs
     each = λ k d within. ne_eqb _ _ (λ same.
         let apart : get_or (xs ++ a ∷ ys) k d ≢ get_or (xs ++ a ∷ ys) (length xs) d = once k (length xs) d within (omega (arith, length-append xs (a ∷ ys))) in
-        let letter : get_or xs k d ≡ a = ap (λ (n : ℕ). record { 0 = n }) same in
+        let letter : get_or xs k d ≡ a = ap numbered same in
         apart (get_or_append_left xs (a ∷ ys) d k within ∙ letter ∙ sym (get_or-append_seam xs a ys d)))
 
 -- ---- one letter more

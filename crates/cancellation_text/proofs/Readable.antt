@@ -25,12 +25,14 @@ use Rattle.block_text.proofs.Zips.{zip_length}
 use Rattle.certificate_text.specs.Blocks.{ScaledTokens}
 use Rattle.certificate_text.specs.Bounds.{IsLemmaRowOf, IsScaledOf}
 use Rattle.certificate_text.specs.Evidence.{IsLemmaRowOver}
+use Rattle.certificate_text.specs.Written.{IsLemmaOver}
 use Rattle.certificate_text.proofs.Checkable.{positive_in_range, zip_all, scaled_checkable}
 use Rattle.std.proofs.lemmas.List.Elements.{All-weaker}
 use Rattle.cancellation_text.specs.Blocks.{CalledTokens, ItemTokens, lemma, cancel, CancellationTokens, known_letter, called_on, called_letters}
 use Rattle.cancellation_text.specs.Bounds.{Bound, rows, item_rows, rows_in, KeepsOne, IsItemOf, IsCancellationOf}
 use Rattle.cancellation_text.specs.Cancellations.{cancellation_kind}
 use Rattle.cancellation_text.specs.Reading.{cancellation_steps, called_of}
+use Rattle.cancellation_text.specs.Written.{IsItemOver, IsCancellationOver}
 use Rattle.cancellation_text.proofs.Parts.{rows_of}
 use Rattle.cancellation_text.proofs.Reader.{reader}
 
@@ -97,3 +99,20 @@ module _ (ds : List Declaration) where
   pub readable_told : (bytes : List ℕ) (r : Result (List Cancellation) CertFault) → ReadsText (λ proofs. proofs) r (all_values (cancellation_steps ds) bytes) → IfOk r (All (IsReadableCancellation ds))
   readable_told bytes r read =
       read_values_are (cancellation_kind ds) (cancellation_steps ds) (reader ds) (IsReadableCancellation ds) (λ b proof block keeps says. block_readable b proof keeps says) bytes r read
+
+-- ---- and written
+
+lemma_is_over : (ds : List Declaration) (l : Lemma) → IsReadableLemma ds l → IsLemmaOver ds l
+lemma_is_over ds l readable = All-weaker (IsRowOver ds) (IsLemmaRowOver ds) (λ row over. record { left = over.left; right = over.right }) l.rows readable.letters
+
+item_is_over : (ds : List Declaration) (i : Item) → IsReadableItem ds i → IsItemOver ds i
+item_is_over ds (item.Lemma l) readable = lemma_is_over ds l readable
+item_is_over ds (item.Cancel a side number) readable = readable
+
+pub readable_is_over : (ds : List Declaration) (proof : Cancellation) → IsReadableCancellation ds proof → IsCancellationOver ds proof
+readable_is_over ds proof readable = record {
+  monic = readable.monic;
+  epic = readable.epic;
+  items = All-weaker (IsReadableItem ds) (IsItemOver ds) (item_is_over ds) proof.items readable.items;
+  goal = lemma_is_over ds proof.goal readable.goal;
+}

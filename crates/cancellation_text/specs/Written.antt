@@ -26,11 +26,19 @@ abbrev pub items_text : List Declaration → ℕ → List Item → List ℕ
 items_text ds number items = numbered_texts (item_text ds) number items
 
 -- the letters that are called monic, and then those that are called epic
+abbrev pub letters_text : List Declaration → Cancellation → List ℕ
+letters_text ds proof = flat_map (called_text ds Left) proof.monic ++ flat_map (called_text ds Right) proof.epic
+
+-- the items, the goal, and the end of the block
+abbrev pub steps_text : List Declaration → Cancellation → List ℕ
+steps_text ds proof = items_text ds 1 proof.items ++ goal_text ds proof.goal
+
+-- the first three lines
+abbrev pub head_text : Cancellation → List ℕ
+head_text proof = opening_text (codes "cancellation 1\nclaim ") proof.claim proof.denominator
+
 abbrev pub cancellation_text : List Declaration → Cancellation → List ℕ
-cancellation_text ds proof =
-    opening_text (codes "cancellation 1\nclaim ") proof.claim proof.denominator
-    ++ flat_map (called_text ds Left) proof.monic ++ flat_map (called_text ds Right) proof.epic
-    ++ items_text ds 1 proof.items ++ goal_text ds proof.goal
+cancellation_text ds proof = head_text proof ++ letters_text ds proof ++ steps_text ds proof
 
 -- ---- its letters are letters of the quiver
 

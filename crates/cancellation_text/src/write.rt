@@ -3,8 +3,9 @@
 ghost use Rattle.std.specs.Prelude.{◌≡◌, ◌<◌, ◌++◌, IfOk, OnOk};
 ghost use Rattle.std.specs.List.{All, flat_map};
 ghost use Rattle.quiver.specs.Declarations.{letter_count};
+ghost use Rattle.certificate_text.specs.Written.{IsLemmaOver};
 ghost use Rattle.cancellation_text.specs.Blocks.{called_word, side_word};
-ghost use Rattle.cancellation_text.specs.Written.{called_text, item_text, items_text, cancellation_text, IsItemOver, IsCancellationOver};
+ghost use Rattle.cancellation_text.specs.Written.{called_text, item_text, items_text, head_text, letters_text, steps_text, cancellation_text, IsItemOver, IsCancellationOver};
 
 use block_text::{put, put_letter, put_number};
 use cancel_rules::{Cancellation, Item, Side};
@@ -99,6 +100,38 @@ fn put_items(out: &mut Vec<u8>, quiver: &Quiver, items: &[Item]) -> Result<(), A
     Ok(())
 }
 
+// The first three lines of a proof.
+fn put_head(out: &mut Vec<u8>, proof: &Cancellation) -> Result<(), AllocError>
+    ensures { OnOk result (out.new.items ≡ out.old.items ++ head_text proof.now) }
+{
+    put_opening(
+        out,
+        "cancellation 1\nclaim ",
+        proof.claim,
+        proof.denominator,
+    )
+}
+
+// The letters that a proof calls monic, and then those that it calls epic.
+fn put_letters(out: &mut Vec<u8>, quiver: &Quiver, proof: &Cancellation) -> Result<(), AllocError>
+    requires monic { All (λ a. a.0 < letter_count quiver.now) proof.now.monic }
+    requires epic { All (λ a. a.0 < letter_count quiver.now) proof.now.epic }
+    ensures { OnOk result (out.new.items ≡ out.old.items ++ letters_text quiver.now proof.now) }
+{
+    put_all_called(out, quiver, Side::Left, proof.monic.as_slice())?;
+    put_all_called(out, quiver, Side::Right, proof.epic.as_slice())
+}
+
+// The items of a proof, its goal, and the end of the block.
+fn put_steps(out: &mut Vec<u8>, quiver: &Quiver, proof: &Cancellation) -> Result<(), AllocError>
+    requires items { All (IsItemOver quiver.now) proof.now.items }
+    requires goal { IsLemmaOver quiver.now proof.now.goal }
+    ensures { OnOk result (out.new.items ≡ out.old.items ++ steps_text quiver.now proof.now) }
+{
+    put_items(out, quiver, proof.items.as_slice())?;
+    put_goal(out, quiver, &proof.goal)
+}
+
 /// A proof that cancels letters behind bytes, as a block of evidence text: a line for each letter that it calls monic, and then
 /// epic, a line for each cancellation, and one for each lemma, the goal and each of their rows. Only memory can be short.
 pub fn put_cancellation(
@@ -109,16 +142,9 @@ pub fn put_cancellation(
     requires { IsCancellationOver quiver.now proof.now }
     ensures { OnOk result (out.new.items ≡ out.old.items ++ cancellation_text quiver.now proof.now) }
 {
-    put_opening(
-        out,
-        "cancellation 1\nclaim ",
-        proof.claim,
-        proof.denominator,
-    )?;
-    put_all_called(out, quiver, Side::Left, proof.monic.as_slice())?;
-    put_all_called(out, quiver, Side::Right, proof.epic.as_slice())?;
-    put_items(out, quiver, proof.items.as_slice())?;
-    put_goal(out, quiver, &proof.goal)
+    put_head(out, proof)?;
+    put_letters(out, quiver, proof)?;
+    put_steps(out, quiver, proof)
 }
 
 /// A proof that cancels letters as a block of evidence text.
