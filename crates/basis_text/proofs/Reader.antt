@@ -64,7 +64,7 @@ module _ (ds : List Declaration) where
     told = told;
     none_told = (refl, refl);
     others = refl;
-    words = All-from_recursion (λ word. begins_comment word ≡ false) other_words (refl, (refl, tt));
+    words = All-from_recursion (λ word. begins_comment word ≡ false) other_words (refl, (refl, (refl, tt)));
     IsOpen = IsOpen ds;
     begins = begins_by_head other_words (IsOpen ds) (codes "basis") (codes "1") at.Headed refl refl;
     goes = goes;

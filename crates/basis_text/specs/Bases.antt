@@ -17,7 +17,7 @@ use Rattle.basis_text.specs.Written.{IsPolyOver}
 
 -- blocks of these kinds aren't read
 abbrev pub other_words : List (List ℕ)
-other_words = codes "certificate" ∷ codes "model" ∷ []
+other_words = codes "certificate" ∷ codes "model" ∷ codes "cancellation" ∷ []
 
 -- Bases are a kind of block.
 abbrev pub basis_kind : List Declaration → Kind BasisTerms

@@ -80,7 +80,7 @@ impl<'q> BlockKind for Bases<'q> {
     ghost is_sound = { λ kind stage. ⊤ };
 
     fn others(&self) -> &'static [&'static str] {
-        &["certificate", "model"]
+        &["certificate", "model", "cancellation"]
     }
 
     fn begin(&self, _alloc: Global, line: &[u8]) -> Option<Stage> {

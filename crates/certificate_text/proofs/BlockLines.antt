@@ -20,12 +20,12 @@ use Rattle.certificate_text.specs.declared.place.Stage.TheVariants as at
 use Rattle.block_text.specs.Fault.{◌>>=◌}
 use Rattle.block_text.specs.Letters.{is_number, number_within}
 use Rattle.block_text.specs.Lines.{number_limit, integer_limit, begins, integer_of, Line, claim_line, is_end}
-use Rattle.certificate_text.specs.Lines.{RowTokens, row_limit, lemma_scale_of, is_value, is_row, row_values, over_lemma, no_rows}
+use Rattle.certificate_text.specs.Lines.{RowTokens, row_limit, lemma_scale_of, is_value, is_row, row_values, over_lemma, no_rows, grown}
 use Rattle.certificate_text.specs.Blocks as tokens
 use Rattle.certificate_text.specs.Blocks.{ScaledTokens, LemmaTokens, PlainTokens, LemmasTokens, BlockTokens, row_line, denominator_line, lemma_lines, goal_lines, certificate_lines, IsBlock, IsPlainRow, IsScaled, AreLemmas, IsPlainBlock, IsLemmasBlock}
 use Rattle.certificate_text.specs.Bounds as bound
 use Rattle.certificate_text.specs.Bounds.{Bound, flaw_of, IsWithin, HasNumbersOutside, rows_in, IsScaledOf, IsCertificateOf, KeepsOne}
-use Rattle.certificate_text.specs.Reading.{next as step, begun, finish, scaled, closed_by, certificate_of, opened_of, lemma_of, certificate_steps}
+use Rattle.certificate_text.specs.Reading.{next as step, begun, finish, scaled, closed_by, certificate_of, opened_of, lemma_of, lemma_row, certificate_steps}
 use Rattle.block_text.proofs.NumberedLines.{run, run-append}
 use Rattle.block_text.proofs.Owed.{read_inside, read_block, read_inside-run}
 use Rattle.block_text.proofs.Meets.{Meets, reads, then_meets, meets-weaker, asked_meets, unless_meets}
@@ -44,13 +44,20 @@ row_steps : {A B S M E F : Type 0} (row : Result A F) (view : A → B) (size : B
 row_steps (Ok a) view size made behind = size_steps (size (view a)) (λ s. made s (view a)) behind
 row_steps (Err f) view size made behind = refl
 
+-- the line of a row of a lemma, and the place behind it
+pub lemma_row_takes : {E : Type 0} (ds : List Declaration) (r : RowTokens) → IsTrue (is_row r) → (size : Size) (l : Lemma) (place : Size → Lemma → E)
+    → (lemma_row ds size l (row_line r) >>= λ next. Ok (place next.0 next.1))
+    ≡ (row_values ds r >>= λ row. (grown size row.left row.right >>= λ larger. Ok (place larger (lemma_of l.scale (l.rows ++ over_lemma r.lemma row ∷ [])))))
+lemma_row_takes ds r row size l place =
+    rw (lemma_row_line_read ds r row) (row_steps (row_values ds r) (over_lemma r.lemma) (λ made. grown size made.left made.right) (λ larger made. (larger, lemma_of l.scale (l.rows ++ made ∷ []))) (λ next. place next.0 next.1))
+
 -- ---- no line of a certificate is `end`
 
-rows_go_on : (rs : List RowTokens) → AllByRecursion (λ line. is_end line ≡ false) (map row_line rs)
+pub rows_go_on : (rs : List RowTokens) → AllByRecursion (λ line. is_end line ≡ false) (map row_line rs)
 rows_go_on [] = tt
 rows_go_on (r ∷ rs) = (refl, rows_go_on rs)
 
-behind_rows : (rs : List RowTokens) (lines : List Line) → AllByRecursion (λ line. is_end line ≡ false) lines → AllByRecursion (λ line. is_end line ≡ false) (map row_line rs ++ lines)
+pub behind_rows : (rs : List RowTokens) (lines : List Line) → AllByRecursion (λ line. is_end line ≡ false) lines → AllByRecursion (λ line. is_end line ≡ false) (map row_line rs ++ lines)
 behind_rows [] lines rest = rest
 behind_rows (r ∷ rs) lines rest = (refl, behind_rows rs lines rest)
 
@@ -62,7 +69,7 @@ lemmas_go_on (l ∷ ls) goal =
 -- ---- numbers outside of rows
 
 module _ (K : Bound → Type 0) where
-  integer_meets : (digits : List ℕ) → (K bound.numbers → IsWithin integer_limit digits) → Meets flaw_of K (λ z. integer_of digits ≡ Ok z) (integer_of digits)
+  pub integer_meets : (digits : List ℕ) → (K bound.numbers → IsWithin integer_limit digits) → Meets flaw_of K (λ z. integer_of digits ≡ Ok z) (integer_of digits)
   integer_meets digits within =
       meets-weaker (asked_meets K bound.numbers (option_map pos (number_within integer_limit digits)) (λ kept. let n = within kept in (pos n.0, rw n.1 refl))) (λ z is _. is)
 
@@ -98,20 +105,20 @@ module _ (K : Bound → Type 0) where
     abbrev plain_row : RowTokens → CertRow → CertRow
     plain_row r row = row
 
-    takes_plain : (k : ℕ) (z : ℤ) (r : RowTokens) → IsPlainRow r → TakesRow K ds (plain_place k z) plain_row r
+    takes_plain : (k : ℕ) (z : ℤ) (r : RowTokens) → IsPlainRow r → TakesRow (step ds) K ds (plain_place k z) plain_row r
     takes_plain k z r plain size front = rw (row_line_read ds r plain) refl
 
     plain_meets : (b : PlainTokens) → IsPlainBlock b → (K bound.numbers → HasNumbersOutside (tokens.plain b)) → RowsFit K ds no_rows b.rows
         → Meets flaw_of K (IsBlockRead (tokens.plain b)) (run (step ds) (at.Headed Plain) (claim_line b.claim ∷ denominator_line b.denominator ∷ map row_line b.rows))
     plain_meets b block numbers keep =
         behind_numbers Plain b.claim b.denominator (map row_line b.rows) (IsBlockRead (tokens.plain b)) block.claim block.denominator (λ kept. (numbers kept).0) (λ kept. (numbers kept).1) (λ k z k_is z_is.
-        meets-weaker (rows_meet K ds (plain_place k z) plain_row no_rows [] b.rows (All-weaker IsPlainRow _ (takes_plain k z) b.rows block.rows) keep) (λ q _ read. (
+        meets-weaker (rows_meet (step ds) K ds (plain_place k z) plain_row no_rows [] b.rows (All-weaker IsPlainRow _ (takes_plain k z) b.rows block.rows) keep) (λ q _ read. (
           evidence.Plain (certificate_of k z read.rows),
           rw read.is refl,
           record {
             claim = k_is;
             denominator = z_is;
-            rows = AllZip-weaker (IsMadeOf K ds (plain_place k z) plain_row) _ (λ r row made. rw made.2 made.1) b.rows read.rows read.are_made;
+            rows = AllZip-weaker (IsMadeOf (step ds) K ds (plain_place k z) plain_row) _ (λ r row made. rw made.2 made.1) b.rows read.rows read.are_made;
           },
         )))
 
@@ -126,11 +133,11 @@ module _ (K : Bound → Type 0) where
     abbrev goal_place : ℕ → ℤ → List Lemma → ℤ → Size → List LemmaRow → Stage
     goal_place k z front scale size rows = at.Goal (opened_of k z front size) (lemma_of scale rows)
 
-    takes_in_lemma : (k : ℕ) (z : ℤ) (front : List Lemma) (scale : ℤ) (r : RowTokens) → IsTrue (is_row r) → TakesRow K ds (lemma_place k z front scale) lemma_made r
-    takes_in_lemma k z front scale r row size rows = rw (lemma_row_line_read ds r row) (row_steps (row_values ds r) _ _ _ _)
+    takes_in_lemma : (k : ℕ) (z : ℤ) (front : List Lemma) (scale : ℤ) (r : RowTokens) → IsTrue (is_row r) → TakesRow (step ds) K ds (lemma_place k z front scale) lemma_made r
+    takes_in_lemma k z front scale r row size rows = lemma_row_takes ds r row size (lemma_of scale rows) (λ larger l. at.Lemma (opened_of k z front larger) l)
 
-    takes_in_goal : (k : ℕ) (z : ℤ) (front : List Lemma) (scale : ℤ) (r : RowTokens) → IsTrue (is_row r) → TakesRow K ds (goal_place k z front scale) lemma_made r
-    takes_in_goal k z front scale r row size rows = rw (lemma_row_line_read ds r row) (row_steps (row_values ds r) _ _ _ _)
+    takes_in_goal : (k : ℕ) (z : ℤ) (front : List Lemma) (scale : ℤ) (r : RowTokens) → IsTrue (is_row r) → TakesRow (step ds) K ds (goal_place k z front scale) lemma_made r
+    takes_in_goal k z front scale r row size rows = lemma_row_takes ds r row size (lemma_of scale rows) (λ larger l. at.Goal (opened_of k z front larger) l)
 
     -- at this place the next lemma or the goal may begin
     abbrev Waits : Opened → Stage → Type 0
@@ -139,7 +146,7 @@ module _ (K : Bound → Type 0) where
     waits_in_lemma : (o : Opened) (l : Lemma) → Waits (closed_by o l) (at.Lemma o l)
     waits_in_lemma o l line no_row = rw no_row refl
 
-    scale_meets : (before : ℕ) (l : LemmaTokens) → IsTrue (is_value (before + 1) l.number) → IsTrue (is_number l.scaled.scale) → (K bound.numbers → IsWithin integer_limit l.scaled.scale) → (K bound.rows → before < row_limit)
+    pub scale_meets : (before : ℕ) (l : LemmaTokens) → IsTrue (is_value (before + 1) l.number) → IsTrue (is_number l.scaled.scale) → (K bound.numbers → IsWithin integer_limit l.scaled.scale) → (K bound.rows → before < row_limit)
         → Meets flaw_of K (λ scale. integer_of l.scaled.scale ≡ Ok scale) (lemma_scale_of before (codes "lemma" ∷ l.number ∷ codes "scale" ∷ l.scaled.scale ∷ []))
     scale_meets before l numbered number within few =
         rw (numbered, number) (then_meets _ (integer_meets l.scaled.scale within) (λ scale _ scale_is. unless_meets bound.rows _ _ (λ kept. lt-leb row_limit before (few kept)) (reads _ refl scale_is)))
@@ -166,7 +173,7 @@ module _ (K : Bound → Type 0) where
         → Meets flaw_of K (LemmaIsRead k z front size l) (run (step ds) place (lemma_lines l))
     lemma_meets k z front size place l waits numbered is_scaled within few keep =
         then_meets _ (lemma_begins k z front size place l waits numbered is_scaled.scale within few) (λ p _ begins.
-        rw begins.2 (meets-weaker (rows_meet K ds (lemma_place k z front begins.0) lemma_made size [] l.scaled.rows (All-weaker (λ r. IsTrue (is_row r)) _ (takes_in_lemma k z front begins.0) l.scaled.rows is_scaled.rows) keep) (λ q _ read.
+        rw begins.2 (meets-weaker (rows_meet (step ds) K ds (lemma_place k z front begins.0) lemma_made size [] l.scaled.rows (All-weaker (λ r. IsTrue (is_row r)) _ (takes_in_lemma k z front begins.0) l.scaled.rows is_scaled.rows) keep) (λ q _ read.
         record { lemma = lemma_of begins.0 read.rows; is_lemma = record { scale = begins.1; rows = read.are_made }; is = read.is })))
 
     -- what is read of lemmas
@@ -221,7 +228,7 @@ module _ (K : Bound → Type 0) where
         → Meets flaw_of K (GoalIsRead k z front size g) (run (step ds) place (goal_lines g))
     goal_meets k z front size place g waits is_scaled within keep =
         then_meets _ (goal_begins k z front size place g waits is_scaled.scale within) (λ p _ begins.
-        rw begins.2 (meets-weaker (rows_meet K ds (goal_place k z front begins.0) lemma_made size [] g.rows (All-weaker (λ r. IsTrue (is_row r)) _ (takes_in_goal k z front begins.0) g.rows is_scaled.rows) keep) (λ q _ read.
+        rw begins.2 (meets-weaker (rows_meet (step ds) K ds (goal_place k z front begins.0) lemma_made size [] g.rows (All-weaker (λ r. IsTrue (is_row r)) _ (takes_in_goal k z front begins.0) g.rows is_scaled.rows) keep) (λ q _ read.
         record { goal = lemma_of begins.0 read.rows; is_goal = record { scale = begins.1; rows = read.are_made }; is = read.is })))
 
     lemmas_meets : (b : LemmasTokens) → IsLemmasBlock b → (K bound.numbers → HasNumbersOutside (tokens.lemmas b)) → (K bound.rows → length b.lemmas ≤ row_limit) → RowsFit K ds no_rows (rows_in (tokens.lemmas b))

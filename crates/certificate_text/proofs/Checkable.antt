@@ -56,7 +56,7 @@ integer_in_range token z read =
     option_map_some (signed (is_negative token)) (number_within integer_limit (digits_of token)) z read
     (λ n is same. subst IsCoefficient same (signed_in_range (is_negative token) n (number_is_within integer_limit (digits_of token) n is)))
 
-positive_in_range : (digits : List ℕ) (z : ℤ) → integer_of digits ≡ Ok z → IsCoefficient z
+pub positive_in_range : (digits : List ℕ) (z : ℤ) → integer_of digits ≡ Ok z → IsCoefficient z
 positive_in_range digits z read =
     option_map_some pos (number_within integer_limit digits) z (asked_ok NumberTooLarge _ z read)
     (λ n within same. subst IsCoefficient same (signed_in_range false n (number_is_within integer_limit digits n within)))
@@ -93,7 +93,7 @@ lemma_row_is_good ds r row says =
 -- ---- what a tree says
 
 -- what holds of what each says holds of all
-zip_all : {X Y : Type 0} (R : X → Y → Type 0) (P : Y → Type 0) → ((x : X) (y : Y) → R x y → P y) → (xs : List X) (ys : List Y) → AllZip R xs ys → All P ys
+pub zip_all : {X Y : Type 0} (R : X → Y → Type 0) (P : Y → Type 0) → ((x : X) (y : Y) → R x y → P y) → (xs : List X) (ys : List Y) → AllZip R xs ys → All P ys
 zip_all R P each [] [] zipped = All-nil P
 zip_all R P each [] (y ∷ ys) zipped = absurd zipped
 zip_all R P each (x ∷ xs) [] zipped = absurd zipped
@@ -110,7 +110,7 @@ module _ (ds : List Declaration) where
         letters = All-weaker (IsGoodRow ds) (IsRowOver ds) (λ row fits. fits.letters) c.rows good;
       }
 
-  scaled_checkable : (s : ScaledTokens) (l : Lemma) → IsScaledOf ds s l → IsCheckableLemma ds l
+  pub scaled_checkable : (s : ScaledTokens) (l : Lemma) → IsScaledOf ds s l → IsCheckableLemma ds l
   scaled_checkable s l says =
       let good : All (IsGoodLemmaRow ds) l.rows = zip_all (IsLemmaRowOf ds) (IsGoodLemmaRow ds) (lemma_row_is_good ds) s.rows l.rows says.rows in
       record {

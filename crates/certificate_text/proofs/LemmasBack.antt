@@ -40,7 +40,7 @@ pub record IsWrittenLemma (ds : List Declaration) (l : Lemma) : Type 0 where
   pub size : IsSize l.scale
   pub rows : All (IsWrittenRow ds) l.rows
 
-abbrev scaled_tree : List Declaration → Lemma → ScaledTokens
+abbrev pub scaled_tree : List Declaration → Lemma → ScaledTokens
 scaled_tree ds l = record { scale = signed_decimal l.scale; rows = trees ds (λ (row : LemmaRow). row) l.rows }
 
 grouped : (front word scale end listed : List ℕ) → front ++ (word ++ scale ++ end ++ listed) ≡ (((front ++ word) ++ scale) ++ end) ++ listed
@@ -58,31 +58,31 @@ module _ (ds : List Declaration) (l : Lemma) (written : IsWrittenLemma ds l) whe
       (sym (grouped front (codes " scale ") (signed_decimal l.scale) (10 ∷ []) (flat_map (lemma_row_text ds) l.rows)))
       (text-append _ _ _ _ head listed)
 
-  of_rows : AreRows ds (scaled_tree ds l).rows
+  pub of_rows : AreRows ds (scaled_tree ds l).rows
   of_rows = rows_are_rows ds (λ (row : LemmaRow). row) l.rows written.rows
 
-  is_scaled : IsScaled (scaled_tree ds l)
+  pub is_scaled : IsScaled (scaled_tree ds l)
   is_scaled = record { scale = written.size.number; rows = of_rows.each }
 
-  says : IsScaledOf ds (scaled_tree ds l) l
+  pub says : IsScaledOf ds (scaled_tree ds l) l
   says = record {
     scale = written.size.value;
     rows = zip_by (IsLemmaRowOf ds) (row_tree ds) l.rows (recursion_from_All _ l.rows (All-weaker (IsWrittenRow ds) _ (lemma_row_says ds) l.rows written.rows));
   }
 
-goal_is_text : (ds : List Declaration) (l : Lemma) → IsWrittenLemma ds l → IsTextOf (goal_text ds l) (goal_lines (scaled_tree ds l) ++ end_line ∷ [])
+pub goal_is_text : (ds : List Declaration) (l : Lemma) → IsWrittenLemma ds l → IsTextOf (goal_text ds l) (goal_lines (scaled_tree ds l) ++ end_line ∷ [])
 goal_is_text ds l written = text-append _ _ _ _ (scaled_is_text ds l written (codes "goal") (codes "goal" ∷ codes "scale" ∷ []) (literal (codes "goal") refl refl) refl refl) end_is_text
 
 -- ---- lemmas one after another
 
-abbrev lemma_tree : List Declaration → ℕ → Lemma → LemmaTokens
+abbrev pub lemma_tree : List Declaration → ℕ → Lemma → LemmaTokens
 lemma_tree ds number l = record { number = decimal number; scaled = scaled_tree ds l }
 
 abbrev lemma_trees : List Declaration → ℕ → List Lemma → List LemmaTokens
 lemma_trees ds number [] = []
 lemma_trees ds number (l ∷ ls) = lemma_tree ds number l ∷ lemma_trees ds (suc number) ls
 
-lemma_is_text : (ds : List Declaration) (number : ℕ) (l : Lemma) → number < 10 ^ 64 → IsWrittenLemma ds l → IsTextOf (lemma_text ds number l) (lemma_lines (lemma_tree ds number l))
+pub lemma_is_text : (ds : List Declaration) (number : ℕ) (l : Lemma) → number < 10 ^ 64 → IsWrittenLemma ds l → IsTextOf (lemma_text ds number l) (lemma_lines (lemma_tree ds number l))
 lemma_is_text ds number l small written =
     let text = decimal_text number small in
     let line = line_text-append (codes "lemma ") (decimal number) (literal (codes "lemma ") refl refl) (plain_name (decimal number) text).line in
@@ -149,14 +149,17 @@ pub record AreWritten (ds : List Declaration) (c : LemmaCertificate) : Type 0 wh
   pub lemmas : All (IsWrittenLemma ds) c.lemmas
   pub goal : IsWrittenLemma ds c.goal
 
+pub lemma_written : (ds : List Declaration) → IsDeclared ds → IsTrue (list_all is_named ds) → (l : Lemma) → IsWritableLemma ds l → IsWrittenLemma ds l
+lemma_written ds declared known l fits = record {
+  size = size_written l.scale fits.size fits.scale fits.in_range;
+  rows = All-weaker (IsWritableLemmaRow ds) (IsWrittenRow ds) (lemma_row_written ds declared known) l.rows fits.rows;
+}
+
 pub lemmas_written : (ds : List Declaration) (c : LemmaCertificate) → IsDeclared ds → IsTrue (list_all is_named ds) → IsWritableByLemmas ds c → AreWritten ds c
-lemmas_written ds c declared known writable =
-    let written : (l : Lemma) → IsWritableLemma ds l → IsWrittenLemma ds l =
-    λ l fits. record {
-      size = size_written l.scale fits.size fits.scale fits.in_range;
-      rows = All-weaker (IsWritableLemmaRow ds) (IsWrittenRow ds) (lemma_row_written ds declared known) l.rows fits.rows;
-    } in
-    record { lemmas = All-weaker (IsWritableLemma ds) (IsWrittenLemma ds) written c.lemmas writable.lemmas; goal = written c.goal writable.goal }
+lemmas_written ds c declared known writable = record {
+  lemmas = All-weaker (IsWritableLemma ds) (IsWrittenLemma ds) (lemma_written ds declared known) c.lemmas writable.lemmas;
+  goal = lemma_written ds declared known c.goal writable.goal;
+}
 
 abbrev lemmas_tree : List Declaration → LemmaCertificate → LemmasTokens
 lemmas_tree ds c = record { claim = decimal c.claim; denominator = signed_decimal c.denominator; lemmas = lemma_trees ds 1 c.lemmas; goal = scaled_tree ds c.goal }

@@ -1,13 +1,13 @@
 pub mod LineTrees
-mod RowTrees
-mod OpenBlocks
-mod FlawedLines
-mod NextLines
+pub mod RowTrees
+pub mod OpenBlocks
+pub mod FlawedLines
+pub mod NextLines
 pub mod RowSteps
 pub mod RowLines
-mod RowValues
-mod BlockLines
-mod OneCertificate
+pub mod RowValues
+pub mod BlockLines
+pub mod OneCertificate
 pub mod EachText
 pub mod Checkable
 pub mod CheckableLetters

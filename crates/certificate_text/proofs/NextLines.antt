@@ -19,7 +19,7 @@ use Rattle.block_text.specs.Fault.{asked}
 use Rattle.block_text.specs.Letters.{is_number, number_within}
 use Rattle.block_text.specs.Lines.{number_limit, integer_limit, integer_of, claim_of, Line, claim_line}
 use Rattle.certificate_text.specs.Lines.{RowTokens, row_limit, is_value, is_row, denominator_of, lemma_digits, lemma_scale_of, goal_digits, goal_scale_of, row_tokens, row_values, row_of, over_lemma, lemma_row_of, grown}
-use Rattle.certificate_text.specs.Blocks.{ScaledTokens, LemmaTokens, PlainTokens, row_line, head_line, denominator_line, lemma_lines, IsPlainRow}
+use Rattle.certificate_text.specs.Blocks.{ScaledTokens, LemmaTokens, PlainTokens, row_line, head_line, denominator_line, lemma_lines, IsPlainRow, IsScaled}
 use Rattle.certificate_text.specs.Bounds.{IsWithin, IsScaledOf, IsLemmaRowOf}
 use Rattle.certificate_text.specs.Reading.{certificate_of, begun, lemma_of, closed_by, resized, lemma_row}
 use Rattle.block_text.proofs.Results.{by_test, bind_ok, asked_ok}
@@ -30,7 +30,7 @@ use Rattle.block_text.proofs.Zips.{zip_push, zip_length}
 use Rattle.certificate_text.proofs.OpenBlocks.{IsHeaded, IsClaimed, IsInPlain, IsBegun, IsOpened, IsInside, IsOpen, Lead, lemma_tokens, lead_lines, IsNext, IsFew, rows_of, lemmas_front, are_lemmas-push, plain_front}
 
 -- two lists of lines with one line more
-behind : (front other : List Line) (line last : Line) → front ≡ other → line ≡ last → front ++ line ∷ [] ≡ other ++ last ∷ []
+pub behind : (front other : List Line) (line last : Line) → front ≡ other → line ≡ last → front ++ line ∷ [] ≡ other ++ last ∷ []
 behind front other line last same same_line = ap₂ (λ ls l. ls ++ l ∷ []) same same_line
 
 -- ---- what the lines say
@@ -55,7 +55,7 @@ pub record IsLemmaRead (before : ℕ) (line : Line) (scale : ℤ) : Type 0 where
   pub scale_value : integer_of digits ≡ Ok scale
   pub few : before < row_limit
 
-lemma_read : (before : ℕ) (line : Line) (scale : ℤ) → lemma_scale_of before line ≡ Ok scale → IsLemmaRead before line scale
+pub lemma_read : (before : ℕ) (line : Line) (scale : ℤ) → lemma_scale_of before line ≡ Ok scale → IsLemmaRead before line scale
 lemma_read before line scale read =
     bind_ok (asked BadLine (lemma_digits (before + 1) line)) _ scale read (λ digits there read_scale.
     bind_ok (integer_of digits) _ scale read_scale (λ value value_is read_room.
@@ -162,6 +162,40 @@ pub lead_lines-push : (lead : Lead) (s : ScaledTokens) (r : RowTokens) → lead_
 lead_lines-push None s r = ap (λ (ls : List Line). (codes "goal" ∷ codes "scale" ∷ s.scale ∷ []) ∷ ls) (sym (rows_push s.rows r))
 lead_lines-push (Some number) s r = ap (λ (ls : List Line). (codes "lemma" ∷ number ∷ codes "scale" ∷ s.scale ∷ []) ∷ ls) (sym (rows_push s.rows r))
 
+-- the same behind other lines
+pub lead_push : (front : List Line) (lead : Lead) (s : ScaledTokens) (r : RowTokens) → (front ++ lead_lines lead s) ++ row_line r ∷ [] ≡ front ++ lead_lines lead (scaled_push s r)
+lead_push front lead s r = append_assoc front (lead_lines lead s) (row_line r ∷ []) ∙ ap (λ ls. front ++ ls) (lead_lines-push lead s r)
+
+-- a row more of a lemma or of the goal, behind other rows
+pub record IsRowMore (ds : List Declaration) (s : ScaledTokens) (before : List RowTokens) (line : Line) (next : Size × Lemma) : Type 0 where
+  pub row : RowTokens
+  pub line_is : line ≡ row_line row
+  pub scaled : IsScaled (scaled_push s row)
+  pub values : IsScaledOf ds (scaled_push s row) next.1
+  pub have : HaveSize ds next.0 (before ++ (scaled_push s row).rows)
+
+pub scaled_more : (s : ScaledTokens) (r : RowTokens) → IsScaled s → IsTrue (is_row r) → IsScaled (scaled_push s r)
+scaled_more s r scaled row = record { scale = scaled.scale; rows = All-push (λ t. IsTrue (is_row t)) s.rows r scaled.rows row }
+
+pub row_more : (ds : List Declaration) (size : Size) (l : Lemma) (s : ScaledTokens) (before : List RowTokens) (line : Line) (next : Size × Lemma) → IsScaled s → IsScaledOf ds s l → HaveSize ds size (before ++ s.rows)
+    → lemma_row ds size l line ≡ Ok next → IsRowMore ds s before line next
+row_more ds size l s before line next scaled values have read =
+    bind_ok (lemma_row_of ds line) _ next read (λ lemma_row row_is read_size.
+    bind_ok (grown size lemma_row.left lemma_row.right) _ next read_size (λ larger fits made.
+    bind_ok (asked BadLine (row_tokens Lemmas line)) _ lemma_row row_is (λ r there read_row.
+    bind_ok (row_values ds r) _ lemma_row read_row (λ row read_values over.
+    let known = lemma_row_is line r (asked_ok BadLine (row_tokens Lemmas line) r there) in
+    let row_same : over_lemma r.lemma row ≡ lemma_row = cc in
+    let same : (larger, lemma_of l.scale (l.rows ++ lemma_row ∷ [])) ≡ next = cc in
+    subst (IsRowMore ds s before line) same (record {
+      row = r;
+      line_is = known.0;
+      scaled = scaled_more s r scaled known.1;
+      values = record { scale = values.scale; rows = zip_push (IsLemmaRowOf ds) s.rows l.rows r lemma_row values.rows (row, read_values, sym row_same) };
+      have = subst (HaveSize ds larger) (append_assoc before s.rows (r ∷ []))
+          (size_push ds size (before ++ s.rows) have r row read_values larger (ap (λ (w : LemmaRow). grown size w.left w.right) row_same ∙ fits));
+    })))))
+
 -- ---- lemmas and the goal
 
 module _ (most : Format) (ds : List Declaration) where
@@ -170,35 +204,27 @@ module _ (most : Format) (ds : List Declaration) where
   begun_resized claim denominator finished o size begun =
       record { head = begun.head; within = begun.within; claim_value = begun.claim_value; denominator_value = begun.denominator_value; values = begun.values }
 
-  pub next_row : (o : Opened) (l : Lemma) (lead : Lead) (front : List Line) (line : Line) (next : Opened × Lemma) → IsInside most ds o l lead front → lemma_row ds o l line ≡ Ok next
-      → IsInside most ds next.0 next.1 lead (front ++ line ∷ [])
+  pub next_row : (o : Opened) (l : Lemma) (lead : Lead) (front : List Line) (line : Line) (next : Size × Lemma) → IsInside most ds o l lead front → lemma_row ds o.size l line ≡ Ok next
+      → IsInside most ds (resized o next.0) next.1 lead (front ++ line ∷ [])
   next_row o l lead front line next inside read =
-      bind_ok (lemma_row_of ds line) _ next read (λ lemma_row row_is read_size.
-      bind_ok (grown o.size lemma_row.left lemma_row.right) _ next read_size (λ size fits made.
-      bind_ok (asked BadLine (row_tokens Lemmas line)) _ lemma_row row_is (λ r there read_row.
-      bind_ok (row_values ds r) _ lemma_row read_row (λ row read_values over.
-      let known = lemma_row_is line r (asked_ok BadLine (row_tokens Lemmas line) r there) in
-      let row_same : over_lemma r.lemma row ≡ lemma_row = cc in
       let s : ScaledTokens = inside.tokens in
-      let same : (resized o size, lemma_of l.scale (l.rows ++ lemma_row ∷ [])) ≡ next = cc in
-      subst (λ (n : Opened × Lemma). IsInside most ds n.0 n.1 lead (front ++ line ∷ [])) same (record {
+      let more = row_more ds o.size l s (rows_of inside.finished) line next inside.scaled inside.values inside.have read in
+      record {
         read = inside.read;
         claim = inside.claim;
         denominator = inside.denominator;
         finished = inside.finished;
-        begun = begun_resized inside.claim inside.denominator inside.finished o size inside.begun;
+        begun = begun_resized inside.claim inside.denominator inside.finished o next.0 inside.begun;
         next = inside.next;
         few = inside.few;
-        tokens = scaled_push s r;
-        scaled = record { scale = inside.scaled.scale; rows = All-push (λ t. IsTrue (is_row t)) s.rows r inside.scaled.rows known.1 };
-        values = record { scale = inside.values.scale; rows = zip_push (IsLemmaRowOf ds) s.rows l.rows r lemma_row inside.values.rows (row, read_values, sym row_same) };
-        have = subst (HaveSize ds size) (append_assoc (rows_of inside.finished) s.rows (r ∷ []))
-            (size_push ds o.size (rows_of inside.finished ++ s.rows) inside.have r row read_values size (ap (λ (w : LemmaRow). grown o.size w.left w.right) row_same ∙ fits));
+        tokens = scaled_push s more.row;
+        scaled = more.scaled;
+        values = more.values;
+        have = more.have;
         are =
-            behind front (lemmas_front inside.claim inside.denominator inside.finished ++ lead_lines lead s) line (row_line r) inside.are known.0
-            ∙ append_assoc (lemmas_front inside.claim inside.denominator inside.finished) (lead_lines lead s) (row_line r ∷ [])
-            ∙ ap (λ ls. lemmas_front inside.claim inside.denominator inside.finished ++ ls) (lead_lines-push lead s r);
-      })))))
+            behind front (lemmas_front inside.claim inside.denominator inside.finished ++ lead_lines lead s) line (row_line more.row) inside.are more.line_is
+            ∙ lead_push (lemmas_front inside.claim inside.denominator inside.finished) lead s more.row;
+      }
 
   -- behind the last row of a lemma
   pub lemma_finished : (o : Opened) (l : Lemma) (number : List ℕ) (front : List Line) → IsInside most ds o l (Some number) front → IsOpened most ds (closed_by o l) front

@@ -15,17 +15,17 @@ use Rattle.certificate_text.specs.Blocks.{ScaledTokens, PlainTokens, LemmasToken
 use Rattle.certificate_text.specs.Bounds.{IsLemmaRowOf, IsScaledOf, IsPlainOf, IsLemmasOf, IsCertificateOf}
 use Rattle.block_text.proofs.Zips.{AllZip-unique}
 
-same_value : {A : Type 0} (o : Option A) (x y : A) → o ≡ Some x → o ≡ Some y → x ≡ y
+pub same_value : {A : Type 0} (o : Option A) (x y : A) → o ≡ Some x → o ≡ Some y → x ≡ y
 same_value o x y left right = cc
 
-same_result : {A : Type 0} (r : Result A Flaw) (x y : A) → r ≡ Ok x → r ≡ Ok y → x ≡ y
+pub same_result : {A : Type 0} (r : Result A Flaw) (x y : A) → r ≡ Ok x → r ≡ Ok y → x ≡ y
 same_result r x y left right = cc
 
 module _ (ds : List Declaration) where
   same_lemma_row : (r : RowTokens) (x y : LemmaRow) → IsLemmaRowOf ds r x → IsLemmaRowOf ds r y → x ≡ y
   same_lemma_row r x y left right = left.2 ∙ ap (over_lemma r.lemma) (same_result (row_values ds r) left.0 right.0 left.1 right.1) ∙ sym right.2
 
-  same_scaled : (s : ScaledTokens) (x y : Lemma) → IsScaledOf ds s x → IsScaledOf ds s y → x ≡ y
+  pub same_scaled : (s : ScaledTokens) (x y : Lemma) → IsScaledOf ds s x → IsScaledOf ds s y → x ≡ y
   same_scaled s x y left right =
       let scale : x.scale ≡ y.scale = same_result (integer_of s.scale) x.scale y.scale left.scale right.scale in
       let rows : x.rows ≡ y.rows = AllZip-unique (IsLemmaRowOf ds) same_lemma_row s.rows x.rows y.rows left.rows right.rows in

@@ -94,7 +94,7 @@ rows_of finished = flat_map (λ l. l.scaled.rows) finished
 abbrev pub unit_goal : ScaledTokens
 unit_goal = record { scale = codes "1"; rows = [] }
 
-unit_scaled : IsScaled unit_goal
+pub unit_scaled : IsScaled unit_goal
 unit_scaled = record { scale = refl; rows = All-nil (λ r. IsTrue (is_row r)) }
 
 pub unit_within : IsWithin integer_limit (codes "1")

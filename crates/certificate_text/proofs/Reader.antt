@@ -24,7 +24,7 @@ use Rattle.certificate_text.specs.Lines.{is_plain_head, is_lemmas_head, denomina
 use Rattle.certificate_text.specs.Blocks.{plain, lemmas, head_line}
 use Rattle.certificate_text.specs.Bounds.{Bound, names, bounds, flaw_of, KeepsOne}
 use Rattle.certificate_text.specs.Evidence.{other_words, certificate_kind}
-use Rattle.certificate_text.specs.Reading.{lemmas_headed, begin, begun, certificate_of, lemma_of, closed_by, scaled, lemma_row, in_rows, in_lemma, in_goal, next, finish, lemma_certificate_of, certificate_steps}
+use Rattle.certificate_text.specs.Reading.{lemmas_headed, begin, begun, certificate_of, lemma_of, closed_by, resized, scaled, lemma_row, in_rows, in_lemma, in_goal, next, finish, lemma_certificate_of, certificate_steps}
 use Rattle.certificate_text.proofs.BlockLines.{block_meets}
 use Rattle.certificate_text.proofs.FlawedLines.{stops_at}
 use Rattle.certificate_text.proofs.LineTrees.{plain_head_is, lemmas_head_is}
@@ -87,11 +87,11 @@ module _ (most : Format) (ds : List Declaration) where
     goes_lemma : (o : Opened) (l : Lemma) (number : List ℕ) → IsInside most ds o l (Some number) front → in_lemma ds o l line ≡ Ok t → OpenNext
     goes_lemma o l number inside read =
         by_test (begins (codes "row") line) _ _ (Ok t) read
-        (λ is read_row. bind_ok (lemma_row ds o l line) _ t read_row (λ pair row_is made. found (at.Lemma pair.0 pair.1) made (number, next_row most ds o l (Some number) front line pair inside row_is)))
+        (λ is read_row. bind_ok (lemma_row ds o.size l line) _ t read_row (λ pair row_is made. found (at.Lemma (resized o pair.0) pair.1) made (number, next_row most ds o l (Some number) front line pair inside row_is)))
         (λ more. goes_scaled (closed_by o l) (lemma_finished most ds o l number front inside))
 
     goes_goal : (o : Opened) (goal : Lemma) → IsInside most ds o goal None front → in_goal ds o goal line ≡ Ok t → OpenNext
-    goes_goal o goal inside read = bind_ok (lemma_row ds o goal line) _ t read (λ pair row_is made. found (at.Goal pair.0 pair.1) made (next_row most ds o goal None front line pair inside row_is))
+    goes_goal o goal inside read = bind_ok (lemma_row ds o.size goal line) _ t read (λ pair row_is made. found (at.Goal (resized o pair.0) pair.1) made (next_row most ds o goal None front line pair inside row_is))
 
   goes : (s t : Stage) (front : List Line) (line : Line) → IsOpen most ds s front → is_end line ≡ false → next ds s line ≡ Ok t → IsOpen most ds t (front ++ line ∷ [])
   goes (at.Headed form) t front line is_open more read = bind_ok (claim_of line) _ t read (λ n n_is made. found front line t (at.Claimed form n) made (next_headed most form front line n is_open n_is))

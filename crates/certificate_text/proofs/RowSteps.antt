@@ -10,12 +10,11 @@ use Rattle.block_text.specs.declared.fault.Flaw.{Flaw}
 use Rattle.block_text.specs.declared.fault.LineFault.{LineFault}
 use Rattle.block_text.specs.declared.fault.LineFault.TheVariants as line_fault
 use Rattle.certificate_text.specs.declared.place.Size.{Size}
-use Rattle.certificate_text.specs.declared.place.Opened.{Opened}
 use Rattle.certificate_text.specs.declared.place.Stage.{Stage}
 use Rattle.certificate_text.specs.declared.place.Stage.TheVariants as at
 use Rattle.block_text.specs.Fault.{◌>>=◌, ExplainsLine, Reads, IsLineMemory}
 use Rattle.certificate_text.specs.Lines.{row_of, lemma_row_of, grown}
-use Rattle.certificate_text.specs.Reading.{certificate_of, lemma_of, resized, in_rows, lemma_row}
+use Rattle.certificate_text.specs.Reading.{certificate_of, lemma_of, in_rows, lemma_row}
 
 -- ---- what a `?` returns
 
@@ -59,20 +58,22 @@ row_added ds c size now line row rows read grows is =
 
 -- ---- a row of a lemma or of the goal
 
-pub lemma_row_told : {X : Type 0} (view : X → Opened × Lemma) (r : Result X LineFault) (ds : List Declaration) (o : Opened) (l : Lemma) (line : List (List ℕ)) (e : LineFault)
-    → IsErrAnd r (λ x. x ≡ e) → ExplainsLine (lemma_row_of ds line) e → Reads view r (lemma_row ds o l line)
-lemma_row_told view r ds o l line e told is =
-    told_on view r (lemma_row_of ds line) (λ row. grown o.size row.left row.right >>= λ size. Ok (resized o size, lemma_of l.scale (l.rows ++ row ∷ []))) e told is
+abbrev behind_lemma_row : Size → Lemma → LemmaRow → Result (Size × Lemma) Flaw
+behind_lemma_row size l row = grown size row.left row.right >>= λ larger. Ok (larger, lemma_of l.scale (l.rows ++ row ∷ []))
 
-pub lemma_row_too_large : (ds : List Declaration) (o : Opened) (l : Lemma) (line : List (List ℕ)) (row : LemmaRow) (f : Flaw)
-    → lemma_row_of ds line ≡ Ok row → grown o.size row.left row.right ≡ Err f → lemma_row ds o l line ≡ Err f
-lemma_row_too_large ds o l line row f read large =
-    ap (λ r. r >>= λ row. grown o.size row.left row.right >>= λ size. Ok (resized o size, lemma_of l.scale (l.rows ++ row ∷ []))) read
-    ∙ ap (λ r. r >>= λ size. Ok (resized o size, lemma_of l.scale (l.rows ++ row ∷ []))) large
+pub lemma_row_told : {X : Type 0} (view : X → Size × Lemma) (r : Result X LineFault) (ds : List Declaration) (size : Size) (l : Lemma) (line : List (List ℕ)) (e : LineFault)
+    → IsErrAnd r (λ x. x ≡ e) → ExplainsLine (lemma_row_of ds line) e → Reads view r (lemma_row ds size l line)
+lemma_row_told view r ds size l line e told is = told_on view r (lemma_row_of ds line) (behind_lemma_row size l) e told is
 
-pub lemma_row_added : (ds : List Declaration) (o : Opened) (l : Lemma) (line : List (List ℕ)) (row : LemmaRow) (now : Size) (rows : List LemmaRow)
-    → lemma_row_of ds line ≡ Ok row → grown o.size row.left row.right ≡ Ok now → rows ≡ l.rows ++ row ∷ [] → lemma_row ds o l line ≡ Ok (resized o now, lemma_of l.scale rows)
-lemma_row_added ds o l line row now rows read grows is =
-    ap (λ r. r >>= λ row. grown o.size row.left row.right >>= λ size. Ok (resized o size, lemma_of l.scale (l.rows ++ row ∷ []))) read
-    ∙ ap (λ r. r >>= λ size. Ok (resized o size, lemma_of l.scale (l.rows ++ row ∷ []))) grows
-    ∙ ap (λ rs. Ok (resized o now, lemma_of l.scale rs)) (sym is)
+pub lemma_row_too_large : (ds : List Declaration) (size : Size) (l : Lemma) (line : List (List ℕ)) (row : LemmaRow) (f : Flaw)
+    → lemma_row_of ds line ≡ Ok row → grown size row.left row.right ≡ Err f → lemma_row ds size l line ≡ Err f
+lemma_row_too_large ds size l line row f read large =
+    ap (λ r. r >>= behind_lemma_row size l) read
+    ∙ ap (λ r. r >>= λ larger. Ok (larger, lemma_of l.scale (l.rows ++ row ∷ []))) large
+
+pub lemma_row_added : (ds : List Declaration) (size : Size) (l : Lemma) (line : List (List ℕ)) (row : LemmaRow) (now : Size) (rows : List LemmaRow)
+    → lemma_row_of ds line ≡ Ok row → grown size row.left row.right ≡ Ok now → rows ≡ l.rows ++ row ∷ [] → lemma_row ds size l line ≡ Ok (now, lemma_of l.scale rows)
+lemma_row_added ds size l line row now rows read grows is =
+    ap (λ r. r >>= behind_lemma_row size l) read
+    ∙ ap (λ r. r >>= λ larger. Ok (larger, lemma_of l.scale (l.rows ++ row ∷ []))) grows
+    ∙ ap (λ rs. Ok (now, lemma_of l.scale rs)) (sym is)

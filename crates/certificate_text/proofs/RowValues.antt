@@ -1,5 +1,5 @@
 -- Rows that keep bounds are read, one after another.
-use Rattle.std.proofs.Common.{◌≡◌, ◌<◌, ◌≤◌, ◌+◌, ℕ, suc, List, [], ◌∷◌, ◌++◌, Ok, arith, refl, sym, ◌∙◌, length, map, add-zero, zero-add, length-append}
+use Rattle.std.proofs.Common.{◌≡◌, ◌<◌, ◌≤◌, ◌+◌, ℕ, suc, List, [], ◌∷◌, ◌++◌, Result, Ok, arith, refl, sym, ◌∙◌, length, map, add-zero, zero-add, length-append}
 use Rattle.std.specs.List.{All, AllZip}
 use Rattle.std.proofs.lemmas.Bool.{le-ltb, lt-leb, or_from}
 use Rattle.std.proofs.lemmas.List.{append_assoc, append-nil}
@@ -7,15 +7,14 @@ use Rattle.std.proofs.lemmas.List.Elements.{All-nil, All-cons, All-head, All-tai
 use Rattle.quiver.specs.Declarations.{Declaration}
 use Rattle.cofactor_trace.specs.declared.CertRow.{CertRow}
 use Rattle.certificate_text.specs.declared.place.Size.{Size}
-use Rattle.certificate_text.specs.declared.place.Stage.{Stage}
+use Rattle.block_text.specs.declared.fault.Flaw.{Flaw}
 use Rattle.block_text.specs.Fault.{◌>>=◌}
 use Rattle.block_text.specs.Letters.{number_within, integer_within, word_of}
-use Rattle.block_text.specs.Lines.{number_limit, integer_limit}
+use Rattle.block_text.specs.Lines.{number_limit, integer_limit, Line}
 use Rattle.certificate_text.specs.Lines.{RowTokens, word_limit, row_limit, letter_limit, row_values, grown}
 use Rattle.certificate_text.specs.Blocks.{row_line}
 use Rattle.certificate_text.specs.Bounds as bound
 use Rattle.certificate_text.specs.Bounds.{Bound, flaw_of, HasNames, HasNumbers, HasShortWords, letters_in}
-use Rattle.certificate_text.specs.Reading.{next as step}
 use Rattle.certificate_text.proofs.RowTrees.{word_of-length}
 use Rattle.block_text.proofs.NumberedLines.{run}
 use Rattle.block_text.proofs.Meets.{Meets, reads, then_meets, meets-weaker, asked_meets, unless_meets}
@@ -113,10 +112,11 @@ rows_fit_parts K ds size rs more keep = (
 
 -- ---- where rows stand
 
-module _ (K : Bound → Type 0) (ds : List Declaration) {C : Type 0} (here : Size → List C → Stage) (made : RowTokens → CertRow → C) where
+-- by what a line makes of a place, and the places in the rows
+module _ {Stage : Type 0} (step : Stage → Line → Result Stage Flaw) (K : Bound → Type 0) (ds : List Declaration) {C : Type 0} (here : Size → List C → Stage) (made : RowTokens → CertRow → C) where
   -- at these places the line of a row is read as the row
   abbrev pub TakesRow : RowTokens → Type 0
-  TakesRow r = (size : Size) (front : List C) → step ds (here size front) (row_line r)
+  TakesRow r = (size : Size) (front : List C) → step (here size front) (row_line r)
       ≡ (row_values ds r >>= λ row. (grown size row.left row.right >>= λ next. Ok (here next (front ++ made r row ∷ []))))
 
   -- the row that the tokens say
@@ -135,7 +135,7 @@ module _ (K : Bound → Type 0) (ds : List Declaration) {C : Type 0} (here : Siz
     pub is : q ≡ here (with_rows size rs) (front ++ rows)
 
   row_meets : (size : Size) (front : List C) (r : RowTokens) → TakesRow r → (K bound.names → HasNames ds r) → (K bound.numbers → HasNumbers r) → (K bound.words → HasShortWords r) → (K bound.rows → size.rows < row_limit)
-      → (K bound.letters → size.letters + letters_of r ≤ letter_limit) → Meets flaw_of K (RowIsRead size front r) (step ds (here size front) (row_line r))
+      → (K bound.letters → size.letters + letters_of r ≤ letter_limit) → Meets flaw_of K (RowIsRead size front r) (step (here size front) (row_line r))
   row_meets size front r takes names numbers words rows letters =
       rw (takes size front) (then_meets _ (values_meet K ds r names numbers) (λ row row_is lengths.
       let count : letters_of r ≡ length row.left + length row.right = rw (lengths.left, lengths.right) refl in
@@ -143,7 +143,7 @@ module _ (K : Bound → Type 0) (ds : List Declaration) {C : Type 0} (here : Siz
       (grown_meets K size row.left row.right (letters_of r) count (λ kept. let short = words kept in (rw lengths.left short.left, rw lengths.right short.right)) rows letters)
       (λ next _ next_is. reads _ refl (record { row = made r row; is_made = (row, row_is, refl); is = rw next_is refl }))))
 
-  pub rows_meet : (size : Size) (front : List C) (rs : List RowTokens) → All TakesRow rs → RowsFit K ds size rs → Meets flaw_of K (RowsAreRead size front rs) (run (step ds) (here size front) (map row_line rs))
+  pub rows_meet : (size : Size) (front : List C) (rs : List RowTokens) → All TakesRow rs → RowsFit K ds size rs → Meets flaw_of K (RowsAreRead size front rs) (run step (here size front) (map row_line rs))
   rows_meet size front [] takes keep = reads _ refl (record { rows = []; are_made = tt; is = rw (append-nil front, add-zero size.rows, add-zero size.letters) refl })
   rows_meet size front (r ∷ rs) takes keep =
       then_meets _

@@ -8,7 +8,7 @@ use Rattle.std.proofs.lemmas.List.{append_assoc}
 use Rattle.cofactor_trace.specs.declared.evidence.Format.{Format}
 use Rattle.cofactor_trace.specs.declared.evidence.Format.TheVariants.{Plain, Lemmas}
 use Rattle.block_text.specs.Letters.{is_number}
-use Rattle.block_text.specs.Lines.{integer_limit, integer_of, claim_line}
+use Rattle.block_text.specs.Lines.{Line, integer_limit, integer_of, claim_line}
 use Rattle.certificate_text.specs.Lines.{is_value}
 use Rattle.certificate_text.specs.Blocks.{head_line, denominator_line}
 use Rattle.certificate_text.specs.Bounds.{IsWithin}
@@ -42,7 +42,20 @@ number_is_value n below =
     let value : digits_value 10 (decimal n) ≡ n = (decimal_is_IsNumeral_wide n below).1 in
     rw (decimal_number n below, value) (eq-eqb n n refl)
 
--- ---- the first lines of a certificate, and the last one
+-- ---- the first lines of a block
+
+opening_is : (head end first claim second denominator : List ℕ) → (head ++ (end ++ first)) ++ claim ++ (end ++ second) ++ denominator ++ end ≡ (head ++ end) ++ (((first ++ claim) ++ end) ++ ((second ++ denominator) ++ end))
+opening_is head end first claim second denominator = simp append_assoc refl
+
+-- behind a head
+pub headed_is_text : (head : List ℕ) (line : Line) (claim : ℕ) (denominator : ℤ) → IsTextOf (head ++ 10 ∷ []) (line ∷ []) → claim < 2 ^ 32 → IsSize denominator
+    → IsTextOf (opening_text (head ++ codes "\nclaim ") claim denominator) (line ∷ claim_line (decimal claim) ∷ denominator_line (signed_decimal denominator) ∷ [])
+headed_is_text head line claim denominator first small size =
+    let number = text_of_number (codes "claim ") (codes "claim" ∷ []) (decimal claim) (literal (codes "claim ") refl refl) (decimal_text claim (omega (arith, small))) refl refl in
+    let multiple = text_of_number (codes "denominator ") (codes "denominator" ∷ []) (signed_decimal denominator) (literal (codes "denominator ") refl refl) size.text refl refl in
+    let lines = line ∷ claim_line (decimal claim) ∷ denominator_line (signed_decimal denominator) ∷ [] in
+    subst (λ (text : List ℕ). IsTextOf text lines) (sym (opening_is head (10 ∷ []) (codes "claim ") (decimal claim) (codes "denominator ") (signed_decimal denominator)))
+    (text-append _ _ _ _ first (text-append _ _ _ _ number multiple))
 
 abbrev pub head_text : Format → List ℕ
 head_text Plain = codes "certificate 1"
@@ -52,14 +65,6 @@ head_is_text : (form : Format) → IsTextOf (head_text form ++ 10 ∷ []) (head_
 head_is_text Plain = text_of_tokens (head_text Plain) (head_line Plain) (literal (head_text Plain) refl refl) refl refl
 head_is_text Lemmas = text_of_tokens (head_text Lemmas) (head_line Lemmas) (literal (head_text Lemmas) refl refl) refl refl
 
-opening_is : (head end first claim second denominator : List ℕ) → (head ++ (end ++ first)) ++ claim ++ (end ++ second) ++ denominator ++ end ≡ (head ++ end) ++ (((first ++ claim) ++ end) ++ ((second ++ denominator) ++ end))
-opening_is head end first claim second denominator = simp append_assoc refl
-
 pub opening_is_text : (form : Format) (claim : ℕ) (denominator : ℤ) → claim < 2 ^ 32 → IsSize denominator
     → IsTextOf (opening_text (head_text form ++ codes "\nclaim ") claim denominator) (head_line form ∷ claim_line (decimal claim) ∷ denominator_line (signed_decimal denominator) ∷ [])
-opening_is_text form claim denominator small size =
-    let number = text_of_number (codes "claim ") (codes "claim" ∷ []) (decimal claim) (literal (codes "claim ") refl refl) (decimal_text claim (omega (arith, small))) refl refl in
-    let multiple = text_of_number (codes "denominator ") (codes "denominator" ∷ []) (signed_decimal denominator) (literal (codes "denominator ") refl refl) size.text refl refl in
-    let lines = head_line form ∷ claim_line (decimal claim) ∷ denominator_line (signed_decimal denominator) ∷ [] in
-    subst (λ (text : List ℕ). IsTextOf text lines) (sym (opening_is (head_text form) (10 ∷ []) (codes "claim ") (decimal claim) (codes "denominator ") (signed_decimal denominator)))
-    (text-append _ _ _ _ (head_is_text form) (text-append _ _ _ _ number multiple))
+opening_is_text form claim denominator small size = headed_is_text (head_text form) (head_line form) claim denominator (head_is_text form) small size

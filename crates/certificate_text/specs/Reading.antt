@@ -68,16 +68,16 @@ scaled o line =
     if begins (codes "goal") line then (goal_scale_of line >>= λ scale. Ok (at.Goal o (lemma_of scale [])))
     else lemma_scale_of (length o.lemmas) line >>= λ scale. Ok (at.Lemma o (lemma_of scale []))
 
--- a row more of the lemma or of the goal
-abbrev pub lemma_row : List Declaration → Opened → Lemma → Line → Result (Opened × Lemma) Flaw
-lemma_row ds o l line =
-    lemma_row_of ds line >>= λ row. (grown o.size row.left row.right >>= λ size.
-    Ok (resized o size, lemma_of l.scale (l.rows ++ row ∷ [])))
+-- a row more of a lemma or of the goal, in a block of this size
+abbrev pub lemma_row : List Declaration → Size → Lemma → Line → Result (Size × Lemma) Flaw
+lemma_row ds size l line =
+    lemma_row_of ds line >>= λ row. (grown size row.left row.right >>= λ larger.
+    Ok (larger, lemma_of l.scale (l.rows ++ row ∷ [])))
 
 -- a row of the lemma, or the next lemma or the goal
 abbrev pub in_lemma : List Declaration → Opened → Lemma → Line → Result Stage Flaw
 in_lemma ds o l line =
-    if begins (codes "row") line then (lemma_row ds o l line >>= λ next. Ok (at.Lemma next.0 next.1))
+    if begins (codes "row") line then (lemma_row ds o.size l line >>= λ next. Ok (at.Lemma (resized o next.0) next.1))
     else scaled (closed_by o l) line
 
 -- the certificate with this goal
@@ -86,7 +86,7 @@ lemma_certificate_of o goal = record { claim = o.claim; denominator = o.denomina
 
 -- a row of the goal
 abbrev pub in_goal : List Declaration → Opened → Lemma → Line → Result Stage Flaw
-in_goal ds o goal line = lemma_row ds o goal line >>= λ next. Ok (at.Goal next.0 next.1)
+in_goal ds o goal line = lemma_row ds o.size goal line >>= λ next. Ok (at.Goal (resized o next.0) next.1)
 
 abbrev pub next : List Declaration → Stage → Line → Result Stage Flaw
 next ds (at.Headed form) line = claim_of line >>= λ n. Ok (at.Claimed form n)

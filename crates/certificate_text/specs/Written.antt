@@ -48,10 +48,14 @@ scaled_text ds l = codes " scale " ++ signed_decimal l.scale ++ codes "\n" ++ fl
 abbrev pub lemma_text : List Declaration → ℕ → Lemma → List ℕ
 lemma_text ds number l = codes "lemma " ++ decimal number ++ scaled_text ds l
 
+-- what has this number, and what has the next ones, where this is the text of each
+abbrev pub numbered_texts : {X : Type 0} → (ℕ → X → List ℕ) → ℕ → List X → List ℕ
+numbered_texts text_of number [] = []
+numbered_texts text_of number (x ∷ xs) = text_of number x ++ numbered_texts text_of (suc number) xs
+
 -- the lemmas with this number and the next ones
 abbrev pub lemmas_text : List Declaration → ℕ → List Lemma → List ℕ
-lemmas_text ds number [] = []
-lemmas_text ds number (l ∷ lemmas) = lemma_text ds number l ++ lemmas_text ds (suc number) lemmas
+lemmas_text ds number lemmas = numbered_texts (lemma_text ds) number lemmas
 
 -- the goal, and the end of the block
 abbrev pub goal_text : List Declaration → Lemma → List ℕ

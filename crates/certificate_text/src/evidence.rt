@@ -53,7 +53,8 @@ fn put_scaled(out: &mut Vec<u8>, quiver: &Quiver, lemma: &Lemma) -> Result<(), A
     put_lemma_rows(out, quiver, lemma.rows.as_slice())
 }
 
-fn put_lemma(
+/// The lemma with this number behind bytes, and a line for each of its rows. Only memory can be short.
+pub fn put_lemma(
     out: &mut Vec<u8>,
     quiver: &Quiver,
     number: usize,
@@ -79,8 +80,8 @@ fn put_lemmas(out: &mut Vec<u8>, quiver: &Quiver, lemmas: &[Lemma]) -> Result<()
     Ok(())
 }
 
-// The goal, and the end of the block.
-fn put_goal(out: &mut Vec<u8>, quiver: &Quiver, goal: &Lemma) -> Result<(), AllocError>
+/// A goal and a line for each of its rows behind bytes, and the end of the block. Only memory can be short.
+pub fn put_goal(out: &mut Vec<u8>, quiver: &Quiver, goal: &Lemma) -> Result<(), AllocError>
     requires { IsLemmaOver quiver.now goal.now }
     ensures { OnOk result (out.new.items ≡ out.old.items ++ goal_text quiver.now goal.now) }
 {

@@ -44,8 +44,8 @@ fn scale_digits<'a>(line: &'a [u8]) -> Option<&'a [u8]>
     number_behind("scale", line)
 }
 
-// Whether the token is a number with this value.
-fn is_value(number: u128, token: &[u8]) -> bool
+/// Whether the token is a number with this value.
+pub fn is_value(number: u128, token: &[u8]) -> bool
     requires { number < 2 ^ 127 }
     ensures { result ≡ is_value number token.now }
 {

@@ -10,6 +10,12 @@ pub struct Size {
     pub letters: u32,
 }
 
+/// The size of a block without rows.
+pub const NO_ROWS: Size = Size {
+    rows: 0,
+    letters: 0,
+};
+
 /// What was read of a certificate with lemmas whose rows go on.
 #[derive(Drop)]
 pub struct Opened {

@@ -8,7 +8,7 @@ ghost use Rattle.cofactor_trace.specs.declared.evidence.Evidence.TheVariants as 
 ghost use Rattle.certificate_text.specs.declared.place.Stage.TheVariants as stage;
 
 use crate::line::{denominator_of, goal_scale_of, is_lemmas_head, is_plain_head, lemma_scale_of};
-use crate::place::{Opened, Size, Stage};
+use crate::place::{NO_ROWS, Opened, Size, Stage};
 use crate::row::{grown, lemma_row_of, row_of};
 use block_text::{BlockKind, Flaw, LineFault, begins, claim_of};
 use cofactor_trace::{Certificate, Evidence, Format, Lemma, LemmaCertificate};
@@ -22,11 +22,6 @@ pub struct Certificates<'q> {
     pub most: Format,
     pub quiver: &'q Quiver,
 }
-
-const NO_ROWS: Size = Size {
-    rows: 0,
-    letters: 0,
-};
 
 // One of format 2 begins, where that format is read.
 fn lemmas_headed(most: Format) -> Option<Stage>
@@ -134,20 +129,21 @@ fn scaled(alloc: Global, opened: Opened, line: &[u8]) -> Result<Stage, Flaw>
     })
 }
 
-// A row more of the lemma or of the goal.
-fn push_lemma_row(
+/// A row more of a lemma or of the goal, and the size of the block with it. Of a line that doesn't fit, or that passes a bound,
+/// the first thing that is wrong is told.
+pub fn push_lemma_row(
     alloc: Global,
     quiver: &Quiver,
-    opened: &mut Opened,
+    size: Size,
     lemma: &mut Lemma,
     line: &[u8],
-) -> Result<(), LineFault>
-    ensures { Reads (λ _. (opened.new, lemma.new)) result (lemma_row quiver.now opened.old lemma.old (tokens_of line.now)) }
+) -> Result<Size, LineFault>
+    ensures { Reads (λ larger. (larger, lemma.new)) result (lemma_row quiver.now size lemma.old (tokens_of line.now)) }
 {
     let row = lemma_row_of(alloc, quiver, line)?;
-    opened.size = grown(opened.size, &row.left, &row.right)?;
+    let size = grown(size, &row.left, &row.right)?;
     lemma.rows.push(row)?;
-    Ok(())
+    Ok(size)
 }
 
 // A row of a lemma, or the next lemma or the goal.
@@ -161,7 +157,7 @@ fn in_lemma(
     ensures { Reads (λ s. s) result (in_lemma quiver.now opened lemma (tokens_of line.now)) }
 {
     if begins("row", line) {
-        push_lemma_row(alloc, quiver, &mut opened, &mut lemma, line)?;
+        opened.size = push_lemma_row(alloc, quiver, opened.size, &mut lemma, line)?;
         return Ok(Stage::Lemma { opened, lemma });
     }
     opened.lemmas.push(lemma)?;
@@ -178,7 +174,7 @@ fn in_goal(
 ) -> Result<Stage, LineFault>
     ensures { Reads (λ s. s) result (in_goal quiver.now opened goal (tokens_of line.now)) }
 {
-    push_lemma_row(alloc, quiver, &mut opened, &mut goal, line)?;
+    opened.size = push_lemma_row(alloc, quiver, opened.size, &mut goal, line)?;
     Ok(Stage::Goal { opened, goal })
 }
 

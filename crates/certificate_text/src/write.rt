@@ -65,8 +65,9 @@ fn put_rows(out: &mut Vec<u8>, quiver: &Quiver, rows: &[CertRow]) -> Result<(), 
     Ok(())
 }
 
-// The first lines of a certificate.
-pub(crate) fn put_opening(
+/// The first lines of a block behind bytes: a head, which ends with `claim`, the number of the claim, and the denominator. Only
+/// memory can be short.
+pub fn put_opening(
     out: &mut Vec<u8>,
     head: &str,
     claim: u32,

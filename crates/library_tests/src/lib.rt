@@ -7,6 +7,8 @@ mod adjoints;
 #[cfg(test)]
 mod arithmetic;
 #[cfg(test)]
+mod cancellation_texts;
+#[cfg(test)]
 mod categories;
 #[cfg(test)]
 mod checking;

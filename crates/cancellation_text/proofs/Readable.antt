@@ -1,0 +1,118 @@
+-- The proofs that are read can be checked.
+use Rattle.std.proofs.Common.{◌≡◌, ◌<◌, ◌≤◌, ◌+◌, ℕ, List, [], ◌∷◌, ◌++◌, Option, Some, None, Result, arith, refl, subst, ap, ap₂, ◌∙◌, sym, length, length-append, IfOk}
+use Rattle.std.specs.List.{All, AllZip, cons_option}
+use Rattle.std.specs.Option.{option_map}
+use Rattle.std.proofs.lemmas.List.Elements.{All-nil, All-cons}
+use Rattle.word_core.specs.declared.letter.Letter.{Letter}
+use Rattle.quiver.specs.Declarations.{Declaration, letter_count}
+use Rattle.cofactor_trace.specs.declared.evidence.Lemma.{Lemma}
+use Rattle.cofactor_trace.specs.declared.evidence.LemmaRow.{LemmaRow}
+use Rattle.cancel_rules.specs.declared.cancellation.Side.{Side}
+use Rattle.cancel_rules.specs.declared.cancellation.Side.TheVariants.{Left, Right}
+use Rattle.cancel_rules.specs.declared.cancellation.Item.{Item}
+use Rattle.cancel_rules.specs.declared.cancellation.Item.TheVariants as item
+use Rattle.cancel_rules.specs.declared.cancellation.Cancellation.{Cancellation}
+use Rattle.cancel_rules.specs.Acceptance.{IsLetterOf, IsRowOver, IsReadableLemma, IsReadableItem, IsReadableCancellation}
+use Rattle.cancel_rules.specs.Items.{row_total}
+use Rattle.block_text.specs.declared.fault.CertFault.{CertFault}
+use Rattle.block_text.specs.Fault.{ReadsText}
+use Rattle.block_text.specs.Letters.{letter_of}
+use Rattle.block_text.specs.Steps.{all_values}
+use Rattle.block_text.proofs.EachText.{read_values_are}
+use Rattle.block_text.proofs.LetterRange.{letter_in_range}
+use Rattle.block_text.proofs.Results.{option_map_some}
+use Rattle.block_text.proofs.Zips.{zip_length}
+use Rattle.certificate_text.specs.Blocks.{ScaledTokens}
+use Rattle.certificate_text.specs.Bounds.{IsLemmaRowOf, IsScaledOf}
+use Rattle.certificate_text.specs.Evidence.{IsLemmaRowOver}
+use Rattle.certificate_text.specs.Written.{IsLemmaOver}
+use Rattle.certificate_text.proofs.Checkable.{positive_in_range, zip_all, scaled_checkable}
+use Rattle.std.proofs.lemmas.List.Elements.{All-weaker}
+use Rattle.cancellation_text.specs.Blocks.{CalledTokens, ItemTokens, lemma, cancel, CancellationTokens, known_letter, called_on, called_letters}
+use Rattle.cancellation_text.specs.Bounds.{Bound, rows, item_rows, rows_in, KeepsOne, IsItemOf, IsCancellationOf}
+use Rattle.cancellation_text.specs.Cancellations.{cancellation_kind}
+use Rattle.cancellation_text.specs.Reading.{cancellation_steps, called_of}
+use Rattle.cancellation_text.specs.Written.{IsItemOver, IsCancellationOver}
+use Rattle.cancellation_text.proofs.Parts.{rows_of}
+use Rattle.cancellation_text.proofs.Reader.{reader}
+
+module _ (ds : List Declaration) where
+  -- ---- letters
+
+  known_in_range : (token : List ℕ) (a : Letter) → known_letter ds token ≡ Some a → IsLetterOf ds a
+  known_in_range token a read =
+      option_map_some (λ n. record { 0 = n }) (letter_of ds token) a read (λ n found same. subst (IsLetterOf ds) same (letter_in_range ds token n found))
+
+  on_in_range : (side own : Side) (token : List ℕ) (found : Option Letter) → called_on ds side (called_of token own) ≡ found → (rest : List Letter) → All (IsLetterOf ds) rest → All (IsLetterOf ds) (cons_option found rest)
+  on_in_range side own token None is rest each = each
+  on_in_range Left Left token (Some a) is rest each = All-cons (IsLetterOf ds) a rest (known_in_range token a is) each
+  on_in_range Left Right token (Some a) is rest each = absurd (cc)
+  on_in_range Right Left token (Some a) is rest each = absurd (cc)
+  on_in_range Right Right token (Some a) is rest each = All-cons (IsLetterOf ds) a rest (known_in_range token a is) each
+
+  called_in_range : (side : Side) (called : List CalledTokens) → All (IsLetterOf ds) (called_letters ds side called)
+  called_in_range side [] = All-nil (IsLetterOf ds)
+  called_in_range side (c ∷ called) = on_in_range side c.side c.letter (called_on ds side c) refl (called_letters ds side called) (called_in_range side called)
+
+  -- ---- items
+
+  scaled_readable : (s : ScaledTokens) (l : Lemma) → IsScaledOf ds s l → IsReadableLemma ds l
+  scaled_readable s l says =
+      let good = scaled_checkable ds s l says in
+      record {
+        ranged = record { scale = good.scale; rows = good.coefficients };
+        letters = All-weaker (IsLemmaRowOver ds) (IsRowOver ds) (λ row over. record { left = over.left; right = over.right }) l.rows good.letters;
+      }
+
+  item_readable : (i : ItemTokens) (v : Item) → IsItemOf ds i v → IsReadableItem ds v
+  item_readable (lemma l) (item.Lemma v) says = scaled_readable l.scaled v says
+  item_readable (lemma l) (item.Cancel a side n) says = absurd says
+  item_readable (cancel c) v says = subst (IsReadableItem ds) (sym says.is) (known_in_range c.letter says.letter says.letter_is)
+
+  item_count : (i : ItemTokens) (v : Item) → IsItemOf ds i v → length (item_rows i) ≡ row_total (v ∷ [])
+  item_count (lemma l) (item.Lemma v) says = omega (arith, zip_length (IsLemmaRowOf ds) l.scaled.rows v.rows says.rows)
+  item_count (lemma l) (item.Cancel a side n) says = absurd says
+  item_count (cancel c) v says = rw says.is refl
+
+  -- there are as many rows in the items as in their tokens
+  rows_count : (items : List ItemTokens) (found : List Item) → AllZip (IsItemOf ds) items found → length (rows_of items) ≡ row_total found
+  rows_count [] [] zipped = refl
+  rows_count [] (v ∷ found) zipped = absurd zipped
+  rows_count (i ∷ items) [] zipped = absurd zipped
+  rows_count (i ∷ items) (v ∷ found) zipped =
+      let here : length (item_rows i) ≡ row_total (v ∷ []) = item_count i v zipped.0 in
+      omega (arith, length-append (item_rows i) (rows_of items), here, rows_count items found zipped.1)
+
+  -- ---- proofs
+
+  block_readable : (b : CancellationTokens) (proof : Cancellation) → ((bound : Bound) → KeepsOne ds bound b) → IsCancellationOf ds b proof → IsReadableCancellation ds proof
+  block_readable b proof keeps says = record {
+    denominator = positive_in_range b.denominator proof.denominator says.denominator;
+    monic = subst (All (IsLetterOf ds)) says.monic (called_in_range Left b.called);
+    epic = subst (All (IsLetterOf ds)) says.epic (called_in_range Right b.called);
+    items = zip_all (IsItemOf ds) (IsReadableItem ds) item_readable b.items proof.items says.items;
+    goal = scaled_readable b.goal proof.goal says.goal;
+    few_items = omega (arith, (keeps rows).0, zip_length (IsItemOf ds) b.items proof.items says.items);
+    few_rows = omega (arith, (keeps rows).1, length-append (rows_of b.items) b.goal.rows, rows_count b.items proof.items says.items, zip_length (IsLemmaRowOf ds) b.goal.rows proof.goal.rows says.goal.rows);
+  }
+
+  pub readable_told : (bytes : List ℕ) (r : Result (List Cancellation) CertFault) → ReadsText (λ proofs. proofs) r (all_values (cancellation_steps ds) bytes) → IfOk r (All (IsReadableCancellation ds))
+  readable_told bytes r read =
+      read_values_are (cancellation_kind ds) (cancellation_steps ds) (reader ds) (IsReadableCancellation ds) (λ b proof block keeps says. block_readable b proof keeps says) bytes r read
+
+-- ---- and written
+
+lemma_is_over : (ds : List Declaration) (l : Lemma) → IsReadableLemma ds l → IsLemmaOver ds l
+lemma_is_over ds l readable = All-weaker (IsRowOver ds) (IsLemmaRowOver ds) (λ row over. record { left = over.left; right = over.right }) l.rows readable.letters
+
+item_is_over : (ds : List Declaration) (i : Item) → IsReadableItem ds i → IsItemOver ds i
+item_is_over ds (item.Lemma l) readable = lemma_is_over ds l readable
+item_is_over ds (item.Cancel a side number) readable = readable
+
+pub readable_is_over : (ds : List Declaration) (proof : Cancellation) → IsReadableCancellation ds proof → IsCancellationOver ds proof
+readable_is_over ds proof readable = record {
+  monic = readable.monic;
+  epic = readable.epic;
+  items = All-weaker (IsReadableItem ds) (IsItemOver ds) (item_is_over ds) proof.items readable.items;
+  goal = lemma_is_over ds proof.goal readable.goal;
+}

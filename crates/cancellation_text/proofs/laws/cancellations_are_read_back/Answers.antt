@@ -1,0 +1,5 @@
+use Rattle.cancellation_text.proofs.ReadBack.{back}
+use Rattle.cancellation_text.proofs.laws.cancellations_are_read_back.Goals as goal
+
+pub returns : goal.returns
+returns c ds declared known = (back ds declared known).between
