@@ -183,13 +183,13 @@ module _ (problem : Problem) (budget : Budget) where
     by_closing : Closes setting (claim_at problem b.claim) b.rest.terms rounds s
     by_closing = closes setting form b.claim (claim_at problem b.claim) rounds s b.rest printed.outcome.gets
 
-    run : IsRunState setting rounds s
+    pub run : IsRunState setting rounds s
     run = open_run setting (claim_at problem b.claim) rounds s by_closing.opened
 
     names : NamesClaim problem b
     names = named problem.parts.claims b.claim (opened_claim setting (claim_at problem b.claim) rounds s by_closing.opened)
 
-    polys_are : b.rules ≡ polynomials_in s.rules
+    pub polys_are : b.rules ≡ polynomials_in s.rules
     polys_are =
         closing_rules_are_last letters rank setting laws form problem (claim_numbers problem) b.rules b.claim rounds s b.rest printed.rules
         (number_among (length problem.parts.claims) b.claim names) printed.outcome.gets
