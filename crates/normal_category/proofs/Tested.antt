@@ -40,7 +40,7 @@ module _ (q : Quiver) where
   all_paths u v [] all = refl
   all_paths u v (t ∷ p) all =
       let first = (and_parts (is_path q u v t.1) (list_all (λ t. is_path q u v t.1) p) all).0 in
-      subst (λ s. are_paths q s (t ∷ p) ≡ true) (sym (signature_from_path q u v t.1 first)) all
+      subst (λ (s : Option (ℕ × ℕ)). are_paths q s (t ∷ p) ≡ true) (sym (signature_from_path q u v t.1 first)) all
 
   test_from_typed : (p : Poly) (u v : ℕ) → IsTyped q u v p.terms → is_typed q p.terms ≡ true
   test_from_typed p u v typed = all_paths u v p.terms (words_suffice (is_path q u v) p typed.at)
@@ -73,13 +73,10 @@ module _ (q : Quiver) where
         and_from (test g.poly.terms) (list_all test (polynomials_of rules)) (to_test g.poly each.0) (each_to_test rules each.1)
 
 pub sharp_rules_are_told : SharpRulesAreTold
-sharp_rules_are_told p rules = (
-  λ holds. All-from_recursion (λ (g : Rule). IsTypedInPlay q play g.poly.terms) rules (each_from_test q play rules holds),
-  λ sharp. each_to_test q play rules (recursion_from_All (λ (g : Rule). IsTypedInPlay q play g.poly.terms) rules sharp),
-)
-  where
-    q : Quiver
-    q = quiver_of p.quiver
-
-    play : ℕ → Bool
-    play = is_in_play p.quiver p.starred (numbers p.marked)
+sharp_rules_are_told p rules =
+    let q = quiver_of p.quiver in
+    let play = is_in_play p.quiver p.starred (numbers p.marked) in
+    (
+      λ holds. All-from_recursion (λ (g : Rule). IsTypedInPlay q play g.poly.terms) rules (each_from_test q play rules holds),
+      λ sharp. each_to_test q play rules (recursion_from_All (λ (g : Rule). IsTypedInPlay q play g.poly.terms) rules sharp),
+    )
