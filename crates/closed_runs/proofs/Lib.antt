@@ -3,7 +3,7 @@ pub mod MadeRules
 pub mod ClosedRuns
 pub mod RunRules
 pub mod Printed
-pub mod SharpRuns
 pub mod BasisReports
 pub mod ClaimBases
+pub mod SharpRuns
 pub mod StatementBases
