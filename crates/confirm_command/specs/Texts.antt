@@ -16,9 +16,13 @@ use Rattle.closed_checker.specs.declared.refusal.ClosedRefusal.TheVariants as re
 
 -- ---- a basis that is closed
 
+-- what stands behind a basis that is sharp
+abbrev pub sharp_ending : Bool → List ℕ
+sharp_ending sharp = if sharp then codes " sharp" else []
+
 -- what accepting a basis says of the claim that it names, and whether it is sharp
 abbrev pub claim_closed : ℕ → Bool → List ℕ
-claim_closed claim sharp = codes "closed claim " ++ (decimal claim ++ (if sharp then codes " sharp" else []))
+claim_closed claim sharp = (codes "closed claim " ++ decimal claim) ++ sharp_ending sharp
 
 -- ---- a basis that is refused
 

@@ -1,8 +1,8 @@
 //! What `confirm` answers over a statement and a text of bases.
-ghost use Rattle.std.specs.Prelude.{◌≡◌, ◌≤◌, IfOk, IfErr, length};
+ghost use Rattle.std.specs.Prelude.{◌≡◌, ◌++◌, ◌≤◌, IfOk, IfErr, OnOk, length};
 ghost use Rattle.std.specs.List.{All};
-ghost use Rattle.basis_text.specs.Bases.{IsBases, IsFirstFault};
 ghost use Rattle.adjoint_rules.specs.Problem.{polynomials};
+ghost use Rattle.basis_text.specs.Bases.{IsBases, IsFirstFault};
 ghost use Rattle.closed_checker.specs.Rests.{rules_of};
 ghost use Rattle.closed_checker.specs.Closed.{IsReadableBasis, IsClosedBasis};
 ghost use Rattle.closed_checker.specs.Laws.{ClosedMeans};
@@ -10,7 +10,7 @@ ghost use Rattle.normal_category.specs.Tests.{is_sharp};
 ghost use Rattle.command_shape.specs.FileWords.{evidence_limit};
 ghost use Rattle.command_shape.specs.Blocks.{OverEvidence};
 ghost use Rattle.command_shape.specs.Stop.{StopsBy, EndsAs};
-ghost use Rattle.confirm_command.specs.Texts.{claim_closed};
+ghost use Rattle.confirm_command.specs.Texts.{claim_closed, sharp_ending};
 ghost use Rattle.confirm_command.specs.Answers.{AcceptsBasis, RefusesBasis, AnswersBases};
 
 use crate::refusal::refusal_text;
@@ -95,8 +95,17 @@ fn closed_text(alloc: Global, claim: u32, is_sharp: bool) -> Result<Vec<u8>, All
 {
     let mut text = Vec::new(alloc);
     put_labelled(&mut text, "closed claim ", u128::from(claim))?;
-    if is_sharp {
-        put(&mut text, " sharp")?;
-    }
+    put_ending(&mut text, is_sharp)?;
     Ok(text)
+}
+
+// What stands behind a basis that is sharp.
+fn put_ending(out: &mut Vec<u8>, is_sharp: bool) -> Result<(), AllocError>
+    ensures { OnOk result (out.new.items ≡ out.old.items ++ sharp_ending is_sharp) }
+{
+    if is_sharp {
+        put(out, " sharp")
+    } else {
+        Ok(())
+    }
 }

@@ -1,8 +1,8 @@
 -- The test of the polynomials of rules holds exactly where all rules are typed and in play.
-use Rattle.std.proofs.Common.{◌≡◌, ◌≢◌, ◌⊎◌, inl, inr, ℕ, pos, Bool, true, ◌&&◌, List, [], ◌∷◌, Option, Some, None, refl, sym, ap, subst}
+use Rattle.std.proofs.Common.{◌≡◌, ℕ, Bool, true, ◌&&◌, List, [], ◌∷◌, Option, Some, None, refl, sym, ap, subst}
 use Rattle.std.proofs.lemmas.Bool.{and_parts, and_from}
 use Rattle.std.proofs.lemmas.List.Elements.{All-from_recursion, recursion_from_All}
-use Rattle.std.specs.List.{All, AllByRecursion, list_all}
+use Rattle.std.specs.List.{AllByRecursion, list_all}
 use Rattle.definitions.specs.Poly.{Term, coefficient_of}
 use Rattle.definitions.specs.Quiver.{Quiver, is_path, IsTyped, signature_of}
 use Rattle.definitions.proofs.Typed.{signature_from_path}
@@ -10,10 +10,9 @@ use Rattle.nc_polynomial.specs.declared.poly.Poly.{Poly}
 use Rattle.quiver.specs.Declarations.{quiver_of}
 use Rattle.rule_reduce.specs.declared.rule.Rule.{Rule}
 use Rattle.rule_reduce.specs.RuleLists.{polynomials_of}
-use Rattle.adjoint_rules.specs.declared.parts.Parts.{Parts}
 use Rattle.adjoint_rules.specs.Problem.{numbers, is_in_play}
 use Rattle.completion_laws.specs.Typed.{IsTypedInPlay}
-use Rattle.normal_category.specs.Tests.{are_paths, is_typed, has_letters_in_play, is_sharp, SharpRulesAreTold}
+use Rattle.normal_category.specs.Tests.{are_paths, is_typed, has_letters_in_play, SharpRulesAreTold}
 use Rattle.normal_category.proofs.PassedRules.{words_tested, words_suffice}
 
 -- ---- types
@@ -75,8 +74,7 @@ module _ (q : Quiver) where
 pub sharp_rules_are_told : SharpRulesAreTold
 sharp_rules_are_told p rules =
     let q = quiver_of p.quiver in
-    let play = is_in_play p.quiver p.starred (numbers p.marked) in
-    (
+    let play = is_in_play p.quiver p.starred (numbers p.marked) in (
       λ holds. All-from_recursion (λ (g : Rule). IsTypedInPlay q play g.poly.terms) rules (each_from_test q play rules holds),
       λ sharp. each_to_test q play rules (recursion_from_All (λ (g : Rule). IsTypedInPlay q play g.poly.terms) rules sharp),
     )
