@@ -1,6 +1,5 @@
 -- What a closed basis means, by its rules.
-use Rattle.std.proofs.Common.{◌≡◌, ℕ, List, [], ◌∷◌, Bool, true, false, Result, Ok, Err, IsOk, refl, sym, subst}
-use Rattle.std.specs.Result.{is_ok}
+use Rattle.std.proofs.Common.{◌≡◌, ℕ, List, [], ◌∷◌, Bool, true, false, refl, sym, subst}
 use Rattle.std.specs.List.{All, AllByRecursion}
 use Rattle.std.proofs.lemmas.List.Elements.{All-head, All-tail}
 use Rattle.definitions.specs.Poly.{Term}
@@ -24,11 +23,11 @@ use Rattle.normal_category.proofs.Problems.{problem_is_sharp}
 use Rattle.normal_category.proofs.Tested.{sharp_rules_are_told}
 use Rattle.confirm_command.specs.Says.{BasisMeans}
 
--- a call that is Ok exactly where a test holds
-pub same_test : {A E : Type 0} (r : Result A E) (b : Bool) → (IsOk r → b ≡ true) → (b ≡ true → IsOk r) → is_ok r ≡ b
-same_test (Ok x) b holds back = sym (holds tt)
-same_test (Err e) true holds back = absurd (back refl)
-same_test (Err e) false holds back = refl
+-- tests that hold alike are the same
+pub same_test : (a b : Bool) → (a ≡ true → b ≡ true) → (b ≡ true → a ≡ true) → a ≡ b
+same_test true b there back = sym (there refl)
+same_test false true there back = back refl
+same_test false false there back = refl
 
 -- what the meaning of a closed basis says of the polynomials of its rules
 module _ (problem : Problem) (b : Basis) (means : ClosedMeans problem b) where
