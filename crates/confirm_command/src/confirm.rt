@@ -103,9 +103,5 @@ fn closed_text(alloc: Global, claim: u32, is_sharp: bool) -> Result<Vec<u8>, All
 fn put_ending(out: &mut Vec<u8>, is_sharp: bool) -> Result<(), AllocError>
     ensures { OnOk result (out.new.items ≡ out.old.items ++ sharp_ending is_sharp) }
 {
-    if is_sharp {
-        put(out, " sharp")
-    } else {
-        Ok(())
-    }
+    if is_sharp { put(out, " sharp") } else { Ok(()) }
 }

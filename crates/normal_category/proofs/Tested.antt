@@ -12,7 +12,8 @@ use Rattle.rule_reduce.specs.declared.rule.Rule.{Rule}
 use Rattle.rule_reduce.specs.RuleLists.{polynomials_of}
 use Rattle.adjoint_rules.specs.Problem.{numbers, is_in_play}
 use Rattle.completion_laws.specs.Typed.{IsTypedInPlay}
-use Rattle.normal_category.specs.Tests.{are_paths, is_typed, has_letters_in_play, SharpRulesAreTold}
+use Rattle.normal_category.specs.Tests.{are_paths, is_typed, has_letters_in_play}
+use Rattle.normal_category.specs.Laws.{SharpRulesAreTold}
 use Rattle.normal_category.proofs.PassedRules.{words_tested, words_suffice}
 
 -- ---- types

@@ -1,14 +1,11 @@
 -- Whether rules are typed and in play, as a test of their polynomials.
-use Rattle.std.specs.Prelude.{◌↔◌, ℕ, Bool, true, false, ◌&&◌, IsTrue, List, [], ◌∷◌, Option, Some, None}
+use Rattle.std.specs.Prelude.{ℕ, Bool, true, false, ◌&&◌, List, [], ◌∷◌, Option, Some, None}
 use Rattle.std.specs.List.{list_all}
 use Rattle.definitions.specs.Poly.{Term}
 use Rattle.definitions.specs.Quiver.{Quiver, is_path, signature_of}
 use Rattle.quiver.specs.Declarations.{quiver_of}
-use Rattle.rule_reduce.specs.declared.rule.Rule.{Rule}
-use Rattle.rule_reduce.specs.RuleLists.{polynomials_of}
 use Rattle.adjoint_rules.specs.declared.parts.Parts.{Parts}
 use Rattle.adjoint_rules.specs.Problem.{numbers, is_in_play}
-use Rattle.normal_category.specs.Faults.{AreSharp}
 
 -- whether each word is a path of the signature
 abbrev pub are_paths : Quiver → Option (ℕ × ℕ) → List Term → Bool
@@ -27,7 +24,3 @@ has_letters_in_play play p = list_all (λ t. list_all play t.1) p
 -- whether each polynomial is typed and in play
 abbrev pub is_sharp : Parts → List (List Term) → Bool
 is_sharp p polys = list_all (λ f. is_typed (quiver_of p.quiver) f && has_letters_in_play (is_in_play p.quiver p.starred (numbers p.marked)) f) polys
-
--- That is what the polynomials of rules are exactly where all rules are typed and in play.
-abbrev pub SharpRulesAreTold : Type 0
-SharpRulesAreTold = (p : Parts) (rules : List Rule) → IsTrue (is_sharp p (polynomials_of rules)) ↔ AreSharp p rules

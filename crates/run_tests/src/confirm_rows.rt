@@ -35,8 +35,7 @@ const HUGE_LATER: &[u8] =
 const GREATEST: &[u8] =
     b"object A\nmap s t : A -> A\nclaim 170141183460469231731687303715884105727 s + t = 0\n";
 
-const PATHS: &[u8] =
-    b"object X Y\nmap f : X -> Y\nmap h : Y -> X\nclaim f h f = 0\n";
+const PATHS: &[u8] = b"object X Y\nmap f : X -> Y\nmap h : Y -> X\nclaim f h f = 0\n";
 
 const STARRED: &[u8] =
     b"object X Y\nmap c : X -> Y\nmap d : X -> X self\nassume d d = d\nclaim c d = 0\n";
