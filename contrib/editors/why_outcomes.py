@@ -319,11 +319,12 @@ def told_of_blocks(text: Text, report: str) -> List[Told]:
     if confirmed:
         told = f"{counted(len(confirmed), 'model')} {is_are(len(confirmed))} confirmed, of {claims([it[1] for it in confirmed])}"
         return [Told(f"{told}: the matrices make all assumptions zero, and the claim not")]
-    closed = re.findall("^# block ([0-9]+) closed claim ([0-9]+)$", report, re.MULTILINE)
+    closed = re.findall("^# block ([0-9]+) closed claim ([0-9]+)( sharp)?$", report, re.MULTILINE)
     if closed:
         bases = f"{len(closed):,} {'basis is' if len(closed) == 1 else 'bases are'} closed, of {claims([it[1] for it in closed])}"
         told = f"{bases}: no positive multiple of it is a sum of rows over the generators, whatever their words"
-        return [Told(told, None, ("This says nothing of matrices of finite size, nor of star representations.",))]
+        sharp = f"{sum(it[2] != '' for it in closed):,} of {len(closed):,} sharp: the rules make a preadditive category that tells the claim from zero."
+        return [Told(told, None, (sharp, "This says nothing of matrices of finite size, nor of star representations."))]
     return []
 
 

@@ -21,7 +21,7 @@ LIMIT = 2**26  # bytes of the text
 SIZE = 60  # of the statement of `bench`
 STATEMENT = "object A\nmap a b c d : A -> A\nclaim c = 0\n"
 START, END = "basis 1\nclaim 1\n", "rest c\nend\n"
-CLOSED = "# block 1 closed claim 1\n"
+CLOSED = "# block 1 closed claim 1 sharp\n"
 
 
 def bench(size: int) -> str:

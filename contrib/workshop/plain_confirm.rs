@@ -9,7 +9,7 @@ use std::cmp::Ordering;
 use std::collections::HashMap;
 use std::vec::IntoIter;
 
-use super::{at, Answer, Letter, Polynomial, Problem, Word};
+use super::{at, Answer, Ends, Letter, Polynomial, Problem, Word};
 
 const RULE_LIMIT: usize = 100_000;
 const BASIS_LIMIT: usize = 100;
@@ -26,11 +26,26 @@ pub(super) fn confirm_all(problem: &Problem, text: &str) -> Answer<String> {
     let bases = read_bases(problem, text)?;
     let mut lines = String::new();
     for (block, basis) in (1..).zip(bases) {
-        let claim = basis.claim;
+        let (claim, ending) = (basis.claim, if is_sharp(problem, &basis) { " sharp" } else { "" });
         judge(problem, basis).map_err(|fault| format!("block {block}: {fault}"))?;
-        lines += &format!("# block {block} closed claim {claim}\n");
+        lines += &format!("# block {block} closed claim {claim}{ending}\n");
     }
     Ok(lines)
+}
+
+/// Whether the words of each rule are paths of one signature, in declared maps.
+fn is_sharp(problem: &Problem, basis: &Basis) -> bool {
+    basis.rules.iter().all(|rule| {
+        let first = rule.first().and_then(|(_, word)| ends_of_path(problem, word));
+        first.is_some() && rule.iter().all(|(_, word)| ends_of_path(problem, word) == first)
+    })
+}
+
+fn ends_of_path(problem: &Problem, word: &[Letter]) -> Option<Ends> {
+    let ends = |letter: Letter| problem.ends[letter as usize];
+    let fits = word.windows(2).all(|pair| ends(pair[0]).0 == ends(pair[1]).1);
+    let is_in_play = word.iter().all(|&letter| letter <= problem.adjoints[letter as usize]);
+    (fits && is_in_play).then(|| (ends(word[word.len() - 1]).0, ends(word[0]).1))
 }
 
 // ---- Text

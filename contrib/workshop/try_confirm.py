@@ -32,7 +32,7 @@ SMALL = 2**10  # bytes of a row that is changed
 # What plain.rs has no letters for.
 UNREAD_BY_PLAIN = re.compile(r"\[|'| self$|^(?:pinv|inverse|inner|projection|order|model|solve|eliminate) ", re.MULTILINE)
 REPORT = re.compile(
-    r"(# block [0-9]+ closed claim [0-9]+\n)*(# block [0-9]+ refused B[1-7].*\n|# refused (S[0-9]+|K[1-7]).*\n)?"
+    r"(# block [0-9]+ closed claim [0-9]+( sharp)?\n)*(# block [0-9]+ refused B[1-7].*\n|# refused (S[0-9]+|K[1-7]).*\n)?"
 )
 
 

@@ -6,7 +6,7 @@ from typing import List, NamedTuple, Tuple
 
 GREATEST = 2**127 - 1
 M, M1 = str(GREATEST), str(GREATEST + 1)
-CLOSED = "closed claim 1"
+CLOSED, NOT_SHARP = "closed claim 1 sharp", "closed claim 1"
 
 
 class Run(NamedTuple):
@@ -51,6 +51,12 @@ E = lines("language 2 / object A / map v w : A -> A / eliminate v / assume v = w
 H = lines(f"object A / map s t : A -> A / assume {M} t = s / assume s s = t / claim s = 0")
 J = lines(f"object A / map s t : A -> A / assume s s = t / assume {M} t = s / claim s = 0")
 G = lines(f"object A / map s t : A -> A / claim {M} s + t = 0")
+K = lines("object X Y / map f : X -> Y / map h : Y -> X / claim f h f = 0")
+STARRED = "object X Y / map c : X -> Y / map d : X -> X{} / assume d d = d / claim c d = 0"
+V = lines("object X Y / map c : X -> Y / claim c' c = 0")
+Z = lines("object X Y / map m : X -> Y / map w : Y -> Y / assume [X] = 0 / claim w w = w")
+N = lines("object X Y / map m : X -> Y / map n : Y -> X / assume n m = [X] / claim m n = 2 m n")
+A = lines("object U V / map a b : U -> V / claim a = 0")
 ZERO = lines("object U V / map z : V -> V / map x : U -> U / assume z = [V] / assume z = 0 / claim x = 0")
 BRAID = lines("object V / map a b : V -> V / assume b a b = a b a / claim a = b")
 WEIGHTED = "object A / map k l : A -> A / order weight k 5 / claim {} = l"
@@ -150,9 +156,11 @@ def rows_of_limits() -> List[Run]:
 
 # ---- Judgements
 
+Z_RULES = "[X] [X] - [X] / m [X] - m / [X] / m"
+N_RULES = "[X] [X] - [X] / m [X] - m / [X] n - n / n m - [X]"
 JUDGED: List[Tuple[str, int, str, str, str]] = [  # the statement, the claim, the rules, the rest, and what is said
     ("P", 1, "f h g - g", "h g", CLOSED),
-    ("P", 3, "f h g - g", "- h g + h f", "closed claim 3"),
+    ("P", 3, "f h g - g", "- h g + h f", "closed claim 3 sharp"),
     ("P", 5, "0", "h g", "refused B1"),
     ("P", 1, "f h g - g / - h + g / 2 h", "h g", "refused B2 rule 2"),
     ("P", 1, "4 f h g - 6 g", "h g", "refused B2 rule 1"),
@@ -167,13 +175,13 @@ JUDGED: List[Tuple[str, int, str, str, str]] = [  # the statement, the claim, th
     ("F", 1, "3 t - 2 s / r r - s / s r - r s", "2 r s", CLOSED),
     ("F", 1, "3 t - 2 s / r r - s / s r - r s", "r s", "refused B5 got 2 r s"),
     ("Q", 2, "t t - s", "s s s", "refused B4 overlap 1 1 1 rest t s - s t"),
-    ("Q", 2, "t t - s / t s - s t", "s s s", "closed claim 2"),
-    ("Q", 2, "t s - s t / t t - s", "s s s", "closed claim 2"),
-    ("Q", 2, "t t - s / t s - s t / t t t - s t", "s s s", "closed claim 2"),
-    ("Q", 2, "t t - s / t t - s / t s - s t", "s s s", "closed claim 2"),
+    ("Q", 2, "t t - s / t s - s t", "s s s", "closed claim 2 sharp"),
+    ("Q", 2, "t s - s t / t t - s", "s s s", "closed claim 2 sharp"),
+    ("Q", 2, "t t - s / t s - s t / t t t - s t", "s s s", "closed claim 2 sharp"),
+    ("Q", 2, "t t - s / t t - s / t s - s t", "s s s", "closed claim 2 sharp"),
     ("Q", 2, "t t - s / t s - s t / t t - t", "s s s", "refused B4 inclusion 1 3 0 rest t - s"),
     ("Q", 2, "t t - s / t s - s t / 2 t s t - s", "s s s", "refused B4 inclusion 3 2 0 rest 2 s s - s"),
-    ("Q", 2, "t t - s / t s - s t / s s - s", "s", "closed claim 2"),
+    ("Q", 2, "t t - s / t s - s t / s s - s", "s", "closed claim 2 sharp"),
     ("Q", 2, "t t - s / t s - s t / s s", "0", "refused B6"),
     ("Q", 1, "t t - s / t s - s t", "0", "refused B6"),
     ("Q", 1, "t t - s / t s - s t", "t s - s t", "refused B5 got 0"),
@@ -200,7 +208,30 @@ JUDGED: List[Tuple[str, int, str, str, str]] = [  # the statement, the claim, th
     ("L", 1, f"t s - {M} s / 2 s t - t / s s", "s", "refused B4 overlap 3 2 1 rest t"),
     ("L", 1, f"t {times(498, 's')} t", "s", "refused B7 overlap 1 1 499 size letters 500"),
 ]  # fmt: skip
-STATEMENTS = {"P": P, "Q": Q, "L": L, "F": F, "O": O, "S": S, "I": I, "E": E, "H": H, "J": J, "G": G}
+TYPED: List[Tuple[str, int, str, str, str]] = [  # the same, of closed bases whose rules are typed and in play, or not
+    ("P", 1, "f h g - g / f h f - f", "h g", CLOSED),
+    ("P", 1, "f h g - g / g g", "h g", NOT_SHARP),
+    ("P", 1, "f h g - g / f'", "h g", NOT_SHARP),
+    ("P", 1, "f h g - g / [Y]", "h g", NOT_SHARP),
+    ("P", 1, "f h g - g / f' f' / [X]", "h g", NOT_SHARP),
+    ("P", 2, "f h g - g", "h g", "refused B5 got 0"),
+    ("K", 1, "", "f h f", CLOSED),
+    ("K", 1, "f h f", "0", "refused B6"),
+    ("K", 1, "h - f", "f f f", NOT_SHARP),
+    ("K", 1, "f f h", "f h f", NOT_SHARP),
+    ("K", 1, "h f h - h", "f h f", CLOSED),
+    ("Q", 2, "t t - s / t s - s t / s s s s", "s s s", "closed claim 2 sharp"),
+    ("Q", 2, "t t - s / t s - s t / [A]", "s s s", "closed claim 2"),
+    ("self", 1, "d d - d / c c'", "c d", CLOSED),
+    ("other", 1, "d d - d / c c'", "c d", NOT_SHARP),
+    ("V", 1, "c c' c - c", "c' c", CLOSED),
+    ("Z", 1, Z_RULES, "w w - w", CLOSED),
+    ("N", 1, N_RULES, "- m n", CLOSED),
+    ("N", 1, f"{N_RULES} / m'", "- m n", NOT_SHARP),
+    ("A", 1, "b b", "a", NOT_SHARP),
+]  # fmt: skip
+STATEMENTS = {"self": lines(STARRED.format(" self")), "other": lines(STARRED.format("")), "K": K, "V": V, "Z": Z, "N": N, "A": A}
+STATEMENTS |= {"P": P, "Q": Q, "L": L, "F": F, "O": O, "S": S, "I": I, "E": E, "H": H, "J": J, "G": G}
 
 
 def said(what: str, number: int = 1) -> str:
@@ -217,7 +248,7 @@ def rows_of_judgements() -> List[Run]:
         (sorted_words(16)[0], swapped, sorted_words(16)[1], CLOSED),
         (sorted_words(17)[0], swapped, sorted_words(17)[1], "refused B7 claim steps 1000000"),
     ]
-    cases = [(STATEMENTS[name], claim, rules, rest, what) for name, claim, rules, rest, what in JUDGED]
+    cases = [(STATEMENTS[name], claim, rules, rest, what) for name, claim, rules, rest, what in JUDGED + TYPED]
     cases += [(statement, 1, rules, rest, what) for statement, rules, rest, what in large]
     return [
         Run(f"judged: {rules[:50]}, {rest[:50]}", statement, block(claim, rules, rest), said(what), 0 if what.startswith("closed") else 7)
@@ -246,7 +277,7 @@ def rows_of_reports() -> List[Run]:
     closed, bad = block(2, "t t - s / t s - s t", "s s s"), block(2, "t t - s", "s s s")
     swapped = I_REPORT.replace("rest m n - [Y]", "rest {}")
     return [
-        Run("report: Q", Q, Q_REPORT, said("closed claim 2"), 0, True),
+        Run("report: Q", Q, Q_REPORT, said("closed claim 2 sharp"), 0, True),
         Run("report: I", I, I_REPORT, said(CLOSED), 0, True),
         Run("report: no rule n [Y]", I, without(I_REPORT, "rule n [Y] - n"), said("refused B3 generator 7 rest n [Y] - n"), 7),
         Run("report: a rule more", I, I_REPORT.replace("rule n m - [X]\n", "rule n m - [X]\nrule m n m - m\n"), said(CLOSED), 0),
@@ -255,11 +286,17 @@ def rows_of_reports() -> List[Run]:
         Run("report: no basis", without(Q, "claim s s s = 0"), Q_PROVED, "# refused K7\n", 7, True),
         Run(
             "blocks: three", Q, closed + bad + block(9, "", "s"),
-            said("closed claim 2") + said("refused B4 overlap 1 1 1 rest t s - s t", 2), 7,
+            said("closed claim 2 sharp") + said("refused B4 overlap 1 1 1 rest t s - s t", 2), 7,
         ),
         Run("blocks: faulty", Q, bad + lines("basis 1 / claim 2 / rule t t -s"), "# refused K2 line 8\n", 7),
         Run(
             "statement: faulty", lines("object A / map s : A -> A / claim s = q"), "# \udcff\n", "# refused S6 line 3 column 11\n", 3,
+        ),
+        Run("report: a zero object", Z, lines("# claim 1 not derivable rules 4") + block(1, Z_RULES, "w w - w"), said(CLOSED), 0, True),
+        Run("report: an object that isn't marked", N, lines("# claim 1 not derivable rules 4") + block(1, N_RULES, "- m n"), said(CLOSED), 0, True),
+        Run(
+            "blocks: sharp and not", P, block(1, "f h g - g / g g", "h g") + GOOD + block(3, "f h g - g", "- h g + h f"),
+            said(NOT_SHARP) + said(CLOSED, 2) + said("closed claim 3 sharp", 3), 0,
         ),
         Run("report: zero", ZERO, ZERO_REPORT, said(CLOSED), 0, True),
         Run("report: zero without a rule", ZERO, without(ZERO_REPORT, "rule [V]"), said("refused B3 generator 2 rest [V]"), 7),

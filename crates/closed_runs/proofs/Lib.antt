@@ -5,4 +5,5 @@ pub mod RunRules
 pub mod Printed
 pub mod BasisReports
 pub mod ClaimBases
+pub mod SharpRuns
 pub mod StatementBases

@@ -118,11 +118,11 @@ module _ (problem : Problem) (budget : Budget) where
   laws = order_laws problem letters
 
   module _ (rounds : ℕ) (s : RunState) (run : IsRunState setting rounds s) where
-    are_rules : All (IsRule letters compare) s.rules
+    pub are_rules : All (IsRule letters compare) s.rules
     are_rules = (state_kept problem budget rounds s run).kept.are_rules
 
     module _ (round : IsRound setting rounds s closed) where
-      resolved : Resolved letters compare s.rules
+      pub resolved : Resolved letters compare s.rules
       resolved = go rounds run round
         where
           go : (n : ℕ) → IsRunState setting n s → IsRound setting n s closed → Resolved letters compare s.rules
@@ -132,7 +132,7 @@ module _ (problem : Problem) (budget : Budget) where
               (state_kept problem budget (suc n) s is).kept
               (closed_is_nothing_pending setting n s at)
 
-      generator_inside : (number : ℕ) → IsNumberUpTo (length problem.generators) number
+      pub generator_inside : (number : ℕ) → IsNumberUpTo (length problem.generators) number
           → InRationalIdeal (polynomials_of s.rules) (generator_at (polynomials problem.generators) number)
       generator_inside number is = go rounds run round
         where
@@ -180,16 +180,16 @@ module _ (problem : Problem) (budget : Budget) where
     abbrev rounds : ℕ
     rounds = printed.outcome.rounds
 
-    by_closing : Closes setting (claim_at problem b.claim) b.rest.terms rounds s
+    pub by_closing : Closes setting (claim_at problem b.claim) b.rest.terms rounds s
     by_closing = closes setting form b.claim (claim_at problem b.claim) rounds s b.rest printed.outcome.gets
 
-    run : IsRunState setting rounds s
+    pub run : IsRunState setting rounds s
     run = open_run setting (claim_at problem b.claim) rounds s by_closing.opened
 
-    names : NamesClaim problem b
+    pub names : NamesClaim problem b
     names = named problem.parts.claims b.claim (opened_claim setting (claim_at problem b.claim) rounds s by_closing.opened)
 
-    polys_are : b.rules ≡ polynomials_in s.rules
+    pub polys_are : b.rules ≡ polynomials_in s.rules
     polys_are =
         closing_rules_are_last letters rank setting laws form problem (claim_numbers problem) b.rules b.claim rounds s b.rest printed.rules
         (number_among (length problem.parts.claims) b.claim names) printed.outcome.gets
@@ -197,7 +197,7 @@ module _ (problem : Problem) (budget : Budget) where
     each_is : AllByRecursion (IsRule letters compare) s.rules
     each_is = recursion_from_All (IsRule letters compare) s.rules (are_rules rounds s run)
 
-    rules_are : rules_of problem b ≡ s.rules
+    pub rules_are : rules_of problem b ≡ s.rules
     rules_are = ap (rules_from compare) polys_are ∙ rules_of_run letters compare s.rules each_is
 
     rules_may : All (MayBeRule compare) b.rules

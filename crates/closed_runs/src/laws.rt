@@ -1,11 +1,19 @@
 //! What becomes of the bases that are printed of closed claims, as laws over the definitions.
 ghost use Rattle.closed_runs.specs.Printed.{PrintedBasesAreConfirmed};
+ghost use Rattle.closed_runs.specs.SharpBases.{PrintedBasesAreSharp, PrintedBasesMeanSharp};
 ghost use Rattle.closed_runs.specs.BasesReadBack.{ReportsReadBackAsBases, StatementReportsReadBackAsBases, ReportedBasesAreConfirmed};
 
 /// The basis that is printed of a claim that is closed, in whatever budget, is closed, unless an S-polynomial or a reduction of
 /// its check has a fault: a limit is passed, or a number is out of range.
 pub fn printed_bases_are_confirmed()
     ensures { PrintedBasesAreConfirmed }
+{}
+
+/// The basis that is printed of a claim that is closed, in whatever budget, is said to be sharp where it is accepted; and what
+/// that means holds of it, accepted or not.
+pub fn printed_bases_are_sharp()
+    ensures told { PrintedBasesAreSharp }
+    ensures mean { PrintedBasesMeanSharp }
 {}
 
 /// A report is read as the bases of its claims that aren't derivable, in their order. Where each claim is otherwise, it has no

@@ -19,7 +19,7 @@ use Rattle.command_shape.proofs.Statements.{stated_leads}
 use Rattle.command_shape.proofs.Owed.{OwesEnding, owed_over, zero_or_past}
 use Rattle.confirm_command.specs.Texts.{refusal_text}
 use Rattle.confirm_command.specs.Answers.{closed_text, AnswersBases, AnswersConfirm}
-use Rattle.confirm_command.specs.Says.{ClosedMeans, SaysClosed}
+use Rattle.confirm_command.specs.Says.{SaysClosed}
 use Rattle.confirm_command.proofs.Means.{bases_are_readable, each_means}
 
 -- ---- the texts of refusals
@@ -34,13 +34,14 @@ told ds (refusal.Memory failed) cause is memory = absurd cc
 told ds other cause is memory = memory
 
 -- no cause begins as the text of a closed basis
-other_text : (b : Basis) (cause more : List ℕ) → codes "refused " ++ cause ≡ closed_text b ++ more → ⊥
-other_text b cause more same =
+other_text : (problem : Problem) (b : Basis) (cause more : List ℕ) → codes "refused " ++ cause ≡ closed_text problem b ++ more → ⊥
+other_text problem b cause more same =
     let first : (let n : ℕ = 114 in n) ≡ 99 = ap (λ l. get_or l 0 0) same in
     absurd (omega arith)
 
 pub bases_are_judged : (problem : Problem) (bases : List ℕ)
-    → IsKind (IsClosedBasis problem) closed_text (Refuses problem) (refusal_text problem.parts.quiver) IsMemory (IsBases problem.parts.quiver bases) (IsFirstFault problem.parts.quiver bases)
+    → IsKind (IsClosedBasis problem) (closed_text problem) (Refuses problem) (refusal_text problem.parts.quiver) IsMemory
+    (IsBases problem.parts.quiver bases) (IsFirstFault problem.parts.quiver bases)
 bases_are_judged problem bases =
     let ds = problem.parts.quiver in
     record {
@@ -53,7 +54,7 @@ bases_are_judged problem bases =
       not_refused = closed_basis_is_not_refused problem;
       has_text = has_text ds;
       no_text = told ds;
-      other_text = other_text;
+      other_text = other_text problem;
     }
 
 -- ---- what closed bases mean

@@ -1,52 +1,62 @@
 -- What a closed basis means, by its rules.
-use Rattle.std.proofs.Common.{◌≡◌, ◌<ℤ◌, ℕ, pos, List, [], ◌∷◌, ◌++◌, map, option_to_list, Option, Some, None, IsSomeAnd, refl, ap}
+use Rattle.std.proofs.Common.{◌≡◌, ℕ, List, [], ◌∷◌, Bool, true, false, refl, sym, subst}
 use Rattle.std.specs.List.{All, AllByRecursion}
-use Rattle.std.specs.Option.{option_map}
-use Rattle.std.proofs.lemmas.List.Elements.{All-head, All-tail, recursion_from_All}
+use Rattle.std.proofs.lemmas.List.Elements.{All-head, All-tail}
 use Rattle.definitions.specs.Poly.{Term}
 use Rattle.definitions.specs.Combination.{InRationalIdeal}
-use Rattle.word_orders.specs.Admissible.{Compare}
-use Rattle.nc_polynomial.specs.declared.poly.Poly.{Poly}
-use Rattle.rule_reduce.specs.declared.rule.Rule.{Rule}
-use Rattle.rule_reduce.specs.Leading.{leading_term}
+use Rattle.rule_reduce.specs.RuleLists.{polynomials_of}
 use Rattle.adjoint_rules.specs.declared.problem.Problem.{Problem}
 use Rattle.adjoint_rules.specs.Problem.{polynomials}
 use Rattle.quiver.specs.Declarations.{Declaration}
 use Rattle.basis_text.specs.declared.basis.Basis.{Basis}
 use Rattle.basis_text.specs.Bases.{IsBases}
 use Rattle.basis_text.proofs.BasisValues.{are_over}
-use Rattle.claim_decider.specs.Decided.{polynomials_in}
-use Rattle.closed_checker.specs.Rests.{order_of, rules_of, rules_from, MayBeRule}
+use Rattle.closed_checker.specs.Rests.{rules_of, claim_of}
 use Rattle.closed_checker.specs.Closed.{IsReadableBasis, IsClosedBasis}
+use Rattle.closed_checker.specs.Laws.{ClosedMeans}
 use Rattle.closed_checker.proofs.ClosedMeaning.{closed_bases_mean_outside}
 use Rattle.closed_checker.proofs.Readable.{read_bases_are_readable}
-use Rattle.confirm_command.specs.Says.{ClosedMeans}
+use Rattle.normal_forms.specs.SharpMeans.{SharpMeans}
+use Rattle.normal_category.specs.Faults.{AreSharp}
+use Rattle.normal_category.specs.Tests.{is_sharp}
+use Rattle.normal_category.proofs.Problems.{problem_is_sharp}
+use Rattle.normal_category.proofs.Tested.{sharp_rules_are_told}
+use Rattle.confirm_command.specs.Says.{BasisMeans}
 
--- the polynomials of the rules are those of the basis
-module _ (compare : Compare) where
-  abbrev rule_with : Poly → Term → Rule
-  rule_with p t = record { leading = t.0; lead = t.1; poly = p }
+-- tests that hold alike are the same
+pub same_test : (a b : Bool) → (a ≡ true → b ≡ true) → (b ≡ true → a ≡ true) → a ≡ b
+same_test true b there back = sym (there refl)
+same_test false true there back = back refl
+same_test false false there back = refl
 
-  same_polynomials : (ps : List Poly) → AllByRecursion (MayBeRule compare) ps → polynomials_in (rules_from compare ps) ≡ ps
-  same_polynomials [] may = refl
-  same_polynomials (p ∷ ps) may = go (leading_term compare p.terms) may.0.positive (same_polynomials ps may.1)
-    where
-      go : (o : Option Term) → IsSomeAnd o (λ t. pos 0 <ℤ t.0) → polynomials_in (rules_from compare ps) ≡ ps
-          → polynomials_in (option_to_list (option_map (rule_with p) o) ++ rules_from compare ps) ≡ p ∷ ps
-      go None positive rest = absurd positive
-      go (Some t) positive rest = ap (λ (qs : List Poly). p ∷ qs) rest
+-- what the meaning of a closed basis says of the polynomials of its rules
+module _ (problem : Problem) (b : Basis) (means : ClosedMeans problem b) where
+  pub rules_generate : All (InRationalIdeal (polynomials_of (rules_of problem b))) (polynomials problem.generators)
+  rules_generate = subst (λ (ps : List (List Term)). All (InRationalIdeal ps) (polynomials problem.generators)) (sym means.same) means.generated
 
-pub closed_means : (problem : Problem) (b : Basis) → IsReadableBasis problem.parts.quiver b → IsClosedBasis problem b → ClosedMeans problem b
-closed_means problem b readable closed =
+  pub rules_miss_claim : InRationalIdeal (polynomials_of (rules_of problem b)) (claim_of problem b) → ⊥
+  rules_miss_claim inside = means.outside_rules (subst (λ (ps : List (List Term)). InRationalIdeal ps (claim_of problem b)) means.same inside)
+
+  -- the test of the polynomials of the basis is that of its rules
+  pub rules_from_test : is_sharp problem.parts (polynomials b.rules) ≡ true → AreSharp problem.parts (rules_of problem b)
+  rules_from_test holds =
+      (sharp_rules_are_told problem.parts (rules_of problem b)).0
+      (subst (λ (ps : List (List Term)). is_sharp problem.parts ps ≡ true) (sym means.same) holds)
+
+  pub test_from_rules : AreSharp problem.parts (rules_of problem b) → is_sharp problem.parts (polynomials b.rules) ≡ true
+  test_from_rules sharp =
+      subst (λ (ps : List (List Term)). is_sharp problem.parts ps ≡ true) means.same ((sharp_rules_are_told problem.parts (rules_of problem b)).1 sharp)
+
+  sharp_means : IsClosedBasis problem b → is_sharp problem.parts (polynomials b.rules) ≡ true
+      → SharpMeans problem.parts (rules_of problem b) (claim_of problem b)
+  sharp_means closed holds =
+      problem_is_sharp problem (rules_of problem b) means.are_rules means.resolved rules_generate (rules_from_test holds) b.claim
+      closed.has_rules.claim.least closed.has_rules.claim.most rules_miss_claim
+
+pub basis_means : (problem : Problem) (b : Basis) → IsReadableBasis problem.parts.quiver b → IsClosedBasis problem b → BasisMeans problem b
+basis_means problem b readable closed =
     let means = closed_bases_mean_outside problem b readable closed in
-    record {
-      rules = rules_of problem b;
-      same = same_polynomials (order_of problem) b.rules (recursion_from_All (MayBeRule (order_of problem)) b.rules closed.has_rules.rules);
-      are_rules = means.are_rules;
-      generated = recursion_from_All (InRationalIdeal (polynomials b.rules)) (polynomials problem.generators) means.generated;
-      resolved = means.resolved;
-      outside = means.outside;
-    }
+    record { closed = means; sharp = sharp_means problem b means closed }
 
 -- ---- the bases of a text
 
@@ -55,7 +65,10 @@ pub bases_are_readable : (ds : List Declaration) (bytes : List ℕ) (bases : Lis
 bases_are_readable ds bytes bases is = read_bases_are_readable ds bytes bases is (are_over ds bytes bases is)
 
 -- and each that is closed has its meaning
-pub each_means : (problem : Problem) (bs : List Basis) → All (IsReadableBasis problem.parts.quiver) bs → AllByRecursion (IsClosedBasis problem) bs → AllByRecursion (ClosedMeans problem) bs
+pub each_means : (problem : Problem) (bs : List Basis) → All (IsReadableBasis problem.parts.quiver) bs → AllByRecursion (IsClosedBasis problem) bs
+    → AllByRecursion (BasisMeans problem) bs
 each_means problem [] readable closed = tt
-each_means problem (b ∷ bs) readable closed =
-    (closed_means problem b (All-head (IsReadableBasis problem.parts.quiver) b bs readable) closed.0, each_means problem bs (All-tail (IsReadableBasis problem.parts.quiver) b bs readable) closed.1)
+each_means problem (b ∷ bs) readable closed = (
+  basis_means problem b (All-head (IsReadableBasis problem.parts.quiver) b bs readable) closed.0,
+  each_means problem bs (All-tail (IsReadableBasis problem.parts.quiver) b bs readable) closed.1,
+)

@@ -8,13 +8,13 @@ use Rattle.closed_checker.specs.Closed.{IsClosedBasis}
 use Rattle.command_shape.specs.Ending.{Ending, refused_statement}
 use Rattle.command_shape.specs.Statement.{IsStated, IsRefusedStatement}
 use Rattle.confirm_command.specs.Answers.{closed_lines, AnswersConfirm}
-use Rattle.confirm_command.specs.Says.{ClosedMeans}
+use Rattle.confirm_command.specs.Says.{BasisMeans}
 
 -- bases that are all closed are answered by 0 and a line on each
 abbrev pub ClosedAreAnswered : Type 0
 ClosedAreAnswered = (statement text : List ℕ) (problem : Problem) (bases : List Basis)
     → IsStated statement problem → IsBases problem.parts.quiver text bases → AllByRecursion (IsClosedBasis problem) bases
-    → AnswersConfirm statement text (record { status = 0; report = closed_lines 1 bases })
+    → AnswersConfirm statement text (record { status = 0; report = closed_lines problem 1 bases })
 
 -- 0 and the lines on the bases of the text, all of which are closed
 pub record AllClosed (statement text : List ℕ) (ending : Ending) : Type 0 where
@@ -23,8 +23,8 @@ pub record AllClosed (statement text : List ℕ) (ending : Ending) : Type 0 wher
   pub stated : IsStated statement problem
   pub read : IsBases problem.parts.quiver text bases
   pub closed : AllByRecursion (IsClosedBasis problem) bases
-  pub mean : AllByRecursion (ClosedMeans problem) bases
-  pub report : ending.report ≡ closed_lines 1 bases
+  pub mean : AllByRecursion (BasisMeans problem) bases
+  pub report : ending.report ≡ closed_lines problem 1 bases
 
 -- 0 is answered to no others
 abbrev pub ZeroIsClosed : Type 0

@@ -1,5 +1,5 @@
 -- What the lines of a report say of bases.
-use Rattle.std.specs.Prelude.{⊤, ℕ, List, ◌++◌, codes, decimal, Option, Some, None}
+use Rattle.std.specs.Prelude.{⊤, ℕ, Bool, if◌then◌else◌, List, [], ◌++◌, codes, decimal, Option, Some, None}
 use Rattle.nc_polynomial.specs.declared.poly.Poly.{Poly}
 use Rattle.quiver.specs.Declarations.{Declaration}
 use Rattle.cofactor_trace.specs.declared.halt.Cause.{Cause}
@@ -16,9 +16,13 @@ use Rattle.closed_checker.specs.declared.refusal.ClosedRefusal.TheVariants as re
 
 -- ---- a basis that is closed
 
--- what accepting a basis says
-abbrev pub claim_closed : ℕ → List ℕ
-claim_closed claim = codes "closed claim " ++ decimal claim
+-- what stands behind a basis that is sharp
+abbrev pub sharp_ending : Bool → List ℕ
+sharp_ending sharp = if sharp then codes " sharp" else []
+
+-- what accepting a basis says of the claim that it names, and whether it is sharp
+abbrev pub claim_closed : ℕ → Bool → List ℕ
+claim_closed claim sharp = (codes "closed claim " ++ decimal claim) ++ sharp_ending sharp
 
 -- ---- a basis that is refused
 

@@ -1,2 +1,3 @@
 pub mod PassedRules
+pub mod Tested
 pub mod Problems

@@ -6,7 +6,7 @@ use Rattle.std.proofs.lemmas.Bool.{and_parts, and_from, cases_lt}
 use Rattle.std.proofs.lemmas.List.Elements.{recursion_from_All}
 use Rattle.std.proofs.lemmas.Option.{same_Some, slice_get-get_or}
 use Rattle.std.specs.List.{All, AllByRecursion, list_all, list_any}
-use Rattle.definitions.specs.Poly.{Term}
+use Rattle.definitions.specs.Poly.{Term, coefficient_of}
 use Rattle.word_core.specs.declared.letter.Object.{Object}
 use Rattle.nc_polynomial.specs.declared.poly.Poly.{Poly}
 use Rattle.nc_polynomial.proofs.Distinct.{distinct-descending, words_listed}
@@ -54,24 +54,33 @@ pub full_tells : {A : Type 0} {Q : A → Type 0} (o : Option A) (b : Bool) → i
 full_tells None b is full holds = absurd (true≢false (sym (is ∙ ap not full)))
 full_tells (Some x) b is full holds = (x, holds)
 
+-- a test of all words
+module _ (test : List ℕ → Bool) where
+  each_word : (p : List Term) → list_all (λ t. test t.1) p ≡ true → AllByRecursion (λ t. test t.1 ≡ true) p
+  each_word [] e = tt
+  each_word (t ∷ p) e = let parts = and_parts (test t.1) (list_all (λ t. test t.1) p) e in (parts.0, each_word p parts.1)
+
+  all_words : (p : List Term) → AllByRecursion (λ t. test t.1 ≡ true) p → list_all (λ t. test t.1) p ≡ true
+  all_words [] each = refl
+  all_words (t ∷ p) each = and_from (test t.1) (list_all (λ t. test t.1) p) each.0 (all_words p each.1)
+
+  -- it holds of the words that occur
+  pub words_tested : (p : List Term) → list_all (λ t. test t.1) p ≡ true → (w : List ℕ) → coefficient_of p w ≢ pos 0 → test w ≡ true
+  words_tested p holds w some = words_with_coefficients (λ w. test w ≡ true) p (each_word p holds) w some
+
+  -- and they are all words of the polynomial
+  pub words_suffice : (p : Poly) → ((w : List ℕ) → coefficient_of p.terms w ≢ pos 0 → test w ≡ true) → list_all (λ t. test t.1) p.terms ≡ true
+  words_suffice p at = all_words p.terms (words_listed (λ w. test w ≡ true) p.terms
+      (distinct-descending p.terms (recursion_from_IsDescending p.terms p.canonical.shaped.descending))
+      (recursion_from_All (λ (t : Term). t.0 ≢ pos 0) p.terms p.canonical.shaped.nonzero) at)
+
 -- the test of all letters
 module _ (play : ℕ → Bool) where
-  each_word : (p : List Term) → list_all (λ t. list_all play t.1) p ≡ true → AllByRecursion (λ t. list_all play t.1 ≡ true) p
-  each_word [] e = tt
-  each_word (t ∷ p) e = let parts = and_parts (list_all play t.1) (list_all (λ t. list_all play t.1) p) e in (parts.0, each_word p parts.1)
-
-  all_words : (p : List Term) → AllByRecursion (λ t. list_all play t.1 ≡ true) p → list_all (λ t. list_all play t.1) p ≡ true
-  all_words [] each = refl
-  all_words (t ∷ p) each = and_from (list_all play t.1) (list_all (λ t. list_all play t.1) p) each.0 (all_words p each.1)
-
   pub plays_from_test : (p : Poly) (b : Bool) → b ≡ list_all (λ t. list_all play t.1) p.terms → b ≡ true → IsPolyInPlay play p.terms
-  plays_from_test p b is holds =
-      record { at = λ w some. words_with_coefficients (λ w. list_all play w ≡ true) p.terms (each_word p.terms (sym is ∙ holds)) w some }
+  plays_from_test p b is holds = record { at = words_tested (list_all play) p.terms (sym is ∙ holds) }
 
   pub test_from_plays : (p : Poly) (b : Bool) → b ≡ list_all (λ t. list_all play t.1) p.terms → b ≡ false → IsPolyInPlay play p.terms → ⊥
-  test_from_plays p b is fails plays = true≢false (sym (is ∙ all_words p.terms (words_listed (λ w. list_all play w ≡ true) p.terms
-      (distinct-descending p.terms (recursion_from_IsDescending p.terms p.canonical.shaped.descending))
-      (recursion_from_All (λ (t : Term). t.0 ≢ pos 0) p.terms p.canonical.shaped.nonzero) plays.at)) ∙ fails)
+  test_from_plays p b is fails plays = true≢false (sym (is ∙ words_suffice (list_all play) p plays.at) ∙ fails)
 
 -- the letter of an object is in play where the object is marked
 any_number : (a : ℕ) (marked : List Object) → list_any (λ v. nat_eq a v.0) marked ≡ list_any (nat_eq a) (numbers marked)

@@ -1,2 +1,4 @@
 pub mod Digits
 pub mod Faults
+pub mod Tests
+pub mod Laws

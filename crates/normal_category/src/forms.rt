@@ -24,6 +24,7 @@ use word_orders::AnyOrder;
 
 /// The category of the normal forms of rules, for the objects and maps of a statement. It has objects and maps only where
 /// the rules are resolved, typed and in play, and the generators in their rational ideal.
+#[derive(Drop)]
 pub struct NormalForms<'a> {
     /// The statement.
     pub problem: &'a Problem,

@@ -35,6 +35,24 @@ const HUGE_LATER: &[u8] =
 const GREATEST: &[u8] =
     b"object A\nmap s t : A -> A\nclaim 170141183460469231731687303715884105727 s + t = 0\n";
 
+const PATHS: &[u8] = b"object X Y\nmap f : X -> Y\nmap h : Y -> X\nclaim f h f = 0\n";
+
+const STARRED: &[u8] =
+    b"object X Y\nmap c : X -> Y\nmap d : X -> X self\nassume d d = d\nclaim c d = 0\n";
+
+const UNSTARRED: &[u8] =
+    b"object X Y\nmap c : X -> Y\nmap d : X -> X\nassume d d = d\nclaim c d = 0\n";
+
+const ADJOINT_CLAIM: &[u8] = b"object X Y\nmap c : X -> Y\nclaim c' c = 0\n";
+
+const ZERO_OBJECT: &[u8] =
+    b"object X Y\nmap m : X -> Y\nmap w : Y -> Y\nassume [X] = 0\nclaim w w = w\n";
+
+const UNMARKED: &[u8] =
+    b"object X Y\nmap m : X -> Y\nmap n : Y -> X\nassume n m = [X]\nclaim m n = 2 m n\n";
+
+const PARALLEL: &[u8] = b"object U V\nmap a b : U -> V\nclaim a = 0\n";
+
 /// Lines that say no polynomial, or pass a bound.
 pub const LINES: &[Row] = &[
     (
@@ -288,7 +306,7 @@ pub const TEXTS: &[Row] = &[
     (
         BETWEEN,
         b"basis 1\r\nclaim 1\r\nrule f h g - g\r\nrest h g\r\nend\r\n",
-        "0 # block 1 closed claim 1\n",
+        "0 # block 1 closed claim 1 sharp\n",
     ),
     (
         BETWEEN,
@@ -298,7 +316,7 @@ pub const TEXTS: &[Row] = &[
     (
         BETWEEN,
         b"# a\n\tbasis\t1\n\n  claim 001\n# b\nrule  f\th g -  g\n\nrest h g\nend",
-        "0 # block 1 closed claim 1\n",
+        "0 # block 1 closed claim 1 sharp\n",
     ),
     (
         ADJOINT,
@@ -312,12 +330,12 @@ pub const COMPLETED: &[Row] = &[
     (
         BETWEEN,
         b"basis 1\nclaim 1\nrule f h g - g\nrest h g\nend\n",
-        "0 # block 1 closed claim 1\n",
+        "0 # block 1 closed claim 1 sharp\n",
     ),
     (
         BETWEEN,
         b"basis 1\nclaim 3\nrule f h g - g\nrest - h g + h f\nend\n",
-        "0 # block 1 closed claim 3\n",
+        "0 # block 1 closed claim 3 sharp\n",
     ),
     (
         BETWEEN,
@@ -377,7 +395,7 @@ pub const COMPLETED: &[Row] = &[
     (
         FACTORS,
         b"basis 1\nclaim 1\nrule 3 t - 2 s\nrule r r - s\nrule s r - r s\nrest 2 r s\nend\n",
-        "0 # block 1 closed claim 1\n",
+        "0 # block 1 closed claim 1 sharp\n",
     ),
     (
         FACTORS,
@@ -392,22 +410,22 @@ pub const COMPLETED: &[Row] = &[
     (
         SQUARE,
         b"basis 1\nclaim 2\nrule t t - s\nrule t s - s t\nrest s s s\nend\n",
-        "0 # block 1 closed claim 2\n",
+        "0 # block 1 closed claim 2 sharp\n",
     ),
     (
         SQUARE,
         b"basis 1\nclaim 2\nrule t s - s t\nrule t t - s\nrest s s s\nend\n",
-        "0 # block 1 closed claim 2\n",
+        "0 # block 1 closed claim 2 sharp\n",
     ),
     (
         SQUARE,
         b"basis 1\nclaim 2\nrule t t - s\nrule t s - s t\nrule t t t - s t\nrest s s s\nend\n",
-        "0 # block 1 closed claim 2\n",
+        "0 # block 1 closed claim 2 sharp\n",
     ),
     (
         SQUARE,
         b"basis 1\nclaim 2\nrule t t - s\nrule t t - s\nrule t s - s t\nrest s s s\nend\n",
-        "0 # block 1 closed claim 2\n",
+        "0 # block 1 closed claim 2 sharp\n",
     ),
     (
         SQUARE,
@@ -422,7 +440,7 @@ pub const COMPLETED: &[Row] = &[
     (
         SQUARE,
         b"basis 1\nclaim 2\nrule t t - s\nrule t s - s t\nrule s s - s\nrest s\nend\n",
-        "0 # block 1 closed claim 2\n",
+        "0 # block 1 closed claim 2 sharp\n",
     ),
     (
         SQUARE,
@@ -481,12 +499,12 @@ pub const OTHERS: &[Row] = &[
     (
         LOOSE,
         b"basis 1\nclaim 1\nrule t t s - s\nrule s t t - s\nrest s\nend\n",
-        "0 # block 1 closed claim 1\n",
+        "0 # block 1 closed claim 1 sharp\n",
     ),
     (
         LOOSE,
         b"basis 1\nclaim 1\nrest s\nend\n",
-        "0 # block 1 closed claim 1\n",
+        "0 # block 1 closed claim 1 sharp\n",
     ),
     (
         WEIGHTS,
@@ -496,7 +514,7 @@ pub const OTHERS: &[Row] = &[
     (
         WEIGHTS,
         b"basis 1\nclaim 1\nrule - l l l + k\nrest l l l - l l\nend\n",
-        "0 # block 1 closed claim 1\n",
+        "0 # block 1 closed claim 1 sharp\n",
     ),
     (
         WEIGHTS,
@@ -506,12 +524,12 @@ pub const OTHERS: &[Row] = &[
     (
         ELIMINATED,
         b"basis 1\nclaim 1\nrule - w w w + v\nrest w w w - w\nend\n",
-        "0 # block 1 closed claim 1\n",
+        "0 # block 1 closed claim 1 sharp\n",
     ),
     (
         ADJOINT,
         b"basis 1\nclaim 1\nrule c' c - d\nrest c d\nend\n",
-        "0 # block 1 closed claim 1\n",
+        "0 # block 1 closed claim 1 sharp\n",
     ),
     (
         ADJOINT,
@@ -536,7 +554,7 @@ pub const OTHERS: &[Row] = &[
     (
         GREATEST,
         b"basis 1\nclaim 1\nrule t t\nrest t + 170141183460469231731687303715884105727 s\nend\n",
-        "0 # block 1 closed claim 1\n",
+        "0 # block 1 closed claim 1 sharp\n",
     ),
     (
         LOOSE,
@@ -550,12 +568,131 @@ pub const OTHERS: &[Row] = &[
     ),
 ];
 
+/// Closed bases, and which of them are sharp: each rule is typed, and its letters are in play.
+pub const SHARP: &[Row] = &[
+    (
+        BETWEEN,
+        b"basis 1\nclaim 1\nrule f h g - g\nrest h g\nend\n",
+        "0 # block 1 closed claim 1 sharp\n",
+    ),
+    (
+        BETWEEN,
+        b"basis 1\nclaim 1\nrule f h g - g\nrule f h f - f\nrest h g\nend\n",
+        "0 # block 1 closed claim 1 sharp\n",
+    ),
+    (
+        BETWEEN,
+        b"basis 1\nclaim 1\nrule f h g - g\nrule g g\nrest h g\nend\n",
+        "0 # block 1 closed claim 1\n",
+    ),
+    (
+        BETWEEN,
+        b"basis 1\nclaim 1\nrule f h g - g\nrule f'\nrest h g\nend\n",
+        "0 # block 1 closed claim 1\n",
+    ),
+    (
+        BETWEEN,
+        b"basis 1\nclaim 1\nrule f h g - g\nrule [Y]\nrest h g\nend\n",
+        "0 # block 1 closed claim 1\n",
+    ),
+    (
+        BETWEEN,
+        b"basis 1\nclaim 1\nrule f h g - g\nrule f' f'\nrule [X]\nrest h g\nend\n",
+        "0 # block 1 closed claim 1\n",
+    ),
+    (
+        BETWEEN,
+        b"basis 1\nclaim 2\nrule f h g - g\nrest h g\nend\n",
+        "7 # block 1 refused B5 got 0\n",
+    ),
+    (
+        PATHS,
+        b"basis 1\nclaim 1\nrest f h f\nend\n",
+        "0 # block 1 closed claim 1 sharp\n",
+    ),
+    (
+        PATHS,
+        b"basis 1\nclaim 1\nrule f h f\nrest 0\nend\n",
+        "7 # block 1 refused B6\n",
+    ),
+    (
+        PATHS,
+        b"basis 1\nclaim 1\nrule h - f\nrest f f f\nend\n",
+        "0 # block 1 closed claim 1\n",
+    ),
+    (
+        PATHS,
+        b"basis 1\nclaim 1\nrule f f h\nrest f h f\nend\n",
+        "0 # block 1 closed claim 1\n",
+    ),
+    (
+        PATHS,
+        b"basis 1\nclaim 1\nrule h f h - h\nrest f h f\nend\n",
+        "0 # block 1 closed claim 1 sharp\n",
+    ),
+    (
+        SQUARE,
+        b"basis 1\nclaim 2\nrule t t - s\nrule t s - s t\nrule s s s s\nrest s s s\nend\n",
+        "0 # block 1 closed claim 2 sharp\n",
+    ),
+    (
+        SQUARE,
+        b"basis 1\nclaim 2\nrule t t - s\nrule t s - s t\nrule [A]\nrest s s s\nend\n",
+        "0 # block 1 closed claim 2\n",
+    ),
+    (
+        STARRED,
+        b"basis 1\nclaim 1\nrule d d - d\nrule c c'\nrest c d\nend\n",
+        "0 # block 1 closed claim 1 sharp\n",
+    ),
+    (
+        UNSTARRED,
+        b"basis 1\nclaim 1\nrule d d - d\nrule c c'\nrest c d\nend\n",
+        "0 # block 1 closed claim 1\n",
+    ),
+    (
+        ADJOINT_CLAIM,
+        b"basis 1\nclaim 1\nrule c c' c - c\nrest c' c\nend\n",
+        "0 # block 1 closed claim 1 sharp\n",
+    ),
+    (
+        WEIGHTS,
+        b"basis 1\nclaim 1\nrule - l l l + k\nrest l l l - l l\nend\n",
+        "0 # block 1 closed claim 1 sharp\n",
+    ),
+    (
+        ZERO_OBJECT,
+        b"basis 1\nclaim 1\nrule [X] [X] - [X]\nrule m [X] - m\nrule [X]\nrule m\nrest w w - w\nend\n",
+        "0 # block 1 closed claim 1 sharp\n",
+    ),
+    (
+        UNMARKED,
+        b"basis 1\nclaim 1\nrule [X] [X] - [X]\nrule m [X] - m\nrule [X] n - n\nrule n m - [X]\nrest - m n\nend\n",
+        "0 # block 1 closed claim 1 sharp\n",
+    ),
+    (
+        UNMARKED,
+        b"basis 1\nclaim 1\nrule [X] [X] - [X]\nrule m [X] - m\nrule [X] n - n\nrule n m - [X]\nrule m'\nrest - m n\nend\n",
+        "0 # block 1 closed claim 1\n",
+    ),
+    (
+        PARALLEL,
+        b"basis 1\nclaim 1\nrule b b\nrest a\nend\n",
+        "0 # block 1 closed claim 1\n",
+    ),
+    (
+        BETWEEN,
+        b"basis 1\nclaim 1\nrule f h g - g\nrule g g\nrest h g\nend\nbasis 1\nclaim 1\nrule f h g - g\nrest h g\nend\nbasis 1\nclaim 3\nrule f h g - g\nrest - h g + h f\nend\n",
+        "0 # block 1 closed claim 1\n# block 2 closed claim 1 sharp\n# block 3 closed claim 3 sharp\n",
+    ),
+];
+
 /// Texts of several blocks, and reports.
 pub const BLOCKS: &[Row] = &[
     (
         SQUARE,
         b"basis 1\nclaim 2\nrule t t - s\nrule t s - s t\nrest s s s\nend\nbasis 1\nclaim 2\nrule t t - s\nrest s s s\nend\nbasis 1\nclaim 9\nrest s\nend\n",
-        "7 # block 1 closed claim 2\n# block 2 refused B4 overlap 1 1 1 rest t s - s t\n",
+        "7 # block 1 closed claim 2 sharp\n# block 2 refused B4 overlap 1 1 1 rest t s - s t\n",
     ),
     (
         SQUARE,
@@ -575,7 +712,7 @@ pub const BLOCKS: &[Row] = &[
     (
         b"object U V\nmap z : V -> V\nmap x : U -> U\nassume z = [V]\nassume z = 0\nclaim x = 0\n",
         b"# claim 1 not derivable rules 5\nbasis 1\nclaim 1\nrule [V] [V] - [V]\nrule [V] z - z\nrule z [V] - z\nrule z - [V]\nrule [V]\nrest x\nend\n",
-        "0 # block 1 closed claim 1\n",
+        "0 # block 1 closed claim 1 sharp\n",
     ),
     (
         b"object U V\nmap z : V -> V\nmap x : U -> U\nassume z = [V]\nassume z = 0\nclaim x = 0\n",
@@ -590,7 +727,7 @@ pub const BLOCKS: &[Row] = &[
     (
         INVERSE,
         b"# claim 1 not derivable rules 7\nbasis 1\nclaim 1\nrule [X] [X] - [X]\nrule m [X] - m\nrule [X] n - n\nrule [Y] [Y] - [Y]\nrule [Y] m - m\nrule n [Y] - n\nrule n m - [X]\nrule m n m - m\nrest m n - [Y]\nend\n",
-        "0 # block 1 closed claim 1\n",
+        "0 # block 1 closed claim 1 sharp\n",
     ),
     (
         INVERSE,
@@ -624,7 +761,7 @@ const REST_AND_END: Part = Plain("\nrest s\nend\n");
 
 const WHOLE: &str = "basis 1\nclaim 1\nrest s\nend\n";
 
-const CLOSED: &[Part] = &[Plain("0 # block 1 closed claim 1\n")];
+const CLOSED: &[Part] = &[Plain("0 # block 1 closed claim 1 sharp\n")];
 
 /// Words of 500 letters, and of 501.
 pub const WORDS: &[LimitRow] = &[
@@ -741,7 +878,7 @@ pub const COUNTED: &[LimitRow] = &[
         &[Times(WHOLE, 100)],
         &[
             Plain("0 "),
-            Numbers("# block ", 1, 100, " closed claim 1\n", ""),
+            Numbers("# block ", 1, 100, " closed claim 1 sharp\n", ""),
         ],
     ),
     (
@@ -868,7 +1005,7 @@ const USAGE: &str = "2 # usage: opprove prove|check|refute|model|bench|confirm|e
 pub const SOUND: Row = (
     BETWEEN,
     b"basis 1\nclaim 1\nrule f h g - g\nrest h g\nend\n",
-    "0 # block 1 closed claim 1\n",
+    "0 # block 1 closed claim 1 sharp\n",
 );
 
 /// Other words, and files that aren't there.
@@ -881,8 +1018,10 @@ pub const CALLS: &[(&[&str], &str)] = &[
 
 /// Statements, the status of `prove` over them, and the answer over its report.
 pub const REPORTS: &[(&[u8], &str, &str)] = &[
-    (SQUARE, "10 ", "0 # block 1 closed claim 2\n"),
-    (INVERSE, "10 ", "0 # block 1 closed claim 1\n"),
+    (SQUARE, "10 ", "0 # block 1 closed claim 2 sharp\n"),
+    (INVERSE, "10 ", "0 # block 1 closed claim 1 sharp\n"),
+    (ZERO_OBJECT, "10 ", "0 # block 1 closed claim 1 sharp\n"),
+    (UNMARKED, "10 ", "0 # block 1 closed claim 1 sharp\n"),
     (
         b"object A\nmap s t : A -> A\nassume t t = s\nclaim t s = s t\n",
         "0 ",

@@ -1,7 +1,7 @@
 //! Runs of `confirm`.
 use crate::confirm_rows::{
-    BLOCKS, CALLS, COMPLETED, COUNTED, GROWN, LINES, OTHERS, REPORTS, RULES, SOUND, STEPS, TERMS,
-    TEXTS, WORDS,
+    BLOCKS, CALLS, COMPLETED, COUNTED, GROWN, LINES, OTHERS, REPORTS, RULES, SHARP, SOUND, STEPS,
+    TERMS, TEXTS, WORDS,
 };
 use crate::limit_tests::tell_limits;
 use crate::tests::{answer, tell, tell_all};
@@ -14,6 +14,11 @@ fn bases_are_closed_or_refused(rt: HostRuntime) -> Result<(), Fail> {
     tell_all(&rt, rt.alloc(), CONFIRM, COMPLETED)?;
     tell_all(&rt, rt.alloc(), CONFIRM, OTHERS)?;
     tell_all(&rt, rt.alloc(), CONFIRM, BLOCKS)
+}
+
+#[test]
+fn closed_bases_of_typed_rules_in_play_are_sharp(rt: HostRuntime) -> Result<(), Fail> {
+    tell_all(&rt, rt.alloc(), CONFIRM, SHARP)
 }
 
 #[test]

@@ -1,0 +1,8 @@
+use Rattle.closed_runs.proofs.SharpRuns as lemma
+use Rattle.closed_runs.proofs.laws.printed_bases_are_sharp.Goals as goal
+
+pub returns-clause-told : goal.returns-clause-told
+returns-clause-told c = lemma.printed_bases_are_sharp
+
+pub returns-clause-mean : goal.returns-clause-mean
+returns-clause-mean c = lemma.printed_bases_mean_sharp

@@ -1,0 +1,21 @@
+-- The bases that are printed of closed claims are sharp.
+use Rattle.std.specs.Prelude.{◌≡◌, ℕ, true, List}
+use Rattle.cofactor_trace.specs.declared.evidence.Format.{Format}
+use Rattle.adjoint_rules.specs.declared.problem.Problem.{Problem}
+use Rattle.traced_completion.specs.declared.budget.Budget.{Budget}
+use Rattle.basis_text.specs.declared.basis.Basis.{Basis}
+use Rattle.closed_checker.specs.Rests.{rules_of, claim_of}
+use Rattle.normal_forms.specs.SharpMeans.{SharpMeans}
+use Rattle.confirm_command.specs.Texts.{claim_closed}
+use Rattle.confirm_command.specs.Answers.{AcceptsBasis}
+use Rattle.closed_runs.specs.Printed.{IsPrinted}
+
+-- What is said of a basis that is printed and accepted ends with ` sharp`.
+abbrev pub PrintedBasesAreSharp : Type 0
+PrintedBasesAreSharp = (problem : Problem) (budget : Budget) (form : Format) (b : Basis) (text : List ℕ)
+    → IsPrinted problem budget form b → AcceptsBasis problem b text → text ≡ claim_closed b.claim true
+
+-- And what ` sharp` says holds of each basis that is printed, whatever becomes of its check.
+abbrev pub PrintedBasesMeanSharp : Type 0
+PrintedBasesMeanSharp = (problem : Problem) (budget : Budget) (form : Format) (b : Basis)
+    → IsPrinted problem budget form b → SharpMeans problem.parts (rules_of problem b) (claim_of problem b)

@@ -1,0 +1,81 @@
+-- The test of the polynomials of rules holds exactly where all rules are typed and in play.
+use Rattle.std.proofs.Common.{◌≡◌, ℕ, Bool, true, ◌&&◌, List, [], ◌∷◌, Option, Some, None, refl, sym, ap, subst}
+use Rattle.std.proofs.lemmas.Bool.{and_parts, and_from}
+use Rattle.std.proofs.lemmas.List.Elements.{All-from_recursion, recursion_from_All}
+use Rattle.std.specs.List.{AllByRecursion, list_all}
+use Rattle.definitions.specs.Poly.{Term, coefficient_of}
+use Rattle.definitions.specs.Quiver.{Quiver, is_path, IsTyped, signature_of}
+use Rattle.definitions.proofs.Typed.{signature_from_path}
+use Rattle.nc_polynomial.specs.declared.poly.Poly.{Poly}
+use Rattle.quiver.specs.Declarations.{quiver_of}
+use Rattle.rule_reduce.specs.declared.rule.Rule.{Rule}
+use Rattle.rule_reduce.specs.RuleLists.{polynomials_of}
+use Rattle.adjoint_rules.specs.Problem.{numbers, is_in_play}
+use Rattle.completion_laws.specs.Typed.{IsTypedInPlay}
+use Rattle.normal_category.specs.Tests.{are_paths, is_typed, has_letters_in_play}
+use Rattle.normal_category.specs.Laws.{SharpRulesAreTold}
+use Rattle.normal_category.proofs.PassedRules.{words_tested, words_suffice}
+
+-- ---- types
+
+module _ (q : Quiver) where
+  -- the signature of the first word, which is that of all, or no word
+  record HasEnds (p : List Term) : Type 0 where
+    source : ℕ
+    target : ℕ
+    typed : IsTyped q source target p
+
+  no_words : (p : List Term) → p ≡ [] → IsTyped q 0 0 p
+  no_words p none = record { at = λ w some. absurd (some (ap (λ (r : List Term). coefficient_of r w) none)) }
+
+  by_signature : (p : List Term) (s : Option (ℕ × ℕ)) → are_paths q s p ≡ true → HasEnds p
+  by_signature p None holds = absurd cc
+  by_signature p (Some s) holds = record { source = s.0; target = s.1; typed = record { at = words_tested (is_path q s.0 s.1) p holds } }
+
+  typed_from_test : (p : List Term) → is_typed q p ≡ true → HasEnds p
+  typed_from_test [] holds = record { source = 0; target = 0; typed = no_words [] refl }
+  typed_from_test (t ∷ p) holds = by_signature (t ∷ p) (signature_of q t.1) holds
+
+  all_paths : (u v : ℕ) (p : List Term) → list_all (λ t. is_path q u v t.1) p ≡ true → is_typed q p ≡ true
+  all_paths u v [] all = refl
+  all_paths u v (t ∷ p) all =
+      let first = (and_parts (is_path q u v t.1) (list_all (λ t. is_path q u v t.1) p) all).0 in
+      subst (λ (s : Option (ℕ × ℕ)). are_paths q s (t ∷ p) ≡ true) (sym (signature_from_path q u v t.1 first)) all
+
+  test_from_typed : (p : Poly) (u v : ℕ) → IsTyped q u v p.terms → is_typed q p.terms ≡ true
+  test_from_typed p u v typed = all_paths u v p.terms (words_suffice (is_path q u v) p typed.at)
+
+  -- ---- types and letters
+
+  module _ (play : ℕ → Bool) where
+    abbrev test : List Term → Bool
+    test f = is_typed q f && has_letters_in_play play f
+
+    from_test : (p : List Term) → test p ≡ true → IsTypedInPlay q play p
+    from_test p holds =
+        let parts = and_parts (is_typed q p) (has_letters_in_play play p) holds in
+        let ends = typed_from_test p parts.0 in
+        record { source = ends.source; target = ends.target; typed = ends.typed; in_play = record { at = words_tested (list_all play) p parts.1 } }
+
+    to_test : (p : Poly) → IsTypedInPlay q play p.terms → test p.terms ≡ true
+    to_test p is = and_from (is_typed q p.terms) (has_letters_in_play play p.terms)
+        (test_from_typed p is.source is.target is.typed) (words_suffice (list_all play) p is.in_play.at)
+
+    each_from_test : (rules : List Rule) → list_all test (polynomials_of rules) ≡ true → AllByRecursion (λ g. IsTypedInPlay q play g.poly.terms) rules
+    each_from_test [] holds = tt
+    each_from_test (g ∷ rules) holds =
+        let parts = and_parts (test g.poly.terms) (list_all test (polynomials_of rules)) holds in
+        (from_test g.poly.terms parts.0, each_from_test rules parts.1)
+
+    each_to_test : (rules : List Rule) → AllByRecursion (λ g. IsTypedInPlay q play g.poly.terms) rules → list_all test (polynomials_of rules) ≡ true
+    each_to_test [] each = refl
+    each_to_test (g ∷ rules) each =
+        and_from (test g.poly.terms) (list_all test (polynomials_of rules)) (to_test g.poly each.0) (each_to_test rules each.1)
+
+pub sharp_rules_are_told : SharpRulesAreTold
+sharp_rules_are_told p rules =
+    let q = quiver_of p.quiver in
+    let play = is_in_play p.quiver p.starred (numbers p.marked) in (
+      λ holds. All-from_recursion (λ (g : Rule). IsTypedInPlay q play g.poly.terms) rules (each_from_test q play rules holds),
+      λ sharp. each_to_test q play rules (recursion_from_All (λ (g : Rule). IsTypedInPlay q play g.poly.terms) rules sharp),
+    )
