@@ -12,4 +12,3 @@ returns-in_ok-ending-in-Err-Fault-clause-stopped c =
     let wrong : IsFirstFault c.args.quiver.now c.args.text.now (record { code = f.code; line = f.line; limit = f.limit }) = search rules in
     let is : c.in_ok-ending-in-Err-Fault.ending ≡ refused_evidence (evidence_fault f.code f.line f.limit) = search rules in
     faulty (record { code = f.code; line = f.line; limit = f.limit }) wrong is
-
