@@ -43,7 +43,8 @@ other_text ds p cause more same =
     absurd (omega arith)
 
 pub proofs_are_judged : (problem : Problem) (text : List ℕ)
-    → IsKind (IsAccepted problem) (accepted_text problem.parts.quiver) (IsRefused problem) (refusal_text problem.parts.quiver) IsMemory (IsCancellations problem.parts.quiver text) (IsFirstFault problem.parts.quiver text)
+    → IsKind (IsAccepted problem) (accepted_text problem.parts.quiver) (IsRefused problem) (refusal_text problem.parts.quiver) IsMemory
+    (IsCancellations problem.parts.quiver text) (IsFirstFault problem.parts.quiver text)
 proofs_are_judged problem text =
     let ds = problem.parts.quiver in
     let q = quiver_of ds in
@@ -65,12 +66,14 @@ proofs_are_judged problem text =
 
 -- ---- what accepted proofs mean
 
-pub says_cancelled : {Object Arrow : Type 0} {s : Structure Object Arrow} → PreadditiveLaws s → IsCancellationSound s → (statement text : List ℕ) (ending : Ending)
-    → AnswersCancel statement text ending → SaysCancelled s statement text ending.report
+pub says_cancelled : {Object Arrow : Type 0} {s : Structure Object Arrow} → PreadditiveLaws s → IsCancellationSound s
+    → (statement text : List ℕ) (ending : Ending) → AnswersCancel statement text ending → SaysCancelled s statement text ending.report
 says_cancelled {s} laws cancelling statement text ending answers = record {
   each = λ problem first others rest is are begins.
-      each_means laws cancelling problem first (all_first (IsReadableCancellation problem.parts.quiver) first others (proofs_are_readable problem.parts.quiver text (first ++ others) are))
-      (first_answered (proofs_are_judged problem text) ending first others rest are begins (stated_leads statement (AnswersCancellations text) ending problem is answers));
+      let ds = problem.parts.quiver in
+      each_means laws cancelling problem first (all_first (IsReadableCancellation ds) first others (proofs_are_readable ds text (first ++ others) are))
+      (first_answered (proofs_are_judged problem text) ending first others rest are begins
+      (stated_leads statement (AnswersCancellations text) ending problem is answers));
 }
 
 -- ---- what is owed

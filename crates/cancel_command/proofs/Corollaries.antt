@@ -31,7 +31,9 @@ zero_means s statement text ending answers says is_zero =
       proofs = all.proofs;
       stated = all.stated;
       read = all.read;
-      each = says.each all.problem all.proofs [] [] all.stated (subst (λ (ps : List Cancellation). IsCancellations all.problem.parts.quiver text ps) (sym (append-nil all.proofs)) all.read) (all.report ∙ sym (append-nil _));
+      each = says.each all.problem all.proofs [] [] all.stated
+          (subst (λ (ps : List Cancellation). IsCancellations all.problem.parts.quiver text ps) (sym (append-nil all.proofs)) all.read)
+          (all.report ∙ sym (append-nil _));
     }
 
 -- ---- statements
@@ -41,4 +43,5 @@ faults_are_answered statement proofs text refused = faulty text refused refl
 
 pub three_is_faulty : ThreeIsFaulty
 three_is_faulty statement proofs ending (faulty text refused ends) is_three = (text, refused, ends)
-three_is_faulty statement proofs ending (stated problem is leads) is_three = absurd (not_three ending.status (text_status (proofs_are_judged problem proofs) ending leads) is_three)
+three_is_faulty statement proofs ending (stated problem is leads) is_three =
+    absurd (not_three ending.status (text_status (proofs_are_judged problem proofs) ending leads) is_three)

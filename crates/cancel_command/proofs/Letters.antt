@@ -8,7 +8,8 @@ use Rattle.cancel_rules.specs.Acceptance.{IsRefused, IsReadableCancellation}
 use Rattle.cancel_rules.proofs.Letters.{difference_over, indivisible_over}
 use Rattle.cancel_command.specs.Texts.{HasRefusalLetters}
 
-pub refusal_letters : (problem : Problem) (p : Cancellation) → IsReadableCancellation problem.parts.quiver p → (r : CancelRefusal) → IsRefused problem p r → HasRefusalLetters problem.parts.quiver r
+pub refusal_letters : (problem : Problem) (p : Cancellation) → IsReadableCancellation problem.parts.quiver p
+    → (r : CancelRefusal) → IsRefused problem p r → HasRefusalLetters problem.parts.quiver r
 refusal_letters problem p readable (refusal.Common (common.Differs word want got)) because = difference_over problem p readable word want got because
 refusal_letters problem p readable (refusal.Common (common.NotDivisible lemma word got)) because = indivisible_over problem p readable lemma word got because
 refusal_letters problem p readable (refusal.Common other) because = tt

@@ -2,11 +2,10 @@
 use Rattle.std.proofs.Common.{◌≡◌, ◌<◌, ℕ, false, List, [], ◌∷◌, length, sym, subst}
 use Rattle.std.specs.List.{All, AllByRecursion}
 use Rattle.std.proofs.lemmas.List.Elements.{All-head, All-tail}
-use Rattle.word_core.specs.declared.letter.Letter.{Letter}
 use Rattle.definitions.specs.Category.{Structure, PreadditiveLaws}
 use Rattle.definitions.specs.Poly.{Term}
-use Rattle.definitions.specs.Quiver.{letters}
-use Rattle.quiver.specs.Declarations.{Declaration, letter_count, quiver_of}
+use Rattle.definitions.specs.Quiver.{Quiver, letters}
+use Rattle.quiver.specs.Declarations.{Declaration, quiver_of}
 use Rattle.quiver.proofs.Counts.{letters-quiver_of}
 use Rattle.adjoint_rules.specs.declared.problem.Problem.{Problem}
 use Rattle.adjoint_rules.specs.Problem.{polynomials, generators_in}
@@ -24,53 +23,73 @@ use Rattle.cancel_rules.proofs.Shown.{accepted_cancellation_leads}
 use Rattle.cancel_command.specs.Says.{MakesZeroByStar, CancelledMeans}
 
 -- the letters that a proof declares are letters of the quiver
-declared_in : (ds : List Declaration) (p : Cancellation) → IsReadableCancellation ds p → (end : Side) → All (λ a. a.0 < letters (quiver_of ds)) (declared_for p end)
+declared_in : (ds : List Declaration) (p : Cancellation) → IsReadableCancellation ds p
+    → (end : Side) → All (λ a. a.0 < letters (quiver_of ds)) (declared_for p end)
 declared_in ds p readable end = subst (λ (n : ℕ). All (λ a. a.0 < n) (declared_for p end)) (sym (letters-quiver_of ds)) (below end)
   where
     below : (end : Side) → All (IsLetterOf ds) (declared_for p end)
     below side.Left = readable.monic
     below side.Right = readable.epic
 
-pub proof_shows : (problem : Problem) (p : Cancellation) → IsReadableCancellation problem.parts.quiver p → IsAccepted problem p
-    → IsCancellationOf (quiver_of problem.parts.quiver) (polynomials problem.generators) (all_items (polynomials problem.generators) p) p (claim_at problem p.claim)
-proof_shows problem p readable accepted =
-    accepted_cancellation_leads (quiver_of problem.parts.quiver) (polynomials problem.parts.claims) (polynomials problem.generators) p (declared_in problem.parts.quiver p readable) accepted
+module _ (problem : Problem) (p : Cancellation) where
+  -- what the statement draws, the generators that the program makes, the polynomials of the items, and the claim
+  abbrev q : Quiver
+  q = quiver_of problem.parts.quiver
 
-module _ {Object Arrow : Type 0} {s : Structure Object Arrow} (laws : PreadditiveLaws s) (cancelling : IsCancellationSound s) (problem : Problem) where
-  module _ (p : Cancellation) (readable : IsReadableCancellation problem.parts.quiver p) (accepted : IsAccepted problem p) where
-    -- over the generators that the program makes
-    makes : MakesZeroByCancelling s (quiver_of problem.parts.quiver) p (polynomials problem.generators) (claim_at problem p.claim)
-    makes = cancelling.proofs (quiver_of problem.parts.quiver) (polynomials problem.generators) (all_items (polynomials problem.generators) p) p (claim_at problem p.claim)
-        (posed_quiver problem.parts problem.posed) (generators_have_signatures problem.parts problem.posed problem.generators problem.closed) (proof_shows problem p readable accepted)
+  abbrev gs : List (List Term)
+  gs = polynomials problem.generators
 
-    zero : MakesZeroByCancelling s (quiver_of problem.parts.quiver) p (generators_in problem.parts) (claim_at problem p.claim)
-    zero = record {
-      zero = λ f rep cancels monic epic vanish. makes.zero f rep cancels monic epic (zero_along laws (quiver_of problem.parts.quiver) f rep (polynomials problem.generators) (generators_in problem.parts) problem.closed.same vanish);
-    }
+  abbrev items : List (List Term)
+  items = all_items gs p
 
-    by_star : MakesZeroByStar s (quiver_of problem.parts.quiver) p (polynomials problem.parts.assumptions) (claim_at problem p.claim)
-    by_star = record {
-      zero = λ adjoint involution f rep cancels monic epic vanish. makes.zero f rep.represents cancels monic epic
-          (generators_are_zero laws problem.parts problem.generators problem.closed adjoint (star_sound laws involution) problem.posed f rep vanish);
-    }
+  abbrev claim : List Term
+  claim = claim_at problem p.claim
 
-    plain : problem.parts.starred ≡ false → MakesZeroByCancelling s (quiver_of problem.parts.quiver) p (polynomials problem.parts.assumptions) (claim_at problem p.claim)
-    plain not_starred = record { zero = λ f rep cancels monic epic vanish. zero.zero f rep cancels monic epic (plain_generators laws problem not_starred f rep vanish) }
+  module _ (readable : IsReadableCancellation problem.parts.quiver p) (accepted : IsAccepted problem p) where
+    shows : IsCancellationOf q gs items p claim
+    shows = accepted_cancellation_leads q (polynomials problem.parts.claims) gs p (declared_in problem.parts.quiver p readable) accepted
 
-    pub cancelled_means : CancelledMeans s problem p
-    cancelled_means =
-        let named = accepted.items.begins.shares.posed.claim in
-        record {
-          items = all_items (polynomials problem.generators) p;
-          shows = proof_shows problem p readable accepted;
-          typed = claim_typed problem p.claim named.least named.most;
-          zero = zero;
-          by_star = by_star;
-          plain = plain;
-        }
+    module _ {Object Arrow : Type 0} {s : Structure Object Arrow} (laws : PreadditiveLaws s) (cancelling : IsCancellationSound s) where
+      makes : MakesZeroByCancelling s q p gs claim
+      makes = cancelling.proofs q gs items p claim (posed_quiver problem.parts problem.posed)
+          (generators_have_signatures problem.parts problem.posed problem.generators problem.closed) shows
 
-  -- and each of them has its meaning
-  pub each_means : (ps : List Cancellation) → All (IsReadableCancellation problem.parts.quiver) ps → AllByRecursion (IsAccepted problem) ps → AllByRecursion (CancelledMeans s problem) ps
-  each_means [] readable accepted = tt
-  each_means (p ∷ ps) readable accepted =
-      (cancelled_means p (All-head (IsReadableCancellation problem.parts.quiver) p ps readable) accepted.0, each_means ps (All-tail (IsReadableCancellation problem.parts.quiver) p ps readable) accepted.1)
+      zero : MakesZeroByCancelling s q p (generators_in problem.parts) claim
+      zero = record {
+        zero = λ f rep cancels monic epic vanish. makes.zero f rep cancels monic epic
+            (zero_along laws q f rep gs (generators_in problem.parts) problem.closed.same vanish);
+      }
+
+      by_star : MakesZeroByStar s q p (polynomials problem.parts.assumptions) claim
+      by_star = record {
+        zero = λ adjoint involution f rep cancels monic epic vanish. makes.zero f rep.represents cancels monic epic
+            (generators_are_zero laws problem.parts problem.generators problem.closed adjoint (star_sound laws involution) problem.posed f rep vanish);
+      }
+
+      plain : problem.parts.starred ≡ false → MakesZeroByCancelling s q p (polynomials problem.parts.assumptions) claim
+      plain not_starred = record {
+        zero = λ f rep cancels monic epic vanish. zero.zero f rep cancels monic epic (plain_generators laws problem not_starred f rep vanish);
+      }
+
+      pub cancelled_means : CancelledMeans s problem p
+      cancelled_means =
+          let named = accepted.items.begins.shares.posed.claim in
+          record {
+            items = items;
+            shows = shows;
+            typed = claim_typed problem p.claim named.least named.most;
+            zero = zero;
+            by_star = by_star;
+            plain = plain;
+          }
+
+-- and each of them has its meaning
+pub each_means : {Object Arrow : Type 0} {s : Structure Object Arrow} → PreadditiveLaws s → IsCancellationSound s → (problem : Problem)
+    → (ps : List Cancellation) → All (IsReadableCancellation problem.parts.quiver) ps → AllByRecursion (IsAccepted problem) ps
+    → AllByRecursion (CancelledMeans s problem) ps
+each_means laws cancelling problem [] readable accepted = tt
+each_means laws cancelling problem (p ∷ ps) readable accepted =
+    let ds = problem.parts.quiver in (
+      cancelled_means problem p (All-head (IsReadableCancellation ds) p ps readable) accepted.0 laws cancelling,
+      each_means laws cancelling problem ps (All-tail (IsReadableCancellation ds) p ps readable) accepted.1,
+    )

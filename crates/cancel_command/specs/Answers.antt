@@ -19,7 +19,8 @@ RefusesProof problem p cause = RefusesBlock (IsRefused problem) (refusal_text pr
 -- how a run ends over a problem and a text of proofs
 abbrev pub AnswersCancellations : List ℕ → Problem → Ending → Type 0
 AnswersCancellations text problem ending =
-    OverEvidence (IsCancellations problem.parts.quiver text) (IsFirstFault problem.parts.quiver text) (Judges (AcceptsProof problem) (RefusesProof problem)) ending
+    OverEvidence (IsCancellations problem.parts.quiver text) (IsFirstFault problem.parts.quiver text)
+    (Judges (AcceptsProof problem) (RefusesProof problem)) ending
 
 -- how a run ends over the two texts
 abbrev pub AnswersCancel : List ℕ → List ℕ → Ending → Type 0

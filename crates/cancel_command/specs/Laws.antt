@@ -40,7 +40,8 @@ pub record AllMean {Object Arrow : Type 0} (s : Structure Object Arrow) (stateme
 
 -- 0, by the main theorem: each proof has its meaning
 abbrev pub ZeroMeans : {Object Arrow : Type 0} → Structure Object Arrow → Type 0
-ZeroMeans s = (statement text : List ℕ) (ending : Ending) → AnswersCancel statement text ending → SaysCancelled s statement text ending.report → ending.status ≡ 0 → AllMean s statement text
+ZeroMeans s = (statement text : List ℕ) (ending : Ending) → AnswersCancel statement text ending
+    → SaysCancelled s statement text ending.report → ending.status ≡ 0 → AllMean s statement text
 
 -- a statement with a fault is answered by 3 and the line on its first fault, whatever the text of proofs
 abbrev pub FaultsAreAnswered : Type 0

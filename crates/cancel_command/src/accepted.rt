@@ -21,8 +21,8 @@ pub fn accepted_text(
     accepted: &Accepted,
 ) -> Result<Vec<u8>, AllocError>
     requires { IsReadableCancellation quiver.now proof.now }
-    ensures { let p = proof.now in
-        IfOk result (λ text. text.items ≡ claim_text accepted.now.claim accepted.now.denominator ++ letters_text quiver.now p.monic p.epic) }
+    ensures { let p = proof.now in let a = accepted.now in
+        IfOk result (λ text. text.items ≡ claim_text a.claim a.denominator ++ letters_text quiver.now p.monic p.epic) }
 {
     let mut text = Vec::new(alloc);
     put_claim(&mut text, accepted)?;

@@ -18,7 +18,8 @@ returns-in_err-proofs c =
     let is_fault : Fault → Type 0 = IsFirstFault problem.parts.quiver c.args.text.now in
     let stop = c.in_err-proofs.field-0.0 in
     let back : c.from_residual.result ≡ Err stop = search rules in
-    refused_evidence_ends are_proofs is_fault (Judges (AcceptsProof problem) (RefusesProof problem)) c.from_residual.result stop back c.in_err-proofs.ensures.stopped
+    let judges : List Cancellation → Ending → Type 0 = Judges (AcceptsProof problem) (RefusesProof problem) in
+    refused_evidence_ends are_proofs is_fault judges c.from_residual.result stop back c.in_err-proofs.ensures.stopped
 
 -- the proofs are judged
 pub returns : goal.returns
@@ -29,4 +30,5 @@ returns c =
     let judges : List Cancellation → Ending → Type 0 = Judges (AcceptsProof problem) (RefusesProof problem) in
     let ps : List Cancellation = c.in_ok-proofs.proofs in
     let same : c.as_slice.result.now ≡ ps = search rules in
-    read_ends are_proofs is_fault judges ps c.judge_blocks.result c.in_ok-proofs.ensures.read (subst (λ (l : List Cancellation). EndsAs (judges l) c.judge_blocks.result) same c.judge_blocks.ensures)
+    read_ends are_proofs is_fault judges ps c.judge_blocks.result c.in_ok-proofs.ensures.read
+    (subst (λ (l : List Cancellation). EndsAs (judges l) c.judge_blocks.result) same c.judge_blocks.ensures)
