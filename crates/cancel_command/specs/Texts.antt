@@ -12,9 +12,13 @@ use Rattle.cancel_rules.specs.declared.refusal.CancelRefusal.TheVariants as refu
 
 -- ---- a proof that is accepted
 
--- the names of letters, each behind a blank
+-- the name of a letter behind a blank
+abbrev pub name_text : List Declaration → Letter → List ℕ
+name_text ds a = codes " " ++ letter_text ds a.0
+
+-- the names of letters, one behind another
 abbrev pub names_text : List Declaration → List Letter → List ℕ
-names_text ds letters = flat_map (λ a. codes " " ++ letter_text ds a.0) letters
+names_text ds letters = flat_map (name_text ds) letters
 
 -- a word and the letters that are called so, where there are any
 abbrev pub called_text : List Declaration → List ℕ → List Letter → List ℕ

@@ -1,9 +1,9 @@
 //! What accepting a proof says: its claim, its denominator, and the letters that it calls monic and epic.
-ghost use Rattle.std.specs.Prelude.{◌≡◌, ◌++◌, ◌<◌, All, IfOk, OnOk};
+ghost use Rattle.std.specs.Prelude.{◌≡◌, ◌++◌, All, IfOk, OnOk};
 ghost use Rattle.quiver.specs.Declarations.{letter_count};
 ghost use Rattle.check_command.specs.Refusals.{claim_text};
 ghost use Rattle.cancel_rules.specs.Acceptance.{IsLetterOf, IsReadableCancellation};
-ghost use Rattle.cancel_command.specs.Texts.{names_text, called_text, letters_text};
+ghost use Rattle.cancel_command.specs.Texts.{name_text, names_text, called_text, letters_text};
 
 use block_text::{put, put_letter};
 use cancel_rules::Cancellation;
@@ -54,8 +54,16 @@ fn put_names(out: &mut Vec<u8>, quiver: &Quiver, letters: &[Letter]) -> Result<(
     ensures { OnOk result (out.new.items ≡ out.old.items ++ names_text quiver.now letters.now) }
 {
     for letter in letters {
-        put(out, " ")?;
-        put_letter(out, quiver, *letter)?;
+        put_name(out, quiver, *letter)?;
     }
     Ok(())
+}
+
+// The name of the letter behind a blank.
+fn put_name(out: &mut Vec<u8>, quiver: &Quiver, letter: Letter) -> Result<(), AllocError>
+    requires { IsLetterOf quiver.now letter }
+    ensures { OnOk result (out.new.items ≡ out.old.items ++ name_text quiver.now letter) }
+{
+    put(out, " ")?;
+    put_letter(out, quiver, letter)
 }
