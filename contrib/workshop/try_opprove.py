@@ -26,12 +26,13 @@ case "$1" in
   s.op | prove) printf '# refused S6 line 3 column 7\\n' 2>/dev/null || exit 5; exit 3 ;;
   proved) echo '# claim 1 proved denominator 1 rows 1' || exit 5; exit 0 ;;
   slow) exec sleep 20 ;;
-  *) echo '# usage: opprove prove|check|refute|model|bench|confirm|explain' || exit 5; exit 2 ;;
+  *) echo '# usage: opprove prove|check|refute|model|bench|confirm|explain|cancel' || exit 5; exit 2 ;;
 esac
 """
 # Each crate has ten functions, and those that are proved stand in its folder. A crate named in `spoilt` fails with the text there.
 RT = """#!/usr/bin/env bash
 kit=${0%/bin/rt} name=${PWD##*/}
+echo "$name" >>"$kit/calls"
 if [ "$1" = try ]; then echo "tried in $name: ${*:2}"; exit 3; fi
 mkdir -p out/incremental
 count=$(cat out/incremental/count 2>/dev/null || echo 0)
@@ -105,6 +106,13 @@ class Checkout:
     def work(self) -> List[str]:
         path = self.kit / "work"
         return path.read_text().split("\n")[:-1] if path.exists() else []
+
+    def calls(self) -> List[str]:
+        """The crates that rt was called for since this was asked."""
+        path = self.kit / "calls"
+        found = path.read_text().split("\n")[:-1] if path.exists() else []
+        path.write_text("")
+        return found
 
     def command(self, *words: str) -> List[str]:
         return [str(self.top / "opprove"), *words]
@@ -209,7 +217,7 @@ def help_of(folder: Path) -> str:
     with checkout_in(folder) as checkout:
         seen = redirected(checkout, "help")
         need(seen.status == 0 and not seen.terminal and len(seen.out.split("\n")) < 24, seen)
-        for name in ("prove", "check", "refute", "model", "bench", "confirm", "explain"):
+        for name in ("prove", "check", "refute", "model", "bench", "confirm", "explain", "cancel"):
             need(f"\n  {name} " in seen.out, (name, seen))
             one = redirected(checkout, "help", name)
             need(one.status == 0 and one.out.startswith(f"./opprove {name} ") and "`" not in one.out, one)
@@ -239,6 +247,30 @@ def first_run(folder: Path) -> str:
         need("and not 400, for want of memory: each may take 3 GB" in seen.terminal, seen)
         need("#" in seen.terminal and "of 5 crates" in seen.terminal and "/10)" in seen.terminal, seen)
     return f"a first run foretells and tells how far it is, its first line after {seen.first:.1f} seconds"
+
+
+def kept(folder: Path) -> str:
+    """What was proved before is not walked over, unless a source of it or below it has changed, or the kit."""
+    with checkout_in(folder) as checkout:
+        need(redirected(checkout, "proved").status == 0 and set(checkout.calls()) == {*CRATES}, "a first run")
+        sources = checkout.top / "crates"
+        changes: List[Tuple[Path, Callable[[Path], object], List[str]]] = [
+            (sources / "high" / "src" / "lib.rt", lambda path: path.write_text("fn g() {}\n"), ["high", "opprove"]),
+            (sources / "left" / "src" / "more.rt", lambda path: path.write_text("fn g() {}\n"), ["left", "high", "opprove"]),
+            (sources / "left" / "src" / "more.rt", lambda path: path.unlink(), ["left", "high", "opprove"]),
+            (checkout.kit / "KIT-ID", lambda path: path.write_text("another\n"), list(CRATES)),
+        ]
+        for path, change, names in changes:
+            time.sleep(1.1)
+            change(path)
+            seen = redirected(checkout, "proved")
+            need(seen.status == 0 and sorted(checkout.calls()) == sorted(names), (path, names, seen))
+            kept_ones = len(CRATES) - len(names)
+            need(f"({kept_ones} of them are proved already)" in seen.terminal or not kept_ones, seen)
+        (sources / "opprove" / "out" / "opprove").unlink()
+        seen = redirected(checkout, "proved")
+        need(seen.status == 0 and checkout.calls() == ["opprove"], seen)
+    return "a call over crates that are proved goes on with those that aren't"
 
 
 def interrupted(folder: Path) -> str:
@@ -300,7 +332,7 @@ def without_rt() -> str:
     return ":".join(part for part in os.environ["PATH"].split(":") if not os.access(f"{part}/rt", os.X_OK))
 
 
-CHECKS: List[Callable[[Path], str]] = [answers, help_of, first_run, interrupted, failures, unproved]
+CHECKS: List[Callable[[Path], str]] = [answers, help_of, first_run, kept, interrupted, failures, unproved]
 
 if __name__ == "__main__":
     import tempfile

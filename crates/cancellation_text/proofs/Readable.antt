@@ -18,7 +18,7 @@ use Rattle.block_text.specs.declared.fault.CertFault.{CertFault}
 use Rattle.block_text.specs.Fault.{ReadsText}
 use Rattle.block_text.specs.Letters.{letter_of}
 use Rattle.block_text.specs.Steps.{all_values}
-use Rattle.block_text.proofs.EachText.{read_values_are}
+use Rattle.block_text.proofs.EachText.{read_values_are, values_are}
 use Rattle.block_text.proofs.LetterRange.{letter_in_range}
 use Rattle.block_text.proofs.Results.{option_map_some}
 use Rattle.block_text.proofs.Zips.{zip_length}
@@ -30,7 +30,7 @@ use Rattle.certificate_text.proofs.Checkable.{positive_in_range, zip_all, scaled
 use Rattle.std.proofs.lemmas.List.Elements.{All-weaker}
 use Rattle.cancellation_text.specs.Blocks.{CalledTokens, ItemTokens, lemma, cancel, CancellationTokens, known_letter, called_on, called_letters}
 use Rattle.cancellation_text.specs.Bounds.{Bound, rows, item_rows, rows_in, KeepsOne, IsItemOf, IsCancellationOf}
-use Rattle.cancellation_text.specs.Cancellations.{cancellation_kind}
+use Rattle.cancellation_text.specs.Cancellations.{cancellation_kind, IsCancellations}
 use Rattle.cancellation_text.specs.Reading.{cancellation_steps, called_of}
 use Rattle.cancellation_text.specs.Written.{IsItemOver, IsCancellationOver}
 use Rattle.cancellation_text.proofs.Parts.{rows_of}
@@ -99,6 +99,11 @@ module _ (ds : List Declaration) where
   pub readable_told : (bytes : List ℕ) (r : Result (List Cancellation) CertFault) → ReadsText (λ proofs. proofs) r (all_values (cancellation_steps ds) bytes) → IfOk r (All (IsReadableCancellation ds))
   readable_told bytes r read =
       read_values_are (cancellation_kind ds) (cancellation_steps ds) (reader ds) (IsReadableCancellation ds) (λ b proof block keeps says. block_readable b proof keeps says) bytes r read
+
+  -- the proofs of a text can be checked
+  pub proofs_are_readable : (bytes : List ℕ) (proofs : List Cancellation) → IsCancellations ds bytes proofs → All (IsReadableCancellation ds) proofs
+  proofs_are_readable bytes proofs is =
+      values_are (cancellation_kind ds) (cancellation_steps ds) (reader ds) (IsReadableCancellation ds) (λ b proof block keeps says. block_readable b proof keeps says) bytes proofs is
 
 -- ---- and written
 

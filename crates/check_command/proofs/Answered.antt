@@ -117,4 +117,4 @@ check_owes statement evidence = owed_over statement (AnswersEvidence evidence) (
       no_other = λ problem. text_answered_once (certificates_are_judged problem evidence);
       own = λ problem ending answer. zero_or_past ending.status (text_status (certificates_are_judged problem evidence) ending answer);
     })
-    (λ Object Arrow s laws sound with_lemmas ending answers. says_checked laws sound with_lemmas statement evidence ending answers)
+    (λ Object Arrow s laws sound with_lemmas cancelling ending answers. says_checked laws sound with_lemmas statement evidence ending answers)

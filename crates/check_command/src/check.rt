@@ -90,7 +90,8 @@ fn claim_text(alloc: Global, accepted: &Accepted) -> Result<Vec<u8>, AllocError>
     Ok(text)
 }
 
-fn put_claim(out: &mut Vec<u8>, accepted: &Accepted) -> Result<(), AllocError>
+/// The claim and the denominator of what is accepted, behind bytes.
+pub fn put_claim(out: &mut Vec<u8>, accepted: &Accepted) -> Result<(), AllocError>
     ensures { OnOk result (out.new.items ≡ out.old.items ++ claim_text accepted.now.claim accepted.now.denominator) }
 {
     put_labelled(out, "accepted claim ", u128::from(accepted.claim))?;

@@ -5,10 +5,11 @@ use Rattle.std.proofs.lemmas.Slice.Zip.{AllZip-long}
 use Rattle.definitions.specs.Category.{Structure, PreadditiveLaws}
 use Rattle.definitions.specs.Soundness.{IsSound}
 use Rattle.representations.specs.Evidence.{IsEvidenceSound}
+use Rattle.cancel_rules.specs.Meaning.{IsCancellationSound}
 use Rattle.report_text.specs.Report.{heads_of}
 use Rattle.command_words.specs.declared.call.BenchCall.{BenchCall}
 use Rattle.command_words.specs.declared.call.Call.{Call}
-use Rattle.command_words.specs.declared.call.Call.TheVariants.{Prove, Check, Refute, Model, Bench, Confirm, Explain}
+use Rattle.command_words.specs.declared.call.Call.TheVariants.{Prove, Check, Refute, Model, Bench, Confirm, Explain, Cancel}
 use Rattle.command_shape.specs.declared.stop.Stop.{Stop}
 use Rattle.command_shape.specs.declared.files.FileWord.{FileWord}
 use Rattle.command_shape.specs.FileWords.{statement_limit, evidence_limit, statement_file, pair_files}
@@ -24,6 +25,7 @@ use Rattle.refute_command.proofs.Answered.{search_owes}
 use Rattle.model_command.proofs.Answered.{model_owes}
 use Rattle.confirm_command.proofs.Answered.{confirm_owes}
 use Rattle.explain_command.proofs.Answered.{explain_owes}
+use Rattle.cancel_command.proofs.Answered.{cancel_owes}
 use Rattle.command_answers.specs.CallFiles.{files_of, AreContents, written_by, statement_of, evidence_of}
 use Rattle.command_answers.specs.Answers.{AnswersOver, Answers}
 use Rattle.command_answers.specs.Says.{SaysOver, Says}
@@ -39,6 +41,7 @@ call_owes (Model p) statement evidence = model_owes statement evidence
 call_owes (Bench b) statement evidence = claims_owe heads_of asked_by_bench statement
 call_owes (Confirm p) statement evidence = confirm_owes statement evidence
 call_owes (Explain p) statement evidence = explain_owes statement evidence
+call_owes (Cancel p) statement evidence = cancel_owes statement evidence
 
 owed : (call : Call) (contents : List (List ℕ)) → OwesEnding (OverStatement (statement_of call contents) (AnswersOver call (evidence_of contents)))
     (λ Object Arrow s ending. SaysOver s call (statement_of call contents) (evidence_of contents) ending)
@@ -52,9 +55,9 @@ answers_once call contents ending ending' answer answer' = (owed call contents).
 pub answer_status : (call : Call) (contents : List (List ℕ)) (ending : Ending) → Answers call contents ending → IsOwn ending.status
 answer_status call contents ending answer = (owed call contents).own ending answer.1
 
-pub answers_say : {Object Arrow : Type 0} {s : Structure Object Arrow} → PreadditiveLaws s → IsSound s → IsEvidenceSound s → (call : Call) (contents : List (List ℕ)) (ending : Ending)
+pub answers_say : {Object Arrow : Type 0} {s : Structure Object Arrow} → PreadditiveLaws s → IsSound s → IsEvidenceSound s → IsCancellationSound s → (call : Call) (contents : List (List ℕ)) (ending : Ending)
     → Answers call contents ending → Says s call contents ending
-answers_say {s} laws sound with_lemmas call contents ending answer = (answer.0, (owed call contents).sentence _ _ s laws sound with_lemmas ending answer.1)
+answers_say {s} laws sound with_lemmas cancelling call contents ending answer = (answer.0, (owed call contents).sentence _ _ s laws sound with_lemmas cancelling ending answer.1)
 
 pub each_call_has_an_ending : EachCallHasAnEnding
 each_call_has_an_ending call contents as_many = let one = (owed call contents).one in (one.0, (as_many, one.1))
@@ -92,6 +95,7 @@ are_short (Model p) contents fit = two_short p.statement p.evidence contents fit
 are_short (Bench b) contents fit = none_short contents fit
 are_short (Confirm p) contents fit = two_short p.statement p.evidence contents fit
 are_short (Explain p) contents fit = two_short p.statement p.evidence contents fit
+are_short (Cancel p) contents fit = two_short p.statement p.evidence contents fit
 
 -- a call with files writes no statement
 pub no_file_written : (call : Call) → ((b : BenchCall) → call ≡ Bench b → ⊥) → written_by call ≡ []
@@ -102,6 +106,7 @@ no_file_written (Model p) other = refl
 no_file_written (Bench b) other = absurd (other b refl)
 no_file_written (Confirm p) other = refl
 no_file_written (Explain p) other = refl
+no_file_written (Cancel p) other = refl
 
 -- an item that is there needs no other in its place
 pub other_default : {Item : Type 0} (xs : List Item) (place : ℕ) (one other : Item) → place < length xs → get_or xs place one ≡ get_or xs place other

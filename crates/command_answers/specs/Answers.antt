@@ -2,7 +2,7 @@
 use Rattle.std.specs.Prelude.{ℕ, List}
 use Rattle.adjoint_rules.specs.declared.problem.Problem.{Problem}
 use Rattle.command_words.specs.declared.call.Call.{Call}
-use Rattle.command_words.specs.declared.call.Call.TheVariants.{Prove, Check, Refute, Model, Bench, Confirm, Explain}
+use Rattle.command_words.specs.declared.call.Call.TheVariants.{Prove, Check, Refute, Model, Bench, Confirm, Explain, Cancel}
 use Rattle.report_text.specs.Report.{report_of, heads_of}
 use Rattle.command_shape.specs.Ending.{Ending}
 use Rattle.command_shape.specs.Statement.{OverStatement}
@@ -12,6 +12,7 @@ use Rattle.refute_command.specs.Answers.{AnswersSearch}
 use Rattle.model_command.specs.Answers.{AnswersModelText}
 use Rattle.confirm_command.specs.Answers.{AnswersBases}
 use Rattle.explain_command.specs.Answers.{AnswersChains}
+use Rattle.cancel_command.specs.Answers.{AnswersCancellations}
 use Rattle.command_answers.specs.CallFiles.{AreContents, statement_of, evidence_of}
 
 -- over the problem of its statement, one line a command; the bytes are its text of evidence
@@ -23,6 +24,7 @@ AnswersOver (Model p) evidence = AnswersModelText evidence
 AnswersOver (Bench b) evidence = AnswersClaims heads_of asked_by_bench
 AnswersOver (Confirm p) evidence = AnswersBases evidence
 AnswersOver (Explain p) evidence = AnswersChains evidence
+AnswersOver (Cancel p) evidence = AnswersCancellations evidence
 
 -- a call has no answer over more or fewer contents than it has files
 abbrev pub Answers : Call → List (List ℕ) → Ending → Type 0

@@ -12,6 +12,7 @@ use Rattle.refute_command.specs.Says.{SaysSearched}
 use Rattle.model_command.specs.Says.{SaysConfirmed}
 use Rattle.confirm_command.specs.Says.{SaysClosed}
 use Rattle.explain_command.specs.Says.{SaysExplained}
+use Rattle.cancel_command.specs.Says.{SaysCancelled}
 use Rattle.command_answers.specs.CallFiles.{AreContents, statement_of, evidence_of}
 
 -- what the ending of a call says, by its statement and its text of evidence
@@ -29,6 +30,8 @@ SaysOver s (call.Model p) statement models ending = SaysConfirmed statement mode
 SaysOver s (call.Confirm p) statement bases ending = SaysClosed statement bases ending.report
 -- each chain that is printed leads from a multiple of its claim to zero, and shows it
 SaysOver s (call.Explain p) statement evidence ending = SaysExplained s statement evidence ending.report
+-- each proof that is accepted shows the claim that it names, where the letters that it calls monic and epic have such arrows
+SaysOver s (call.Cancel p) statement proofs ending = SaysCancelled s statement proofs ending.report
 
 -- by the contents of its files
 abbrev pub Says : {Object Arrow : Type 0} → Structure Object Arrow → Call → List (List ℕ) → Ending → Type 0

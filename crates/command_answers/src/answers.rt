@@ -9,6 +9,7 @@ ghost use Rattle.command_answers.specs.CallFiles.{files_of, written_by};
 ghost use Rattle.command_answers.specs.Answers.{AnswersOver, Answers};
 
 use adjoint_rules::Problem;
+use cancel_command::judge_cancellations;
 use check_command::judge_evidence;
 use command_shape::{Ending, Stop, read_statement};
 use command_words::Call;
@@ -116,5 +117,6 @@ fn answer_problem<R: Threads + Sync, G: Gate + Sync>(
         }
         Call::Confirm(_) => confirm_bases(alloc, problem, evidence),
         Call::Explain(_) => explain_evidence(alloc, problem, evidence),
+        Call::Cancel(_) => judge_cancellations(alloc, problem, evidence),
     }
 }

@@ -3,6 +3,7 @@ use Rattle.std.proofs.Common.{take, ◌≡◌, ◌≢◌, ◌⊎◌, inl, inr, �
 use Rattle.definitions.specs.Category.{Structure, PreadditiveLaws}
 use Rattle.definitions.specs.Soundness.{IsSound}
 use Rattle.representations.specs.Evidence.{IsEvidenceSound}
+use Rattle.cancel_rules.specs.Meaning.{IsCancellationSound}
 use Rattle.clap.specs.Words.{subcommand_of}
 use Rattle.command_words.specs.CommandSet.{command_set}
 use Rattle.command_words.specs.Usage.{usage_text}
@@ -194,11 +195,11 @@ module _ (words : List (String Global)) (run : Run) (ending : Ending) (status : 
       by (whole at report finished) = let P : Ending → Type 0 = λ e. (status ≡ e.status) × run.put e.report × run.finished in subst P same (at, report, finished)
       by (in_part five rose count first) = absurd (steady rose)
 
-  pub meaning : {Object Arrow : Type 0} {s : Structure Object Arrow} → PreadditiveLaws s → IsSound s → IsEvidenceSound s → HasMeaning s words run status
-  meaning {s} laws sound with_lemmas = record { ending = ending; put = put; ends = by may }
+  pub meaning : {Object Arrow : Type 0} {s : Structure Object Arrow} → PreadditiveLaws s → IsSound s → IsEvidenceSound s → IsCancellationSound s → HasMeaning s words run status
+  meaning {s} laws sound with_lemmas cancelling = record { ending = ending; put = put; ends = by may }
     where
       by : MayEnd words run.told run.rose ending → EndsBy (λ call contents end. Answers call contents end × Says s call contents end) words run.told run.rose ending
       by (other_words not_taken ends) = other_words not_taken ends
       by (called call is after) =
           called call is
-          (after_weaker run.told run.rose (files_of call) (Answers call) (λ contents end. Answers call contents end × Says s call contents end) ending (λ contents answer. (answer, answers_say laws sound with_lemmas call contents ending answer)) after)
+          (after_weaker run.told run.rose (files_of call) (Answers call) (λ contents end. Answers call contents end × Says s call contents end) ending (λ contents answer. (answer, answers_say laws sound with_lemmas cancelling call contents ending answer)) after)

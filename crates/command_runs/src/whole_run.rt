@@ -13,6 +13,7 @@ ghost use Rattle.command_runs.specs.Run.{seen, IsReported, IsSinkFailure, IsCutS
 ghost use Rattle.command_runs.specs.Headline.{MeansAsSaid};
 
 use crate::files::load_files;
+use cancel_rules::cancellation_sound;
 use category_laws::Preadditive;
 use command_answers::{answer, call_files};
 use command_shape::{Ending, Stop};
@@ -133,6 +134,7 @@ pub fn run<R: Threads + Sync, C: Preadditive, L: Shelf, K: Sink, G: Gate + Sync>
     ensures meaning { MeansAsSaid (C.structure category.now) words.now (seen L.file L.faults K.written K.is_finished K.faults shelf.old shelf.new sink.old sink.new) result }
 {
     sound(category);
+    cancellation_sound(category);
     match ending_of(rt, alloc, words, shelf, gate) {
         Ok(ending) => put_ending(sink, &ending),
         Err(AllocError) => OUT_OF_MEMORY,

@@ -1,7 +1,8 @@
 -- Texts of blocks of one kind: each has blocks or a first fault, and each block passes all tests, or one of them is the first that fails.
 use Rattle.std.proofs.Common.{◌≡◌, ◌⊎◌, inl, inr, ℕ, ◌+◌, List, [], ◌∷◌, ◌++◌, Option, Some, codes, decimal, refl, sym, ap, subst, ◌∙◌, arith}
 use Rattle.std.proofs.lemmas.List.{append_assoc, append-nil}
-use Rattle.std.specs.List.{AllByRecursion}
+use Rattle.std.specs.List.{All, AllByRecursion}
+use Rattle.std.proofs.lemmas.List.Elements.{All-nil, All-cons, All-head, All-tail}
 use Rattle.block_text.specs.Fault.{Fault}
 use Rattle.command_shape.specs.Ending.{Ending, line, refused_evidence}
 use Rattle.command_shape.specs.Texts.{evidence_fault}
@@ -24,6 +25,11 @@ pub record IsKind {Block Refusal : Type 0} (passes : Block → Type 0) (shows : 
   pub has_text : (r : Refusal) → (is_memory r → ⊥) → (cause : List ℕ) × (told r ≡ Some cause)
   pub no_text : (r : Refusal) (cause : List ℕ) → told r ≡ Some cause → is_memory r → ⊥
   pub other_text : (b : Block) (cause more : List ℕ) → codes "refused " ++ cause ≡ shows b ++ more → ⊥
+
+-- what holds of all holds of the first ones
+pub all_first : {A : Type 0} (P : A → Type 0) (first others : List A) → All P (first ++ others) → All P first
+all_first P [] others all = All-nil P
+all_first P (x ∷ first) others all = All-cons P x first (All-head P x (first ++ others) all) (all_first P first others (All-tail P x (first ++ others) all))
 
 -- ---- lists of bytes
 

@@ -3,6 +3,7 @@ use Rattle.std.proofs.Common.{◌≡◌, ◌≢◌, ◌≤◌, ◌⊎◌, inl, i
 use Rattle.definitions.specs.Category.{Structure, PreadditiveLaws}
 use Rattle.definitions.specs.Soundness.{IsSound}
 use Rattle.representations.specs.Evidence.{IsEvidenceSound}
+use Rattle.cancel_rules.specs.Meaning.{IsCancellationSound}
 use Rattle.adjoint_rules.specs.declared.problem.Problem.{Problem}
 use Rattle.command_shape.specs.Ending.{Ending}
 use Rattle.command_shape.specs.Statement.{OverStatement, faulty, stated}
@@ -45,7 +46,7 @@ Sentence = (Object Arrow : Type 0) → Structure Object Arrow → Ending → Typ
 
 -- each of these endings says this, in each category
 abbrev pub AreSaid : (Ending → Type 0) → Sentence → Type 1
-AreSaid answers says = (Object Arrow : Type 0) (s : Structure Object Arrow) → PreadditiveLaws s → IsSound s → IsEvidenceSound s
+AreSaid answers says = (Object Arrow : Type 0) (s : Structure Object Arrow) → PreadditiveLaws s → IsSound s → IsEvidenceSound s → IsCancellationSound s
     → (ending : Ending) → answers ending → says Object Arrow s ending
 
 pub record OwesEnding (answers : Ending → Type 0) (says : Sentence) : Type 1 where

@@ -11,7 +11,7 @@ use Rattle.command_words.specs.CommandSet.{command_set, IsTaken, prove_command, 
 use Rattle.command_words.specs.Accepted.{IsFileWord}
 use Rattle.command_words.specs.Calls.{GivesPair, MatchesGive, Names, NamesProve, NamesRefute, NamesBench, NamesPair, prove_spans, refute_spans, bench_spans}
 use Rattle.command_words.specs.declared.call.Call.{Call}
-use Rattle.command_words.specs.declared.call.Call.TheVariants.{Prove, Check, Refute, Model, Bench, Confirm, Explain}
+use Rattle.command_words.specs.declared.call.Call.TheVariants.{Prove, Check, Refute, Model, Bench, Confirm, Explain, Cancel}
 use Rattle.command_words.specs.declared.call.ProveCall.{ProveCall}
 use Rattle.command_words.specs.declared.call.RefuteCall.{RefuteCall}
 use Rattle.command_words.specs.declared.call.BenchCall.{BenchCall}
@@ -33,8 +33,10 @@ accepted_as name a {rest = rest} call named is l gives =
 named : IsNamed (codes "prove") prove_command × IsNamed (codes "check") (pair_command (codes "check")) × IsNamed (codes "refute") refute_command
     × IsNamed (codes "model") (pair_command (codes "model")) × IsNamed (codes "bench") bench_command
     × IsNamed (codes "confirm") (pair_command (codes "confirm")) × IsNamed (codes "explain") (pair_command (codes "explain"))
+    × IsNamed (codes "cancel") (pair_command (codes "cancel"))
 unfolding command_set clap_on_literals
 named = (
+  record { entry = refl; well = refl; found = refl; name_is = refl },
   record { entry = refl; well = refl; found = refl; name_is = refl },
   record { entry = refl; well = refl; found = refl; name_is = refl },
   record { entry = refl; well = refl; found = refl; name_is = refl },
@@ -199,3 +201,4 @@ accepted words (Model x) n = pair_accepted (codes "model") words x (Model x) nam
 accepted words (Bench x) n = bench_accepted words x n
 accepted words (Confirm x) n = pair_accepted (codes "confirm") words x (Confirm x) named.5 n (λ rows g. (refl, g))
 accepted words (Explain x) n = pair_accepted (codes "explain") words x (Explain x) named.6 n (λ rows g. (refl, g))
+accepted words (Cancel x) n = pair_accepted (codes "cancel") words x (Cancel x) named.7 n (λ rows g. (refl, g))

@@ -14,7 +14,7 @@ use Rattle.command_words.specs.Limits.{pair_limit, step_limit, seed_limit, forma
 use Rattle.command_words.specs.Present.{HasNumber, HasProve, HasRefute, HasBench, HasCommand, MatchesHave}
 use Rattle.command_words.specs.Calls.{number_of, IsWithin, IsInRange, GivesCall, MatchesGive}
 use Rattle.command_words.specs.declared.call.Call.{Call}
-use Rattle.command_words.specs.declared.call.Call.TheVariants.{Prove, Check, Refute, Model, Bench, Confirm, Explain}
+use Rattle.command_words.specs.declared.call.Call.TheVariants.{Prove, Check, Refute, Model, Bench, Confirm, Explain, Cancel}
 
 pub some_text : (o : Option (Bor (List ℕ))) (t : List ℕ) → option_map (λ s. s.now) o ≡ Some t → IsSome o
 some_text None t e = cc
@@ -41,7 +41,8 @@ is_prove name rows (inr (inr (inl h))) e = absurd (apart (codes "refute") (codes
 is_prove name rows (inr (inr (inr (inl h)))) e = absurd (apart (codes "model") (codes "prove") refl (sym h.0 ∙ e))
 is_prove name rows (inr (inr (inr (inr (inl h))))) e = absurd (apart (codes "bench") (codes "prove") refl (sym h.0 ∙ e))
 is_prove name rows (inr (inr (inr (inr (inr (inl h)))))) e = absurd (apart (codes "confirm") (codes "prove") refl (sym h.0 ∙ e))
-is_prove name rows (inr (inr (inr (inr (inr (inr h)))))) e = absurd (apart (codes "explain") (codes "prove") refl (sym h.0 ∙ e))
+is_prove name rows (inr (inr (inr (inr (inr (inr (inl h))))))) e = absurd (apart (codes "explain") (codes "prove") refl (sym h.0 ∙ e))
+is_prove name rows (inr (inr (inr (inr (inr (inr (inr h))))))) e = absurd (apart (codes "cancel") (codes "prove") refl (sym h.0 ∙ e))
 
 pub is_refute : (name : List ℕ) (rows : List Row) → HasCommand name rows → name ≡ codes "refute" → HasRefute rows
 is_refute name rows (inl h) e = absurd (apart (codes "prove") (codes "refute") refl (sym h.0 ∙ e))
@@ -50,7 +51,8 @@ is_refute name rows (inr (inr (inl h))) e = h.1
 is_refute name rows (inr (inr (inr (inl h)))) e = absurd (apart (codes "model") (codes "refute") refl (sym h.0 ∙ e))
 is_refute name rows (inr (inr (inr (inr (inl h))))) e = absurd (apart (codes "bench") (codes "refute") refl (sym h.0 ∙ e))
 is_refute name rows (inr (inr (inr (inr (inr (inl h)))))) e = absurd (apart (codes "confirm") (codes "refute") refl (sym h.0 ∙ e))
-is_refute name rows (inr (inr (inr (inr (inr (inr h)))))) e = absurd (apart (codes "explain") (codes "refute") refl (sym h.0 ∙ e))
+is_refute name rows (inr (inr (inr (inr (inr (inr (inl h))))))) e = absurd (apart (codes "explain") (codes "refute") refl (sym h.0 ∙ e))
+is_refute name rows (inr (inr (inr (inr (inr (inr (inr h))))))) e = absurd (apart (codes "cancel") (codes "refute") refl (sym h.0 ∙ e))
 
 pub is_bench : (name : List ℕ) (rows : List Row) → HasCommand name rows → name ≡ codes "bench" → HasBench rows
 is_bench name rows (inl h) e = absurd (apart (codes "prove") (codes "bench") refl (sym h.0 ∙ e))
@@ -59,7 +61,8 @@ is_bench name rows (inr (inr (inl h))) e = absurd (apart (codes "refute") (codes
 is_bench name rows (inr (inr (inr (inl h)))) e = absurd (apart (codes "model") (codes "bench") refl (sym h.0 ∙ e))
 is_bench name rows (inr (inr (inr (inr (inl h))))) e = h.1
 is_bench name rows (inr (inr (inr (inr (inr (inl h)))))) e = absurd (apart (codes "confirm") (codes "bench") refl (sym h.0 ∙ e))
-is_bench name rows (inr (inr (inr (inr (inr (inr h)))))) e = absurd (apart (codes "explain") (codes "bench") refl (sym h.0 ∙ e))
+is_bench name rows (inr (inr (inr (inr (inr (inr (inl h))))))) e = absurd (apart (codes "explain") (codes "bench") refl (sym h.0 ∙ e))
+is_bench name rows (inr (inr (inr (inr (inr (inr (inr h))))))) e = absurd (apart (codes "cancel") (codes "bench") refl (sym h.0 ∙ e))
 
 within : (id : List ℕ) (low high n : ℕ) (rows : List Row) → HasNumber id low high rows → number_of id rows ≡ Some n → IsWithin low high n
 within id low high n rows h e =
@@ -87,6 +90,7 @@ in_range name rows (Check p) has g = tt
 in_range name rows (Model p) has g = tt
 in_range name rows (Confirm p) has g = tt
 in_range name rows (Explain p) has g = tt
+in_range name rows (Cancel p) has g = tt
 
 pub call_in_range : (o : Option (List ℕ × List Row)) (call : Call) → MatchesHave o → MatchesGive o call → IsInRange call
 call_in_range None call has g = absurd g

@@ -11,7 +11,7 @@ use Rattle.command_words.specs.CommandSet.{command_set, IsTaken}
 use Rattle.command_words.specs.Present.{HasNumber, HasFlag, HasProve, HasRefute, HasBench, HasPair, HasCommand, MatchesHave}
 use Rattle.command_words.specs.Calls.{number_of, flag_of, GivesProve, GivesRefute, GivesBench, GivesPair, GivesCall, MatchesGive}
 use Rattle.command_words.specs.declared.call.Call.{Call}
-use Rattle.command_words.specs.declared.call.Call.TheVariants.{Prove, Check, Refute, Model, Bench, Confirm, Explain}
+use Rattle.command_words.specs.declared.call.Call.TheVariants.{Prove, Check, Refute, Model, Bench, Confirm, Explain, Cancel}
 use Rattle.command_words.specs.declared.call.ProveCall.{ProveCall}
 use Rattle.command_words.specs.declared.call.RefuteCall.{RefuteCall}
 use Rattle.command_words.specs.declared.call.BenchCall.{BenchCall}
@@ -75,9 +75,12 @@ call_given name rows (inr (inr (inr (inr (inl h))))) =
 call_given name rows (inr (inr (inr (inr (inr (inl h)))))) =
     let p = pair_call rows h.1 in
     (Confirm p.0, (h.0, p.1))
-call_given name rows (inr (inr (inr (inr (inr (inr h)))))) =
+call_given name rows (inr (inr (inr (inr (inr (inr (inl h))))))) =
     let p = pair_call rows h.1 in
     (Explain p.0, (h.0, p.1))
+call_given name rows (inr (inr (inr (inr (inr (inr (inr h))))))) =
+    let p = pair_call rows h.1 in
+    (Cancel p.0, (h.0, p.1))
 
 matches_given : (o : Option (Text × List Row)) → MatchesHave o → (call : Call) × MatchesGive o call
 matches_given None h = absurd h

@@ -250,7 +250,10 @@ all_read = (
           λ words e. inr (inr (inr (inr (inl (refl, bench_has words e))))),
           (
             λ words e. inr (inr (inr (inr (inr (inl (refl, pair_has (codes "confirm") words e)))))),
-            (λ words e. inr (inr (inr (inr (inr (inr (refl, pair_has (codes "explain") words e)))))), tt),
+            (
+              λ words e. inr (inr (inr (inr (inr (inr (inl (refl, pair_has (codes "explain") words e))))))),
+              (λ words e. inr (inr (inr (inr (inr (inr (inr (refl, pair_has (codes "cancel") words e))))))), tt),
+            ),
           ),
         ),
       ),

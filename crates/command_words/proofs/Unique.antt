@@ -5,7 +5,7 @@ use Rattle.std.specs.Str.{bytes_eq}
 use Rattle.clap.specs.Words.{Row, Text, first_of}
 use Rattle.command_words.specs.Calls.{number_of, flag_of, GivesProve, GivesRefute, GivesBench, GivesPair, GivesCall, MatchesGive}
 use Rattle.command_words.specs.declared.call.Call.{Call}
-use Rattle.command_words.specs.declared.call.Call.TheVariants.{Prove, Check, Refute, Model, Bench, Confirm, Explain}
+use Rattle.command_words.specs.declared.call.Call.TheVariants.{Prove, Check, Refute, Model, Bench, Confirm, Explain, Cancel}
 use Rattle.command_words.specs.declared.call.ProveCall.{ProveCall}
 use Rattle.command_words.specs.declared.call.RefuteCall.{RefuteCall}
 use Rattle.command_words.specs.declared.call.BenchCall.{BenchCall}
@@ -83,7 +83,8 @@ call_from name rows = if bytes_eq name (codes "prove") then Prove (prove_from ro
     else (if bytes_eq name (codes "refute") then Refute (refute_from rows)
     else (if bytes_eq name (codes "model") then Model (pair_from rows)
     else (if bytes_eq name (codes "bench") then Bench (bench_from rows)
-    else (if bytes_eq name (codes "confirm") then Confirm (pair_from rows) else Explain (pair_from rows))))))
+    else (if bytes_eq name (codes "confirm") then Confirm (pair_from rows)
+    else (if bytes_eq name (codes "explain") then Explain (pair_from rows) else Cancel (pair_from rows)))))))
 
 named : (name other : Text) (rows : List Row) (call : Call) → name ≡ other → call_from other rows ≡ call → call_from name rows ≡ call
 named name other rows call e f = ap (λ t. call_from t rows) e ∙ f
@@ -97,6 +98,7 @@ call_is name rows (Model p) g = named name (codes "model") rows (Model p) g.0 (a
 call_is name rows (Bench b) g = named name (codes "bench") rows (Bench b) g.0 (ap (λ x. Bench x) (bench_is rows b g.1))
 call_is name rows (Confirm p) g = named name (codes "confirm") rows (Confirm p) g.0 (ap (λ x. Confirm x) (pair_is rows p g.1))
 call_is name rows (Explain p) g = named name (codes "explain") rows (Explain p) g.0 (ap (λ x. Explain x) (pair_is rows p g.1))
+call_is name rows (Cancel p) g = named name (codes "cancel") rows (Cancel p) g.0 (ap (λ x. Cancel x) (pair_is rows p g.1))
 
 pub one_call : (o : Option (Text × List Row)) (a b : Call) → MatchesGive o a → MatchesGive o b → a ≡ b
 one_call None a b g h = absurd g

@@ -8,7 +8,7 @@ use Rattle.command_words.specs.Limits.{pair_limit, step_limit, seed_limit, forma
 use Rattle.command_words.specs.Limits.{default_pairs, default_steps, default_workers, default_seed, default_format}
 use Rattle.command_words.specs.Accepted.{Given, given_words, IsFileWord, Span, AreOptions, option_of, number_or, is_flag}
 use Rattle.command_words.specs.declared.call.Call.{Call}
-use Rattle.command_words.specs.declared.call.Call.TheVariants.{Prove, Check, Refute, Model, Bench, Confirm, Explain}
+use Rattle.command_words.specs.declared.call.Call.TheVariants.{Prove, Check, Refute, Model, Bench, Confirm, Explain, Cancel}
 use Rattle.command_words.specs.declared.call.ProveCall.{ProveCall}
 use Rattle.command_words.specs.declared.call.RefuteCall.{RefuteCall}
 use Rattle.command_words.specs.declared.call.BenchCall.{BenchCall}
@@ -54,6 +54,7 @@ GivesCall name rows (Model p) = (name ≡ codes "model") × GivesPair rows p
 GivesCall name rows (Bench b) = (name ≡ codes "bench") × GivesBench rows b
 GivesCall name rows (Confirm p) = (name ≡ codes "confirm") × GivesPair rows p
 GivesCall name rows (Explain p) = (name ≡ codes "explain") × GivesPair rows p
+GivesCall name rows (Cancel p) = (name ≡ codes "cancel") × GivesPair rows p
 
 abbrev pub MatchesGive : Option (Text × List Row) → Call → Type 0
 MatchesGive None call = ⊥
@@ -74,6 +75,7 @@ IsInRange (Check p) = ⊤
 IsInRange (Model p) = ⊤
 IsInRange (Confirm p) = ⊤
 IsInRange (Explain p) = ⊤
+IsInRange (Cancel p) = ⊤
 
 -- ---- of an accepted list
 
@@ -134,3 +136,4 @@ Names words (Model p) = NamesPair (codes "model") words p
 Names words (Bench b) = NamesBench words b
 Names words (Confirm p) = NamesPair (codes "confirm") words p
 Names words (Explain p) = NamesPair (codes "explain") words p
+Names words (Cancel p) = NamesPair (codes "cancel") words p

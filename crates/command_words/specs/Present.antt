@@ -40,7 +40,7 @@ pub record HasPair (rows : List Row) : Type 0 where
 abbrev pub HasCommand : Text → List Row → Type 0
 HasCommand name rows = ((name ≡ codes "prove") × HasProve rows) ⊎ ((name ≡ codes "check") × HasPair rows)
     ⊎ ((name ≡ codes "refute") × HasRefute rows) ⊎ ((name ≡ codes "model") × HasPair rows) ⊎ ((name ≡ codes "bench") × HasBench rows)
-    ⊎ ((name ≡ codes "confirm") × HasPair rows) ⊎ ((name ≡ codes "explain") × HasPair rows)
+    ⊎ ((name ≡ codes "confirm") × HasPair rows) ⊎ ((name ≡ codes "explain") × HasPair rows) ⊎ ((name ≡ codes "cancel") × HasPair rows)
 
 abbrev pub MatchesHave : Option (Text × List Row) → Type 0
 MatchesHave None = ⊥

@@ -66,4 +66,6 @@ pub enum Call {
     Confirm(PairCall),
     /// Prints proofs as chains of equations.
     Explain(PairCall),
+    /// Checks proofs that cancel monic and epic maps.
+    Cancel(PairCall),
 }

@@ -91,7 +91,8 @@ fn call_of(alloc: Global, name: &str, matches: &ArgMatches) -> Result<Call, Allo
         "model" => Ok(Call::Model(pair_of(alloc, matches)?)),
         "bench" => Ok(Call::Bench(bench_of(matches))),
         "confirm" => Ok(Call::Confirm(pair_of(alloc, matches)?)),
-        _ => Ok(Call::Explain(pair_of(alloc, matches)?)),
+        "explain" => Ok(Call::Explain(pair_of(alloc, matches)?)),
+        _ => Ok(Call::Cancel(pair_of(alloc, matches)?)),
     }
 }
 

@@ -162,5 +162,6 @@ pub fn command_set<'a>(alloc: Global) -> Result<Command<'a>, AllocError>
     let set = with_command(set, pair_command(alloc, "model"))?;
     let set = with_command(set, bench_command(alloc))?;
     let set = with_command(set, pair_command(alloc, "confirm"))?;
-    with_command(set, pair_command(alloc, "explain"))
+    let set = with_command(set, pair_command(alloc, "explain"))?;
+    with_command(set, pair_command(alloc, "cancel"))
 }

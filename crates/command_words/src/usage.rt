@@ -8,5 +8,5 @@ use std::alloc::{AllocError, Global};
 pub fn usage_text(alloc: Global) -> Result<Vec<u8>, AllocError>
     ensures { IfOk result (λ text. text.items ≡ usage_text) }
 {
-    b"# usage: opprove prove|check|refute|model|bench|confirm|explain".to_vec(alloc)
+    b"# usage: opprove prove|check|refute|model|bench|confirm|explain|cancel".to_vec(alloc)
 }

@@ -1,7 +1,5 @@
 -- What `confirm` owes.
-use Rattle.std.proofs.Common.{◌≡◌, ℕ, List, [], ◌∷◌, ◌++◌, Some, get_or, codes, refl, ap, arith}
-use Rattle.std.specs.List.{All, AllByRecursion}
-use Rattle.std.proofs.lemmas.List.Elements.{All-nil, All-cons, All-head, All-tail}
+use Rattle.std.proofs.Common.{◌≡◌, ℕ, List, ◌++◌, Some, get_or, codes, refl, ap, arith}
 use Rattle.quiver.specs.Declarations.{Declaration}
 use Rattle.adjoint_rules.specs.declared.problem.Problem.{Problem}
 use Rattle.basis_text.specs.declared.basis.Basis.{Basis}
@@ -14,7 +12,7 @@ use Rattle.closed_checker.proofs.Judged.{each_basis_is_judged}
 use Rattle.closed_checker.proofs.NotRefused.{closed_basis_is_not_refused}
 use Rattle.closed_checker.proofs.Refusals.{basis_refusal_is_unique}
 use Rattle.command_shape.specs.Ending.{Ending}
-use Rattle.command_shape.proofs.BlockTexts.{IsKind, text_answered, text_answered_once, text_status, first_answered}
+use Rattle.command_shape.proofs.BlockTexts.{IsKind, text_answered, text_answered_once, text_status, first_answered, all_first}
 use Rattle.command_shape.proofs.Statements.{stated_leads}
 use Rattle.command_shape.proofs.Owed.{OwesEnding, owed_over, zero_or_past}
 use Rattle.confirm_command.specs.Texts.{refusal_text}
@@ -59,14 +57,10 @@ bases_are_judged problem bases =
 
 -- ---- what closed bases mean
 
-first_of : {A : Type 0} (P : A → Type 0) (first others : List A) → All P (first ++ others) → All P first
-first_of P [] others all = All-nil P
-first_of P (x ∷ first) others all = All-cons P x first (All-head P x (first ++ others) all) (first_of P first others (All-tail P x (first ++ others) all))
-
 pub says_closed : (statement bases : List ℕ) (ending : Ending) → AnswersConfirm statement bases ending → SaysClosed statement bases ending.report
 says_closed statement bases ending answers = record {
   each = λ problem first others rest is are begins.
-      each_means problem first (first_of (IsReadableBasis problem.parts.quiver) first others (bases_are_readable problem.parts.quiver bases (first ++ others) are))
+      each_means problem first (all_first (IsReadableBasis problem.parts.quiver) first others (bases_are_readable problem.parts.quiver bases (first ++ others) are))
       (first_answered (bases_are_judged problem bases) ending first others rest are begins (stated_leads statement (AnswersBases bases) ending problem is answers));
 }
 
@@ -80,4 +74,4 @@ confirm_owes statement bases = owed_over statement (AnswersBases bases) (λ Obje
       no_other = λ problem. text_answered_once (bases_are_judged problem bases);
       own = λ problem ending answer. zero_or_past ending.status (text_status (bases_are_judged problem bases) ending answer);
     })
-    (λ Object Arrow s laws sound with_lemmas ending answers. says_closed statement bases ending answers)
+    (λ Object Arrow s laws sound with_lemmas cancelling ending answers. says_closed statement bases ending answers)

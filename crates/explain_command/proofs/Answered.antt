@@ -153,4 +153,4 @@ explain_owes statement evidence = owed_over statement (AnswersChains evidence) (
       no_other = λ problem. text_answered_once (blocks_are_judged problem evidence);
       own = λ problem ending answer. zero_or_past ending.status (text_status (blocks_are_judged problem evidence) ending answer);
     })
-    (λ Object Arrow s laws sound with_lemmas ending answers. says_explained laws sound with_lemmas statement evidence ending answers)
+    (λ Object Arrow s laws sound with_lemmas cancelling ending answers. says_explained laws sound with_lemmas statement evidence ending answers)

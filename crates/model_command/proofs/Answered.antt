@@ -114,4 +114,4 @@ model_owes statement models = owed_over statement (AnswersModelText models) (λ 
       no_other = λ problem. text_answered_once (models_are_judged problem models);
       own = λ problem ending answer. zero_or_past ending.status (text_status (models_are_judged problem models) ending answer);
     })
-    (λ Object Arrow s laws sound with_lemmas ending answers. says_confirmed statement models ending answers)
+    (λ Object Arrow s laws sound with_lemmas cancelling ending answers. says_confirmed statement models ending answers)

@@ -32,6 +32,19 @@ numbered : (q : Quiver) (ps : List (List (ℤ × List ℕ))) (n : ℕ) → 1 ≤
 numbered q ps zero least most all = absurd (omega arith)
 numbered q ps (suc n) least most all = get_one q ps n (omega arith) all
 
+-- a claim of the problem is typed of its signature
+pub claim_typed : (problem : Problem) (number : ℕ) → 1 ≤ number → number ≤ length (polynomials problem.parts.claims) → HasSignature (quiver_of problem.parts.quiver) (claim_at problem number)
+claim_typed problem number least most = numbered (quiver_of problem.parts.quiver) (polynomials problem.parts.claims) number least most (claims_have_signatures problem.parts problem.posed)
+
+-- in a statement that isn't starred the assumptions make the generators zero
+pub plain_generators : {Object Arrow : Type 0} {s : Structure Object Arrow} → PreadditiveLaws s → (problem : Problem) → problem.parts.starred ≡ false → (f : Representation Object Arrow) → Represents s (quiver_of problem.parts.quiver) f
+    → AllByRecursion (HasValueZero s (quiver_of problem.parts.quiver) f) (polynomials problem.parts.assumptions) → AllByRecursion (HasValueZero s (quiver_of problem.parts.quiver) f) (generators_in problem.parts)
+plain_generators {s} laws problem not_starred f rep vanish =
+    let q = quiver_of problem.parts.quiver in
+    let P : Bool → Type 0 = λ b. AllByRecursion (HasValueZero s q f) (generators_of q b (numbers problem.parts.marked) (polynomials problem.parts.assumptions)) in
+    subst P (sym not_starred)
+    ((unit_sound laws).generators q (numbers problem.parts.marked) (polynomials problem.parts.assumptions) (posed_quiver problem.parts problem.posed) (marked_are_objects problem.parts problem.posed) f rep vanish)
+
 -- what makes a claim zero over the generators makes it zero over what the statement says
 module _ {Object Arrow : Type 0} {s : Structure Object Arrow} (laws : PreadditiveLaws s) (problem : Problem) (d : ℤ) (claim : List (ℤ × List ℕ))
     (makes : MakesZero s (quiver_of problem.parts.quiver) (polynomials problem.generators) d claim) where
@@ -44,21 +57,12 @@ module _ {Object Arrow : Type 0} {s : Structure Object Arrow} (laws : Preadditiv
         (generators_are_zero laws problem.parts problem.generators problem.closed adjoint (star_sound laws involution) problem.posed f rep vanish);
   }
 
-  -- in a statement that isn't starred
-  generators_vanish : problem.parts.starred ≡ false → (f : Representation Object Arrow) → Represents s (quiver_of problem.parts.quiver) f
-      → AllByRecursion (HasValueZero s (quiver_of problem.parts.quiver) f) (polynomials problem.parts.assumptions) → AllByRecursion (HasValueZero s (quiver_of problem.parts.quiver) f) (generators_in problem.parts)
-  generators_vanish not_starred f rep vanish =
-      let q = quiver_of problem.parts.quiver in
-      let P : Bool → Type 0 = λ b. AllByRecursion (HasValueZero s q f) (generators_of q b (numbers problem.parts.marked) (polynomials problem.parts.assumptions)) in
-      subst P (sym not_starred)
-      ((unit_sound laws).generators q (numbers problem.parts.marked) (polynomials problem.parts.assumptions) (posed_quiver problem.parts problem.posed) (marked_are_objects problem.parts problem.posed) f rep vanish)
-
   pub means_zero : HasSignature (quiver_of problem.parts.quiver) claim → MeansZero s problem d claim
   means_zero typed = record {
     typed = typed;
     zero = zero_made;
     by_star = by_star_made;
-    plain = λ not_starred. record { zero = λ f rep cancels vanish. zero_made.zero f rep cancels (generators_vanish not_starred f rep vanish) };
+    plain = λ not_starred. record { zero = λ f rep cancels vanish. zero_made.zero f rep cancels (plain_generators laws problem not_starred f rep vanish) };
   }
 
 -- ---- evidence
@@ -76,5 +80,5 @@ module _ {Object Arrow : Type 0} {s : Structure Object Arrow} (laws : Preadditiv
   proved_means number e least most adds = record {
     sum = adds;
     means = means_zero laws problem (denominator_of e) (claim_at problem number) (evidence_makes number e adds)
-        (numbered (quiver_of problem.parts.quiver) (polynomials problem.parts.claims) number least most (claims_have_signatures problem.parts problem.posed));
+        (claim_typed problem number least most);
   }

@@ -137,7 +137,7 @@ over_claims print asked = record {
 pub claims_owe : (print : Print) (asked : Asked) (statement : List ℕ)
     → OwesEnding (OverStatement statement (AnswersClaims print asked)) (λ Object Arrow s ending. SaysDecided s print asked statement ending)
 claims_owe print asked statement = owed_over statement (AnswersClaims print asked) (λ Object Arrow s ending. SaysDecided s print asked statement ending) (over_claims print asked)
-    (λ Object Arrow s laws sound with_lemmas ending answers.
+    (λ Object Arrow s laws sound with_lemmas cancelling ending answers.
     over_statement statement (AnswersClaims print asked) (PrintsMeant s print asked) ending (prints_meant laws sound with_lemmas print asked ending) answers)
 
 -- the report of a statement's claims is its own evidence
@@ -157,5 +157,5 @@ reports_meant laws sound with_lemmas asked statement ending problem is answer =
 pub reports_owe : (asked : Asked) (statement : List ℕ)
     → OwesEnding (OverStatement statement (AnswersClaims report_of asked)) (λ Object Arrow s ending. SaysReported s asked statement ending)
 reports_owe asked statement = owed_over statement (AnswersClaims report_of asked) (λ Object Arrow s ending. SaysReported s asked statement ending) (over_claims report_of asked)
-    (λ Object Arrow s laws sound with_lemmas ending answers.
+    (λ Object Arrow s laws sound with_lemmas cancelling ending answers.
     over_stated statement (AnswersClaims report_of asked) (ReportsMeant s asked) ending (reports_meant laws sound with_lemmas asked statement ending) answers)

@@ -87,5 +87,5 @@ search_owes seed statement = owed_over statement (AnswersSearch seed) (λ Object
       no_other = λ problem ending ending'. search_once seed ending ending' problem;
       own = λ problem ending answer. verdicts_status ending.status answer.verdicts (ap (λ (e : Ending). e.status) answer.says);
     })
-    (λ Object Arrow s laws sound with_lemmas ending answers.
+    (λ Object Arrow s laws sound with_lemmas cancelling ending answers.
     over_stated statement (AnswersSearch seed) (PrintsSearched seed) ending (search_meant seed statement ending) answers)

@@ -999,7 +999,7 @@ pub const STEPS: &[LimitRow] = &[
     ),
 ];
 
-const USAGE: &str = "2 # usage: opprove prove|check|refute|model|bench|confirm|explain\n";
+const USAGE: &str = "2 # usage: opprove prove|check|refute|model|bench|confirm|explain|cancel\n";
 
 /// A statement and a basis that is closed.
 pub const SOUND: Row = (

@@ -60,7 +60,7 @@ const REFUTE: &[&str] = &["refute", "s"];
 const BROKEN_BRAID: &str =
     "11 # claim 1 refuted\nmodel 1\nclaim 1\nmodulus 2\nside V 1\nmap a = 1\nmap b = 0\nend\n";
 
-const USAGE: &str = "2 # usage: opprove prove|check|refute|model|bench|confirm|explain\n";
+const USAGE: &str = "2 # usage: opprove prove|check|refute|model|bench|confirm|explain|cancel\n";
 
 const BENCH: &str =
     "10 # claim 1 proved denominator 1 rows 79\n# claim 2 not derivable rules 241\n";

@@ -54,7 +54,9 @@ const CHAIN: Part = Plain(CHAIN_TEXT);
 
 const ANSWER: &[Part] = &[BLOCK, CHAIN];
 
-const USAGE: Part = Plain("2 # usage: opprove prove|check|refute|model|bench|confirm|explain\n");
+const USAGE: Part = Plain(
+    "2 # usage: opprove prove|check|refute|model|bench|confirm|explain|cancel\n",
+);
 
 /// Rows in any order, and rows that are no steps.
 pub const STEPS: &[LimitRow] = &[

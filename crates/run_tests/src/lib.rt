@@ -6,6 +6,10 @@ mod call_tests;
 #[cfg(test)]
 mod calls;
 #[cfg(test)]
+mod cancel_rows;
+#[cfg(test)]
+mod cancel_tests;
+#[cfg(test)]
 mod confirm_rows;
 #[cfg(test)]
 mod confirm_tests;

@@ -16,8 +16,10 @@ pub enum Part {
     Falling(&'static str, u32, &'static [(&'static str, u32)], &'static str),
     /// The greatest words of 15 letters `s` and `t`, so many, with a plus sign between two.
     Words(u32),
-    /// So many rows of a certificate with 500 letters on either side, and the factor 0.
-    LongRows(u32),
+    /// So many rows of a certificate with 500 letters on either side, and the factor 0: a letter of either side with a blank.
+    LongRows(&'static str, &'static str, u32),
+    /// The items with the numbers from one to another, each of which takes the letter off the one before it.
+    Cancels(&'static str, u32, u32),
     /// The identity matrix of this side.
     Identity(u32),
     /// A last line of `#` that ends at so many bytes.
@@ -264,13 +266,25 @@ pub const LIMITS: &[LimitRow] = &[
     (
         CHECK,
         ONE,
-        &[HEAD, ROW, LongRows(1000), Plain("row 0 () 1 ()\n"), END],
+        &[
+            HEAD,
+            ROW,
+            LongRows("a ", "b ", 1000),
+            Plain("row 0 () 1 ()\n"),
+            END,
+        ],
         ACCEPTED,
     ),
     (
         CHECK,
         ONE,
-        &[HEAD, ROW, LongRows(1000), Plain("row 0 (a) 1 ()\n"), END],
+        &[
+            HEAD,
+            ROW,
+            LongRows("a ", "b ", 1000),
+            Plain("row 0 (a) 1 ()\n"),
+            END,
+        ],
         &[Plain("7 # refused K5 line 1005 limit 1000000\n")],
     ),
     // blocks

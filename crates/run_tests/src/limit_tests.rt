@@ -87,13 +87,34 @@ fn repeated(alloc: Global, piece: &str, count: u32) -> Result<String, AllocError
 }
 
 // Appends rows of a certificate with 500 letters on either side.
-fn push_long_rows(text: &mut String, count: u32) -> Result<(), AllocError> {
+fn push_long_rows(
+    text: &mut String,
+    left: &str,
+    right: &str,
+    count: u32,
+) -> Result<(), AllocError> {
     for _ in 0..count {
         text.push_str("row 0 (")?;
-        push_times(text, "a ", 500)?;
+        push_times(text, left, 500)?;
         text.push_str(") 1 (")?;
-        push_times(text, "b ", 500)?;
+        push_times(text, right, 500)?;
         text.push_str(")\n")?;
+    }
+    Ok(())
+}
+
+// Appends items that take the letter off one after another.
+fn push_cancels(
+    text: &mut String,
+    letter: &str,
+    (first, last): (u32, u32),
+) -> Result<(), AllocError> {
+    for number in first..=last {
+        writeln!(
+            text,
+            "cancel {number} {letter} left {}",
+            number.saturating_sub(1)
+        )?;
     }
     Ok(())
 }
@@ -132,7 +153,8 @@ fn push_part(alloc: Global, text: &mut String, part: &Part) -> Result<(), AllocE
             push_falling(text, before, *count, behind, sign)
         }
         Part::Words(count) => push_words(text, *count),
-        Part::LongRows(count) => push_long_rows(text, *count),
+        Part::LongRows(left, right, count) => push_long_rows(text, left, right, *count),
+        Part::Cancels(letter, first, last) => push_cancels(text, letter, (*first, *last)),
         Part::Identity(side) => push_identity(text, *side),
         Part::Padding(bytes) => pad(text, *bytes),
     }

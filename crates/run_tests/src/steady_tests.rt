@@ -21,8 +21,8 @@ type Row = (&'static [&'static str], &'static [u8], u8, u64);
 const ROWS: &[Row] = &[
     // # block 1 accepted claim 1 denominator 1
     (&["check", "s", "c"], STATEMENT, 0, 41),
-    // # usage: opprove prove|check|refute|model|bench|confirm|explain
-    (&["check", "s"], STATEMENT, 2, 64),
+    // # usage: opprove prove|check|refute|model|bench|confirm|explain|cancel
+    (&["check", "s"], STATEMENT, 2, 71),
     // # refused S15
     (&["check", "s", "c"], b"object U\n", 3, 14),
 ];

@@ -246,4 +246,4 @@ pub const CALLS: &[(&[&str], &str)] = &[
     (&["check", "s", "c", "c"], USAGE),
 ];
 
-const USAGE: &str = "2 # usage: opprove prove|check|refute|model|bench|confirm|explain\n";
+const USAGE: &str = "2 # usage: opprove prove|check|refute|model|bench|confirm|explain|cancel\n";

@@ -36,4 +36,4 @@ pub returns-in-Ok-clause-complete : goal.returns-in-Ok-clause-complete
 returns-in-Ok-clause-complete g c call contents ending is are steady _ answer = complete c.args.words.now (seen g.L.Shelf.file g.L.Shelf.faults g.K.Sink.written g.K.Sink.is_finished g.K.Sink.faults c.args.shelf.now c.ending_of.new.shelf c.args.sink.now c.put_ending.new.sink) _ _ c.in-Ok.ensures c.put_ending.ensures call contents ending is are steady answer
 
 pub returns-in-Ok-clause-meaning : goal.returns-in-Ok-clause-meaning
-returns-in-Ok-clause-meaning g c _ = meaning c.args.words.now (seen g.L.Shelf.file g.L.Shelf.faults g.K.Sink.written g.K.Sink.is_finished g.K.Sink.faults c.args.shelf.now c.ending_of.new.shelf c.args.sink.now c.put_ending.new.sink) _ _ c.in-Ok.ensures c.put_ending.ensures (g.C.Preadditive.laws c.args.category.now) c.sound.ensures.rows c.sound.ensures.lemmas
+returns-in-Ok-clause-meaning g c _ = meaning c.args.words.now (seen g.L.Shelf.file g.L.Shelf.faults g.K.Sink.written g.K.Sink.is_finished g.K.Sink.faults c.args.shelf.now c.ending_of.new.shelf c.args.sink.now c.put_ending.new.sink) _ _ c.in-Ok.ensures c.put_ending.ensures (g.C.Preadditive.laws c.args.category.now) c.sound.ensures.rows c.sound.ensures.lemmas c.cancellation_sound.ensures

@@ -19,4 +19,5 @@ returns c =
     let four = below_is app_of c.pair_command-2.result _ _ _ _ c.pair_command-2.ensures.app three c.in_ok-set-4.ensures.app in
     let five = below_is app_of c.bench_command.result _ _ _ _ c.bench_command.ensures.app four c.in_ok-set-5.ensures.app in
     let six = below_is app_of c.pair_command-3.result _ _ _ _ c.pair_command-3.ensures.app five c.in_ok-set-6.ensures.app in
-    IfOk-weaker c.with_command-7.result _ _ (λ x h. below_is app_of c.pair_command-4.result _ _ _ _ c.pair_command-4.ensures.app six h) c.with_command-7.ensures.app
+    let seven = below_is app_of c.pair_command-4.result _ _ _ _ c.pair_command-4.ensures.app six c.in_ok-set-7.ensures.app in
+    IfOk-weaker c.with_command-8.result _ _ (λ x h. below_is app_of c.pair_command-5.result _ _ _ _ c.pair_command-5.ensures.app seven h) c.with_command-8.ensures.app

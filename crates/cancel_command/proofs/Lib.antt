@@ -1,0 +1,4 @@
+mod Letters
+mod Means
+pub mod Answered
+mod Corollaries
