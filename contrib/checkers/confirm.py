@@ -3,7 +3,7 @@
 
 Prints the report of `opprove confirm`, byte for byte: whether each basis of a text is closed, which is that its rules reduce all
 generators and all S-polynomials of their ambiguities to zero, and leave of its claim the rest that it has, which isn't zero; or the
-first thing that is wrong, which ends the report. The statuses are those of the program. It is written from docs/FORMATS.md and
+first thing that is wrong, which ends the report. A closed basis is called sharp where its rules are typed and in play. The statuses are those of the program. It is written from docs/FORMATS.md and
 the rules of reduction and shares nothing with opprove. Statements are read by check.py: the faults S4 and S13, of numbers that are
 too large, are not looked at.
 """
@@ -318,6 +318,27 @@ def judge(problem: Problem, order: Order, basis: Basis, refused: str) -> None:
         raise Refusal(f"{refused} B6")
 
 
+def is_sharp(problem: Problem, basis: Basis) -> bool:
+    """Whether the words of each rule are paths of one signature, in letters that are in play."""
+    words_of_rules = [[[FIRST - ord(letter) for letter in word] for word in poly] for poly in basis.rules]
+    signatures = ({signature_of(problem, word) for word in words} for words in words_of_rules)
+    is_typed = all(len(found) == 1 and None not in found for found in signatures)
+    return is_typed and all(is_in_play(problem, letter) for words in words_of_rules for word in words for letter in word)
+
+
+def signature_of(problem: Problem, word: List[int]) -> Optional[check.Signature]:
+    """That of a path, and nothing of a word that is none."""
+    fits = all(problem.ends[one][0] == problem.ends[other][1] for one, other in zip(word, word[1:]))
+    return (problem.ends[word[-1]][0], problem.ends[word[0]][1]) if fits else None
+
+
+def is_in_play(problem: Problem, letter: int) -> bool:
+    """Whether it is an identity that the statement names, a declared map, or the adjoint of one where the statement is starred."""
+    if problem.names[letter][0] == "[":
+        return letter in problem.marked
+    return problem.is_starred or letter <= problem.stars[letter]
+
+
 def gcd_of(poly: Poly) -> int:
     content = 0
     for coefficient in poly.values():
@@ -333,7 +354,7 @@ def report(paths: List[str]) -> Iterator[str]:
     order = Order(problem)
     for block, basis in enumerate(bases, 1):
         judge(problem, order, basis, f"# block {block} refused")
-        yield f"# block {block} closed claim {basis.claim}"
+        yield f"# block {block} closed claim {basis.claim}" + (" sharp" if is_sharp(problem, basis) else "")
 
 
 def main(paths: List[str]) -> int:
