@@ -6,12 +6,9 @@ Beyond what check.py looks at come the bounds of numbers: K4 of certificates and
 """
 from __future__ import annotations
 
-import os
 import re
-import signal
-import sys
 from itertools import chain
-from typing import Dict, Iterable, List, NamedTuple, Tuple
+from typing import Dict, List, NamedTuple, Tuple
 
 from check import Blocks, Certificate, Evidence, Line, Poly, Problem, Refusal, Row, Signature, Token, Word, add, is_letter
 
@@ -21,6 +18,7 @@ CHAINS, STEPS, LETTERS_OF_STEPS = 100, 200000, 1000000
 # Of the numbers of a line of evidence that begins with the word.
 BOUNDS: Dict[str, List[int]] = {
     "claim": [NUMBERS], "denominator": [MOST], "lemma": [NUMBERS, MOST], "goal": [MOST], "row": [MOST, NUMBERS],
+    "cancel": [NUMBERS, NUMBERS],
 }  # fmt: skip
 USE = r"use (-?[0-9]+) \( ([^()]*)\) ([0-9]+) \( ([^()]*)\)"
 
@@ -198,7 +196,7 @@ class Bounded(Evidence):
     def take(self, pattern: str) -> Tuple[str, ...]:
         """Takes a line. That a number is too large is said behind what else is wrong with names and lemmas' numbers."""
         place, bounds = self.number, BOUNDS.get(self.line.split(" ")[0], [])
-        is_last = not self.line.startswith(("row ", "lemma "))
+        is_last = not self.line.startswith(("row ", "lemma ", "cancel "))
         groups = super().take(pattern)
         numbers = [int(group) for group in groups if re.fullmatch("-?[0-9]+", group or "")]
         self.is_large = any(abs(number) > most for number, most in zip(numbers, bounds))
@@ -325,26 +323,3 @@ def compare(lines: Lines, want: Poly, got: Poly, refused: str) -> None:
     different = lines.difference(want, got) if want != got else ""
     if different:
         raise Refusal(f"{refused} {different}")
-
-
-# ---- Scripts
-
-
-def end_quietly() -> None:
-    """Has an interrupt and a closed pipe end the script, with no word on it."""
-    for name in ("SIGINT", "SIGPIPE"):
-        if hasattr(signal, name):
-            signal.signal(getattr(signal, name), signal.SIG_DFL)
-
-
-def put(lines: Iterable[str]) -> bool:
-    """Writes lines to standard output, and tells whether that took them."""
-    try:
-        for line in lines:
-            sys.stdout.buffer.write(f"{line}\n".encode("utf-8", "surrogateescape"))
-        sys.stdout.buffer.flush()
-        return True
-    except (OSError, AttributeError):  # it is full, or closed
-        if sys.stdout:
-            os.dup2(os.open(os.devnull, os.O_WRONLY), 1)  # for what is flushed at the end
-        return False

@@ -7,7 +7,7 @@ wrong, with its place, which ends the report. The status is 0 where all are acce
 
 It is written from docs/FORMATS.md and shares nothing with opprove; codes and places are those of that page. It reads both
 languages of statements. Numbers and sums of rows have any size: S4, S13, K4, C4, C5, C9 and C11 are not looked at. Names
-follow this Python's version of Unicode.
+follow this Python's version of Unicode. A text that begins with a `cancellation` is checked by cancel.py, beside this file.
 """
 from __future__ import annotations
 
@@ -345,6 +345,11 @@ class Problem:
     def text(self, word: Word) -> str:
         return " ".join(self.names[letter] for letter in word)
 
+    def signature(self, word: Word) -> Optional[Signature]:
+        """The ends of a path, and nothing where a word isn't one."""
+        is_path = all(self.ends[left][0] == self.ends[right][1] for left, right in zip(word, word[1:]))
+        return (self.ends[word[-1]][0], self.ends[word[0]][1]) if is_path else None
+
     def arrows(self, left: Signature, right: Signature) -> str:
         return " left {} -> {} right {} -> {}".format(*(self.names[end][1:-1] for end in left + right))
 
@@ -421,15 +426,19 @@ class Evidence(Blocks):
         claim, denominator = self.take_number("claim"), self.take_number("denominator")
         shares: List[Share] = []
         while has_lemmas and self.line.startswith("lemma "):
-            place, (number, scale) = self.number, map(int, self.take("lemma ([0-9]+) scale ([0-9]+)"))
-            if number != len(shares) + 1:
-                raise Refusal(f"# refused K2 line {place}")
-            self.limit(place, number, 200000)
-            shares.append(Share(scale, self.rows(has_lemmas)))
+            shares.append(self.lemma(len(shares) + 1))
         scale = self.take_number("goal scale") if has_lemmas else denominator
         shares.append(Share(scale, self.rows(has_lemmas)))
         self.take("end")
         return Certificate(claim, denominator, shares)
+
+    def lemma(self, wanted: int) -> Share:
+        """A lemma with its rows, which has this number."""
+        place, (number, scale) = self.number, map(int, self.take("lemma ([0-9]+) scale ([0-9]+)"))
+        if number != wanted:
+            raise Refusal(f"# refused K2 line {place}")
+        self.limit(place, number, 200000)
+        return Share(scale, self.rows(True))
 
     def rows(self, has_lemmas: bool) -> List[Row]:
         rows = []
@@ -484,6 +493,9 @@ def main(paths: List[str]) -> int:
         if len(paths) != 2:
             raise Refusal("# usage: check.py STATEMENT EVIDENCE")
         problem = Problem(paths[0])
+        if Blocks(paths[1]).line.startswith("cancellation "):
+            import cancel, scripts  # which stand on this file
+            return 1 if scripts.main(cancel.report, "", paths) else 0
         for block, certificate in enumerate(Evidence(problem, paths[1]).certificates, 1):
             judge(problem, certificate, f"# block {block} refused")
             lines.append(f"# block {block} accepted claim {certificate.claim} denominator {certificate.denominator}")

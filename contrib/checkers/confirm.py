@@ -3,9 +3,9 @@
 
 Prints the report of `opprove confirm`, byte for byte: whether each basis of a text is closed, which is that its rules reduce all
 generators and all S-polynomials of their ambiguities to zero, and leave of its claim the rest that it has, which isn't zero; or the
-first thing that is wrong, which ends the report. A closed basis is called sharp where its rules are typed and in play. The statuses are those of the program. It is written from docs/FORMATS.md and
-the rules of reduction and shares nothing with opprove. Statements are read by check.py: the faults S4 and S13, of numbers that are
-too large, are not looked at.
+first thing that is wrong, which ends the report. A closed basis is called sharp where its rules are typed and in play. The statuses
+are those of the program. It is written from docs/FORMATS.md and the rules of reduction and shares nothing with opprove. Statements
+are read by check.py: the faults S4 and S13, of numbers that are too large, are not looked at.
 """
 from __future__ import annotations
 
@@ -16,9 +16,9 @@ from math import gcd
 from typing import DefaultDict, Dict, Iterable, Iterator, List, NamedTuple, Optional, Tuple
 
 import check
-from chain_text import MOST, NUMBERS, end_quietly, operated, put
+from chain_text import MOST, NUMBERS, operated
 from check import Blocks, Problem, Refusal, is_name
-from explain import DONE, NO_MEMORY, NO_OUTPUT, USAGE, load, status_of
+from scripts import end_quietly, load, main
 from tree import measures_of
 
 LETTERS_OF_A_WORD, TERMS, RULES, BASES, STEPS = 500, 20000, 100000, 100, 1000000
@@ -105,7 +105,7 @@ class Bases(Blocks):
             if self.line.startswith("basis "):
                 self.bases.append(self.basis())
             else:
-                self.skip("certificate|model")
+                self.skip("certificate|model|cancellation")
         if not self.bases:
             raise Refusal("# refused K7")
 
@@ -320,16 +320,10 @@ def judge(problem: Problem, order: Order, basis: Basis, refused: str) -> None:
 
 def is_sharp(problem: Problem, basis: Basis) -> bool:
     """Whether the words of each rule are paths of one signature, in letters that are in play."""
-    words_of_rules = [[[FIRST - ord(letter) for letter in word] for word in poly] for poly in basis.rules]
-    signatures = ({signature_of(problem, word) for word in words} for words in words_of_rules)
+    words_of_rules = [[tuple(FIRST - ord(letter) for letter in word) for word in poly] for poly in basis.rules]
+    signatures = [{problem.signature(word) for word in words} for words in words_of_rules]
     is_typed = all(len(found) == 1 and None not in found for found in signatures)
     return is_typed and all(is_in_play(problem, letter) for words in words_of_rules for word in words for letter in word)
-
-
-def signature_of(problem: Problem, word: List[int]) -> Optional[check.Signature]:
-    """That of a path, and nothing of a word that is none."""
-    fits = all(problem.ends[one][0] == problem.ends[other][1] for one, other in zip(word, word[1:]))
-    return (problem.ends[word[-1]][0], problem.ends[word[0]][1]) if fits else None
 
 
 def is_in_play(problem: Problem, letter: int) -> bool:
@@ -357,20 +351,6 @@ def report(paths: List[str]) -> Iterator[str]:
         yield f"# block {block} closed claim {basis.claim}" + (" sharp" if is_sharp(problem, basis) else "")
 
 
-def main(paths: List[str]) -> int:
-    """Writes the report, and gives the status."""
-    if len(paths) != 2:
-        put(["# usage: confirm.py STATEMENT BASIS"])
-        return USAGE
-    try:
-        is_put, status = put(report(paths)), DONE
-    except Refusal as refusal:
-        is_put, status = put([str(refusal)]), status_of(str(refusal))
-    except MemoryError:
-        is_put, status = put(["# no memory"]), NO_MEMORY
-    return status if is_put else NO_OUTPUT
-
-
 if __name__ == "__main__":
     end_quietly()
-    sys.exit(main(sys.argv[1:]))
+    sys.exit(main(report, "confirm.py STATEMENT BASIS", sys.argv[1:]))

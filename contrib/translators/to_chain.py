@@ -32,8 +32,9 @@ from random import Random
 from typing import Callable, Dict, Iterator, List, NamedTuple, Optional, Set, Tuple
 
 sys.path.insert(1, os.path.join(os.path.dirname(os.path.dirname(os.path.abspath(__file__))), "checkers"))
-from chain_text import ChainText, Lines, Texts, end_quietly, judge_chain, put
+from chain_text import ChainText, Lines, Texts, judge_chain
 from check import Certificate, Line, Poly, Problem, Refusal, Row, Share, Signature, Token, Word, add, judge
+from scripts import end_quietly, put
 from to_latex import letter_in_latex, lines_of
 
 # Limits of evidence text. A lemma whose rows would have longer words in its place is a chain of its own.

@@ -7,15 +7,12 @@ names such a program, it prints the same bytes; so does plain.rs, of bases that 
 """
 from __future__ import annotations
 
-import functools
 import os
 import re
-import subprocess
 import sys
-import tempfile
 from pathlib import Path
 from random import Random
-from typing import Callable, Dict, Iterator, List, NamedTuple, Optional
+from typing import Callable, Dict, Iterator, List
 
 sys.dont_write_bytecode = True
 import trying  # by which the scripts of other folders are found
@@ -23,82 +20,25 @@ import confirm
 import try_confirm_rows
 from check import Problem, Refusal
 from confirm import Bases, Order, Poly, Rules, as_texts, gcd_of, text_of
-from measuring import OPPROVE, build
-from trying import CONTRIB, Answer, Failed, Skipped, decided, need, run
+from measuring import OPPROVE
+from scripts import DONE
+from trying import Answer, Skipped, decided, need, run
+from trying_second import UNREAD_EVIDENCE, Files, Second, files_in, main
 
-TOOL = CONTRIB / "checkers" / "confirm.py"
 COUNT = 40  # random statements
 SMALL = 2**10  # bytes of a row that is changed
-# What plain.rs has no letters for.
-UNREAD_BY_PLAIN = re.compile(r"\[|'| self$|^(?:pinv|inverse|inner|projection|order|model|solve|eliminate) ", re.MULTILINE)
+# What plain.rs doesn't read.
+UNREAD = re.compile(r"\[|'| self$|^(?:pinv|inverse|inner|projection|order|model|solve|eliminate) ", re.MULTILINE)
+SECOND = Second(confirm, UNREAD, UNREAD_EVIDENCE)
 REPORT = re.compile(
     r"(# block [0-9]+ closed claim [0-9]+\n)*(# block [0-9]+ refused B[1-7].*\n|# refused (S[0-9]+|K[1-7]).*\n)?"
 )
 
 
-@functools.lru_cache(maxsize=None)
-def is_asked() -> bool:
-    """Whether a program is built that has `confirm`."""
-    return os.access(OPPROVE, os.X_OK) and "confirm" in run(OPPROVE).out
-
-
-def by_whom() -> str:
-    return "confirm.py and opprove" if is_asked() else "confirm.py alone, as no opprove with `confirm` is built"
-
-
-class Files(NamedTuple):
-    """Those that a text is written to, and plain.rs where it is built."""
-
-    folder: Path
-    plain: Optional[str]
-
-    @property
-    def statement(self) -> Path:
-        return self.folder / "confirmed.op"
-
-    @property
-    def basis(self) -> Path:
-        return self.folder / "confirmed.basis"
-
-    def write(self, statement: str, basis: str) -> None:
-        self.statement.write_bytes(statement.encode("utf-8", "surrogateescape"))
-        self.basis.write_bytes(basis.encode("utf-8", "surrogateescape"))
-
-
-@functools.lru_cache(maxsize=None)
-def files_in(folder: Path) -> Files:
-    try:
-        return Files(folder, build("plain", folder))
-    except Skipped:
-        return Files(folder, None)
-
-
 def confirmed(files: Files) -> Answer:
-    """The answer of confirm.py, with which the other programs have to agree."""
-    lines: List[str] = []
-    status = confirm.DONE
-    try:
-        for line in confirm.report([str(files.statement), str(files.basis)]):
-            lines.append(line)
-    except Refusal as refusal:
-        lines.append(str(refusal))
-        status = confirm.status_of(lines[-1])
-    answer = Answer(status, "".join(f"{line}\n" for line in lines), "")
-    texts = files.statement.read_bytes()[:3000], files.basis.read_bytes()[:3000]
-    need(REPORT.fullmatch(answer.out) is not None and (status == 0) == (" refused " not in answer.out), (texts, answer))
-    if is_asked():
-        other = run(OPPROVE, "confirm", files.statement, files.basis, seconds=600)
-        need(other == answer, (texts, answer.out[:3000], other.out[:3000], other.status, other.error))
-    if files.plain and status == confirm.DONE and is_plain(files):
-        other = run(files.plain, "confirm", files.statement, files.basis, seconds=600)
-        need(other == answer, (texts, answer.out[:3000], other.out[:3000], other.status, other.error))
+    answer = SECOND.answered(files)
+    need(REPORT.fullmatch(answer.out) is not None and (answer.status == DONE) == (" refused " not in answer.out), answer)
     return answer
-
-
-def is_plain(files: Files) -> bool:
-    """Whether plain.rs reads both files."""
-    is_read = not UNREAD_BY_PLAIN.search(files.statement.read_text("utf-8"))
-    return is_read and not re.search(rb"\[|'|^(?:model|certificate) ", files.basis.read_bytes(), re.MULTILINE)
 
 
 # ---- What is tried
@@ -121,29 +61,11 @@ def rows(folder: Path) -> str:
         files.write(row.statement, basis_of(row, files))
         answer = confirmed(files)
         need(answer == Answer(row.status, row.report, ""), (row.name, answer.out[:3000], row.report[:3000]))
-    return f"{len(found)} reports that were worked out by hand are those of {by_whom()}"
+    return f"{len(found)} reports that were worked out by hand are those of {SECOND.by_whom()}"
 
 
 def calls(folder: Path) -> str:
-    """Files that aren't there or are too long, and words that aren't taken."""
-    files = Files(folder, None)
-    files.write(try_confirm_rows.P, try_confirm_rows.GOOD)
-    programs = [[sys.executable, TOOL]] + ([[OPPROVE.resolve(), "confirm"]] if is_asked() else [])
-    with (folder / "long").open("wb") as file:
-        file.truncate(2**26 + 1)
-    for program in programs:
-        for name, line, status in try_confirm_rows.CALLS:
-            answer = run(*program, files.statement, name, folder=folder)
-            need(answer == Answer(status, line + "\n", ""), (program, name, answer))
-        paths = [files.statement, files.basis]
-        for words in (paths[:1], [*paths, files.basis], [*paths, "--workers", 2]):
-            answer = run(*program, *words)
-            need(answer.status == confirm.USAGE and re.fullmatch("# usage: .*\n", answer.out) is not None, (program, words, answer))
-    (folder / "long").unlink()
-    with open("/dev/full", "wb") as full:
-        done = subprocess.run([sys.executable, TOOL, files.statement, files.basis], stdout=full, stderr=subprocess.PIPE)
-        need((done.returncode, done.stderr) == (confirm.NO_OUTPUT, b""), done)
-    return f"{len(programs) * 5 + 1} faulty calls of confirm are told"
+    return SECOND.calls(folder, try_confirm_rows.P, try_confirm_rows.GOOD, ["--workers", 2])
 
 
 def changed(text: str, letters: List[str]) -> Iterator[str]:
@@ -177,7 +99,7 @@ def changes(folder: Path) -> str:
                 count += 1
                 closed += confirmed(files).status == 0
     need(count >= 500 and closed >= 50, (count, closed))
-    return f"{count} changed bases, {closed} of which are closed, are answered by {by_whom()}"
+    return f"{count} changed bases, {closed} of which are closed, are answered by {SECOND.by_whom()}"
 
 
 def reports(folder: Path) -> str:
@@ -199,7 +121,7 @@ def reports(folder: Path) -> str:
             count += 1
             confirmed(files)
     need(bases >= 1, "no example has a basis")
-    return f"{bases} bases of the examples are confirmed, and {count} changed ones answered, by {by_whom()}"
+    return f"{bases} bases of the examples are confirmed, and {count} changed ones answered, by {SECOND.by_whom()}"
 
 
 # ---- Random statements
@@ -273,7 +195,7 @@ def random_bases(folder: Path, count: int = COUNT) -> str:
                 found[told] = found.get(told, 0) + 1
     need({"closed", "B3", "B4"} <= found.keys(), found)
     told = ", ".join(f"{number} {what}" for what, number in sorted(found.items()))
-    return f"bases of random statements ({told}) are answered by {by_whom()}"
+    return f"bases of random statements ({told}) are answered by {SECOND.by_whom()}"
 
 
 def read_back(folder: Path) -> str:
@@ -286,7 +208,7 @@ def read_back(folder: Path) -> str:
         words = {"".join(random.choice(letters) for _ in range(random.randrange(1, 5))) for _ in range(random.randrange(6))}
         poly = {word: random.choice([1, -1, 2, -7, 2**127 - 1]) for word in words}
         files.write(try_confirm_rows.L, f"basis 1\nclaim 1\nrest {text_of(problem, poly)}\nend\n")
-        (basis,) = Bases(problem, str(files.basis)).bases
+        (basis,) = Bases(problem, str(files.evidence)).bases
         need(basis.rest == poly, (poly, basis))
         count += 1
     return f"{count} polynomials that are written are read back"
@@ -295,18 +217,5 @@ def read_back(folder: Path) -> str:
 CHECKS: List[Callable[[Path], str]] = [rows, calls, changes, reports, random_bases, read_back]
 
 
-def main() -> int:
-    with tempfile.TemporaryDirectory() as name:
-        for check in CHECKS:
-            try:
-                print(check(Path(name)), flush=True)
-            except Skipped as what:
-                print(f"skipped, {what}", flush=True)
-            except Failed as what:
-                print(f"failed, {what}", flush=True)
-                return 1
-    return 0
-
-
 if __name__ == "__main__":
-    sys.exit(main())
+    sys.exit(main(CHECKS))

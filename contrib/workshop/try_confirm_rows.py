@@ -269,7 +269,3 @@ def rows_of_reports() -> List[Run]:
 
 def runs() -> List[Run]:
     return rows_of_lines() + rows_of_texts() + rows_of_limits() + rows_of_judgements() + rows_of_reports()
-
-
-# What stands in the place of the second file, the line, and the status.
-CALLS = [("missing", "# load failed missing", 4), ("long", f"# too long long limit {2**26}", 4)]

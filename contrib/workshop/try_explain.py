@@ -9,15 +9,12 @@ where rustc is.
 """
 from __future__ import annotations
 
-import functools
 import os
 import re
-import subprocess
 import sys
-import tempfile
 from pathlib import Path
 from random import Random
-from typing import Callable, Iterator, List, NamedTuple, Optional, Tuple
+from typing import Callable, Iterator, List, Tuple
 
 sys.dont_write_bytecode = True
 import trying  # by which the scripts of other folders are found
@@ -27,79 +24,16 @@ import to_chain
 import try_chains
 from check import Certificate, Evidence, Poly, Problem, Refusal, Share, add, judge
 from chain_text import Texts
+from scripts import DONE, FAULTY, REFUSED
+from measuring import OPPROVE
 from try_explain_rows import Run
-from measuring import OPPROVE, build
-from trying import CONTRIB, EXAMPLES, Answer, Failed, Skipped, installed, need, run
+from trying import CONTRIB, EXAMPLES, Answer, Skipped, installed, need, run
+from trying_second import UNREAD, Files, Second, files_in, main
 
-TOOL = CONTRIB / "checkers" / "explain.py"
 COUNT = 60  # random certificates
 LARGE = 2**16  # bytes of a report that isn't read as a chain
-# What plain.rs has no letters for.
-UNREAD_BY_PLAIN = re.compile(r"\[|'| self$|^(?:pinv|inverse|inner|projection|order|model|solve) ", re.MULTILINE)
-
-
-@functools.lru_cache(maxsize=None)
-def is_asked() -> bool:
-    """Whether a program is built that has `explain`."""
-    return os.access(OPPROVE, os.X_OK) and "explain" in run(OPPROVE).out
-
-
-def by_whom() -> str:
-    return "explain.py and opprove" if is_asked() else "explain.py alone, as no opprove with `explain` is built"
-
-
-class Files(NamedTuple):
-    """Those that a text is written to, and plain.rs where it is built."""
-
-    folder: Path
-    plain: Optional[str]
-
-    @property
-    def statement(self) -> Path:
-        return self.folder / "explained.op"
-
-    @property
-    def evidence(self) -> Path:
-        return self.folder / "explained.cert"
-
-    def write(self, statement: str, evidence: str) -> None:
-        self.statement.write_bytes(statement.encode())
-        self.evidence.write_bytes(evidence.encode())
-
-
-@functools.lru_cache(maxsize=None)
-def files_in(folder: Path) -> Files:
-    try:
-        return Files(folder, build("plain", folder))
-    except Skipped:
-        return Files(folder, None)
-
-
-def explained(files: Files) -> Answer:
-    """The answer of explain.py, with which the other programs have to agree."""
-    lines: List[str] = []
-    status = explain.DONE
-    try:
-        for line in explain.report([str(files.statement), str(files.evidence)]):
-            lines.append(line)
-    except Refusal as refusal:
-        lines.append(str(refusal))
-        status = explain.status_of(lines[-1])
-    answer = Answer(status, "".join(f"{line}\n" for line in lines), "")
-    texts = files.statement.read_text("utf-8"), files.evidence.read_bytes()[:3000]
-    if is_asked():
-        other = run(OPPROVE, "explain", files.statement, files.evidence, seconds=600)
-        need(other == answer, (texts, answer.out[:3000], other.out[:3000], other.status, other.error))
-    if files.plain and status == explain.DONE and is_plain(files):
-        other = run(files.plain, "explain", files.statement, files.evidence)
-        need(other == answer, (texts, answer.out[:3000], other.out[:3000], other.status, other.error))
-    return answer
-
-
-def is_plain(files: Files) -> bool:
-    """Whether plain.rs reads both files."""
-    is_read = not UNREAD_BY_PLAIN.search(files.statement.read_text("utf-8"))
-    return is_read and not re.search(rb"\[|'|^(?:model|basis) ", files.evidence.read_bytes(), re.MULTILINE)
+SECOND = Second(explain, UNREAD, re.compile(rb"\[|'|^(?:model|basis) ", re.MULTILINE))
+explained, by_whom = SECOND.answered, SECOND.by_whom
 
 
 # ---- Chains that are read
@@ -168,7 +102,7 @@ def tried(files: Files) -> int:
 
 def evidence_of(row: Run, files: Files) -> str:
     """That of a row: where opprove is there, the report of its own run."""
-    if not row.prove_format or not is_asked():
+    if not row.prove_format or not SECOND.is_asked():
         return row.evidence
     return run(OPPROVE, "prove", files.statement, "--format", row.prove_format).out
 
@@ -180,7 +114,7 @@ def rows(folder: Path) -> str:
         files.write(row.statement, row.evidence)
         files.evidence.write_bytes(evidence_of(row, files).encode())
         answer = explained(files)
-        want = explain.FAULTY if row.report.startswith("# refused S") else 7 if " refused " in row.report[-200:] else 0
+        want = FAULTY if row.report.startswith("# refused S") else REFUSED if " refused " in row.report[-200:] else DONE
         need(answer == Answer(want, row.report, ""), (row.name, answer.out[:3000], row.report[:3000]))
         if want == 0 and len(row.report) < LARGE:
             chains += told(files, row.report)
@@ -188,26 +122,7 @@ def rows(folder: Path) -> str:
 
 
 def calls(folder: Path) -> str:
-    """Files that aren't there or are too long, and words that aren't taken."""
-    files = Files(folder, None)
-    files.write(try_explain_rows.PAIR, "")
-    programs = [[sys.executable, TOOL]] + ([[OPPROVE.resolve(), "explain"]] if is_asked() else [])
-    with (folder / "long").open("wb") as file:
-        file.truncate(2**26 + 1)
-    for program in programs:
-        for name, line in (("missing", "# load failed missing\n"), ("long", f"# too long long limit {2**26}\n")):
-            answer = run(*program, files.statement, name, folder=folder)
-            need(answer == Answer(explain.NOT_LOADED, line, ""), (program, name, answer))
-        paths = [files.statement, files.evidence]
-        for words in (paths[:1], [*paths, files.evidence], [*paths, "--format", 1]):
-            answer = run(*program, *words)
-            need(answer.status == explain.USAGE and re.fullmatch("# usage: .*\n", answer.out) is not None, (program, words, answer))
-    (folder / "long").unlink()
-    with open("/dev/full", "wb") as full:
-        files.evidence.write_text(try_explain_rows.block(try_explain_rows.FIVE))
-        done = subprocess.run([sys.executable, TOOL, files.statement, files.evidence], stdout=full, stderr=subprocess.PIPE)
-        need((done.returncode, done.stderr) == (explain.NO_OUTPUT, b""), done)
-    return f"{len(programs) * 5 + 1} faulty calls of explain are told"
+    return SECOND.calls(folder, try_explain_rows.PAIR, try_explain_rows.block(try_explain_rows.FIVE), ["--format", 1])
 
 
 FIRST_TEXT = """Claim 1: f = g
@@ -464,18 +379,5 @@ def latex(folder: Path) -> str:
 CHECKS: List[Callable[[Path], str]] = [rows, calls, texts, faults, examples, proofs, random_certificates, latex]
 
 
-def main() -> int:
-    with tempfile.TemporaryDirectory() as name:
-        for check in CHECKS:
-            try:
-                print(check(Path(name)), flush=True)
-            except Skipped as what:
-                print(f"skipped, {what}", flush=True)
-            except Failed as what:
-                print(f"failed, {what}", flush=True)
-                return 1
-    return 0
-
-
 if __name__ == "__main__":
-    sys.exit(main())
+    sys.exit(main(CHECKS))
