@@ -3,7 +3,7 @@
 set -uo pipefail
 page=${BASH_SOURCE[0]%/*}/../../docs/COMMANDS.md
 if [ $# -gt 1 ] || { [ $# = 1 ] && ! grep -qs "^## \`$1[ \`]" "$page"; }; then
-  echo "opprove: there is help on prove, check, refute, model, bench, confirm and explain: ./opprove help COMMAND" >&2
+  echo "opprove: there is help on prove, check, refute, model, bench, confirm, explain and cancel: ./opprove help COMMAND" >&2
   exit 2
 fi
 width=$( { [ -t 1 ] && tput cols; } 2>/dev/null || echo 100)

@@ -235,11 +235,12 @@ def editor(words: List[str]) -> int:
 
 
 def reader_of(evidence: str) -> str:
-    """The command that reads it: model where it has models and no certificate, and confirm where it has bases alone."""
+    """The command that reads it: cancel where it has proofs that cancel, model where it has models and no certificate, and confirm where it
+    has bases alone."""
     data = content(evidence)
-    kinds = (b"certificate", b"model", b"basis")
+    kinds = (b"certificate", b"model", b"basis", b"cancellation")
     has = [re.search(rb"^[ \t]*%s[ \t]" % kind, data, re.MULTILINE) is not None for kind in kinds]
-    return "check" if has[0] or not any(has) else "model" if has[1] else "confirm"
+    return "cancel" if has[3] else "check" if has[0] or not any(has) else "model" if has[1] else "confirm"
 
 
 def ended(status: int) -> int:

@@ -28,6 +28,7 @@ COMMANDS: Dict[str, Command] = {
     "bench": Command(("N",), ("--workers",)),
     "confirm": Command(("STATEMENT", "BASIS")),
     "explain": Command(("STATEMENT", "CERTIFICATE")),
+    "cancel": Command(("STATEMENT", "PROOF")),
 }
 
 

@@ -1,25 +1,31 @@
-"""What why.py tells of evidence that is refused: a function for each code, K1 to K7, C1 to C11, E1 to E4, M1 to M6 and B1 to B7, in
-one table."""
+"""What why.py tells of evidence that is refused: a function for each code, K1 to K7, C1 to C11, E1 to E4, M1 to M6, B1 to B7
+and X1 to X4, in one table."""
 from __future__ import annotations
 
 import functools
 import re
 from typing import Callable, Dict, Iterator, List, NamedTuple, Optional, Tuple
 
+import cancel
 import check_model
 import confirm
+from chain_text import Lines
 from check import Evidence, Poly, Problem, Refusal, add, is_name
 from why_parts import LIMIT_OF_NUMBERS, Quote, Told, article, counted, did_you_mean, few, listed, short
 from why_statement import Statement
 
 OTHER_ORDER = "contrib/translators/to_chain.py finds an order of rows in which the sums stay short"
 LARGE = 400000  # bytes: sums of larger evidence are not made again
+ITEMS = ("lemma", "cancel")  # the words that items of a block begin with
 ROW, LEMMA_ROW = "`row C (LETTERS) G (LETTERS)`", "`row C (LETTERS) lemma K (LETTERS)`"
 
 
 # The blocks that a command reads, and those that are skipped then.
-READS = {"check": "certificate", "explain": "certificate", "model": "model", "confirm": "basis"}
-OTHERS = {"certificate": ("model", "basis"), "model": ("certificate", "basis"), "basis": ("certificate", "model")}
+READS = {"check": "certificate", "explain": "certificate", "model": "model", "confirm": "basis", "cancel": "cancellation"}
+OTHERS = {
+    "certificate": ("model", "basis"), "model": ("certificate", "basis"), "basis": ("certificate", "model", "cancellation"),
+    "cancellation": ("certificate", "model", "basis"),
+}  # fmt: skip
 
 
 class Entry(NamedTuple):
@@ -53,9 +59,9 @@ class Text:
                 continue
             if not begins:
                 begins, is_skipped, lemmas, is_goal = line, words[0] in others, 0, False
-                blocks, is_second = blocks + (not is_skipped), words[1:] == ["2"]
+                blocks, is_second = blocks + (not is_skipped), words[1:] == ["2"] or self.kind == "cancellation"
             yield Entry(line, words, 0 if is_skipped else blocks, begins, () if is_skipped else may)
-            lemmas, is_goal = lemmas + (words[0] == "lemma"), is_goal or words[0] == "goal"
+            lemmas, is_goal = lemmas + (words[0] in ITEMS), is_goal or words[0] == "goal"
             begins = 0 if words[0] == "end" else begins
             may = self.after(words[0], is_second, is_goal, lemmas)
 
@@ -69,9 +75,12 @@ class Text:
         if self.kind == "basis":
             within = ("`rule POLYNOMIAL`", "`rest POLYNOMIAL`")
             return {"basis": ("`claim N`",), "rest": ("`end`",), "end": self.first()}.get(word, within)
-        more = ("`end`",) if is_goal or not is_second else (f"`lemma {lemmas + 1} scale S`", "`goal scale S`")
-        rows = () if word == "denominator" and is_second else (ROW, LEMMA_ROW) if is_second else (ROW,)
-        return {"certificate": ("`claim N`",), "claim": ("`denominator D`",), "end": self.first()}.get(word, rows + more)
+        is_cancelled = self.kind == "cancellation"
+        cancels = tuple(f"`cancel {lemmas + 1} LETTER {side} J`" for side in ("left", "right") if is_cancelled)
+        more = ("`end`",) if is_goal or not is_second else (f"`lemma {lemmas + 1} scale S`", *cancels, "`goal scale S`")
+        declared = ("`monic LETTER`", "`epic LETTER`") if is_cancelled and word in ("denominator", "monic", "epic") else ()
+        rows = declared if word in ("denominator", "monic", "epic", "cancel") and is_second else (ROW, LEMMA_ROW) if is_second else (ROW,)
+        return {self.kind: ("`claim N`",), "claim": ("`denominator D`",), "end": self.first()}.get(word, rows + more)
 
     def quote(self, line: int, place: int = -1) -> Optional[Quote]:
         """The line, with a caret under the token at this place where there is one."""
@@ -84,6 +93,10 @@ class Text:
     def of_block(self, block: int, word: str = "") -> List[Entry]:
         """The lines of a block, or those of them that begin with a word."""
         return [entry for entry in self.entries if entry.block == block and (not word or entry.words[0] == word)]
+
+    def items_of(self, block: int) -> List[Entry]:
+        """The lines of its lemmas and, where letters are taken off, of these items."""
+        return [entry for entry in self.of_block(block) if entry.words[0] in ITEMS]
 
 
 class Fault(NamedTuple):
@@ -113,7 +126,7 @@ class Fault(NamedTuple):
 
     def scale(self, lemma: int) -> Entry:
         """The line of a lemma, or that of the goal for 0."""
-        return self.text.of_block(self.block, "lemma")[lemma - 1] if lemma else self.text.of_block(self.block, "goal")[0]
+        return self.text.items_of(self.block)[lemma - 1] if lemma else self.text.of_block(self.block, "goal")[0]
 
     def told(self, sentence: str, entry: Entry, place: int = -1, more: Tuple[str, ...] = ()) -> Told:
         return Told(sentence, self.text.quote(entry.line, place), more)
@@ -155,6 +168,8 @@ def detail(fault: Fault, entry: Entry) -> Tuple[int, str]:
                 return place, f": `{short(words[place], 30)}` is no letter, which is a name, [NAME], or one of them with ' behind it"
     if words[0] in ("rule", "rest"):
         return polynomial_detail(fault, words)
+    if words[0] in ("monic", "epic", "cancel"):
+        return letter_detail(fault, entry)
     if words[0] in ("side", "map"):
         earlier = [it.line for it in fault.text.of_block(entry.block) if it.words[:2] == words[:2] and it.line < entry.line]
         if earlier:
@@ -167,6 +182,22 @@ def detail(fault: Fault, entry: Entry) -> Tuple[int, str]:
     if words[0] == "side" and words[2:] == ["0"]:
         return 2, ": a side is 1 at least"
     return -1, ""
+
+
+def letter_detail(fault: Fault, entry: Entry) -> Tuple[int, str]:
+    """A letter that isn't one of a map, or that has such a line already."""
+    words, place = entry.words, letter_place(entry.words)
+    if len(words) > place and (words[place][0] == "[" or not is_letter(words[place])):
+        return place, f": `{short(words[place], 30)}` is no map or adjoint, which is a name, or one with ' behind it"
+    numbers = fault.problem().numbers if words[0] != "cancel" else {}
+    letter = numbers.get(words[place]) if len(words) == 2 else None
+    earlier = [it.line for it in fault.text.of_block(entry.block, words[0]) if it.line < entry.line and numbers.get(it.words[-1]) == letter]
+    return (1, f": '{words[1]}' has a line `{words[0]}` already, line {earlier[0]}") if letter is not None and earlier else (-1, "")
+
+
+def letter_place(words: List[str]) -> int:
+    """Where the letter stands in a line on one alone."""
+    return 2 if words[0] == "cancel" else 1
 
 
 def polynomial_detail(fault: Fault, words: List[str]) -> Tuple[int, str]:
@@ -217,7 +248,7 @@ def is_letter(text: str) -> bool:
 
 def undeclared(fault: Fault) -> Told:
     entry, declared = fault.entry(), fault.statement.declared
-    for place in letters_of(entry.words) if entry.words[0] in ("row", "rule", "rest") else [1]:
+    for place in letters_of(entry.words) if entry.words[0] in ("row", "rule", "rest") else [letter_place(entry.words)]:
         letter = entry.words[place]
         kind = "object" if letter[0] == "[" or entry.words[0] == "side" else "map"
         name = letter.rstrip("'").strip("[]")
@@ -264,7 +295,8 @@ def limit(fault: Fault) -> Told:
         return fault.told("sides, and the rows and columns of a matrix, are at most 64", entry)
     if most == 100:
         return fault.told(f"a text has at most 100 {fault.nouns()}, and here begins the 101st", entry)
-    what = "letters in the words of its rows" if most == 1000000 else "lemmas" if entry.words[0] == "lemma" else "rows"
+    counted_items = "items" if fault.text.kind == "cancellation" else "lemmas"
+    what = "letters in the words of its rows" if most == 1000000 else counted_items if entry.words[0] in ITEMS else "rows"
     return fault.told(f"a block has at most {most:,} {what}, and with this line it has more", entry)
 
 
@@ -285,7 +317,7 @@ def unended(fault: Fault) -> Told:
 
 def none_there(fault: Fault) -> Told:
     kinds = [entry.words[0] for entry in fault.text.entries if entry.line == entry.begins]
-    found = [counted(kinds.count(kind), f"`{kind}` block") for kind in ("certificate", "model", "basis") if kind in kinds]
+    found = [counted(kinds.count(kind), f"`{kind}` block") for kind in (*OTHERS,) if kind in kinds]
     other = next((command for command, kind in READS.items() if kinds[:1] == [kind] and kind != fault.noun()), "")
     more = f", which `./opprove {other}` reads" if other else ""
     size = "it is empty" if not fault.text.data.strip() else "it has no block"
@@ -377,6 +409,17 @@ def both_sums(fault: Fault, word: str, times: str) -> Tuple[str, ...]:
     if len(fault.text.data) > LARGE:
         return ()
     problem = fault.problem()
+    if fault.text.kind == "cancellation":
+        proof = proof_of(fault)
+        goal, total = proof.items[-1], sums_of(fault).sum(proof.items[-1])
+        want = add({}, goal.scale, problem.claims[proof.claim - 1])
+    else:
+        total, want = sums_of_certificate(problem, fault)
+    least = letters(problem, word)
+    return f"  {'the rows:'.ljust(len(times) + 1)} {shown(problem, total, least)}", f"  {times}: {shown(problem, want, least)}"
+
+
+def sums_of_certificate(problem: Problem, fault: Fault) -> Tuple[Poly, Poly]:
     certificate = Evidence(problem, fault.text.path).certificates[fault.block - 1]
     generators, lemmas = problem.generators(), []
     for share in certificate.shares:
@@ -384,15 +427,13 @@ def both_sums(fault: Fault, word: str, times: str) -> Tuple[str, ...]:
         for row in share.rows:
             add(total, row.coefficient, (lemmas if row.is_lemma else generators)[row.number - 1], row.left, row.right)
         lemmas.append({it: total[it] // share.scale for it in total})
-    want = add({}, certificate.shares[-1].scale, problem.claims[certificate.claim - 1])
-    least = letters(problem, word)
-    return f"  {'the rows:'.ljust(len(times) + 1)} {shown(problem, total, least)}", f"  {times}: {shown(problem, want, least)}"
+    return total, add({}, certificate.shares[-1].scale, problem.claims[certificate.claim - 1])
 
 
 def lemma_number(fault: Fault) -> Told:
     row = fault.row()
     place = row.words.index("lemma") + 1
-    before = sum(it.line < row.line for it in fault.text.of_block(fault.block, "lemma"))
+    before = sum(it.line < row.line for it in fault.text.items_of(fault.block))
     in_goal = any(it.line < row.line for it in fault.text.of_block(fault.block, "goal"))
     earlier = before if in_goal else before - 1
     there = {0: "there is no lemma before it", 1: "the only lemma before it is 1"}.get(earlier, f"the lemmas before it are 1 to {earlier}")
@@ -589,6 +630,59 @@ def basis_stops(fault: Fault) -> Told:
     return fault.told(f"{told}; so it isn't known whether the basis is closed", fault.text.of_block(fault.block)[0])
 
 
+# ---- X1 to X4: letters that are taken off
+
+
+def proof_of(fault: Fault) -> cancel.Cancellation:
+    return cancel.Cancellations(fault.problem(), fault.text.path).proofs[fault.block - 1]
+
+
+def sums_of(fault: Fault, count: int = 0) -> cancel.Items:
+    """The polynomials of so many items of a proof; without a number of all but the goal."""
+    proof = proof_of(fault)
+    items = cancel.Items(Lines(fault.problem()), proof, "")
+    for item in proof.items[: count or len(proof.items) - 1]:
+        items.add(item)
+    return items
+
+
+def item_entry(fault: Fault) -> Entry:
+    return fault.text.items_of(fault.block)[fault.number("item") - 1]
+
+
+def no_item(fault: Fault) -> Told:
+    entry, number = item_entry(fault), fault.number("item")
+    there = "there is no item before it" if number == 1 else "the only item before it is 1" if number == 2 else f"those before it are 1 to {number - 1}"
+    return fault.told(f"item {number} takes a letter off item {entry.words[-1]}, and {there}", entry, len(entry.words) - 1)
+
+
+def not_declared(fault: Fault) -> Told:
+    entry = item_entry(fault)
+    letter, (where, word, other) = entry.words[2], (("in front", "monic", "epic") if entry.words[3] == "left" else ("behind", "epic", "monic"))
+    numbers = fault.problem().numbers
+    has_other = any(numbers.get(it.words[1]) == numbers[letter] for it in fault.text.of_block(fault.block, other))
+    more = f"; `{other}` says it of the other side" if has_other else ""
+    return fault.told(f"{letter} is taken off {where}, and the proof has no line `{word} {letter}`{more}", entry, 2)
+
+
+def not_typed(fault: Fault) -> Told:
+    entry, problem = item_entry(fault), fault.problem()
+    poly = sums_of(fault, fault.number("item") - 1).polys[int(entry.words[-1]) - 1]
+    told = f"item {entry.words[-1]} isn't typed: its words aren't all maps with the same ends, so nothing is taken off it"
+    return fault.told(told, entry, len(entry.words) - 1, more=(f"  item {entry.words[-1]}: {shown(problem, poly)}",))
+
+
+def not_stripped(fault: Fault) -> Told:
+    entry, problem = item_entry(fault), fault.problem()
+    letter, is_left = entry.words[2], entry.words[3] == "left"
+    poly = sums_of(fault, fault.number("item") - 1).polys[int(entry.words[-1]) - 1]
+    end, number = 0 if is_left else -1, problem.numbers[letter]
+    word = max((word for word in poly if len(word) == 1 or word[end] != number), key=lambda word: (len(word), word))
+    what = f"is {letter} alone" if word == (number,) else f"doesn't {'begin' if is_left else 'end'} with {letter}"
+    more = (f"  item {entry.words[-1]}: {shown(problem, poly, word)}",)
+    return fault.told(f"the word {short(problem.text(word), 50)} of item {entry.words[-1]} {what}", entry, 2, more)
+
+
 # ---- The table
 
 RULES = {  # the rule alone, for where no more can be told
@@ -627,6 +721,10 @@ RULES = {  # the rule alone, for where no more can be told
     "B5": "the rules leave another rest of the claim",
     "B6": "the rules reduce the claim to zero",
     "B7": "a reduction stops at a limit",
+    "X1": "a letter is taken off what is no earlier item",
+    "X2": "a letter is taken off in front that has no line `monic`, or behind that has no line `epic`",
+    "X3": "a letter is taken off an item whose words aren't all maps with the same ends",
+    "X4": "a word doesn't begin or end with the letter that is taken off, or is that letter alone",
 }
 SENTENCES: Dict[str, Callable[[Fault], Told]] = {
     "K1": utf8, "K2": grammar, "K3": undeclared, "K4": bound, "K5": limit, "K6": unended, "K7": none_there,
@@ -635,6 +733,7 @@ SENTENCES: Dict[str, Callable[[Fault], Told]] = {
     "E1": has_lemmas, "E2": chain_overflow, "E3": chain_size, "E4": chain_letters,
     "M1": claim_number, "M2": no_matrix, "M3": wrong_shape, "M4": broken_assumption, "M5": unbroken_claim, "M6": unequal_transpose,
     "B1": claim_number, "B2": bad_rule, "B3": generator_stays, "B4": ambiguity_stays, "B5": rest_differs, "B6": zero_rest, "B7": basis_stops,
+    "X1": no_item, "X2": not_declared, "X3": not_typed, "X4": not_stripped,
 }  # fmt: skip
 LINE = re.compile(r"# (?:block (?P<block>[0-9]+) )?refused (?P<code>[A-Z][0-9]+)(?: line (?P<line>[0-9]+))?(?P<rest>.*)")
 

@@ -303,9 +303,11 @@ def told_of(asked: Asked, report: str, briefly: bool = False) -> List[Told]:
 
 def told_of_blocks(text: Text, report: str) -> List[Told]:
     """What the lines on accepted, explained, confirmed and closed blocks say."""
-    accepted = re.findall("^# block ([0-9]+) accepted claim ([0-9]+) denominator ([0-9]+)$", report, re.MULTILINE)
+    accepted = re.findall("^# block ([0-9]+) accepted claim ([0-9]+) denominator ([0-9]+)(?: (?:monic|epic) .*)?$", report, re.MULTILINE)
     explained = re.findall("^# block ([0-9]+) explained claim ([0-9]+) denominator ([0-9]+) steps [0-9]+$", report, re.MULTILINE)
     confirmed = re.findall("^# block ([0-9]+) confirmed claim ([0-9]+)$", report, re.MULTILINE)
+    if accepted and text.kind == "cancellation":
+        return [told_of_cancelled(accepted)]
     if accepted:
         scales = sorted({int(it[2]) for it in accepted if it[2] != "1"})
         where = f"it is zero wherever the generators are{' and its denominator cancels' if scales else ''}"
@@ -319,12 +321,21 @@ def told_of_blocks(text: Text, report: str) -> List[Told]:
     if confirmed:
         told = f"{counted(len(confirmed), 'model')} {is_are(len(confirmed))} confirmed, of {claims([it[1] for it in confirmed])}"
         return [Told(f"{told}: the matrices make all assumptions zero, and the claim not")]
-    closed = re.findall("^# block ([0-9]+) closed claim ([0-9]+)$", report, re.MULTILINE)
+    closed = re.findall("^# block ([0-9]+) closed claim ([0-9]+)(?: sharp)?$", report, re.MULTILINE)
     if closed:
         bases = f"{len(closed):,} {'basis is' if len(closed) == 1 else 'bases are'} closed, of {claims([it[1] for it in closed])}"
         told = f"{bases}: no positive multiple of it is a sum of rows over the generators, whatever their words"
         return [Told(told, None, ("This says nothing of matrices of finite size, nor of star representations.",))]
     return []
+
+
+def told_of_cancelled(accepted: List[Tuple[str, str, str]]) -> Told:
+    """What the lines on accepted proofs say that take letters off."""
+    scales = sorted({int(it[2]) for it in accepted if it[2] != "1"})
+    where = f"it is zero wherever the generators are{', its denominator cancels' if scales else ''} and the maps are monic and epic that its line names so"
+    told = f"{counted(len(accepted), 'proof')} {is_are(len(accepted))} accepted, of {claims([it[1] for it in accepted])}: each adds up to its claim, so {where}"
+    meaning = "A map m is monic where m n = 0 holds for n = 0 only, and epic where n m = 0 does."
+    return Told(told, None, (meaning, *denominators(scales)))
 
 
 def denominators(scales: List[int]) -> Tuple[str, ...]:

@@ -26,7 +26,7 @@ case "$1" in
   s.op | prove) printf '# refused S6 line 3 column 7\\n' 2>/dev/null || exit 5; exit 3 ;;
   proved) echo '# claim 1 proved denominator 1 rows 1' || exit 5; exit 0 ;;
   slow) exec sleep 20 ;;
-  *) echo '# usage: opprove prove|check|refute|model|bench|confirm|explain' || exit 5; exit 2 ;;
+  *) echo '# usage: opprove prove|check|refute|model|bench|confirm|explain|cancel' || exit 5; exit 2 ;;
 esac
 """
 # Each crate has ten functions, and those that are proved stand in its folder. A crate named in `spoilt` fails with the text there.
@@ -209,7 +209,7 @@ def help_of(folder: Path) -> str:
     with checkout_in(folder) as checkout:
         seen = redirected(checkout, "help")
         need(seen.status == 0 and not seen.terminal and len(seen.out.split("\n")) < 24, seen)
-        for name in ("prove", "check", "refute", "model", "bench", "confirm", "explain"):
+        for name in ("prove", "check", "refute", "model", "bench", "confirm", "explain", "cancel"):
             need(f"\n  {name} " in seen.out, (name, seen))
             one = redirected(checkout, "help", name)
             need(one.status == 0 and one.out.startswith(f"./opprove {name} ") and "`" not in one.out, one)

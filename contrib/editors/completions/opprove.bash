@@ -20,7 +20,7 @@ _opprove() {
   local current=${COMP_WORDS[COMP_CWORD]} previous=${COMP_WORDS[COMP_CWORD - 1]}
   COMPREPLY=()
   if ((COMP_CWORD == 1)); then
-    _opprove_words "prove check refute model bench confirm explain" "$current"
+    _opprove_words "prove check refute model bench confirm explain cancel" "$current"
     return
   fi
   case ${COMP_WORDS[1]} in
@@ -37,7 +37,7 @@ _opprove() {
           ;;
       esac
       ;;
-    check)
+    check | cancel)
       case $COMP_CWORD in
         2) _opprove_files op "$current" ;;
         3) _opprove_files cert "$current" ;;

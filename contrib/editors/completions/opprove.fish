@@ -8,8 +8,9 @@ complete -c opprove -n __fish_use_subcommand -a model -d 'Say of models whether 
 complete -c opprove -n __fish_use_subcommand -a bench -d 'Decide a statement that the program makes'
 complete -c opprove -n __fish_use_subcommand -a confirm -d 'Say of bases whether they are closed'
 complete -c opprove -n __fish_use_subcommand -a explain -d 'Print certificates as chains of equations'
-complete -c opprove -n '__fish_seen_subcommand_from prove check refute' -a '(__fish_complete_suffix .op)'
-complete -c opprove -n '__fish_seen_subcommand_from check' -a '(__fish_complete_suffix .cert)'
+complete -c opprove -n __fish_use_subcommand -a cancel -d 'Check proofs that cancel monic and epic maps'
+complete -c opprove -n '__fish_seen_subcommand_from prove check refute cancel' -a '(__fish_complete_suffix .op)'
+complete -c opprove -n '__fish_seen_subcommand_from check cancel' -a '(__fish_complete_suffix .cert)'
 complete -c opprove -n '__fish_seen_subcommand_from model confirm explain' -F
 complete -c opprove -n '__fish_seen_subcommand_from prove' -l pairs -x -d 'Overlaps and inclusions that are treated, 1 to 1000000'
 complete -c opprove -n '__fish_seen_subcommand_from prove' -l steps -x -d 'Steps that a reduction makes, 1 to 1000000'
