@@ -154,6 +154,8 @@ def grammar(fault: Fault) -> Told:
     forms = [form for form in entry.may if form.strip("`").split()[0] == entry.words[0]]
     if not forms:
         skipped = "; blocks of other kinds are skipped" if entry.begins == entry.line else ""
+        if entry.begins == entry.line and entry.words[0] == "cancellation":
+            skipped = "; `./opprove cancel` reads proofs of this kind"
         return fault.told(f"here may stand {listed(entry.may, 'or')}, and not this line{skipped}", entry)
     place, more = detail(fault, entry)
     return fault.told(f"this line has not the form {listed(forms, 'or')}{more}", entry, place)

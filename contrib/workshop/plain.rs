@@ -2,12 +2,14 @@
 //!
 //! `plain STATEMENT` multiplies out and prints how many terms each claim has; `plain STATEMENT EVIDENCE` adds up the
 //! certificates of both formats, over statements without adjoints, and says of each whether it gives its claim;
-//! `plain explain STATEMENT EVIDENCE` prints the chains of those in format 1 (`plain_chain.rs`), and
-//! `plain confirm STATEMENT BASIS` says of bases that they are closed (`plain_confirm.rs`). It reads
+//! `plain explain STATEMENT EVIDENCE` prints the chains of those in format 1 (`plain_chain.rs`),
+//! `plain confirm STATEMENT BASIS` says of bases that they are closed (`plain_confirm.rs`), and
+//! `plain cancel STATEMENT PROOF` that proofs are accepted which take letters off (`plain_cancel.rs`). It reads
 //! `object`, `map`, `assume` and `claim` with sums, products, brackets, integers and adjoints, and in language 2 powers and
 //! `eliminate`, which changes nothing but for bases; it looks neither at the types of equations nor at all that a faulty file may hold.
 //! `rustc -O contrib/workshop/plain.rs` builds it; `measure.py` runs it.
 
+mod plain_cancel;
 mod plain_chain;
 mod plain_confirm;
 
@@ -52,7 +54,11 @@ fn report(paths: &[String]) -> Answer<String> {
             let problem = read_statement(&load(statement)?)?;
             plain_confirm::confirm_all(&problem, &load(basis)?)
         }
-        _ => Err("usage: plain [explain | confirm] STATEMENT [EVIDENCE]".to_string()),
+        [word, statement, proof] if word == "cancel" => {
+            let problem = read_statement(&load(statement)?)?;
+            plain_cancel::cancel_all(&problem, &load(proof)?)
+        }
+        _ => Err("usage: plain [explain | confirm | cancel] STATEMENT [EVIDENCE]".to_string()),
     }
 }
 
@@ -587,7 +593,7 @@ struct Certificate {
 
 fn read_certificates(problem: &Problem, text: &str) -> Answer<Vec<Certificate>> {
     let mut certificates = Vec::new();
-    let mut lines = text.lines().map(str::trim).filter(|line| !line.is_empty() && !line.starts_with('#'));
+    let mut lines = lines_of(text);
     while let Some(head) = lines.next() {
         let has_lemmas = match head {
             "certificate 1" => false,
@@ -597,6 +603,11 @@ fn read_certificates(problem: &Problem, text: &str) -> Answer<Vec<Certificate>> 
         certificates.push(read_certificate(problem, has_lemmas, &mut lines)?);
     }
     Ok(certificates)
+}
+
+/// The lines of evidence that aren't skipped.
+fn lines_of(text: &str) -> impl Iterator<Item = &str> {
+    text.lines().map(str::trim).filter(|line| !line.is_empty() && !line.starts_with('#'))
 }
 
 fn read_certificate<'a>(
@@ -667,10 +678,15 @@ fn read_word(problem: &Problem, text: &str) -> Answer<Word> {
 
 /// The certificates of a text over a statement whose generators are its assumptions.
 fn readable_certificates(problem: &Problem, text: &str) -> Answer<Vec<Certificate>> {
+    unstarred(problem)?;
+    read_certificates(problem, text)
+}
+
+fn unstarred(problem: &Problem) -> Answer<()> {
     if problem.is_starred {
         return Err("adjoints of assumptions are generators too, which are not made".to_string());
     }
-    read_certificates(problem, text)
+    Ok(())
 }
 
 fn judge_all(problem: &Problem, text: &str) -> Answer<String> {
