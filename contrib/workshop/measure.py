@@ -1,5 +1,5 @@
 #!/usr/bin/env python3
-"""Measures opprove beside plain programs: measure.py [WORD | TABLE [NAME] ..], with prove, workers, refute, explain or confirm for TABLE
+"""Measures opprove beside plain programs: measure.py [WORD | TABLE [NAME] ..], with prove, workers, refute, explain, confirm or cancel for TABLE
 
 Makes statements and certificates that are small and cost much, or are as large as may be, runs `opprove check` and
 contrib/workshop/plain.rs on each, and prints a table in Markdown: processor time and peak memory of both, the least of three
@@ -7,7 +7,7 @@ runs or of those that begin within ten seconds, and the quotient of the times. W
 name begins with it: those that begin with `powers`, and `order` and `maps` of `measure_commands.py`, are of language 2. It
 wants rustc and the program that is built, or another one that the variable OPPROVE names. A run may take 8 GB of memory.
 Memory is seen from that of this script upwards. `measure_commands.py`, `measure_prove.py`, `measure_refute.py`,
-`measure_explain.py` and `measure_confirm.py` have the tables of the other commands.
+`measure_explain.py`, `measure_confirm.py` and `measure_cancel.py` have the tables of the other commands.
 """
 from __future__ import annotations
 
@@ -21,6 +21,7 @@ from pathlib import Path
 from typing import Callable, List, NamedTuple, Optional, Tuple
 
 sys.dont_write_bytecode = True
+import measure_cancel
 import measure_commands
 import measure_confirm
 import measure_explain
@@ -262,7 +263,7 @@ def check_rows(words: List[str], folder: Path) -> Text:
 
 TABLES = {
     "prove": measure_prove.rows, "workers": measure_prove.worker_rows, "refute": measure_refute.rows, "explain": measure_explain.rows,
-    "confirm": measure_confirm.rows,
+    "confirm": measure_confirm.rows, "cancel": measure_cancel.rows,
 }  # fmt: skip
 
 

@@ -3,8 +3,8 @@
 //! Each item is a new hash map. What `cancel` refuses is refused too, by other words.
 
 use super::{
-    add_multiple, at, lines_of, number, number_behind, read_row, read_scale, sum_of_rows, unstarred, divided, Answer, Ends, Letter, Polynomial,
-    Problem, Share, Word,
+    add_multiple, at, divided, lines_of, number, number_behind, read_row, read_scale, sum_of_rows, unstarred, Answer, Ends, Letter,
+    Polynomial, Problem, Share, Word,
 };
 
 const KEPT_LIMIT: usize = 1_000_000;
@@ -26,20 +26,18 @@ struct Cancellation {
 
 pub(super) fn cancel_all(problem: &Problem, text: &str) -> Answer<String> {
     unstarred(problem)?;
-    let mut lines = lines_of(text).peekable();
-    let (mut report, mut block) = (String::new(), 0);
-    let mut proofs = Vec::new();
+    let (mut lines, mut proofs, mut report) = (lines_of(text), Vec::new(), String::new());
     while let Some(head) = lines.next() {
         if head != "cancellation 1" {
             return Err("no proof where one should begin".to_string());
         }
         proofs.push(read_proof(problem, &mut lines)?);
     }
-    for proof in &proofs {
-        block += 1;
+    for (block, proof) in (1..).zip(&proofs) {
         judge(problem, proof).map_err(|fault| format!("block {block}: {fault}"))?;
         let (claim, denominator) = (proof.claim, proof.denominator);
-        let declared = [("monic", &proof.monic), ("epic", &proof.epic)].map(|(word, letters)| declared_text(problem, word, letters)).concat();
+        let declared =
+            [("monic", &proof.monic), ("epic", &proof.epic)].map(|(word, letters)| declared_text(problem, word, letters)).concat();
         report += &format!("# block {block} accepted claim {claim} denominator {denominator}{declared}\n");
     }
     Ok(report)

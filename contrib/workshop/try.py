@@ -21,6 +21,7 @@ from typing import Callable, Dict, Iterator, List, Tuple
 sys.dont_write_bytecode = True
 import measure
 import try_bounds
+import try_cancel
 import try_chains
 import try_confirm
 import try_explain
@@ -382,7 +383,7 @@ def devices() -> str:
 def groups(folder: Path) -> Dict[str, List[Callable[[], str]]]:
     """The checks by their words."""
     checks = {"chains": try_chains.CHECKS, "explain": try_explain.CHECKS, "pictures": try_pictures.CHECKS, "bounds": try_bounds.CHECKS}
-    checks["confirm"] = try_confirm.CHECKS
+    checks["confirm"], checks["cancel"] = try_confirm.CHECKS, try_cancel.CHECKS
     checks["words"], checks["guide"] = try_why.CHECKS + try_opprove.CHECKS, try_guide.CHECKS
     checks["plain"] = try_plain.CHECKS
     checks["package"], checks["release"] = [try_python.package], [try_release.release]
