@@ -16,9 +16,12 @@ A report of `explain`, or other text whose first block is a `chain 1`, is read a
 lines, and the first that is another one is told with its number. What is written then has its sums in their order, each line
 plus the denominator times the right side; where the left side is 0 it is read from the end. Sums that come back are cut there too.
 
+A text that begins with a `cancellation` is read by cancel.py. An item that takes a letter off an earlier one is a lemma with no
+steps, since the letter is monic or epic, and the head says which letters have to be.
+
 --latex writes align* for a paper that loads amsmath, where \\allowdisplaybreaks lets long chains go over pages. --certificate
 writes the rows of the steps as certificates, or what was read where that has fewer rows: in format 2, and in format 1, whose rows
-`explain` takes in their order, where there are no lemmas. What is wrong with the texts is told in one line on standard error,
+`explain` takes in their order, where there are no lemmas; proofs that take letters off are written as they were read. What is wrong with the texts is told in one line on standard error,
 with status 1: codes are those of `check` and `explain`, and `line L no step` is a `use` that is 0 or no map with the claim's ends.
 """
 from __future__ import annotations
@@ -29,11 +32,13 @@ from collections import Counter
 from heapq import heapify, heappop, heappush
 from itertools import groupby
 from random import Random
-from typing import Callable, Dict, Iterator, List, NamedTuple, Optional, Set, Tuple
+from typing import Callable, Dict, Iterator, List, NamedTuple, Optional, Sequence, Set, Tuple, Union
 
 sys.path.insert(1, os.path.join(os.path.dirname(os.path.dirname(os.path.abspath(__file__))), "checkers"))
+import cancel
+from cancel import Cancel, Cancellation, Cancellations
 from chain_text import ChainText, Lines, Texts, judge_chain
-from check import Certificate, Line, Poly, Problem, Refusal, Row, Share, Signature, Token, Word, add, judge
+from check import Blocks, Certificate, Line, Poly, Problem, Refusal, Row, Share, Signature, Token, Word, add, judge
 from scripts import end_quietly, put
 from to_latex import letter_in_latex, lines_of
 
@@ -52,11 +57,13 @@ class Equation(NamedTuple):
 
 
 class Part(NamedTuple):
-    """A lemma or, as the last one, the goal: the rows add up to the scale times its polynomial."""
+    """A lemma or, as the last one, the goal: the rows add up to the scale times its polynomial. Or, with no rows, an item without a
+    letter, where `item` is the number of that part."""
 
     ends: Signature
     scale: int
     rows: List[Row]
+    cancelled: Optional[Cancel] = None
 
 
 class Step(NamedTuple):
@@ -73,6 +80,7 @@ class Chain(NamedTuple):
     right: Poly
     is_turned: bool  # whether the part's rows add up to the scale times right minus left
     steps: List[Step]
+    cancelled: Optional[Cancel] = None  # in the place of steps
 
     def start(self) -> Poly:
         return add({}, self.scale, self.left)
@@ -84,7 +92,7 @@ class Chain(NamedTuple):
 
 
 class Proof(NamedTuple):
-    certificate: Certificate  # as it was read
+    certificate: Union[Certificate, Cancellation]  # as it was read
     chains: List[Chain]  # of the lemmas, by their numbers, and last that of the claim
     is_told: bool = False  # by text of a chain, and not by a certificate
 
@@ -93,7 +101,7 @@ class Reader:
     """Makes proofs of the certificates of a problem, which have to be accepted."""
 
     def __init__(self, problem: Problem) -> None:
-        self.problem, self.exact = problem, problem.generators()
+        self.problem, self.exact, self.has_adjoints = problem, problem.generators(), problem.is_starred
         self.units = {letter for letter, name in enumerate(problem.names) if name[0] == "["}
         self.generators = [self.bare(poly) for poly in self.exact]
         self.ends = [next((self.path(word, 0) for word in poly), None) for poly in self.exact]  # of generators but 0
@@ -137,38 +145,62 @@ class Reader:
 
     def inner_ends(self, row: Row, ends: Signature) -> Optional[Signature]:
         """Those of what stands between the row's words, where the row is a path with the given ends. In a statement that
-        isn't starred a row with adjoints is none: no generator has them, so all these add up to 0."""
+        isn't starred a row with adjoints is none: no generator has them, so all these add up to 0, unless letters are taken off."""
         stars = self.problem.stars
-        if not self.problem.is_starred and any(stars[letter] < letter for letter in row.left + row.right):
+        if not self.has_adjoints and any(stars[letter] < letter for letter in row.left + row.right):
             return None
         left, right = self.path(row.left, ends[1]), self.path(row.right, ends[0])
         inner = (right[1], left[0]) if left and right and (right[0], left[1]) == ends else None
         return inner if row.is_lemma or self.ends[row.number - 1] == inner else None
 
-    def typed(self, certificate: Certificate) -> List[Part]:
+    def typed(self, claim: int, items: Sequence[Union[Share, Cancel]], polys: Sequence[Poly]) -> List[Part]:
         """The rows alone that are paths with the claim's ends, and the lemmas that these need: once for each of the ends
-        with which they are needed. The rows that are left out add up to 0 by themselves."""
-        shares, found = certificate.shares, {}
-        wanted: List[Set[Signature]] = [set() for _ in shares]
-        wanted[-1].add(self.claims[certificate.claim - 1].ends)
-        for number in range(len(shares), 0, -1):
+        with which they are needed. The rows that are left out add up to 0 by themselves. The polynomials are those of the items,
+        where letters are taken off some."""
+        found: Dict[Tuple[int, Signature], List[Tuple[Row, Signature]]] = {}
+        wanted: List[Set[Signature]] = [set() for _ in items]
+        wanted[-1].add(self.claims[claim - 1].ends)
+        for number in range(len(items), 0, -1):
+            item = items[number - 1]
             for ends in wanted[number - 1]:
-                pairs = [(row, self.inner_ends(row, ends)) for row in shares[number - 1].rows]
-                found[number, ends] = [(row, inner) for row, inner in pairs if inner]
+                rows = item.rows if isinstance(item, Share) else []
+                pairs = [(row, self.inner_ends(row, ends)) for row in rows]
+                found[number, ends] = [(row, inner) for row, inner in pairs if inner and self.has_ends(row, inner, items, polys)]
                 for row, inner in found[number, ends]:
                     if row.is_lemma:
                         wanted[row.number - 1].add(inner)
+                if isinstance(item, Cancel):
+                    wanted[item.item - 1].add(self.ends_of(polys[item.item - 1]))
         numbers = {key: number for number, key in enumerate(sorted(found), 1)}
         parts = []
         for number, ends in sorted(found):
-            pairs = found[number, ends]
+            item, pairs = items[number - 1], found[number, ends]
+            if isinstance(item, Cancel):
+                other = numbers[item.item, self.ends_of(polys[item.item - 1])]
+                parts.append(Part(ends, 1, [], item._replace(item=other)))
+                continue
             rows = [row._replace(number=numbers[row.number, inner]) if row.is_lemma else row for row, inner in pairs]
             rows = [row._replace(left=self.bare_word(row.left), right=self.bare_word(row.right)) for row in rows]
-            parts.append(Part(ends, shares[number - 1].scale, merged(rows)))
+            parts.append(Part(ends, item.scale, merged(rows)))
         return parts
 
+    def ends_of(self, poly: Poly) -> Optional[Signature]:
+        """Those of a polynomial that is typed."""
+        return next((self.problem.signature(word) for word in poly), None)
+
+    def has_ends(self, row: Row, inner: Signature, items: Sequence[Union[Share, Cancel]], polys: Sequence[Poly]) -> bool:
+        """Whether a row, if it is over an item without a letter, is over one that has these ends, and so isn't zero there."""
+        return not row.is_lemma or isinstance(items[row.number - 1], Share) or self.ends_of(polys[row.number - 1]) == inner
+
     def proof(self, certificate: Certificate) -> Proof:
-        parts = in_place(self.typed(certificate))
+        return self.in_parts(certificate, self.typed(certificate.claim, certificate.shares, []))
+
+    def cancelled(self, proof: Cancellation, polys: Sequence[Poly]) -> Proof:
+        self.has_adjoints = True
+        return self.in_parts(proof, self.typed(proof.claim, proof.items, polys))
+
+    def in_parts(self, certificate: Union[Certificate, Cancellation], parts: List[Part]) -> Proof:
+        parts = in_place(parts)
         while True:
             chains = self.chains(parts, self.claims[certificate.claim - 1])
             again = in_place([part._replace(rows=chain.rows()) for part, chain in zip(parts, chains)])
@@ -180,6 +212,11 @@ class Reader:
         chains: List[Chain] = []
         lemmas: List[Poly] = []
         for part in parts:
+            if part.cancelled:
+                poly, is_left = lemmas[part.cancelled.item - 1], part.cancelled.is_left
+                lemmas.append({word[1:] if is_left else word[:-1]: value for word, value in poly.items()})
+                chains.append(Chain(part.ends, 1, *from_greatest_word(lemmas[-1]), [], part.cancelled))
+                continue
             middles = [(lemmas if row.is_lemma else self.generators)[row.number - 1] for row in part.rows]
             values = [add({}, row.coefficient, poly, row.left, row.right) for row, poly in zip(part.rows, middles)]
             lemmas.append(divided(values, part.scale))
@@ -269,24 +306,32 @@ def in_place(parts: List[Part]) -> List[Part]:
     """The same, where lemmas that one row names are written out there, if the scale divides the row's coefficient, and those
     that none names are left out."""
     uses = Counter(row.number for part in parts for row in part.rows if row.is_lemma)
-    kept = {len(parts): written_out(parts[-1], parts, uses)}
+    cancelled = {part.cancelled.item for part in parts if part.cancelled}
+    once = {number for number, count in uses.items() if count == 1 and number not in cancelled and not parts[number - 1].cancelled}
+    kept = {len(parts): written_out(parts[-1], parts, once)}
     for number in range(len(parts), 0, -1):
-        for row in kept[number].rows if number in kept else []:
-            if row.is_lemma and row.number not in kept:
-                kept[row.number] = written_out(parts[row.number - 1], parts, uses)
+        for other in lemmas_of(kept[number]) if number in kept else []:
+            if other not in kept:
+                kept[other] = written_out(parts[other - 1], parts, once)
     numbers = {old: new for new, old in enumerate(sorted(kept), 1)}
     again = []
     for old in sorted(kept):
         rows = [row._replace(number=numbers[row.number]) if row.is_lemma else row for row in kept[old].rows]
-        again.append(kept[old]._replace(rows=rows))
+        other = kept[old].cancelled
+        again.append(kept[old]._replace(rows=rows, cancelled=other and other._replace(item=numbers[other.item])))
     return again
 
 
-def written_out(part: Part, parts: List[Part], uses: Dict[int, int]) -> Part:
+def lemmas_of(part: Part) -> List[int]:
+    """The numbers of those that it stands on."""
+    return [part.cancelled.item] if part.cancelled else [row.number for row in part.rows if row.is_lemma]
+
+
+def written_out(part: Part, parts: List[Part], once: Set[int]) -> Part:
     rows, stack = [], part.rows[::-1]
     while stack:
         row = stack.pop()
-        inner = rows_in_place(row, parts[row.number - 1]) if row.is_lemma and uses[row.number] == 1 else None
+        inner = rows_in_place(row, parts[row.number - 1]) if row.is_lemma and row.number in once else None
         if inner is None:
             rows.append(row)
         else:
@@ -462,12 +507,33 @@ def cancels(scale: int, before: str) -> str:
     return "" if scale == 1 else f"{before} {scale} cancels"
 
 
+def granted(reader: Reader, proof: Proof, names: Sequence[str]) -> List[str]:
+    """What has to be so for the claim: that the denominator cancels, and that letters with these names are monic or epic."""
+    denominator = proof.certificate.denominator
+    found = [] if denominator == 1 or proof.is_told else [f"{denominator} cancels"]
+    for word, is_left in (("monic", True), ("epic", False)):
+        letters = [chain.cancelled.letter for chain in proof.chains if chain.cancelled and chain.cancelled.is_left == is_left]
+        texts = [names[letter] for letter in dict.fromkeys(letters)]
+        found += [f"{listed(texts)} {'is' if len(texts) == 1 else 'are'} {word}"] if texts else []
+    return found
+
+
+def listed(texts: Sequence[str]) -> str:
+    return " and ".join([", ".join(texts[:-1])] * (len(texts) > 1) + [*texts[-1:]])
+
+
+def reason(cancelled: Cancel, names: Sequence[str]) -> str:
+    """Why a lemma holds that is another one without a letter."""
+    return f"by [{cancelled.item}], since {names[cancelled.letter]} is {'monic' if cancelled.is_left else 'epic'}"
+
+
 def text(reader: Reader, proof: Proof) -> Iterator[str]:
     """The proof in lines. Sums are written in the language of the statement."""
     writer = Writer(reader.problem.names, " ", "{}^{}".format if has_powers(reader.problem) else None)
     claim, numbers = reader.claims[proof.certificate.claim - 1], used(reader, proof)
     equation, denominator = writer.equation(claim.left, claim.right, claim.ends), proof.certificate.denominator
-    yield f"Claim {proof.certificate.claim}{'' if proof.is_told else cancels(denominator, ', where')}: {equation}"
+    conditions = granted(reader, proof, reader.problem.names)
+    yield f"Claim {proof.certificate.claim}{', where ' if conditions else ''}{listed(conditions)}: {equation}"
     yield ""
     yield "Assumptions that are used" + ("" if numbers else ": none")
     assumptions = [(number, reader.assumptions[number - 1]) for number in numbers]
@@ -482,8 +548,9 @@ def text(reader: Reader, proof: Proof) -> Iterator[str]:
             yield f"Proof{'' if proof.is_told else cancels(chain.scale, ', as')}"
         else:
             lemma = writer.equation(chain.left, chain.right, chain.ends)
-            yield f"Lemma [{number}]{cancels(chain.scale, ', as')}: {lemma}"
-        yield from chain_in_text(reader, writer, chain)
+            why = f", {reason(chain.cancelled, reader.problem.names)}" if chain.cancelled else cancels(chain.scale, ", as")
+            yield f"Lemma [{number}]{why}: {lemma}"
+        yield from [] if chain.cancelled else chain_in_text(reader, writer, chain)
     if proof.is_told and denominator > 1:
         yield cancels(denominator, "and")
 
@@ -512,11 +579,15 @@ def latex(reader: Reader, proof: Proof) -> Iterator[str]:
         other = reader.assumptions[number - 1]
         rows.append(equation_in_latex(writer, other, f"({number})", rf" && \text{{line {other.line[0].line}}}"))
     yield from aligned(rows)
-    yield not_used(reader, numbers) + "."
+    conditions = granted(reader, proof, [f"${name}$" for name in writer.letters])
+    yield not_used(reader, numbers) + "." + (f" Here {listed(conditions)}." if letters_are_cancelled(proof) else "")
     for number, chain in enumerate(proof.chains, 1):
         if chain is not proof.chains[-1]:
             lemma = Equation(chain.ends, chain.left, chain.right, [])
-            yield from aligned([equation_in_latex(writer, lemma, f"[{number}]", "")])
+            why = reason(chain.cancelled, [f"${name}$" for name in writer.letters]) if chain.cancelled else ""
+            yield from aligned([equation_in_latex(writer, lemma, f"[{number}]", rf" && \text{{{why}}}" if why else "")])
+        if chain.cancelled:
+            continue
         rows = [r"  & \phantom{{} = {}} " + sum_in_latex(writer, chain.start(), chain.ends)]
         for step in chain.steps:
             by = rf" && \text{{by }} {label(reader, step.row, '^{*}')}"
@@ -524,6 +595,10 @@ def latex(reader: Reader, proof: Proof) -> Iterator[str]:
         yield from aligned(rows)
     if proof.is_told and proof.certificate.denominator > 1:
         yield f"and ${proof.certificate.denominator}$ cancels."
+
+
+def letters_are_cancelled(proof: Proof) -> bool:
+    return any(chain.cancelled for chain in proof.chains)
 
 
 def power_in_latex(letter: str, count: int) -> str:
@@ -545,6 +620,26 @@ def equation_in_latex(writer: Writer, equation: Equation, name: str, place: str)
     return f"  {name} \\quad & " + " \\\\\n  & \\quad ".join(lines) + place
 
 
+def cancellation_text(problem: Problem, proof: Cancellation) -> Iterator[str]:
+    """The proof in lines."""
+    yield from ("cancellation 1", f"claim {proof.claim}", f"denominator {proof.denominator}")
+    for word, letters in (("monic", proof.monic), ("epic", proof.epic)):
+        yield from (f"{word} {problem.names[letter]}" for letter in letters)
+    for number, item in enumerate(proof.items, 1):
+        if isinstance(item, Cancel):
+            yield f"cancel {number} {problem.names[item.letter]} {'left' if item.is_left else 'right'} {item.item}"
+        else:
+            yield f"{'goal' if item is proof.items[-1] else f'lemma {number}'} scale {item.scale}"
+            yield from row_lines(problem, item)
+    yield "end"
+
+
+def row_lines(problem: Problem, share: Share) -> Iterator[str]:
+    for row in share.rows:
+        middle = f"{'lemma ' if row.is_lemma else ''}{row.number}"
+        yield f"row {row.coefficient} ({problem.text(row.left)}) {middle} ({problem.text(row.right)})"
+
+
 def certificate_text(problem: Problem, certificate: Certificate) -> Iterator[str]:
     """The certificate in lines: in format 2, but in format 1 where there are no lemmas and no other scale."""
     goal = certificate.shares[-1]
@@ -553,9 +648,7 @@ def certificate_text(problem: Problem, certificate: Certificate) -> Iterator[str
     for number, share in enumerate(certificate.shares, 1):
         if not is_plain:
             yield f"{'goal' if share is goal else f'lemma {number}'} scale {share.scale}"
-        for row in share.rows:
-            middle = f"{'lemma ' if row.is_lemma else ''}{row.number}"
-            yield f"row {row.coefficient} ({problem.text(row.left)}) {middle} ({problem.text(row.right)})"
+        yield from row_lines(problem, share)
     yield "end"
 
 
@@ -578,15 +671,27 @@ def written(words: List[str]) -> Iterator[str]:
     if len(paths) != 2 or options not in ([], ["--latex"], ["--certificate"]):
         raise Refusal("# usage: to_chain.py STATEMENT EVIDENCE|CHAIN [--latex | --certificate]")
     problem = Problem(paths[0])
-    texts, reader = Texts(problem, paths[1]), Reader(problem)
-    judge_all(problem, texts)
-    # One of both lists is empty.
-    for block, proof in enumerate([*map(reader.proof, texts.certificates), *map(reader.told, texts.chains)], 1):
+    reader = Reader(problem)
+    for block, proof in enumerate(proofs_of(reader, paths[1]), 1):
         if options == ["--certificate"]:
-            yield from certificate_text(problem, reader.shortened(proof))
+            is_cancelled = isinstance(proof.certificate, Cancellation)
+            yield from cancellation_text(problem, proof.certificate) if is_cancelled else certificate_text(problem, reader.shortened(proof))
             continue
         yield from [""] if block > 1 else []
         yield from latex(reader, proof) if options else text(reader, proof)
+
+
+def proofs_of(reader: Reader, path: str) -> List[Proof]:
+    """Those of a text, all of which have to be right."""
+    problem = reader.problem
+    if Blocks(path).line.startswith("cancellation "):
+        proofs, lines = Cancellations(problem, path).proofs, Lines(problem)
+        polys = [cancel.judge(lines, proof, f"# block {block} refused") for block, proof in enumerate(proofs, 1)]
+        return list(map(reader.cancelled, proofs, polys))
+    texts = Texts(problem, path)
+    judge_all(problem, texts)
+    # One of both lists is empty.
+    return [*map(reader.proof, texts.certificates), *map(reader.told, texts.chains)]
 
 
 def main(words: List[str]) -> int:

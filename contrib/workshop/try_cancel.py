@@ -16,7 +16,9 @@ from typing import Callable, Dict, Iterator, List, Tuple
 sys.dont_write_bytecode = True
 import trying  # by which the scripts of other folders are found
 import cancel
+import to_chain
 import try_cancel_rows
+import try_chains
 from check import Problem
 from scripts import DONE, REFUSED
 from trying import CONTRIB, EXAMPLES, Answer, need, run
@@ -43,6 +45,57 @@ def rows(folder: Path) -> str:
         answer = cancelled(files)
         need(answer.out == row.report, (row.name, row.proof[:1000], answer.out[:3000], row.report[:3000]))
     return f"{len(found)} reports that were worked out by hand are those of {SECOND.by_whom()}"
+
+
+def told(files: Files) -> int:
+    """Fails unless to_chain.py writes text that is read back, and the same proofs. Gives the number of proofs."""
+    words, problem = [str(files.statement), str(files.evidence)], Problem(str(files.statement))
+    found = list(try_chains.groups_of(list(to_chain.written(words))))
+    for groups in found:
+        try_chains.read_proof(problem, groups)
+    report, text = cancelled(files), "\n".join(to_chain.written([*words, "--certificate"])) + "\n"
+    files.evidence.write_text(text, encoding="utf-8")
+    need(cancelled(files) == report, (text, report))
+    return len(found)
+
+
+def chains(folder: Path) -> str:
+    """What to_chain.py makes of the rows and the gallery."""
+    files, count = Files(folder, None), 0
+    cases = [(row.statement, row.proof) for row in try_cancel_rows.runs() if " refused " not in row.report and len(row.proof) < LARGE]
+    for evidence in sorted(EXAMPLES.glob("gallery/*.cert")):
+        cases.append((evidence.with_suffix(".op").read_text("utf-8"), evidence.read_text("utf-8")))
+    for statement, proof in cases:
+        if len(statement) < LARGE and "m200" not in statement:
+            files.write(statement, proof)
+            count += told(files)
+    files.write(try_cancel_rows.J, try_cancel_rows.proof(try_cancel_rows.J1))
+    answer = run(sys.executable, CONTRIB / "translators" / "to_chain.py", files.statement, files.evidence)
+    need(answer == Answer(0, TEXT, ""), answer)
+    files.write(try_cancel_rows.J, try_cancel_rows.proof(try_cancel_rows.edited(try_cancel_rows.J1, "monic k =>")))
+    answer = run(sys.executable, CONTRIB / "translators" / "to_chain.py", files.statement, files.evidence)
+    need(answer == Answer(1, "", "# block 1 refused X2 item 3\n"), answer)
+    return f"{count} proofs that take letters off are written as chains and read back"
+
+
+TEXT = """Claim 1, where m and k are monic: x = y
+
+Assumptions that are used
+(1) m k x = m k y   line 5
+Not used: none
+
+Lemma [1]: m k y = m k x
+  m k y
+= m k x   by (1)
+
+Lemma [2], by [1], since m is monic: k y = k x
+
+Lemma [3], by [2], since k is monic: y = x
+
+Proof
+  x
+= y   by [3]
+"""
 
 
 def calls(folder: Path) -> str:
@@ -191,16 +244,16 @@ def random_proofs(folder: Path, count: int = COUNT) -> str:
         files.write(statement, text)
         answer = cancelled(files)
         need(answer.status == DONE, (statement, text, answer))
-        accepted += 1
+        accepted += told(files)
         letters = Problem(str(files.statement)).names
         for other in random.sample(list(changed(text, letters)), 6):
             files.write(statement, other)
             cancelled(files)
             changes_made += 1
-    return f"{accepted} random proofs are accepted and {changes_made} changed ones answered by {SECOND.by_whom()}"
+    return f"{accepted} random proofs are accepted, written as chains and read back, and {changes_made} changed ones answered by {SECOND.by_whom()}"
 
 
-CHECKS: List[Callable[[Path], str]] = [calls, others, gallery, rows, changes, random_proofs]
+CHECKS: List[Callable[[Path], str]] = [calls, others, gallery, rows, chains, changes, random_proofs]
 
 
 if __name__ == "__main__":

@@ -89,7 +89,7 @@ def read_chain(reading: Reading, lines: List[str], ends: Signature) -> Tuple[Pol
 
 
 def scale_of(head: str) -> int:
-    match = re.search(r", (?:as|where) ([0-9]+) cancels$", head)
+    match = re.search(r", (?:as|where) ([0-9]+) cancels\b", head)
     return int(match.group(1)) if match else 1
 
 
@@ -117,7 +117,7 @@ def read_proof(problem: Problem, groups: List[List[str]], is_turned: Optional[bo
     polys.update({f"({number})'": problem.star(poly) for number, poly in enumerate(assumptions, 1) if problem.is_starred})
     reading = Reading(problem, polys)
     head, equation = groups[0][0].split(": ", 1)
-    claim = int(re.fullmatch("Claim ([0-9]+)(, where [0-9]+ cancels)?", head).group(1))
+    claim = int(re.fullmatch("Claim ([0-9]+)(?:, where .*)?", head).group(1))
     ends, *sides = reading.equation(equation)
     need(add(dict(sides[0]), -1, sides[1]) == bare(problem, problem.claims[claim - 1]), groups)
     used, named, steps = read_assumptions(reading, groups[1]), [], 0
@@ -127,6 +127,13 @@ def read_proof(problem: Problem, groups: List[List[str]], is_turned: Optional[bo
             chain_ends, *chain_sides = reading.equation(equation)
             scale = scale_of(lines[0].split(": ")[0])
             need(name == f"[{place}]", lines)
+            cancelled = re.match(r"Lemma \S+, by (\[[0-9]+\]), since (\S+) is (monic|epic): ", lines[0])
+            if cancelled:
+                polys[name] = without_letter(reading, *cancelled.groups())
+                need(len(lines) == 1 and polys[name] == add(dict(chain_sides[0]), -1, chain_sides[1]), lines)
+                need(cancelled.group(2) in head and cancelled.group(3) in head, (head, lines))
+                named.append(cancelled.group(1))
+                continue
         else:
             need(lines[0].startswith("Proof") and place == len(groups) - 2, lines)
             turned = len(sides[1]) > len(sides[0]) if is_turned is None else is_turned
@@ -140,6 +147,13 @@ def read_proof(problem: Problem, groups: List[List[str]], is_turned: Optional[bo
     lemmas = {f"[{number}]" for number in range(1, len(groups) - 2)}
     need({name.rstrip("'") for name in named} == used | lemmas, (groups, named))
     return steps
+
+
+def without_letter(reading: Reading, name: str, letter: str, kind: str) -> Poly:
+    """The polynomial that is called so without a letter, in front or behind, with the sign of its greatest word as lemmas have it."""
+    number, poly = reading.problem.numbers[letter], reading.polys[name]
+    need(all(word[0 if kind == "monic" else -1] == number for word in poly), (name, letter, kind))
+    return {word[1:] if kind == "monic" else word[:-1]: value for word, value in poly.items()}
 
 
 def groups_of(lines: List[str]) -> Iterator[List[List[str]]]:

@@ -7,7 +7,7 @@ from pathlib import Path
 
 HERE = Path(__file__).resolve().parent
 CONTRIB = HERE.parent.parent
-TOOLS = {"checkers": ("check", "check_model", "scripts", "chain_text"), "translators": ("translation", "to_latex", "to_chain", "quiver")}
+TOOLS = {"checkers": ("check", "check_model", "scripts", "chain_text", "cancel"), "translators": ("translation", "to_latex", "to_chain", "quiver")}
 
 
 def contents(info, version):

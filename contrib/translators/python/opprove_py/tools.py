@@ -12,7 +12,7 @@ import sys
 from pathlib import Path
 from types import ModuleType
 
-NAMES = ("check", "check_model", "translation", "to_latex", "scripts", "chain_text", "to_chain", "quiver")
+NAMES = ("check", "check_model", "translation", "to_latex", "scripts", "chain_text", "cancel", "to_chain", "quiver")
 HERE = Path(__file__).resolve().parent
 # Beside this file where the package is installed, and else those of the checkout.
 FOLDERS = [HERE] if (HERE / "check.py").is_file() else [HERE.parents[2] / name for name in ("checkers", "translators")]
