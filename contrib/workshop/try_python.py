@@ -187,6 +187,7 @@ def problem_file(folder: Path, text: str) -> Path:
 def heads(folder: Path) -> str:
     """Of what is built from objects: the head lines of the page, and verdicts that the checkers in Python confirm."""
     rows = re.findall(r"^\| `(\w+)\.op`: [^|]* \| (.*) \|$", (EXAMPLES / "README.md").read_text(), re.MULTILINE)
+    rows = [(name, text) for name, text in rows if text.startswith("`# claim ")]
     wanted = {name: (re.findall("`# ([^`]*)`", text), "".join(re.findall(r"\(`([^`]*)`\)", text))) for name, text in rows}
     count = 0
     paths = [path for path in decided() if path.parent.name == "gallery" and path.stem in wanted]
