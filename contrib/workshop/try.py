@@ -311,6 +311,10 @@ HIGHLIGHTED = [  # a text, its kind, and for some of its places, each a line and
         "3,10": "", "3,12": "opprovecertIdentity", "3,16": "opprovecertSign", "4,1": "opprovecertWord", "4,6": "opprovecertNumber",
         "5,1": "opprovecertBlock",
     }),
+    ("cancellation 1\nmonic m'\ncancel 2 m' left 1\nend\n", "cert", {
+        "1,1": "opprovecertBlock", "2,1": "opprovecertWord", "2,7": "", "3,1": "opprovecertWord", "3,8": "opprovecertNumber",
+        "3,10": "", "3,13": "opprovecertLemma", "3,18": "opprovecertNumber", "4,1": "opprovecertBlock",
+    }),
     ("chain 1\nline - 2 f [U] + g\nuse -1 (f) 2 ()\nend\n", "cert", {
         "1,1": "opprovecertBlock", "2,1": "opprovecertWord", "2,8": "opprovecertNumber", "2,12": "opprovecertIdentity",
         "3,1": "opprovecertWord", "3,5": "opprovecertNumber", "3,12": "opprovecertNumber", "4,1": "opprovecertBlock",
