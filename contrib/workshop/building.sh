@@ -58,27 +58,51 @@ closure() {
     }' - "$top/crates.txt" | sort -rn | cut -d' ' -f2-
 }
 
-declare -gA below=() seconds=() process=() began=() took=() is_proved=() is_kept=()
+declare -gA below=() under=() seconds=() process=() began=() took=() is_proved=() is_kept=()
 crates=()
 
-# Reads the crates, and which of them were proved before: no source of theirs, or of a crate below, is newer than what is built.
+# Reads the crates, and which of them were proved before: no source of theirs, or of a crate below, is newer than what is built, nor is
+# the use of this kit here. These are proved without a look: the program's own rt, which comes last, compares what they are made of.
 read_crates() {
   local name work names
-  crates=() below=() seconds=() process=() began=() took=() is_proved=() is_kept=()
-  while read -r name work names; do crates+=("$name"); seconds[$name]=$work; below[$name]=$names; done < <(closure)
+  crates=() below=() under=() seconds=() process=() began=() took=() is_proved=() is_kept=()
+  while read -r name work names; do
+    crates+=("$name")
+    seconds[$name]=$work below[$name]=$names
+    add_under "$name"
+  done < <(closure)
+  date_kit
   for name in "${crates[@]}"; do
-    if were_proved "${below[$name]}" && [ -f "$top/crates/$name/out/rlib/stamp" ] &&
-      [ -z "$(find "$top/crates/$name" -name out -prune -o -type f -newer "$top/crates/$name/out/rlib/stamp" -print -quit)" ]; then
-      is_kept[$name]=yes
-      seconds[$name]=5
-    fi
+    [ "$name" = opprove ] || ! were_proved "${below[$name]}" || ! is_unchanged "$name" || is_kept[$name]=yes is_proved[$name]=yes
   done
+}
+
+# All crates that one stands on, of which those that it names are known.
+add_under() {
+  local name other
+  local -A found=()
+  for name in ${below[$1]}; do for other in $name ${under[$name]}; do found[$other]=yes; done; done
+  under[$1]=${!found[*]}
 }
 
 were_proved() {
   local name
   for name in $1; do [ -n "${is_kept[$name]:-}" ] || return 1; done
 }
+
+# Whether what is built of a crate is newer than its folders and files, and than the use of this kit.
+is_unchanged() {
+  local stamp=$top/crates/$1/out/rlib/stamp
+  [ -f "$stamp" ] && [ -z "$(find "$out/opprove.kit" "$top/crates/$1" -name out -prune -o -newer "$stamp" -print -quit 2>&1)" ]
+}
+
+# Dates the use of this kit: that of another one ends now, and the first one was there since it was installed.
+date_kit() {
+  local dated=$out/opprove.kit kit
+  kit=$version$'\n'$(<"$version")
+  [ ! -f "$dated" ] || [ "$(<"$dated")" != "$kit" ] || return 0
+  if [ -f "$dated" ]; then echo "$kit" >"$dated"; else echo "$kit" >"$dated" && touch -r "$version" "$dated"; fi
+} 2>/dev/null
 
 # Whether all that the crate stands on is proved.
 is_ready() {
@@ -172,18 +196,18 @@ tell() {
 
 # ---- Proofs
 
-# Makes the room in which a crate is proved: a checkout of that crate and of those that are proved, with what is built of them.
+# Makes the room in which a crate is proved: a checkout of that crate and of those below it, with what is built of them.
 # rt keeps others out of each folder that it reads, so in one checkout crates that stand on the same ones would wait for each other.
 furnish() {
   local room=$rooms/$1 name part parts=()
-  for name in "$1" "${!is_proved[@]}"; do
+  for name in "$1" ${under[$1]}; do
     for part in src specs proofs out/rlib; do
       [ ! -d "$top/crates/$name/$part" ] || parts+=("crates/$name/$part")
     done
   done
   mkdir -p "$room/crates/$1/out" &&
     (cd "$top" && "${copy[@]}" --parents "${parts[@]}" "$room") &&
-    awk -v names=" $1 ${!is_proved[*]} " '{ split($0, words, /[ :]/) } index(names, " " words[1] " ")' \
+    awk -v names=" $1 ${under[$1]} " '{ split($0, words, /[ :]/) } index(names, " " words[1] " ")' \
       "$top/crates.txt" >"$room/crates.txt" &&
     { [ ! -d "$top/crates/$1/out/incremental" ] || mv "$top/crates/$1/out/incremental" "$room/crates/$1/out"; }
 }
@@ -306,7 +330,7 @@ take_ended() {
 
 # Proves the crates as processors and memory allow, and links the program.
 prove() {
-  local name rooms told_at=$SECONDS told_of=0 copy=(cp -al)
+  local name rooms told_at=$SECONDS told_of=${#is_proved[@]} copy=(cp -al)
   rooms=$(cd "$top" && pwd)/.git/opprove-rooms
   [ -d "$top/.git" ] || rooms=$(mktemp -d) || return
   { rm -rf "$rooms" && mkdir -p "$rooms"; } 2>/dev/null || { fail opprove; return 1; }

@@ -32,6 +32,7 @@ esac
 # Each crate has ten functions, and those that are proved stand in its folder. A crate named in `spoilt` fails with the text there.
 RT = """#!/usr/bin/env bash
 kit=${0%/bin/rt} name=${PWD##*/}
+echo "$name" >>"$kit/calls"
 if [ "$1" = try ]; then echo "tried in $name: ${*:2}"; exit 3; fi
 mkdir -p out/incremental
 count=$(cat out/incremental/count 2>/dev/null || echo 0)
@@ -105,6 +106,13 @@ class Checkout:
     def work(self) -> List[str]:
         path = self.kit / "work"
         return path.read_text().split("\n")[:-1] if path.exists() else []
+
+    def calls(self) -> List[str]:
+        """The crates that rt was called for since this was asked."""
+        path = self.kit / "calls"
+        found = path.read_text().split("\n")[:-1] if path.exists() else []
+        path.write_text("")
+        return found
 
     def command(self, *words: str) -> List[str]:
         return [str(self.top / "opprove"), *words]
@@ -241,6 +249,30 @@ def first_run(folder: Path) -> str:
     return f"a first run foretells and tells how far it is, its first line after {seen.first:.1f} seconds"
 
 
+def kept(folder: Path) -> str:
+    """What was proved before is not walked over, unless a source of it or below it has changed, or the kit."""
+    with checkout_in(folder) as checkout:
+        need(redirected(checkout, "proved").status == 0 and set(checkout.calls()) == {*CRATES}, "a first run")
+        sources = checkout.top / "crates"
+        changes: List[Tuple[Path, Callable[[Path], object], List[str]]] = [
+            (sources / "high" / "src" / "lib.rt", lambda path: path.write_text("fn g() {}\n"), ["high", "opprove"]),
+            (sources / "left" / "src" / "more.rt", lambda path: path.write_text("fn g() {}\n"), ["left", "high", "opprove"]),
+            (sources / "left" / "src" / "more.rt", lambda path: path.unlink(), ["left", "high", "opprove"]),
+            (checkout.kit / "KIT-ID", lambda path: path.write_text("another\n"), list(CRATES)),
+        ]
+        for path, change, names in changes:
+            time.sleep(1.1)
+            change(path)
+            seen = redirected(checkout, "proved")
+            need(seen.status == 0 and sorted(checkout.calls()) == sorted(names), (path, names, seen))
+            kept_ones = len(CRATES) - len(names)
+            need(f"({kept_ones} of them are proved already)" in seen.terminal or not kept_ones, seen)
+        (sources / "opprove" / "out" / "opprove").unlink()
+        seen = redirected(checkout, "proved")
+        need(seen.status == 0 and checkout.calls() == ["opprove"], seen)
+    return "a call over crates that are proved goes on with those that aren't"
+
+
 def interrupted(folder: Path) -> str:
     """Ended in the middle of a crate, a run goes on with what was proved, and no step is done twice."""
     for key, number in ((b"\x03", signal.SIGINT),):
@@ -300,7 +332,7 @@ def without_rt() -> str:
     return ":".join(part for part in os.environ["PATH"].split(":") if not os.access(f"{part}/rt", os.X_OK))
 
 
-CHECKS: List[Callable[[Path], str]] = [answers, help_of, first_run, interrupted, failures, unproved]
+CHECKS: List[Callable[[Path], str]] = [answers, help_of, first_run, kept, interrupted, failures, unproved]
 
 if __name__ == "__main__":
     import tempfile
