@@ -21,8 +21,9 @@ steps, since the letter is monic or epic, and the head says which letters have t
 
 --latex writes align* for a paper that loads amsmath, where \\allowdisplaybreaks lets long chains go over pages. --certificate
 writes the rows of the steps as certificates, or what was read where that has fewer rows: in format 2, and in format 1, whose rows
-`explain` takes in their order, where there are no lemmas; proofs that take letters off are written as they were read. What is wrong with the texts is told in one line on standard error,
-with status 1: codes are those of `check` and `explain`, and `line L no step` is a `use` that is 0 or no map with the claim's ends.
+`explain` takes in their order, where there are no lemmas; proofs that take letters off are written as they were read. What is wrong
+with the texts is told in one line on standard error, with status 1: codes are those of `check`, `explain` and `cancel`, and
+`line L no step` is a `use` that is 0 or no map with the claim's ends.
 """
 from __future__ import annotations
 

@@ -86,6 +86,20 @@ ROW10 = (
     "monic f / epic g / lemma 1 scale 1 / row 1 () 1 () / row -1 () 4 (g) / cancel 2 f left 1 / cancel 3 g right 2 / goal scale 1 /"
     " row 1 () lemma 3 ()"
 )
+ROW15 = (
+    "monic c / lemma 1 scale 1 / row 1 (n) 3 () / row -1 () 2 (x) / cancel 2 c left 1 / goal scale 1 / row 1 () lemma 2 ()"
+)
+ROW16 = (
+    "monic j / monic a / lemma 1 scale 1 / row 1 () 3 () / row -1 (b) 4 () / row -1 () 1 (y) / cancel 2 j left 1 / cancel 3 a left 2 /"
+    " goal scale 1 / row 1 () 4 () / row 1 (i) lemma 3 ()"
+)
+ROW17 = (
+    "epic a / lemma 1 scale 1 / row 1 () 3 (i) / row -1 (z) 1 () / cancel 2 a right 1 / goal scale 1 / row 1 () lemma 2 ()"
+)
+ROW18 = (
+    "epic p / epic c / lemma 1 scale 1 / row 1 () 3 () / row -1 () 4 (b) / row -1 (w) 2 () / cancel 2 p right 1 / cancel 3 c right 2 /"
+    " goal scale 1 / row 1 () 4 () / row 1 () lemma 3 (n)"
+)
 ROW19 = (
     "monic r' / lemma 1 scale 1 / row 1 () 2 () / row -1 (r') 1 (r x) / row 1 (r') 1 (r y) / row -1 (r') 7 (x) / row 1 (r') 7 (y) /"
     " cancel 2 r' left 1 / goal scale 1 / row 1 (q) lemma 2 ()"
@@ -96,6 +110,15 @@ ROW24 = (
 )
 ROW26 = "monic h / lemma 1 scale 2 / row 1 () 2 () / cancel 2 h left 1 / goal scale 1 / row 1 () lemma 2 ()"
 SCALED = edited(ROW26, "lemma 1 scale 2 => lemma 1 scale 1", "goal scale 1 => goal scale 2")
+# Items 1 to 3 are zero.
+ROW28 = (
+    "monic h / epic v' / lemma 1 scale 1 / cancel 2 h left 1 / cancel 3 v' right 2 / lemma 4 scale 1 / row 1 () 2 () / cancel 5 h left 4 /"
+    " goal scale 2 / row 1 () lemma 5 () / row 9 (u) lemma 3 (v)"
+)
+ROW33 = (
+    "monic a / monic a' / epic a' / lemma 1 scale 1 / row 1 () 1 () / lemma 2 scale 1 / row 1 (a') lemma 1 () / cancel 3 a' left 2 /"
+    " cancel 4 a left 3 / goal scale 1 / row 1 () lemma 4 ()"
+)
 UNTYPED_LEMMA = "lemma 4 scale 1 / row 1 (y) 1 () / goal scale 1 / row 2 (k) lemma 4 () / row -2 (k y) 1 ()"
 GOAL = "goal scale 1 / row 1 () lemma 3 ()"
 # J1 in CR LF, with a comment, blanks and a tab.
@@ -117,9 +140,15 @@ Case = Tuple[str, str, str, Tuple[int, ...], str]  # the number of the row, a st
 
 def cases_that_add_up() -> List[Case]:
     two = "lemma 3 scale 1 / row 1 () lemma 2 () / cancel 4 a left 3 / goal scale 1 / row 1 () lemma 4 ()"
+    exchanged = ["monic m => epic x' / monic k / epic y", "monic k / lemma 1 scale 1 => monic m / lemma 1 scale 1"]
+    items = "lemma 4 scale 1 / row 1 (y) lemma 3 (x) / goal scale 1 / row 1 () lemma 4 () / row -1 (y) lemma 3 (x)"
+    mirrored = "cancel 2 f left 1 / cancel 3 g right 2 => cancel 2 g right 1 / cancel 3 f left 2"
+    six = "lemma 1 scale 1 / row 1 () 1 () / row -1 () 4 (g) => lemma 1 scale 6 / row 6 () 1 () / row -6 () 4 (g)"
+    both = "monic a' => monic a' / monic a"
+    plain = "goal scale 1 / row 1 () lemma 2 ()"
     return [
         ("1", J, J1, (), "accepted monic m k"),
-        ("2", J, edited(J1, "monic m => epic x' / monic k / epic y", "monic k / lemma 1 scale 1 => monic m / lemma 1 scale 1"), (), "accepted monic k m epic x' y"),
+        ("2", J, edited(J1, *exchanged), (), "accepted monic k m epic x' y"),
         ("3", J, edited(J1, "monic k => monic k / epic m"), (), "accepted monic m k epic m"),
         ("3", J, edited(J1, "monic m => monic m / monic m'"), (), "accepted monic m m' k"),
         ("4", J, edited(J1, "row 1 () lemma 3 () => row 2 () lemma 3 ()"), (2,), "accepted monic m k"),
@@ -127,26 +156,26 @@ def cases_that_add_up() -> List[Case]:
         ("5", J, edited(J1, "lemma 1 scale 1 / row 1 () 1 () => lemma 1 scale 3 / row 3 () 1 ()"), (1, 3), "accepted monic m k"),
         ("7", J, edited(J1, "row 1 () 1 () => row 1 () 1 () / row 1 (m) 1 () / row -1 (m) 1 ()"), (), "accepted monic m k"),
         ("8", J, edited(J1, f"goal scale 1 => {UNTYPED_LEMMA}"), (), "accepted monic m k"),
-        ("9", J, edited(J1, "goal scale 1 => lemma 4 scale 1 / row 1 (y) lemma 3 (x) / goal scale 1 / row 1 () lemma 4 () / row -1 (y) lemma 3 (x)"), (), "accepted monic m k"),
+        ("9", J, edited(J1, f"goal scale 1 => {items}"), (), "accepted monic m k"),
         ("10", F, ROW10, (), "accepted monic f epic g"),
-        ("11", F, edited(ROW10, "cancel 2 f left 1 / cancel 3 g right 2 => cancel 2 g right 1 / cancel 3 f left 2"), (), "accepted monic f epic g"),
-        ("12", F, edited(ROW10, "lemma 1 scale 1 / row 1 () 1 () / row -1 () 4 (g) => lemma 1 scale 6 / row 6 () 1 () / row -6 () 4 (g)"), (1, 12), "accepted monic f epic g"),
-        ("15", L, "monic c / lemma 1 scale 1 / row 1 (n) 3 () / row -1 () 2 (x) / cancel 2 c left 1 / goal scale 1 / row 1 () lemma 2 ()", (), "accepted monic c"),
-        ("16", L, "monic j / monic a / lemma 1 scale 1 / row 1 () 3 () / row -1 (b) 4 () / row -1 () 1 (y) / cancel 2 j left 1 / cancel 3 a left 2 / goal scale 1 / row 1 () 4 () / row 1 (i) lemma 3 ()", (2,), "accepted monic j a"),
-        ("17", E, "epic a / lemma 1 scale 1 / row 1 () 3 (i) / row -1 (z) 1 () / cancel 2 a right 1 / goal scale 1 / row 1 () lemma 2 ()", (), "accepted epic a"),
-        ("18", E, "epic p / epic c / lemma 1 scale 1 / row 1 () 3 () / row -1 () 4 (b) / row -1 (w) 2 () / cancel 2 p right 1 / cancel 3 c right 2 / goal scale 1 / row 1 () 4 () / row 1 () lemma 3 (n)", (2,), "accepted epic p c"),
+        ("11", F, edited(ROW10, mirrored), (), "accepted monic f epic g"),
+        ("12", F, edited(ROW10, six), (1, 12), "accepted monic f epic g"),
+        ("15", L, ROW15, (), "accepted monic c"),
+        ("16", L, ROW16, (2,), "accepted monic j a"),
+        ("17", E, ROW17, (), "accepted epic a"),
+        ("18", E, ROW18, (2,), "accepted epic p c"),
         ("19", N, ROW19, (), "accepted monic r'"),
         ("21", G, ROW21, (), "accepted monic a'"),
-        ("22", G, edited(ROW21, "monic a' => monic a' / monic a", f"goal scale 1 / row 1 () lemma 2 () => {two}"), (2,), "accepted monic a' a"),
-        ("22", G, edited(ROW21, "monic a' => monic a' / monic a", "goal scale 1 / row 1 () lemma 2 () => cancel 3 a left 2 / " + GOAL), (2,), "accepted monic a' a"),
+        ("22", G, edited(ROW21, both, f"{plain} => {two}"), (2,), "accepted monic a' a"),
+        ("22", G, edited(ROW21, both, f"{plain} => cancel 3 a left 2 / {GOAL}"), (2,), "accepted monic a' a"),
         ("24", K, ROW24, (), "accepted monic h epic h"),
         ("24", K, edited(ROW24, "monic h => monic h'", "cancel 2 h left 1 => cancel 2 h' left 1"), (), "accepted monic h epic h"),
         ("26", K, ROW26, (2, 2), "accepted monic h"),
         ("26", K, SCALED, (2, 2), "accepted monic h"),
-        ("28", K, "monic h / epic v' / lemma 1 scale 1 / cancel 2 h left 1 / cancel 3 v' right 2 / lemma 4 scale 1 / row 1 () 2 () / cancel 5 h left 4 / goal scale 2 / row 1 () lemma 5 () / row 9 (u) lemma 3 (v)", (2, 2), "accepted monic h epic v'"),
+        ("28", K, ROW28, (2, 2), "accepted monic h epic v'"),
         ("31", lines(H.format("h h u")), stripped(2), (), "accepted monic h"),
-        ("33", UNSTARRED, "monic a / monic a' / epic a' / lemma 1 scale 1 / row 1 () 1 () / lemma 2 scale 1 / row 1 (a') lemma 1 () / cancel 3 a' left 2 / cancel 4 a left 3 / goal scale 1 / row 1 () lemma 4 ()", (), "accepted monic a a' epic a'"),
-    ]  # fmt: skip
+        ("33", UNSTARRED, ROW33, (), "accepted monic a a' epic a'"),
+    ]
 
 
 def cases_of_letters() -> List[Case]:
