@@ -477,7 +477,7 @@ def statuses(folder: Path) -> str:
 
 def real_statuses(folder: Path) -> str:
     s = Statement.read(EXAMPLES / "equal_maps.op")
-    usage = "# usage: opprove prove|check|refute|model|bench|confirm|explain"
+    usage = "# usage: opprove prove|check|refute|model|bench|confirm|explain|cancel"
     raised(lambda: s.prove("--paris", program=program()), Refused, usage, 2)
     raised(lambda: Statement().prove(program=program()), Refused, "# refused S15", 3)
     refused = (EXAMPLES / "equal_maps_refused.cert").read_text()
