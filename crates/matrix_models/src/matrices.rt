@@ -1,6 +1,7 @@
 //! Matrices over the integers modulo a number, as an involutive category.
 
-ghost use Rattle.std.specs.Prelude.{◌≡◌, ◌*◌, ◌%◌, ◌<◌};
+ghost use Rattle.std.specs.Prelude.{◌≡◌, ◌+◌, ◌-◌, ◌*◌, ◌%◌, ◌<◌, ◌≤◌};
+ghost use Rattle.matrix_models.specs.Limits.{modulus_limit};
 ghost use Rattle.matrix_models.specs.Matrix.{entry_at, IsMatrix};
 ghost use Rattle.matrix_models.specs.Matrices.{matrices, transpose, total};
 ghost use Rattle.matrix_models.specs.Laws.{matrices_laws, transpose_laws};
@@ -49,7 +50,7 @@ impl Category for Matrices {
     fn add(&self, alloc: Global, left: &Matrix, right: &Matrix) -> Result<Matrix, AllocError> {
         let modulus = self.modulus;
         Matrix::build(alloc, modulus, left.rows(), left.columns(), |row, column| {
-            (left.entry(row, column) + right.entry(row, column)) % modulus
+            sum_of(modulus, left.entry(row, column), right.entry(row, column))
         })
     }
 
@@ -60,7 +61,7 @@ impl Category for Matrices {
             modulus,
             arrow.rows(),
             arrow.columns(),
-            |row, column| { (modulus - arrow.entry(row, column)) % modulus },
+            |row, column| { negative_of(modulus, arrow.entry(row, column)) },
         )
     }
 
@@ -95,7 +96,28 @@ impl Involutive for Matrices {
     }
 }
 
-// The entry in this row and column of the product.
+// The sum of two numbers below the modulus, modulo it.
+fn sum_of(modulus: u32, left: u32, right: u32) -> u32
+    requires modulus { modulus ≤ modulus_limit }
+    requires left_below { left < modulus }
+    requires right_below { right < modulus }
+    ensures value { result ≡ (left + right) % modulus }
+    ensures below { result < modulus }
+{
+    let sum = left + right;
+    if sum < modulus { sum } else { sum - modulus }
+}
+
+// The negative of a number below the modulus, modulo it.
+fn negative_of(modulus: u32, number: u32) -> u32
+    requires { number < modulus }
+    ensures value { result ≡ (modulus - number) % modulus }
+    ensures below { result < modulus }
+{
+    if number == 0 { 0 } else { modulus - number }
+}
+
+// The entry in this row and column of the product. Its sum is reduced once.
 fn product_entry(left: &Matrix, right: &Matrix, row: u32, column: u32) -> u32
     requires fits { left.now.columns ≡ right.now.rows }
     requires one_modulus { left.now.modulus ≡ right.now.modulus }
@@ -107,8 +129,21 @@ fn product_entry(left: &Matrix, right: &Matrix, row: u32, column: u32) -> u32
     let modulus = u64::from(left.modulus());
     let mut sum = 0;
     for k in 0..left.columns() {
-        let product = u64::from(left.entry(row, k)) * u64::from(right.entry(k, column));
-        sum = (sum + product) % modulus;
+        sum = add_product(modulus, sum, left.entry(row, k), right.entry(k, column));
     }
-    sum as u32
+    (sum % modulus) as u32
+}
+
+// The sum with the product of two numbers below the modulus, up to a multiple of it, and below its square as the sum is.
+fn add_product(modulus: u64, sum: u64, left: u32, right: u32) -> u64
+    requires modulus { modulus ≤ modulus_limit }
+    requires sum_below { sum < modulus * modulus }
+    requires left_below { left < modulus }
+    requires right_below { right < modulus }
+    ensures below { result < modulus * modulus }
+    ensures alike { result % modulus ≡ (sum + left * right) % modulus }
+{
+    let square = modulus * modulus;
+    let more = sum + u64::from(left) * u64::from(right);
+    if more < square { more } else { more - square }
 }

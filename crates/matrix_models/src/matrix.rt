@@ -88,10 +88,11 @@ impl Matrix {
             → ((row column value : ℕ) → row < rows → column < columns → F.post entry row column value → value ≡ f row column)
             → a ≡ matrix_of modulus rows columns f) }
     {
-        let size = rows * columns;
-        let mut entries = Vec::with_capacity(alloc, size as usize)?;
-        for place in 0..size {
-            entries.push(entry(place / columns, place % columns))?;
+        let mut entries = Vec::with_capacity(alloc, (rows * columns) as usize)?;
+        for row in 0..rows {
+            for column in 0..columns {
+                entries.push(entry(row, column))?;
+            }
         }
         Ok(Matrix {
             modulus,

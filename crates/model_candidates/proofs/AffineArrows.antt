@@ -126,18 +126,18 @@ module _ (q : Quiver) (s : Shape) (solved : List Letter) (drawn : List ℕ) wher
     abbrev arrow_at : ℕ → List ℕ → Matrix
     arrow_at a values = arrow_of q (model_at values) a
 
-    arrow_of_map : (values : List ℕ) (a : ℕ) → IsMap q a → arrow_at a values ≡ matrix_by q s (all_values values) a
+    pub arrow_of_map : (values : List ℕ) (a : ℕ) → IsMap q a → arrow_at a values ≡ matrix_by q s (all_values values) a
     arrow_of_map values a is =
         arrow_of-map q (model_at values) a is.map is.declared
         ∙ ap (matrix_or_zero s.modulus) (map_at-model_by q s 0 (all_values values) a is)
 
-    arrow_of_adjoint : (values : List ℕ) (a : ℕ) → q.objects ≤ a → star q a < a → IsMap q (star q a)
+    pub arrow_of_adjoint : (values : List ℕ) (a : ℕ) → q.objects ≤ a → star q a < a → IsMap q (star q a)
         → arrow_at a values ≡ transpose s.modulus (matrix_by q s (all_values values) (star q a))
     arrow_of_adjoint values a map below is =
         arrow_of-adjoint q (model_at values) a map below
         ∙ ap (λ x. transpose s.modulus (matrix_or_zero s.modulus x)) (map_at-model_by q s 0 (all_values values) (star q a) is)
 
-    map_of : (a : ℕ) → q.objects ≤ a → a < letters q → star q a < a → IsMap q (star q a)
+    pub map_of : (a : ℕ) → q.objects ≤ a → a < letters q → star q a < a → IsMap q (star q a)
     map_of = adjoint_is_map q quiver (model_at []) (model_by_is_model q s quiver shape 0 (all_values []))
 
     -- a letter that isn't solved has one matrix

@@ -54,13 +54,13 @@ module _ (q : Quiver) (s : Shape) (solved : List Letter) (drawn : List ℕ) (qui
   AreAffine u v f = HasAffineEntries s.modulus (unknowns q s solved drawn) (side_in s v) (side_in s u) f
 
   -- ---- words
-  count_with : (a : ℕ) (w : List ℕ) → is_solved q solved a ≡ true → solved_count q solved (a ∷ w) ≡ suc (solved_count q solved w)
+  pub count_with : (a : ℕ) (w : List ℕ) → is_solved q solved a ≡ true → solved_count q solved (a ∷ w) ≡ suc (solved_count q solved w)
   count_with a w is = ap (λ b. length (cond b (a ∷ filter (is_solved q solved) w) (filter (is_solved q solved) w))) is
 
-  count_without : (a : ℕ) (w : List ℕ) → is_solved q solved a ≡ false → solved_count q solved (a ∷ w) ≡ solved_count q solved w
+  pub count_without : (a : ℕ) (w : List ℕ) → is_solved q solved a ≡ false → solved_count q solved (a ∷ w) ≡ solved_count q solved w
   count_without a w is = ap (λ b. length (cond b (a ∷ filter (is_solved q solved) w) (filter (is_solved q solved) w))) is
 
-  first_unsolved : (a : ℕ) (w : List ℕ) → solved_count q solved (a ∷ w) ≡ 0 → is_solved q solved a ≡ false
+  pub first_unsolved : (a : ℕ) (w : List ℕ) → solved_count q solved (a ∷ w) ≡ 0 → is_solved q solved a ≡ false
   first_unsolved a w none = false_from_ne_true (is_solved q solved a) (λ is. absurd (omega (arith, count_with a w is, none)))
 
   -- a word with no solved letter has one value
@@ -115,7 +115,7 @@ module _ (q : Quiver) (s : Shape) (solved : List Letter) (drawn : List ℕ) (qui
     multiple_of t values = multiple (matrices s.modulus) t.0 (value_of_word t.1 values)
 
     -- a polynomial with no solved letter has one value
-    word_is_same : (w : List ℕ) → is_path q u v w ≡ true → solved_count q solved w ≡ 0 → (values : List ℕ) → value_of_word w values ≡ value_of_word w []
+    pub word_is_same : (w : List ℕ) → is_path q u v w ≡ true → solved_count q solved w ≡ 0 → (values : List ℕ) → value_of_word w values ≡ value_of_word w []
     word_is_same [] path none values = refl
     word_is_same (a ∷ w) path none values = word_unsolved u v a w path none values
 

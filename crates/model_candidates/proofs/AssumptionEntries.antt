@@ -116,7 +116,7 @@ module _ (problem : Problem) (s : Shape) (shape : IsShape (object_count problem.
     rows_object : IsObject s.modulus rows
     rows_object = side_is_object q s quiver shape g.sig.target.0 is.target
 
-    columns_object : IsObject s.modulus columns
+    pub columns_object : IsObject s.modulus columns
     columns_object = side_is_object q s quiver shape g.sig.source.0 is.source
 
     value_arrow : (values : List ℕ) → Below values → IsArrow (matrices s.modulus) columns rows (value values)
@@ -128,7 +128,7 @@ module _ (problem : Problem) (s : Shape) (shape : IsShape (object_count problem.
         let x = value_arrow values below in
         x.arrow.shape.size ∙ ap₂ ◌*◌ x.target x.source
 
-    entry_is : (values : List ℕ) → Below values → (place : ℕ) → get_or (value values).entries place 0 ≡ entry_at (value values)
+    pub entry_is : (values : List ℕ) → Below values → (place : ℕ) → get_or (value values).entries place 0 ≡ entry_at (value values)
         (place / columns) (place % columns)
     entry_is values below place =
         let x = value_arrow values below in

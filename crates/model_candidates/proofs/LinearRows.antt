@@ -15,7 +15,7 @@ use Rattle.model_candidates.proofs.Affine.{IsAffine}
 pub length-unit_values : (n k : ℕ) → length (unit_values n k) ≡ n
 length-unit_values n k = length-map-range_with_len (λ j. cond (eqb j k) 1 0) 0 n
 
-unit_at : (n k j : ℕ) → j < n → get_or (unit_values n k) j 0 ≡ cond (eqb j k) 1 0
+pub unit_at : (n k j : ℕ) → j < n → get_or (unit_values n k) j 0 ≡ cond (eqb j k) 1 0
 unit_at n k j inside = get_or-map-range_with_len (λ j. cond (eqb j k) 1 0) 0 n j j 0 inside (omega arith)
 
 pub unit_values_below : (m n k : ℕ) → 2 ≤ m → All (λ value. value < m) (unit_values n k)

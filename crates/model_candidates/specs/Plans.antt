@@ -1,5 +1,5 @@
 -- What all candidates of a shape share, for private functions.
-use Rattle.std.specs.Prelude.{◌≡◌, Bool, true, not, ◌&&◌, if◌then◌else◌, ℕ, ◌<◌, ◌≤◌, List, [], length, filter, get_or, nat_le, IsTrue}
+use Rattle.std.specs.Prelude.{◌≡◌, Bool, not, ◌&&◌, if◌then◌else◌, ℕ, ◌<◌, ◌≤◌, List, [], length, filter, get_or, nat_le, IsTrue}
 use Rattle.std.specs.List.{All, AllByRecursion, list_all}
 use Rattle.definitions.specs.Poly.{Poly}
 use Rattle.definitions.specs.Quiver.{Quiver, IsTyped}

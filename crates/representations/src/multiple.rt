@@ -48,18 +48,35 @@ fn natural_multiple_of<C: Category>(
     }
 }
 
+// n times the arrow: the arrow itself where n is 1, as coefficients mostly are.
+fn times<C: Category>(
+    alloc: Global,
+    category: &C,
+    n: u128,
+    arrow: C::Arrow,
+) -> Result<C::Arrow, AllocError>
+    requires { (C.structure category.now).is_arrow arrow }
+    ensures ends { IfOk result (λ a. IsArrow (C.structure category.now) ((C.structure category.now).source arrow) ((C.structure category.now).target arrow) a) }
+    ensures value { IfOk result (λ a. a ≡ natural_multiple (C.structure category.now) n arrow) }
+{
+    if n == 1 {
+        return Ok(arrow);
+    }
+    natural_multiple_of(alloc, category, n, &arrow)
+}
+
 // The integer multiple of the arrow.
 pub(crate) fn multiple_of<C: Category>(
     alloc: Global,
     category: &C,
     integer: i128,
-    arrow: &C::Arrow,
+    arrow: C::Arrow,
 ) -> Result<C::Arrow, AllocError>
-    requires { (C.structure category.now).is_arrow arrow.now }
-    ensures ends { IfOk result (λ a. IsArrow (C.structure category.now) ((C.structure category.now).source arrow.now) ((C.structure category.now).target arrow.now) a) }
-    ensures value { IfOk result (λ a. a ≡ multiple (C.structure category.now) integer arrow.now) }
+    requires { (C.structure category.now).is_arrow arrow }
+    ensures ends { IfOk result (λ a. IsArrow (C.structure category.now) ((C.structure category.now).source arrow) ((C.structure category.now).target arrow) a) }
+    ensures value { IfOk result (λ a. a ≡ multiple (C.structure category.now) integer arrow) }
 {
-    let natural = natural_multiple_of(alloc, category, integer.unsigned_abs(), arrow)?;
+    let natural = times(alloc, category, integer.unsigned_abs(), arrow)?;
     if integer < 0 {
         let negative = category.negate(alloc, &natural)?;
         Ok(negative)

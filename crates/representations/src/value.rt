@@ -38,7 +38,7 @@ pub fn value_of<C: Category>(
     for place in 0..poly.terms() {
         let (coefficient, word) = poly.term(place);
         let path = path_value_of(alloc, category, quiver, representation, word)?;
-        let multiple = multiple_of(alloc, category, coefficient, &path)?;
+        let multiple = multiple_of(alloc, category, coefficient, path)?;
         sum = category.add(alloc, &sum, &multiple)?;
     }
     Ok(sum)

@@ -3,9 +3,9 @@ use Rattle.matrix_models.specs.Matrix.{entry_at}
 use Rattle.matrix_models.specs.Matrices.{total}
 use Rattle.matrix_models.proofs.matrices.product_entry.Given as goal
 
--- the sum of the products so far, modulo the modulus
+-- the sum of the products so far, up to a multiple of the modulus
 abbrev pub invariant-loop-k : goal.invariant-loop-k
 invariant-loop-k l = record {
-  sum_is : l.sum ≡ total l.k (λ k. entry_at l.left l.row k * entry_at l.right k l.column) % l.modulus;
-  sum_below : l.sum < l.modulus;
+  sum_is : l.sum % l.modulus ≡ total l.k (λ k. entry_at l.left l.row k * entry_at l.right k l.column) % l.modulus;
+  sum_below : l.sum < l.modulus * l.modulus;
 }

@@ -1,4 +1,4 @@
-use Rattle.std.proofs.Common.{rules, ◌≡◌, ◌<◌, ◌+◌, ℕ, ◌⊎◌, inl, inr, true, get_or, length, sym, subst, ◌∙◌, arith, true≢false}
+use Rattle.std.proofs.Common.{rules, ◌≡◌, ◌<◌, ◌+◌, ℕ, ◌⊎◌, inl, inr, get_or, sym, subst, ◌∙◌, arith, true≢false}
 use Rattle.std.proofs.lemmas.Bool.{cases_eq}
 use Rattle.std.proofs.lemmas.List.Elements.{All-get_or, All-from_get_or}
 use Rattle.model_candidates.specs.Plans.{IsAssumption, IsZeroAtSignature}

@@ -1,5 +1,4 @@
 use Rattle.std.proofs.Common.{ℕ, ◌<◌, get_or}
-use Rattle.model_candidates.specs.declared.plan.LinearAssumption.{LinearAssumption}
 use Rattle.model_candidates.specs.Plans.{IsZeroAtSignature}
 use Rattle.model_candidates.proofs.KnownValues.{no_assumption}
 use Rattle.model_candidates.proofs.conditions.are_zero.Given as goal

@@ -1,4 +1,4 @@
-use Rattle.std.proofs.Common.{All, IsTrue, ◌↔◌, Bool, subst}
+use Rattle.std.proofs.Common.{All, IsTrue, ◌↔◌, subst}
 use Rattle.std.proofs.lemmas.Result.{IfOk-weaker}
 use Rattle.adjoint_rules.proofs.Generators.{posed_quiver}
 use Rattle.model_candidates.specs.Plans.{IsZeroAtSignature}
