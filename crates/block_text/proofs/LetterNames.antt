@@ -1,17 +1,17 @@
 -- What the name of a letter stands for.
-use Rattle.std.proofs.Common.{◌≡◌, ◌≢◌, ◌<◌, ◌≤◌, ◌+◌, ◌-◌, ℕ, zero, suc, Bool, true, false, nat_eq, nat_lt, List, [], ◌∷◌, ◌++◌, Some, arith, refl, sym, ap, ◌∙◌, subst, length, map, get_or, eq-eqb, ltb-true, IsTrue}
+use Rattle.std.proofs.Common.{◌≡◌, ◌≢◌, ◌<◌, ◌≤◌, ◌+◌, ◌-◌, ℕ, zero, suc, Bool, true, false, nat_eq, nat_lt, List, [], ◌∷◌, ◌++◌, Some, arith, refl, sym, ap, ◌∙◌, subst, length, map, eq-eqb, ltb-true, IsTrue}
 use Rattle.std.specs.List.{AllPairs, AllByRecursion, list_all}
 use Rattle.std.specs.Map.{lookup}
 use Rattle.std.specs.Str.{bytes_eq}
 use Rattle.std.proofs.lemmas.Bool.{and_parts, ne_eqb, false_from_ne_true, ltb-false}
-use Rattle.std.proofs.lemmas.List.{map-append, length-map, length-append, get_or-append-add}
+use Rattle.std.proofs.lemmas.List.{length-map, length-append}
 use Rattle.std.proofs.lemmas.Slice.Eq.{bytes_eq-Decides}
-use Rattle.std.proofs.Math.Seq.{get_or-append_seam}
 use Rattle.definitions.specs.Quiver.{star}
 use Rattle.quiver.specs.declared.named.Named.{Named}
-use Rattle.quiver.specs.Declarations.{Declaration, object, arrow, name_of, objects_of, letters_of, object_count, letter_count, named_by, object_table, letter_table, no_object, no_letter, object_at, letter_at, name_at, letter_name, identity_in, quiver_of, named_in, IsDeclared}
-use Rattle.quiver.proofs.Counts.{letter_count-append, length-object_table, length-letter_table}
-use Rattle.quiver.proofs.Growth.{turn, names_from, objects_from, letters_from, object_table-append, letter_table-append}
+use Rattle.quiver.specs.Declarations.{Declaration, object, arrow, name_of, objects_of, letters_of, object_count, letter_count, named_by, letter_at, object_name, letter_name, identity_in, quiver_of, named_in, IsDeclared}
+use Rattle.quiver.proofs.Counts.{letter_count-append}
+use Rattle.quiver.proofs.Found.{name_at-split, object_at-split, letter_at-split, object_name-split, letter_name-split, plus_zero}
+use Rattle.quiver.proofs.Growth.{turn, names_from}
 use Rattle.quiver.proofs.Letters.{star-quiver_of}
 use Rattle.block_text.specs.Letters.{is_name}
 use Rattle.block_text.specs.Back.{is_named}
@@ -55,42 +55,68 @@ placed : (ds : List Declaration) (a : ℕ) → a < letter_count ds → IsPlaced 
 placed [] a within = absurd (omega (arith, within))
 placed (d ∷ ds) a within = placed_by d ds a _ refl (λ behind. placed ds (a - letters_of d) (omega (arith, within, behind)))
 
--- ---- the tables at a declaration between others
-module _ (before : List Declaration) (d : Declaration) (after : List Declaration) where
-  pub name_is : get_or (map name_of (before ++ d ∷ after)) (length before) [] ≡ name_of d
-  name_is =
-      ap (λ names. get_or names (length before) []) (map-append name_of before (d ∷ after))
-      ∙ ap (λ n. get_or (map name_of before ++ name_of d ∷ map name_of after) n []) (sym (length-map before name_of))
-      ∙ get_or-append_seam (map name_of before) (name_of d) (map name_of after) []
+-- ---- the names of adjoints and identities
 
-  pub object_is : (k : ℕ) → object_at (before ++ d ∷ after) (object_count before + k) ≡ get_or (objects_from (length before) (object_count before) (letter_count before) (d ∷ after)) k no_object
-  object_is k =
-      ap (λ table. get_or table (object_count before + k) no_object) (object_table-append before (d ∷ after))
-      ∙ ap (λ n. get_or (object_table before ++ objects_from (length before) (object_count before) (letter_count before) (d ∷ after)) (n + k) no_object) (sym (length-object_table before))
-      ∙ get_or-append-add (object_table before) (objects_from (length before) (object_count before) (letter_count before) (d ∷ after)) k no_object
+-- what the entry of a letter says of its adjoint
+star_by : (before : List Declaration) (d : Declaration) (after : List Declaration) (k : ℕ) → k < letters_of d → (i : ℕ) × (i < letters_of d) × ((letter_at (before ++ d ∷ after) (letter_count before + k)).star ≡ letter_count before + i)
+star_by before (object name) after zero below = (0, below, ap (λ e. e.star) (letter_at-split before (object name) after 0) ∙ plus_zero (letter_count before))
+star_by before (object name) after (suc k) below = absurd (omega (arith, below))
+star_by before (arrow name x y true) after zero below = (0, below, ap (λ e. e.star) (letter_at-split before (arrow name x y true) after 0) ∙ plus_zero (letter_count before))
+star_by before (arrow name x y true) after (suc k) below = absurd (omega (arith, below))
+star_by before (arrow name x y false) after zero below = (1, omega arith, ap (λ e. e.star) (letter_at-split before (arrow name x y false) after 0))
+star_by before (arrow name x y false) after (suc zero) below = (0, omega arith, ap (λ e. e.star) (letter_at-split before (arrow name x y false) after 1) ∙ plus_zero (letter_count before))
+star_by before (arrow name x y false) after (suc (suc k)) below = absurd (omega (arith, below))
 
-  letter_is : (k : ℕ) → letter_at (before ++ d ∷ after) (letter_count before + k) ≡ get_or (letters_from (length before) (object_count before) (letter_count before) (d ∷ after)) k no_letter
-  letter_is k =
-      ap (λ table. get_or table (letter_count before + k) no_letter) (letter_table-append before (d ∷ after))
-      ∙ ap (λ n. get_or (letter_table before ++ letters_from (length before) (object_count before) (letter_count before) (d ∷ after)) (n + k) no_letter) (sym (length-letter_table before))
-      ∙ get_or-append-add (letter_table before) (letters_from (length before) (object_count before) (letter_count before) (d ∷ after)) k no_letter
+-- a letter and its adjoint have one name
+pub star_name : (ds : List Declaration) (a : ℕ) → a < letter_count ds → letter_name ds (star (quiver_of ds) a) ≡ letter_name ds a
+star_name ds a within =
+    let there = placed ds a within in
+    let whole = there.before ++ there.declared ∷ there.after in
+    let other = star_by there.before there.declared there.after there.place there.below in
+    let star_is : star (quiver_of ds) a ≡ letter_count there.before + other.0 =
+    star-quiver_of ds a within ∙ (λ j. (letter_at (there.whole j) (there.letter j)).star) ∙ other.2 in
+    ap (letter_name ds) star_is ∙ ap (λ es. letter_name es (letter_count there.before + other.0)) there.whole
+    ∙ letter_name-split there.before there.declared there.after other.0 other.1
+    ∙ sym (letter_name-split there.before there.declared there.after there.place there.below)
+    ∙ (λ j. letter_name (sym there.whole j) (sym there.letter j))
 
-declaration_is : (before : List Declaration) (d : Declaration) (after : List Declaration) (k : ℕ) → k < letters_of d → (letter_at (before ++ d ∷ after) (letter_count before + k)).declaration ≡ length before
-declaration_is before (object name) after zero below = ap (λ e. e.declaration) (letter_is before (object name) after 0)
-declaration_is before (object name) after (suc k) below = absurd (omega (arith, below))
-declaration_is before (arrow name x y true) after zero below = ap (λ e. e.declaration) (letter_is before (arrow name x y true) after 0)
-declaration_is before (arrow name x y true) after (suc k) below = absurd (omega (arith, below))
-declaration_is before (arrow name x y false) after zero below = ap (λ e. e.declaration) (letter_is before (arrow name x y false) after 0)
-declaration_is before (arrow name x y false) after (suc zero) below = ap (λ e. e.declaration) (letter_is before (arrow name x y false) after 1)
-declaration_is before (arrow name x y false) after (suc (suc k)) below = absurd (omega (arith, below))
+pub record IsObject (ds : List Declaration) (v : ℕ) : Type 0 where
+  pub before : List Declaration
+  pub name : List ℕ
+  pub after : List Declaration
+  pub whole : ds ≡ before ++ object name ∷ after
+  pub number : v ≡ object_count before
 
-letter_name_is : (before : List Declaration) (d : Declaration) (after : List Declaration) (k : ℕ) → k < letters_of d → letter_name (before ++ d ∷ after) (letter_count before + k) ≡ name_of d
-letter_name_is before d after k below = ap (name_at (before ++ d ∷ after)) (declaration_is before d after k below) ∙ name_is before d after
+pub object_placed : (ds : List Declaration) (v : ℕ) → v < object_count ds → IsObject ds v
+object_placed [] v within = absurd (omega (arith, within))
+object_placed (object name ∷ ds) zero within = record { before = []; name = name; after = ds; whole = refl; number = refl }
+object_placed (object name ∷ ds) (suc v) within =
+    let there = object_placed ds v (omega (arith, within)) in
+    record { before = object name ∷ there.before; name = there.name; after = there.after; whole = ap (λ es. object name ∷ es) there.whole; number = omega (arith, there.number) }
+object_placed (arrow name x y selfmade ∷ ds) v within =
+    let there = object_placed ds v (omega (arith, within)) in
+    record {
+      before = arrow name x y selfmade ∷ there.before;
+      name = there.name;
+      after = there.after;
+      whole = ap (λ es. arrow name x y selfmade ∷ es) there.whole;
+      number = omega (arith, there.number);
+    }
+
+-- an object and its identity have one name
+pub identity_name : (ds : List Declaration) (v : ℕ) → v < object_count ds → letter_name ds (identity_in ds v) ≡ object_name ds v
+identity_name ds v within =
+    let there = object_placed ds v within in
+    let whole = there.before ++ object there.name ∷ there.after in
+    let identity_is : identity_in whole (object_count there.before + 0) ≡ letter_count there.before + 0 =
+    ap (λ e. e.identity) (object_at-split there.before (object there.name) there.after 0) ∙ plus_zero (letter_count there.before) in
+    let number : v ≡ object_count there.before + 0 = there.number ∙ plus_zero (object_count there.before) in
+    (λ j. letter_name (there.whole j) (identity_in (there.whole j) (number j)))
+    ∙ ap (letter_name whole) identity_is ∙ letter_name-split there.before (object there.name) there.after 0 (omega arith)
+    ∙ sym (object_name-split there.before there.name there.after)
+    ∙ (λ j. object_name (sym there.whole j) (sym number j))
 
 -- ---- the look-up of a name
-
-plus_zero : (n : ℕ) → n ≡ n + 0
-plus_zero n = omega arith
 
 plus_assoc : (n m k : ℕ) → n + m + k ≡ n + (m + k)
 plus_assoc n m k = omega arith
@@ -102,7 +128,7 @@ pub apart : (before : List Declaration) (d : Declaration) (after : List Declarat
 apart [] d after pairs = tt
 apart (e ∷ before) d after pairs =
     let within : suc (length before) < length (name_of e ∷ map name_of (before ++ d ∷ after)) = grind (arith, length-map (before ++ d ∷ after) name_of, length-append before (d ∷ after)) in
-    (λ same. pairs 0 (suc (length before)) [] (omega arith) within (same ∙ sym (name_is before d after)), apart before d after (next (name_of e) (map name_of (before ++ d ∷ after)) pairs))
+    (λ same. pairs 0 (suc (length before)) [] (omega arith) within (same ∙ sym (name_at-split before d after)), apart before d after (next (name_of e) (map name_of (before ++ d ∷ after)) pairs))
 
 pub found : (p v a : ℕ) (before : List Declaration) (d : Declaration) (after : List Declaration) → AllByRecursion (λ e. name_of e ≢ name_of d) before
     → lookup (bytes_eq (name_of d)) (names_from p v a (before ++ d ∷ after)) ≡ Some (named_by d (turn d (p + length before) (v + object_count before) (a + letter_count before)))
@@ -126,7 +152,7 @@ own n other = absurd (let same : nat_eq (n + 0) (0 + n) ≡ true = eq-eqb (n + 0
 comes_by : (before : List Declaration) (d : Declaration) (after : List Declaration) (k : ℕ) → k < letters_of d → Comes (before ++ d ∷ after) (letter_count before + k) (Some (standing before d))
 comes_by before (object name) after zero below =
     let turned : 0 + object_count before ≡ object_count before + 0 = omega arith in
-    ap (identity_in (before ++ object name ∷ after)) turned ∙ ap (λ e. e.identity) (object_is before (object name) after 0) ∙ plus_zero (letter_count before)
+    ap (identity_in (before ++ object name ∷ after)) turned ∙ ap (λ e. e.identity) (object_at-split before (object name) after 0) ∙ plus_zero (letter_count before)
 comes_by before (object name) after (suc k) below = absurd (omega (arith, below))
 comes_by before (arrow name x y true) after zero below = (λ same. omega arith, λ other. own (letter_count before) other)
 comes_by before (arrow name x y true) after (suc k) below = absurd (omega (arith, below))
@@ -136,7 +162,7 @@ comes_by before (arrow name x y false) after (suc zero) below =
     let turned : 0 + letter_count before ≡ letter_count before + 0 = omega arith in
     let within : letter_count before + 0 < letter_count whole = omega (arith, letter_count-append before (arrow name x y false ∷ after)) in (
       λ same. absurd (let other : nat_eq (letter_count before + 1) (0 + letter_count before) ≡ false = ne_eqb (letter_count before + 1) (0 + letter_count before) (λ e. omega (arith, e)) in cc),
-      λ other. ap (star (quiver_of whole)) turned ∙ star-quiver_of whole (letter_count before + 0) within ∙ ap (λ e. e.star) (letter_is before (arrow name x y false) after 0),
+      λ other. ap (star (quiver_of whole)) turned ∙ star-quiver_of whole (letter_count before + 0) within ∙ ap (λ e. e.star) (letter_at-split before (arrow name x y false) after 0),
     )
 comes_by before (arrow name x y false) after (suc (suc k)) below = absurd (omega (arith, below))
 
@@ -152,7 +178,7 @@ named_between (e ∷ before) d after names = named_between before d after (and_p
 spelled_by_place : (before : List Declaration) (d : Declaration) (after : List Declaration) (k : ℕ) → k < letters_of d → AllPairs (λ x y. x ≢ y) (map name_of (before ++ d ∷ after))
     → IsTrue (list_all is_named (before ++ d ∷ after)) → IsSpelled (before ++ d ∷ after) (letter_count before + k)
 spelled_by_place before d after k below pairs names =
-    let name = letter_name_is before d after k below in
+    let name = letter_name-split before d after k below in
     record {
       name = rw name (named_between before d after names);
       comes = rw (name, found 0 0 0 before d after (apart before d after pairs)) (comes_by before d after k below);

@@ -19,6 +19,7 @@ pub mod LinesBack
 pub mod NumbersBack
 pub mod LettersBack
 pub mod LetterNames
+mod WrittenLetters
 pub mod TextsBack
 pub mod ContentBack
 pub mod NumberLines

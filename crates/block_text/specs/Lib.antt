@@ -1,6 +1,8 @@
 pub mod Fault
 pub mod Tokens
 pub mod Letters
+pub mod Kinds
+pub mod WrittenLetters
 pub mod Lines
 pub mod Kind
 pub mod Blocks

@@ -8,7 +8,9 @@ ghost use Rattle.unicode_ident.specs.Ident.{is_xid_continue};
 ghost use Rattle.quiver.specs.Declarations.{letter_count, named_in};
 ghost use Rattle.block_text.specs.Letters.{starts_name, begins_name, name_in, named_by, without_brackets, spelled_by, is_letter, letter_named, letter_of};
 ghost use Rattle.block_text.specs.PolynomialLines.{is_term_letter};
+ghost use Rattle.block_text.specs.PolynomialReading.{written_letter};
 ghost use Rattle.block_text.specs.Views.{spelled};
+ghost use Rattle.block_text.specs.WrittenLetters.{other_star, written_by};
 
 use quiver::{Named, Quiver};
 use statement_tokens::NAME_LIMIT;
@@ -137,4 +139,36 @@ pub fn is_term_letter(token: &[u8]) -> bool
         Some(spelled) => !(spelled.identity && spelled.adjoint),
         None => false,
     }
+}
+
+// The adjoint of a letter, if it is another one.
+fn other_star(quiver: &Quiver, letter: Letter) -> Option<Letter>
+    requires { letter.0 < letter_count quiver.now }
+    ensures { option_map (λ a. a.0) result ≡ other_star quiver.now letter.0 }
+{
+    let star = quiver.star_of(letter);
+    if star.0 == letter.0 { None } else { Some(star) }
+}
+
+// The letter that is written so. A ' is written behind no letter that is its own adjoint.
+fn written_by(quiver: &Quiver, text: &Spelled<'_>) -> Option<Letter>
+    ensures { option_map (λ a. a.0) result ≡ written_by quiver.now (spelled text.now) }
+{
+    if text.identity && text.adjoint {
+        return None;
+    }
+    let letter = letter_named(quiver, text.name, text.identity)?;
+    if text.adjoint {
+        other_star(quiver, letter)
+    } else {
+        Some(letter)
+    }
+}
+
+/// The letter of the quiver that the token spells as it is written.
+#[tactic(auto, using(crate::proofs::WrittenLetters::written_by_spelling))]
+pub fn written_letter(quiver: &Quiver, token: &[u8]) -> Option<Letter>
+    ensures { option_map (λ a. a.0) result ≡ written_letter quiver.now token.now }
+{
+    written_by(quiver, &spelled_by(token)?)
 }

@@ -5,6 +5,7 @@ mod bracket;
 mod cut;
 mod fault;
 mod kind;
+mod kinds;
 mod laws;
 mod letter;
 mod line;
@@ -19,6 +20,7 @@ pub use bracket::bracketed;
 pub use cut::{first_line, first_token, is_skipped, is_utf8};
 pub use fault::{CertFault, Flaw, LineFault, TextFlaw, at_line};
 pub use kind::BlockKind;
+pub use kinds::{are_letters, are_numbers};
 pub use laws::{polynomial_flaws_are_told, polynomial_lines_are_read, polynomials_are_read_back};
 pub use letter::{is_letter, letter_of, name_in};
 pub use line::{

@@ -10,20 +10,20 @@ ghost use Rattle.quiver.specs.Declarations.{letter_count};
 ghost use Rattle.word_core.specs.Letters.{IsOver};
 ghost use Rattle.block_text.specs.Fault.{Reads};
 ghost use Rattle.block_text.specs.Letters.{letter_of, signed};
-ghost use Rattle.block_text.specs.PolynomialReading.{is_term_sign, is_minus, part_in, term_of, later_in, terms_behind, terms_of, is_zero, now_of, term_in, terms_from, terms_left, is_bracketed, is_adjoint, is_written_as, written_letter, word_behind, is_above_one, value_within, term_value, may_follow, poly_behind, passes_letter, passes_number, pass_letters, passes, letters_cmp, words_cmp, descend, at_most, first_flaw, polynomial_of};
+ghost use Rattle.block_text.specs.PolynomialReading.{is_term_sign, is_minus, part_in, term_of, later_in, terms_behind, terms_of, is_zero, now_of, term_in, terms_from, terms_left, word_behind, is_above_one, value_within, term_value, may_follow, poly_behind, passes_letter, passes_number, pass_letters, passes, letters_cmp, words_cmp, descend, at_most, first_flaw, polynomial_of};
 ghost use Rattle.block_text.specs.Tokens.{tokens_of};
 
 use crate::cut::first_token;
 use crate::fault::{Flaw, LineFault};
-use crate::letter::{is_term_letter, letter_of};
+use crate::letter::{is_term_letter, letter_of, written_letter};
 use crate::line::is;
 use crate::number::{INTEGER_LIMIT, is_number, number_within};
 use lists::Listing;
 use nc_polynomial::{Poly, TERM_LIMIT, WORD_LIMIT};
-use quiver::{Named, Quiver};
+use quiver::Quiver;
 use std::alloc::{AllocError, Global};
 use std::cmp::Ordering;
-use word_core::{Letter, Word};
+use word_core::Word;
 
 // A term of a line: its sign, its number where one stands, and its letters, which end before the next sign.
 #[derive(Clone, Copy)]
@@ -90,12 +90,12 @@ fn first_term(line: &[u8]) -> TermText<'_>
     }
 }
 
-// The term behind another.
-fn next_term<'a>(term: TermText<'a>) -> Option<TermText<'a>>
-    ensures terms { terms_left result ≡ later_in (tokens_of term.entry.letters.now) }
-    ensures shorter { IfSome result (λ next. length next.letters.now < length term.entry.letters.now) }
+// The first term behind a sign in a line.
+fn next_term(line: &[u8]) -> Option<TermText<'_>>
+    ensures terms { terms_left result ≡ later_in (tokens_of line.now) }
+    ensures shorter { IfSome result (λ next. length next.letters.now < length line.now) }
 {
-    let mut rest = term.letters;
+    let mut rest = line;
     while let Some((token, behind)) = first_token(rest) {
         if is_term_sign(token) {
             return Some(term_at(is("-", token), behind));
@@ -117,59 +117,15 @@ fn is_zero(line: &[u8]) -> bool
     }
 }
 
-// Whether the token is the name in square brackets.
-fn is_bracketed(name: &str, token: &[u8]) -> bool
-    ensures { result ≡ is_bracketed name.now token.now }
-{
-    match token {
-        [b'[', inner @ .., b']'] => is(name, inner),
-        _ => false,
-    }
-}
-
-// Whether the token is the name before a '.
-fn is_adjoint(name: &str, token: &[u8]) -> bool
-    ensures { result ≡ is_adjoint name.now token.now }
-{
-    match token {
-        [front @ .., b'\''] => is(name, front),
-        _ => false,
-    }
-}
-
-// Whether the letter is written as this token.
-fn is_written_as(quiver: &Quiver, letter: Letter, token: &[u8]) -> bool
-    requires { letter.0 < letter_count quiver.now }
-    ensures { result ≡ is_written_as quiver.now letter.0 token.now }
-{
-    let name = quiver.letter_name(letter);
-    match quiver.find(name) {
-        Some(Named::Object(_)) => is_bracketed(name, token),
-        Some(Named::Map(map)) if map.0 == letter.0 => is(name, token),
-        Some(Named::Map(_)) => is_adjoint(name, token),
-        None => false,
-    }
-}
-
-// The letter that the token spells as it is written.
-#[tactic(auto, using(crate::proofs::LetterRange::letter_in_range))]
-fn written_letter(quiver: &Quiver, token: &[u8]) -> Option<Letter>
-    ensures { option_map (λ a. a.0) result ≡ written_letter quiver.now token.now }
-{
-    if !is_term_letter(token) {
-        return None;
-    }
-    let letter = letter_of(quiver, token)?;
-    if is_written_as(quiver, letter, token) {
-        Some(letter)
-    } else {
-        None
-    }
-}
-
-// The word of the letters before the next sign, if each is as it is written and there are not too many.
-fn word_in(alloc: Global, quiver: &Quiver, letters: &[u8]) -> Result<Option<Word>, AllocError>
-    ensures { IfOk result (λ word. word ≡ word_behind quiver.now [] (part_in (tokens_of letters.now))) }
+// The word of the letters before the next sign, if each is as it is written and there are not too many, and what stands behind them.
+fn word_in<'a>(
+    alloc: Global,
+    quiver: &Quiver,
+    letters: &'a [u8],
+) -> Result<Option<(Word, &'a [u8])>, AllocError>
+    ensures word { IfOk result (λ read. option_map (λ r. r.0) read ≡ word_behind quiver.now [] (part_in (tokens_of letters.now))) }
+    ensures later { IfOk result (λ read. IfSome read (λ r. later_in (tokens_of letters.now) ≡ later_in (tokens_of r.1.now))) }
+    ensures within { IfOk result (λ read. IfSome read (λ r. length r.1.now ≤ length letters.now)) }
 {
     let mut word = Word::new(alloc);
     let mut rest = letters;
@@ -183,7 +139,7 @@ fn word_in(alloc: Global, quiver: &Quiver, letters: &[u8]) -> Result<Option<Word
         word.push(letter)?;
         rest = behind;
     }
-    Ok(Some(word))
+    Ok(Some((word, rest)))
 }
 
 // Whether the token is a number above 1.
@@ -215,19 +171,23 @@ fn signed(negative: bool, value: u128) -> i128
     }
 }
 
-// What a term says, if it is within its bounds.
-fn term_value(
+// What a term says, if it is within its bounds, and what stands behind its letters.
+fn term_value<'a>(
     alloc: Global,
     quiver: &Quiver,
-    term: TermText<'_>,
-) -> Result<Option<(i128, Word)>, AllocError>
-    ensures { IfOk result (λ value. value ≡ term_value quiver.now (term_in term.entry)) }
+    term: TermText<'a>,
+) -> Result<Option<((i128, Word), &'a [u8])>, AllocError>
+    ensures value { IfOk result (λ read. option_map (λ r. r.0) read ≡ term_value quiver.now (term_in term.entry)) }
+    ensures later { IfOk result (λ read. IfSome read (λ r. later_in (tokens_of term.entry.letters.now) ≡ later_in (tokens_of r.1.now))) }
+    ensures within { IfOk result (λ read. IfSome read (λ r. length r.1.now ≤ length term.entry.letters.now)) }
 {
     let Some(value) = value_within(term.factor) else {
         return Ok(None);
     };
     match word_in(alloc, quiver, term.letters)? {
-        Some(word) if word.len() > 0 => Ok(Some((signed(term.negative, value), word))),
+        Some((word, rest)) if word.len() > 0 => {
+            Ok(Some(((signed(term.negative, value), word), rest)))
+        }
         _ => Ok(None),
     }
 }
@@ -253,14 +213,14 @@ fn terms_in(
     let mut terms = Listing::new(alloc);
     let mut left = Some(first);
     while let Some(term) = left {
-        let Some(value) = term_value(alloc, quiver, term)? else {
+        let Some((value, rest)) = term_value(alloc, quiver, term)? else {
             return Ok(None);
         };
         if terms.len() >= TERM_LIMIT || !may_follow(terms.as_slice(), &value.1) {
             return Ok(None);
         }
         terms.push(value)?;
-        left = next_term(term);
+        left = next_term(rest);
     }
     Ok(Some(terms))
 }
@@ -312,7 +272,7 @@ fn all_pass(quiver: &Quiver, asked: Asked, first: TermText<'_>) -> bool
         if !passes_number(asked, term.factor) || !pass_letters(quiver, asked, term.letters) {
             return false;
         }
-        left = next_term(term);
+        left = next_term(term.letters);
     }
     true
 }
@@ -355,7 +315,7 @@ fn descend(quiver: &Quiver, first: TermText<'_>) -> bool
     ensures { result ≡ descend quiver.now (terms_from first.entry) }
 {
     let mut upper = first;
-    while let Some(lower) = next_term(upper) {
+    while let Some(lower) = next_term(upper.letters) {
         if words_cmp(quiver, upper.letters, lower.letters) != Ordering::Greater {
             return false;
         }
@@ -375,7 +335,7 @@ fn are_few(first: TermText<'_>) -> bool
             return false;
         }
         room -= 1;
-        left = next_term(term);
+        left = next_term(term.letters);
     }
     true
 }

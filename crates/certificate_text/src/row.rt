@@ -13,8 +13,8 @@ ghost use Rattle.certificate_text.specs.Views.{parts_of};
 
 use crate::place::Size;
 use block_text::{
-    Flaw, INTEGER_LIMIT, LineFault, NUMBER_LIMIT, bracketed, first_token, integer_within, is,
-    is_integer, is_letter, is_number, letter_of, number_within,
+    Flaw, INTEGER_LIMIT, LineFault, NUMBER_LIMIT, are_letters, bracketed, first_token,
+    integer_within, is, is_integer, is_number, letter_of, number_within,
 };
 use cofactor_trace::{CertFrom, CertRow, LETTER_LIMIT, LemmaRow, ROW_LIMIT};
 use nc_polynomial::WORD_LIMIT;
@@ -76,19 +76,6 @@ fn row_parts(line: &[u8]) -> Option<RowTokens<'_>>
     }
     let (left, behind) = bracketed(rest)?;
     origin_part(coefficient, left, behind)
-}
-
-fn are_letters(letters: &[u8]) -> bool
-    ensures { result ≡ list_all is_letter (tokens_of letters.now) }
-{
-    let mut rest = letters;
-    while let Some((token, behind)) = first_token(rest) {
-        if !is_letter(token) {
-            return false;
-        }
-        rest = behind;
-    }
-    true
 }
 
 // The word in brackets, before more letters of the row. Only from an unknown name on, letters are looked at again.

@@ -1,32 +1,15 @@
 -- What the name of an object stands for, and that of a declared map.
-use Rattle.std.proofs.Common.{◌≡◌, ◌≢◌, ◌<◌, ◌+◌, ℕ, zero, suc, true, List, [], ◌∷◌, ◌++◌, Some, arith, refl, sym, ap, ◌∙◌, subst, map, IsTrue}
+use Rattle.std.proofs.Common.{◌≡◌, ◌≢◌, ◌<◌, ◌+◌, ℕ, true, List, ◌∷◌, ◌++◌, Some, arith, sym, ap, ◌∙◌, subst, map, IsTrue}
 use Rattle.std.specs.List.{AllPairs, list_all}
 use Rattle.quiver.specs.declared.named.Named.TheVariants.{Object, Map}
-use Rattle.quiver.specs.Declarations.{Declaration, object, arrow, name_of, object_count, name_at, object_name, letter_name, named_in, IsDeclared}
-use Rattle.quiver.proofs.Found.{is_named as is_found}
+use Rattle.quiver.specs.Declarations.{Declaration, object, name_of, object_count, object_name, letter_name, named_in, IsDeclared}
+use Rattle.quiver.proofs.Found.{is_named as is_found, object_name-split}
 use Rattle.block_text.specs.Letters.{is_name}
 use Rattle.block_text.specs.Back.{is_named}
-use Rattle.block_text.proofs.LetterNames.{name_is, object_is, apart, found, named_between, letter_is_spelled}
+use Rattle.block_text.proofs.LetterNames.{object_placed, apart, found, named_between, letter_is_spelled}
 use Rattle.model_text.specs.Models.{HasMap}
 
 -- ---- objects
-
-record IsPlacedObject (ds : List Declaration) (v : ℕ) : Type 0 where
-  before : List Declaration
-  name : List ℕ
-  after : List Declaration
-  whole : ds ≡ before ++ object name ∷ after
-  number : v ≡ object_count before
-
-placed : (ds : List Declaration) (v : ℕ) → v < object_count ds → IsPlacedObject ds v
-placed [] v within = absurd (omega (arith, within))
-placed (object name ∷ ds) zero within = record { before = []; name = name; after = ds; whole = refl; number = refl }
-placed (object name ∷ ds) (suc v) within =
-    let there = placed ds v (omega (arith, within)) in
-    record { before = object name ∷ there.before; name = there.name; after = there.after; whole = ap (λ es. object name ∷ es) there.whole; number = omega (arith, there.number) }
-placed (arrow name x y selfmade ∷ ds) v within =
-    let there = placed ds v (omega (arith, within)) in
-    record { before = arrow name x y selfmade ∷ there.before; name = there.name; after = there.after; whole = ap (λ es. arrow name x y selfmade ∷ es) there.whole; number = omega (arith, there.number) }
 
 -- the name of an object is a name, and stands for it
 pub record IsObjectName (ds : List Declaration) (v : ℕ) : Type 0 where
@@ -40,7 +23,7 @@ named_by_place before name after pairs names =
     let turned : object_count before ≡ object_count before + 0 = omega arith in
     let start : 0 + object_count before ≡ object_count before = omega arith in
     let is : object_name whole (object_count before) ≡ name =
-    ap (object_name whole) turned ∙ ap (λ e. name_at whole e.declaration) (object_is before (object name) after 0) ∙ name_is before (object name) after in
+    ap (object_name whole) turned ∙ object_name-split before name after in
     record {
       name = rw is (named_between before (object name) after names);
       named = rw is (found 0 0 0 before (object name) after (apart before (object name) after pairs) ∙ ap (λ (k : ℕ). Some (Object (record { 0 = k }))) start);
@@ -48,7 +31,7 @@ named_by_place before name after pairs names =
 
 pub object_is_named : (ds : List Declaration) (v : ℕ) → IsDeclared ds → IsTrue (list_all is_named ds) → v < object_count ds → IsObjectName ds v
 object_is_named ds v declared names within =
-    let there = placed ds v within in
+    let there = object_placed ds v within in
     subst (IsObjectName ds) (sym there.number)
     (subst (λ (es : List Declaration). IsObjectName es (object_count there.before)) (sym there.whole)
     (named_by_place there.before there.name there.after

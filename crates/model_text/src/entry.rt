@@ -11,7 +11,9 @@ ghost use Rattle.model_text.specs.ModelBounds.{value_of};
 ghost use Rattle.model_text.specs.Reading.{rows_in, rows_behind, side_tokens, map_tokens, entry_tokens};
 ghost use Rattle.model_text.specs.Views.{ends_row, line_in, tokens_in};
 
-use block_text::{begins, first_token, is, is_number, name_in, number_within, two_tokens};
+use block_text::{
+    are_numbers, begins, first_token, is, is_number, name_in, number_within, two_tokens,
+};
 
 /// The name of a line with its side, or with its rows of numbers.
 #[derive(Drop)]
@@ -87,18 +89,6 @@ pub fn row_length(row: &[u8]) -> usize
         rest = behind;
     }
     count
-}
-
-fn are_numbers(row: &[u8]) -> bool
-    ensures { result ≡ list_all is_number (tokens_of row.now) }
-{
-    let mut rest = row;
-    loop {
-        match first_token(rest) {
-            Some((token, behind)) if is_number(token) => rest = behind,
-            other => return other.is_none(),
-        }
-    }
 }
 
 // Whether the row has numbers alone, and one at least.

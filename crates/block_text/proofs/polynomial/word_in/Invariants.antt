@@ -1,11 +1,15 @@
-use Rattle.std.proofs.Common.{◌≡◌, [], length}
-use Rattle.block_text.specs.PolynomialReading.{part_in, word_behind}
+use Rattle.std.proofs.Common.{◌≡◌, ◌≤◌, [], length}
+use Rattle.block_text.specs.PolynomialReading.{part_in, later_in, word_behind}
 use Rattle.block_text.specs.Tokens.{tokens_of}
 use Rattle.block_text.proofs.polynomial.word_in.Given as goal
 
 -- what the letters that are left make of the word
 abbrev pub invariant-loop-token : goal.invariant-loop-token
-invariant-loop-token l = word_behind l.quiver l.word (part_in (tokens_of l.rest)) ≡ word_behind l.quiver [] (part_in (tokens_of l.letters))
+invariant-loop-token l = record {
+  word : word_behind l.quiver l.word (part_in (tokens_of l.rest)) ≡ word_behind l.quiver [] (part_in (tokens_of l.letters));
+  later : later_in (tokens_of l.letters) ≡ later_in (tokens_of l.rest);
+  within : length l.rest ≤ length l.letters;
+}
 
 abbrev pub decreases-loop-token : goal.decreases-loop-token
 decreases-loop-token l = length l.rest

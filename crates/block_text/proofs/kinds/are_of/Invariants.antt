@@ -1,12 +1,12 @@
 use Rattle.std.proofs.Common.{◌≡◌, length}
 use Rattle.std.specs.List.{list_all}
-use Rattle.block_text.specs.Letters.{is_number}
+use Rattle.block_text.specs.Kinds.{is_of}
 use Rattle.block_text.specs.Tokens.{tokens_of}
-use Rattle.model_text.proofs.entry.are_numbers.Given as goal
+use Rattle.block_text.proofs.kinds.are_of.Given as goal
 
--- the tokens so far are numbers
+-- the tokens so far are of the kind
 abbrev pub invariant-loop-token : goal.invariant-loop-token
-invariant-loop-token l = list_all is_number (tokens_of l.rest) ≡ list_all is_number (tokens_of l.row)
+invariant-loop-token l = list_all (is_of l.kind) (tokens_of l.rest) ≡ list_all (is_of l.kind) (tokens_of l.line)
 
 abbrev pub decreases-loop-token : goal.decreases-loop-token
 decreases-loop-token l = length l.rest
