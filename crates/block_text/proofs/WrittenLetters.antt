@@ -1,5 +1,6 @@
 -- A letter is written as it is spelled, but for a ' behind one that is its own adjoint.
-use Rattle.std.proofs.Common.{◌≡◌, ◌<◌, ◌-◌, ⊤, ℕ, Bool, true, false, not, cond, ◌&&◌, List, [], ◌∷◌, Option, Some, None, arith, refl, sym, ap, ◌∙◌, subst, length, take, drop, codes, nat_eq, eq-eqb}
+use Rattle.std.proofs.Common.{◌≡◌, ◌<◌, ◌-◌, ℕ, Bool, true, false, not, cond, ◌&&◌, List, [], ◌∷◌, Option, Some, None, arith, refl, sym, ap, ◌∙◌, subst, length, take, drop, codes, nat_eq, eq-eqb}
+use Rattle.std.specs.Bool.{⊤}
 use Rattle.std.specs.List.{starts_with, ends_with}
 use Rattle.std.specs.Option.{option_and_then, option_map}
 use Rattle.std.proofs.lemmas.Bool.{false_from_ne_true}
