@@ -1,5 +1,5 @@
 -- A letter is written as it is spelled, but for a ' behind one that is its own adjoint.
-use Rattle.std.proofs.Common.{◌≡◌, ◌<◌, ◌-◌, ℕ, Bool, true, false, not, cond, ◌&&◌, List, [], ◌∷◌, Option, Some, None, arith, refl, sym, ap, ◌∙◌, subst, length, take, drop, codes, nat_eq, eq-eqb}
+use Rattle.std.proofs.Common.{◌≡◌, ◌-◌, ℕ, Bool, true, false, not, cond, ◌&&◌, List, [], ◌∷◌, Option, Some, None, arith, refl, ap, ◌∙◌, subst, length, take, drop, codes, nat_eq, eq-eqb}
 use Rattle.std.specs.Bool.{⊤}
 use Rattle.std.specs.List.{starts_with, ends_with}
 use Rattle.std.specs.Option.{option_and_then, option_map}
@@ -11,11 +11,11 @@ use Rattle.quiver.specs.declared.named.Named.{Named}
 use Rattle.quiver.specs.declared.named.Named.TheVariants.{Object, Map}
 use Rattle.quiver.specs.Declarations.{Declaration, named_in, letter_name, identity_in, quiver_of}
 use Rattle.quiver.proofs.Found.{is_named}
-use Rattle.block_text.specs.Letters.{Spelled, is_name, name_in, named_by, without_brackets, spelled_by, letter_named, starred, letter_of}
+use Rattle.block_text.specs.Letters.{Spelled, is_name, name_in, named_by, spelled_by, letter_named, starred}
 use Rattle.block_text.specs.Lines.{is}
-use Rattle.block_text.specs.PolynomialLines.{is_plain, is_term_letter}
+use Rattle.block_text.specs.PolynomialLines.{is_plain}
 use Rattle.block_text.specs.PolynomialReading.{is_bracketed, is_adjoint, is_spelling, is_written_as, written_letter}
-use Rattle.block_text.specs.WrittenLetters.{other_star, marked, written_by}
+use Rattle.block_text.specs.WrittenLetters.{marked, written_by}
 use Rattle.block_text.proofs.LetterNames.{star_name, identity_name}
 use Rattle.block_text.proofs.LineTrees.{is_word}
 use Rattle.block_text.proofs.PolynomialBounds.{is_same}
