@@ -110,11 +110,8 @@ fn push_cancels(
     (first, last): (u32, u32),
 ) -> Result<(), AllocError> {
     for number in first..=last {
-        writeln!(
-            text,
-            "cancel {number} {letter} left {}",
-            number.saturating_sub(1)
-        )?;
+        let before = number.saturating_sub(1);
+        write!(text, "cancel {number} {letter} left {before}\n")?;
     }
     Ok(())
 }
