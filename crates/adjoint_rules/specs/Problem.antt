@@ -23,7 +23,8 @@ polynomials ps = map (λ p. p.terms) ps
 abbrev pub numbers : List Object → List ℕ
 numbers objects = map (λ v. v.0) objects
 
--- whether a letter is in play: the identity of a marked object, a declared map, whose number is at most its adjoint's, or, where the statement is starred, the adjoint of one
+-- whether a letter is in play: the identity of a marked object, a declared map, whose number is at most its adjoint's, or, where the
+-- statement is starred, the adjoint of one
 abbrev pub is_in_play : List Declaration → Bool → List ℕ → ℕ → Bool
 is_in_play ds starred marked a =
     nat_lt a (letter_count ds)

@@ -17,7 +17,8 @@ use Rattle.ambiguities.specs.SPolynomials.{s_rows_of, s_polynomial_of}
 
 -- The S-polynomial is the sum of its rows over the rules.
 abbrev pub SPolynomialsBalance : Type 0
-SPolynomialsBalance = (rules : List Rule) (a : Ambiguity) (p : List Term) → s_polynomial_of rules a ≡ Ok p → SamePolynomial p (traced_sum [] (polynomials_of rules) (s_rows_of rules a))
+SPolynomialsBalance = (rules : List Rule) (a : Ambiguity) (p : List Term) → s_polynomial_of rules a ≡ Ok p
+    → SamePolynomial p (traced_sum [] (polynomials_of rules) (s_rows_of rules a))
 
 -- l w r has the property for each word w of g in the row c l g r
 abbrev pub EachOfRow : (List ℕ → Type 0) → List Rule → Row → Type 0

@@ -14,7 +14,8 @@ kind_number Inclusion = 1
 
 -- the first one stands before the second: by the first rule, then by the second rule, then by the kind, then by the place
 abbrev pub IsBefore : Ambiguity → Ambiguity → Type 0
-IsBefore a b = (a.i < b.i) ⊎ ((a.i ≡ b.i) × ((a.j < b.j) ⊎ ((a.j ≡ b.j) × ((kind_number a.kind < kind_number b.kind) ⊎ ((a.kind ≡ b.kind) × (a.place < b.place))))))
+IsBefore a b = (a.i < b.i) ⊎ ((a.i ≡ b.i)
+    × ((a.j < b.j) ⊎ ((a.j ≡ b.j) × ((kind_number a.kind < kind_number b.kind) ⊎ ((a.kind ≡ b.kind) × (a.place < b.place))))))
 
 -- The list has exactly the items with the property, each before all later ones, and so each of them once.
 pub record ListsExactly {X : Type 0} (Before : X → X → Type 0) (P : X → Type 0) (xs : List X) : Type 0 where

@@ -34,7 +34,8 @@ pub struct SPoly {
 /// The fault is the first one of the multiple of the first rule, that of the second, and their combination.
 pub fn s_poly<O: WordOrder>(rules: &Rules<O>, which: &Ambiguity) -> Result<SPoly, PolyFault>
     requires { IsAmbiguity rules.now.rules which.now }
-    ensures exact { MatchResult result (λ s. s_polynomial_of rules.now.rules which.now ≡ Ok s.poly.terms) (Explains (s_polynomial_of rules.now.rules which.now)) }
+    ensures exact { MatchResult result (λ s. s_polynomial_of rules.now.rules which.now ≡ Ok s.poly.terms)
+        (Explains (s_polynomial_of rules.now.rules which.now)) }
     ensures rows { IfOk result (λ s. s.rows ≡ s_rows_of rules.now.rules which.now) }
     ensures rows_in { IfOk result (λ s. All (λ row. IsCoefficient row.coef) s.rows) }
     ensures over { IfOk result (λ s. All (λ t. IsOver (O.letters rules.now.order) t.1) s.poly.terms) }

@@ -12,7 +12,8 @@ pub record CanBeListed (compare : Compare) (rules : List Rule) : Type 0 where
 
 -- In an admissible order any rules have such a list,
 abbrev pub AmbiguitiesCanBeListed : Type 0
-AmbiguitiesCanBeListed = (letters : ℕ) (compare : Compare) (rank : List ℕ → List ℕ) (rules : List Rule) → IsAdmissible letters compare rank → CanBeListed compare rules
+AmbiguitiesCanBeListed = (letters : ℕ) (compare : Compare) (rank : List ℕ → List ℕ) (rules : List Rule) → IsAdmissible letters compare rank
+    → CanBeListed compare rules
 
 -- and one such list.
 abbrev pub ListsAreUnique : Type 0

@@ -1,4 +1,5 @@
--- How a reader of bases goes over the lines of evidence text, and what it has made of the first ones. Only the reader's functions and proofs use it: what the bases of a text are, Bases says.
+-- How a reader of bases goes over the lines of evidence text, and what it has made of the first ones. Only the reader's functions and
+-- proofs use it: what the bases of a text are, Bases says.
 use Rattle.std.specs.Prelude.{ℕ, List, [], ◌∷◌, ◌++◌, length, nat_le, Option, Some, None, Result, Ok, Err, if◌then◌else◌, codes}
 use Rattle.definitions.specs.Poly.{Poly}
 use Rattle.quiver.specs.Declarations.{Declaration}

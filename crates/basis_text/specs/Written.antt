@@ -11,7 +11,8 @@ rule_line ds p = codes "rule " ++ poly_text ds p.terms ++ codes "\n"
 
 -- all rules, and what is left of the claim by them
 abbrev pub basis_text : List Declaration → List Poly → ℕ → Poly → List ℕ
-basis_text ds rules claim rest = codes "basis 1\nclaim " ++ decimal claim ++ codes "\n" ++ flat_map (rule_line ds) rules ++ codes "rest " ++ poly_text ds rest.terms ++ codes "\nend\n"
+basis_text ds rules claim rest = codes "basis 1\nclaim " ++ decimal claim ++ codes "\n" ++ flat_map (rule_line ds) rules ++ codes "rest "
+    ++ poly_text ds rest.terms ++ codes "\nend\n"
 
 -- the letters of the polynomial are letters of the quiver
 abbrev pub IsPolyOver : List Declaration → Poly → Type 0

@@ -1,5 +1,6 @@
 -- The tokens that spell letters and numbers.
-use Rattle.std.specs.Prelude.{ℕ, ◌-◌, ◌==◌, ◌&&◌, ◌||◌, Bool, true, false, List, [], ◌∷◌, length, take, drop, nat_eq, nat_le, nat_lt, ℤ, pos, neg_ℤ, Option, Some, None, is_some, if◌then◌else◌, codes}
+use Rattle.std.specs.Prelude.{ℕ, ◌-◌, ◌==◌, ◌&&◌, ◌||◌, Bool, true, false, List, [], ◌∷◌, length, take, drop, nat_eq, nat_le, nat_lt, ℤ}
+use Rattle.std.specs.Prelude.{pos, neg_ℤ, Option, Some, None, is_some, if◌then◌else◌, codes}
 use Rattle.std.specs.Char.{is_ascii_digit}
 use Rattle.std.specs.List.{list_all, ends_with, starts_with}
 use Rattle.std.specs.Option.{option_map, option_and_then}

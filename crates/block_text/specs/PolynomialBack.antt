@@ -7,7 +7,8 @@ use Rattle.nc_polynomial.specs.Shape.{IsCanonical}
 use Rattle.quiver.specs.Declarations.{Declaration, letter_count, IsDeclared}
 use Rattle.block_text.specs.Back.{is_named}
 use Rattle.block_text.specs.Lines.{Line}
-use Rattle.block_text.specs.PolynomialLines.{PolynomialTokens, polynomial_line, IsPolynomialTokens, IsPolynomialOf, HasKnownLetters, IsAsWritten, HasNumbersWithin, HasFewTerms, HasShortWords}
+use Rattle.block_text.specs.PolynomialLines.{PolynomialTokens, polynomial_line, IsPolynomialTokens, IsPolynomialOf, HasKnownLetters}
+use Rattle.block_text.specs.PolynomialLines.{IsAsWritten, HasNumbersWithin, HasFewTerms, HasShortWords}
 use Rattle.block_text.specs.Tokens.{tokens_of}
 use Rattle.block_text.specs.Written.{poly_text}
 

@@ -7,7 +7,8 @@ use Rattle.block_text.specs.declared.fault.Flaw.{Flaw}
 use Rattle.block_text.specs.declared.fault.Flaw.TheVariants.{BadLine, UnknownName, NotAsWritten, NumberTooLarge, TooMany}
 use Rattle.block_text.specs.Lines.{Line}
 use Rattle.block_text.specs.PolynomialBack.{IsPolynomialLine}
-use Rattle.block_text.specs.PolynomialLines.{PolynomialTokens, polynomial_line, IsPolynomialTokens, HasKnownLetters, IsAsWritten, HasNumbersWithin, HasFewTerms, HasShortWords}
+use Rattle.block_text.specs.PolynomialLines.{PolynomialTokens, polynomial_line, IsPolynomialTokens, HasKnownLetters, IsAsWritten}
+use Rattle.block_text.specs.PolynomialLines.{HasNumbersWithin, HasFewTerms, HasShortWords}
 use Rattle.block_text.specs.PolynomialReading.{polynomial_of}
 
 -- the line is that of the tokens

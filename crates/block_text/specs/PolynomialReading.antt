@@ -1,5 +1,7 @@
--- How a reader goes over the tokens of a line that spells a polynomial. Only the reader's functions and proofs use it: what such a line is, PolynomialLines says.
-use Rattle.std.specs.Prelude.{ℕ, ◌-◌, ◌==◌, ◌&&◌, ◌||◌, Bool, true, false, not, List, [], ◌∷◌, ◌++◌, length, take, drop, nat_eq, nat_le, Option, Some, None, is_some, Result, Ok, if◌then◌else◌, codes}
+-- How a reader goes over the tokens of a line that spells a polynomial. Only the reader's functions and proofs use it: what such a line is,
+-- PolynomialLines says.
+use Rattle.std.specs.Prelude.{ℕ, ◌-◌, ◌==◌, ◌&&◌, ◌||◌, Bool, true, false, not, List, [], ◌∷◌, ◌++◌, length, take, drop, nat_eq, nat_le}
+use Rattle.std.specs.Prelude.{Option, Some, None, is_some, Result, Ok, if◌then◌else◌, codes}
 use Rattle.std.specs.Borrow.{Bor}
 use Rattle.std.specs.List.{list_all, starts_with, ends_with}
 use Rattle.std.specs.Option.{option_map, option_and_then}

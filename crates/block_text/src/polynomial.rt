@@ -10,7 +10,10 @@ ghost use Rattle.quiver.specs.Declarations.{letter_count};
 ghost use Rattle.word_core.specs.Letters.{IsOver};
 ghost use Rattle.block_text.specs.Fault.{Reads};
 ghost use Rattle.block_text.specs.Letters.{letter_of, signed};
-ghost use Rattle.block_text.specs.PolynomialReading.{is_term_sign, is_minus, part_in, term_of, later_in, terms_behind, terms_of, is_zero, now_of, term_in, terms_from, terms_left, word_behind, is_above_one, value_within, term_value, may_follow, poly_behind, passes_letter, passes_number, pass_letters, passes, letters_cmp, words_cmp, descend, at_most, first_flaw, polynomial_of};
+ghost use Rattle.block_text.specs.PolynomialReading.{is_term_sign, is_minus, part_in, term_of, later_in, terms_behind, terms_of, is_zero};
+ghost use Rattle.block_text.specs.PolynomialReading.{now_of, term_in, terms_from, terms_left, word_behind, is_above_one, value_within};
+ghost use Rattle.block_text.specs.PolynomialReading.{term_value, may_follow, poly_behind, passes_letter, passes_number, pass_letters};
+ghost use Rattle.block_text.specs.PolynomialReading.{passes, letters_cmp, words_cmp, descend, at_most, first_flaw, polynomial_of};
 ghost use Rattle.block_text.specs.Tokens.{tokens_of};
 
 use crate::cut::first_token;

@@ -113,7 +113,8 @@ pub record CancelOverflows (claims : List Poly) (proof : Cancellation) (row : �
 abbrev pub RefusesParts : Quiver → List Poly → List Poly → Cancellation → CancelRefusal → Type 0
 RefusesParts q claims generators proof e =
     (CancelBegins claims proof × RefusesItems q proof generators [] 0 proof.items e)
-    ⊎ (HasItems q claims generators proof × InCommon (RefusesGoal generators (all_items generators proof) (row_total proof.items) proof.goal (claim_named claims proof)) e)
+    ⊎ (HasItems q claims generators proof
+    × InCommon (RefusesGoal generators (all_items generators proof) (row_total proof.items) proof.goal (claim_named claims proof)) e)
 
 -- what is told before the items: each refusal comes where its test is the first that fails
 abbrev pub RefusesBeginning : List Poly → Cancellation → Refusal → Type 0
@@ -151,7 +152,8 @@ IsRefused problem proof e = RefusesCancellation (quiver_of problem.parts.quiver)
 -- items and goal lead to the claim that the proof names
 abbrev pub ShowsByCancelling : Problem → Cancellation → Type 0
 ShowsByCancelling problem proof =
-    IsCancellationOf (quiver_of problem.parts.quiver) (polynomials problem.generators) (all_items (polynomials problem.generators) proof) proof (claim_named (polynomials problem.parts.claims) proof)
+    IsCancellationOf (quiver_of problem.parts.quiver) (polynomials problem.generators)
+    (all_items (polynomials problem.generators) proof) proof (claim_named (polynomials problem.parts.claims) proof)
 
 -- ---- what a reader keeps
 

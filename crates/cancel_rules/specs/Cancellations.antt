@@ -34,7 +34,8 @@ pub record IsWithout (q : Quiver) (proof : Cancellation) (letter : Letter) (end 
   pub same : SamePolynomial whole (put_back end letter.0 p)
   pub words : All (λ t. t.1 ≢ []) p
 
--- The polynomial is that of the item, where those of the items before it are given: a lemma's rows add up to its scale times the polynomial, and its scale is positive and divides the denominator.
+-- The polynomial is that of the item, where those of the items before it are given: a lemma's rows add up to its scale times the
+-- polynomial, and its scale is positive and divides the denominator.
 abbrev pub IsOfItem : Quiver → Cancellation → List Poly → List Poly → Item → Poly → Type 0
 IsOfItem q proof generators before (item.Lemma l) p = IsShareOf proof.denominator l × AddsUpTo generators before l p
 IsOfItem q proof generators before (item.Cancel letter end number) p = IsWithout q proof letter end (generator_at before number) p

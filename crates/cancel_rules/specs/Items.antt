@@ -38,7 +38,8 @@ item_polynomial generators before (item.Cancel letter end number) = stripped end
 -- the polynomials of items that stand behind others
 abbrev pub item_polynomials : List Poly → List Poly → List Item → List Poly
 item_polynomials generators before [] = []
-item_polynomials generators before (i ∷ items) = item_polynomial generators before i ∷ item_polynomials generators (before ++ item_polynomial generators before i ∷ []) items
+item_polynomials generators before (i ∷ items) = item_polynomial generators before i ∷ item_polynomials generators
+    (before ++ item_polynomial generators before i ∷ []) items
 
 -- how many rows an item has: a cancellation has none
 abbrev pub rows_in : Item → ℕ
@@ -136,7 +137,8 @@ ItemPasses q proof generators before (item.Cancel letter end number) = CancelPas
 -- each of the items passes
 abbrev pub ItemsPass : Quiver → Cancellation → List Poly → List Poly → List Item → Type 0
 ItemsPass q proof generators before [] = ⊤
-ItemsPass q proof generators before (i ∷ items) = ItemPasses q proof generators before i × ItemsPass q proof generators (before ++ item_polynomial generators before i ∷ []) items
+ItemsPass q proof generators before (i ∷ items) = ItemPasses q proof generators before i × ItemsPass q proof generators
+    (before ++ item_polynomial generators before i ∷ []) items
 
 -- what is told of an item, where so many rows stand before it: a lemma's number is its item's
 abbrev pub RefusesItem : Quiver → Cancellation → List Poly → List Poly → ℕ → Item → CancelRefusal → Type 0

@@ -1,6 +1,7 @@
 //! A proof that cancels letters: its items are made one after another, and the goal's rows add up to its scale times the claim.
 ghost use Rattle.std.specs.Prelude.{◌≡◌, IfOk, IfErr, OnOk};
-ghost use Rattle.cancel_rules.specs.Acceptance.{claim_named, CancelBegins, RefusesBeginning, IsAccepted, IsRefused, IsMemory, ShowsByCancelling, IsReadableCancellation};
+ghost use Rattle.cancel_rules.specs.Acceptance.{claim_named, CancelBegins, RefusesBeginning, IsAccepted, IsRefused, IsMemory};
+ghost use Rattle.cancel_rules.specs.Acceptance.{ShowsByCancelling, IsReadableCancellation};
 ghost use Rattle.adjoint_rules.specs.Problem.{polynomials};
 
 use crate::items::make_items;

@@ -5,7 +5,8 @@ ghost use Rattle.quiver.specs.Declarations.{quiver_of};
 ghost use Rattle.adjoint_rules.specs.Problem.{polynomials};
 ghost use Rattle.cofactor_checker.specs.LemmaAcceptance.{HasScale};
 ghost use Rattle.cancel_rules.specs.Inner.{IsPolyOver, MarksDeclared, IsMadeItem};
-ghost use Rattle.cancel_rules.specs.Items.{stripped, item_polynomial, item_polynomials, row_total, rows_in, ComesOff, ItemsPass, RefusesCancel, RefusesItem, RefusesItems};
+ghost use Rattle.cancel_rules.specs.Items.{stripped, item_polynomial, item_polynomials, row_total, rows_in, ComesOff, ItemsPass};
+ghost use Rattle.cancel_rules.specs.Items.{RefusesCancel, RefusesItem, RefusesItems};
 ghost use Rattle.cancel_rules.specs.Acceptance.{OfLemma, HasPositiveScales, IsLetterOf, IsReadableItem, IsReadableCancellation};
 
 use crate::marks::Marks;

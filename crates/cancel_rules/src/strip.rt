@@ -25,7 +25,8 @@ pub(crate) fn is_typed(quiver: &Quiver, poly: &Poly) -> bool
 
 // The word without the letter at its end; `None` exactly where it doesn't have it there, or has no other.
 fn rest_of(word: &Word, letter: Letter, side: Side) -> Result<Option<Word>, AllocError>
-    ensures { IfOk result (λ rest. MatchOption rest (HasAtEnd side letter.0 word.now → ⊥) (λ w. HasAtEnd side letter.0 word.now × (w ≡ word_without side word.now))) }
+    ensures { IfOk result (λ rest. MatchOption rest (HasAtEnd side letter.0 word.now → ⊥) (λ w. HasAtEnd side letter.0 word.now
+        × (w ≡ word_without side word.now))) }
 {
     let length = word.len();
     if length < 2 {

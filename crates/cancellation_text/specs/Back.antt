@@ -55,8 +55,10 @@ pub record IsWritable (ds : List Declaration) (proof : Cancellation) : Type 0 wh
 -- A proof that is written between whole lines and other lines is read as it is, behind the proofs that those before it have and
 -- before those that the others have.
 abbrev pub CancellationsAreReadBack : Type 0
-CancellationsAreReadBack = (ds : List Declaration) → IsDeclared ds → IsTrue (list_all is_named ds) → IsReadBetween (HasCancellations ds) (cancellation_text ds) (IsWritable ds)
+CancellationsAreReadBack = (ds : List Declaration) → IsDeclared ds → IsTrue (list_all is_named ds)
+    → IsReadBetween (HasCancellations ds) (cancellation_text ds) (IsWritable ds)
 
 -- The proofs of a text of written proofs, comments and blocks of other kinds are those proofs, in their order.
 abbrev pub ArePartsReadBack : Type 0
-ArePartsReadBack = (ds : List Declaration) → IsDeclared ds → IsTrue (list_all is_named ds) → AreReadInParts (HasCancellations ds) (cancellation_text ds) (IsWritable ds) other_words
+ArePartsReadBack = (ds : List Declaration) → IsDeclared ds → IsTrue (list_all is_named ds)
+    → AreReadInParts (HasCancellations ds) (cancellation_text ds) (IsWritable ds) other_words

@@ -67,7 +67,8 @@ item_lines (cancel c) = cancel_line c ∷ []
 
 -- all but the line that ends it
 abbrev pub cancellation_lines : CancellationTokens → List Line
-cancellation_lines b = head_line ∷ claim_line b.claim ∷ denominator_line b.denominator ∷ (map called_line b.called ++ (flat_map item_lines b.items ++ goal_lines b.goal))
+cancellation_lines b = head_line ∷ claim_line b.claim ∷ denominator_line b.denominator ∷ (map called_line b.called
+    ++ (flat_map item_lines b.items ++ goal_lines b.goal))
 
 -- ---- which tokens stand where
 

@@ -19,7 +19,8 @@ called_text ds side a = called_word side ++ codes " " ++ letter_text ds a.0 ++ c
 -- the item with this number
 abbrev pub item_text : List Declaration → ℕ → Item → List ℕ
 item_text ds number (item.Lemma l) = lemma_text ds number l
-item_text ds number (item.Cancel a side from) = codes "cancel " ++ decimal number ++ codes " " ++ letter_text ds a.0 ++ codes " " ++ side_word side ++ codes " " ++ decimal from ++ codes "\n"
+item_text ds number (item.Cancel a side from) = codes "cancel " ++ decimal number ++ codes " " ++ letter_text ds a.0 ++ codes " "
+    ++ side_word side ++ codes " " ++ decimal from ++ codes "\n"
 
 -- the items with this number and the next ones
 abbrev pub items_text : List Declaration → ℕ → List Item → List ℕ

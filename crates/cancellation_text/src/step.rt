@@ -3,7 +3,9 @@
 ghost use Rattle.std.specs.Prelude.{◌≡◌, [], ◌+◌, length, ⊤};
 ghost use Rattle.block_text.specs.Fault.{Reads};
 ghost use Rattle.block_text.specs.Tokens.{tokens_of};
-ghost use Rattle.cancellation_text.specs.Reading.{is_called, one_more, called, goal_begun, lemma_begun, cancelled, cancel_tokens, item_or_goal, calling, called_tokens, in_lemma, in_goal, proof_of, next, cancellation_steps};
+ghost use Rattle.cancellation_text.specs.Reading.{is_called, one_more, called, goal_begun, lemma_begun, cancelled, cancel_tokens};
+ghost use Rattle.cancellation_text.specs.Reading.{item_or_goal, calling, called_tokens, in_lemma, in_goal, proof_of, next};
+ghost use Rattle.cancellation_text.specs.Reading.{cancellation_steps};
 ghost use Rattle.cancellation_text.specs.Views.{called_now};
 ghost use Rattle.cancellation_text.specs.declared.place.Stage.TheVariants as stage;
 

@@ -5,7 +5,8 @@ ghost use Rattle.std.specs.List.{All, flat_map};
 ghost use Rattle.quiver.specs.Declarations.{letter_count};
 ghost use Rattle.certificate_text.specs.Written.{IsLemmaOver};
 ghost use Rattle.cancellation_text.specs.Blocks.{called_word, side_word};
-ghost use Rattle.cancellation_text.specs.Written.{called_text, item_text, items_text, head_text, letters_text, steps_text, cancellation_text, IsItemOver, IsCancellationOver};
+ghost use Rattle.cancellation_text.specs.Written.{called_text, item_text, items_text, head_text, letters_text, steps_text};
+ghost use Rattle.cancellation_text.specs.Written.{cancellation_text, IsItemOver, IsCancellationOver};
 
 use block_text::{put, put_letter, put_number};
 use cancel_rules::{Cancellation, Item, Side};

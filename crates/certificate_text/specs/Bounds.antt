@@ -111,7 +111,8 @@ pub record HasShortWords (r : RowTokens) : Type 0 where
 abbrev pub HasNumbersOutside : BlockTokens → Type 0
 HasNumbersOutside (plain b) = IsWithin number_limit b.claim × IsWithin integer_limit b.denominator
 HasNumbersOutside (lemmas b) =
-    IsWithin number_limit b.claim × IsWithin integer_limit b.denominator × All (λ l. IsWithin integer_limit l.scaled.scale) b.lemmas × IsWithin integer_limit b.goal.scale
+    IsWithin number_limit b.claim × IsWithin integer_limit b.denominator × All (λ l. IsWithin integer_limit l.scaled.scale) b.lemmas
+    × IsWithin integer_limit b.goal.scale
 
 -- the block keeps the bound
 abbrev pub KeepsOne : List Declaration → Bound → BlockTokens → Type 0

@@ -1,5 +1,6 @@
 -- The lines of certificates of both formats.
-use Rattle.std.specs.Prelude.{ℕ, ◌+◌, ◌==◌, ◌&&◌, ◌||◌, Bool, true, false, not, List, [], ◌∷◌, length, nat_le, nat_lt, ℤ, Option, Some, None, Result, Ok, Err, if◌then◌else◌, codes}
+use Rattle.std.specs.Prelude.{ℕ, ◌+◌, ◌==◌, ◌&&◌, ◌||◌, Bool, true, false, not, List, [], ◌∷◌, length, nat_le, nat_lt, ℤ, Option, Some}
+use Rattle.std.specs.Prelude.{None, Result, Ok, Err, if◌then◌else◌, codes}
 use Rattle.std.specs.List.{list_all}
 use Rattle.std.specs.Option.{option_and_then}
 use Rattle.std.specs.Str.Parse.{digits_value}
@@ -90,13 +91,15 @@ number_part coefficient left lemma (number ∷ tokens) = option_and_then (λ rig
 -- N ( .. ) or lemma N ( .. )
 abbrev pub origin_part : List ℕ → List (List ℕ) → List (List ℕ) → Option RowTokens
 origin_part coefficient left [] = None
-origin_part coefficient left (word ∷ tokens) = if is (codes "lemma") word then number_part coefficient left true tokens else number_part coefficient left false (word ∷ tokens)
+origin_part coefficient left (word ∷ tokens) = if is (codes "lemma") word then number_part coefficient left true tokens
+    else number_part coefficient left false (word ∷ tokens)
 
 -- row C ( .. ) and a generator or a lemma
 abbrev pub row_parts : List (List ℕ) → Option RowTokens
 row_parts [] = None
 row_parts (word ∷ []) = None
-row_parts (word ∷ coefficient ∷ tokens) = if is (codes "row") word then option_and_then (λ left. origin_part coefficient left.0 left.1) (bracketed tokens) else None
+row_parts (word ∷ coefficient ∷ tokens) = if is (codes "row") word then option_and_then (λ left. origin_part coefficient left.0 left.1)
+    (bracketed tokens) else None
 
 -- numbers stand at the places of numbers, and letters in the brackets
 abbrev pub is_row : RowTokens → Bool

@@ -23,7 +23,8 @@ opening_text head claim denominator = head ++ decimal claim ++ codes "\ndenomina
 
 abbrev pub row_text : List Declaration → CertRow → List ℕ
 row_text ds row =
-    codes "row " ++ signed_decimal row.coef ++ codes " (" ++ word_text ds row.left ++ codes ") " ++ decimal row.generator ++ codes " (" ++ word_text ds row.right ++ codes ")\n"
+    codes "row " ++ signed_decimal row.coef ++ codes " (" ++ word_text ds row.left ++ codes ") " ++ decimal row.generator ++ codes " ("
+    ++ word_text ds row.right ++ codes ")\n"
 
 abbrev pub certificate_text : List Declaration → Certificate → List ℕ
 certificate_text ds c =
@@ -38,7 +39,8 @@ origin_text (over.Lemma n) = codes "lemma " ++ decimal n
 
 abbrev pub lemma_row_text : List Declaration → LemmaRow → List ℕ
 lemma_row_text ds row =
-    codes "row " ++ signed_decimal row.coef ++ codes " (" ++ word_text ds row.left ++ codes ") " ++ origin_text row.from ++ codes " (" ++ word_text ds row.right ++ codes ")\n"
+    codes "row " ++ signed_decimal row.coef ++ codes " (" ++ word_text ds row.left ++ codes ") " ++ origin_text row.from ++ codes " ("
+    ++ word_text ds row.right ++ codes ")\n"
 
 -- the scale of a lemma or of the goal, and its rows
 abbrev pub scaled_text : List Declaration → Lemma → List ℕ

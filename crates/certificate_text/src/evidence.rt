@@ -3,7 +3,8 @@
 ghost use Rattle.std.specs.Prelude.{◌≡◌, ◌<◌, ◌+◌, ◌++◌, IfOk, OnOk};
 ghost use Rattle.std.specs.List.{All, flat_map};
 ghost use Rattle.certificate_text.specs.Evidence.{IsLemmaRowOver};
-ghost use Rattle.certificate_text.specs.Written.{IsLemmaOver, IsEvidenceOver, origin_text, lemma_row_text, scaled_text, lemma_text, lemmas_text, goal_text, lemma_certificate_text, evidence_text};
+ghost use Rattle.certificate_text.specs.Written.{IsLemmaOver, IsEvidenceOver, origin_text, lemma_row_text, scaled_text, lemma_text};
+ghost use Rattle.certificate_text.specs.Written.{lemmas_text, goal_text, lemma_certificate_text, evidence_text};
 
 use crate::write::{put_certificate, put_opening, put_row_end, put_row_front};
 use block_text::{put, put_integer, put_number};

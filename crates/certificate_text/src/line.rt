@@ -4,7 +4,8 @@ ghost use Rattle.std.specs.Prelude.{◌≡◌, ◌<◌, ◌^◌, IsTrue, IfSome}
 ghost use Rattle.std.specs.Option.{option_copied};
 ghost use Rattle.block_text.specs.Letters.{is_number};
 ghost use Rattle.block_text.specs.Lines.{is, is_pair, number_behind, integer_of};
-ghost use Rattle.certificate_text.specs.Lines.{is_plain_head, is_lemmas_head, denominator_of, scale_digits, is_value, lemma_digits, lemma_scale_of, goal_digits, goal_scale_of};
+ghost use Rattle.certificate_text.specs.Lines.{is_plain_head, is_lemmas_head, denominator_of, scale_digits, is_value, lemma_digits};
+ghost use Rattle.certificate_text.specs.Lines.{lemma_scale_of, goal_digits, goal_scale_of};
 ghost use Rattle.block_text.specs.Tokens.{tokens_of};
 
 use block_text::{

@@ -60,7 +60,8 @@ pub fn read_certificates(
 ) -> Result<Listing<Certificate>, CertFault>
     requires { length bytes.now < 4294967295 }
     // They are those that the bytes are, or what is told is the first thing that is wrong with the bytes.
-    ensures exact { MatchResult result (λ cs. IsEvidence Format.Plain quiver.now bytes.now (map Evidence.Plain cs)) (ExplainsBy (IsFirstFault Format.Plain quiver.now bytes.now)) }
+    ensures exact { MatchResult result (λ cs. IsEvidence Format.Plain quiver.now bytes.now (map Evidence.Plain cs))
+        (ExplainsBy (IsFirstFault Format.Plain quiver.now bytes.now)) }
     // Each can be checked.
     ensures checkable { IfOk result (All (IsCheckable quiver.now)) }
 {

@@ -3,7 +3,8 @@
 ghost use Rattle.std.specs.Prelude.{◌≡◌, [], ⊤};
 ghost use Rattle.block_text.specs.Fault.{Reads};
 ghost use Rattle.block_text.specs.Tokens.{tokens_of};
-ghost use Rattle.certificate_text.specs.Reading.{lemmas_headed, begun, scaled, lemma_row, in_rows, in_lemma, in_goal, lemma_certificate_of, next, certificate_steps};
+ghost use Rattle.certificate_text.specs.Reading.{lemmas_headed, begun, scaled, lemma_row, in_rows, in_lemma, in_goal, lemma_certificate_of};
+ghost use Rattle.certificate_text.specs.Reading.{next, certificate_steps};
 ghost use Rattle.cofactor_trace.specs.declared.evidence.Evidence.TheVariants as block;
 ghost use Rattle.certificate_text.specs.declared.place.Stage.TheVariants as stage;
 

@@ -28,7 +28,8 @@ pub record AllAccepted (statement evidence : List ℕ) (ending : Ending) : Type 
 
 -- 0 is answered to no others
 abbrev pub ZeroIsAccepted : Type 0
-ZeroIsAccepted = (statement evidence : List ℕ) (ending : Ending) → AnswersCheck statement evidence ending → ending.status ≡ 0 → AllAccepted statement evidence ending
+ZeroIsAccepted = (statement evidence : List ℕ) (ending : Ending) → AnswersCheck statement evidence ending → ending.status ≡ 0
+    → AllAccepted statement evidence ending
 
 -- certificates of the statement, each with its meaning
 pub record AllMean {Object Arrow : Type 0} (s : Structure Object Arrow) (statement evidence : List ℕ) : Type 0 where
@@ -40,7 +41,8 @@ pub record AllMean {Object Arrow : Type 0} (s : Structure Object Arrow) (stateme
 
 -- 0, by the main theorem: each certificate has its meaning
 abbrev pub ZeroMeans : {Object Arrow : Type 0} → Structure Object Arrow → Type 0
-ZeroMeans s = (statement evidence : List ℕ) (ending : Ending) → AnswersCheck statement evidence ending → SaysChecked s statement evidence ending.report → ending.status ≡ 0 → AllMean s statement evidence
+ZeroMeans s = (statement evidence : List ℕ) (ending : Ending) → AnswersCheck statement evidence ending
+    → SaysChecked s statement evidence ending.report → ending.status ≡ 0 → AllMean s statement evidence
 
 -- a statement with a fault is answered by 3 and the line on its first fault, whatever the evidence text
 abbrev pub FaultsAreAnswered : Type 0

@@ -17,4 +17,5 @@ AcceptedMeans s problem e = ProvedMeans s problem (claim_number e) e
 -- Where the report begins with the lines that accept the first certificates of the evidence text, of either format, each of these has its meaning.
 pub record SaysChecked {Object Arrow : Type 0} (s : Structure Object Arrow) (statement evidence report : List ℕ) : Type 0 where
   pub each : (problem : Problem) (first others : List Evidence) (rest : List ℕ)
-      → IsStated statement problem → IsEvidence Lemmas problem.parts.quiver evidence (first ++ others) → report ≡ accepted_lines 1 first ++ rest → AllByRecursion (AcceptedMeans s problem) first
+      → IsStated statement problem → IsEvidence Lemmas problem.parts.quiver evidence (first ++ others) → report ≡ accepted_lines 1 first
+      ++ rest → AllByRecursion (AcceptedMeans s problem) first

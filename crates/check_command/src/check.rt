@@ -40,7 +40,8 @@ pub fn certificates_of(
     requires { length evidence.now ≤ evidence_limit }
     ensures read { IfOk result (IsEvidence Lemmas quiver.now evidence.now) }
     ensures checkable { IfOk result (All (IsCheckableEvidence quiver.now)) }
-    ensures stopped { IfErr result (StopsBy (OverEvidence (IsEvidence Lemmas quiver.now evidence.now) (IsFirstFault Lemmas quiver.now evidence.now) (λ _ _. ⊥))) }
+    ensures stopped { IfErr result
+        (StopsBy (OverEvidence (IsEvidence Lemmas quiver.now evidence.now) (IsFirstFault Lemmas quiver.now evidence.now) (λ _ _. ⊥))) }
 {
     match read_evidence(alloc, evidence, quiver) {
         Ok(certificates) => Ok(certificates),

@@ -64,7 +64,9 @@ pub fn put_overflow(
     number: u32,
     overflow: &Overflow,
 ) -> Result<(), AllocError>
-    ensures { OnOk result (out.new.items ≡ out.old.items ++ (place.now ++ (decimal number ++ (codes " " ++ (signed_decimal overflow.now.left ++ (operation_text overflow.now.product ++ signed_decimal overflow.now.right)))))) }
+    ensures { OnOk result (out.new.items ≡ out.old.items
+        ++ (place.now ++ (decimal number
+        ++ (codes " " ++ (signed_decimal overflow.now.left ++ (operation_text overflow.now.product ++ signed_decimal overflow.now.right)))))) }
 {
     put_labelled(out, place, u128::from(number))?;
     put_signed(out, " ", overflow.left)?;
@@ -90,7 +92,9 @@ fn put_difference(
     got: i128,
 ) -> Result<(), AllocError>
     requires { IsOver (letter_count quiver.now) word.now }
-    ensures { OnOk result (out.new.items ≡ out.old.items ++ (codes "C6 word " ++ (word_text quiver.now word.now ++ (codes " want " ++ (signed_decimal want ++ (codes " got " ++ signed_decimal got)))))) }
+    ensures { OnOk result (out.new.items ≡ out.old.items
+        ++ (codes "C6 word " ++ (word_text quiver.now word.now
+        ++ (codes " want " ++ (signed_decimal want ++ (codes " got " ++ signed_decimal got)))))) }
 {
     put(out, "C6 word ")?;
     put_word(out, quiver, word)?;
@@ -106,7 +110,8 @@ fn put_indivisible(
     got: i128,
 ) -> Result<(), AllocError>
     requires { IsOver (letter_count quiver.now) word.now }
-    ensures { OnOk result (out.new.items ≡ out.old.items ++ (codes "C8 lemma " ++ (decimal lemma ++ (codes " word " ++ (word_text quiver.now word.now ++ (codes " got " ++ signed_decimal got)))))) }
+    ensures { OnOk result (out.new.items ≡ out.old.items
+        ++ (codes "C8 lemma " ++ (decimal lemma ++ (codes " word " ++ (word_text quiver.now word.now ++ (codes " got " ++ signed_decimal got)))))) }
 {
     put_labelled(out, "C8 lemma ", u128::from(lemma))?;
     put(out, " word ")?;

@@ -52,7 +52,8 @@ StandingFollows setting form number claim round s st (Settled o) new = new ≡ S
 -- The case after a step of the completion.
 pub record Follows (form : Format) (problem : Problem) (c : Completion) (st : Step) (old new : Case) : Type 0 where
   pub same : new.number ≡ old.number
-  pub standing : StandingFollows (setting_of problem c.budget) form old.number (claim_at problem old.number) (c.rounds - 1) (state_of c) st old.standing new.standing
+  pub standing : StandingFollows (setting_of problem c.budget) form old.number (claim_at problem old.number) (c.rounds - 1)
+      (state_of c) st old.standing new.standing
 
 -- ---- after so many whole rounds
 -- the claim has got its outcome

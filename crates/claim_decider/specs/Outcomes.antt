@@ -79,7 +79,8 @@ IsProved format.Lemmas number at made claim o = Gathers at (gathered_of number m
 -- the evidence of a claim without terms
 abbrev pub evidence_of_zero : Format → ℕ → Evidence
 evidence_of_zero format.Plain number = evidence.Plain (record { claim = number; denominator = pos 1; rows = [] })
-evidence_of_zero format.Lemmas number = evidence.Lemmas (record { claim = number; denominator = pos 1; lemmas = []; goal = record { scale = pos 1; rows = [] } })
+evidence_of_zero format.Lemmas number = evidence.Lemmas
+    (record { claim = number; denominator = pos 1; lemmas = []; goal = record { scale = pos 1; rows = [] } })
 
 -- ---- after a round that was made whole
 -- What is left of the claim by the rules isn't zero.
@@ -129,12 +130,15 @@ pub data GetsOutcome (setting : Setting) (form : Format) (number : ℕ) (claim :
   -- at once, where it has no terms
   at_once : claim ≡ [] → rounds ≡ 0 → s ≡ start → o ≡ outcome.Derived (evidence_of_zero form number) → GetsOutcome setting form number claim rounds s o
   -- after a whole round
-  after_round : (n : ℕ) (before : RunState) → rounds ≡ suc n → IsOpen setting claim n before → IsRound setting n before (went s) → IsDone setting form number n s claim o
+  after_round : (n : ℕ) (before : RunState) → rounds ≡ suc n → IsOpen setting claim n before → IsRound setting n before (went s)
+      → IsDone setting form number n s claim o
       → GetsOutcome setting form number claim rounds s o
   -- where the run closes
-  by_closing : IsOpen setting claim rounds s → IsRound setting rounds s closed → IsClosedWith setting s.rules claim o → GetsOutcome setting form number claim rounds s o
+  by_closing : IsOpen setting claim rounds s → IsRound setting rounds s closed → IsClosedWith setting s.rules claim o
+      → GetsOutcome setting form number claim rounds s o
   -- where the run stops
-  by_stop : (halt : Halt) → IsOpen setting claim rounds s → IsRound setting rounds s (stopped halt) → o ≡ outcome.Halted halt → GetsOutcome setting form number claim rounds s o
+  by_stop : (halt : Halt) → IsOpen setting claim rounds s → IsRound setting rounds s (stopped halt) → o ≡ outcome.Halted halt
+      → GetsOutcome setting form number claim rounds s o
 
 -- The outcome of the claim with this number, for itself alone.
 pub record IsOutcomeOf (setting : Setting) (form : Format) (number : ℕ) (claim : List Term) (o : Outcome) : Type 0 where

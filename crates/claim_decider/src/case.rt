@@ -65,7 +65,8 @@ fn judge(
     requires number { IsNumber problem.now number }
     requires of_problem { IsCompletionOf problem.now completion.now }
     requires some_round { 0 < completion.now.rounds }
-    ensures { IfOk result (IsJudged (setting_of problem.now completion.now.budget) format number (claim_at problem.now number) (completion.now.rounds - 1) (state_of completion.now)) }
+    ensures { IfOk result (IsJudged (setting_of problem.now completion.now.budget) format number (claim_at problem.now number)
+        (completion.now.rounds - 1) (state_of completion.now)) }
 {
     let claim = problem.parts.claims.at(number as usize - 1);
     let round = completion.rounds - 1;
@@ -104,7 +105,8 @@ pub(crate) fn follow(
     requires number { IsNumber problem.now number }
     requires of_problem { IsCompletionOf problem.now completion.now }
     requires some_round { HasRounds step.now completion.now.rounds }
-    ensures { IfOk result (StandingFollows (setting_of problem.now completion.now.budget) format number (claim_at problem.now number) (completion.now.rounds - 1) (state_of completion.now) step.now standing) }
+    ensures { IfOk result (StandingFollows (setting_of problem.now completion.now.budget) format number (claim_at problem.now number)
+        (completion.now.rounds - 1) (state_of completion.now) step.now standing) }
 {
     let rest = match standing {
         Standing::Open(rest) => rest,

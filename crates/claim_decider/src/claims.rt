@@ -126,8 +126,10 @@ fn decide_cases<R: Threads + Sync, G: Gate + Sync>(
     requires of_problem { IsCompletionOf problem.now completion.old }
     requires no_round { completion.old.rounds ≡ 0 }
     requires numbers { All (IsOfProblem problem.now) cases.items }
-    requires cases { All (IsCase (setting_of problem.now completion.old.budget) format problem.now completion.old.rounds (state_of completion.old)) cases.items }
-    ensures outcomes { IfOk result (λ d. AreOutcomesOf (setting_of problem.now completion.old.budget) format problem.now (case_numbers cases.items) d.outcomes) }
+    requires cases { All (IsCase (setting_of problem.now completion.old.budget) format problem.now completion.old.rounds
+        (state_of completion.old)) cases.items }
+    ensures outcomes { IfOk result (λ d. AreOutcomesOf (setting_of problem.now completion.old.budget) format problem.now
+        (case_numbers cases.items) d.outcomes) }
     ensures rules { IfOk result (λ d. AreLastRules (setting_of problem.now completion.old.budget) format problem.now (case_numbers cases.items) d.rules) }
 {
     settle(
@@ -154,13 +156,16 @@ fn settle<R: Threads + Sync, G: Gate + Sync>(
     requires of_problem { IsCompletionOf problem.now completion.old }
     requires no_round { completion.old.rounds ≡ 0 }
     requires numbers { All (IsOfProblem problem.now) cases.old.items }
-    requires cases { All (IsCase (setting_of problem.now completion.old.budget) format problem.now completion.old.rounds (state_of completion.old)) cases.old.items }
+    requires cases { All (IsCase (setting_of problem.now completion.old.budget) format problem.now completion.old.rounds
+        (state_of completion.old)) cases.old.items }
     ensures of_problem { OnOk result (IsCompletionOf problem.now completion.new) }
     ensures budget { OnOk result (completion.new.budget ≡ completion.old.budget) }
     ensures numbers { OnOk result (case_numbers cases.new.items ≡ case_numbers cases.old.items) }
     ensures settled { OnOk result (All IsSettled cases.new.items) }
-    ensures cases { OnOk result (All (IsCase (setting_of problem.now completion.old.budget) format problem.now completion.new.rounds (state_of completion.new)) cases.new.items) }
-    ensures last { OnOk result (IsLastRound (setting_of problem.now completion.old.budget) format problem.now (case_numbers cases.new.items) completion.new.rounds) }
+    ensures cases { OnOk result (All (IsCase (setting_of problem.now completion.old.budget) format problem.now completion.new.rounds
+        (state_of completion.new)) cases.new.items) }
+    ensures last { OnOk result (IsLastRound (setting_of problem.now completion.old.budget) format problem.now
+        (case_numbers cases.new.items) completion.new.rounds) }
 {
     while !are_settled(cases.as_slice()) {
         let step = completion.round(rt, alloc, problem, workers, gate)?;

@@ -17,7 +17,8 @@ use Rattle.closed_checker.specs.Closed.{IsReadableBasis, IsClosedBasis, Refuses,
 
 -- The bases of a text can be checked, where their letters are letters of the quiver. Both is ensured of what `read_bases` gives.
 abbrev pub ReadBasesAreReadable : Type 0
-ReadBasesAreReadable = (ds : List Declaration) (bytes : List ℕ) (bases : List Basis) → IsBases ds bytes bases → All (IsBasisOver ds) bases → All (IsReadableBasis ds) bases
+ReadBasesAreReadable = (ds : List Declaration) (bytes : List ℕ) (bases : List Basis) → IsBases ds bytes bases → All (IsBasisOver ds) bases
+    → All (IsReadableBasis ds) bases
 
 -- ---- one outcome
 

@@ -41,7 +41,8 @@ pub record LacksDenominator (claims : List Poly) (c : Certificate) : Type 0 wher
   pub claim : IsNumberUpTo (length claims) c.claim
   pub denominator : c.denominator <ℤ pos 1
 
--- The certificate is posed, and this is the first product of the denominator with a coefficient of the claim that leaves the range. It stands before all rows, and so in row 0.
+-- The certificate is posed, and this is the first product of the denominator with a coefficient of the claim that leaves the range. It
+-- stands before all rows, and so in row 0.
 pub record MultipleOverflows (claims : List Poly) (c : Certificate) (row : ℕ) (overflow : Overflow) : Type 0 where
   pub before_rows : row ≡ 0
   pub posed : IsPosed claims c
@@ -50,14 +51,16 @@ pub record MultipleOverflows (claims : List Poly) (c : Certificate) (row : ℕ) 
 -- Each row passes, and this is the least word at which the sum of the rows isn't the denominator times the claim.
 pub record SumDiffers (claims generators : List Poly) (c : Certificate) (word : List ℕ) (want got : ℤ) : Type 0 where
   pub adds_up : AddsUp claims generators c
-  pub difference : IsLeastDifference (coefficient_of (poly_multiple c.denominator (claim_of claims c))) (coefficient_of (row_sum generators (rows_of c.rows))) word want got
+  pub difference : IsLeastDifference (coefficient_of (poly_multiple c.denominator (claim_of claims c)))
+      (coefficient_of (row_sum generators (rows_of c.rows))) word want got
 
 -- Each refusal comes where its test is the first that fails, and want of memory can come at any time.
 -- What is told of lemmas, and of scales that do not divide, is never told of this certificate.
 abbrev pub Refuses : List Poly → List Poly → Certificate → Refusal → Type 0
 Refuses claims generators c refusal.NoSuchClaim = IsNumberUpTo (length claims) c.claim → ⊥
 Refuses claims generators c refusal.ZeroDenominator = LacksDenominator claims c
-Refuses claims generators c (refusal.Overflow row overflow) = MultipleOverflows claims c row overflow ⊎ (Begins claims c × Overflows generators (rows_of c.rows) row overflow)
+Refuses claims generators c (refusal.Overflow row overflow) = MultipleOverflows claims c row overflow
+    ⊎ (Begins claims c × Overflows generators (rows_of c.rows) row overflow)
 Refuses claims generators c (refusal.NoSuchGenerator row) = Begins claims c × LacksGenerator generators (rows_of c.rows) row
 Refuses claims generators c (refusal.Size row) = Begins claims c × Outgrows generators (rows_of c.rows) row
 Refuses claims generators c (refusal.Differs word want got) = SumDiffers claims generators c word want got

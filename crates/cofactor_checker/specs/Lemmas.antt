@@ -17,7 +17,8 @@ use Rattle.cofactor_checker.specs.PlainRows.{plain_rows, plain_sum, IsGenerator,
 use Rattle.cofactor_checker.specs.declared.refusal.Refusal.{Refusal}
 use Rattle.cofactor_checker.specs.declared.refusal.Refusal.TheVariants as refusal
 
--- Each row of a lemma or of the goal passes: it is over a generator or an earlier lemma, no product or sum of it leaves the range, and the sum with it has at most 200,000 terms.
+-- Each row of a lemma or of the goal passes: it is over a generator or an earlier lemma, no product or sum of it leaves the range, and the
+-- sum with it has at most 200,000 terms.
 abbrev pub LemmaRowsPass : List Poly → List Poly → List LemmaRow → Type 0
 LemmaRowsPass generators lemmas rows = RowsPass (generators ++ lemmas) (plain_rows generators lemmas rows) (length (plain_rows generators lemmas rows))
 
@@ -28,7 +29,8 @@ lemma_polynomial generators lemmas l = map (λ t. (int_div t.0 l.scale, t.1)) (c
 -- the polynomials of lemmas that stand behind others
 abbrev pub lemma_polynomials : List Poly → List Poly → List Lemma → List Poly
 lemma_polynomials generators before [] = []
-lemma_polynomials generators before (l ∷ lemmas) = lemma_polynomial generators before l ∷ lemma_polynomials generators (before ++ lemma_polynomial generators before l ∷ []) lemmas
+lemma_polynomials generators before (l ∷ lemmas) = lemma_polynomial generators before l ∷ lemma_polynomials generators
+    (before ++ lemma_polynomial generators before l ∷ []) lemmas
 
 -- how many terms the polynomials have together
 abbrev pub term_total : List Poly → ℕ
@@ -43,7 +45,8 @@ kept_limit = 1000000
 pub record IsDivisible (scale : ℤ) (p : Poly) : Type 0 where
   pub each : DividesEach (unsigned_abs scale) p
 
--- The rows of the lemma pass, its scale divides each coefficient of their sum, and its polynomial, whose words are those of the sum, has at most 20,000 terms and no word of more than 500 letters.
+-- The rows of the lemma pass, its scale divides each coefficient of their sum, and its polynomial, whose words are those of the sum, has at
+-- most 20,000 terms and no word of more than 500 letters.
 pub record IsMade (generators before : List Poly) (l : Lemma) : Type 0 where
   pub rows : LemmaRowsPass generators before l.rows
   pub divisible : IsDivisible l.scale (collected (plain_sum generators before l.rows))
@@ -59,7 +62,8 @@ abbrev pub LemmasPass : List Poly → List Poly → List Lemma → Type 0
 LemmasPass generators before [] = ⊤
 LemmasPass generators before (l ∷ lemmas) = LemmaPasses generators before l × LemmasPass generators (before ++ lemma_polynomial generators before l ∷ []) lemmas
 
--- The row is the first that does not pass, since there is no generator or lemma of its number; which of both it names, the kind tells. So many rows stand before the lemma.
+-- The row is the first that does not pass, since there is no generator or lemma of its number; which of both it names, the kind tells. So
+-- many rows stand before the lemma.
 pub record LacksAt (generators lemmas : List Poly) (before : ℕ) (rows : List LemmaRow) (kind : CertFrom → Type 0) (number : ℕ) : Type 0 where
   pub in_lemma : ℕ
   pub counted : number ≡ before + in_lemma
@@ -92,7 +96,8 @@ RefusesLemmaRows generators lemmas before rows other = ⊥
 -- In a list whose words descend: the last term, and so the least word, whose coefficient the scale does not divide.
 abbrev pub IsLeastIndivisible : ℤ → Poly → List ℕ → ℤ → Type 0
 IsLeastIndivisible scale [] word got = ⊥
-IsLeastIndivisible scale (t ∷ p) word got = IsLeastIndivisible scale p word got ⊎ (DividesEach (unsigned_abs scale) p × ((unsigned_abs scale ∣ unsigned_abs t.0 → ⊥) × (t ≡ (got, word))))
+IsLeastIndivisible scale (t ∷ p) word got = IsLeastIndivisible scale p word got
+    ⊎ (DividesEach (unsigned_abs scale) p × ((unsigned_abs scale ∣ unsigned_abs t.0 → ⊥) × (t ≡ (got, word))))
 
 -- the same as a fact
 pub record HasLeastIndivisible (scale : ℤ) (p : Poly) (word : List ℕ) (got : ℤ) : Type 0 where
@@ -133,7 +138,9 @@ RefusesLemma generators before rows l other = ⊥
 -- the first lemma that does not pass, and what is told of it
 abbrev pub RefusesLemmas : List Poly → List Poly → ℕ → List Lemma → Refusal → Type 0
 RefusesLemmas generators before rows [] e = ⊥
-RefusesLemmas generators before rows (l ∷ lemmas) e = RefusesLemma generators before rows l e ⊎ (LemmaPasses generators before l × RefusesLemmas generators (before ++ lemma_polynomial generators before l ∷ []) (rows + length l.rows) lemmas e)
+RefusesLemmas generators before rows (l ∷ lemmas) e = RefusesLemma generators before rows l e
+    ⊎ (LemmaPasses generators before l × RefusesLemmas generators (before ++ lemma_polynomial generators before l ∷ [])
+    (rows + length l.rows) lemmas e)
 
 -- how many rows the lemmas have together
 abbrev pub row_count : List Lemma → ℕ

@@ -12,4 +12,5 @@ adding_operations so_far c l g r = flat_map (λ t. product_of c t.0 ∷ sum_of (
 
 -- the row, added to the sum of the first i rows
 abbrev pub row_operations : List Poly → List Row → ℕ → Row → List Overflow
-row_operations generators rows i r = adding_operations (coefficient_of (row_sum generators (take i rows))) r.coefficient r.left (generator_at generators r.generator) r.right
+row_operations generators rows i r = adding_operations (coefficient_of (row_sum generators (take i rows))) r.coefficient r.left
+    (generator_at generators r.generator) r.right

@@ -1,5 +1,6 @@
 -- What one record expands to, where it is known what its generators and rules expand to.
-use Rattle.std.specs.Prelude.{ℕ, ℤ, pos, ◌*ℤ◌, int_div, List, [], ◌∷◌, ◌++◌, map, length, ◌+◌, ◌||◌, Bool, true, false, nat_lt, Option, Some, None, Result, Ok, Err, if◌then◌else◌}
+use Rattle.std.specs.Prelude.{ℕ, ℤ, pos, ◌*ℤ◌, int_div, List, [], ◌∷◌, ◌++◌, map, length, ◌+◌, ◌||◌, Bool, true, false, nat_lt, Option}
+use Rattle.std.specs.Prelude.{Some, None, Result, Ok, Err, if◌then◌else◌}
 use Rattle.std.specs.List.{fold, flat_map, list_any, sum_by}
 use Rattle.std.specs.Option.{option_map}
 use Rattle.coef_int.specs.declared.Overflow.{Overflow}

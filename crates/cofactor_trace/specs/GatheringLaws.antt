@@ -39,7 +39,8 @@ GatheringsFit = (claim : ℕ) (made : List Made) (target : Made) (c : LemmaCerti
 
 -- Where each record has a row, so has each lemma, and there are at most 200,000 of them.
 abbrev pub LemmasHaveRows : Type 0
-LemmasHaveRows = (claim : ℕ) (made : List Made) (target : Made) (c : LemmaCertificate) → All (λ m. 1 ≤ length m.rows) made → gathered_of claim made target ≡ Ok c
+LemmasHaveRows = (claim : ℕ) (made : List Made) (target : Made) (c : LemmaCertificate) → All (λ m. 1 ≤ length m.rows) made
+    → gathered_of claim made target ≡ Ok c
     → All (λ l. 1 ≤ length l.rows) c.lemmas × (length c.lemmas ≤ row_limit)
 
 -- ---- numbers and words
@@ -49,7 +50,8 @@ IsRangedLemma l = IsCoefficient l.scale × All (λ r. IsCoefficient r.coef) l.ro
 
 -- The denominator, each scale and the coefficient of each row are coefficients.
 abbrev pub GatheringsAreRanged : Type 0
-GatheringsAreRanged = (claim : ℕ) (made : List Made) (target : Made) (c : LemmaCertificate) → AreRecords made → IsRecord (length made) target → gathered_of claim made target ≡ Ok c
+GatheringsAreRanged = (claim : ℕ) (made : List Made) (target : Made) (c : LemmaCertificate) → AreRecords made
+    → IsRecord (length made) target → gathered_of claim made target ≡ Ok c
     → IsCoefficient c.denominator × All IsRangedLemma (parts_of c)
 
 -- Where a test is true at each word of the records, it is true at each word of the certificate.

@@ -1,6 +1,7 @@
 -- A certificate with lemmas, gathered from records: its lemmas are the rules that are needed, but for those that are no more than a
 -- generator or its negative.
-use Rattle.std.specs.Prelude.{ℕ, ℤ, pos, negsuc, neg_ℤ, List, [], ◌∷◌, ◌++◌, map, filter, length, ◌+◌, ◌-◌, suc, ◌&&◌, Bool, true, false, nat_eq, nat_lt, Option, Some, None, Result, Ok, if◌then◌else◌, slice_get, unwrap_or, is_none}
+use Rattle.std.specs.Prelude.{ℕ, ℤ, pos, negsuc, neg_ℤ, List, [], ◌∷◌, ◌++◌, map, filter, length, ◌+◌, ◌-◌, suc, ◌&&◌, Bool, true, false}
+use Rattle.std.specs.Prelude.{nat_eq, nat_lt, Option, Some, None, Result, Ok, if◌then◌else◌, slice_get, unwrap_or, is_none}
 use Rattle.std.specs.List.{sum_by}
 use Rattle.std.specs.Option.{option_map, option_and_then}
 use Rattle.std.specs.Ordering.{int_eq}

@@ -17,4 +17,5 @@ multiple_cmp = then_cmp (on (λ m. m.generator) nat_cmp) (then_cmp (on (λ m. m.
 
 -- it is a total order
 pub multiple_cmp_total : IsTotalOrder multiple_cmp
-multiple_cmp_total = then_total (on_total (λ m. m.generator) nat_cmp_total) (then_total (on_total (λ m. m.left) word_cmp_total) (on_total (λ m. m.right) word_cmp_total))
+multiple_cmp_total = then_total (on_total (λ m. m.generator) nat_cmp_total)
+    (then_total (on_total (λ m. m.left) word_cmp_total) (on_total (λ m. m.right) word_cmp_total))

@@ -1,5 +1,6 @@
 -- The rules that a record needs, and their expansions one after another.
-use Rattle.std.specs.Prelude.{◌≡◌, ◌≤◌, ◌<ℤ◌, ℕ, suc, pos, List, [], ◌∷◌, map, Bool, false, nat_eq, slice_get, Some, Result, Ok, Err, if◌then◌else◌, unwrap_or, ⊤}
+use Rattle.std.specs.Prelude.{◌≡◌, ◌≤◌, ◌<ℤ◌, ℕ, suc, pos, List, [], ◌∷◌, map, Bool, false, nat_eq, slice_get, Some, Result, Ok, Err}
+use Rattle.std.specs.Prelude.{if◌then◌else◌, unwrap_or, ⊤}
 use Rattle.std.specs.List.{All, list_any}
 use Rattle.std.specs.Map.{lookup}
 use Rattle.std.specs.BTreeMap.{insert_entry, is_at}

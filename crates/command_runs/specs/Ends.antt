@@ -11,7 +11,8 @@ use Rattle.command_runs.specs.Files.{AfterFiles}
 use Rattle.command_answers.specs.Answers.{Answers}
 
 -- Words that are no call end in the usage line. A call ends at its files, or goes on as it answers their contents.
-pub data EndsBy (answers : Call → List (List ℕ) → Ending → Type 0) (words : List (String Global)) (told : List ℕ → Told) (rose : List ℕ → Type 0) (ending : Ending) : Type 0 where
+pub data EndsBy (answers : Call → List (List ℕ) → Ending → Type 0) (words : List (String Global)) (told : List ℕ → Told) (rose : List ℕ
+    → Type 0) (ending : Ending) : Type 0 where
   other_words : (IsTaken words → ⊥) → ending ≡ usage usage_text → EndsBy answers words told rose ending
   called : (call : Call) → IsCalled words call → AfterFiles told rose (files_of call) (answers call) ending → EndsBy answers words told rose ending
 

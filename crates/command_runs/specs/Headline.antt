@@ -9,7 +9,8 @@ use Rattle.command_runs.specs.Ends.{EndsBy}
 use Rattle.command_runs.specs.Put.{IsPut}
 use Rattle.command_runs.specs.Run.{Run}
 
--- There is an ending that is put as its status says, whole or in part. It is the usage line on words that are no call; at a file that couldn't be loaded it says so;
+-- There is an ending that is put as its status says, whole or in part. It is the usage line on words that are no call; at a file that
+-- couldn't be loaded it says so;
 -- and where all files of the call were loaded, it is what their contents answer, and says what it says in every such category.
 pub record HasMeaning {Object Arrow : Type 0} (s : Structure Object Arrow) (words : List (String Global)) (run : Run) (status : ℕ) : Type 0 where
   pub ending : Ending

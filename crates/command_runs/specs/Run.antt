@@ -13,7 +13,8 @@ use Rattle.command_runs.specs.Files.{RoseAt, WereLoaded, AreHeld, IsReached, IsM
 use Rattle.command_answers.specs.Answers.{Answers}
 use Rattle.command_runs.specs.Ends.{MayEnd}
 
--- What the devices tell of a run: of each file, of the names whose count of faults rose, of the bytes that were put, of the sink that is finished or whose count rose.
+-- What the devices tell of a run: of each file, of the names whose count of faults rose, of the bytes that were put, of the sink that is
+-- finished or whose count rose.
 pub record Run : Type 1 where
   pub told : List ℕ → Told
   pub rose : List ℕ → Type 0
@@ -22,7 +23,8 @@ pub record Run : Type 1 where
   pub sink_rose : Type 0
 
 -- a run between two states of a shelf and two of a sink
-abbrev pub seen : {Shelf Sink : Type 0} → (Shelf → List ℕ → Told) → (Shelf → List ℕ → ℕ) → (Sink → Option (List ℕ)) → (Sink → Bool) → (Sink → ℕ) → Shelf → Shelf → Sink → Sink → Run
+abbrev pub seen : {Shelf Sink : Type 0} → (Shelf → List ℕ → Told) → (Shelf → List ℕ → ℕ) → (Sink → Option (List ℕ)) → (Sink → Bool)
+    → (Sink → ℕ) → Shelf → Shelf → Sink → Sink → Run
 seen file faults written is_finished sink_faults shelf new_shelf sink new_sink = record {
   told = file shelf;
   rose = RoseAt (faults shelf) (faults new_shelf);
@@ -33,7 +35,8 @@ seen file faults written is_finished sink_faults shelf new_shelf sink new_sink =
 
 -- Every status but 5 and 6: the whole report of an ending that is allowed was put, and the sink is finished.
 abbrev pub IsReported : List (String Global) → Run → ℕ → Type 0
-IsReported words run status = status ≢ 5 → status ≢ 6 → (ending : Ending) × MayEnd words run.told run.rose ending × (ending.status ≡ status) × run.put ending.report × run.finished
+IsReported words run status = status ≢ 5 → status ≢ 6 → (ending : Ending) × MayEnd words run.told run.rose ending
+    × (ending.status ≡ status) × run.put ending.report × run.finished
 
 -- 5: the sink failed,
 abbrev pub IsSinkFailure : Run → ℕ → Type 0
@@ -70,7 +73,8 @@ IsNotLoaded words run status = status ≡ 4 → (call : Call) × IsCalled words 
 
 -- always where the shelf tells that a file is missing,
 abbrev pub TellsMissing : List (String Global) → Run → ℕ → Type 0
-TellsMissing words run status = (call : Call) → IsCalled words call → IsMissing run.told (files_of call) → status ≢ 6 → ((status ≡ 4) × SaysLoadFailed run (files_of call)) ⊎ (status ≡ 5)
+TellsMissing words run status = (call : Call) → IsCalled words call → IsMissing run.told (files_of call) → status ≢ 6
+    → ((status ≡ 4) × SaysLoadFailed run (files_of call)) ⊎ (status ≡ 5)
 
 -- or too long.
 abbrev pub TellsTooLong : List (String Global) → Run → ℕ → Type 0
@@ -94,5 +98,6 @@ IsAnswered words run status = status ≢ 2 → status ≢ 4 → status ≢ 5 →
 
 -- Where the files are held within their limits and no count rose, what their contents answer is the status, and its report is put whole.
 abbrev pub IsComplete : List (String Global) → Run → ℕ → Type 0
-IsComplete words run status = (call : Call) (contents : List (List ℕ)) (ending : Ending) → IsCalled words call → AreHeld run.told run.rose (files_of call) contents
+IsComplete words run status = (call : Call) (contents : List (List ℕ)) (ending : Ending) → IsCalled words call
+    → AreHeld run.told run.rose (files_of call) contents
     → (run.sink_rose → ⊥) → status ≢ 6 → Answers call contents ending → (status ≡ ending.status) × run.put ending.report × run.finished

@@ -29,7 +29,9 @@ pub fn load_files<L: Shelf>(
 // The bytes of a file, or how the run ends at it.
 fn load_file<L: Shelf>(alloc: Global, shelf: &mut L, file: &FileWord) -> Result<Listing<u8>, Stop>
     ensures loaded { IfOk result (AreLoaded (L.file shelf.old file.now.name) file.now.limit) }
-    ensures stopped { IfErr result (StopsBy (EndsAtFile (L.file shelf.old file.now.name) (RoseAt (L.faults shelf.old) (L.faults shelf.new) file.now.name) file.now.name file.now.limit)) }
+    ensures stopped { IfErr result
+        (StopsBy (EndsAtFile (L.file shelf.old file.now.name)
+        (RoseAt (L.faults shelf.old) (L.faults shelf.new) file.now.name) file.now.name file.now.limit)) }
     ensures files_stay { (other : List ℕ) → L.file shelf.new other ≡ L.file shelf.old other }
     ensures counts { (other : List ℕ) → L.faults shelf.old other ≤ L.faults shelf.new other }
 {

@@ -9,7 +9,8 @@ ghost use Rattle.command_runs.specs.Ends.{MayEnd};
 ghost use Rattle.command_runs.specs.Files.{RoseAt, WereLoaded, AfterFiles};
 ghost use Rattle.command_runs.specs.Put.{IsPut};
 ghost use Rattle.command_shape.specs.Stop.{StopsBy, EndsAs};
-ghost use Rattle.command_runs.specs.Run.{seen, IsReported, IsSinkFailure, IsCutShort, IsUsage, TellsOtherWords, IsNotLoaded, TellsMissing, TellsTooLong, IsAnswered, IsComplete};
+ghost use Rattle.command_runs.specs.Run.{seen, IsReported, IsSinkFailure, IsCutShort, IsUsage, TellsOtherWords, IsNotLoaded, TellsMissing};
+ghost use Rattle.command_runs.specs.Run.{TellsTooLong, IsAnswered, IsComplete};
 ghost use Rattle.command_runs.specs.Headline.{MeansAsSaid};
 
 use crate::files::load_files;
@@ -93,7 +94,8 @@ fn ending_of<R: Threads + Sync, L: Shelf, G: Gate + Sync>(
 
 // Puts the report and finishes.
 fn put_ending<K: Sink>(sink: &mut K, ending: &Ending) -> u8
-    ensures { IsPut (λ bytes. Appends (K.written sink.old) (K.written sink.new) bytes) (IsTrue (K.is_finished sink.new)) (Rose (K.faults sink.old) (K.faults sink.new)) ending.now result }
+    ensures { IsPut (λ bytes. Appends (K.written sink.old) (K.written sink.new) bytes) (IsTrue (K.is_finished sink.new))
+        (Rose (K.faults sink.old) (K.faults sink.new)) ending.now result }
 {
     match put_all(sink, ending.report()) {
         Ok(()) => {}
@@ -131,7 +133,8 @@ pub fn run<R: Threads + Sync, C: Preadditive, L: Shelf, K: Sink, G: Gate + Sync>
     ensures past_limit { TellsTooLong words.now (seen L.file L.faults K.written K.is_finished K.faults shelf.old shelf.new sink.old sink.new) result }
     ensures answered { IsAnswered words.now (seen L.file L.faults K.written K.is_finished K.faults shelf.old shelf.new sink.old sink.new) result }
     ensures complete { IsComplete words.now (seen L.file L.faults K.written K.is_finished K.faults shelf.old shelf.new sink.old sink.new) result }
-    ensures meaning { MeansAsSaid (C.structure category.now) words.now (seen L.file L.faults K.written K.is_finished K.faults shelf.old shelf.new sink.old sink.new) result }
+    ensures meaning { MeansAsSaid (C.structure category.now) words.now
+        (seen L.file L.faults K.written K.is_finished K.faults shelf.old shelf.new sink.old sink.new) result }
 {
     sound(category);
     cancellation_sound(category);

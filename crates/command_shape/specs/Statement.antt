@@ -24,8 +24,10 @@ typing_text (typing.Memory failed) = None
 
 -- The statement has a first fault, and the line says so.
 pub data IsRefusedStatement (bytes text : List ℕ) : Type 0 where
-  no_tree : (fault : Fault) (at : Spot) → IsFirstFault bytes fault at → text ≡ statement_fault (code_of fault) at.line at.column 0 None None → IsRefusedStatement bytes text
-  no_problem : (statements : List Statement) (fault : TypeFault) → IsTreeOf bytes statements → fault_of statements ≡ Some fault → typing_text fault ≡ Some text → IsRefusedStatement bytes text
+  no_tree : (fault : Fault) (at : Spot) → IsFirstFault bytes fault at
+      → text ≡ statement_fault (code_of fault) at.line at.column 0 None None → IsRefusedStatement bytes text
+  no_problem : (statements : List Statement) (fault : TypeFault) → IsTreeOf bytes statements → fault_of statements ≡ Some fault
+      → typing_text fault ≡ Some text → IsRefusedStatement bytes text
 
 -- The statement is refused, for its first fault, or its problem leads to the ending.
 pub data OverStatement (bytes : List ℕ) (next : Problem → Ending → Type 0) (ending : Ending) : Type 0 where

@@ -19,7 +19,8 @@ ends_text side (Some ends) = side ++ (ends.0 ++ (codes " -> " ++ ends.1))
 -- a fault of a statement: its code, its place, its limit, and two signatures that don't fit
 abbrev pub statement_fault : ℕ → ℕ → ℕ → ℕ → Option (List ℕ × List ℕ) → Option (List ℕ × List ℕ) → List ℕ
 statement_fault code line column limit left right =
-    codes "# refused S" ++ (decimal code ++ (place_text code line column ++ (limit_text limit ++ (ends_text (codes " left ") left ++ ends_text (codes " right ") right))))
+    codes "# refused S" ++ (decimal code
+    ++ (place_text code line column ++ (limit_text limit ++ (ends_text (codes " left ") left ++ ends_text (codes " right ") right))))
 
 -- K1, K6 and K7 tell no line
 abbrev pub line_text : ℕ → List ℕ

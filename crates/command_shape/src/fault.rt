@@ -53,7 +53,9 @@ fn put_statement_fault(
     left: &Ends,
     right: &Ends,
 ) -> Result<(), AllocError>
-    ensures { OnOk result (out.new.items ≡ out.old.items ++ (decimal code ++ (place_text code place.0 place.1 ++ (limit_text limit ++ (ends_text (codes " left ") left.now ++ ends_text (codes " right ") right.now))))) }
+    ensures { OnOk result (out.new.items ≡ out.old.items
+        ++ (decimal code ++ (place_text code place.0 place.1
+        ++ (limit_text limit ++ (ends_text (codes " left ") left.now ++ ends_text (codes " right ") right.now))))) }
 {
     put_number(out, u128::from(code))?;
     put_place(out, code, place)?;

@@ -66,7 +66,8 @@ bare_command =
     record a { top = record a.top { no_binary_name = true; disable_help_flag = true; disable_help_subcommand = true; subcommand_required = true } }
 
 unfoldable pub command_set : App
-command_set = with_subcommand (with_subcommand (with_subcommand (with_subcommand (with_subcommand (with_subcommand (with_subcommand (with_subcommand bare_command
+command_set = with_subcommand (with_subcommand
+    (with_subcommand (with_subcommand (with_subcommand (with_subcommand (with_subcommand (with_subcommand bare_command
     prove_command.top)
     (pair_command (codes "check")).top)
     refute_command.top)

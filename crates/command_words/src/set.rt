@@ -4,7 +4,9 @@ ghost use Rattle.std.specs.Result.{IsOkAnd};
 ghost use Rattle.std.specs.List.{All};
 ghost use Rattle.clap.specs.Words.{app_of, rule_of, with_subcommand};
 ghost use Rattle.clap.specs.declared.builder.command.Command.TheViews.{out-Command as fields_of};
-ghost use Rattle.command_words.specs.CommandSet.{command_set, with_rules, bare_command, prove_command, refute_command, bench_command, pair_command, required_word, required_number, number_option, workers_option, seed_option, flag_option};
+ghost use Rattle.command_words.specs.CommandSet.{command_set, with_rules, bare_command, prove_command, refute_command, bench_command};
+ghost use Rattle.command_words.specs.CommandSet.{pair_command, required_word, required_number, number_option, workers_option, seed_option};
+ghost use Rattle.command_words.specs.CommandSet.{flag_option};
 
 use crate::limits::{
     DEFAULT_FORMAT_WORD, DEFAULT_PAIRS_WORD, DEFAULT_SEED_WORD, DEFAULT_STEPS_WORD,

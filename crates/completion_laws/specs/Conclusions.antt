@@ -24,7 +24,8 @@ NothingPending rules treated = (a : Ambiguity) → IsAmbiguity rules a → (Cont
 
 -- none is left whose overlap word is below the word
 abbrev pub NothingPendingBelow : ℕ → Compare → List Rule → List Ambiguity → List ℕ → Type 0
-NothingPendingBelow letters compare rules treated word = (a : Ambiguity) → IsAmbiguity rules a → (Contains treated a → ⊥) → IsBelow letters compare (overlap_word_of rules a) word → ⊥
+NothingPendingBelow letters compare rules treated word = (a : Ambiguity) → IsAmbiguity rules a → (Contains treated a → ⊥)
+    → IsBelow letters compare (overlap_word_of rules a) word → ⊥
 
 -- Where nothing is pending the rules are resolved, and where nothing is pending below a word they are resolved below it.
 abbrev pub ResolvedWhereClosed : Type 0
@@ -35,7 +36,8 @@ ResolvedWhereClosed = (letters : ℕ) (compare : Compare) (generators : List (Li
 abbrev pub ResolvedBelowPending : Type 0
 ResolvedBelowPending = (letters : ℕ) (compare : Compare) (generators : List (List Term)) (rules : List Rule) (made : List Made)
     (done : List ℕ) (treated : List Ambiguity) (word : List ℕ)
-    → Kept letters compare generators rules made done treated → NothingPendingBelow letters compare rules treated word → ResolvedBelow letters compare rules word
+    → Kept letters compare generators rules made done treated → NothingPendingBelow letters compare rules treated word
+    → ResolvedBelow letters compare rules word
 
 -- Each rule is in the rational ideal of the generators.
 abbrev pub RulesAreInside : Type 0
@@ -60,5 +62,6 @@ NonzeroIsOutside = (letters : ℕ) (compare : Compare) (rank : List ℕ → List
 abbrev pub NonzeroIsNotBelow : Type 0
 NonzeroIsNotBelow = (letters : ℕ) (compare : Compare) (rank : List ℕ → List ℕ) (generators : List (List Term)) (rules : List Rule)
     (made : List Made) (done : List ℕ) (treated : List Ambiguity) (word : List ℕ) (p : List Term) (s : State)
-    → IsAdmissible letters compare rank → HaveLettersBelow letters generators → Kept letters compare generators rules made done treated → AreAllDone generators done → NothingPendingBelow letters compare rules treated word
+    → IsAdmissible letters compare rank → HaveLettersBelow letters generators → Kept letters compare generators rules made done treated
+    → AreAllDone generators done → NothingPendingBelow letters compare rules treated word
     → IsReduced letters compare rules p s → IsNonzero s.rest → ComesBelow letters compare generators word p → ⊥

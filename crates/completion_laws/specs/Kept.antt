@@ -38,10 +38,12 @@ pub record IsReached (letters : ℕ) (compare : Compare) (rules : List Rule) (p 
   pub denominator : ℤ
   pub rows : List Multiple
   pub combination : IsCombination (polynomials_of rules) rows denominator p
-  pub at_most : All (λ r. (w : List ℕ) → coefficient_of (generator_at (polynomials_of rules) r.generator) w ≢ pos 0 → IsAtMostOf letters compare p (r.left ++ (w ++ r.right))) rows
+  pub at_most : All (λ r. (w : List ℕ) → coefficient_of (generator_at (polynomials_of rules) r.generator) w ≢ pos 0
+      → IsAtMostOf letters compare p (r.left ++ (w ++ r.right))) rows
 
 -- The generators with the listed numbers were reduced, and the listed ambiguities were treated.
-pub record Kept (letters : ℕ) (compare : Compare) (generators : List (List Term)) (rules : List Rule) (made : List Made) (done : List ℕ) (treated : List Ambiguity) : Type 0 where
+pub record Kept (letters : ℕ) (compare : Compare) (generators : List (List Term)) (rules : List Rule) (made : List Made) (done : List ℕ)
+    (treated : List Ambiguity) : Type 0 where
   pub are_rules : All (IsRule letters compare) rules
   pub apart : AreApart rules
   pub recorded : AreRecorded generators rules made
@@ -70,7 +72,8 @@ GeneratorsAreKept = (letters : ℕ) (compare : Compare) (rank : List ℕ → Lis
 
 -- The S-polynomial is reduced by the rules from the start of a round, then its rest by these and those that the round has
 -- appended, and what is left is appended. It is the sum of its rows by `s_poly` and the law `s_polynomials_balance`.
-pub record IsTreated (letters : ℕ) (compare : Compare) (start more : List Rule) (made : List Made) (a : Ambiguity) (rules_after : List Rule) (made_after : List Made) : Type 0 where
+pub record IsTreated (letters : ℕ) (compare : Compare) (start more : List Rule) (made : List Made) (a : Ambiguity)
+    (rules_after : List Rule) (made_after : List Made) : Type 0 where
   pub ambiguity : IsAmbiguity start a
   pub s_polynomial : List Term
   pub is_sum : SamePolynomial s_polynomial (s_sum start a)

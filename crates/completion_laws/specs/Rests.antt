@@ -56,6 +56,8 @@ pub record IsMadeOf (letters : ℕ) (compare : Compare) (rest : List Term) (rows
   pub rows_are : m.rows ≡ signed_rows negated rows
 
 -- Where the rest is zero the rules and their records stay, and else a rule that is made of it comes behind them.
-pub data IsAppended (letters : ℕ) (compare : Compare) (rest : List Term) (rows : List Row) (rules : List Rule) (made : List Made) (rules_after : List Rule) (made_after : List Made) : Type 0 where
+pub data IsAppended (letters : ℕ) (compare : Compare) (rest : List Term) (rows : List Row) (rules : List Rule) (made : List Made)
+    (rules_after : List Rule) (made_after : List Made) : Type 0 where
   nothing_left : IsZero rest → rules_after ≡ rules → made_after ≡ made → IsAppended letters compare rest rows rules made rules_after made_after
-  rule_made : (g : Rule) (m : Made) → IsMadeOf letters compare rest rows g m → rules_after ≡ rules ++ (g ∷ []) → made_after ≡ made ++ (m ∷ []) → IsAppended letters compare rest rows rules made rules_after made_after
+  rule_made : (g : Rule) (m : Made) → IsMadeOf letters compare rest rows g m → rules_after ≡ rules ++ (g ∷ []) → made_after ≡ made
+      ++ (m ∷ []) → IsAppended letters compare rest rows rules made rules_after made_after

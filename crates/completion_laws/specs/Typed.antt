@@ -43,7 +43,8 @@ SPolynomialsStayTyped = (q : Quiver) (play : ℕ → Bool) (letters : ℕ) (comp
 abbrev pub RulesStayTyped : Type 0
 RulesStayTyped = (q : Quiver) (play : ℕ → Bool) (letters : ℕ) (compare : Compare) (rest : List Term) (rows : List Row) (rules : List Rule)
     (made : List Made) (rules_after : List Rule) (made_after : List Made)
-    → AreTypedInPlay q play rules → IsTypedInPlay q play rest → IsAppended letters compare rest rows rules made rules_after made_after → AreTypedInPlay q play rules_after
+    → AreTypedInPlay q play rules → IsTypedInPlay q play rest → IsAppended letters compare rest rows rules made rules_after made_after
+    → AreTypedInPlay q play rules_after
 
 -- no word with a nonzero coefficient is empty
 pub record HasNoEmptyWord (p : List Term) : Type 0 where

@@ -3,7 +3,8 @@ ghost use Rattle.completion_laws.specs.Kept.{StartIsKept, GeneratorsAreKept, Amb
 ghost use Rattle.completion_laws.specs.Making.{PushedRulesAreMade};
 ghost use Rattle.completion_laws.specs.Typed.{NormalFormsStayTyped, SPolynomialsStayTyped, RulesStayTyped, TypedHasNoEmptyWord};
 ghost use Rattle.completion_laws.specs.Shapes.{NormalFormsAreShaped, SPolynomialsAreShaped, RestsHaveLettersBelow};
-ghost use Rattle.completion_laws.specs.Conclusions.{ResolvedWhereClosed, ResolvedBelowPending, RulesAreInside, ZeroIsInside, NonzeroIsOutside, NonzeroIsNotBelow};
+ghost use Rattle.completion_laws.specs.Conclusions.{ResolvedWhereClosed, ResolvedBelowPending, RulesAreInside, ZeroIsInside};
+ghost use Rattle.completion_laws.specs.Conclusions.{NonzeroIsOutside, NonzeroIsNotBelow};
 
 /// Of no rules all is kept.
 pub fn start_is_kept()

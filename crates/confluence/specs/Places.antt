@@ -64,4 +64,5 @@ abbrev pub RowsApartDiffer : Type 0
 RowsApartDiffer = (letters : ℕ) (compare : Compare) (rank : List ℕ → List ℕ) (rules : List Rule) (word : List ℕ) (p q : Place)
     → IsAdmissible letters compare rank → All (IsRule letters compare) rules → IsOver letters word
     → IsPlace rules word p → IsPlace rules word q → IsApart p q
-    → ComesBelow letters compare (polynomials_of rules) word (poly_sum (poly_multiple q.rule.leading (place_poly p)) (poly_multiple (neg_ℤ p.rule.leading) (place_poly q)))
+    → ComesBelow letters compare (polynomials_of rules) word (poly_sum (poly_multiple q.rule.leading (place_poly p))
+    (poly_multiple (neg_ℤ p.rule.leading) (place_poly q)))

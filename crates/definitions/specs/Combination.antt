@@ -39,7 +39,8 @@ pub record InRationalIdeal (generators : List Poly) (p : Poly) : Type 0 where
 
 -- In each row, each word l w r with w of nonzero coefficient in the generator is below the bound, in an order that is given by its test.
 abbrev pub RowsAreBelow : (List ℕ → List ℕ → Bool) → List Poly → List ℕ → List Row → Type 0
-RowsAreBelow below generators bound rows = AllByRecursion (λ r. (w : List ℕ) → coefficient_of (generator_at generators r.generator) w ≢ pos 0 → IsTrue (below (r.left ++ (w ++ r.right)) bound)) rows
+RowsAreBelow below generators bound rows = AllByRecursion (λ r. (w : List ℕ)
+    → coefficient_of (generator_at generators r.generator) w ≢ pos 0 → IsTrue (below (r.left ++ (w ++ r.right)) bound)) rows
 
 -- a combination all of whose words are below the bound
 pub record IsCombinationBelow (below : List ℕ → List ℕ → Bool) (generators : List Poly) (bound : List ℕ) (rows : List Row) (d : ℤ) (p : Poly) : Type 0 where

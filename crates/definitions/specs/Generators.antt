@@ -35,4 +35,5 @@ abbrev pub units : Quiver → Bool → ℕ → List Poly
 units q starred v = left_unit v v ∷ flat_map (letter_units q starred v) (range_with_len q.objects (letters q - q.objects))
 
 abbrev pub generators_of : Quiver → Bool → List ℕ → List Poly → List Poly
-generators_of q starred marked assumptions = assumptions ++ ((if starred then flat_map (new_adjoint q) assumptions else []) ++ flat_map (units q starred) marked)
+generators_of q starred marked assumptions = assumptions ++ ((if starred then flat_map (new_adjoint q) assumptions else [])
+    ++ flat_map (units q starred) marked)

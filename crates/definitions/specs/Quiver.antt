@@ -1,5 +1,6 @@
 -- Labelled quivers, paths, and typed polynomials.
-use Rattle.std.specs.Prelude.{◌≡◌, ◌≢◌, ℕ, pos, ◌<◌, List, [], ◌∷◌, length, get_or, Bool, false, ◌&&◌, nat_eq, nat_lt, IsTrue, Option, Some, None, if◌then◌else◌}
+use Rattle.std.specs.Prelude.{◌≡◌, ◌≢◌, ℕ, pos, ◌<◌, List, [], ◌∷◌, length, get_or, Bool, false, ◌&&◌, nat_eq, nat_lt, IsTrue, Option, Some}
+use Rattle.std.specs.Prelude.{None, if◌then◌else◌}
 use Rattle.std.specs.Option.{option_map}
 use Rattle.definitions.specs.Poly.{Poly, coefficient_of}
 

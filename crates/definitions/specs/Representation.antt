@@ -15,7 +15,8 @@ pub record Represents {Object Arrow : Type 0} (s : Structure Object Arrow) (q : 
   pub identities : (v : ℕ) → v < q.objects → f.arrow v ≡ s.identity (f.object v)
 
 -- a representation in which the adjoint of a map goes to the adjoint of its arrow
-pub record StarRepresents {Object Arrow : Type 0} (s : Structure Object Arrow) (adjoint : Arrow → Arrow) (q : Quiver) (f : Representation Object Arrow) : Type 0 where
+pub record StarRepresents {Object Arrow : Type 0} (s : Structure Object Arrow) (adjoint : Arrow → Arrow) (q : Quiver)
+    (f : Representation Object Arrow) : Type 0 where
   pub represents : Represents s q f
   -- for each declared map: its number is at most that of its adjoint
   pub adjoints : (a : ℕ) → a < letters q → q.objects ≤ a → a ≤ star q a → f.arrow (star q a) ≡ adjoint (f.arrow a)

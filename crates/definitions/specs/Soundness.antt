@@ -37,15 +37,18 @@ pub record IsSound {Object Arrow : Type 0} (s : Structure Object Arrow) : Type 0
 pub record IsUnitSound {Object Arrow : Type 0} (s : Structure Object Arrow) : Type 0 where
   pub generators : (q : Quiver) (marked : List ℕ) (assumptions : List Poly)
       → IsQuiver q → AllByRecursion (λ v. v < q.objects) marked
-      → (f : Representation Object Arrow) → Represents s q f → AllByRecursion (HasValueZero s q f) assumptions → AllByRecursion (HasValueZero s q f) (generators_of q false marked assumptions)
+      → (f : Representation Object Arrow) → Represents s q f → AllByRecursion (HasValueZero s q f) assumptions
+      → AllByRecursion (HasValueZero s q f) (generators_of q false marked assumptions)
 
 -- In each star representation the assumptions make all generators zero.
 pub record IsStarSound {Object Arrow : Type 0} (s : Structure Object Arrow) (adjoint : Arrow → Arrow) : Type 0 where
   pub generators : (q : Quiver) (starred : Bool) (marked : List ℕ) (assumptions : List Poly)
       → IsQuiver q → AllByRecursion (λ v. v < q.objects) marked
-      → (f : Representation Object Arrow) → StarRepresents s adjoint q f → AllByRecursion (HasValueZero s q f) assumptions → AllByRecursion (HasValueZero s q f) (generators_of q starred marked assumptions)
+      → (f : Representation Object Arrow) → StarRepresents s adjoint q f → AllByRecursion (HasValueZero s q f) assumptions
+      → AllByRecursion (HasValueZero s q f) (generators_of q starred marked assumptions)
 
 -- Of the rows of a typed claim those of the claim's signature alone have the same sum.
 pub record TypedRowsSuffice : Type 0 where
   pub combination : (q : Quiver) (u v : ℕ) (generators : List Poly) (rows : List Row) (d : ℤ) (claim : Poly)
-      → AllByRecursion (HasSignature q) generators → IsTyped q u v claim → IsCombination generators rows d claim → IsCombination generators (filter (is_typed_row q u v generators) rows) d claim
+      → AllByRecursion (HasSignature q) generators → IsTyped q u v claim → IsCombination generators rows d claim
+      → IsCombination generators (filter (is_typed_row q u v generators) rows) d claim

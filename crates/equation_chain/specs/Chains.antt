@@ -14,7 +14,8 @@ use Rattle.adjoint_rules.specs.Problem.{polynomials}
 use Rattle.equation_chain.specs.Steps.{steps_of}
 use Rattle.equation_chain.specs.Lines.{claim_in}
 
--- The line less a step over this generator: it is moved between the words of the step, and that times the coefficient is taken away. The first thing that goes wrong in this is the fault.
+-- The line less a step over this generator: it is moved between the words of the step, and that times the coefficient is taken away. The
+-- first thing that goes wrong in this is the fault.
 abbrev pub less_step : Poly → Poly → CertRow → Result Poly PolyFault
 less_step line generator step = and_then (moved_result step.left generator step.right) (λ moved. combined (pos 1) line (neg_ℤ step.coef) moved)
 
@@ -36,4 +37,5 @@ LeadsToZero generators line steps lines = ⊥
 -- The first line is the denominator times the claim, each later one is the one before less its step, and the last one is zero.
 abbrev pub IsChain : Problem → Certificate → List Poly → Type 0
 IsChain problem c [] = ⊥
-IsChain problem c (line ∷ lines) = (line ≡ scaled c.denominator (claim_in problem c)) × LeadsToZero (polynomials problem.generators) line (steps_of problem c) lines
+IsChain problem c (line ∷ lines) = (line ≡ scaled c.denominator (claim_in problem c)) × LeadsToZero (polynomials problem.generators) line
+    (steps_of problem c) lines

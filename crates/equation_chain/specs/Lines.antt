@@ -19,7 +19,8 @@ claim_in problem c = claim_of (polynomials problem.parts.claims) c
 -- the denominator times the claim, less these steps, as a canonical list
 abbrev pub line_less : Problem → Certificate → List CertRow → Poly
 line_less problem c steps =
-    collected (poly_sum (poly_multiple c.denominator (claim_in problem c)) (poly_multiple (negsuc 0) (row_sum (polynomials problem.generators) (rows_of steps))))
+    collected (poly_sum (poly_multiple c.denominator (claim_in problem c))
+    (poly_multiple (negsuc 0) (row_sum (polynomials problem.generators) (rows_of steps))))
 
 -- the line behind none of the steps, behind the first one, and so on to the last
 abbrev pub lines_by : Problem → Certificate → List CertRow → List Poly

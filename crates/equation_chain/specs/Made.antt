@@ -39,8 +39,10 @@ pub record IsLineBehind (line : Line) (generator : Poly) (step : CertRow) (next 
 abbrev pub StopsLine : Line → Poly → CertRow → ℕ → ChainFault → Type 0
 StopsLine line generator step number (fault.Refused refusal) = ⊥
 StopsLine line generator step number (fault.Overflow row overflow) = (row ≡ number) × (less_step line.poly.terms generator step ≡ Err (poly.Overflow overflow))
-StopsLine line generator step number (fault.Size row) = (row ≡ number) × ((size : SizeFault) × (less_step line.poly.terms generator step ≡ Err (poly.Size size)))
-StopsLine line generator step number (fault.Long row) = (row ≡ number) × ((next : Poly) × (less_step line.poly.terms generator step ≡ Ok next) × (letter_limit < line.letters + letters_in next))
+StopsLine line generator step number (fault.Size row) = (row ≡ number)
+    × ((size : SizeFault) × (less_step line.poly.terms generator step ≡ Err (poly.Size size)))
+StopsLine line generator step number (fault.Long row) = (row ≡ number)
+    × ((next : Poly) × (less_step line.poly.terms generator step ≡ Ok next) × (letter_limit < line.letters + letters_in next))
 StopsLine line generator step number (fault.Memory failed) = ⊤
 
 -- The line behind the steps among the first i rows, with the letters of the lines up to it.

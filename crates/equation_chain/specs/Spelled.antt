@@ -38,7 +38,8 @@ line_by texts line = codes "line " ++ (poly_by texts line ++ codes "\n")
 
 abbrev pub use_by : List (List ℕ) → CertRow → List ℕ
 use_by texts step =
-    codes "use " ++ signed_decimal step.coef ++ codes " (" ++ word_by texts step.left ++ codes ") " ++ decimal step.generator ++ codes " (" ++ word_by texts step.right ++ codes ")\n"
+    codes "use " ++ signed_decimal step.coef ++ codes " (" ++ word_by texts step.left ++ codes ") " ++ decimal step.generator ++ codes " ("
+    ++ word_by texts step.right ++ codes ")\n"
 
 -- each step, with the line behind it
 abbrev pub steps_by : List (List ℕ) → List CertRow → List Poly → List ℕ

@@ -51,4 +51,5 @@ steps_of problem c = steps_in problem c.claim c.rows
 pub record IsTypedStep (problem : Problem) (claim : ℕ) (step : CertRow) : Type 0 where
   pub coefficient : step.coef ≢ pos 0
   pub generator : generator_of problem step ≢ []
-  pub words : AllByRecursion (λ t. IsPath (quiver_of problem.parts.quiver) (claim_ends problem claim).0 (claim_ends problem claim).1 (step.left ++ (t.1 ++ step.right))) (generator_of problem step)
+  pub words : AllByRecursion (λ t. IsPath (quiver_of problem.parts.quiver) (claim_ends problem claim).0 (claim_ends problem claim).1
+      (step.left ++ (t.1 ++ step.right))) (generator_of problem step)

@@ -13,7 +13,8 @@ line_text ds line = codes "line " ++ (poly_text ds line ++ codes "\n")
 
 abbrev pub use_text : List Declaration → CertRow → List ℕ
 use_text ds step =
-    codes "use " ++ signed_decimal step.coef ++ codes " (" ++ word_text ds step.left ++ codes ") " ++ decimal step.generator ++ codes " (" ++ word_text ds step.right ++ codes ")\n"
+    codes "use " ++ signed_decimal step.coef ++ codes " (" ++ word_text ds step.left ++ codes ") " ++ decimal step.generator ++ codes " ("
+    ++ word_text ds step.right ++ codes ")\n"
 
 -- each step, with the line behind it
 abbrev pub steps_text : List Declaration → List CertRow → List Poly → List ℕ

@@ -58,7 +58,8 @@ fn step_fault(number: u32, fault: PolyFault) -> ChainFault
 // The line less the step, whose generator is this one.
 fn less_step(line: &Poly, generator: &Poly, step: &CertRow) -> Result<Poly, PolyFault>
     requires { IsCoefficient step.now.coef }
-    ensures { MatchResult result (λ r. less_step line.now.terms generator.now.terms step.now ≡ Ok r.terms) (Explains (less_step line.now.terms generator.now.terms step.now)) }
+    ensures { MatchResult result (λ r. less_step line.now.terms generator.now.terms step.now ≡ Ok r.terms)
+        (Explains (less_step line.now.terms generator.now.terms step.now)) }
 {
     let moved = generator.left_right(&step.left, &step.right)?;
     Poly::combine(1, line, negate(step.coef), &moved)

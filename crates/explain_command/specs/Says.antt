@@ -39,4 +39,5 @@ BlockMeans s problem (Lemmas c) = ⊥
 -- Where the report begins with the chains of the first blocks of the evidence text, each of these has its meaning.
 pub record SaysExplained {Object Arrow : Type 0} (s : Structure Object Arrow) (statement evidence report : List ℕ) : Type 0 where
   pub each : (problem : Problem) (first others : List Evidence) (rest : List ℕ)
-      → IsStated statement problem → IsEvidence format.Lemmas problem.parts.quiver evidence (first ++ others) → report ≡ explained_lines problem 1 first ++ rest → AllByRecursion (BlockMeans s problem) first
+      → IsStated statement problem → IsEvidence format.Lemmas problem.parts.quiver evidence (first ++ others)
+      → report ≡ explained_lines problem 1 first ++ rest → AllByRecursion (BlockMeans s problem) first

@@ -18,7 +18,8 @@ head_text claim denominator steps =
 -- the chain of a certificate behind that line
 abbrev pub certificate_explained : Problem → Certificate → List ℕ
 certificate_explained problem c =
-    head_text c.claim c.denominator (length (steps_of problem c)) ++ chain_text problem.parts.quiver c.claim c.denominator (steps_of problem c) (lines_of problem c)
+    head_text c.claim c.denominator (length (steps_of problem c)) ++ chain_text problem.parts.quiver c.claim c.denominator
+    (steps_of problem c) (lines_of problem c)
 
 -- what explaining a block says; of one with lemmas, which is never explained, that line alone
 abbrev pub explained_text : Problem → Evidence → List ℕ

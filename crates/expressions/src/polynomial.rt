@@ -6,7 +6,8 @@ ghost use Rattle.nc_polynomial.specs.Shape.{IsCanonical};
 ghost use Rattle.quiver.specs.Declarations.{quiver_of, identity_in, IsDeclared};
 ghost use Rattle.expressions.specs.Names.{AreNames, are_names_of_term, are_names_of_primary, letter_of, object_of};
 ghost use Rattle.expressions.specs.Begun.{product_begun, product_followed};
-ghost use Rattle.expressions.specs.Polynomials.{letter_poly, marked_poly, product_poly, scaled_by, signed, sum_step, total, sum_poly, term_poly, factor_poly, primary_poly, equation_poly};
+ghost use Rattle.expressions.specs.Polynomials.{letter_poly, marked_poly, product_poly, scaled_by, signed, sum_step, total, sum_poly};
+ghost use Rattle.expressions.specs.Polynomials.{term_poly, factor_poly, primary_poly, equation_poly};
 
 use crate::added::add;
 use crate::names::{letter_of, object_of};
@@ -33,7 +34,8 @@ pub fn equation_poly(
 ) -> Result<Poly, PolyFault>
     requires left_names { AreNames quiver.now left.now }
     requires right_names { AreNames quiver.now right.now }
-    ensures exact { MatchResult result (λ p. equation_poly quiver.now left.now right.now ≡ Ok p.terms) (Explains (equation_poly quiver.now left.now right.now)) }
+    ensures exact { MatchResult result (λ p. equation_poly quiver.now left.now right.now ≡ Ok p.terms)
+        (Explains (equation_poly quiver.now left.now right.now)) }
 {
     // A quiver is made of declarations, so the adjoints of its letters are letters.
     prove!(quiver.objects() <= OBJECT_LIMIT);
@@ -62,7 +64,8 @@ fn sum_poly(alloc: Global, quiver: &Quiver, sum: &Sum) -> Result<Poly, PolyFault
 // The first summand, and then the others added or subtracted from the left. They are merged, so that the first is taken
 // whole.
 fn merged_total(alloc: Global, summands: Vec<(bool, Poly)>) -> Result<Poly, PolyFault>
-    ensures { MatchResult result (λ p. total (map (λ s. (s.0, s.1.terms)) summands.items) ≡ Ok p.terms) (Explains (total (map (λ s. (s.0, s.1.terms)) summands.items))) }
+    ensures { MatchResult result (λ p. total (map (λ s. (s.0, s.1.terms)) summands.items) ≡ Ok p.terms)
+        (Explains (total (map (λ s. (s.0, s.1.terms)) summands.items))) }
 {
     let mut rest = summands.into_iter();
     let Some((negative, first)) = rest.next() else {
@@ -177,7 +180,8 @@ struct Begun {
 
 // The product with one factor more.
 fn follow(alloc: Global, begun: &mut Begun, next: &Poly) -> Result<(), PolyFault>
-    ensures { MatchResult result (λ _. product_begun begun.new ≡ product_followed begun.old next.now.terms) (Explains (product_followed begun.old next.now.terms)) }
+    ensures { MatchResult result (λ _. product_begun begun.new ≡ product_followed begun.old next.now.terms)
+        (Explains (product_followed begun.old next.now.terms)) }
 {
     if let Some(word) = word_in(next) {
         if begun.word.len().saturating_add(word.len()) <= WORD_LIMIT {

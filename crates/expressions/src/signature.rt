@@ -2,7 +2,9 @@
 ghost use Rattle.std.specs.Prelude.{◌≡◌, ◌<◌, IfOk, IsTrue};
 ghost use Rattle.quiver.specs.Declarations.{object_count};
 ghost use Rattle.expressions.specs.Names.{AreNames, are_names_of_term, are_names_of_primary};
-ghost use Rattle.expressions.specs.Signatures.{HasObjects, turned, repeated, mark_signature, marked_signature, product_step, sum_step, sum_signature, term_signature, factor_signature, primary_signature, sides_signature, equation_signature};
+ghost use Rattle.expressions.specs.Signatures.{HasObjects, turned, repeated, mark_signature, marked_signature, product_step, sum_step};
+ghost use Rattle.expressions.specs.Signatures.{sum_signature, term_signature, factor_signature, primary_signature, sides_signature};
+ghost use Rattle.expressions.specs.Signatures.{equation_signature};
 
 use crate::SignatureFault;
 use crate::names::{letter_of, object_of};

@@ -26,7 +26,8 @@ const MAPS: &[Map] = &[
 type Row = (&'static str, &'static str);
 
 const ONE: &str =
-    "cancellation 1\nclaim 1\ndenominator 1\nmonic m\nmonic k\nlemma 1 scale 1\nrow 1 () 1 ()\ncancel 2 m left 1\ncancel 3 k left 2\ngoal scale 1\nrow 1 () lemma 3 ()\nend\n";
+    "cancellation 1\nclaim 1\ndenominator 1\nmonic m\nmonic k\nlemma 1 scale 1\nrow 1 () 1 ()\ncancel 2 m left 1\ncancel 3 k left 2\n\
+     goal scale 1\nrow 1 () lemma 3 ()\nend\n";
 
 const BARE: &str = "cancellation 1\nclaim 0\ndenominator 0\ngoal scale 0\nend\n";
 
@@ -46,12 +47,15 @@ const READ: &[Row] = &[
     ),
     // items of both kinds, mixed
     (
-        "cancellation 1\nclaim 4294967295\ndenominator 6\nlemma 1 scale 2\ncancel 2 h' right 4294967295\nlemma 3 scale 3\nrow -2 (x [P]) lemma 2 (y')\nrow 0 () 0 ()\ncancel 4 k' left 0\ncancel 5 h left 4\ngoal scale 1\nrow 1 () lemma 5 ()\nend\n",
-        "cancellation 1\nclaim 4294967295\ndenominator 6\nlemma 1 scale 2\ncancel 2 h right 4294967295\nlemma 3 scale 3\nrow -2 (x [P]) lemma 2 (y')\nrow 0 () 0 ()\ncancel 4 k' left 0\ncancel 5 h left 4\ngoal scale 1\nrow 1 () lemma 5 ()\nend\n",
+        "cancellation 1\nclaim 4294967295\ndenominator 6\nlemma 1 scale 2\ncancel 2 h' right 4294967295\nlemma 3 scale 3\n\
+         row -2 (x [P]) lemma 2 (y')\nrow 0 () 0 ()\ncancel 4 k' left 0\ncancel 5 h left 4\ngoal scale 1\nrow 1 () lemma 5 ()\nend\n",
+        "cancellation 1\nclaim 4294967295\ndenominator 6\nlemma 1 scale 2\ncancel 2 h right 4294967295\nlemma 3 scale 3\n\
+         row -2 (x [P]) lemma 2 (y')\nrow 0 () 0 ()\ncancel 4 k' left 0\ncancel 5 h left 4\ngoal scale 1\nrow 1 () lemma 5 ()\nend\n",
     ),
     // CR LF, a comment, tabs, blanks and leading zeros
     (
-        "cancellation 1\r\nclaim 1\r\ndenominator 1\r\n# monic\r\nmonic m\r\nmonic\tk\r\nlemma 01 scale 1\r\nrow 1()1()\r\ncancel 2  m left 1\r\ncancel 03 k left 02\r\ngoal scale 1\r\nrow 1 () lemma 3 ()\r\nend\r\n",
+        "cancellation 1\r\nclaim 1\r\ndenominator 1\r\n# monic\r\nmonic m\r\nmonic\tk\r\nlemma 01 scale 1\r\nrow 1()1()\r\n\
+         cancel 2  m left 1\r\ncancel 03 k left 02\r\ngoal scale 1\r\nrow 1 () lemma 3 ()\r\nend\r\n",
         ONE,
     ),
     // blocks of other kinds, in which anything may stand

@@ -51,7 +51,8 @@ type Row = (&'static str, &'static str);
 const FILES: &[Row] = &[
     (
         "object U V\nmap a : U -> V\nmap x : V -> U\nmap p : U -> U self\npinv a x\nclaim p = p [U]\norder weight p 3 a 2\nsolve a\nmodel 3 V 2\n",
-        "objects 2 letters 7 starred true marked [Object(0)] solved [Letter(2), Letter(4)] order [(Letter(6), 3), (Letter(2), 2), (Letter(3), 2)] shape 3 [1, 2]",
+        "objects 2 letters 7 starred true marked [Object(0)] solved [Letter(2), Letter(4)] order [(Letter(6), 3), (Letter(2), \
+         2), (Letter(3), 2)] shape 3 [1, 2]",
     ),
     (
         "object U V\nmap a : U -> V\nmap b : V -> U\ninverse a b",

@@ -229,13 +229,15 @@ pub const ROWS: &[Row] = &[
 ];
 
 const NAMED: &str =
-    "certificate 2\nclaim 1\ndenominator 6\nlemma 1 scale 2\nrow 1 (a) 1 ()\nrow -1 () 2 (a')\nlemma 2 scale 1\nrow 3 () lemma 1 (r)\ngoal scale 3\nrow 2 (l) lemma 2 ()\nrow -1 () 4 (p)\nend\n";
+    "certificate 2\nclaim 1\ndenominator 6\nlemma 1 scale 2\nrow 1 (a) 1 ()\nrow -1 () 2 (a')\nlemma 2 scale 1\nrow 3 () lemma 1 (r)\n\
+     goal scale 3\nrow 2 (l) lemma 2 ()\nrow -1 () 4 (p)\nend\n";
 
 const NO_LEMMA: &str = "certificate 2\nclaim 1\ndenominator 1\ngoal scale 1\nend\n";
 
 // A lemma and a goal without rows, and a row over a lemma that isn't there.
 const EXTREMES: &str =
-    "certificate 2\nclaim 4294967295\ndenominator 0\nlemma 1 scale 0\nlemma 2 scale 170141183460469231731687303715884105727\nrow 0 () lemma 4294967295 ()\ngoal scale 0\nend\n";
+    "certificate 2\nclaim 4294967295\ndenominator 0\nlemma 1 scale 0\nlemma 2 scale 170141183460469231731687303715884105727\n\
+     row 0 () lemma 4294967295 ()\ngoal scale 0\nend\n";
 
 /// Certificates with lemmas, and the first fault of some.
 pub const LEMMAS: &[Row] = &[
@@ -248,7 +250,8 @@ pub const LEMMAS: &[Row] = &[
         NO_LEMMA,
     ),
     (
-        "certificate 2\nclaim 1\ndenominator 6\nlemma 01 scale 002\nrow 1(a)1()\nrow -01 () 02 (a')\nlemma 2 scale 1\nrow 3()lemma 001(r)\ngoal scale 3\nrow 2 (l) lemma 2 ()\nrow -1 () 4 (p)\nend\n",
+        "certificate 2\nclaim 1\ndenominator 6\nlemma 01 scale 002\nrow 1(a)1()\nrow -01 () 02 (a')\nlemma 2 scale 1\n\
+         row 3()lemma 001(r)\ngoal scale 3\nrow 2 (l) lemma 2 ()\nrow -1 () 4 (p)\nend\n",
         NAMED,
     ),
     // behind a block of another kind
@@ -263,7 +266,8 @@ pub const LEMMAS: &[Row] = &[
     ),
     // CR LF in all lines but the last, and blanks around letters
     (
-        "certificate 2\r\nclaim 1\r\ndenominator 6\r\nlemma 1 scale 2\r\nrow 1 ( a ) 1 ( )\r\nrow -1 () 2 ( a' )\r\nlemma 2 scale 1\r\nrow 3 () lemma 1 (r)\r\ngoal scale 3\r\nrow 2 (l) lemma 2 ()\r\nrow -1 () 4 (p')\r\nend",
+        "certificate 2\r\nclaim 1\r\ndenominator 6\r\nlemma 1 scale 2\r\nrow 1 ( a ) 1 ( )\r\nrow -1 () 2 ( a' )\r\nlemma 2 scale 1\r\n\
+         row 3 () lemma 1 (r)\r\ngoal scale 3\r\nrow 2 (l) lemma 2 ()\r\nrow -1 () 4 (p')\r\nend",
         NAMED,
     ),
     ("certificate 02\n", "K2 in line 1, limit 0"),

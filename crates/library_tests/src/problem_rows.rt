@@ -103,7 +103,9 @@ pub const ARITHMETIC: &[Row] = &[
         "S12 line 4 column 9",
     ),
     (
-        "object U\nmap a b : U -> U\nclaim (a + b) ((a + b) ((a + b) ((a + b) ((a + b) ((a + b) ((a + b) ((a + b) ((a + b) ((a + b) ((a + b) ((a + b) ((a + b) ((a + b) (a + b)))))))))))))) = a",
+        "object U\nmap a b : U -> U\n\
+         claim (a + b) ((a + b) ((a + b) ((a + b) ((a + b) ((a + b) ((a + b) ((a + b) ((a + b) ((a + b) ((a + b) ((a + b) ((a + \
+         b) ((a + b) (a + b)))))))))))))) = a",
         "S14 line 3 column 1",
     ),
     ("", "S15 line 0 column 0"),

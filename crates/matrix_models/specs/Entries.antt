@@ -36,10 +36,12 @@ columns_object p = record { is_modulus = p.is_modulus; is_side = p.shape.columns
 
 pub entry_at_below : (m : ℕ) (a : Matrix) (i j : ℕ) → IsMatrix m a → i < a.rows → j < a.columns → entry_at a i j < m
 entry_at_below m a i j p h k =
-    All-get_or (λ e. e < m) a.entries (i * a.columns + j) 0 (subst (λ x. i * a.columns + j < x) (sym p.shape.size) (place_below a.rows a.columns i j h k)) p.entries_below
+    All-get_or (λ e. e < m) a.entries (i * a.columns + j) 0
+    (subst (λ x. i * a.columns + j < x) (sym p.shape.size) (place_below a.rows a.columns i j h k)) p.entries_below
 
 -- two matrices with the same sides and entries are one
-pub same_matrix : (m : ℕ) (a b : Matrix) → IsMatrix m a → IsMatrix m b → a.rows ≡ b.rows → a.columns ≡ b.columns → ((i j : ℕ) → i < a.rows → j < a.columns → entry_at a i j ≡ entry_at b i j) → a ≡ b
+pub same_matrix : (m : ℕ) (a b : Matrix) → IsMatrix m a → IsMatrix m b → a.rows ≡ b.rows → a.columns ≡ b.columns
+    → ((i j : ℕ) → i < a.rows → j < a.columns → entry_at a i j ≡ entry_at b i j) → a ≡ b
 same_matrix m a b p q rows columns same = λ i. record { modulus = moduli i; rows = rows i; columns = columns i; entries = lists i }
   where
     moduli : a.modulus ≡ b.modulus

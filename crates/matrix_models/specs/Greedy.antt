@@ -17,7 +17,8 @@ CanTake s values place value = Extends s (take place values ++ value ∷ [])
 pub record IsGreedy (s : System) (prefer values : List ℕ) : Type 0 where
   pub solves : Solves s values
   pub preferred : (place : ℕ) → place < s.unknowns → CanTake s values place (get_or prefer place 0) → get_or values place 0 ≡ get_or prefer place 0
-  pub least : (place value : ℕ) → place < s.unknowns → ¬ CanTake s values place (get_or prefer place 0) → CanTake s values place value → get_or values place 0 ≤ value
+  pub least : (place value : ℕ) → place < s.unknowns → ¬ CanTake s values place (get_or prefer place 0) → CanTake s values place value
+      → get_or values place 0 ≤ value
 
 -- A system and preferred values have at most one greedy solution.
 abbrev pub GreedySolutionIsUnique : Type 0

@@ -1,5 +1,6 @@
 -- Sums of numbers, and modulo m.
-use Rattle.std.proofs.Common.{◌≡◌, ℕ, zero, suc, ◌+◌, ◌*◌, ◌%◌, ◌<◌, cond, eqb, ◌⊎◌, inl, inr, sym, refl, ap, ap₂, ◌∙◌, arith, mul-add, add-mul, mul-zero, zero-mul, mul_assoc, eq-eqb, ne_eqb, one-mul}
+use Rattle.std.proofs.Common.{◌≡◌, ℕ, zero, suc, ◌+◌, ◌*◌, ◌%◌, ◌<◌, cond, eqb, ◌⊎◌, inl, inr, sym, refl, ap, ap₂, ◌∙◌, arith, mul-add}
+use Rattle.std.proofs.Common.{add-mul, mul-zero, zero-mul, mul_assoc, eq-eqb, ne_eqb, one-mul}
 use Rattle.std.proofs.lemmas.Bool.{cases_eq}
 use Rattle.std.proofs.Math.Nat.{mod-add-mod}
 use Rattle.matrix_models.specs.Matrices.{total}
@@ -30,7 +31,8 @@ total_swap zero p u w v = sym (total_zero p (λ l. u l * 0) (λ l h. mul-zero (u
 total_swap (suc n) p u w v =
     ap₂ ◌+◌ (total_swap n p u w v) (total_mul_right p (w n) (λ l. u l * v l n))
     ∙ total_add p (λ l. u l * total n (λ k. v l k * w k)) (λ l. u l * v l n * w n)
-    ∙ total_same p _ _ (λ l h. ap (λ y. u l * total n (λ k. v l k * w k) + y) (mul_assoc (u l) (v l n) (w n)) ∙ sym (mul-add (u l) (total n (λ k. v l k * w k)) (v l n * w n)))
+    ∙ total_same p _ _ (λ l h. ap (λ y. u l * total n (λ k. v l k * w k) + y) (mul_assoc (u l) (v l n) (w n))
+    ∙ sym (mul-add (u l) (total n (λ k. v l k * w k)) (v l n * w n)))
 
 -- ---- modulo m
 pub add_mod : (m x y : ℕ) → (x % m + y % m) % m ≡ (x + y) % m
@@ -41,7 +43,8 @@ add_mod m x y =
 
 pub total_mod : (m n : ℕ) (f g : ℕ → ℕ) → ((k : ℕ) → k < n → f k % m ≡ g k % m) → total n f % m ≡ total n g % m
 total_mod m zero f g h = refl
-total_mod m (suc n) f g h = sym (add_mod m (total n f) (f n)) ∙ ap₂ (λ x y. (x + y) % m) (total_mod m n f g (λ k l. h k (omega arith))) (h n (omega arith)) ∙ add_mod m (total n g) (g n)
+total_mod m (suc n) f g h = sym (add_mod m (total n f) (f n)) ∙ ap₂ (λ x y. (x + y) % m) (total_mod m n f g (λ k l. h k (omega arith)))
+    (h n (omega arith)) ∙ add_mod m (total n g) (g n)
 
 -- ---- one of the terms
 pub total_pick : (n i : ℕ) (f : ℕ → ℕ) → i < n → total n (λ k. cond (eqb i k) 1 0 * f k) ≡ f i
@@ -51,7 +54,8 @@ total_pick (suc n) i f h = go (cases_eq i n) (total_pick n i f)
     off : (k : ℕ) → (i ≡ k → ⊥) → cond (eqb i k) 1 0 * f k ≡ 0
     off k d = ap (λ b. cond b 1 0 * f k) (ne_eqb i k d) ∙ zero-mul (f k)
 
-    go : (i ≡ n) ⊎ (i ≡ n → ⊥) → (i < n → total n (λ k. cond (eqb i k) 1 0 * f k) ≡ f i) → total n (λ k. cond (eqb i k) 1 0 * f k) + cond (eqb i n) 1 0 * f n ≡ f i
+    go : (i ≡ n) ⊎ (i ≡ n → ⊥) → (i < n → total n (λ k. cond (eqb i k) 1 0 * f k) ≡ f i)
+        → total n (λ k. cond (eqb i k) 1 0 * f k) + cond (eqb i n) 1 0 * f n ≡ f i
     go (inl e) ih =
         let none : total n (λ k. cond (eqb i k) 1 0 * f k) ≡ 0 = total_zero n _ (λ k l. off k (λ same. absurd (omega arith))) in
         let last : cond (eqb i n) 1 0 * f n ≡ f i = ap (λ b. cond b 1 0 * f n) (eq-eqb i n e) ∙ one-mul (f n) ∙ ap f (sym e) in

@@ -1,5 +1,6 @@
 -- The candidates of a shape: which matrices are tried as models of a statement, and in which order.
-use Rattle.std.specs.Prelude.{◌≡◌, ◌<◌, ◌≤◌, ℕ, ◌+◌, ◌*◌, ◌/◌, ◌%◌, ◌^◌, Bool, not, ◌&&◌, ◌||◌, nat_eq, nat_lt, nat_le, IsTrue, List, [], ◌∷◌, ◌++◌, length, map, filter, take, get_or, position, Option, Some, None, slice_get, ◌⊎◌, if◌then◌else◌}
+use Rattle.std.specs.Prelude.{◌≡◌, ◌<◌, ◌≤◌, ℕ, ◌+◌, ◌*◌, ◌/◌, ◌%◌, ◌^◌, Bool, not, ◌&&◌, ◌||◌, nat_eq, nat_lt, nat_le, IsTrue, List, []}
+use Rattle.std.specs.Prelude.{◌∷◌, ◌++◌, length, map, filter, take, get_or, position, Option, Some, None, slice_get, ◌⊎◌, if◌then◌else◌}
 use Rattle.std.specs.List.{All, AllByRecursion, flat_map, list_all, list_any, range_with_len, sum_by}
 use Rattle.definitions.specs.Quiver.{Quiver, letters, source, target, star}
 use Rattle.rand_pcg.specs.Lcg.{advance, started, increment_of}
@@ -72,7 +73,8 @@ abbrev pub entry_shown : Quiver → ℕ → ℕ → ℕ → Entry
 entry_shown q a row column = if is_self q a && nat_lt column row then entry a column row else entry a row column
 
 abbrev pub matrix_by : Quiver → Shape → List ℕ → ℕ → Matrix
-matrix_by q s values a = matrix_of s.modulus (side_in s (target q a)) (side_in s (source q a)) (λ row column. value_of_entry q s values (entry_shown q a row column))
+matrix_by q s values a = matrix_of s.modulus (side_in s (target q a)) (side_in s (source q a))
+    (λ row column. value_of_entry q s values (entry_shown q a row column))
 
 -- the matrix of a declared map
 abbrev pub place_by : Quiver → Shape → List ℕ → ℕ → Option Matrix
@@ -169,20 +171,25 @@ CanTake problem s drawn values place value = CanBegin problem s drawn (take plac
 -- value for which there is one.
 pub record IsGreedy (problem : Problem) (s : Shape) (drawn values : List ℕ) : Type 0 where
   pub solution : IsSolution problem s drawn values
-  pub drawn_where_it_can : (place : ℕ) → place < length values → CanTake problem s drawn values place (get_or drawn place 0) → get_or values place 0 ≡ get_or drawn place 0
-  pub else_least : (place value : ℕ) → place < length values → ¬ CanTake problem s drawn values place (get_or drawn place 0) → CanTake problem s drawn values place value
+  pub drawn_where_it_can : (place : ℕ) → place < length values → CanTake problem s drawn values place (get_or drawn place 0)
+      → get_or values place 0 ≡ get_or drawn place 0
+  pub else_least : (place value : ℕ) → place < length values → ¬ CanTake problem s drawn values place (get_or drawn place 0)
+      → CanTake problem s drawn values place value
       → get_or values place 0 ≤ value
 
 -- ---- candidates
 
 -- Candidate k of the shape with this number, counted from 1, for a seed, or that it has no model.
 pub data IsCandidate (problem : Problem) (number : ℕ) (s : Shape) (seed k : ℕ) (candidate : Option Model) : Type 0 where
-  numbered : IsTrue (is_exhaustive (quiver_of problem.parts.quiver) s) → candidate ≡ Some (model_by (quiver_of problem.parts.quiver) s 0 (digits (quiver_of problem.parts.quiver) s k))
+  numbered : IsTrue (is_exhaustive (quiver_of problem.parts.quiver) s)
+      → candidate ≡ Some (model_by (quiver_of problem.parts.quiver) s 0 (digits (quiver_of problem.parts.quiver) s k))
       → IsCandidate problem number s seed k candidate
-  drawn : IsTrue (not (is_exhaustive (quiver_of problem.parts.quiver) s)) → (values : List ℕ) → IsGreedy problem s (draws (quiver_of problem.parts.quiver) s number seed k) values
+  drawn : IsTrue (not (is_exhaustive (quiver_of problem.parts.quiver) s)) → (values : List ℕ)
+      → IsGreedy problem s (draws (quiver_of problem.parts.quiver) s number seed k) values
       → candidate ≡ Some (model_by (quiver_of problem.parts.quiver) s 0 values) → IsCandidate problem number s seed k candidate
   unsolvable : IsTrue (not (is_exhaustive (quiver_of problem.parts.quiver) s))
-      → ((values : List ℕ) → ¬ IsSolution problem s (draws (quiver_of problem.parts.quiver) s number seed k) values) → candidate ≡ None → IsCandidate problem number s seed k candidate
+      → ((values : List ℕ) → ¬ IsSolution problem s (draws (quiver_of problem.parts.quiver) s number seed k) values) → candidate ≡ None
+      → IsCandidate problem number s seed k candidate
 
 -- the model with a claim's number
 abbrev pub naming : ℕ → Model → Model

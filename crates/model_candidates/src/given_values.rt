@@ -6,7 +6,8 @@ ghost use Rattle.quiver.specs.Declarations.{letter_count, object_count, quiver_o
 ghost use Rattle.matrix_models.specs.Matrix.{IsModulus, HasShape};
 ghost use Rattle.adjoint_rules.specs.Limits.{shape_side_limit};
 ghost use Rattle.adjoint_rules.specs.Problem.{IsShape};
-ghost use Rattle.model_candidates.specs.Candidates.{digits, entries_of, entry, entry_shown, is_declared_map, is_self, matrix_by, model_by, side_in, value_of_entry};
+ghost use Rattle.model_candidates.specs.Candidates.{digits, entries_of, entry, entry_shown, is_declared_map, is_self, matrix_by, model_by};
+ghost use Rattle.model_candidates.specs.Candidates.{side_in, value_of_entry};
 ghost use Rattle.model_candidates.specs.EntryPlaces.{entries_before, is_kept, place_within};
 ghost use Rattle.adjoint_rules.specs.Limits.{shape_side_limit};
 

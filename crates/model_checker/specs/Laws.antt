@@ -26,7 +26,8 @@ pub record HasOtherValue (problem : Problem) (m : Model) (p : Poly) : Type 0 whe
 
 -- Matrices modulo the model's modulus, with transposes as adjoints: a representation in which all assumptions and generators are zero, and the claim isn't.
 pub record IsCounterexample (problem : Problem) (m : Model) : Type 0 where
-  pub represents : StarRepresents (matrices m.modulus) (transpose m.modulus) (quiver_of problem.parts.quiver) (representation_of (quiver_of problem.parts.quiver) m)
+  pub represents : StarRepresents (matrices m.modulus) (transpose m.modulus) (quiver_of problem.parts.quiver)
+      (representation_of (quiver_of problem.parts.quiver) m)
   pub assumptions : AllByRecursion (IsZeroIn problem m) (assumptions_of problem)
   pub generators : AllByRecursion (IsZeroIn problem m) (polynomials problem.generators)
   pub claim : HasOtherValue problem m (claim_polynomial problem m.claim)

@@ -52,7 +52,8 @@ pub record IsMap (q : Quiver) (a : ℕ) : Type 0 where
   pub letter : a < letters q
   pub declared : a ≤ star q a
 
--- The matrix is one modulo the modulus of the model, with the sides of the map's target and source. A `Matrix` is one modulo its own modulus, so the two moduli are one.
+-- The matrix is one modulo the modulus of the model, with the sides of the map's target and source. A `Matrix` is one modulo its own
+-- modulus, so the two moduli are one.
 pub record HasEnds (q : Quiver) (m : Model) (a : ℕ) (x : Matrix) : Type 0 where
   pub matrix : IsMatrix m.modulus x
   pub rows : x.rows ≡ side_of m (target q a)

@@ -15,7 +15,8 @@ pub record RefutedMeans (problem : Problem) (number : ℕ) (m : Model) : Type 0 
   -- the model names the claim,
   pub names : m.claim ≡ number
   -- its matrices are a star representation of what the statement declares
-  pub represents : StarRepresents (matrices m.modulus) (transpose m.modulus) (quiver_of problem.parts.quiver) (representation_of (quiver_of problem.parts.quiver) m)
+  pub represents : StarRepresents (matrices m.modulus) (transpose m.modulus) (quiver_of problem.parts.quiver)
+      (representation_of (quiver_of problem.parts.quiver) m)
   -- in which the assumptions of the statement have the value zero,
   pub assumptions : AllByRecursion (IsZeroIn problem m) (polynomials problem.parts.assumptions)
   -- and so have all its generators;

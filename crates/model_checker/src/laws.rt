@@ -1,5 +1,6 @@
 //! The laws of models.
-ghost use Rattle.model_checker.specs.Laws.{RefutingModelsAreCounterexamples, RefutedClaimsDoNotFollow, ModelRefusalIsUnique, RefutingModelIsNotRefused, EachModelIsJudged};
+ghost use Rattle.model_checker.specs.Laws.{RefutingModelsAreCounterexamples, RefutedClaimsDoNotFollow, ModelRefusalIsUnique};
+ghost use Rattle.model_checker.specs.Laws.{RefutingModelIsNotRefused, EachModelIsJudged};
 
 /// A model that refutes its claim is a representation in matrices modulo its modulus, with transposes as adjoints, in
 /// which the assumptions and all generators of the problem have the value zero, and the claim hasn't. It does nothing

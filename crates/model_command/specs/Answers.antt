@@ -24,7 +24,8 @@ RefusesModelBlock problem m cause = RefusesBlock (RefusesModel problem) (model_c
 -- how a run ends over a problem and a text of models
 abbrev pub AnswersModelText : List ℕ → Problem → Ending → Type 0
 AnswersModelText models problem ending =
-    OverEvidence (IsModels problem.parts.quiver models) (IsFirstFault problem.parts.quiver models) (Judges (ConfirmsModel problem) (RefusesModelBlock problem)) ending
+    OverEvidence (IsModels problem.parts.quiver models) (IsFirstFault problem.parts.quiver models)
+    (Judges (ConfirmsModel problem) (RefusesModelBlock problem)) ending
 
 -- how a run ends over the two texts
 abbrev pub AnswersModel : List ℕ → List ℕ → Ending → Type 0

@@ -15,4 +15,5 @@ ConfirmedMeans problem m = RefutedMeans problem m.claim m
 -- Where the report begins with the lines that confirm the first models of the text, each of these has its meaning.
 pub record SaysConfirmed (statement models report : List ℕ) : Type 0 where
   pub each : (problem : Problem) (first others : List Model) (rest : List ℕ)
-      → IsStated statement problem → IsModels problem.parts.quiver models (first ++ others) → report ≡ confirmed_lines 1 first ++ rest → AllByRecursion (ConfirmedMeans problem) first
+      → IsStated statement problem → IsModels problem.parts.quiver models (first ++ others) → report ≡ confirmed_lines 1 first ++ rest
+      → AllByRecursion (ConfirmedMeans problem) first

@@ -1,5 +1,7 @@
--- How a reader of models goes over the lines of evidence text, and what it has made of the first ones. Only the reader's functions and proofs use it: what the models of a text are, Models says.
-use Rattle.std.specs.Prelude.{⊤, ℕ, ◌-◌, ◌&&◌, List, [], ◌∷◌, ◌++◌, length, map, nat_eq, nat_le, Option, Some, None, Result, Ok, Err, IsTrue, if◌then◌else◌, codes}
+-- How a reader of models goes over the lines of evidence text, and what it has made of the first ones. Only the reader's functions and
+-- proofs use it: what the models of a text are, Models says.
+use Rattle.std.specs.Prelude.{⊤, ℕ, ◌-◌, ◌&&◌, List, [], ◌∷◌, ◌++◌, length, map, nat_eq, nat_le, Option, Some, None, Result, Ok, Err}
+use Rattle.std.specs.Prelude.{IsTrue, if◌then◌else◌, codes}
 use Rattle.std.specs.List.{flat_map, list_all, list_any, range_with_len}
 use Rattle.std.specs.Option.{option_map, option_and_then}
 use Rattle.std.specs.Str.{bytes_eq}
@@ -46,7 +48,8 @@ side_tokens (word ∷ name ∷ number ∷ token ∷ tokens) = None
 
 -- map NAME = X .. ; X ..
 abbrev pub map_tokens : Line → Option EntryTokens
-map_tokens (word ∷ name ∷ sign ∷ tokens) = if is (codes "map") word && is (codes "=") sign then Some (matrix name (rows_in tokens).0 (rows_in tokens).1) else None
+map_tokens (word ∷ name ∷ sign ∷ tokens) = if is (codes "map") word && is (codes "=") sign then Some
+    (matrix name (rows_in tokens).0 (rows_in tokens).1) else None
 map_tokens [] = None
 map_tokens (word ∷ []) = None
 map_tokens (word ∷ name ∷ []) = None
@@ -82,7 +85,8 @@ values_in modulus values (row ∷ rows) = option_and_then (λ more. values_in mo
 -- the matrix with these entries, if it is small enough
 abbrev pub matrix_made : ℕ → ℕ → ℕ → List ℕ → Result Matrix Flaw
 matrix_made modulus rows columns entries =
-    if nat_le rows side_limit && nat_le columns side_limit then Ok (record { modulus = modulus; rows = rows; columns = columns; entries = entries }) else Err (TooMany side_limit)
+    if nat_le rows side_limit && nat_le columns side_limit then Ok
+    (record { modulus = modulus; rows = rows; columns = columns; entries = entries }) else Err (TooMany side_limit)
 
 abbrev pub side_value : Option Named → List ℕ → Result Entry Flaw
 side_value (Some (Object v)) number = if nat_le (value_of number) side_limit then Ok (entry.Side v (value_of number)) else Err (TooMany side_limit)

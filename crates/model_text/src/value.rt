@@ -55,7 +55,8 @@ fn with_rows(
 ) -> Result<Vec<u32>, LineFault>
     requires modulus { 1 ≤ modulus }
     requires numbers { IsTrue (list_all (list_all is_number) (tokens_of first.now ∷ rows_behind (line_in rest))) }
-    ensures { Reads (λ more. more.items) result (asked flaw.NumberTooLarge (values_in modulus values.items (tokens_of first.now ∷ rows_behind (line_in rest.entry)))) }
+    ensures { Reads (λ more. more.items) result
+        (asked flaw.NumberTooLarge (values_in modulus values.items (tokens_of first.now ∷ rows_behind (line_in rest.entry)))) }
 {
     let mut more = with_row(values, modulus, first)?;
     let mut left = rest;
@@ -76,7 +77,8 @@ fn values_of(
 ) -> Result<Vec<u32>, LineFault>
     requires modulus { 1 ≤ modulus }
     requires rows { AreRows (tokens_of first.now) (rows_behind (line_in rest)) }
-    ensures { Reads (λ values. values.items) result (asked flaw.NumberTooLarge (values_below modulus (flat_map (λ row. row) (tokens_of first.now ∷ rows_behind (line_in rest.entry))))) }
+    ensures { Reads (λ values. values.items) result
+        (asked flaw.NumberTooLarge (values_below modulus (flat_map (λ row. row) (tokens_of first.now ∷ rows_behind (line_in rest.entry))))) }
 {
     with_rows(Vec::new(alloc), modulus, first, rest)
 }

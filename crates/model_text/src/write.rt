@@ -2,7 +2,8 @@
 
 ghost use Rattle.std.specs.Prelude.{◌≡◌, ◌<◌, ◌++◌, length, IfOk, OnOk};
 ghost use Rattle.quiver.specs.Declarations.{object_count, letter_count};
-ghost use Rattle.model_text.specs.Written.{between, entry_text, row_text, part_text, rows_text, side_text, sides_text, is_map, map_text, maps_text, numbered_text, head_text, model_text, HasPlaces};
+ghost use Rattle.model_text.specs.Written.{between, entry_text, row_text, part_text, rows_text, side_text, sides_text, is_map, map_text};
+ghost use Rattle.model_text.specs.Written.{maps_text, numbered_text, head_text, model_text, HasPlaces};
 
 use block_text::{put, put_number};
 use matrix_models::{Matrix, Model};

@@ -40,7 +40,8 @@ fn add_term(
 ) -> Result<(), PolyFault>
     requires coefficient_in { IsCoefficient coefficient }
     requires table_in { (w : List ℕ) → IsCoefficient (coefficient_in table.old w) }
-    ensures exact { MatchResult result (λ _. IsCoefficient (coefficient_in table.old word.now +ℤ coefficient)) (Explains (checked (sum_of (coefficient_in table.old word.now) coefficient ∷ []) coefficient)) }
+    ensures exact { MatchResult result (λ _. IsCoefficient (coefficient_in table.old word.now +ℤ coefficient))
+        (Explains (checked (sum_of (coefficient_in table.old word.now) coefficient ∷ []) coefficient)) }
     ensures added { OnOk result ((w : List ℕ) → coefficient_in table.new w ≡ coefficient_of ((coefficient, word.now) ∷ []) w +ℤ coefficient_in table.old w) }
     ensures ordered { OnOk result (IsOrdered word_cmp table.new) }
 {

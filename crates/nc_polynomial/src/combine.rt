@@ -13,7 +13,8 @@ impl Poly {
     /// sum, in descending order, that is no coefficient; `Size` comes exactly where none is and the sum is
     /// too large.
     pub fn add(&self, other: &Poly) -> Result<Poly, PolyFault>
-        ensures exact { MatchResult result (λ r. sum_result self.now.terms other.now.terms ≡ Ok r.terms) (Explains (sum_result self.now.terms other.now.terms)) }
+        ensures exact { MatchResult result (λ r. sum_result self.now.terms other.now.terms ≡ Ok r.terms)
+            (Explains (sum_result self.now.terms other.now.terms)) }
         ensures sum { IfOk result (λ r. SamePolynomial r.terms (poly_sum self.now.terms other.now.terms)) }
     {
         Poly::combine(1, self, 1, other)
@@ -21,7 +22,8 @@ impl Poly {
 
     /// The difference: the sum with the negated coefficients of the other polynomial.
     pub fn subtract(&self, other: &Poly) -> Result<Poly, PolyFault>
-        ensures exact { MatchResult result (λ r. difference_result self.now.terms other.now.terms ≡ Ok r.terms) (Explains (difference_result self.now.terms other.now.terms)) }
+        ensures exact { MatchResult result (λ r. difference_result self.now.terms other.now.terms ≡ Ok r.terms)
+            (Explains (difference_result self.now.terms other.now.terms)) }
         ensures difference { IfOk result (λ r. SamePolynomial r.terms (poly_sum self.now.terms (poly_multiple (negsuc 0) other.now.terms))) }
     {
         Poly::combine(1, self, -1, other)

@@ -23,7 +23,8 @@ pub(crate) fn kept_terms<'a>(
     requires factor_in { IsCoefficient by }
     requires shaped { IsShaped terms.now }
     ensures in_range { IfOk result (λ kept. All (λ t. IsCoefficient t.0) (poly_multiple by kept.now)) }
-    ensures exact { MatchResult result (λ kept. checked (products by terms.now) (scaled by terms.now) ≡ Ok (poly_multiple by kept.now)) (λ e. checked (products by terms.now) (scaled by terms.now) ≡ Err e) }
+    ensures exact { MatchResult result (λ kept. checked (products by terms.now) (scaled by terms.now) ≡ Ok (poly_multiple by kept.now))
+        (λ e. checked (products by terms.now) (scaled by terms.now) ≡ Err e) }
 {
     for term in terms {
         coef_int::times(by, term.0)?;
@@ -63,7 +64,8 @@ struct Next<'a> {
 }
 
 fn next_word<'a>(left: &'a [(i128, Word)], right: &'a [(i128, Word)]) -> Option<Next<'a>>
-    ensures next { MatchOption result (aligned left.now right.now ≡ []) (λ n. aligned left.now right.now ≡ (n.left, n.right, n.word.now) ∷ aligned n.left_rest.now n.right_rest.now) }
+    ensures next { MatchOption result (aligned left.now right.now ≡ [])
+        (λ n. aligned left.now right.now ≡ (n.left, n.right, n.word.now) ∷ aligned n.left_rest.now n.right_rest.now) }
     ensures progress { IfSome result (λ n. length n.left_rest.now + length n.right_rest.now < length left.now + length right.now) }
 {
     match next_side(left, right)? {
@@ -112,7 +114,9 @@ pub(crate) fn merge_multiples(
 ) -> Result<Listing<(i128, Word)>, PolyFault>
     requires left_in { All (λ t. IsCoefficient t.0) (poly_multiple a p.now) }
     requires right_in { All (λ t. IsCoefficient t.0) (poly_multiple b q.now) }
-    ensures { MatchResult result (λ v. checked (sums (poly_multiple a p.now) (poly_multiple b q.now)) (added (poly_multiple a p.now) (poly_multiple b q.now)) ≡ Ok v) (Explains (checked (sums (poly_multiple a p.now) (poly_multiple b q.now)) (added (poly_multiple a p.now) (poly_multiple b q.now)))) }
+    ensures { MatchResult result (λ v. checked (sums (poly_multiple a p.now) (poly_multiple b q.now))
+        (added (poly_multiple a p.now) (poly_multiple b q.now)) ≡ Ok v)
+        (Explains (checked (sums (poly_multiple a p.now) (poly_multiple b q.now)) (added (poly_multiple a p.now) (poly_multiple b q.now)))) }
 {
     let mut sum = Listing::new(alloc);
     let mut left = p;

@@ -19,7 +19,8 @@ impl Poly {
     /// The polynomial with the same words on the left and on the right of each word. `Size` comes exactly
     /// where one of them then has more than 500 letters.
     pub fn left_right(&self, left: &Word, right: &Word) -> Result<Poly, PolyFault>
-        ensures exact { MatchResult result (λ r. moved_result left.now self.now.terms right.now ≡ Ok r.terms) (Explains (moved_result left.now self.now.terms right.now)) }
+        ensures exact { MatchResult result (λ r. moved_result left.now self.now.terms right.now ≡ Ok r.terms)
+            (Explains (moved_result left.now self.now.terms right.now)) }
         ensures moved { IfOk result (λ r. r.terms ≡ poly_between left.now self.now.terms right.now) }
     {
         let terms = self.terms.as_slice();
@@ -32,7 +33,8 @@ impl Poly {
     /// with zero. Each term of this polynomial, in descending order, moves `right` by its word and adds
     /// that times its coefficient, as `left_right` and `combine` do; their first fault is that of the product.
     pub fn product(&self, right: &Poly) -> Result<Poly, PolyFault>
-        ensures exact { MatchResult result (λ r. product_result self.now.terms right.now.terms ≡ Ok r.terms) (Explains (product_result self.now.terms right.now.terms)) }
+        ensures exact { MatchResult result (λ r. product_result self.now.terms right.now.terms ≡ Ok r.terms)
+            (Explains (product_result self.now.terms right.now.terms)) }
         ensures product { IfOk result (λ r. SamePolynomial r.terms (poly_product self.now.terms right.now.terms)) }
     {
         multiplied_out(self, right)
@@ -53,7 +55,8 @@ fn multiplied_out(left: &Poly, right: &Poly) -> Result<Poly, PolyFault>
 // One term times a polynomial, in one pass.
 fn from_left(term: &(i128, Word), right: &Poly) -> Result<Poly, PolyFault>
     requires { IsCoefficient term.now.0 }
-    ensures { MatchResult result (λ r. product_result (term.now ∷ []) right.now.terms ≡ Ok r.terms) (Explains (product_result (term.now ∷ []) right.now.terms)) }
+    ensures { MatchResult result (λ r. product_result (term.now ∷ []) right.now.terms ≡ Ok r.terms)
+        (Explains (product_result (term.now ∷ []) right.now.terms)) }
 {
     let multiple = moved_multiple(term.0, &term.1, right)?;
     Poly::from_descending(multiple)

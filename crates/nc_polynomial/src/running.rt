@@ -67,7 +67,8 @@ impl RunningSum {
     ) -> Result<(), PolyFault>
         requires coefficient { IsCoefficient coefficient }
         requires canonical { IsCanonical self.old }
-        ensures exact { MatchResult result (λ _. product_step self.old (coefficient, word.now) poly.now.terms ≡ Ok self.new) (Explains (product_step self.old (coefficient, word.now) poly.now.terms)) }
+        ensures exact { MatchResult result (λ _. product_step self.old (coefficient, word.now) poly.now.terms ≡ Ok self.new)
+            (Explains (product_step self.old (coefficient, word.now) poly.now.terms)) }
         ensures canonical { OnOk result (IsCanonical self.new) }
     {
         let multiple = moved_multiple(coefficient, word, poly)?;

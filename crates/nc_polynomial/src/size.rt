@@ -45,7 +45,8 @@ pub(crate) fn check_moved(
     right: &Word,
 ) -> Result<(), SizeFault>
     requires { length terms.now ≤ term_limit }
-    ensures { MatchResult result (λ _. sized (poly_between left.now terms.now right.now) ≡ Ok (poly_between left.now terms.now right.now)) (λ e. sized (poly_between left.now terms.now right.now) ≡ Err (fault.Size e)) }
+    ensures { MatchResult result (λ _. sized (poly_between left.now terms.now right.now) ≡ Ok (poly_between left.now terms.now right.now))
+        (λ e. sized (poly_between left.now terms.now right.now) ≡ Err (fault.Size e)) }
 {
     let around = left.len().saturating_add(right.len());
     for term in terms {

@@ -35,7 +35,8 @@ pub fn add_term(
     ensures running { IsRunning table.new }
     ensures ordered { IsOrdered word_cmp table.new }
     ensures added { OnOk result (Adds table.old table.new ((coefficient, word) ∷ [])) }
-    ensures exact { MatchResult result (λ _. IsCoefficient (coefficient_in table.old word +ℤ coefficient)) (IsStoppedBy (first_overflow (sum_of (coefficient_in table.old word) coefficient ∷ []))) }
+    ensures exact { MatchResult result (λ _. IsCoefficient (coefficient_in table.old word +ℤ coefficient))
+        (IsStoppedBy (first_overflow (sum_of (coefficient_in table.old word) coefficient ∷ []))) }
 {
     if coefficient == 0 {
         return Ok(());
@@ -67,7 +68,8 @@ pub(crate) fn add_terms(
     requires shaped { IsShaped terms }
     ensures running { IsRunning table.new }
     ensures ordered { IsOrdered word_cmp table.new }
-    ensures exact { MatchResult result (λ _. checked (sums (terms_in table.old) terms) (added (terms_in table.old) terms) ≡ Ok (terms_in table.new)) (Explains (checked (sums (terms_in table.old) terms) (added (terms_in table.old) terms))) }
+    ensures exact { MatchResult result (λ _. checked (sums (terms_in table.old) terms) (added (terms_in table.old) terms) ≡ Ok
+        (terms_in table.new)) (Explains (checked (sums (terms_in table.old) terms) (added (terms_in table.old) terms))) }
 {
     for (coefficient, word) in terms.into_vec() {
         add_term(table, coefficient, word)?;
@@ -87,7 +89,8 @@ pub(crate) fn add_within(
     requires short { All (λ t. length t.1 ≤ word_limit) terms }
     ensures running { IsRunning table.new }
     ensures ordered { IsOrdered word_cmp table.new }
-    ensures exact { MatchResult result (λ _. sum_result (terms_in table.old) terms ≡ Ok (terms_in table.new)) (Explains (sum_result (terms_in table.old) terms)) }
+    ensures exact { MatchResult result (λ _. sum_result (terms_in table.old) terms ≡ Ok (terms_in table.new))
+        (Explains (sum_result (terms_in table.old) terms)) }
 {
     add_terms(table, terms)?;
     if table.len() > TERM_LIMIT {

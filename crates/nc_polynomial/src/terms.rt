@@ -24,7 +24,8 @@ pub fn scale_terms(
     requires factor_in { IsCoefficient by }
     requires in_range { All (λ t. IsCoefficient t.0) terms.now }
     ensures in_range { IfOk result (All (λ t. IsCoefficient t.0)) }
-    ensures exact { MatchResult result (λ v. checked (products by terms.now) (scaled by terms.now) ≡ Ok v) (Explains (checked (products by terms.now) (scaled by terms.now))) }
+    ensures exact { MatchResult result (λ v. checked (products by terms.now) (scaled by terms.now) ≡ Ok v)
+        (Explains (checked (products by terms.now) (scaled by terms.now))) }
 {
     let mut scaled = Listing::new(alloc);
     for term in terms {
@@ -44,7 +45,8 @@ pub fn multiply_terms(
     requires factor_in { IsCoefficient by }
     requires in_range { All (λ t. IsCoefficient t.0) terms }
     ensures in_range { IfOk result (All (λ t. IsCoefficient t.0)) }
-    ensures exact { MatchResult result (λ v. checked (multiplications terms by) (multiplied terms by) ≡ Ok v) (Explains (checked (multiplications terms by) (multiplied terms by))) }
+    ensures exact { MatchResult result (λ v. checked (multiplications terms by) (multiplied terms by) ≡ Ok v)
+        (Explains (checked (multiplications terms by) (multiplied terms by))) }
 {
     let mut multiplied = Listing::new(alloc);
     for (coefficient, word) in terms.into_vec() {
@@ -66,7 +68,8 @@ pub fn shift_terms(
     requires factor_in { IsCoefficient by }
     requires in_range { All (λ t. IsCoefficient t.0) terms.now }
     ensures in_range { IfOk result (All (λ t. IsCoefficient t.0)) }
-    ensures exact { MatchResult result (λ v. checked (products by terms.now) (shifted by left.now terms.now right.now) ≡ Ok v) (Explains (checked (products by terms.now) (shifted by left.now terms.now right.now))) }
+    ensures exact { MatchResult result (λ v. checked (products by terms.now) (shifted by left.now terms.now right.now) ≡ Ok v)
+        (Explains (checked (products by terms.now) (shifted by left.now terms.now right.now))) }
 {
     let mut shifted = Listing::new(alloc);
     for term in terms {
@@ -111,7 +114,8 @@ fn next_pair(
 ) -> Option<(i128, i128, Word)>
     requires left_in { All (λ t. IsCoefficient t.0) left.old.items }
     requires right_in { All (λ t. IsCoefficient t.0) right.old.items }
-    ensures next { MatchOption result (aligned left.old.items right.old.items ≡ []) (λ a. aligned left.old.items right.old.items ≡ a ∷ aligned left.new.items right.new.items) }
+    ensures next { MatchOption result (aligned left.old.items right.old.items ≡ [])
+        (λ a. aligned left.old.items right.old.items ≡ a ∷ aligned left.new.items right.new.items) }
     ensures progress { IfSome result (λ _. length left.new.items + length right.new.items < length left.old.items + length right.old.items) }
     ensures left_coefficients { All (λ t. IsCoefficient t.0) left.new.items }
     ensures right_coefficients { All (λ t. IsCoefficient t.0) right.new.items }

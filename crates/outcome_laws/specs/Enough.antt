@@ -20,7 +20,8 @@ use Rattle.outcome_laws.specs.Counts.{short_ambiguities}
 -- ---- pairs
 -- the letters that are in play, ascending
 abbrev pub letters_in_play : Problem → List ℕ
-letters_in_play problem = filter (is_in_play problem.parts.quiver problem.parts.starred (numbers problem.parts.marked)) (range_with_len 0 (letter_count problem.parts.quiver))
+letters_in_play problem = filter (is_in_play problem.parts.quiver problem.parts.starred (numbers problem.parts.marked))
+    (range_with_len 0 (letter_count problem.parts.quiver))
 
 -- A round treats no more ambiguities than its limit, and while a claim that follows below the word is open, one of them at least has an
 -- overlap word below it. In the canonical order that has no more letters than the word.

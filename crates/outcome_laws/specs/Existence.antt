@@ -27,7 +27,8 @@ pub record HasOutcome (setting : Setting) (form : Format) (number : ℕ) (claim 
 
 -- Each claim has an outcome: it is derived, or halted, or closed.
 abbrev pub EachClaimHasAnOutcome : Type 0
-EachClaimHasAnOutcome = (problem : Problem) (budget : Budget) (form : Format) (number : ℕ) → HasOutcome (setting_of problem budget) form number (claim_at problem number)
+EachClaimHasAnOutcome = (problem : Problem) (budget : Budget) (form : Format) (number : ℕ)
+    → HasOutcome (setting_of problem budget) form number (claim_at problem number)
 
 -- There are outcomes of all claims of the problem, and rules that are given with them.
 pub record HasOutcomes (setting : Setting) (form : Format) (problem : Problem) : Type 0 where

@@ -45,7 +45,8 @@ ClosedIsNothingPending = (setting : Setting) (n : ℕ) (s : RunState) → IsRoun
 
 -- Nothing is pending below the overlap word of the first one that is pending.
 abbrev pub FirstIsLeastPending : Type 0
-FirstIsLeastPending = (letters : ℕ) (compare : Compare) (rank : List ℕ → List ℕ) (rules : List Rule) (treated : List Ambiguity) (w : Waiting) (ws : List Waiting)
+FirstIsLeastPending = (letters : ℕ) (compare : Compare) (rank : List ℕ → List ℕ) (rules : List Rule) (treated : List Ambiguity)
+    (w : Waiting) (ws : List Waiting)
     → IsAdmissible letters compare rank → AreAllPending compare rules treated (w ∷ ws) → NothingPendingBelow letters compare rules treated w.word
 
 -- Of generators of which the last ones are units, round 0 takes each, and no other number.

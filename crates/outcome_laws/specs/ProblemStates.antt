@@ -38,7 +38,8 @@ pub record IsKeptOf (problem : Problem) (s : RunState) : Type 0 where
   pub resolved : All (IsResolved (letter_count problem.parts.quiver) (asked_cmp problem.parts.order) s.rules) s.treated
   pub others : (a : Ambiguity) → IsAmbiguity s.rules a → IsTreatedOrPending s a
   -- so all are resolved where none is pending, and those below the first pending word where some are
-  pub closed : AreAllPending (asked_cmp problem.parts.order) s.rules s.treated [] → Resolved (letter_count problem.parts.quiver) (asked_cmp problem.parts.order) s.rules
+  pub closed : AreAllPending (asked_cmp problem.parts.order) s.rules s.treated []
+      → Resolved (letter_count problem.parts.quiver) (asked_cmp problem.parts.order) s.rules
   pub below : (w : Waiting) (ws : List Waiting) → AreAllPending (asked_cmp problem.parts.order) s.rules s.treated (w ∷ ws)
       → ResolvedBelow (letter_count problem.parts.quiver) (asked_cmp problem.parts.order) s.rules w.word
 

@@ -15,9 +15,11 @@ use Rattle.report_text.specs.Heads.{denominator_of}
 use Rattle.outcome_laws.specs.Meanings.{EvidenceAddsUp}
 
 -- Whatever the involution, each star representation in which d cancels and the assumptions have the value zero gives the claim the value zero.
-pub record MakesZeroByStar {Object Arrow : Type 0} (s : Structure Object Arrow) (q : Quiver) (assumptions : List (List Term)) (d : ℤ) (claim : List Term) : Type 0 where
+pub record MakesZeroByStar {Object Arrow : Type 0} (s : Structure Object Arrow) (q : Quiver) (assumptions : List (List Term)) (d : ℤ)
+    (claim : List Term) : Type 0 where
   pub zero : (adjoint : Arrow → Arrow) → InvolutionLaws s adjoint
-      → (f : Representation Object Arrow) → StarRepresents s adjoint q f → Cancels s d → AllByRecursion (HasValueZero s q f) assumptions → HasValueZero s q f claim
+      → (f : Representation Object Arrow) → StarRepresents s adjoint q f → Cancels s d → AllByRecursion (HasValueZero s q f) assumptions
+      → HasValueZero s q f claim
 
 -- What it means in a category that d times the claim is a combination of the generators of the problem.
 pub record MeansZero {Object Arrow : Type 0} (s : Structure Object Arrow) (problem : Problem) (d : ℤ) (claim : List Term) : Type 0 where
@@ -32,7 +34,8 @@ pub record MeansZero {Object Arrow : Type 0} (s : Structure Object Arrow) (probl
 
 -- What it means in a category that the claim with this number is proved by this evidence.
 pub record ProvedMeans {Object Arrow : Type 0} (s : Structure Object Arrow) (problem : Problem) (number : ℕ) (e : Evidence) : Type 0 where
-  -- the evidence adds up to the claim, whether or not its rows are typed: its rows, over generators alone, to its denominator d times the claim, or its lemmas and its goal, each to its scale times what it gives
+  -- the evidence adds up to the claim, whether or not its rows are typed: its rows, over generators alone, to its denominator d times the
+  -- claim, or its lemmas and its goal, each to its scale times what it gives
   pub sum : EvidenceAddsUp problem number e
   -- which makes the claim zero
   pub means : MeansZero s problem (denominator_of e) (claim_at problem number)

@@ -1,5 +1,6 @@
 //! What the outcomes of claims mean, as laws over the definitions.
-ghost use Rattle.outcome_laws.specs.Meanings.{DerivedClaimsAddUp, ClosedClaimsAreOutside, LeastWordsBoundDerivations, HaltedCertificatesAreInside, OutcomesMeanWhatTheySay};
+ghost use Rattle.outcome_laws.specs.Meanings.{DerivedClaimsAddUp, ClosedClaimsAreOutside, LeastWordsBoundDerivations};
+ghost use Rattle.outcome_laws.specs.Meanings.{HaltedCertificatesAreInside, OutcomesMeanWhatTheySay};
 
 /// A claim that is derived has evidence that adds up.
 pub fn derived_claims_add_up()

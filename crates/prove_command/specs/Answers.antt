@@ -61,7 +61,8 @@ AreVerdictsOn problem asked [] [] (v ∷ verdicts) = ⊥
 AreVerdictsOn problem asked [] (o ∷ outcomes) verdicts = ⊥
 AreVerdictsOn problem asked (claim ∷ claims) [] verdicts = ⊥
 AreVerdictsOn problem asked (claim ∷ claims) (o ∷ outcomes) [] = ⊥
-AreVerdictsOn problem asked (claim ∷ claims) (o ∷ outcomes) (v ∷ verdicts) = IsVerdictOn problem asked claim o v × AreVerdictsOn problem asked claims outcomes verdicts
+AreVerdictsOn problem asked (claim ∷ claims) (o ∷ outcomes) (v ∷ verdicts) = IsVerdictOn problem asked claim o v
+    × AreVerdictsOn problem asked claims outcomes verdicts
 
 -- The claims of the problem have outcomes of which these are the verdicts, and these are the last rules.
 pub record Decides (problem : Problem) (asked : Asked) (verdicts : List Verdict) (rules : List Poly) : Type 0 where

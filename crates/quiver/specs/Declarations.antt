@@ -1,5 +1,6 @@
 -- The declarations of a quiver, in their order, and the objects and letters that they number.
-use Rattle.std.specs.Prelude.{◌≡◌, ◌≢◌, ℕ, ◌+◌, ◌<◌, ◌≤◌, Bool, true, false, ◌&&◌, ◌||◌, not, nat_eq, nat_lt, IsTrue, if◌then◌else◌, List, [], ◌∷◌, map, AllPairs, get_or, Option}
+use Rattle.std.specs.Prelude.{◌≡◌, ◌≢◌, ℕ, ◌+◌, ◌<◌, ◌≤◌, Bool, true, false, ◌&&◌, ◌||◌, not, nat_eq, nat_lt, IsTrue, if◌then◌else◌, List}
+use Rattle.std.specs.Prelude.{[], ◌∷◌, map, AllPairs, get_or, Option}
 use Rattle.std.specs.List.{flat_map, list_all}
 use Rattle.std.specs.Map.{lookup}
 use Rattle.std.specs.Str.{bytes_eq}

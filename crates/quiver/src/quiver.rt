@@ -2,7 +2,8 @@
 
 ghost use Rattle.std.specs.Prelude.{◌≡◌, ◌<◌, ◌≤◌, ◌++◌, ◌∷◌, [], IfOk, IfErr, IfSome, OnOk, OnErr, None, Some};
 ghost use Rattle.definitions.specs.Quiver.{IsQuiver, star, source, target};
-ghost use Rattle.quiver.specs.Declarations.{object, arrow, object_count, map_count, letter_count, named_in, name_at, object_at, letter_at, object_name, letter_name, identity_in, quiver_of, IsNamed, IsDeclared, ObjectsFirst};
+ghost use Rattle.quiver.specs.Declarations.{object, arrow, object_count, map_count, letter_count, named_in, name_at, object_at, letter_at};
+ghost use Rattle.quiver.specs.Declarations.{object_name, letter_name, identity_in, quiver_of, IsNamed, IsDeclared, ObjectsFirst};
 ghost use Rattle.quiver.specs.Limits.{letter_limit};
 ghost use Rattle.quiver.specs.Tables.{object_entry, letter_entry};
 ghost use Rattle.quiver.specs.Refusals.{object_fault, map_fault, Explains};

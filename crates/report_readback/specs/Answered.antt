@@ -42,7 +42,8 @@ pub record IsAnsweredWithinLimits (problem : Problem) (e : Evidence) : Type 0 wh
 
 -- So it is with the evidence of each claim that is derived.
 abbrev pub DerivedEvidenceIsAnswered : Type 0
-DerivedEvidenceIsAnswered = (problem : Problem) (budget : Budget) (form : Format) (number : ℕ) (e : Evidence) → IsNumberUpTo (length problem.parts.claims) number
+DerivedEvidenceIsAnswered = (problem : Problem) (budget : Budget) (form : Format) (number : ℕ) (e : Evidence)
+    → IsNumberUpTo (length problem.parts.claims) number
     → IsOutcomeOf (setting_of problem budget) form number (claim_at problem number) (outcome.Derived e) → IsAnsweredWithinLimits problem e
 
 -- And so with all evidence that is read of a report.

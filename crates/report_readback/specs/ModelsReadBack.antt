@@ -43,12 +43,14 @@ refuted_in (verdict.NotRefuted candidates ∷ verdicts) = refuted_in verdicts
 -- A report of at most 100 verdicts is read as the models of those that are refuted, if these are models of the declarations.
 abbrev pub ReportsReadBackAsModels : Type 0
 ReportsReadBackAsModels = (ds : List Declaration) (rules : List Poly) (verdicts : List Verdict)
-    → IsDeclared ds → IsTrue (list_all is_named ds) → All (IsPolyOver ds) rules → All (IsWritableVerdict ds) verdicts → All (IsWritableModel ds) (refuted_in verdicts) → length verdicts ≤ block_limit
+    → IsDeclared ds → IsTrue (list_all is_named ds) → All (IsPolyOver ds) rules → All (IsWritableVerdict ds) verdicts
+    → All (IsWritableModel ds) (refuted_in verdicts) → length verdicts ≤ block_limit
     → IsReadAsModels ds (report_of ds rules verdicts) (refuted_in verdicts)
 
 -- So is the report of verdicts by the outcomes of all claims of a statement, with the last rules.
 abbrev pub StatementReportsReadBackAsModels : Type 0
-StatementReportsReadBackAsModels = (bytes : List ℕ) (statements : List Statement) (problem : Problem) (budget : Budget) (form : Format) (outcomes : List Outcome) (verdicts : List Verdict) (rules : List Poly)
+StatementReportsReadBackAsModels = (bytes : List ℕ) (statements : List Statement) (problem : Problem) (budget : Budget) (form : Format)
+    (outcomes : List Outcome) (verdicts : List Verdict) (rules : List Poly)
     → IsTreeOf bytes statements → IsProblemOf statements problem
     → AreOutcomesOf (setting_of problem budget) form problem (claim_numbers problem) outcomes → AreVerdictsOf problem.parts.quiver outcomes verdicts
     → AreLastRules (setting_of problem budget) form problem (claim_numbers problem) rules → All (IsWritableModel problem.parts.quiver) (refuted_in verdicts)

@@ -96,7 +96,8 @@ OutcomeReportsReadBack = (problem : Problem) (budget : Budget) (form : Format) (
 
 -- So is the report on a statement, whose objects and maps have names of the language.
 abbrev pub StatementReportsReadBack : Type 0
-StatementReportsReadBack = (bytes : List ℕ) (statements : List Statement) (problem : Problem) (budget : Budget) (form : Format) (outcomes : List Outcome) (verdicts : List Verdict) (rules : List Poly)
+StatementReportsReadBack = (bytes : List ℕ) (statements : List Statement) (problem : Problem) (budget : Budget) (form : Format)
+    (outcomes : List Outcome) (verdicts : List Verdict) (rules : List Poly)
     → IsTreeOf bytes statements → IsProblemOf statements problem
     → AreOutcomesOf (setting_of problem budget) form problem (claim_numbers problem) outcomes → AreVerdictsOf problem.parts.quiver outcomes verdicts
     → AreLastRules (setting_of problem budget) form problem (claim_numbers problem) rules

@@ -23,7 +23,8 @@ objects_text n = flat_map (numbered (codes " O")) (range_with_len 0 (n + 1))
 abbrev pub there_and_back : ℕ → List ℕ
 there_and_back n = flat_map (numbered (codes " a")) (range_with_len 1 n) ++ flat_map (λ place. numbered (codes " r") (n - place)) (range_with_len 0 n)
 
--- The objects O0 to On with the maps of n steps, each with its right inverse. The first claim follows: the right inverses, in the other order, are a right inverse of the
+-- The objects O0 to On with the maps of n steps, each with its right inverse. The first claim follows: the right inverses, in the other
+-- order, are a right inverse of the
 -- composite. The second one does not: the last right inverse is a left inverse too.
 abbrev pub bench_statement : ℕ → List ℕ
 bench_statement n =

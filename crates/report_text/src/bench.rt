@@ -84,7 +84,8 @@ fn put_back(out: &mut Vec<u8>, size: u32) -> Result<(), AllocError>
 }
 
 fn put_claims(out: &mut Vec<u8>, size: u32) -> Result<(), AllocError>
-    ensures { OnOk result (out.new.items ≡ out.old.items ++ (codes "claim" ++ there_and_back size ++ codes " = [O0]\nclaim r" ++ decimal size ++ codes " a" ++ decimal size ++ codes " = [O" ++ decimal size ++ codes "]\n")) }
+    ensures { OnOk result (out.new.items ≡ out.old.items ++ (codes "claim" ++ there_and_back size ++ codes " = [O0]\nclaim r"
+        ++ decimal size ++ codes " a" ++ decimal size ++ codes " = [O" ++ decimal size ++ codes "]\n")) }
 {
     put(out, "claim")?;
     put_there(out, size)?;

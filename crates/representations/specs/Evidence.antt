@@ -20,4 +20,5 @@ pub record IsEvidenceStarSound {Object Arrow : Type 0} (s : Structure Object Arr
   pub evidence : (q : Quiver) (starred : Bool) (marked : List ℕ) (assumptions lemmas : List Poly) (c : LemmaCertificate) (claim : Poly)
       → IsQuiver q → AllByRecursion (λ v. v < q.objects) marked → AllByRecursion (HasSignature q) (generators_of q starred marked assumptions)
       → IsEvidenceOf (generators_of q starred marked assumptions) lemmas c claim
-      → (f : Representation Object Arrow) → StarRepresents s adjoint q f → Cancels s c.denominator → AllByRecursion (HasValueZero s q f) assumptions → HasValueZero s q f claim
+      → (f : Representation Object Arrow) → StarRepresents s adjoint q f → Cancels s c.denominator
+      → AllByRecursion (HasValueZero s q f) assumptions → HasValueZero s q f claim

@@ -16,10 +16,12 @@ pub record IsRepresentation {Object Arrow : Type 0} (s : Structure Object Arrow)
   pub represents : (o : Object) (a : Arrow) → Represents s q (listed objects arrows o a)
 
 -- one in which the adjoint of a map goes to the adjoint of its arrow
-pub record IsStarRepresentation {Object Arrow : Type 0} (s : Structure Object Arrow) (adjoint : Arrow → Arrow) (q : Quiver) (objects : List Object) (arrows : List Arrow) : Type 0 where
+pub record IsStarRepresentation {Object Arrow : Type 0} (s : Structure Object Arrow) (adjoint : Arrow → Arrow) (q : Quiver)
+    (objects : List Object) (arrows : List Arrow) : Type 0 where
   pub representation : IsRepresentation s q objects arrows
   pub represents : (o : Object) (a : Arrow) → StarRepresents s adjoint q (listed objects arrows o a)
 
 -- The arrow is the value of the polynomial at the signature (u, v).
-pub record IsValue {Object Arrow : Type 0} (s : Structure Object Arrow) (q : Quiver) (objects : List Object) (arrows : List Arrow) (u v : ℕ) (p : Poly) (x : Arrow) : Type 0 where
+pub record IsValue {Object Arrow : Type 0} (s : Structure Object Arrow) (q : Quiver) (objects : List Object) (arrows : List Arrow)
+    (u v : ℕ) (p : Poly) (x : Arrow) : Type 0 where
   pub at : (o : Object) (a : Arrow) → x ≡ value_at s q (listed objects arrows o a) u v p

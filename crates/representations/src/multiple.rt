@@ -30,7 +30,8 @@ fn natural_multiple_of<C: Category>(
     arrow: &C::Arrow,
 ) -> Result<C::Arrow, AllocError>
     requires { (C.structure category.now).is_arrow arrow.now }
-    ensures ends { IfOk result (λ a. IsArrow (C.structure category.now) ((C.structure category.now).source arrow.now) ((C.structure category.now).target arrow.now) a) }
+    ensures ends { IfOk result (λ a. IsArrow (C.structure category.now) ((C.structure category.now).source arrow.now)
+        ((C.structure category.now).target arrow.now) a) }
     ensures value { IfOk result (λ a. a ≡ natural_multiple (C.structure category.now) n arrow.now) }
 {
     if n == 0 {

@@ -1,5 +1,6 @@
 -- The nodes of the automaton, and what its steps do to them.
-use Rattle.std.specs.Prelude.{◌≡◌, vec_len, take, ◌-◌, ℕ, suc, ◌+◌, ◌<◌, ◌≤◌, ◌⊎◌, ◌||◌, Bool, true, nat_lt, ◌*◌, ◌%◌, ◌^◌, bit_and, List, [], ◌∷◌, ◌++◌, length, get_or, drop, Option, Some, None, min, if◌then◌else◌}
+use Rattle.std.specs.Prelude.{◌≡◌, vec_len, take, ◌-◌, ℕ, suc, ◌+◌, ◌<◌, ◌≤◌, ◌⊎◌, ◌||◌, Bool, true, nat_lt, ◌*◌, ◌%◌, ◌^◌, bit_and, List}
+use Rattle.std.specs.Prelude.{[], ◌∷◌, ◌++◌, length, get_or, drop, Option, Some, None, min, if◌then◌else◌}
 use Rattle.std.specs.List.{All}
 use Rattle.std.specs.Option.{option_map}
 use Rattle.std.specs.Vec.{vec_capacity}
@@ -155,7 +156,8 @@ pub record IsAdvanced (nodes : List Node) (letter : ℕ) (before after : List �
 
 -- the node is the link now, where the node that was it is less deep
 pub record IsRelinked (nodes : List Node) (ends : List ℕ) (n node : ℕ) (before after k : ℕ) : Type 0 where
-  pub either : ((after ≡ node) × ListsBelow n ends k × ((node_at nodes before).depth < (node_at nodes node).depth)) ⊎ ((after ≡ before) × (ListsBelow n ends k → (node_at nodes node).depth ≤ (node_at nodes before).depth))
+  pub either : ((after ≡ node) × ListsBelow n ends k × ((node_at nodes before).depth < (node_at nodes node).depth))
+      ⊎ ((after ≡ before) × (ListsBelow n ends k → (node_at nodes node).depth ≤ (node_at nodes before).depth))
 
 -- all nodes in the buckets of their letters
 abbrev pub HasLetters : Tree → Type 0
@@ -192,7 +194,8 @@ pub record IsGrown (old new : Tree) (word ends : List ℕ) (node : ℕ) : Type 0
   pub word_is : word_at (words_of new.nodes.items) node ≡ word
   pub ends_are : IsEnds (words_of new.nodes.items) word ends
   pub sized : length new.leasts.items ≡ length new.nodes.items
-  pub marked : (entries : List (List ℕ × ℕ)) → IsMarked entries (words_of old.nodes.items) old.leasts.items → IsMarked entries (words_of new.nodes.items) new.leasts.items
+  pub marked : (entries : List (List ℕ × ℕ)) → IsMarked entries (words_of old.nodes.items) old.leasts.items
+      → IsMarked entries (words_of new.nodes.items) new.leasts.items
   pub only : (w : List ℕ) → has (words_of new.nodes.items) w ≡ (has (words_of old.nodes.items) w || same_word w word)
   pub room : (count : ℕ) → HasRoom old (count + 1) → HasRoom new count
   pub front : take (length old.nodes.items) new.nodes.items ≡ old.nodes.items
@@ -205,7 +208,8 @@ pub record IsGrowing (old new : Tree) (word : List ℕ) (index at : ℕ) (ends :
   pub word_is : word_at (words_of new.nodes.items) at ≡ take index word
   pub ends_are : IsEnds (words_of new.nodes.items) (take index word) ends
   pub sized : length new.leasts.items ≡ length new.nodes.items
-  pub marked : (entries : List (List ℕ × ℕ)) → IsMarked entries (words_of old.nodes.items) old.leasts.items → IsMarked entries (words_of new.nodes.items) new.leasts.items
+  pub marked : (entries : List (List ℕ × ℕ)) → IsMarked entries (words_of old.nodes.items) old.leasts.items
+      → IsMarked entries (words_of new.nodes.items) new.leasts.items
   pub only : (w : List ℕ) → has (words_of new.nodes.items) w ≡ true → (has (words_of old.nodes.items) w ≡ true) ⊎ (begins_with word w ≡ true)
   pub room : HasRoom new (length word - index)
   pub front : take (length old.nodes.items) new.nodes.items ≡ old.nodes.items
@@ -218,7 +222,9 @@ pub record IsMarkedAt (ends : List ℕ) (n place : ℕ) (before after : Option �
 -- the tree has the word now, and else what it had
 pub record IsInserted (old new : Tree) (word : List ℕ) (place : ℕ) : Type 0 where
   pub tree : IsTree new.nodes.items new.heads.items new.nexts.items new.links.items
-  pub marked : (entries : List (List ℕ × ℕ)) (number : ℕ) → length entries ≡ place → IsMarked entries (words_of old.nodes.items) old.leasts.items → IsMarked (entries ++ (word, number) ∷ []) (words_of new.nodes.items) new.leasts.items
+  pub marked : (entries : List (List ℕ × ℕ)) (number : ℕ) → length entries ≡ place
+      → IsMarked entries (words_of old.nodes.items) old.leasts.items
+      → IsMarked (entries ++ (word, number) ∷ []) (words_of new.nodes.items) new.leasts.items
   pub only : (w : List ℕ) → has (words_of new.nodes.items) w ≡ true → (has (words_of old.nodes.items) w ≡ true) ⊎ (begins_with word w ≡ true)
   pub front : take (length old.nodes.items) new.nodes.items ≡ old.nodes.items
   pub lettered : HasLetters new

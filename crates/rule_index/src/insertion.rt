@@ -2,7 +2,9 @@
 
 ghost use Rattle.std.specs.Prelude.{IsTrue, ◌↔◌, ◌≡◌, ℕ, [], ◌∷◌, ◌++◌, ◌+◌, ◌<◌, length, drop, get_or, slice_index, slice_set, None, IfOk};
 ghost use Rattle.rule_index.specs.Prefixes.{word_at};
-ghost use Rattle.rule_index.specs.Automaton.{IsChained, IsChild, IsSpelled, IsTree, IsLongest, words_of, marked, relinked, added_node, node_at, HasLetters, Lists, IsAdvanced, IsRelinked, HasRoom, IsEnds, IsGrown, IsGrowing, IsMarkedAt, IsInserted, IsStarts};
+ghost use Rattle.rule_index.specs.Automaton.{IsChained, IsChild, IsSpelled, IsTree, IsLongest, words_of, marked, relinked, added_node};
+ghost use Rattle.rule_index.specs.Automaton.{node_at, HasLetters, Lists, IsAdvanced, IsRelinked, HasRoom, IsEnds, IsGrown, IsGrowing};
+ghost use Rattle.rule_index.specs.Automaton.{IsMarkedAt, IsInserted, IsStarts};
 
 use crate::chains::{chain_letter, chain_one, child, last_by_letter};
 use crate::tree::{Node, Tree, put, step};

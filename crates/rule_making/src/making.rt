@@ -41,7 +41,8 @@ fn divide_rest<O: WordOrder>(
     ensures content { IfOk result (λ m. IsContent rest.now.terms m.1.scale) }
     ensures record { IfOk result (λ m. (count : ℕ) → AreRows count rows → IsRecord count m.1) }
     ensures positive { IfOk result (λ m. pos 0 <ℤ m.1.scale) }
-    ensures divided { IfOk result (λ m. poly_multiple (if leads_negative (O.compare order.now) rest.now.terms then neg_ℤ m.1.scale else m.1.scale) m.0.terms ≡ rest.now.terms) }
+    ensures divided { IfOk result (λ m. poly_multiple (if leads_negative (O.compare order.now) rest.now.terms then neg_ℤ m.1.scale
+        else m.1.scale) m.0.terms ≡ rest.now.terms) }
     ensures rows { IfOk result (λ m. m.1.rows ≡ (if leads_negative (O.compare order.now) rest.now.terms then negated_rows rows else rows)) }
 {
     let scale = rest.content();

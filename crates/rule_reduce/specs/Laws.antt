@@ -17,7 +17,8 @@ abbrev pub Balances : List Rule → List Term → State → Type 0
 Balances rules p s = SamePolynomial (poly_multiple s.multiplier p) (poly_sum s.rest (traced_sum [] (polynomials_of rules) s.rows))
 
 abbrev pub ReductionsBalance : Type 0
-ReductionsBalance = (compare : Compare) (rules : List Rule) (p : List Term) (steps : ℕ) (s : State) → normal_form_of compare rules p steps ≡ Ok s → Balances rules p s
+ReductionsBalance = (compare : Compare) (rules : List Rule) (p : List Term) (steps : ℕ) (s : State)
+    → normal_form_of compare rules p steps ≡ Ok s → Balances rules p s
 
 -- The multiplier is positive.
 abbrev pub MultipliersArePositive : Type 0
@@ -38,4 +39,5 @@ abbrev pub IsIrreducible : List Rule → List Term → Type 0
 IsIrreducible rules p = All (λ t. All (λ g. OccursNowhere t.1 g.lead) rules) p
 
 abbrev pub RestsAreIrreducible : Type 0
-RestsAreIrreducible = (compare : Compare) (rules : List Rule) (p : List Term) (steps : ℕ) (s : State) → normal_form_of compare rules p steps ≡ Ok s → IsIrreducible rules s.rest
+RestsAreIrreducible = (compare : Compare) (rules : List Rule) (p : List Term) (steps : ℕ) (s : State)
+    → normal_form_of compare rules p steps ≡ Ok s → IsIrreducible rules s.rest

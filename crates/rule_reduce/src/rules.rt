@@ -46,7 +46,8 @@ pub struct Rules<O: WordOrder> {
 }
 
 impl<O: WordOrder + Drop> Rules<O> {
-    ghost use Rattle.std.specs.Prelude.{◌≡◌, ◌↔◌, ◌<◌, ◌≤◌, ◌+◌, ◌++◌, ◌^◌, ◌<ℤ◌, suc, pos, [], length, take, MatchResult, IfOk, OnOk, OnErr, IsSomeAnd, IsTrue, Ok, Some, option_to_list};
+    ghost use Rattle.std.specs.Prelude.{◌≡◌, ◌↔◌, ◌<◌, ◌≤◌, ◌+◌, ◌++◌, ◌^◌, ◌<ℤ◌, suc, pos, [], length, take, MatchResult, IfOk, OnOk};
+    ghost use Rattle.std.specs.Prelude.{OnErr, IsSomeAnd, IsTrue, Ok, Some, option_to_list};
     ghost use Rattle.std.specs.Option.{option_map};
     ghost use Rattle.coef_int.specs.Range.{IsCoefficient};
     ghost use Rattle.word_core.specs.Letters.{IsOver};
@@ -185,7 +186,8 @@ impl<O: WordOrder + Drop> Rules<O> {
         ensures canonical { IfOk result (λ t. IsCanonical t.rest) }
         ensures in_range { IfOk result IsInRange }
         ensures over { IfOk result (λ t. All (λ u. IsOver (O.letters self.now.order) u.1) t.rest) }
-        ensures exact { MatchResult result (λ t. reduction steps (O.compare self.now.order) self.now.rules steps start ≡ Ok t) (ExplainsHalt (reduction steps (O.compare self.now.order) self.now.rules steps start)) }
+        ensures exact { MatchResult result (λ t. reduction steps (O.compare self.now.order) self.now.rules steps start ≡ Ok t)
+            (ExplainsHalt (reduction steps (O.compare self.now.order) self.now.rules steps start)) }
     {
         let mut state = start;
         let mut last: Option<Word> = None;

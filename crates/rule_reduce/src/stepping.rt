@@ -6,7 +6,8 @@ ghost use Rattle.coef_int.specs.Range.{IsCoefficient};
 ghost use Rattle.word_core.specs.Letters.{IsOver};
 ghost use Rattle.nc_polynomial.specs.Shape.{IsShaped};
 ghost use Rattle.nc_polynomial.specs.Faults.{checked, finished, Explains};
-ghost use Rattle.rule_reduce.specs.Steps.{multiplied_row, row_operations, multiplied_state, state_operations, less_multiple, less_operations, move_of, move_row, move_result, step_result, IsInRange};
+ghost use Rattle.rule_reduce.specs.Steps.{multiplied_row, row_operations, multiplied_state, state_operations, less_multiple};
+ghost use Rattle.rule_reduce.specs.Steps.{less_operations, move_of, move_row, move_result, step_result, IsInRange};
 
 use crate::Rule;
 use crate::parts::{back, front};
@@ -24,7 +25,8 @@ fn multiply_rows(alloc: Global, rows: Listing<Row>, by: i128) -> Result<Listing<
     requires factor_in { IsCoefficient by }
     requires in_range { All (λ row. IsCoefficient row.coef) rows }
     ensures in_range { IfOk result (All (λ row. IsCoefficient row.coef)) }
-    ensures exact { MatchResult result (λ v. checked (row_operations rows by) (map (multiplied_row by) rows) ≡ Ok v) (Explains (checked (row_operations rows by) (map (multiplied_row by) rows))) }
+    ensures exact { MatchResult result (λ v. checked (row_operations rows by) (map (multiplied_row by) rows) ≡ Ok v)
+        (Explains (checked (row_operations rows by) (map (multiplied_row by) rows))) }
 {
     let mut multiplied = Listing::new(alloc);
     for row in rows.into_vec() {
@@ -54,7 +56,8 @@ fn multiply_state(alloc: Global, state: State, by: i128) -> Result<State, PolyFa
     requires in_range { IsInRange state }
     ensures in_range { IfOk result IsInRange }
     ensures used { IfOk result (λ t. t.used ≡ state.used) }
-    ensures exact { MatchResult result (λ t. checked (state_operations by state) (multiplied_state by state) ≡ Ok t) (Explains (checked (state_operations by state) (multiplied_state by state))) }
+    ensures exact { MatchResult result (λ t. checked (state_operations by state) (multiplied_state by state) ≡ Ok t)
+        (Explains (checked (state_operations by state) (multiplied_state by state))) }
 {
     if by == 1 {
         return Ok(state);
@@ -90,7 +93,8 @@ fn subtract_multiple(
 ) -> Result<Poly, PolyFault>
     requires times_in { IsCoefficient times }
     requires shaped { IsShaped rest }
-    ensures { MatchResult result (λ p. finished (less_operations times left.now rule.now.terms right.now rest) (less_multiple times left.now rule.now.terms right.now rest) ≡ Ok p.terms)
+    ensures { MatchResult result (λ p. finished (less_operations times left.now rule.now.terms right.now rest)
+        (less_multiple times left.now rule.now.terms right.now rest) ≡ Ok p.terms)
         (Explains (finished (less_operations times left.now rule.now.terms right.now rest) (less_multiple times left.now rule.now.terms right.now rest))) }
 {
     let taken = shift_terms(alloc, times, left, rule.terms.as_slice(), right)?;
@@ -121,7 +125,8 @@ fn take_away(alloc: Global, rule: &Rule, choice: &Choice, state: State) -> Resul
     requires steps { state.used + 1 < 2 ^ 32 }
     ensures in_range { IfOk result IsInRange }
     ensures steps { IfOk result (λ t. t.used ≤ state.used + 1) }
-    ensures exact { MatchResult result (λ t. move_result (move_of choice.now rule.now) state ≡ Ok t) (Explains (move_result (move_of choice.now rule.now) state)) }
+    ensures exact { MatchResult result (λ t. move_result (move_of choice.now rule.now) state ≡ Ok t)
+        (Explains (move_result (move_of choice.now rule.now) state)) }
 {
     let shared = divisor(choice.coefficient, rule.leading);
     let by = quotient(rule.leading, shared);
@@ -152,7 +157,8 @@ pub(crate) fn take_step(
     requires steps { state.used + 1 < 2 ^ 32 }
     ensures in_range { IfOk result IsInRange }
     ensures steps { IfOk result (λ t. t.used ≤ state.used + 1) }
-    ensures letters { IfOk result (λ t. (n : ℕ) → All (λ g. All (λ u. IsOver n u.1) g.poly.terms) rules.now → IsOver n choice.word → All (λ u. IsOver n u.1) state.rest → All (λ u. IsOver n u.1) t.rest) }
+    ensures letters { IfOk result (λ t. (n : ℕ) → All (λ g. All (λ u. IsOver n u.1) g.poly.terms) rules.now → IsOver n choice.word
+        → All (λ u. IsOver n u.1) state.rest → All (λ u. IsOver n u.1) t.rest) }
     ensures exact { MatchResult result (λ t. step_result rules.now choice state ≡ Ok t) (Explains (step_result rules.now choice state)) }
 {
     take_away(alloc, rule_with(rules, choice.number), &choice, state)

@@ -5,7 +5,8 @@ use crate::test_rows::Row;
 
 // One map behind another: both are to come off.
 const TWICE: &[u8] =
-    b"object P Q R\nmap k : P -> Q\nmap m : Q -> R\nmap x y : P -> P\nassume m k x = m k y\nclaim x = y\nclaim 2 x = 2 y\nclaim 170141183460469231731687303715884105727 x = 170141183460469231731687303715884105727 y\n";
+    b"object P Q R\nmap k : P -> Q\nmap m : Q -> R\nmap x y : P -> P\nassume m k x = m k y\nclaim x = y\nclaim 2 x = 2 y\n\
+      claim 170141183460469231731687303715884105727 x = 170141183460469231731687303715884105727 y\n";
 
 // A factorization of full rank, and an inner inverse.
 const FACTORED: &[u8] =
@@ -13,11 +14,15 @@ const FACTORED: &[u8] =
 
 // The short five lemma, where the maps at the ends are monic.
 const FIVE: &[u8] =
-    b"object T A B C D E F\nmap i : A -> B\nmap p : B -> C\nmap j : D -> E\nmap n : E -> F\nmap a : A -> D\nmap b : B -> E\nmap c : C -> F\nmap x : T -> B\nmap y : T -> A\nassume b i = j a\nassume n b = c p\nassume b x = 0\nassume x = i y\nclaim p x = 0\nclaim x = 0\n";
+    b"object T A B C D E F\nmap i : A -> B\nmap p : B -> C\nmap j : D -> E\nmap n : E -> F\nmap a : A -> D\nmap b : B -> E\n\
+      map c : C -> F\nmap x : T -> B\nmap y : T -> A\nassume b i = j a\nassume n b = c p\nassume b x = 0\nassume x = i y\nclaim p x = 0\n\
+      claim x = 0\n";
 
 // Its mirror, where they are epic.
 const MIRRORED: &[u8] =
-    b"object T A B C D E F\nmap i : A -> B\nmap p : B -> C\nmap j : D -> E\nmap n : E -> F\nmap a : A -> D\nmap b : B -> E\nmap c : C -> F\nmap z : E -> T\nmap w : F -> T\nassume b i = j a\nassume n b = c p\nassume z b = 0\nassume z = w n\nclaim z j = 0\nclaim z = 0\n";
+    b"object T A B C D E F\nmap i : A -> B\nmap p : B -> C\nmap j : D -> E\nmap n : E -> F\nmap a : A -> D\nmap b : B -> E\n\
+      map c : C -> F\nmap z : E -> T\nmap w : F -> T\nassume b i = j a\nassume n b = c p\nassume z b = 0\nassume z = w n\nclaim z j = 0\n\
+      claim z = 0\n";
 
 // Normal equations by a factorization with orthonormal columns.
 const NORMAL: &[u8] =
@@ -25,7 +30,8 @@ const NORMAL: &[u8] =
 
 // A map that is its own adjoint, and assumptions with factors.
 const SELF: &[u8] =
-    b"object P\nmap h : P -> P self\nmap u v : P -> P\nassume h u h = h v h\nassume 2 h u = 0\nassume 170141183460469231731687303715884105727 u = 0\nassume u = u\nclaim u = v\nclaim u = 0\n";
+    b"object P\nmap h : P -> P self\nmap u v : P -> P\nassume h u h = h v h\nassume 2 h u = 0\n\
+      assume 170141183460469231731687303715884105727 u = 0\nassume u = u\nclaim u = v\nclaim u = 0\n";
 
 // A map behind which its adjoint stands.
 const GRAM: &[u8] =
@@ -38,7 +44,8 @@ const UNSTARRED: &[u8] =
 /// A statement, and a proof by which both maps come off.
 pub const SOUND: Row = (
     TWICE,
-    b"cancellation 1\nclaim 1\ndenominator 1\nmonic m\nmonic k\nlemma 1 scale 1\nrow 1 () 1 ()\ncancel 2 m left 1\ncancel 3 k left 2\ngoal scale 1\nrow 1 () lemma 3 ()\nend\n",
+    b"cancellation 1\nclaim 1\ndenominator 1\nmonic m\nmonic k\nlemma 1 scale 1\nrow 1 () 1 ()\ncancel 2 m left 1\ncancel 3 k left 2\n\
+      goal scale 1\nrow 1 () lemma 3 ()\nend\n",
     "0 # block 1 accepted claim 1 denominator 1 monic m k\n",
 );
 
@@ -46,87 +53,104 @@ pub const SOUND: Row = (
 pub const ACCEPTED: &[Row] = &[
     (
         TWICE,
-        b"cancellation 1\nclaim 1\ndenominator 1\nepic x'\nmonic k\nepic y\nmonic m\nlemma 1 scale 1\nrow 1 () 1 ()\ncancel 2 m left 1\ncancel 3 k left 2\ngoal scale 1\nrow 1 () lemma 3 ()\nend\n",
+        b"cancellation 1\nclaim 1\ndenominator 1\nepic x'\nmonic k\nepic y\nmonic m\nlemma 1 scale 1\nrow 1 () 1 ()\ncancel 2 m left 1\n\
+          cancel 3 k left 2\ngoal scale 1\nrow 1 () lemma 3 ()\nend\n",
         "0 # block 1 accepted claim 1 denominator 1 monic k m epic x' y\n",
     ),
     (
         TWICE,
-        b"cancellation 1\nclaim 1\ndenominator 1\nmonic m\nmonic k\nepic m\nlemma 1 scale 1\nrow 1 () 1 ()\ncancel 2 m left 1\ncancel 3 k left 2\ngoal scale 1\nrow 1 () lemma 3 ()\nend\n",
+        b"cancellation 1\nclaim 1\ndenominator 1\nmonic m\nmonic k\nepic m\nlemma 1 scale 1\nrow 1 () 1 ()\ncancel 2 m left 1\n\
+          cancel 3 k left 2\ngoal scale 1\nrow 1 () lemma 3 ()\nend\n",
         "0 # block 1 accepted claim 1 denominator 1 monic m k epic m\n",
     ),
     (
         TWICE,
-        b"cancellation 1\nclaim 1\ndenominator 1\nmonic m\nmonic m'\nmonic k\nlemma 1 scale 1\nrow 1 () 1 ()\ncancel 2 m left 1\ncancel 3 k left 2\ngoal scale 1\nrow 1 () lemma 3 ()\nend\n",
+        b"cancellation 1\nclaim 1\ndenominator 1\nmonic m\nmonic m'\nmonic k\nlemma 1 scale 1\nrow 1 () 1 ()\ncancel 2 m left 1\n\
+          cancel 3 k left 2\ngoal scale 1\nrow 1 () lemma 3 ()\nend\n",
         "0 # block 1 accepted claim 1 denominator 1 monic m m' k\n",
     ),
     (
         TWICE,
-        b"cancellation 1\nclaim 2\ndenominator 1\nmonic m\nmonic k\nlemma 1 scale 1\nrow 1 () 1 ()\ncancel 2 m left 1\ncancel 3 k left 2\ngoal scale 1\nrow 2 () lemma 3 ()\nend\n",
+        b"cancellation 1\nclaim 2\ndenominator 1\nmonic m\nmonic k\nlemma 1 scale 1\nrow 1 () 1 ()\ncancel 2 m left 1\ncancel 3 k left 2\n\
+          goal scale 1\nrow 2 () lemma 3 ()\nend\n",
         "0 # block 1 accepted claim 2 denominator 1 monic m k\n",
     ),
     (
         TWICE,
-        b"cancellation 1\nclaim 1\ndenominator 4\nmonic m\nmonic k\nlemma 1 scale 1\nrow 1 () 1 ()\ncancel 2 m left 1\ncancel 3 k left 2\ngoal scale 2\nrow 2 () lemma 3 ()\nend\n",
+        b"cancellation 1\nclaim 1\ndenominator 4\nmonic m\nmonic k\nlemma 1 scale 1\nrow 1 () 1 ()\ncancel 2 m left 1\ncancel 3 k left 2\n\
+          goal scale 2\nrow 2 () lemma 3 ()\nend\n",
         "0 # block 1 accepted claim 1 denominator 4 monic m k\n",
     ),
     (
         TWICE,
-        b"cancellation 1\nclaim 1\ndenominator 3\nmonic m\nmonic k\nlemma 1 scale 3\nrow 3 () 1 ()\ncancel 2 m left 1\ncancel 3 k left 2\ngoal scale 1\nrow 1 () lemma 3 ()\nend\n",
+        b"cancellation 1\nclaim 1\ndenominator 3\nmonic m\nmonic k\nlemma 1 scale 3\nrow 3 () 1 ()\ncancel 2 m left 1\ncancel 3 k left 2\n\
+          goal scale 1\nrow 1 () lemma 3 ()\nend\n",
         "0 # block 1 accepted claim 1 denominator 3 monic m k\n",
     ),
     (
         TWICE,
-        b"cancellation 1\nclaim 1\ndenominator 1\nmonic m\nmonic k\nlemma 1 scale 1\nrow 1 () 1 ()\nrow 1 (m) 1 ()\nrow -1 (m) 1 ()\ncancel 2 m left 1\ncancel 3 k left 2\ngoal scale 1\nrow 1 () lemma 3 ()\nend\n",
+        b"cancellation 1\nclaim 1\ndenominator 1\nmonic m\nmonic k\nlemma 1 scale 1\nrow 1 () 1 ()\nrow 1 (m) 1 ()\nrow -1 (m) 1 ()\n\
+          cancel 2 m left 1\ncancel 3 k left 2\ngoal scale 1\nrow 1 () lemma 3 ()\nend\n",
         "0 # block 1 accepted claim 1 denominator 1 monic m k\n",
     ),
     (
         TWICE,
-        b"cancellation 1\nclaim 1\ndenominator 1\nmonic m\nmonic k\nlemma 1 scale 1\nrow 1 () 1 ()\ncancel 2 m left 1\ncancel 3 k left 2\nlemma 4 scale 1\nrow 1 (y) 1 ()\ngoal scale 1\nrow 2 (k) lemma 4 ()\nrow -2 (k y) 1 ()\nrow 1 () lemma 3 ()\nend\n",
+        b"cancellation 1\nclaim 1\ndenominator 1\nmonic m\nmonic k\nlemma 1 scale 1\nrow 1 () 1 ()\ncancel 2 m left 1\ncancel 3 k left 2\n\
+          lemma 4 scale 1\nrow 1 (y) 1 ()\ngoal scale 1\nrow 2 (k) lemma 4 ()\nrow -2 (k y) 1 ()\nrow 1 () lemma 3 ()\nend\n",
         "0 # block 1 accepted claim 1 denominator 1 monic m k\n",
     ),
     (
         TWICE,
-        b"cancellation 1\nclaim 1\ndenominator 1\nmonic m\nmonic k\nlemma 1 scale 1\nrow 1 () 1 ()\ncancel 2 m left 1\ncancel 3 k left 2\nlemma 4 scale 1\nrow 1 (y) lemma 3 (x)\ngoal scale 1\nrow 1 () lemma 4 ()\nrow -1 (y) lemma 3 (x)\nrow 1 () lemma 3 ()\nend\n",
+        b"cancellation 1\nclaim 1\ndenominator 1\nmonic m\nmonic k\nlemma 1 scale 1\nrow 1 () 1 ()\ncancel 2 m left 1\ncancel 3 k left 2\n\
+          lemma 4 scale 1\nrow 1 (y) lemma 3 (x)\ngoal scale 1\nrow 1 () lemma 4 ()\nrow -1 (y) lemma 3 (x)\nrow 1 () lemma 3 ()\nend\n",
         "0 # block 1 accepted claim 1 denominator 1 monic m k\n",
     ),
     (
         FACTORED,
-        b"cancellation 1\nclaim 1\ndenominator 1\nmonic f\nepic g\nlemma 1 scale 1\nrow 1 () 1 ()\nrow -1 () 4 (g)\ncancel 2 f left 1\ncancel 3 g right 2\ngoal scale 1\nrow 1 () lemma 3 ()\nend\n",
+        b"cancellation 1\nclaim 1\ndenominator 1\nmonic f\nepic g\nlemma 1 scale 1\nrow 1 () 1 ()\nrow -1 () 4 (g)\ncancel 2 f left 1\n\
+          cancel 3 g right 2\ngoal scale 1\nrow 1 () lemma 3 ()\nend\n",
         "0 # block 1 accepted claim 1 denominator 1 monic f epic g\n",
     ),
     (
         FACTORED,
-        b"cancellation 1\nclaim 1\ndenominator 1\nmonic f\nepic g\nlemma 1 scale 1\nrow 1 () 1 ()\nrow -1 () 4 (g)\ncancel 2 g right 1\ncancel 3 f left 2\ngoal scale 1\nrow 1 () lemma 3 ()\nend\n",
+        b"cancellation 1\nclaim 1\ndenominator 1\nmonic f\nepic g\nlemma 1 scale 1\nrow 1 () 1 ()\nrow -1 () 4 (g)\ncancel 2 g right 1\n\
+          cancel 3 f left 2\ngoal scale 1\nrow 1 () lemma 3 ()\nend\n",
         "0 # block 1 accepted claim 1 denominator 1 monic f epic g\n",
     ),
     (
         FACTORED,
-        b"cancellation 1\nclaim 1\ndenominator 12\nmonic f\nepic g\nlemma 1 scale 6\nrow 6 () 1 ()\nrow -6 () 4 (g)\ncancel 2 f left 1\ncancel 3 g right 2\ngoal scale 1\nrow 1 () lemma 3 ()\nend\n",
+        b"cancellation 1\nclaim 1\ndenominator 12\nmonic f\nepic g\nlemma 1 scale 6\nrow 6 () 1 ()\nrow -6 () 4 (g)\ncancel 2 f left 1\n\
+          cancel 3 g right 2\ngoal scale 1\nrow 1 () lemma 3 ()\nend\n",
         "0 # block 1 accepted claim 1 denominator 12 monic f epic g\n",
     ),
     (
         FIVE,
-        b"cancellation 1\nclaim 1\ndenominator 1\nmonic c\nlemma 1 scale 1\nrow 1 (n) 3 ()\nrow -1 () 2 (x)\ncancel 2 c left 1\ngoal scale 1\nrow 1 () lemma 2 ()\nend\n",
+        b"cancellation 1\nclaim 1\ndenominator 1\nmonic c\nlemma 1 scale 1\nrow 1 (n) 3 ()\nrow -1 () 2 (x)\ncancel 2 c left 1\n\
+          goal scale 1\nrow 1 () lemma 2 ()\nend\n",
         "0 # block 1 accepted claim 1 denominator 1 monic c\n",
     ),
     (
         FIVE,
-        b"cancellation 1\nclaim 2\ndenominator 1\nmonic j\nmonic a\nlemma 1 scale 1\nrow 1 () 3 ()\nrow -1 (b) 4 ()\nrow -1 () 1 (y)\ncancel 2 j left 1\ncancel 3 a left 2\ngoal scale 1\nrow 1 () 4 ()\nrow 1 (i) lemma 3 ()\nend\n",
+        b"cancellation 1\nclaim 2\ndenominator 1\nmonic j\nmonic a\nlemma 1 scale 1\nrow 1 () 3 ()\nrow -1 (b) 4 ()\nrow -1 () 1 (y)\n\
+          cancel 2 j left 1\ncancel 3 a left 2\ngoal scale 1\nrow 1 () 4 ()\nrow 1 (i) lemma 3 ()\nend\n",
         "0 # block 1 accepted claim 2 denominator 1 monic j a\n",
     ),
     (
         MIRRORED,
-        b"cancellation 1\nclaim 1\ndenominator 1\nepic a\nlemma 1 scale 1\nrow 1 () 3 (i)\nrow -1 (z) 1 ()\ncancel 2 a right 1\ngoal scale 1\nrow 1 () lemma 2 ()\nend\n",
+        b"cancellation 1\nclaim 1\ndenominator 1\nepic a\nlemma 1 scale 1\nrow 1 () 3 (i)\nrow -1 (z) 1 ()\ncancel 2 a right 1\n\
+          goal scale 1\nrow 1 () lemma 2 ()\nend\n",
         "0 # block 1 accepted claim 1 denominator 1 epic a\n",
     ),
     (
         MIRRORED,
-        b"cancellation 1\nclaim 2\ndenominator 1\nepic p\nepic c\nlemma 1 scale 1\nrow 1 () 3 ()\nrow -1 () 4 (b)\nrow -1 (w) 2 ()\ncancel 2 p right 1\ncancel 3 c right 2\ngoal scale 1\nrow 1 () 4 ()\nrow 1 () lemma 3 (n)\nend\n",
+        b"cancellation 1\nclaim 2\ndenominator 1\nepic p\nepic c\nlemma 1 scale 1\nrow 1 () 3 ()\nrow -1 () 4 (b)\nrow -1 (w) 2 ()\n\
+          cancel 2 p right 1\ncancel 3 c right 2\ngoal scale 1\nrow 1 () 4 ()\nrow 1 () lemma 3 (n)\nend\n",
         "0 # block 1 accepted claim 2 denominator 1 epic p c\n",
     ),
     (
         NORMAL,
-        b"cancellation 1\nclaim 1\ndenominator 1\nmonic r'\nlemma 1 scale 1\nrow 1 () 2 ()\nrow -1 (r') 1 (r x)\nrow 1 (r') 1 (r y)\nrow -1 (r') 7 (x)\nrow 1 (r') 7 (y)\ncancel 2 r' left 1\ngoal scale 1\nrow 1 (q) lemma 2 ()\nend\n",
+        b"cancellation 1\nclaim 1\ndenominator 1\nmonic r'\nlemma 1 scale 1\nrow 1 () 2 ()\nrow -1 (r') 1 (r x)\nrow 1 (r') 1 (r y)\n\
+          row -1 (r') 7 (x)\nrow 1 (r') 7 (y)\ncancel 2 r' left 1\ngoal scale 1\nrow 1 (q) lemma 2 ()\nend\n",
         "0 # block 1 accepted claim 1 denominator 1 monic r'\n",
     ),
     (
@@ -136,22 +160,26 @@ pub const ACCEPTED: &[Row] = &[
     ),
     (
         GRAM,
-        b"cancellation 1\nclaim 2\ndenominator 1\nmonic a'\nmonic a\nlemma 1 scale 1\nrow 1 () 1 ()\ncancel 2 a' left 1\nlemma 3 scale 1\nrow 1 () lemma 2 ()\ncancel 4 a left 3\ngoal scale 1\nrow 1 () lemma 4 ()\nend\n",
+        b"cancellation 1\nclaim 2\ndenominator 1\nmonic a'\nmonic a\nlemma 1 scale 1\nrow 1 () 1 ()\ncancel 2 a' left 1\nlemma 3 scale 1\n\
+          row 1 () lemma 2 ()\ncancel 4 a left 3\ngoal scale 1\nrow 1 () lemma 4 ()\nend\n",
         "0 # block 1 accepted claim 2 denominator 1 monic a' a\n",
     ),
     (
         GRAM,
-        b"cancellation 1\nclaim 2\ndenominator 1\nmonic a'\nmonic a\nlemma 1 scale 1\nrow 1 () 1 ()\ncancel 2 a' left 1\ncancel 3 a left 2\ngoal scale 1\nrow 1 () lemma 3 ()\nend\n",
+        b"cancellation 1\nclaim 2\ndenominator 1\nmonic a'\nmonic a\nlemma 1 scale 1\nrow 1 () 1 ()\ncancel 2 a' left 1\n\
+          cancel 3 a left 2\ngoal scale 1\nrow 1 () lemma 3 ()\nend\n",
         "0 # block 1 accepted claim 2 denominator 1 monic a' a\n",
     ),
     (
         SELF,
-        b"cancellation 1\nclaim 1\ndenominator 1\nmonic h\nepic h'\nlemma 1 scale 1\nrow 1 () 1 ()\ncancel 2 h left 1\ncancel 3 h right 2\ngoal scale 1\nrow 1 () lemma 3 ()\nend\n",
+        b"cancellation 1\nclaim 1\ndenominator 1\nmonic h\nepic h'\nlemma 1 scale 1\nrow 1 () 1 ()\ncancel 2 h left 1\n\
+          cancel 3 h right 2\ngoal scale 1\nrow 1 () lemma 3 ()\nend\n",
         "0 # block 1 accepted claim 1 denominator 1 monic h epic h\n",
     ),
     (
         SELF,
-        b"cancellation 1\nclaim 1\ndenominator 1\nmonic h'\nepic h'\nlemma 1 scale 1\nrow 1 () 1 ()\ncancel 2 h' left 1\ncancel 3 h right 2\ngoal scale 1\nrow 1 () lemma 3 ()\nend\n",
+        b"cancellation 1\nclaim 1\ndenominator 1\nmonic h'\nepic h'\nlemma 1 scale 1\nrow 1 () 1 ()\ncancel 2 h' left 1\n\
+          cancel 3 h right 2\ngoal scale 1\nrow 1 () lemma 3 ()\nend\n",
         "0 # block 1 accepted claim 1 denominator 1 monic h epic h\n",
     ),
     (
@@ -166,17 +194,20 @@ pub const ACCEPTED: &[Row] = &[
     ),
     (
         SELF,
-        b"cancellation 1\nclaim 2\ndenominator 2\nmonic h\nepic v'\nlemma 1 scale 1\ncancel 2 h left 1\ncancel 3 v' right 2\nlemma 4 scale 1\nrow 1 () 2 ()\ncancel 5 h left 4\ngoal scale 2\nrow 1 () lemma 5 ()\nrow 9 (u) lemma 3 (v)\nend\n",
+        b"cancellation 1\nclaim 2\ndenominator 2\nmonic h\nepic v'\nlemma 1 scale 1\ncancel 2 h left 1\ncancel 3 v' right 2\n\
+          lemma 4 scale 1\nrow 1 () 2 ()\ncancel 5 h left 4\ngoal scale 2\nrow 1 () lemma 5 ()\nrow 9 (u) lemma 3 (v)\nend\n",
         "0 # block 1 accepted claim 2 denominator 2 monic h epic v'\n",
     ),
     (
         b"object P\nmap h u : P -> P\nassume h h u = 0\nclaim u = 0\n",
-        b"cancellation 1\nclaim 1\ndenominator 1\nmonic h\nlemma 1 scale 1\nrow 1 () 1 ()\ncancel 2 h left 1\ncancel 3 h left 2\ngoal scale 1\nrow 1 () lemma 3 ()\nend\n",
+        b"cancellation 1\nclaim 1\ndenominator 1\nmonic h\nlemma 1 scale 1\nrow 1 () 1 ()\ncancel 2 h left 1\ncancel 3 h left 2\n\
+          goal scale 1\nrow 1 () lemma 3 ()\nend\n",
         "0 # block 1 accepted claim 1 denominator 1 monic h\n",
     ),
     (
         UNSTARRED,
-        b"cancellation 1\nclaim 1\ndenominator 1\nmonic a\nmonic a'\nepic a'\nlemma 1 scale 1\nrow 1 () 1 ()\nlemma 2 scale 1\nrow 1 (a') lemma 1 ()\ncancel 3 a' left 2\ncancel 4 a left 3\ngoal scale 1\nrow 1 () lemma 4 ()\nend\n",
+        b"cancellation 1\nclaim 1\ndenominator 1\nmonic a\nmonic a'\nepic a'\nlemma 1 scale 1\nrow 1 () 1 ()\nlemma 2 scale 1\n\
+          row 1 (a') lemma 1 ()\ncancel 3 a' left 2\ncancel 4 a left 3\ngoal scale 1\nrow 1 () lemma 4 ()\nend\n",
         "0 # block 1 accepted claim 1 denominator 1 monic a a' epic a'\n",
     ),
 ];
@@ -185,27 +216,32 @@ pub const ACCEPTED: &[Row] = &[
 pub const LETTERS: &[Row] = &[
     (
         FACTORED,
-        b"cancellation 1\nclaim 1\ndenominator 1\nmonic f\nepic g\nlemma 1 scale 1\nrow 1 () 1 ()\ncancel 2 f left 1\ncancel 3 g right 2\ngoal scale 1\nrow 1 () lemma 3 ()\nend\n",
+        b"cancellation 1\nclaim 1\ndenominator 1\nmonic f\nepic g\nlemma 1 scale 1\nrow 1 () 1 ()\ncancel 2 f left 1\ncancel 3 g right 2\n\
+          goal scale 1\nrow 1 () lemma 3 ()\nend\n",
         "7 # block 1 refused X4 item 3\n",
     ),
     (
         FACTORED,
-        b"cancellation 1\nclaim 1\ndenominator 1\nmonic f\nlemma 1 scale 1\nrow 1 () 1 ()\nrow -1 () 4 (g)\ncancel 2 f left 1\ncancel 3 g right 2\ngoal scale 1\nrow 1 () lemma 3 ()\nend\n",
+        b"cancellation 1\nclaim 1\ndenominator 1\nmonic f\nlemma 1 scale 1\nrow 1 () 1 ()\nrow -1 () 4 (g)\ncancel 2 f left 1\n\
+          cancel 3 g right 2\ngoal scale 1\nrow 1 () lemma 3 ()\nend\n",
         "7 # block 1 refused X2 item 3\n",
     ),
     (
         FACTORED,
-        b"cancellation 1\nclaim 1\ndenominator 1\nepic f\nmonic g\nlemma 1 scale 1\nrow 1 () 1 ()\nrow -1 () 4 (g)\ncancel 2 f left 1\ncancel 3 g right 2\ngoal scale 1\nrow 1 () lemma 3 ()\nend\n",
+        b"cancellation 1\nclaim 1\ndenominator 1\nepic f\nmonic g\nlemma 1 scale 1\nrow 1 () 1 ()\nrow -1 () 4 (g)\ncancel 2 f left 1\n\
+          cancel 3 g right 2\ngoal scale 1\nrow 1 () lemma 3 ()\nend\n",
         "7 # block 1 refused X2 item 2\n",
     ),
     (
         NORMAL,
-        b"cancellation 1\nclaim 1\ndenominator 1\nmonic r\nlemma 1 scale 1\nrow 1 () 2 ()\nrow -1 (r') 1 (r x)\nrow 1 (r') 1 (r y)\nrow -1 (r') 7 (x)\nrow 1 (r') 7 (y)\ncancel 2 r' left 1\ngoal scale 1\nrow 1 (q) lemma 2 ()\nend\n",
+        b"cancellation 1\nclaim 1\ndenominator 1\nmonic r\nlemma 1 scale 1\nrow 1 () 2 ()\nrow -1 (r') 1 (r x)\nrow 1 (r') 1 (r y)\n\
+          row -1 (r') 7 (x)\nrow 1 (r') 7 (y)\ncancel 2 r' left 1\ngoal scale 1\nrow 1 (q) lemma 2 ()\nend\n",
         "7 # block 1 refused X2 item 2\n",
     ),
     (
         NORMAL,
-        b"cancellation 1\nclaim 1\ndenominator 1\nepic r\nlemma 1 scale 1\nrow 1 () 2 ()\nrow -1 (r') 1 (r x)\nrow 1 (r') 1 (r y)\nrow -1 (r') 7 (x)\nrow 1 (r') 7 (y)\ncancel 2 r' left 1\ngoal scale 1\nrow 1 (q) lemma 2 ()\nend\n",
+        b"cancellation 1\nclaim 1\ndenominator 1\nepic r\nlemma 1 scale 1\nrow 1 () 2 ()\nrow -1 (r') 1 (r x)\nrow 1 (r') 1 (r y)\n\
+          row -1 (r') 7 (x)\nrow 1 (r') 7 (y)\ncancel 2 r' left 1\ngoal scale 1\nrow 1 (q) lemma 2 ()\nend\n",
         "7 # block 1 refused X2 item 2\n",
     ),
     (
@@ -230,92 +266,110 @@ pub const LETTERS: &[Row] = &[
     ),
     (
         b"object P\nmap h u : P -> P\nassume h h h = 0\nclaim u = 0\n",
-        b"cancellation 1\nclaim 1\ndenominator 1\nmonic h\nlemma 1 scale 1\nrow 1 () 1 ()\ncancel 2 h left 1\ncancel 3 h left 2\ncancel 4 h left 3\ngoal scale 1\nrow 1 () lemma 4 ()\nend\n",
+        b"cancellation 1\nclaim 1\ndenominator 1\nmonic h\nlemma 1 scale 1\nrow 1 () 1 ()\ncancel 2 h left 1\ncancel 3 h left 2\n\
+          cancel 4 h left 3\ngoal scale 1\nrow 1 () lemma 4 ()\nend\n",
         "7 # block 1 refused X4 item 4\n",
     ),
     (
         TWICE,
-        b"cancellation 1\nclaim 1\ndenominator 1\nmonic m\nmonic k\nlemma 1 scale 1\nrow 1 () 1 ()\ncancel 2 m left 1\ncancel 3 k left 3\ngoal scale 1\nrow 1 () lemma 3 ()\nend\n",
+        b"cancellation 1\nclaim 1\ndenominator 1\nmonic m\nmonic k\nlemma 1 scale 1\nrow 1 () 1 ()\ncancel 2 m left 1\ncancel 3 k left 3\n\
+          goal scale 1\nrow 1 () lemma 3 ()\nend\n",
         "7 # block 1 refused X1 item 3\n",
     ),
     (
         TWICE,
-        b"cancellation 1\nclaim 1\ndenominator 1\nmonic m\nmonic k\nlemma 1 scale 1\nrow 1 () 1 ()\ncancel 2 m left 1\ncancel 3 k left 0\ngoal scale 1\nrow 1 () lemma 3 ()\nend\n",
+        b"cancellation 1\nclaim 1\ndenominator 1\nmonic m\nmonic k\nlemma 1 scale 1\nrow 1 () 1 ()\ncancel 2 m left 1\ncancel 3 k left 0\n\
+          goal scale 1\nrow 1 () lemma 3 ()\nend\n",
         "7 # block 1 refused X1 item 3\n",
     ),
     (
         TWICE,
-        b"cancellation 1\nclaim 1\ndenominator 1\nmonic m\nmonic k\nlemma 1 scale 1\nrow 1 () 1 ()\ncancel 2 m left 5\ncancel 3 k left 2\ngoal scale 1\nrow 1 () lemma 3 ()\nend\n",
+        b"cancellation 1\nclaim 1\ndenominator 1\nmonic m\nmonic k\nlemma 1 scale 1\nrow 1 () 1 ()\ncancel 2 m left 5\ncancel 3 k left 2\n\
+          goal scale 1\nrow 1 () lemma 3 ()\nend\n",
         "7 # block 1 refused X1 item 2\n",
     ),
     (
         TWICE,
-        b"cancellation 1\nclaim 1\ndenominator 1\nmonic m\nmonic k\nlemma 1 scale 1\nrow 1 () 1 ()\ncancel 2 m left 4294967295\ncancel 3 k left 2\ngoal scale 1\nrow 1 () lemma 3 ()\nend\n",
+        b"cancellation 1\nclaim 1\ndenominator 1\nmonic m\nmonic k\nlemma 1 scale 1\nrow 1 () 1 ()\ncancel 2 m left 4294967295\n\
+          cancel 3 k left 2\ngoal scale 1\nrow 1 () lemma 3 ()\nend\n",
         "7 # block 1 refused X1 item 2\n",
     ),
     (
         TWICE,
-        b"cancellation 1\nclaim 1\ndenominator 1\nmonic m\nlemma 1 scale 1\nrow 1 () 1 ()\ncancel 2 m left 1\ncancel 3 k left 4\ngoal scale 1\nrow 1 () lemma 3 ()\nend\n",
+        b"cancellation 1\nclaim 1\ndenominator 1\nmonic m\nlemma 1 scale 1\nrow 1 () 1 ()\ncancel 2 m left 1\ncancel 3 k left 4\n\
+          goal scale 1\nrow 1 () lemma 3 ()\nend\n",
         "7 # block 1 refused X1 item 3\n",
     ),
     (
         TWICE,
-        b"cancellation 1\nclaim 1\ndenominator 1\nmonic m\nepic k\nlemma 1 scale 1\nrow 1 () 1 ()\ncancel 2 m left 1\ncancel 3 k left 2\ngoal scale 1\nrow 1 () lemma 3 ()\nend\n",
+        b"cancellation 1\nclaim 1\ndenominator 1\nmonic m\nepic k\nlemma 1 scale 1\nrow 1 () 1 ()\ncancel 2 m left 1\ncancel 3 k left 2\n\
+          goal scale 1\nrow 1 () lemma 3 ()\nend\n",
         "7 # block 1 refused X2 item 3\n",
     ),
     (
         TWICE,
-        b"cancellation 1\nclaim 1\ndenominator 1\nmonic m\nmonic k'\nlemma 1 scale 1\nrow 1 () 1 ()\ncancel 2 m left 1\ncancel 3 k left 2\ngoal scale 1\nrow 1 () lemma 3 ()\nend\n",
+        b"cancellation 1\nclaim 1\ndenominator 1\nmonic m\nmonic k'\nlemma 1 scale 1\nrow 1 () 1 ()\ncancel 2 m left 1\n\
+          cancel 3 k left 2\ngoal scale 1\nrow 1 () lemma 3 ()\nend\n",
         "7 # block 1 refused X2 item 3\n",
     ),
     (
         TWICE,
-        b"cancellation 1\nclaim 1\ndenominator 1\nmonic m\nmonic k\nlemma 1 scale 1\nrow 1 () 1 ()\ncancel 2 m right 1\ncancel 3 k left 2\ngoal scale 1\nrow 1 () lemma 3 ()\nend\n",
+        b"cancellation 1\nclaim 1\ndenominator 1\nmonic m\nmonic k\nlemma 1 scale 1\nrow 1 () 1 ()\ncancel 2 m right 1\n\
+          cancel 3 k left 2\ngoal scale 1\nrow 1 () lemma 3 ()\nend\n",
         "7 # block 1 refused X2 item 2\n",
     ),
     (
         TWICE,
-        b"cancellation 1\nclaim 1\ndenominator 1\nmonic m\nmonic k\nlemma 1 scale 1\nrow 1 () 1 ()\ncancel 2 x left 1\ncancel 3 k left 2\ngoal scale 1\nrow 1 () lemma 3 ()\nend\n",
+        b"cancellation 1\nclaim 1\ndenominator 1\nmonic m\nmonic k\nlemma 1 scale 1\nrow 1 () 1 ()\ncancel 2 x left 1\ncancel 3 k left 2\n\
+          goal scale 1\nrow 1 () lemma 3 ()\nend\n",
         "7 # block 1 refused X2 item 2\n",
     ),
     (
         TWICE,
-        b"cancellation 1\nclaim 1\ndenominator 1\nmonic k\nlemma 1 scale 1\nrow 1 (x) 1 ()\ncancel 2 m left 1\ncancel 3 k left 2\ngoal scale 1\nrow 1 () lemma 3 ()\nend\n",
+        b"cancellation 1\nclaim 1\ndenominator 1\nmonic k\nlemma 1 scale 1\nrow 1 (x) 1 ()\ncancel 2 m left 1\ncancel 3 k left 2\n\
+          goal scale 1\nrow 1 () lemma 3 ()\nend\n",
         "7 # block 1 refused X2 item 2\n",
     ),
     (
         TWICE,
-        b"cancellation 1\nclaim 1\ndenominator 1\nmonic m\nmonic k\nlemma 1 scale 1\nrow 1 (m) 1 ()\ncancel 2 m left 1\ncancel 3 k left 2\ngoal scale 1\nrow 1 () lemma 3 ()\nend\n",
+        b"cancellation 1\nclaim 1\ndenominator 1\nmonic m\nmonic k\nlemma 1 scale 1\nrow 1 (m) 1 ()\ncancel 2 m left 1\n\
+          cancel 3 k left 2\ngoal scale 1\nrow 1 () lemma 3 ()\nend\n",
         "7 # block 1 refused X3 item 2\n",
     ),
     (
         TWICE,
-        b"cancellation 1\nclaim 1\ndenominator 1\nmonic m\nmonic k\nlemma 1 scale 1\nrow 1 (k) 1 ()\ncancel 2 m left 1\ncancel 3 k left 2\ngoal scale 1\nrow 1 () lemma 3 ()\nend\n",
+        b"cancellation 1\nclaim 1\ndenominator 1\nmonic m\nmonic k\nlemma 1 scale 1\nrow 1 (k) 1 ()\ncancel 2 m left 1\n\
+          cancel 3 k left 2\ngoal scale 1\nrow 1 () lemma 3 ()\nend\n",
         "7 # block 1 refused X3 item 2\n",
     ),
     (
         TWICE,
-        b"cancellation 1\nclaim 1\ndenominator 1\nmonic m\nmonic k\nlemma 1 scale 1\nrow 1 () 1 ()\nrow 1 (m k x) 1 ()\nrow 1 (m) 1 (x)\ncancel 2 m left 1\ncancel 3 k left 2\ngoal scale 1\nrow 1 () lemma 3 ()\nend\n",
+        b"cancellation 1\nclaim 1\ndenominator 1\nmonic m\nmonic k\nlemma 1 scale 1\nrow 1 () 1 ()\nrow 1 (m k x) 1 ()\nrow 1 (m) 1 (x)\n\
+          cancel 2 m left 1\ncancel 3 k left 2\ngoal scale 1\nrow 1 () lemma 3 ()\nend\n",
         "7 # block 1 refused X3 item 2\n",
     ),
     (
         TWICE,
-        b"cancellation 1\nclaim 1\ndenominator 1\nmonic m\nmonic k\nlemma 1 scale 1\nrow 1 () 1 ()\ncancel 2 m left 1\ncancel 3 m left 2\ngoal scale 1\nrow 1 () lemma 3 ()\nend\n",
+        b"cancellation 1\nclaim 1\ndenominator 1\nmonic m\nmonic k\nlemma 1 scale 1\nrow 1 () 1 ()\ncancel 2 m left 1\ncancel 3 m left 2\n\
+          goal scale 1\nrow 1 () lemma 3 ()\nend\n",
         "7 # block 1 refused X4 item 3\n",
     ),
     (
         TWICE,
-        b"cancellation 1\nclaim 1\ndenominator 1\nmonic m\nmonic k\nepic x\nlemma 1 scale 1\nrow 1 () 1 ()\ncancel 2 m left 1\ncancel 3 x right 2\ngoal scale 1\nrow 1 () lemma 3 ()\nend\n",
+        b"cancellation 1\nclaim 1\ndenominator 1\nmonic m\nmonic k\nepic x\nlemma 1 scale 1\nrow 1 () 1 ()\ncancel 2 m left 1\n\
+          cancel 3 x right 2\ngoal scale 1\nrow 1 () lemma 3 ()\nend\n",
         "7 # block 1 refused X4 item 3\n",
     ),
     (
         TWICE,
-        b"cancellation 1\nclaim 1\ndenominator 1\nmonic m\nmonic k\nmonic x\nlemma 1 scale 1\nrow 1 () 1 ()\ncancel 2 m left 1\ncancel 3 k left 2\ncancel 4 x left 3\ngoal scale 1\nrow 1 () lemma 3 ()\nend\n",
+        b"cancellation 1\nclaim 1\ndenominator 1\nmonic m\nmonic k\nmonic x\nlemma 1 scale 1\nrow 1 () 1 ()\ncancel 2 m left 1\n\
+          cancel 3 k left 2\ncancel 4 x left 3\ngoal scale 1\nrow 1 () lemma 3 ()\nend\n",
         "7 # block 1 refused X4 item 4\n",
     ),
     (
         TWICE,
-        b"cancellation 1\nclaim 1\ndenominator 1\nmonic m\nmonic k\nlemma 1 scale 1\nrow 1 () 1 ()\ncancel 2 m left 1\ncancel 3 m left 2\ngoal scale 1\nrow 1 () lemma 9 ()\nend\n",
+        b"cancellation 1\nclaim 1\ndenominator 1\nmonic m\nmonic k\nlemma 1 scale 1\nrow 1 () 1 ()\ncancel 2 m left 1\ncancel 3 m left 2\n\
+          goal scale 1\nrow 1 () lemma 9 ()\nend\n",
         "7 # block 1 refused X4 item 3\n",
     ),
 ];
@@ -324,7 +378,8 @@ pub const LETTERS: &[Row] = &[
 pub const SUMS: &[Row] = &[
     (
         SELF,
-        b"cancellation 1\nclaim 1\ndenominator 1\nmonic h\nmonic h'\nlemma 1 scale 1\nrow 1 () 1 ()\ncancel 2 h left 1\ncancel 3 h right 2\ngoal scale 1\nrow 1 () lemma 3 ()\nend\n",
+        b"cancellation 1\nclaim 1\ndenominator 1\nmonic h\nmonic h'\nlemma 1 scale 1\nrow 1 () 1 ()\ncancel 2 h left 1\n\
+          cancel 3 h right 2\ngoal scale 1\nrow 1 () lemma 3 ()\nend\n",
         "7 # refused K2 line 5\n",
     ),
     (
@@ -339,97 +394,116 @@ pub const SUMS: &[Row] = &[
     ),
     (
         TWICE,
-        b"cancellation 1\nclaim 4\ndenominator 1\nmonic m\nmonic k\nlemma 1 scale 1\nrow 1 () 1 ()\ncancel 2 m left 1\ncancel 3 k left 2\ngoal scale 1\nrow 1 () lemma 3 ()\nend\n",
+        b"cancellation 1\nclaim 4\ndenominator 1\nmonic m\nmonic k\nlemma 1 scale 1\nrow 1 () 1 ()\ncancel 2 m left 1\ncancel 3 k left 2\n\
+          goal scale 1\nrow 1 () lemma 3 ()\nend\n",
         "7 # block 1 refused C1\n",
     ),
     (
         TWICE,
-        b"cancellation 1\nclaim 0\ndenominator 0\nmonic m\nmonic k\nlemma 1 scale 1\nrow 1 () 1 ()\ncancel 2 m left 1\ncancel 3 k left 2\ngoal scale 1\nrow 1 () lemma 3 ()\nend\n",
+        b"cancellation 1\nclaim 0\ndenominator 0\nmonic m\nmonic k\nlemma 1 scale 1\nrow 1 () 1 ()\ncancel 2 m left 1\ncancel 3 k left 2\n\
+          goal scale 1\nrow 1 () lemma 3 ()\nend\n",
         "7 # block 1 refused C1\n",
     ),
     (
         TWICE,
-        b"cancellation 1\nclaim 1\ndenominator 0\nmonic m\nmonic k\nlemma 1 scale 1\nrow 1 () 1 ()\ncancel 2 m left 1\ncancel 3 k left 2\ngoal scale 1\nrow 1 () lemma 3 ()\nend\n",
+        b"cancellation 1\nclaim 1\ndenominator 0\nmonic m\nmonic k\nlemma 1 scale 1\nrow 1 () 1 ()\ncancel 2 m left 1\ncancel 3 k left 2\n\
+          goal scale 1\nrow 1 () lemma 3 ()\nend\n",
         "7 # block 1 refused C3\n",
     ),
     (
         TWICE,
-        b"cancellation 1\nclaim 1\ndenominator 1\nmonic m\nmonic k\nlemma 1 scale 0\nrow 1 () 1 ()\ncancel 2 m left 1\ncancel 3 k left 2\ngoal scale 1\nrow 1 () lemma 3 ()\nend\n",
+        b"cancellation 1\nclaim 1\ndenominator 1\nmonic m\nmonic k\nlemma 1 scale 0\nrow 1 () 1 ()\ncancel 2 m left 1\ncancel 3 k left 2\n\
+          goal scale 1\nrow 1 () lemma 3 ()\nend\n",
         "7 # block 1 refused C3\n",
     ),
     (
         TWICE,
-        b"cancellation 1\nclaim 1\ndenominator 1\nmonic m\nmonic k\nlemma 1 scale 1\nrow 1 () 1 ()\ncancel 2 m left 1\ncancel 3 k left 2\ngoal scale 0\nrow 1 () lemma 3 ()\nend\n",
+        b"cancellation 1\nclaim 1\ndenominator 1\nmonic m\nmonic k\nlemma 1 scale 1\nrow 1 () 1 ()\ncancel 2 m left 1\ncancel 3 k left 2\n\
+          goal scale 0\nrow 1 () lemma 3 ()\nend\n",
         "7 # block 1 refused C3\n",
     ),
     (
         TWICE,
-        b"cancellation 1\nclaim 1\ndenominator 1\nmonic m\nmonic k\nlemma 1 scale 2\nrow 1 () 1 ()\ncancel 2 m left 1\ncancel 3 k left 2\ngoal scale 0\nrow 1 () lemma 3 ()\nend\n",
+        b"cancellation 1\nclaim 1\ndenominator 1\nmonic m\nmonic k\nlemma 1 scale 2\nrow 1 () 1 ()\ncancel 2 m left 1\ncancel 3 k left 2\n\
+          goal scale 0\nrow 1 () lemma 3 ()\nend\n",
         "7 # block 1 refused C3\n",
     ),
     (
         TWICE,
-        b"cancellation 1\nclaim 1\ndenominator 1\nmonic m\nmonic k\nlemma 1 scale 2\nrow 1 () 1 ()\ncancel 2 m left 1\ncancel 3 k left 2\ngoal scale 1\nrow 1 () lemma 3 ()\nend\n",
+        b"cancellation 1\nclaim 1\ndenominator 1\nmonic m\nmonic k\nlemma 1 scale 2\nrow 1 () 1 ()\ncancel 2 m left 1\ncancel 3 k left 2\n\
+          goal scale 1\nrow 1 () lemma 3 ()\nend\n",
         "7 # block 1 refused C10 lemma 1\n",
     ),
     (
         TWICE,
-        b"cancellation 1\nclaim 1\ndenominator 1\nmonic m\nmonic k\nlemma 1 scale 1\nrow 1 () 1 ()\ncancel 2 m left 1\ncancel 3 k left 2\nlemma 4 scale 2\ngoal scale 1\nrow 1 () lemma 3 ()\nend\n",
+        b"cancellation 1\nclaim 1\ndenominator 1\nmonic m\nmonic k\nlemma 1 scale 1\nrow 1 () 1 ()\ncancel 2 m left 1\ncancel 3 k left 2\n\
+          lemma 4 scale 2\ngoal scale 1\nrow 1 () lemma 3 ()\nend\n",
         "7 # block 1 refused C10 lemma 4\n",
     ),
     (
         TWICE,
-        b"cancellation 1\nclaim 1\ndenominator 2\nmonic m\nmonic k\nlemma 1 scale 1\nrow 1 () 1 ()\ncancel 2 m left 1\ncancel 3 k left 2\ngoal scale 3\nrow 1 () lemma 3 ()\nend\n",
+        b"cancellation 1\nclaim 1\ndenominator 2\nmonic m\nmonic k\nlemma 1 scale 1\nrow 1 () 1 ()\ncancel 2 m left 1\ncancel 3 k left 2\n\
+          goal scale 3\nrow 1 () lemma 3 ()\nend\n",
         "7 # block 1 refused C10 lemma 0\n",
     ),
     (
         TWICE,
-        b"cancellation 1\nclaim 1\ndenominator 2\nmonic m\nmonic k\nlemma 1 scale 1\nrow 1 () 1 ()\ncancel 2 m left 1\ncancel 3 k left 2\nlemma 4 scale 5\ngoal scale 3\nrow 1 () lemma 3 ()\nend\n",
+        b"cancellation 1\nclaim 1\ndenominator 2\nmonic m\nmonic k\nlemma 1 scale 1\nrow 1 () 1 ()\ncancel 2 m left 1\ncancel 3 k left 2\n\
+          lemma 4 scale 5\ngoal scale 3\nrow 1 () lemma 3 ()\nend\n",
         "7 # block 1 refused C10 lemma 4\n",
     ),
     (
         TWICE,
-        b"cancellation 1\nclaim 3\ndenominator 3\nmonic m\nmonic k\nlemma 1 scale 1\nrow 1 () 1 ()\ncancel 2 m left 1\ncancel 3 k left 2\ngoal scale 2\nrow 1 () lemma 3 ()\nend\n",
+        b"cancellation 1\nclaim 3\ndenominator 3\nmonic m\nmonic k\nlemma 1 scale 1\nrow 1 () 1 ()\ncancel 2 m left 1\ncancel 3 k left 2\n\
+          goal scale 2\nrow 1 () lemma 3 ()\nend\n",
         "7 # block 1 refused C10 lemma 0\n",
     ),
     (
         TWICE,
-        b"cancellation 1\nclaim 3\ndenominator 2\nmonic m\nmonic k\nlemma 1 scale 1\nrow 1 () 1 ()\ncancel 2 m left 1\ncancel 3 k left 2\ngoal scale 2\nrow 1 () lemma 3 ()\nend\n",
+        b"cancellation 1\nclaim 3\ndenominator 2\nmonic m\nmonic k\nlemma 1 scale 1\nrow 1 () 1 ()\ncancel 2 m left 1\ncancel 3 k left 2\n\
+          goal scale 2\nrow 1 () lemma 3 ()\nend\n",
         "7 # block 1 refused C4 row 0 2 times -170141183460469231731687303715884105727\n",
     ),
     (
         TWICE,
-        b"cancellation 1\nclaim 3\ndenominator 2\nmonic m\nmonic k\nlemma 1 scale 1\nrow 1 () 1 ()\ncancel 2 m left 2\ncancel 3 k left 2\ngoal scale 2\nrow 1 () lemma 3 ()\nend\n",
+        b"cancellation 1\nclaim 3\ndenominator 2\nmonic m\nmonic k\nlemma 1 scale 1\nrow 1 () 1 ()\ncancel 2 m left 2\ncancel 3 k left 2\n\
+          goal scale 2\nrow 1 () lemma 3 ()\nend\n",
         "7 # block 1 refused C4 row 0 2 times -170141183460469231731687303715884105727\n",
     ),
     (
         TWICE,
-        b"cancellation 1\nclaim 1\ndenominator 1\nmonic m\nmonic k\nlemma 1 scale 1\nrow 1 () 0 ()\ncancel 2 m left 1\ncancel 3 k left 2\ngoal scale 1\nrow 1 () lemma 3 ()\nend\n",
+        b"cancellation 1\nclaim 1\ndenominator 1\nmonic m\nmonic k\nlemma 1 scale 1\nrow 1 () 0 ()\ncancel 2 m left 1\ncancel 3 k left 2\n\
+          goal scale 1\nrow 1 () lemma 3 ()\nend\n",
         "7 # block 1 refused C2 row 1\n",
     ),
     (
         TWICE,
-        b"cancellation 1\nclaim 1\ndenominator 1\nmonic m\nmonic k\nlemma 1 scale 1\nrow 1 () 1 ()\nrow 1 () 2 ()\ncancel 2 m left 1\ncancel 3 k left 2\ngoal scale 1\nrow 1 () lemma 3 ()\nend\n",
+        b"cancellation 1\nclaim 1\ndenominator 1\nmonic m\nmonic k\nlemma 1 scale 1\nrow 1 () 1 ()\nrow 1 () 2 ()\ncancel 2 m left 1\n\
+          cancel 3 k left 2\ngoal scale 1\nrow 1 () lemma 3 ()\nend\n",
         "7 # block 1 refused C2 row 2\n",
     ),
     (
         TWICE,
-        b"cancellation 1\nclaim 1\ndenominator 1\nmonic m\nmonic k\nlemma 1 scale 1\nrow 1 () lemma 1 ()\ncancel 2 m left 1\ncancel 3 k left 2\ngoal scale 1\nrow 1 () lemma 3 ()\nend\n",
+        b"cancellation 1\nclaim 1\ndenominator 1\nmonic m\nmonic k\nlemma 1 scale 1\nrow 1 () lemma 1 ()\ncancel 2 m left 1\n\
+          cancel 3 k left 2\ngoal scale 1\nrow 1 () lemma 3 ()\nend\n",
         "7 # block 1 refused C7 row 1\n",
     ),
     (
         TWICE,
-        b"cancellation 1\nclaim 1\ndenominator 1\nmonic m\nmonic k\nlemma 1 scale 1\nrow 1 () 1 ()\ncancel 2 m left 1\ncancel 3 k left 2\ngoal scale 1\nrow 1 () lemma 4 ()\nend\n",
+        b"cancellation 1\nclaim 1\ndenominator 1\nmonic m\nmonic k\nlemma 1 scale 1\nrow 1 () 1 ()\ncancel 2 m left 1\ncancel 3 k left 2\n\
+          goal scale 1\nrow 1 () lemma 4 ()\nend\n",
         "7 # block 1 refused C7 row 2\n",
     ),
     (
         TWICE,
-        b"cancellation 1\nclaim 1\ndenominator 1\nmonic m\nmonic k\nlemma 1 scale 1\nrow 1 () 1 ()\ncancel 2 m left 1\ncancel 3 k left 2\ngoal scale 1\nrow 1 () lemma 3 ()\nrow 1 () lemma 0 ()\nend\n",
+        b"cancellation 1\nclaim 1\ndenominator 1\nmonic m\nmonic k\nlemma 1 scale 1\nrow 1 () 1 ()\ncancel 2 m left 1\ncancel 3 k left 2\n\
+          goal scale 1\nrow 1 () lemma 3 ()\nrow 1 () lemma 0 ()\nend\n",
         "7 # block 1 refused C7 row 3\n",
     ),
     (
         TWICE,
-        b"cancellation 1\nclaim 1\ndenominator 1\nmonic m\nmonic k\nlemma 1 scale 1\nrow 170141183460469231731687303715884105727 () 1 ()\nrow 1 () 1 ()\ncancel 2 m left 1\ncancel 3 k left 2\ngoal scale 1\nrow 1 () lemma 3 ()\nend\n",
+        b"cancellation 1\nclaim 1\ndenominator 1\nmonic m\nmonic k\nlemma 1 scale 1\nrow 170141183460469231731687303715884105727 () 1 ()\n\
+          row 1 () 1 ()\ncancel 2 m left 1\ncancel 3 k left 2\ngoal scale 1\nrow 1 () lemma 3 ()\nend\n",
         "7 # block 1 refused C4 row 2 -170141183460469231731687303715884105727 plus -1\n",
     ),
     (
@@ -439,17 +513,20 @@ pub const SUMS: &[Row] = &[
     ),
     (
         TWICE,
-        b"cancellation 1\nclaim 1\ndenominator 2\nmonic m\nmonic k\nlemma 1 scale 2\nrow 1 () 1 ()\ncancel 2 m left 1\ncancel 3 k left 2\ngoal scale 1\nrow 1 () lemma 3 ()\nend\n",
+        b"cancellation 1\nclaim 1\ndenominator 2\nmonic m\nmonic k\nlemma 1 scale 2\nrow 1 () 1 ()\ncancel 2 m left 1\ncancel 3 k left 2\n\
+          goal scale 1\nrow 1 () lemma 3 ()\nend\n",
         "7 # block 1 refused C8 lemma 1 word m k x got 1\n",
     ),
     (
         TWICE,
-        b"cancellation 1\nclaim 1\ndenominator 2\nmonic m\nmonic k\nlemma 1 scale 1\nrow 1 () 1 ()\ncancel 2 m left 1\ncancel 3 k left 2\nlemma 4 scale 2\nrow 1 () lemma 3 ()\ngoal scale 1\nrow 1 () lemma 3 ()\nend\n",
+        b"cancellation 1\nclaim 1\ndenominator 2\nmonic m\nmonic k\nlemma 1 scale 1\nrow 1 () 1 ()\ncancel 2 m left 1\ncancel 3 k left 2\n\
+          lemma 4 scale 2\nrow 1 () lemma 3 ()\ngoal scale 1\nrow 1 () lemma 3 ()\nend\n",
         "7 # block 1 refused C8 lemma 4 word x got 1\n",
     ),
     (
         TWICE,
-        b"cancellation 1\nclaim 1\ndenominator 1\nmonic m\nmonic k\nlemma 1 scale 1\nrow 1 () 1 ()\ncancel 2 m left 1\ncancel 3 k left 2\ngoal scale 1\nrow 1 () lemma 2 ()\nend\n",
+        b"cancellation 1\nclaim 1\ndenominator 1\nmonic m\nmonic k\nlemma 1 scale 1\nrow 1 () 1 ()\ncancel 2 m left 1\ncancel 3 k left 2\n\
+          goal scale 1\nrow 1 () lemma 2 ()\nend\n",
         "7 # block 1 refused C6 word x want 1 got 0\n",
     ),
     (
@@ -463,127 +540,161 @@ pub const SUMS: &[Row] = &[
 pub const LINES: &[Row] = &[
     (
         TWICE,
-        b"cancellation 1\nclaim 1\ndenominator 1\nmonic m\nlemma 1 scale 1\nmonic k\nrow 1 () 1 ()\ncancel 2 m left 1\ncancel 3 k left 2\ngoal scale 1\nrow 1 () lemma 3 ()\nend\n",
+        b"cancellation 1\nclaim 1\ndenominator 1\nmonic m\nlemma 1 scale 1\nmonic k\nrow 1 () 1 ()\ncancel 2 m left 1\ncancel 3 k left 2\n\
+          goal scale 1\nrow 1 () lemma 3 ()\nend\n",
         "7 # refused K2 line 6\n",
     ),
     (
         TWICE,
-        b"cancellation 1\nclaim 1\ndenominator 1\nmonic m\nmonic k\nrow 1 () 1 ()\ncancel 2 m left 1\ncancel 3 k left 2\ngoal scale 1\nrow 1 () lemma 3 ()\nend\n",
+        b"cancellation 1\nclaim 1\ndenominator 1\nmonic m\nmonic k\nrow 1 () 1 ()\ncancel 2 m left 1\ncancel 3 k left 2\ngoal scale 1\n\
+          row 1 () lemma 3 ()\nend\n",
         "7 # refused K2 line 6\n",
     ),
     (
         TWICE,
-        b"cancellation 1\nclaim 1\ndenominator 1\nmonic m\nmonic k\nlemma 1 scale 1\nrow 1 () 1 ()\ncancel 2 m left 1\nrow 1 () 1 ()\ncancel 3 k left 2\ngoal scale 1\nrow 1 () lemma 3 ()\nend\n",
+        b"cancellation 1\nclaim 1\ndenominator 1\nmonic m\nmonic k\nlemma 1 scale 1\nrow 1 () 1 ()\ncancel 2 m left 1\nrow 1 () 1 ()\n\
+          cancel 3 k left 2\ngoal scale 1\nrow 1 () lemma 3 ()\nend\n",
         "7 # refused K2 line 9\n",
     ),
     (
         TWICE,
-        b"cancellation 1\nclaim 1\ndenominator 1\nmonic m\nmonic k\nlemma 1 scale 1\nrow 1 () 1 ()\ncancel 2 m left 1\ncancel 3 k left 2\ngoal scale 1\nrow 1 () lemma 3 ()\ncancel 4 m left 1\nend\n",
+        b"cancellation 1\nclaim 1\ndenominator 1\nmonic m\nmonic k\nlemma 1 scale 1\nrow 1 () 1 ()\ncancel 2 m left 1\ncancel 3 k left 2\n\
+          goal scale 1\nrow 1 () lemma 3 ()\ncancel 4 m left 1\nend\n",
         "7 # refused K2 line 12\n",
     ),
     (
         TWICE,
-        b"cancellation 1\nclaim 1\ndenominator 1\nmonic m\nmonic k\nlemma 1 scale 1\nrow 1 () 1 ()\ncancel 2 m left 1\ncancel 3 k left 2\ngoal scale 1\nrow 1 () lemma 3 ()\ngoal scale 1\nend\n",
+        b"cancellation 1\nclaim 1\ndenominator 1\nmonic m\nmonic k\nlemma 1 scale 1\nrow 1 () 1 ()\ncancel 2 m left 1\ncancel 3 k left 2\n\
+          goal scale 1\nrow 1 () lemma 3 ()\ngoal scale 1\nend\n",
         "7 # refused K2 line 12\n",
     ),
     (
         TWICE,
-        b"cancellation 1\nclaim 1\ndenominator 1\nmonic m\nmonic k\nlemma 1 scale 1\nrow 1 () 1 ()\ncancel 2 m left 1\ncancel 3 k left 2\nrow 1 () lemma 3 ()\nend\n",
+        b"cancellation 1\nclaim 1\ndenominator 1\nmonic m\nmonic k\nlemma 1 scale 1\nrow 1 () 1 ()\ncancel 2 m left 1\ncancel 3 k left 2\n\
+          row 1 () lemma 3 ()\nend\n",
         "7 # refused K2 line 10\n",
     ),
     (
         TWICE,
-        b"cancellation 1\nclaim 1\ndenominator 1\nmonic m\nmonic k\nlemma 1 scale 1\nrow 1 () 1 ()\ncancel 2 m left 1\ncancel 2 k left 2\ngoal scale 1\nrow 1 () lemma 3 ()\nend\n",
+        b"cancellation 1\nclaim 1\ndenominator 1\nmonic m\nmonic k\nlemma 1 scale 1\nrow 1 () 1 ()\ncancel 2 m left 1\ncancel 2 k left 2\n\
+          goal scale 1\nrow 1 () lemma 3 ()\nend\n",
         "7 # refused K2 line 9\n",
     ),
     (
         TWICE,
-        b"cancellation 1\nclaim 1\ndenominator 1\nmonic m\nmonic k\nlemma 1 scale 1\nrow 1 () 1 ()\ncancel 2 m left 1\ncancel 4294967297 k left 2\ngoal scale 1\nrow 1 () lemma 3 ()\nend\n",
+        b"cancellation 1\nclaim 1\ndenominator 1\nmonic m\nmonic k\nlemma 1 scale 1\nrow 1 () 1 ()\ncancel 2 m left 1\n\
+          cancel 4294967297 k left 2\ngoal scale 1\nrow 1 () lemma 3 ()\nend\n",
         "7 # refused K2 line 9\n",
     ),
     (
         TWICE,
-        b"cancellation 1\nclaim 1\ndenominator 1\nmonic m\nmonic k\nlemma 1 scale 1\nrow 1 () 1 ()\ncancel 2 m left 1\ncancel 3 k left 2\nlemma 2 scale 1\ngoal scale 1\nrow 1 () lemma 3 ()\nend\n",
+        b"cancellation 1\nclaim 1\ndenominator 1\nmonic m\nmonic k\nlemma 1 scale 1\nrow 1 () 1 ()\ncancel 2 m left 1\ncancel 3 k left 2\n\
+          lemma 2 scale 1\ngoal scale 1\nrow 1 () lemma 3 ()\nend\n",
         "7 # refused K2 line 10\n",
     ),
     (
         TWICE,
-        b"cancellation 1\nclaim 1\ndenominator 1\nmonic m\nmonic k\nlemma 1 scale 1\nrow 1 () 1 ()\ncancel 2 m LEFT 1\ncancel 3 k left 2\ngoal scale 1\nrow 1 () lemma 3 ()\nend\n",
+        b"cancellation 1\nclaim 1\ndenominator 1\nmonic m\nmonic k\nlemma 1 scale 1\nrow 1 () 1 ()\ncancel 2 m LEFT 1\ncancel 3 k left 2\n\
+          goal scale 1\nrow 1 () lemma 3 ()\nend\n",
         "7 # refused K2 line 8\n",
     ),
     (
         TWICE,
-        b"cancellation 1\nclaim 1\ndenominator 1\nmonic m\nmonic k\nlemma 1 scale 1\nrow 1 () 1 ()\ncancel 2 m left 1 1\ncancel 3 k left 2\ngoal scale 1\nrow 1 () lemma 3 ()\nend\n",
+        b"cancellation 1\nclaim 1\ndenominator 1\nmonic m\nmonic k\nlemma 1 scale 1\nrow 1 () 1 ()\ncancel 2 m left 1 1\n\
+          cancel 3 k left 2\ngoal scale 1\nrow 1 () lemma 3 ()\nend\n",
         "7 # refused K2 line 8\n",
     ),
     (
         TWICE,
-        b"cancellation 1\nclaim 1\ndenominator 1\nmonic m\nmonic k\nlemma 1 scale 1\nrow 1 () 1 ()\ncancel 2 m left -1\ncancel 3 k left 2\ngoal scale 1\nrow 1 () lemma 3 ()\nend\n",
+        b"cancellation 1\nclaim 1\ndenominator 1\nmonic m\nmonic k\nlemma 1 scale 1\nrow 1 () 1 ()\ncancel 2 m left -1\n\
+          cancel 3 k left 2\ngoal scale 1\nrow 1 () lemma 3 ()\nend\n",
         "7 # refused K2 line 8\n",
     ),
     (
         TWICE,
-        b"cancellation 1\nclaim 1\ndenominator 1\nmonic m\nmonic k\nlemma 1 scale 1\nrow 1 () 1 ()\ncancel 2 m left 4294967296\ncancel 3 k left 2\ngoal scale 1\nrow 1 () lemma 3 ()\nend\n",
+        b"cancellation 1\nclaim 1\ndenominator 1\nmonic m\nmonic k\nlemma 1 scale 1\nrow 1 () 1 ()\ncancel 2 m left 4294967296\n\
+          cancel 3 k left 2\ngoal scale 1\nrow 1 () lemma 3 ()\nend\n",
         "7 # refused K4 line 8\n",
     ),
     (
         TWICE,
-        b"cancellation 1\nclaim 1\ndenominator 1\nmonic m\nmonic [P]\nlemma 1 scale 1\nrow 1 () 1 ()\ncancel 2 m left 1\ncancel 3 k left 2\ngoal scale 1\nrow 1 () lemma 3 ()\nend\n",
+        b"cancellation 1\nclaim 1\ndenominator 1\nmonic m\nmonic [P]\nlemma 1 scale 1\nrow 1 () 1 ()\ncancel 2 m left 1\n\
+          cancel 3 k left 2\ngoal scale 1\nrow 1 () lemma 3 ()\nend\n",
         "7 # refused K2 line 5\n",
     ),
     (
         TWICE,
-        b"cancellation 1\nclaim 1\ndenominator 1\nmonic m\nmonic P\nlemma 1 scale 1\nrow 1 () 1 ()\ncancel 2 m left 1\ncancel 3 k left 2\ngoal scale 1\nrow 1 () lemma 3 ()\nend\n",
+        b"cancellation 1\nclaim 1\ndenominator 1\nmonic m\nmonic P\nlemma 1 scale 1\nrow 1 () 1 ()\ncancel 2 m left 1\ncancel 3 k left 2\n\
+          goal scale 1\nrow 1 () lemma 3 ()\nend\n",
         "7 # refused K3 line 5\n",
     ),
     (
         TWICE,
-        b"cancellation 1\nclaim 1\ndenominator 1\nmonic m\nmonic z\nlemma 1 scale 1\nrow 1 () 1 ()\ncancel 2 m left 1\ncancel 3 k left 2\ngoal scale 1\nrow 1 () lemma 3 ()\nend\n",
+        b"cancellation 1\nclaim 1\ndenominator 1\nmonic m\nmonic z\nlemma 1 scale 1\nrow 1 () 1 ()\ncancel 2 m left 1\ncancel 3 k left 2\n\
+          goal scale 1\nrow 1 () lemma 3 ()\nend\n",
         "7 # refused K3 line 5\n",
     ),
     (
         TWICE,
-        b"cancellation 1\nclaim 1\ndenominator 1\nmonic m\nmonic k''\nlemma 1 scale 1\nrow 1 () 1 ()\ncancel 2 m left 1\ncancel 3 k left 2\ngoal scale 1\nrow 1 () lemma 3 ()\nend\n",
+        b"cancellation 1\nclaim 1\ndenominator 1\nmonic m\nmonic k''\nlemma 1 scale 1\nrow 1 () 1 ()\ncancel 2 m left 1\n\
+          cancel 3 k left 2\ngoal scale 1\nrow 1 () lemma 3 ()\nend\n",
         "7 # refused K2 line 5\n",
     ),
     (
         TWICE,
-        b"cancellation 1\nclaim 1\ndenominator 1\nmonic m\nmonic m\nlemma 1 scale 1\nrow 1 () 1 ()\ncancel 2 m left 1\ncancel 3 k left 2\ngoal scale 1\nrow 1 () lemma 3 ()\nend\n",
+        b"cancellation 1\nclaim 1\ndenominator 1\nmonic m\nmonic m\nlemma 1 scale 1\nrow 1 () 1 ()\ncancel 2 m left 1\ncancel 3 k left 2\n\
+          goal scale 1\nrow 1 () lemma 3 ()\nend\n",
         "7 # refused K2 line 5\n",
     ),
     (
         TWICE,
-        b"cancellation 1\nclaim 1\ndenominator 1\nmonic m\nmonic k\nlemma 1 scale 1\nrow 1 () 1 ()\ncancel 2 m left 1\ncancel 3 [P] left 2\ngoal scale 1\nrow 1 () lemma 3 ()\nend\n",
+        b"cancellation 1\nclaim 1\ndenominator 1\nmonic m\nmonic k\nlemma 1 scale 1\nrow 1 () 1 ()\ncancel 2 m left 1\n\
+          cancel 3 [P] left 2\ngoal scale 1\nrow 1 () lemma 3 ()\nend\n",
         "7 # refused K2 line 9\n",
     ),
     (
         TWICE,
-        b"cancellation 1\nclaim 1\ndenominator 1\nmonic m\nmonic k\nlemma 1 scale 1\nrow 1 () 1 ()\ncancel 2 m left 1\ncancel 3 P left 2\ngoal scale 1\nrow 1 () lemma 3 ()\nend\n",
+        b"cancellation 1\nclaim 1\ndenominator 1\nmonic m\nmonic k\nlemma 1 scale 1\nrow 1 () 1 ()\ncancel 2 m left 1\ncancel 3 P left 2\n\
+          goal scale 1\nrow 1 () lemma 3 ()\nend\n",
         "7 # refused K3 line 9\n",
     ),
     (
         TWICE,
-        b"cancellation 1\nclaim 1\ndenominator 1\nmonic m\nmonic k\nlemma 1 scale 1\nrow 1 () 1 ()\ncancel 2 m left 1\ncancel 3 z left 4294967296\ngoal scale 1\nrow 1 () lemma 3 ()\nend\n",
+        b"cancellation 1\nclaim 1\ndenominator 1\nmonic m\nmonic k\nlemma 1 scale 1\nrow 1 () 1 ()\ncancel 2 m left 1\n\
+          cancel 3 z left 4294967296\ngoal scale 1\nrow 1 () lemma 3 ()\nend\n",
         "7 # refused K3 line 9\n",
     ),
     (
         TWICE,
-        b"cancellation 1\nclaim 1\ndenominator 1\nmonic m k\nmonic k\nlemma 1 scale 1\nrow 1 () 1 ()\ncancel 2 m left 1\ncancel 3 k left 2\ngoal scale 1\nrow 1 () lemma 3 ()\nend\n",
+        b"cancellation 1\nclaim 1\ndenominator 1\nmonic m k\nmonic k\nlemma 1 scale 1\nrow 1 () 1 ()\ncancel 2 m left 1\n\
+          cancel 3 k left 2\ngoal scale 1\nrow 1 () lemma 3 ()\nend\n",
         "7 # refused K2 line 4\n",
     ),
     (
         TWICE,
-        b"cancellation 1\nclaim 1\ndenominator 1\nmonic m\nmonic k\nlemma 1 scale -1\nrow 1 () 1 ()\ncancel 2 m left 1\ncancel 3 k left 2\ngoal scale 1\nrow 1 () lemma 3 ()\nend\n",
+        b"cancellation 1\nclaim 1\ndenominator 1\nmonic m\nmonic k\nlemma 1 scale -1\nrow 1 () 1 ()\ncancel 2 m left 1\n\
+          cancel 3 k left 2\ngoal scale 1\nrow 1 () lemma 3 ()\nend\n",
         "7 # refused K2 line 6\n",
     ),
     (
         TWICE,
-        b"cancellation 1\nclaim 1\ndenominator 1\nmonic m\nmonic k\nlemma 1 scale 170141183460469231731687303715884105728\nrow 1 () 1 ()\ncancel 2 m left 1\ncancel 3 k left 2\ngoal scale 1\nrow 1 () lemma 3 ()\nend\n",
+        b"cancellation 1\nclaim 1\ndenominator 1\nmonic m\nmonic k\nlemma 1 scale 170141183460469231731687303715884105728\nrow 1 () 1 ()\n\
+          cancel 2 m left 1\ncancel 3 k left 2\ngoal scale 1\nrow 1 () lemma 3 ()\nend\n",
         "7 # refused K4 line 6\n",
     ),
     (
         TWICE,
-        b"cancellation 1\nclaim 1\ndenominator 1\nmonic m\nmonic k\nlemma 1 scale 1\nrow 1 (x x x x x x x x x x x x x x x x x x x x x x x x x x x x x x x x x x x x x x x x x x x x x x x x x x x x x x x x x x x x x x x x x x x x x x x x x x x x x x x x x x x x x x x x x x x x x x x x x x x x x x x x x x x x x x x x x x x x x x x x x x x x x x x x x x x x x x x x x x x x x x x x x x x x x x x x x x x x x x x x x x x x x x x x x x x x x x x x x x x x x x x x x x x x x x x x x x x x x x x x x x x x x x x x x x x x x x x x x x x x x x x x x x x x x x x x x x x x x x x x x x x x x x x x x x x x x x x x x x x x x x x x x x x x x x x x x x x x x x x x x x x x x x x x x x x x x x x x x x x x x x x x x x x x x x x x x x x x x x x x x x x x x x x x x x x x x x x x x x x x x x x x x x x x x x x x x x x x x x x x x x x x x x x x x x x x x x x x x x x x x x x x x x x x x x x x x x x x x x x x x x x x x x x x x x x x x x x x x x x x x x x x x x x x x x x x x x x x x x x x x x x x x x x x x x x x x x x x x x x x x x x x x x x x x x x x x x x x x x x x x x x x x x x x x x x x x x x x x x x x x) 1 ()\ncancel 2 m left 1\ncancel 3 k left 2\ngoal scale 1\nrow 1 () lemma 3 ()\nend\n",
+        b"cancellation 1\nclaim 1\ndenominator 1\nmonic m\nmonic k\nlemma 1 scale 1\n\
+          row 1 (x x x x x x x x x x x x x x x x x x x x x x x x x x x x x x x x x x x x x x x x x x x x x x x x x x x x x x x x \
+          x x x x x x x x x x x x x x x x x x x x x x x x x x x x x x x x x x x x x x x x x x x x x x x x x x x x x x x x x x x x \
+          x x x x x x x x x x x x x x x x x x x x x x x x x x x x x x x x x x x x x x x x x x x x x x x x x x x x x x x x x x x x \
+          x x x x x x x x x x x x x x x x x x x x x x x x x x x x x x x x x x x x x x x x x x x x x x x x x x x x x x x x x x x x \
+          x x x x x x x x x x x x x x x x x x x x x x x x x x x x x x x x x x x x x x x x x x x x x x x x x x x x x x x x x x x x \
+          x x x x x x x x x x x x x x x x x x x x x x x x x x x x x x x x x x x x x x x x x x x x x x x x x x x x x x x x x x x x \
+          x x x x x x x x x x x x x x x x x x x x x x x x x x x x x x x x x x x x x x x x x x x x x x x x x x x x x x x x x x x x \
+          x x x x x x x x x x x x x x x x x x x x x x x x x x x x x x x x x x x x x x x x x x x x x x x x x x x x x x x x x x x x \
+          x x x x x x x x x x x x x x x x x x x x x x x x x) 1 ()\ncancel 2 m left 1\ncancel 3 k left 2\ngoal scale 1\n\
+          row 1 () lemma 3 ()\nend\n",
         "7 # refused K5 line 7 limit 500\n",
     ),
 ];
@@ -592,32 +703,38 @@ pub const LINES: &[Row] = &[
 pub const TEXTS: &[Row] = &[
     (
         TWICE,
-        b"cancellation 1\r\nclaim 1\r\ndenominator 1\r\nmonic m\r\nmonic k\r\n# a comment\r\nlemma 1 scale 1\r\nrow 1 () 1 ()\r\ncancel 2 m left 1\r\ncancel  03 k\tleft  02 \r\ngoal scale 1\r\nrow 1 () lemma 3 ()\r\nend\r\n",
+        b"cancellation 1\r\nclaim 1\r\ndenominator 1\r\nmonic m\r\nmonic k\r\n# a comment\r\nlemma 1 scale 1\r\nrow 1 () 1 ()\r\n\
+          cancel 2 m left 1\r\ncancel  03 k\tleft  02 \r\ngoal scale 1\r\nrow 1 () lemma 3 ()\r\nend\r\n",
         "0 # block 1 accepted claim 1 denominator 1 monic m k\n",
     ),
     (
         TWICE,
-        b"cancellation 2\nclaim 1\ndenominator 1\nmonic m\nmonic k\nlemma 1 scale 1\nrow 1 () 1 ()\ncancel 2 m left 1\ncancel 3 k left 2\ngoal scale 1\nrow 1 () lemma 3 ()\nend\n",
+        b"cancellation 2\nclaim 1\ndenominator 1\nmonic m\nmonic k\nlemma 1 scale 1\nrow 1 () 1 ()\ncancel 2 m left 1\ncancel 3 k left 2\n\
+          goal scale 1\nrow 1 () lemma 3 ()\nend\n",
         "7 # refused K2 line 1\n",
     ),
     (
         TWICE,
-        b"cancellation 01\nclaim 1\ndenominator 1\nmonic m\nmonic k\nlemma 1 scale 1\nrow 1 () 1 ()\ncancel 2 m left 1\ncancel 3 k left 2\ngoal scale 1\nrow 1 () lemma 3 ()\nend\n",
+        b"cancellation 01\nclaim 1\ndenominator 1\nmonic m\nmonic k\nlemma 1 scale 1\nrow 1 () 1 ()\ncancel 2 m left 1\n\
+          cancel 3 k left 2\ngoal scale 1\nrow 1 () lemma 3 ()\nend\n",
         "7 # refused K2 line 1\n",
     ),
     (
         TWICE,
-        b"chain 1\nend\ncancellation 1\nclaim 1\ndenominator 1\nmonic m\nmonic k\nlemma 1 scale 1\nrow 1 () 1 ()\ncancel 2 m left 1\ncancel 3 k left 2\ngoal scale 1\nrow 1 () lemma 3 ()\nend\n",
+        b"chain 1\nend\ncancellation 1\nclaim 1\ndenominator 1\nmonic m\nmonic k\nlemma 1 scale 1\nrow 1 () 1 ()\ncancel 2 m left 1\n\
+          cancel 3 k left 2\ngoal scale 1\nrow 1 () lemma 3 ()\nend\n",
         "7 # refused K2 line 1\n",
     ),
     (
         TWICE,
-        b"cancellation 1\nclaim 1\ndenominator 1\nmonic m\nmonic k\nlemma 1 scale 1\nrow 1 () 1 ()\ncancel 2 m left 1\ncancel 3 k left 2\ngoal scale 1\nrow 1 () lemma 3 ()\n",
+        b"cancellation 1\nclaim 1\ndenominator 1\nmonic m\nmonic k\nlemma 1 scale 1\nrow 1 () 1 ()\ncancel 2 m left 1\ncancel 3 k left 2\n\
+          goal scale 1\nrow 1 () lemma 3 ()\n",
         "7 # refused K6\n",
     ),
     (
         TWICE,
-        b"cancellation 1\nclaim 1\ndenominator 1\nmonic m\nmonic k\nlemma 1 scale 1\nrow 1 () 1 ()\ncancel 2 m left 1\ncancel 3 k left 2\ngoal scale 1\nrow 1 () lemma 3 ()\nend\nbasis 1\nclaim 1\n",
+        b"cancellation 1\nclaim 1\ndenominator 1\nmonic m\nmonic k\nlemma 1 scale 1\nrow 1 () 1 ()\ncancel 2 m left 1\ncancel 3 k left 2\n\
+          goal scale 1\nrow 1 () lemma 3 ()\nend\nbasis 1\nclaim 1\n",
         "7 # refused K6\n",
     ),
     (
@@ -627,17 +744,23 @@ pub const TEXTS: &[Row] = &[
     ),
     (
         TWICE,
-        b"cancellation 1\nclaim 1\ndenominator 1\nmonic m\nmonic k\nlemma 1 scale 1\nrow 1 () 1 ()\ncancel 2 m left 1\ncancel 3 k left 2\ngoal scale 1\nrow 1 () lemma 3 ()\nend\ncancellation 1\nclaim 1\ndenominator 1\nmonic m\nmonic k\nlemma 1 scale 1\nrow 1 () 1 ()\ncancel 2 m left 1\ncancel 3 k right 2\ngoal scale 1\nrow 1 () lemma 3 ()\nend\n",
+        b"cancellation 1\nclaim 1\ndenominator 1\nmonic m\nmonic k\nlemma 1 scale 1\nrow 1 () 1 ()\ncancel 2 m left 1\ncancel 3 k left 2\n\
+          goal scale 1\nrow 1 () lemma 3 ()\nend\ncancellation 1\nclaim 1\ndenominator 1\nmonic m\nmonic k\nlemma 1 scale 1\n\
+          row 1 () 1 ()\ncancel 2 m left 1\ncancel 3 k right 2\ngoal scale 1\nrow 1 () lemma 3 ()\nend\n",
         "7 # block 1 accepted claim 1 denominator 1 monic m k\n# block 2 refused X2 item 3\n",
     ),
     (
         TWICE,
-        b"cancellation 1\nclaim 1\ndenominator 1\nmonic m\nmonic k\nlemma 1 scale 1\nrow 1 () 1 ()\ncancel 2 m left 1\ncancel 3 k left 2\ngoal scale 1\nrow 1 () lemma 3 ()\nend\ncancellation 1\nclaim 2\ndenominator 1\nmonic m\nmonic k\nlemma 1 scale 1\nrow 1 () 1 ()\ncancel 2 m left 1\ncancel 3 k left 2\ngoal scale 1\nrow 2 () lemma 3 ()\nend\ncertificate 1\n?? ((\nend\n",
+        b"cancellation 1\nclaim 1\ndenominator 1\nmonic m\nmonic k\nlemma 1 scale 1\nrow 1 () 1 ()\ncancel 2 m left 1\ncancel 3 k left 2\n\
+          goal scale 1\nrow 1 () lemma 3 ()\nend\ncancellation 1\nclaim 2\ndenominator 1\nmonic m\nmonic k\nlemma 1 scale 1\n\
+          row 1 () 1 ()\ncancel 2 m left 1\ncancel 3 k left 2\ngoal scale 1\nrow 2 () lemma 3 ()\nend\ncertificate 1\n?? ((\nend\n",
         "0 # block 1 accepted claim 1 denominator 1 monic m k\n# block 2 accepted claim 2 denominator 1 monic m k\n",
     ),
     (
         TWICE,
-        b"cancellation 1\nclaim 1\ndenominator 1\nmonic m\nlemma 1 scale 1\nrow 1 () 1 ()\ncancel 2 m left 1\ncancel 3 k left 2\ngoal scale 1\nrow 1 () lemma 3 ()\nend\ncancellation 1\nclaim 1\ndenominator 1\nmonic m\nmonic z\nlemma 1 scale 1\nrow 1 () 1 ()\ncancel 2 m left 1\ncancel 3 k left 2\ngoal scale 1\nrow 1 () lemma 3 ()\nend\n",
+        b"cancellation 1\nclaim 1\ndenominator 1\nmonic m\nlemma 1 scale 1\nrow 1 () 1 ()\ncancel 2 m left 1\ncancel 3 k left 2\n\
+          goal scale 1\nrow 1 () lemma 3 ()\nend\ncancellation 1\nclaim 1\ndenominator 1\nmonic m\nmonic z\nlemma 1 scale 1\n\
+          row 1 () 1 ()\ncancel 2 m left 1\ncancel 3 k left 2\ngoal scale 1\nrow 1 () lemma 3 ()\nend\n",
         "7 # refused K3 line 16\n",
     ),
 ];
@@ -660,7 +783,8 @@ const LARGE: &[Part] = &[
 ];
 
 const TWO_MAPS: &[Part] = &[Plain(
-    "object P Q R\nmap k : P -> Q\nmap m : Q -> R\nmap x y : P -> P\nassume m k x = m k y\nclaim x = y\nclaim 2 x = 2 y\nclaim 170141183460469231731687303715884105727 x = 170141183460469231731687303715884105727 y\n",
+    "object P Q R\nmap k : P -> Q\nmap m : Q -> R\nmap x y : P -> P\nassume m k x = m k y\nclaim x = y\nclaim 2 x = 2 y\n\
+     claim 170141183460469231731687303715884105727 x = 170141183460469231731687303715884105727 y\n",
 )];
 
 const HEAD: Part = Plain("cancellation 1\nclaim 1\ndenominator 1\n");
@@ -672,7 +796,8 @@ const GOAL: Part = Plain("goal scale 1\n");
 const END: Part = Plain("end\n");
 
 const WHOLE_TEXT: &str =
-    "cancellation 1\nclaim 1\ndenominator 1\nmonic m\nmonic k\nlemma 1 scale 1\nrow 1 () 1 ()\ncancel 2 m left 1\ncancel 3 k left 2\ngoal scale 1\nrow 1 () lemma 3 ()\nend\n";
+    "cancellation 1\nclaim 1\ndenominator 1\nmonic m\nmonic k\nlemma 1 scale 1\nrow 1 () 1 ()\ncancel 2 m left 1\ncancel 3 k left 2\n\
+     goal scale 1\nrow 1 () lemma 3 ()\nend\n";
 
 const OTHER: &[Part] = &[Plain("7 # block 1 refused C6 word x want 1 got 0\n")];
 

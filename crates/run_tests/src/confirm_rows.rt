@@ -682,7 +682,8 @@ pub const SHARP: &[Row] = &[
     ),
     (
         BETWEEN,
-        b"basis 1\nclaim 1\nrule f h g - g\nrule g g\nrest h g\nend\nbasis 1\nclaim 1\nrule f h g - g\nrest h g\nend\nbasis 1\nclaim 3\nrule f h g - g\nrest - h g + h f\nend\n",
+        b"basis 1\nclaim 1\nrule f h g - g\nrule g g\nrest h g\nend\nbasis 1\nclaim 1\nrule f h g - g\nrest h g\nend\nbasis 1\nclaim 3\n\
+          rule f h g - g\nrest - h g + h f\nend\n",
         "0 # block 1 closed claim 1\n# block 2 closed claim 1 sharp\n# block 3 closed claim 3 sharp\n",
     ),
 ];
@@ -721,22 +722,26 @@ pub const BLOCKS: &[Row] = &[
     ),
     (
         INVERSE,
-        b"# claim 1 not derivable rules 7\nbasis 1\nclaim 1\nrule [X] [X] - [X]\nrule m [X] - m\nrule [X] n - n\nrule [Y] [Y] - [Y]\nrule [Y] m - m\nrule n m - [X]\nrest m n - [Y]\nend\n",
+        b"# claim 1 not derivable rules 7\nbasis 1\nclaim 1\nrule [X] [X] - [X]\nrule m [X] - m\nrule [X] n - n\nrule [Y] [Y] - [Y]\n\
+          rule [Y] m - m\nrule n m - [X]\nrest m n - [Y]\nend\n",
         "7 # block 1 refused B3 generator 7 rest n [Y] - n\n",
     ),
     (
         INVERSE,
-        b"# claim 1 not derivable rules 7\nbasis 1\nclaim 1\nrule [X] [X] - [X]\nrule m [X] - m\nrule [X] n - n\nrule [Y] [Y] - [Y]\nrule [Y] m - m\nrule n [Y] - n\nrule n m - [X]\nrule m n m - m\nrest m n - [Y]\nend\n",
+        b"# claim 1 not derivable rules 7\nbasis 1\nclaim 1\nrule [X] [X] - [X]\nrule m [X] - m\nrule [X] n - n\nrule [Y] [Y] - [Y]\n\
+          rule [Y] m - m\nrule n [Y] - n\nrule n m - [X]\nrule m n m - m\nrest m n - [Y]\nend\n",
         "0 # block 1 closed claim 1 sharp\n",
     ),
     (
         INVERSE,
-        b"# claim 1 not derivable rules 7\nbasis 1\nclaim 1\nrule [X] [X] - [X]\nrule m [X] - m\nrule [X] n - n\nrule [Y] [Y] - [Y]\nrule [Y] m - m\nrule n [Y] - n\nrule n m - [X]\nrest - m n + [Y]\nend\n",
+        b"# claim 1 not derivable rules 7\nbasis 1\nclaim 1\nrule [X] [X] - [X]\nrule m [X] - m\nrule [X] n - n\nrule [Y] [Y] - [Y]\n\
+          rule [Y] m - m\nrule n [Y] - n\nrule n m - [X]\nrest - m n + [Y]\nend\n",
         "7 # block 1 refused B5 got m n - [Y]\n",
     ),
     (
         INVERSE,
-        b"# claim 1 not derivable rules 7\nbasis 1\nclaim 1\nrule [X] [X] - [X]\nrule m [X] - m\nrule [X] n - n\nrule [Y] [Y] - [Y]\nrule [Y] m - m\nrule n [Y] - n\nrule n m - [X]\nrest [Y] - m n\nend\n",
+        b"# claim 1 not derivable rules 7\nbasis 1\nclaim 1\nrule [X] [X] - [X]\nrule m [X] - m\nrule [X] n - n\nrule [Y] [Y] - [Y]\n\
+          rule [Y] m - m\nrule n [Y] - n\nrule n m - [X]\nrest [Y] - m n\nend\n",
         "7 # refused K2 line 11\n",
     ),
 ];

@@ -44,11 +44,13 @@ pub const TWO_CANDIDATES: &[u8] = b"object U\nmap a : U -> U\nclaim a = a\nmodel
 pub const INNER: &[u8] =
     b"object U V\nmap a : U -> V\nmap x : V -> U\ninner a x\nclaim x a x = x\nmodel 7 U 2 V 2\n";
 
-const BRACKETS_64: &[u8] =
-    b"object U\nmap a : U -> U\nclaim ((((((((((((((((((((((((((((((((((((((((((((((((((((((((((((((((a)))))))))))))))))))))))))))))))))))))))))))))))))))))))))))))))) = a\n";
+const BRACKETS_64: &[u8] = b"object U\nmap a : U -> U\nclaim \
+      ((((((((((((((((((((((((((((((((((((((((((((((((((((((((((((((((a)))))))))))))))))))))))))))))))))))))))))))))))))))))))))))))))) \
+      = a\n";
 
-const BRACKETS_65: &[u8] =
-    b"object U\nmap a : U -> U\nclaim (((((((((((((((((((((((((((((((((((((((((((((((((((((((((((((((((a))))))))))))))))))))))))))))))))))))))))))))))))))))))))))))))))) = a\n";
+const BRACKETS_65: &[u8] = b"object U\nmap a : U -> U\nclaim \
+      (((((((((((((((((((((((((((((((((((((((((((((((((((((((((((((((((a))))))))))))))))))))))))))))))))))))))))))))))))))))))))))))))))) \
+      = a\n";
 
 const PROVE: &[&str] = &["prove", "s"];
 
@@ -80,12 +82,14 @@ pub const PROVED: &[CallRow] = &[
     (
         PROVE,
         DOUBLED,
-        "0 # claim 1 proved denominator 2 rows 2\ncertificate 2\nclaim 1\ndenominator 2\nlemma 1 scale 2\nrow 1 () 1 ()\ngoal scale 1\nrow 1 () lemma 1 ()\nend\n",
+        "0 # claim 1 proved denominator 2 rows 2\ncertificate 2\nclaim 1\ndenominator 2\nlemma 1 scale 2\nrow 1 () 1 ()\ngoal scale 1\n\
+         row 1 () lemma 1 ()\nend\n",
     ),
     (
         PROVE,
         PSEUDOINVERSE,
-        "0 # claim 1 proved denominator 1 rows 4\ncertificate 2\nclaim 1\ndenominator 1\nlemma 1 scale 1\nrow 1 () 5 ()\nrow -1 (a') 3 ()\ngoal scale 1\nrow 1 (a') 3 ()\nrow 1 () lemma 1 ()\nend\n",
+        "0 # claim 1 proved denominator 1 rows 4\ncertificate 2\nclaim 1\ndenominator 1\nlemma 1 scale 1\nrow 1 () 5 ()\n\
+         row -1 (a') 3 ()\ngoal scale 1\nrow 1 (a') 3 ()\nrow 1 () lemma 1 ()\nend\n",
     ),
 ];
 
@@ -128,7 +132,8 @@ pub const OTHERS: &[CallRow] = &[
     (
         PROVE,
         ONE_SIDED,
-        "10 # claim 1 not derivable rules 7\nbasis 1\nclaim 1\nrule [U] [U] - [U]\nrule a [U] - a\nrule [U] b - b\nrule [V] [V] - [V]\nrule [V] a - a\nrule b [V] - b\nrule a b - [V]\nrest b a - [U]\nend\n",
+        "10 # claim 1 not derivable rules 7\nbasis 1\nclaim 1\nrule [U] [U] - [U]\nrule a [U] - a\nrule [U] b - b\nrule [V] [V] - [V]\n\
+         rule [V] a - a\nrule b [V] - b\nrule a b - [V]\nrest b a - [U]\nend\n",
     ),
     (
         &["prove", "s", "--pairs", "33", "--no-models"],
@@ -138,7 +143,8 @@ pub const OTHERS: &[CallRow] = &[
     (
         &["prove", "s", "--pairs", "32", "--no-models"],
         POWER,
-        "12 # claim 1 undecided pairs 32 least a a a a a a a a a a a a a a a a a a a a a a a a a a a a a a a a a a a a a a a a a a a a a a a a a a a a a a a a a a a a a a a a a a a\n",
+        "12 # claim 1 undecided pairs 32 least a a a a a a a a a a a a a a a a a a a a a a a a a a a a a a a a a a a a a a a a a \
+         a a a a a a a a a a a a a a a a a a a a a a a a a a\n",
     ),
     (
         &["prove", "s", "--pairs", "1", "--no-models"],
@@ -222,7 +228,8 @@ pub const BROKEN: &[CallRow] = &[
     (
         &["prove", "s", "--pairs", "1"],
         b"object V\nmap a b : V -> V\nassume b a b = a b a\nclaim b a b = a b a\nclaim a = b\n",
-        "11 # claim 1 proved denominator 1 rows 1\ncertificate 2\nclaim 1\ndenominator 1\ngoal scale 1\nrow 1 () 1 ()\nend\n# claim 2 refuted\nmodel 1\nclaim 2\nmodulus 2\nside V 1\nmap a = 1\nmap b = 0\nend\n",
+        "11 # claim 1 proved denominator 1 rows 1\ncertificate 2\nclaim 1\ndenominator 1\ngoal scale 1\nrow 1 () 1 ()\nend\n\
+         # claim 2 refuted\nmodel 1\nclaim 2\nmodulus 2\nside V 1\nmap a = 1\nmap b = 0\nend\n",
     ),
     // no candidate breaks what is true
     (

@@ -65,7 +65,9 @@ const ROWS: &[(&[u8], Call, &str)] = &[
     (
         INVERSE,
         Call::Candidate(1, 1),
-        "model 1\nclaim 0\nmodulus 2\nside V 6\nmap a = 1 0 0 1 1 0 ; 1 0 1 1 1 1 ; 0 1 1 1 1 1 ; 1 1 1 1 1 1 ; 1 1 1 0 0 0 ; 0 1 0 1 0 0\nmap x = 0 0 1 1 0 0 ; 0 1 0 1 0 0 ; 0 1 1 0 1 0 ; 0 1 0 1 0 1 ; 1 1 1 0 0 1 ; 1 0 1 0 1 0\nend\n",
+        "model 1\nclaim 0\nmodulus 2\nside V 6\n\
+         map a = 1 0 0 1 1 0 ; 1 0 1 1 1 1 ; 0 1 1 1 1 1 ; 1 1 1 1 1 1 ; 1 1 1 0 0 0 ; 0 1 0 1 0 0\n\
+         map x = 0 0 1 1 0 0 ; 0 1 0 1 0 0 ; 0 1 1 0 1 0 ; 0 1 0 1 0 1 ; 1 1 1 0 0 1 ; 1 0 1 0 1 0\nend\n",
     ),
 ];
 

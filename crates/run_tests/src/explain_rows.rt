@@ -48,7 +48,8 @@ const REFUSED: Part = Plain("7 # block 1 refused ");
 
 // What is said of the rows of the inverses behind the number of their block.
 const CHAIN_TEXT: &str =
-    " explained claim 1 denominator 1 steps 5\nchain 1\nclaim 1\ndenominator 1\nline - g + f\nuse -1 () 5 ()\nline f [P] - g\nuse -1 (f) 1 ()\nline f s f - g\nuse 1 () 3 (f)\nline g s f - g\nuse 1 (g) 1 ()\nline g [P] - g\nuse 1 () 6 ()\nline 0\nend\n";
+    " explained claim 1 denominator 1 steps 5\nchain 1\nclaim 1\ndenominator 1\nline - g + f\nuse -1 () 5 ()\nline f [P] - g\n\
+     use -1 (f) 1 ()\nline f s f - g\nuse 1 () 3 (f)\nline g s f - g\nuse 1 (g) 1 ()\nline g [P] - g\nuse 1 () 6 ()\nline 0\nend\n";
 
 const CHAIN: Part = Plain(CHAIN_TEXT);
 

@@ -17,8 +17,10 @@ pub const MOORE_PENROSE_UNIQUE: &[u8] =
 pub const GALLERY: &[Row] = &[
     (
         PROVE,
-        b"# The pseudoinverse of the adjoint is the adjoint of the pseudoinverse.\nobject U V\nmap a : U -> V\nmap x : V -> U\npinv a x\nclaim a' x' a' = a'\nclaim x' a' x' = x'\nclaim (a' x')' = a' x'\nclaim (x' a')' = x' a'\n",
-        "0 # claim 1 proved denominator 1 rows 4\n# claim 2 proved denominator 1 rows 4\n# claim 3 proved denominator 1 rows 1\n# claim 4 proved denominator 1 rows 1\n",
+        b"# The pseudoinverse of the adjoint is the adjoint of the pseudoinverse.\nobject U V\nmap a : U -> V\nmap x : V -> U\npinv a x\n\
+          claim a' x' a' = a'\nclaim x' a' x' = x'\nclaim (a' x')' = a' x'\nclaim (x' a')' = x' a'\n",
+        "0 # claim 1 proved denominator 1 rows 4\n# claim 2 proved denominator 1 rows 4\n# claim 3 proved denominator 1 rows 1\n\
+         # claim 4 proved denominator 1 rows 1\n",
     ),
     (
         BRIEFLY,
@@ -32,17 +34,21 @@ pub const GALLERY: &[Row] = &[
     ),
     (
         PROVE,
-        b"# With d after the integral i equal to 1, the evaluation e = 1 - i d is idempotent, and d e = 0.\nobject V\nmap d i : V -> V\nassume d i = [V]\nclaim ([V] - i d) ([V] - i d) = [V] - i d\nclaim d ([V] - i d) = 0\nclaim ([V] - i d) i = 0\n",
+        b"# With d after the integral i equal to 1, the evaluation e = 1 - i d is idempotent, and d e = 0.\nobject V\nmap d i : V -> V\n\
+          assume d i = [V]\nclaim ([V] - i d) ([V] - i d) = [V] - i d\nclaim d ([V] - i d) = 0\nclaim ([V] - i d) i = 0\n",
         "0 # claim 1 proved denominator 1 rows 5\n# claim 2 proved denominator 1 rows 3\n# claim 3 proved denominator 1 rows 3\n",
     ),
     (
         PROVE,
-        b"# Jacobson's lemma: where 1 - a b has the inverse c, 1 - b a has the inverse 1 + b c a.\nobject U V\nmap a : V -> U\nmap b : U -> V\nmap c : U -> U\nassume ([U] - a b) c = [U]\nassume c ([U] - a b) = [U]\nclaim ([V] - b a) ([V] + b c a) = [V]\nclaim ([V] + b c a) ([V] - b a) = [V]\n",
+        b"# Jacobson's lemma: where 1 - a b has the inverse c, 1 - b a has the inverse 1 + b c a.\nobject U V\nmap a : V -> U\n\
+          map b : U -> V\nmap c : U -> U\nassume ([U] - a b) c = [U]\nassume c ([U] - a b) = [U]\nclaim ([V] - b a) ([V] + b c a) = [V]\n\
+          claim ([V] + b c a) ([V] - b a) = [V]\n",
         "0 # claim 1 proved denominator 1 rows 7\n# claim 2 proved denominator 1 rows 7\n",
     ),
     (
         PROVE,
-        b"# A left inverse equals a right inverse.\nobject U V\nmap l : V -> U\nmap a : U -> V\nmap r : V -> U\nassume l a = [U]\nassume a r = [V]\nclaim l = r\n",
+        b"# A left inverse equals a right inverse.\nobject U V\nmap l : V -> U\nmap a : U -> V\nmap r : V -> U\nassume l a = [U]\n\
+          assume a r = [V]\nclaim l = r\n",
         "0 # claim 1 proved denominator 1 rows 5\n",
     ),
     (
@@ -57,47 +63,82 @@ pub const GALLERY: &[Row] = &[
     ),
     (
         PROVE,
-        b"# Push-through: a (1 + b a)^-1 = (1 + a b)^-1 a.\nobject U V\nmap a : U -> V\nmap b : V -> U\nmap s : U -> U\nmap t : V -> V\nassume ([U] + b a) s = [U]\nassume t ([V] + a b) = [V]\nclaim a s = t a\n",
+        b"# Push-through: a (1 + b a)^-1 = (1 + a b)^-1 a.\nobject U V\nmap a : U -> V\nmap b : V -> U\nmap s : U -> U\nmap t : V -> V\n\
+          assume ([U] + b a) s = [U]\nassume t ([V] + a b) = [V]\nclaim a s = t a\n",
         "0 # claim 1 proved denominator 1 rows 9\n",
     ),
     (
         PROVE,
-        b"# The resolvent identity: r - s = r (b - a) s for r = a^-1 and s = b^-1.\nobject V\nmap a b r s : V -> V\ninverse a r\ninverse b s\nclaim r - s = r (b - a) s\n",
+        b"# The resolvent identity: r - s = r (b - a) s for r = a^-1 and s = b^-1.\nobject V\nmap a b r s : V -> V\ninverse a r\n\
+          inverse b s\nclaim r - s = r (b - a) s\n",
         "0 # claim 1 proved denominator 1 rows 4\n",
     ),
     (
         PROVE,
-        b"# The inverse of a product is the product of the inverses in reverse order.\nobject U V W\nmap a : V -> W\nmap b : U -> V\nmap x : W -> V\nmap y : V -> U\ninverse a x\ninverse b y\nclaim a b y x = [W]\nclaim y x a b = [U]\n",
+        b"# The inverse of a product is the product of the inverses in reverse order.\nobject U V W\nmap a : V -> W\nmap b : U -> V\n\
+          map x : W -> V\nmap y : V -> U\ninverse a x\ninverse b y\nclaim a b y x = [W]\nclaim y x a b = [U]\n",
         "0 # claim 1 proved denominator 1 rows 3\n# claim 2 proved denominator 1 rows 3\n",
     ),
     (
         PROVE,
-        b"# Woodbury: (a + u c v)^-1 = x - x u m v x, with x = a^-1 and m = (c^-1 + v x u)^-1.\nobject U V\nmap a x : U -> U\nmap u : V -> U\nmap v : U -> V\nmap c y m : V -> V\ninverse a x\ninverse c y\nassume (y + v x u) m = [V]\nassume m (y + v x u) = [V]\nclaim (a + u c v) (x - x u m v x) = [U]\nclaim (x - x u m v x) (a + u c v) = [U]\n",
+        b"# Woodbury: (a + u c v)^-1 = x - x u m v x, with x = a^-1 and m = (c^-1 + v x u)^-1.\nobject U V\nmap a x : U -> U\n\
+          map u : V -> U\nmap v : U -> V\nmap c y m : V -> V\ninverse a x\ninverse c y\nassume (y + v x u) m = [V]\n\
+          assume m (y + v x u) = [V]\nclaim (a + u c v) (x - x u m v x) = [U]\nclaim (x - x u m v x) (a + u c v) = [U]\n",
         "0 # claim 1 proved denominator 1 rows 7\n# claim 2 proved denominator 1 rows 7\n",
     ),
     (
         &["prove", "s", "--pairs", "64"],
-        b"language 2\n# Where a x b = c and d x e = f are solvable each by itself, the condition of Mitra (1973) and van der Woude (1987)\n# gives a solution of both: with the pseudoinverses of s = d (1 - a+ a) and t = (1 - b b+) e.\nobject U V W Z P Q\nmap a : V -> P\nmap b : Q -> W\nmap c : Q -> P\nmap d : V -> Z\nmap e : U -> W\nmap f : U -> Z\nmap ai : P -> V\nmap bi : W -> Q\nmap di : Z -> V\nmap ei : W -> U\npinv a ai\npinv b bi\npinv d di\npinv e ei\nmap s : V -> Z\nmap si : Z -> V\nmap t : U -> W\nmap ti : W -> U\nassume s = d ([V] - ai a)\nassume t = ([W] - b bi) e\npinv s si\npinv t ti\nmap x h : W -> V\nassume a ai c bi b = c\nassume d di f ei e = f\nassume h = di f ei - ai c bi\nassume ([Z] - s si) d h e ([U] - ti t) = 0\nassume x = ai c bi + ([V] - ai a) si d h ([W] - e ti ([W] - b bi)) + h e ti ([W] - b bi)\nclaim a x b = c\nclaim d x e = f\neliminate x h\n",
+        b"language 2\n\
+          # Where a x b = c and d x e = f are solvable each by itself, the condition of Mitra (1973) and van der Woude (1987)\n\
+          # gives a solution of both: with the pseudoinverses of s = d (1 - a+ a) and t = (1 - b b+) e.\nobject U V W Z P Q\n\
+          map a : V -> P\nmap b : Q -> W\nmap c : Q -> P\nmap d : V -> Z\nmap e : U -> W\nmap f : U -> Z\nmap ai : P -> V\n\
+          map bi : W -> Q\nmap di : Z -> V\nmap ei : W -> U\npinv a ai\npinv b bi\npinv d di\npinv e ei\nmap s : V -> Z\nmap si : Z -> V\n\
+          map t : U -> W\nmap ti : W -> U\nassume s = d ([V] - ai a)\nassume t = ([W] - b bi) e\npinv s si\npinv t ti\nmap x h : W -> V\n\
+          assume a ai c bi b = c\nassume d di f ei e = f\nassume h = di f ei - ai c bi\nassume ([Z] - s si) d h e ([U] - ti t) = 0\n\
+          assume x = ai c bi + ([V] - ai a) si d h ([W] - e ti ([W] - b bi)) + h e ti ([W] - b bi)\nclaim a x b = c\nclaim d x e = f\n\
+          eliminate x h\n",
         "0 # claim 1 proved denominator 1 rows 49\n# claim 2 proved denominator 1 rows 76\n",
     ),
     (
         &["prove", "s", "--pairs", "1"],
-        b"language 2\n# a x b + c y d = e is solvable under the four conditions of Baksalary and Kala (1980), here with pseudoinverses,\n# g = (1 - a a+) c and h = d (1 - b+ b): this x and this y solve it.\nobject U V W P Q\nmap a : V -> P\nmap b : Q -> W\nmap c : U -> P\nmap d : Q -> U\nmap e : Q -> P\nmap ai : P -> V\nmap bi : W -> Q\nmap ci : P -> U\nmap di : U -> Q\npinv a ai\npinv b bi\npinv c ci\npinv d di\nmap g : U -> P\nmap gi : P -> U\nmap h : Q -> U\nmap hi : U -> Q\nassume g = ([P] - a ai) c\nassume h = d ([Q] - bi b)\npinv g gi\npinv h hi\nassume ([P] - g gi)([P] - a ai) e = 0\nassume ([P] - a ai) e ([Q] - di d) = 0\nassume ([P] - c ci) e ([Q] - bi b) = 0\nassume e ([Q] - bi b)([Q] - hi h) = 0\nmap x : W -> V\nmap y : U -> U\nassume y = gi ([P] - a ai) e di + ([U] - gi g) ci e ([Q] - bi b) hi\nassume x = ai (e - c y d) bi\neliminate x y g h\nclaim a x b + c y d = e\n",
+        b"language 2\n# a x b + c y d = e is solvable under the four conditions of Baksalary and Kala (1980), here with pseudoinverses,\n\
+          # g = (1 - a a+) c and h = d (1 - b+ b): this x and this y solve it.\nobject U V W P Q\nmap a : V -> P\nmap b : Q -> W\n\
+          map c : U -> P\nmap d : Q -> U\nmap e : Q -> P\nmap ai : P -> V\nmap bi : W -> Q\nmap ci : P -> U\nmap di : U -> Q\npinv a ai\n\
+          pinv b bi\npinv c ci\npinv d di\nmap g : U -> P\nmap gi : P -> U\nmap h : Q -> U\nmap hi : U -> Q\nassume g = ([P] - a ai) c\n\
+          assume h = d ([Q] - bi b)\npinv g gi\npinv h hi\nassume ([P] - g gi)([P] - a ai) e = 0\nassume ([P] - a ai) e ([Q] - di d) = 0\n\
+          assume ([P] - c ci) e ([Q] - bi b) = 0\nassume e ([Q] - bi b)([Q] - hi h) = 0\nmap x : W -> V\nmap y : U -> U\n\
+          assume y = gi ([P] - a ai) e di + ([U] - gi g) ci e ([Q] - bi b) hi\nassume x = ai (e - c y d) bi\neliminate x y g h\n\
+          claim a x b + c y d = e\n",
         "0 # claim 1 proved denominator 1 rows 74\n",
     ),
     (
         &["prove", "s", "--pairs", "1834"],
-        b"language 2\n# Without the third of the conditions of Baksalary and Kala (1980), (1 - c c+) e (1 - b+ b) = 0, that x and that y\n# don't solve a x b + c y d = e: no sum of the assumptions gives it, and matrices of one entry modulo 2 break it.\nobject U V W P Q\nmap a : V -> P\nmap b : Q -> W\nmap c : U -> P\nmap d : Q -> U\nmap e : Q -> P\nmap ai : P -> V\nmap bi : W -> Q\nmap ci : P -> U\nmap di : U -> Q\npinv a ai\npinv b bi\npinv c ci\npinv d di\nmap g : U -> P\nmap gi : P -> U\nmap h : Q -> U\nmap hi : U -> Q\nassume g = ([P] - a ai) c\nassume h = d ([Q] - bi b)\npinv g gi\npinv h hi\nassume ([P] - g gi)([P] - a ai) e = 0\nassume ([P] - a ai) e ([Q] - di d) = 0\nassume e ([Q] - bi b)([Q] - hi h) = 0\nmap x : W -> V\nmap y : U -> U\nassume y = gi ([P] - a ai) e di + ([U] - gi g) ci e ([Q] - bi b) hi\nassume x = ai (e - c y d) bi\neliminate x y g h\nclaim a x b + c y d = e\n",
+        b"language 2\n# Without the third of the conditions of Baksalary and Kala (1980), (1 - c c+) e (1 - b+ b) = 0, that x and that y\n\
+          # don't solve a x b + c y d = e: no sum of the assumptions gives it, and matrices of one entry modulo 2 break it.\n\
+          object U V W P Q\nmap a : V -> P\nmap b : Q -> W\nmap c : U -> P\nmap d : Q -> U\nmap e : Q -> P\nmap ai : P -> V\n\
+          map bi : W -> Q\nmap ci : P -> U\nmap di : U -> Q\npinv a ai\npinv b bi\npinv c ci\npinv d di\nmap g : U -> P\nmap gi : P -> U\n\
+          map h : Q -> U\nmap hi : U -> Q\nassume g = ([P] - a ai) c\nassume h = d ([Q] - bi b)\npinv g gi\npinv h hi\n\
+          assume ([P] - g gi)([P] - a ai) e = 0\nassume ([P] - a ai) e ([Q] - di d) = 0\nassume e ([Q] - bi b)([Q] - hi h) = 0\n\
+          map x : W -> V\nmap y : U -> U\nassume y = gi ([P] - a ai) e di + ([U] - gi g) ci e ([Q] - bi b) hi\n\
+          assume x = ai (e - c y d) bi\neliminate x y g h\nclaim a x b + c y d = e\n",
         "10 # claim 1 not derivable rules 194\n",
     ),
     (
         &["prove", "s", "--pairs", "672"],
-        b"language 2\n# Cline (1964): the pseudoinverse of the row [a b] has the blocks u and v.\nobject U V W\nmap a : U -> W\nmap b : V -> W\nmap ai : W -> U\nmap c : V -> W\nmap ci : W -> V\nmap d : V -> U\nmap k ki : V -> V\nmap u : W -> U\nmap v : W -> V\npinv a ai\npinv c ci\ninverse k ki\nassume d = ai b\nassume c = b - a d\nassume k = [V] + ([V] - ci c) d' d ([V] - ci c)\nassume v = ci + ([V] - ci c) ki d' ai ([W] - b ci)\nassume u = ai - d v\neliminate u v\nclaim a u a + b v a = a\nclaim a u b + b v b = b\nclaim (a u + b v)' = a u + b v\nclaim u a u + u b v = u\nclaim v a u + v b v = v\nclaim (u a)' = u a\nclaim (v b)' = v b\nclaim (u b)' = v a\n",
-        "0 # claim 1 proved denominator 1 rows 40\n# claim 2 proved denominator 1 rows 50\n# claim 3 proved denominator 1 rows 46\n# claim 4 proved denominator 1 rows 171\n# claim 5 proved denominator 1 rows 136\n# claim 6 proved denominator 1 rows 129\n# claim 7 proved denominator 1 rows 184\n# claim 8 proved denominator 1 rows 156\n",
+        b"language 2\n# Cline (1964): the pseudoinverse of the row [a b] has the blocks u and v.\nobject U V W\nmap a : U -> W\n\
+          map b : V -> W\nmap ai : W -> U\nmap c : V -> W\nmap ci : W -> V\nmap d : V -> U\nmap k ki : V -> V\nmap u : W -> U\n\
+          map v : W -> V\npinv a ai\npinv c ci\ninverse k ki\nassume d = ai b\nassume c = b - a d\n\
+          assume k = [V] + ([V] - ci c) d' d ([V] - ci c)\nassume v = ci + ([V] - ci c) ki d' ai ([W] - b ci)\nassume u = ai - d v\n\
+          eliminate u v\nclaim a u a + b v a = a\nclaim a u b + b v b = b\nclaim (a u + b v)' = a u + b v\nclaim u a u + u b v = u\n\
+          claim v a u + v b v = v\nclaim (u a)' = u a\nclaim (v b)' = v b\nclaim (u b)' = v a\n",
+        "0 # claim 1 proved denominator 1 rows 40\n# claim 2 proved denominator 1 rows 50\n# claim 3 proved denominator 1 rows 46\n\
+         # claim 4 proved denominator 1 rows 171\n# claim 5 proved denominator 1 rows 136\n# claim 6 proved denominator 1 rows 129\n\
+         # claim 7 proved denominator 1 rows 184\n# claim 8 proved denominator 1 rows 156\n",
     ),
     (
         PROVE,
-        b"language 2\n# The Drazin inverse d of a map a of index 4 commutes with all that commutes with a.\nobject U\nmap a d b : U -> U\nassume a d = d a\nassume d a d = d\nassume a^5 d = a^4\nassume a b = b a\nclaim d b = b d\n",
+        b"language 2\n# The Drazin inverse d of a map a of index 4 commutes with all that commutes with a.\nobject U\nmap a d b : U -> U\n\
+          assume a d = d a\nassume d a d = d\nassume a^5 d = a^4\nassume a b = b a\nclaim d b = b d\n",
         "0 # claim 1 proved denominator 1 rows 66\n",
     ),
 ];
@@ -105,18 +146,29 @@ pub const GALLERY: &[Row] = &[
 /// Known proofs that cancel monic and epic maps, byte for byte, and what is accepted of them.
 pub const CANCELLATIONS: &[ProofRow] = &[
     (
-        b"# Where f is monic and g is epic, an inner inverse x of f g has g x f = 1.\nobject U V W\nmap g : U -> W\nmap f : W -> V\nmap x : V -> U\nassume f g x f g = f g\nclaim g x f = [W]\n",
-        b"cancellation 1\nclaim 1\ndenominator 1\nmonic f\nepic g\nlemma 1 scale 1\nrow 1 () 1 ()\nrow -1 () 4 (g)\ncancel 2 f left 1\ncancel 3 g right 2\ngoal scale 1\nrow 1 () lemma 3 ()\nend\n",
+        b"# Where f is monic and g is epic, an inner inverse x of f g has g x f = 1.\nobject U V W\nmap g : U -> W\nmap f : W -> V\n\
+          map x : V -> U\nassume f g x f g = f g\nclaim g x f = [W]\n",
+        b"cancellation 1\nclaim 1\ndenominator 1\nmonic f\nepic g\nlemma 1 scale 1\nrow 1 () 1 ()\nrow -1 () 4 (g)\ncancel 2 f left 1\n\
+          cancel 3 g right 2\ngoal scale 1\nrow 1 () lemma 3 ()\nend\n",
         "0 # block 1 accepted claim 1 denominator 1 monic f epic g\n",
     ),
     (
-        b"# Normal equations by a thin factorization q r, with q' q = 1 and r' monic: two solutions have the same image under q r.\nobject T U V W\nmap q : W -> V\nmap r : U -> W\nmap x y : T -> U\nassume q' q = [W]\nassume (q r)' (q r) x = (q r)' (q r) y\nclaim q r x = q r y\n",
-        b"cancellation 1\nclaim 1\ndenominator 1\nmonic r'\nlemma 1 scale 1\nrow 1 () 2 ()\nrow -1 (r') 1 (r x)\nrow 1 (r') 1 (r y)\nrow -1 (r') 7 (x)\nrow 1 (r') 7 (y)\ncancel 2 r' left 1\ngoal scale 1\nrow 1 (q) lemma 2 ()\nend\n",
+        b"# Normal equations by a thin factorization q r, with q' q = 1 and r' monic: two solutions have the same image under q r.\n\
+          object T U V W\nmap q : W -> V\nmap r : U -> W\nmap x y : T -> U\nassume q' q = [W]\nassume (q r)' (q r) x = (q r)' (q r) y\n\
+          claim q r x = q r y\n",
+        b"cancellation 1\nclaim 1\ndenominator 1\nmonic r'\nlemma 1 scale 1\nrow 1 () 2 ()\nrow -1 (r') 1 (r x)\nrow 1 (r') 1 (r y)\n\
+          row -1 (r') 7 (x)\nrow 1 (r') 7 (y)\ncancel 2 r' left 1\ngoal scale 1\nrow 1 (q) lemma 2 ()\nend\n",
         "0 # block 1 accepted claim 1 denominator 1 monic r'\n",
     ),
     (
-        b"# The short five lemma, its half on monic maps: a monic and c monic make b monic, where b x = 0 and x = i y by exactness.\nobject T A B C D E F\nmap i : A -> B\nmap p : B -> C\nmap j : D -> E\nmap n : E -> F\nmap a : A -> D\nmap b : B -> E\nmap c : C -> F\nmap x : T -> B\nmap y : T -> A\nassume b i = j a\nassume n b = c p\nassume b x = 0\nassume x = i y\nclaim p x = 0\nclaim x = 0\n",
-        b"# That p x = 0, by which exactness gives y.\ncancellation 1\nclaim 1\ndenominator 1\nmonic c\nlemma 1 scale 1\nrow 1 (n) 3 ()\nrow -1 () 2 (x)\ncancel 2 c left 1\ngoal scale 1\nrow 1 () lemma 2 ()\nend\n# With x = i y, that x = 0.\ncancellation 1\nclaim 2\ndenominator 1\nmonic j\nmonic a\nlemma 1 scale 1\nrow 1 () 3 ()\nrow -1 (b) 4 ()\nrow -1 () 1 (y)\ncancel 2 j left 1\ncancel 3 a left 2\ngoal scale 1\nrow 1 () 4 ()\nrow 1 (i) lemma 3 ()\nend\n",
+        b"# The short five lemma, its half on monic maps: a monic and c monic make b monic, where b x = 0 and x = i y by exactness.\n\
+          object T A B C D E F\nmap i : A -> B\nmap p : B -> C\nmap j : D -> E\nmap n : E -> F\nmap a : A -> D\nmap b : B -> E\n\
+          map c : C -> F\nmap x : T -> B\nmap y : T -> A\nassume b i = j a\nassume n b = c p\nassume b x = 0\nassume x = i y\n\
+          claim p x = 0\nclaim x = 0\n",
+        b"# That p x = 0, by which exactness gives y.\ncancellation 1\nclaim 1\ndenominator 1\nmonic c\nlemma 1 scale 1\nrow 1 (n) 3 ()\n\
+          row -1 () 2 (x)\ncancel 2 c left 1\ngoal scale 1\nrow 1 () lemma 2 ()\nend\n# With x = i y, that x = 0.\ncancellation 1\n\
+          claim 2\ndenominator 1\nmonic j\nmonic a\nlemma 1 scale 1\nrow 1 () 3 ()\nrow -1 (b) 4 ()\nrow -1 () 1 (y)\ncancel 2 j left 1\n\
+          cancel 3 a left 2\ngoal scale 1\nrow 1 () 4 ()\nrow 1 (i) lemma 3 ()\nend\n",
         "0 # block 1 accepted claim 1 denominator 1 monic c\n# block 2 accepted claim 2 denominator 1 monic j a\n",
     ),
 ];

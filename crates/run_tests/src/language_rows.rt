@@ -157,7 +157,9 @@ pub const POWERS: &[Told] = &[
         "3 # refused S3 line 4 column 15\n",
     ),
     (
-        b"language 2\nclaim (((((((((((((((((((((((((((((((((((((((((((((((((((((((((((((((((a))))))))))))))))))))))))))))))))))))))))))))))))))))))))))))))))) = a\n",
+        b"language 2\nclaim \
+          (((((((((((((((((((((((((((((((((((((((((((((((((((((((((((((((((a))))))))))))))))))))))))))))))))))))))))))))))))))))))))))))))))) \
+          = a\n",
         "3 # refused S5 line 2 column 71\n",
     ),
 ];
@@ -384,7 +386,9 @@ pub const ORDERS: &[CallRow] = &[
     (
         PROVE,
         b"language 2\nobject U\nmap a b : U -> U\neliminate a\nassume a = [U]^2\nclaim a^4 = [U]\n",
-        "0 # claim 1 proved denominator 1 rows 9\ncertificate 2\nclaim 1\ndenominator 1\nlemma 1 scale 1\nrow 1 () 1 ()\nrow 1 () 2 ()\ngoal scale 1\nrow 1 () lemma 1 (a a a)\nrow 1 () 3 (a a)\nrow 1 () lemma 1 (a a)\nrow 1 () 3 (a)\nrow 1 () lemma 1 (a)\nrow 1 () 3 ()\nrow 1 () lemma 1 ()\nend\n",
+        "0 # claim 1 proved denominator 1 rows 9\ncertificate 2\nclaim 1\ndenominator 1\nlemma 1 scale 1\nrow 1 () 1 ()\nrow 1 () 2 ()\n\
+         goal scale 1\nrow 1 () lemma 1 (a a a)\nrow 1 () 3 (a a)\nrow 1 () lemma 1 (a a)\nrow 1 () 3 (a)\nrow 1 () lemma 1 (a)\n\
+         row 1 () 3 ()\nrow 1 () lemma 1 ()\nend\n",
     ),
     (
         &["prove", "s", "--pairs", "1", "--no-models"],
@@ -394,7 +398,8 @@ pub const ORDERS: &[CallRow] = &[
     (
         PROVE,
         b"language 2\nobject U\nmap a b : U -> U\norder weight b 3\nassume a^2 = b\nclaim b^3 = a^6\n",
-        "0 # claim 1 proved denominator 1 rows 3\ncertificate 2\nclaim 1\ndenominator 1\ngoal scale 1\nrow -1 () 1 (b b)\nrow -1 (a a) 1 (b)\nrow -1 (a a a a) 1 ()\nend\n",
+        "0 # claim 1 proved denominator 1 rows 3\ncertificate 2\nclaim 1\ndenominator 1\ngoal scale 1\nrow -1 () 1 (b b)\n\
+         row -1 (a a) 1 (b)\nrow -1 (a a a a) 1 ()\nend\n",
     ),
     (
         &["prove", "s", "--format", "1"],
@@ -409,7 +414,9 @@ pub const ORDERS: &[CallRow] = &[
     (
         PROVE,
         b"language 2\nobject U V\nmap a : U -> V\nmap x : V -> U\npinv a x\nclaim (a x)^3 = a x\nclaim (x a)^2 x = x\n",
-        "0 # claim 1 proved denominator 1 rows 2\ncertificate 2\nclaim 1\ndenominator 1\ngoal scale 1\nrow 1 () 1 (x a x)\nrow 1 () 1 (x)\nend\n# claim 2 proved denominator 1 rows 2\ncertificate 2\nclaim 2\ndenominator 1\ngoal scale 1\nrow 1 (x) 1 (x)\nrow 1 () 2 ()\nend\n",
+        "0 # claim 1 proved denominator 1 rows 2\ncertificate 2\nclaim 1\ndenominator 1\ngoal scale 1\nrow 1 () 1 (x a x)\n\
+         row 1 () 1 (x)\nend\n# claim 2 proved denominator 1 rows 2\ncertificate 2\nclaim 2\ndenominator 1\ngoal scale 1\n\
+         row 1 (x) 1 (x)\nrow 1 () 2 ()\nend\n",
     ),
 ];
 

@@ -48,7 +48,9 @@ pub const MODELS: &[Row] = &[
     // a matrix of 64 columns
     (
         ONE_SIDED,
-        b"model 1\nclaim 1\nmodulus 2\nside U 64\nmap a = 1 1 1 1 1 1 1 1 1 1 1 1 1 1 1 1 1 1 1 1 1 1 1 1 1 1 1 1 1 1 1 1 1 1 1 1 1 1 1 1 1 1 1 1 1 1 1 1 1 1 1 1 1 1 1 1 1 1 1 1 1 1 1 1\nend\n",
+        b"model 1\nclaim 1\nmodulus 2\nside U 64\n\
+          map a = 1 1 1 1 1 1 1 1 1 1 1 1 1 1 1 1 1 1 1 1 1 1 1 1 1 1 1 1 1 1 1 1 1 1 1 1 1 1 1 1 1 1 1 1 1 1 1 1 1 1 1 1 1 1 1 1 \
+          1 1 1 1 1 1 1 1\nend\n",
         "7 # block 1 refused M2 map b\n",
     ),
     (MAPS, SELF, CONFIRMED),
@@ -107,7 +109,8 @@ pub const MODELS: &[Row] = &[
     ),
     (
         MAPS,
-        b"model 1\nclaim 1\nmodulus 3\nmap p = 1\nmap a = 1\nend\nmodel 1\nclaim 1\nmodulus 3\nmap p = 1\nmap a = 0\nend\nmodel 1\nclaim 1\nmodulus 3\nmap p = 1\nmap a = 1\nend\n",
+        b"model 1\nclaim 1\nmodulus 3\nmap p = 1\nmap a = 1\nend\nmodel 1\nclaim 1\nmodulus 3\nmap p = 1\nmap a = 0\nend\nmodel 1\n\
+          claim 1\nmodulus 3\nmap p = 1\nmap a = 1\nend\n",
         "7 # block 1 confirmed claim 1\n# block 2 refused M5\n",
     ),
     // faults of the statement come before all of these
@@ -375,12 +378,17 @@ pub const FAULTS: &[Row] = &[
     ),
     (
         MAPS,
-        b"model 1\nclaim 1\nmodulus 3\nmap a = 1 1 1 1 1 1 1 1 1 1 1 1 1 1 1 1 1 1 1 1 1 1 1 1 1 1 1 1 1 1 1 1 1 1 1 1 1 1 1 1 1 1 1 1 1 1 1 1 1 1 1 1 1 1 1 1 1 1 1 1 1 1 1 1 1\n",
+        b"model 1\nclaim 1\nmodulus 3\n\
+          map a = 1 1 1 1 1 1 1 1 1 1 1 1 1 1 1 1 1 1 1 1 1 1 1 1 1 1 1 1 1 1 1 1 1 1 1 1 1 1 1 1 1 1 1 1 1 1 1 1 1 1 1 1 1 1 1 1 \
+          1 1 1 1 1 1 1 1 1\n",
         "7 # refused K5 line 4 limit 64\n",
     ),
     (
         MAPS,
-        b"model 1\nclaim 1\nmodulus 3\nmap a = 1 ; 1 ; 1 ; 1 ; 1 ; 1 ; 1 ; 1 ; 1 ; 1 ; 1 ; 1 ; 1 ; 1 ; 1 ; 1 ; 1 ; 1 ; 1 ; 1 ; 1 ; 1 ; 1 ; 1 ; 1 ; 1 ; 1 ; 1 ; 1 ; 1 ; 1 ; 1 ; 1 ; 1 ; 1 ; 1 ; 1 ; 1 ; 1 ; 1 ; 1 ; 1 ; 1 ; 1 ; 1 ; 1 ; 1 ; 1 ; 1 ; 1 ; 1 ; 1 ; 1 ; 1 ; 1 ; 1 ; 1 ; 1 ; 1 ; 1 ; 1 ; 1 ; 1 ; 1 ; 1\n",
+        b"model 1\nclaim 1\nmodulus 3\n\
+          map a = 1 ; 1 ; 1 ; 1 ; 1 ; 1 ; 1 ; 1 ; 1 ; 1 ; 1 ; 1 ; 1 ; 1 ; 1 ; 1 ; 1 ; 1 ; 1 ; 1 ; 1 ; 1 ; 1 ; 1 ; 1 ; 1 ; 1 ; 1 ; \
+          1 ; 1 ; 1 ; 1 ; 1 ; 1 ; 1 ; 1 ; 1 ; 1 ; 1 ; 1 ; 1 ; 1 ; 1 ; 1 ; 1 ; 1 ; 1 ; 1 ; 1 ; 1 ; 1 ; 1 ; 1 ; 1 ; 1 ; 1 ; 1 ; 1 ; \
+          1 ; 1 ; 1 ; 1 ; 1 ; 1 ; 1\n",
         "7 # refused K5 line 4 limit 64\n",
     ),
     (
@@ -390,7 +398,9 @@ pub const FAULTS: &[Row] = &[
     ),
     (
         MAPS,
-        b"model 1\nclaim 1\nmodulus 3\nside U 2\nmap p = 1 1 1 1 1 1 1 1 1 1 1 1 1 1 1 1 1 1 1 1 1 1 1 1 1 1 1 1 1 1 1 1 1 1 1 1 1 1 1 1 1 1 1 1 1 1 1 1 1 1 1 1 1 1 1 1 1 1 1 1 1 1 1 1 1\nmap a = 1 0\nend\n",
+        b"model 1\nclaim 1\nmodulus 3\nside U 2\n\
+          map p = 1 1 1 1 1 1 1 1 1 1 1 1 1 1 1 1 1 1 1 1 1 1 1 1 1 1 1 1 1 1 1 1 1 1 1 1 1 1 1 1 1 1 1 1 1 1 1 1 1 1 1 1 1 1 1 1 \
+          1 1 1 1 1 1 1 1 1\nmap a = 1 0\nend\n",
         "7 # refused K5 line 5 limit 64\n",
     ),
     (
@@ -400,7 +410,10 @@ pub const FAULTS: &[Row] = &[
     ),
     (
         MAPS,
-        b"model 1\nclaim 1\nmodulus 3\nside U 2\nside V 1\nmap p = 0 1 ; 1 0\nmap a = 1 ; 1 ; 1 ; 1 ; 1 ; 1 ; 1 ; 1 ; 1 ; 1 ; 1 ; 1 ; 1 ; 1 ; 1 ; 1 ; 1 ; 1 ; 1 ; 1 ; 1 ; 1 ; 1 ; 1 ; 1 ; 1 ; 1 ; 1 ; 1 ; 1 ; 1 ; 1 ; 1 ; 1 ; 1 ; 1 ; 1 ; 1 ; 1 ; 1 ; 1 ; 1 ; 1 ; 1 ; 1 ; 1 ; 1 ; 1 ; 1 ; 1 ; 1 ; 1 ; 1 ; 1 ; 1 ; 1 ; 1 ; 1 ; 1 ; 1 ; 1 ; 1 ; 1 ; 1 ; 1\nend\n",
+        b"model 1\nclaim 1\nmodulus 3\nside U 2\nside V 1\nmap p = 0 1 ; 1 0\n\
+          map a = 1 ; 1 ; 1 ; 1 ; 1 ; 1 ; 1 ; 1 ; 1 ; 1 ; 1 ; 1 ; 1 ; 1 ; 1 ; 1 ; 1 ; 1 ; 1 ; 1 ; 1 ; 1 ; 1 ; 1 ; 1 ; 1 ; 1 ; 1 ; \
+          1 ; 1 ; 1 ; 1 ; 1 ; 1 ; 1 ; 1 ; 1 ; 1 ; 1 ; 1 ; 1 ; 1 ; 1 ; 1 ; 1 ; 1 ; 1 ; 1 ; 1 ; 1 ; 1 ; 1 ; 1 ; 1 ; 1 ; 1 ; 1 ; 1 ; \
+          1 ; 1 ; 1 ; 1 ; 1 ; 1 ; 1\nend\n",
         "7 # refused K5 line 7 limit 64\n",
     ),
     (
@@ -441,7 +454,9 @@ pub const FAULTS: &[Row] = &[
     ),
     (
         MAPS,
-        b"model 1\nclaim 1\nmodulus 3\nmap a = 3 1 1 1 1 1 1 1 1 1 1 1 1 1 1 1 1 1 1 1 1 1 1 1 1 1 1 1 1 1 1 1 1 1 1 1 1 1 1 1 1 1 1 1 1 1 1 1 1 1 1 1 1 1 1 1 1 1 1 1 1 1 1 1 1\n",
+        b"model 1\nclaim 1\nmodulus 3\n\
+          map a = 3 1 1 1 1 1 1 1 1 1 1 1 1 1 1 1 1 1 1 1 1 1 1 1 1 1 1 1 1 1 1 1 1 1 1 1 1 1 1 1 1 1 1 1 1 1 1 1 1 1 1 1 1 1 1 1 \
+          1 1 1 1 1 1 1 1 1\n",
         "7 # refused K4 line 4\n",
     ),
     (

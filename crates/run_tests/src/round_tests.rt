@@ -28,14 +28,20 @@ const ROWS: &[Row] = &[
         b"object V\nmap a b : V -> V\nassume b a b = a b a\nclaim a = b\n",
         (1, 100),
         4,
-        "went rules 1 pending 1 first 1 1 Overlap 2 b a b a b\nwent rules 2 pending 3 first 2 1 Overlap 3 b a a b a b\nstopped pairs 1 least b a a b a b rules 2 pending 3 first 2 1 Overlap 3 b a a b a b\nstopped pairs 1 least b a a b a b rules 2 pending 3 first 2 1 Overlap 3 b a a b a b\nrule 1 b a b, -1 a b a, scale 1\nrule 1 b a a b a, -1 a b a a b, scale 1\n",
+        "went rules 1 pending 1 first 1 1 Overlap 2 b a b a b\nwent rules 2 pending 3 first 2 1 Overlap 3 b a a b a b\n\
+         stopped pairs 1 least b a a b a b rules 2 pending 3 first 2 1 Overlap 3 b a a b a b\n\
+         stopped pairs 1 least b a a b a b rules 2 pending 3 first 2 1 Overlap 3 b a a b a b\nrule 1 b a b, -1 a b a, scale 1\n\
+         rule 1 b a a b a, -1 a b a a b, scale 1\n",
     ),
     // The word overlaps itself at the places 1 to 33. A round takes 32 of these, and the last one's word has 67 letters.
     (
         b"object U\nmap a : U -> U\nassume a a a a a a a a a a a a a a a a a a a a a a a a a a a a a a a a a a = 0\nclaim a = 0\n",
         (33, 100),
         5,
-        "went rules 1 pending 33 first 1 1 Overlap 1 a a a a a a a a a a a a a a a a a a a a a a a a a a a a a a a a a a a\nwent rules 1 pending 1 first 1 1 Overlap 33 a a a a a a a a a a a a a a a a a a a a a a a a a a a a a a a a a a a a a a a a a a a a a a a a a a a a a a a a a a a a a a a a a a a\nwent rules 1 pending 0\nclosed rules 1 pending 0\nclosed rules 1 pending 0\nrule 1 a a a a a a a a a a a a a a a a a a a a a a a a a a a a a a a a a a, scale 1\n",
+        "went rules 1 pending 33 first 1 1 Overlap 1 a a a a a a a a a a a a a a a a a a a a a a a a a a a a a a a a a a a\n\
+         went rules 1 pending 1 first 1 1 Overlap 33 a a a a a a a a a a a a a a a a a a a a a a a a a a a a a a a a a a a a a a \
+         a a a a a a a a a a a a a a a a a a a a a a a a a a a a a\nwent rules 1 pending 0\nclosed rules 1 pending 0\n\
+         closed rules 1 pending 0\nrule 1 a a a a a a a a a a a a a a a a a a a a a a a a a a a a a a a a a a, scale 1\n",
     ),
     (
         b"object U\nmap a : U -> U\nclaim a = a\n",
@@ -56,7 +62,12 @@ const ROWS: &[Row] = &[
         b"object U V\nmap l : V -> U\nmap a : U -> V\nmap r : V -> U\nassume l a = [U]\nassume a r = [V]\nclaim l = r\n",
         (27, 100),
         6,
-        "went rules 10 pending 20 first 1 1 Overlap 1 U U U\nwent rules 11 pending 3 first 4 11 Inclusion 1 U r\nwent rules 12 pending 4 first 7 12 Overlap 1 V a l\nwent rules 12 pending 0\nclosed rules 12 pending 0\nclosed rules 12 pending 0\nrule 1 U U, -1 U, scale 1\nrule 1 U l, -1 l, scale 1\nrule 1 a U, -1 a, scale 1\nrule 1 U r, -1 r, scale 1\nrule 1 V V, -1 V, scale 1\nrule 1 l V, -1 l, scale 1\nrule 1 V a, -1 a, scale 1\nrule 1 r V, -1 r, scale 1\nrule 1 l a, -1 U, scale 1\nrule 1 a r, -1 V, scale 1\nrule 1 r, -1 l, scale 1\nrule 1 a l, -1 V, scale 1\n",
+        "went rules 10 pending 20 first 1 1 Overlap 1 U U U\nwent rules 11 pending 3 first 4 11 Inclusion 1 U r\n\
+         went rules 12 pending 4 first 7 12 Overlap 1 V a l\nwent rules 12 pending 0\nclosed rules 12 pending 0\n\
+         closed rules 12 pending 0\nrule 1 U U, -1 U, scale 1\nrule 1 U l, -1 l, scale 1\nrule 1 a U, -1 a, scale 1\n\
+         rule 1 U r, -1 r, scale 1\nrule 1 V V, -1 V, scale 1\nrule 1 l V, -1 l, scale 1\nrule 1 V a, -1 a, scale 1\n\
+         rule 1 r V, -1 r, scale 1\nrule 1 l a, -1 U, scale 1\nrule 1 a r, -1 V, scale 1\nrule 1 r, -1 l, scale 1\n\
+         rule 1 a l, -1 V, scale 1\n",
     ),
     // The S-polynomial of a b a is 5 times the first rule less the large number times the second one, and the number by which
     // a rule is multiplied stands on the left.
@@ -64,14 +75,23 @@ const ROWS: &[Row] = &[
         b"object V\nmap a b : V -> V\nassume 170141183460469231731687303715884105727 a b = b\nassume 5 b a = a\nclaim a = b\n",
         (9, 9),
         3,
-        "went rules 2 pending 2 first 1 2 Overlap 1 a b a\nstopped overflow 5 times 170141183460469231731687303715884105727 at round 1 least a b a rules 2 pending 2 first 1 2 Overlap 1 a b a\nstopped overflow 5 times 170141183460469231731687303715884105727 at round 1 least a b a rules 2 pending 2 first 1 2 Overlap 1 a b a\nrule 170141183460469231731687303715884105727 a b, -1 b, scale 1\nrule 5 b a, -1 a, scale 1\n",
+        "went rules 2 pending 2 first 1 2 Overlap 1 a b a\n\
+         stopped overflow 5 times 170141183460469231731687303715884105727 at round 1 least a b a rules 2 pending 2 first 1 2 \
+         Overlap 1 a b a\n\
+         stopped overflow 5 times 170141183460469231731687303715884105727 at round 1 least a b a rules 2 pending 2 first 1 2 \
+         Overlap 1 a b a\nrule 170141183460469231731687303715884105727 a b, -1 b, scale 1\nrule 5 b a, -1 a, scale 1\n",
     ),
     // The S-polynomial of c b d is a d times the negative of the large number, and its first reduction doubles it.
     (
         b"object V\nmap a b c d : V -> V\nassume c b = 170141183460469231731687303715884105727 a\nassume 2 a d = a\nassume b d = 0\nclaim a = b\n",
         (9, 9),
         3,
-        "went rules 3 pending 1 first 1 3 Overlap 1 c b d\nstopped overflow -170141183460469231731687303715884105727 times 2 at round 1 least c b d rules 3 pending 1 first 1 3 Overlap 1 c b d\nstopped overflow -170141183460469231731687303715884105727 times 2 at round 1 least c b d rules 3 pending 1 first 1 3 Overlap 1 c b d\nrule 1 c b, -170141183460469231731687303715884105727 a, scale 1\nrule 2 a d, -1 a, scale 1\nrule 1 b d, scale 1\n",
+        "went rules 3 pending 1 first 1 3 Overlap 1 c b d\n\
+         stopped overflow -170141183460469231731687303715884105727 times 2 at round 1 least c b d rules 3 pending 1 first 1 3 \
+         Overlap 1 c b d\n\
+         stopped overflow -170141183460469231731687303715884105727 times 2 at round 1 least c b d rules 3 pending 1 first 1 3 \
+         Overlap 1 c b d\nrule 1 c b, -170141183460469231731687303715884105727 a, scale 1\nrule 2 a d, -1 a, scale 1\n\
+         rule 1 b d, scale 1\n",
     ),
     // c b d gives the rule 2 e d - c a, by which the second reduction of f b d doubles f a and then e d times the negative
     // of the large number. The rule is taken back.
@@ -79,21 +99,32 @@ const ROWS: &[Row] = &[
         b"object V\nmap a b c d e f : V -> V\nassume c b = 2 e\nassume b d = a\nassume f b = 170141183460469231731687303715884105727 e\nclaim a = b\n",
         (9, 9),
         3,
-        "went rules 3 pending 2 first 1 2 Overlap 1 c b d\nstopped overflow -170141183460469231731687303715884105727 times 2 at round 1 least c b d rules 3 pending 2 first 1 2 Overlap 1 c b d\nstopped overflow -170141183460469231731687303715884105727 times 2 at round 1 least c b d rules 3 pending 2 first 1 2 Overlap 1 c b d\nrule 1 c b, -2 e, scale 1\nrule 1 b d, -1 a, scale 1\nrule 1 f b, -170141183460469231731687303715884105727 e, scale 1\n",
+        "went rules 3 pending 2 first 1 2 Overlap 1 c b d\n\
+         stopped overflow -170141183460469231731687303715884105727 times 2 at round 1 least c b d rules 3 pending 2 first 1 2 \
+         Overlap 1 c b d\n\
+         stopped overflow -170141183460469231731687303715884105727 times 2 at round 1 least c b d rules 3 pending 2 first 1 2 \
+         Overlap 1 c b d\nrule 1 c b, -2 e, scale 1\nrule 1 b d, -1 a, scale 1\n\
+         rule 1 f b, -170141183460469231731687303715884105727 e, scale 1\n",
     ),
     // c b d gives c a, which is tripled and leaves d. The record of d has the first rule the large number times, tripled.
     (
         b"object V\nmap a b c d : V -> V\nassume c b = 0\nassume 170141183460469231731687303715884105727 b d = a\nassume 3 c a = d\nclaim a = b\n",
         (9, 9),
         3,
-        "went rules 3 pending 1 first 1 2 Overlap 1 c b d\nstopped overflow 170141183460469231731687303715884105727 times 3 at round 1 least c b d rules 3 pending 1 first 1 2 Overlap 1 c b d\nstopped overflow 170141183460469231731687303715884105727 times 3 at round 1 least c b d rules 3 pending 1 first 1 2 Overlap 1 c b d\nrule 1 c b, scale 1\nrule 170141183460469231731687303715884105727 b d, -1 a, scale 1\nrule 3 c a, -1 d, scale 1\n",
+        "went rules 3 pending 1 first 1 2 Overlap 1 c b d\n\
+         stopped overflow 170141183460469231731687303715884105727 times 3 at round 1 least c b d rules 3 pending 1 first 1 2 \
+         Overlap 1 c b d\n\
+         stopped overflow 170141183460469231731687303715884105727 times 3 at round 1 least c b d rules 3 pending 1 first 1 2 \
+         Overlap 1 c b d\nrule 1 c b, scale 1\nrule 170141183460469231731687303715884105727 b d, -1 a, scale 1\n\
+         rule 3 c a, -1 d, scale 1\n",
     ),
     // A generator is multiplied by 2 before the rule 2 b - a is taken away, which is taken back.
     (
         b"object V\nmap a b : V -> V\nassume 2 b = a\nassume 170141183460469231731687303715884105727 b b = a\nclaim a = b\n",
         (9, 9),
         2,
-        "stopped overflow 170141183460469231731687303715884105727 times 2 at round 0 rules 0 pending 0\nstopped overflow 170141183460469231731687303715884105727 times 2 at round 0 rules 0 pending 0\n",
+        "stopped overflow 170141183460469231731687303715884105727 times 2 at round 0 rules 0 pending 0\n\
+         stopped overflow 170141183460469231731687303715884105727 times 2 at round 0 rules 0 pending 0\n",
     ),
     // After one step by the rule a one of the words a b and b a is left.
     (
@@ -105,10 +136,16 @@ const ROWS: &[Row] = &[
     // c d e gives c and y 8 times. Each y is 64 letters b, and so there are 513 letters after the eighth step. Terms stand by
     // their numbers of letters, and so a leading term that is heavy may stand last.
     (
-        b"object V\nmap b c d e x y : V -> V\norder weight d 1000 x 9 y 65\nassume c d = 0\nassume d e = y y y y y y y y\nassume x = b b b b b b b b\nassume y = x x x x x x x x\nclaim b = c\n",
+        b"object V\nmap b c d e x y : V -> V\norder weight d 1000 x 9 y 65\nassume c d = 0\nassume d e = y y y y y y y y\n\
+          assume x = b b b b b b b b\nassume y = x x x x x x x x\nclaim b = c\n",
         (9, 9),
         3,
-        "went rules 4 pending 1 first 1 2 Overlap 1 c d e\nstopped size letters true at round 1 least c d e rules 4 pending 1 first 1 2 Overlap 1 c d e\nstopped size letters true at round 1 least c d e rules 4 pending 1 first 1 2 Overlap 1 c d e\nrule 1 c d, scale 1\nrule -1 y y y y y y y y, 1 d e, scale 1\nrule -1 b b b b b b b b, 1 x, scale 1\nrule -1 b b b b b b b b b b b b b b b b b b b b b b b b b b b b b b b b b b b b b b b b b b b b b b b b b b b b b b b b b b b b b b b b, 1 y, scale 1\n",
+        "went rules 4 pending 1 first 1 2 Overlap 1 c d e\n\
+         stopped size letters true at round 1 least c d e rules 4 pending 1 first 1 2 Overlap 1 c d e\n\
+         stopped size letters true at round 1 least c d e rules 4 pending 1 first 1 2 Overlap 1 c d e\nrule 1 c d, scale 1\n\
+         rule -1 y y y y y y y y, 1 d e, scale 1\nrule -1 b b b b b b b b, 1 x, scale 1\n\
+         rule -1 b b b b b b b b b b b b b b b b b b b b b b b b b b b b b b b b b b b b b b b b b b b b b b b b b b b b b b b b \
+         b b b b b b b b, 1 y, scale 1\n",
     ),
 ];
 

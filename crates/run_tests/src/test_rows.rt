@@ -19,7 +19,8 @@ const DOUBLE: &[u8] = b"object U\nmap a b : U -> U\nclaim 2 a = b\n";
 /// The files of `examples/`, byte for byte.
 pub const EXAMPLES: &[Row] = &[
     (
-        b"object A B C D E F\nmap a1 : A -> B\nmap a2 : B -> C\nmap b1 : D -> E\nmap b2 : E -> F\nmap x : A -> D\nmap y : B -> E\nmap z : C -> F\nassume y a1 = b1 x\nassume z a2 = b2 y\nclaim z a2 a1 = b2 b1 x\n",
+        b"object A B C D E F\nmap a1 : A -> B\nmap a2 : B -> C\nmap b1 : D -> E\nmap b2 : E -> F\nmap x : A -> D\nmap y : B -> E\n\
+          map z : C -> F\nassume y a1 = b1 x\nassume z a2 = b2 y\nclaim z a2 a1 = b2 b1 x\n",
         b"certificate 1\nclaim 1\ndenominator 1\nrow 1 () 2 (a1)\nrow 1 (b2) 1 ()\nend\n",
         "0 # block 1 accepted claim 1 denominator 1\n",
     ),
@@ -40,7 +41,9 @@ pub const EXAMPLES: &[Row] = &[
     ),
     (
         b"object U V\nmap a : U -> V\nmap x y : V -> U\npinv a x\npinv a y\nclaim x = y\n",
-        b"certificate 1\nclaim 1\ndenominator 1\nrow -1 () 2 ()\nrow -1 (x) 5 (x)\nrow -1 (x) 7 (a x)\nrow -1 (x y' a') 3 ()\nrow 1 (x y') 9 ()\nrow 1 (x) 7 ()\nrow -1 (x) 5 (y)\nrow -1 () 4 (y a y)\nrow -1 (a' x') 8 (y)\nrow 1 () 9 (y' y)\nrow 1 () 8 (y)\nrow 1 () 6 ()\nend\n",
+        b"certificate 1\nclaim 1\ndenominator 1\nrow -1 () 2 ()\nrow -1 (x) 5 (x)\nrow -1 (x) 7 (a x)\nrow -1 (x y' a') 3 ()\n\
+          row 1 (x y') 9 ()\nrow 1 (x) 7 ()\nrow -1 (x) 5 (y)\nrow -1 () 4 (y a y)\nrow -1 (a' x') 8 (y)\nrow 1 () 9 (y' y)\n\
+          row 1 () 8 (y)\nrow 1 () 6 ()\nend\n",
         "0 # block 1 accepted claim 1 denominator 1\n",
     ),
 ];
@@ -136,17 +139,22 @@ pub const JUDGED: &[Row] = &[
     ),
     (
         INVERSES,
-        b"# two blocks\r\ncertificate 1\r\n claim\t1\r\ndenominator 01\r\nrow 1()1(r)\r\n\r\nrow -1(l)2()\r\n# between rows\r\nrow 1 ( ) 6 ( )\r\nrow -1 () 8 ()\r\nend\r\nbasis 1\nclaim 1\nrule l a - [U]\nrest r\nend\ncertificate 1\nclaim 1\ndenominator 2\nrow -1 () 1 (r)\nrow 1 (l) 2 ()\nrow -1 () 6 ()\nrow 1 () 8 ()\nend\n",
+        b"# two blocks\r\ncertificate 1\r\n claim\t1\r\ndenominator 01\r\nrow 1()1(r)\r\n\r\nrow -1(l)2()\r\n# between rows\r\n\
+          row 1 ( ) 6 ( )\r\nrow -1 () 8 ()\r\nend\r\nbasis 1\nclaim 1\nrule l a - [U]\nrest r\nend\ncertificate 1\nclaim 1\n\
+          denominator 2\nrow -1 () 1 (r)\nrow 1 (l) 2 ()\nrow -1 () 6 ()\nrow 1 () 8 ()\nend\n",
         "7 # block 1 accepted claim 1 denominator 1\n# block 2 refused C6 word l want 2 got -1\n",
     ),
     (
         INVERSES,
-        b"certificate 1\nclaim 1\ndenominator 1\nrow 1 () 1 (r)\nrow -1 (l) 2 ()\nrow 1 () 6 ()\nrow -1 () 8 ()\nend\ncertificate 1\nclaim 1\ndenominator 3\nrow 3 () 1 (r)\nrow -3 (l) 2 ()\nrow 3 () 6 ()\nrow -3 () 8 ()\nend\n",
+        b"certificate 1\nclaim 1\ndenominator 1\nrow 1 () 1 (r)\nrow -1 (l) 2 ()\nrow 1 () 6 ()\nrow -1 () 8 ()\nend\ncertificate 1\n\
+          claim 1\ndenominator 3\nrow 3 () 1 (r)\nrow -3 (l) 2 ()\nrow 3 () 6 ()\nrow -3 () 8 ()\nend\n",
         "0 # block 1 accepted claim 1 denominator 1\n# block 2 accepted claim 1 denominator 3\n",
     ),
     (
         PSEUDOINVERSES,
-        b"certificate 1\nclaim 1\ndenominator 1\nrow -1 () 2 ()\nrow -1 (x) 5 (x)\nrow -1 (x) 7 (a x)\nrow -1 (x y' a') 3 ()\nrow 1 (x y') 9 ()\nrow 1 (x) 7 ()\nrow -1 (x) 5 (y)\nrow -1 () 4 (y a y)\nrow -1 (a' x') 8 (y)\nrow 1 () 9 (y' y)\nrow 1 () 8 (y)\nrow 1 () 6 ()\nend\n",
+        b"certificate 1\nclaim 1\ndenominator 1\nrow -1 () 2 ()\nrow -1 (x) 5 (x)\nrow -1 (x) 7 (a x)\nrow -1 (x y' a') 3 ()\n\
+          row 1 (x y') 9 ()\nrow 1 (x) 7 ()\nrow -1 (x) 5 (y)\nrow -1 () 4 (y a y)\nrow -1 (a' x') 8 (y)\nrow 1 () 9 (y' y)\n\
+          row 1 () 8 (y)\nrow 1 () 6 ()\nend\n",
         "0 # block 1 accepted claim 1 denominator 1\n",
     ),
     (
@@ -217,7 +225,8 @@ pub const REFUSED: &[Row] = &[
         "3 # refused S16 line 4 column 7\n",
     ),
     (
-        b"object a b c d e f g h i j k l m n o p q r s t u v w x y z A B C D E F G H I J K L M N O P Q R S T U V W X Y Z aa ab ac ad ae af ag ah ai aj ak al am\n",
+        b"object a b c d e f g h i j k l m n o p q r s t u v w x y z A B C D E F G H I J K L M N O P Q R S T U V W X Y Z aa ab ac \
+          ad ae af ag ah ai aj ak al am\n",
         b"",
         "3 # refused S8 line 1 column 148 limit 64\n",
     ),

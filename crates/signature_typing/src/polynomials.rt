@@ -78,7 +78,8 @@ impl Polynomials {
         statement: &Statement,
     ) -> Result<(), TypeFault>
         requires { All (HasNames quiver.now) (equations_in quiver.now statement.now) }
-        ensures assumptions { OnOk result (polynomials self.new.assumptions ≡ polynomials self.old.assumptions ++ polynomials_of quiver.now (equations_of quiver.now statement.now)) }
+        ensures assumptions { OnOk result (polynomials self.new.assumptions ≡ polynomials self.old.assumptions
+            ++ polynomials_of quiver.now (equations_of quiver.now statement.now)) }
         ensures claims { OnOk result (polynomials self.new.claims ≡ polynomials self.old.claims ++ polynomials_of quiver.now (claims_in statement.now.kind)) }
         ensures fits { OnOk result (wrong_polynomial quiver.now statement.now ≡ None) }
         ensures err { IfErr result (Explains (wrong_polynomial quiver.now statement.now)) }

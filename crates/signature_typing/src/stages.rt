@@ -6,7 +6,8 @@ ghost use Rattle.adjoint_rules.specs.Problem.{IsPosed, polynomials};
 ghost use Rattle.signature_typing.specs.First.{first_among};
 ghost use Rattle.signature_typing.specs.Fault.{Explains};
 ghost use Rattle.signature_typing.specs.Named.{AreNamed};
-ghost use Rattle.signature_typing.specs.Typing.{ArePartsOf, IsProblemOf, equation_fault, fault_of, polynomials_of, signatures_of, wrong_claims, wrong_polynomial, wrong_signature};
+ghost use Rattle.signature_typing.specs.Typing.{ArePartsOf, IsProblemOf, equation_fault, fault_of, polynomials_of, signatures_of};
+ghost use Rattle.signature_typing.specs.Typing.{wrong_claims, wrong_polynomial, wrong_signature};
 
 use crate::TypeFault;
 use crate::fault::no_claim;

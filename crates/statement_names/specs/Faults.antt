@@ -1,5 +1,6 @@
 -- The first thing that is wrong with the names, literals and first words of a file.
-use Rattle.std.specs.Prelude.{◌≡◌, ℕ, ℤ, ◌+◌, pos, negsuc, Bool, true, false, ◌&&◌, not, nat_lt, nat_le, if◌then◌else◌, is_some, List, [], ◌∷◌, ◌++◌, Option, Some, None, sum_by}
+use Rattle.std.specs.Prelude.{◌≡◌, ℕ, ℤ, ◌+◌, pos, negsuc, Bool, true, false, ◌&&◌, not, nat_lt, nat_le, if◌then◌else◌, is_some, List, []}
+use Rattle.std.specs.Prelude.{◌∷◌, ◌++◌, Option, Some, None, sum_by}
 use Rattle.std.specs.List.{flat_map, list_any}
 use Rattle.std.specs.Map.{lookup}
 use Rattle.std.specs.Option.{option_or}
@@ -12,7 +13,8 @@ use Rattle.statement_names.specs.declared.fault.NameStop.{NameStop}
 use Rattle.statement_names.specs.declared.fault.NameStop.TheVariants as stop
 use Rattle.statement_names.specs.declared.kinds.Kind.{Kind}
 use Rattle.statement_names.specs.declared.kinds.Kind.TheVariants.{Object, Map}
-use Rattle.statement_names.specs.Occurrences.{Occurrence, declares_object, declares_map, uses, lists, counts, modulus, begins_order, begins_assumptions, begins_claim, begins_shape, occurrences_of}
+use Rattle.statement_names.specs.Occurrences.{Occurrence, declares_object, declares_map, uses, lists, counts, modulus, begins_order}
+use Rattle.statement_names.specs.Occurrences.{begins_assumptions, begins_claim, begins_shape, occurrences_of}
 use Rattle.quiver.specs.Limits.{object_limit}
 use Rattle.adjoint_rules.specs.Limits.{assumption_limit, claim_limit, shape_limit}
 use Rattle.statement_names.specs.Limits.{map_limit_of}
@@ -100,7 +102,8 @@ fault_behind most_maps kind before (lists front u) =
 fault_behind most_maps kind before (counts most n) = if is_between 1 most (value_of n.value) then None else Some (BadNumber n.at)
 fault_behind most_maps kind before (modulus n) = if is_field_modulus (value_of n.value) then None else Some (BadNumber n.at)
 fault_behind most_maps kind before (begins_order at) = if nat_lt 1 (sum_by orders_by before + 1) then Some (Double at) else None
-fault_behind most_maps kind before (begins_assumptions count at) = if nat_lt assumption_limit (sum_by assumptions_by before + count) then Some (TooMany at assumption_limit) else None
+fault_behind most_maps kind before (begins_assumptions count at) = if nat_lt assumption_limit
+    (sum_by assumptions_by before + count) then Some (TooMany at assumption_limit) else None
 fault_behind most_maps kind before (begins_claim at) = if nat_lt claim_limit (sum_by claims_by before + 1) then Some (TooMany at claim_limit) else None
 fault_behind most_maps kind before (begins_shape at) = if nat_lt shape_limit (sum_by shapes_by before + 1) then Some (TooMany at shape_limit) else None
 

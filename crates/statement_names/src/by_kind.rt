@@ -70,8 +70,11 @@ impl Survey {
         target: &Name,
         selfmade: bool,
     ) -> Result<(), NameStop>
-        ensures ok { OnOk result (run self.old (map (λ name. declares_map name source.now.text target.now.text selfmade) names.now ++ used_names (use_of Kind.Object source.now ∷ use_of Kind.Object target.now ∷ [])) ≡ Ok self.new) }
-        ensures err { IfErr result (Explains (fault_in (run self.old (map (λ name. declares_map name source.now.text target.now.text selfmade) names.now ++ used_names (use_of Kind.Object source.now ∷ use_of Kind.Object target.now ∷ []))))) }
+        ensures ok { OnOk result (run self.old (map (λ name. declares_map name source.now.text target.now.text selfmade) names.now
+            ++ used_names (use_of Kind.Object source.now ∷ use_of Kind.Object target.now ∷ [])) ≡ Ok self.new) }
+        ensures err { IfErr result (Explains
+            (fault_in (run self.old (map (λ name. declares_map name source.now.text target.now.text selfmade) names.now
+            ++ used_names (use_of Kind.Object source.now ∷ use_of Kind.Object target.now ∷ []))))) }
     {
         self.maps(names, source, target, selfmade)?;
         Ok(self.two(source, target, Kind::Object)?)
@@ -103,8 +106,11 @@ impl Survey {
         first: &Name,
         second: &Name,
     ) -> Result<(), NameFault>
-        ensures ok { OnOk result (run self.old (begins_assumptions count at ∷ used_names (use_of Kind.Map first.now ∷ use_of Kind.Map second.now ∷ [])) ≡ Ok self.new) }
-        ensures err { IfErr result (λ e. fault_in (run self.old (begins_assumptions count at ∷ used_names (use_of Kind.Map first.now ∷ use_of Kind.Map second.now ∷ []))) ≡ Some e) }
+        ensures ok { OnOk result (run self.old
+            (begins_assumptions count at ∷ used_names (use_of Kind.Map first.now ∷ use_of Kind.Map second.now ∷ [])) ≡ Ok self.new) }
+        ensures err { IfErr result (λ e.
+            fault_in (run self.old (begins_assumptions count at ∷ used_names
+            (use_of Kind.Map first.now ∷ use_of Kind.Map second.now ∷ []))) ≡ Some e) }
     {
         self.assumptions(count, at)?;
         self.two(first, second, Kind::Map)

@@ -71,7 +71,8 @@ fn mark_abbreviation(
     marks: &mut [bool],
 ) -> Result<(), AllocError>
     requires { length marks.old ≡ object_count quiver.now }
-    ensures { OnOk result (Marks marks.old marks.new (λ v. list_any (writes_identity quiver.now v) (abbreviation_of quiver.now statement.now.at statement.now.kind))) }
+    ensures { OnOk result (Marks marks.old marks.new
+        (λ v. list_any (writes_identity quiver.now v) (abbreviation_of quiver.now statement.now.at statement.now.kind))) }
 {
     for equation in abbreviation(alloc, quiver, statement)?.as_slice() {
         mark_sides(quiver, &equation.left, &equation.right, marks);

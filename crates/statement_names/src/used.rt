@@ -3,7 +3,8 @@
 ghost use Rattle.std.specs.Prelude.{◌≡◌, ◌∷◌, [], ◌++◌, None, Some, Ok, OnOk, IfErr};
 ghost use Rattle.std.specs.List.{flat_map};
 ghost use Rattle.statement_names.specs.Faults.{Explains, kind_in, is_kind};
-ghost use Rattle.statement_names.specs.Occurrences.{lists, names_behind, pairs_behind, used_names, mark_occurrences, primary_occurrences, factor_occurrences, term_occurrences, sum_occurrences, sides_occurrences};
+ghost use Rattle.statement_names.specs.Occurrences.{lists, names_behind, pairs_behind, used_names, mark_occurrences, primary_occurrences};
+ghost use Rattle.statement_names.specs.Occurrences.{factor_occurrences, term_occurrences, sum_occurrences, sides_occurrences};
 ghost use Rattle.statement_names.specs.Survey.{fault_at, run, fault_in, used_fault, names_in};
 ghost use Rattle.statement_names.specs.Uses.{use_of};
 

@@ -192,7 +192,8 @@ ending_tokens (self_word at) = word_token (codes "self") at ∷ []
 abbrev pub stated_tokens : Stated → List Token
 stated_tokens (listed w at n ns) = word_token (list_text w) at ∷ names_tokens (n ∷ ns)
 stated_tokens (mapped at n ns colon s arrow t end) =
-    word_token (codes "map") at ∷ (names_tokens (n ∷ ns) ++ sign_token kind.Colon colon ∷ name_token s ∷ sign_token kind.Arrow arrow ∷ name_token t ∷ ending_tokens end)
+    word_token (codes "map") at ∷ (names_tokens (n ∷ ns) ++ sign_token kind.Colon colon ∷ name_token s ∷ sign_token kind.Arrow arrow
+    ∷ name_token t ∷ ending_tokens end)
 stated_tokens (sides w at d equals e) = word_token (sides_text w) at ∷ (expr_tokens d ++ sign_token kind.Equals equals ∷ expr_tokens e)
 stated_tokens (paired w at m n) = word_token (pair_text w) at ∷ name_token m ∷ name_token n ∷ []
 stated_tokens (projected at n) = word_token (codes "projection") at ∷ name_token n ∷ []

@@ -7,4 +7,5 @@ use Rattle.statement_syntax.specs.Fault.{IsTreeOf, IsFirstFault}
 
 -- Each text has a tree or a first fault.
 abbrev pub EachTextIsRead : Type 0
-EachTextIsRead = (bytes : List ℕ) → ((statements : List Statement) × IsTreeOf bytes statements) ⊎ ((fault : Fault) × ((at : Spot) × IsFirstFault bytes fault at))
+EachTextIsRead = (bytes : List ℕ) → ((statements : List Statement) × IsTreeOf bytes statements)
+    ⊎ ((fault : Fault) × ((at : Spot) × IsFirstFault bytes fault at))

@@ -4,7 +4,10 @@ use Rattle.statement_tokens.specs.declared.place.Spot.{Spot}
 use Rattle.statement_syntax.specs.declared.tree.Statement.{Statement}
 use Rattle.statement_syntax.specs.declared.tree.Name.{Name}
 use Rattle.statement_syntax.specs.declared.tree.Number.{Number}
-use Rattle.statement_syntax.specs.Grammar.{Lead, no_sign, lead_plus, lead_minus, Sign, plus, minus, Expr, first, joined, Product, zero_alone, factors, Factors, one, beside, Marked, plain, marked, raised, Prime, name, identity, bracket, Ending, no_word, self_word, Stated, listed, mapped, sides, paired, projected, by_degree, by_weight, modelled, second_language, StatedLine}
+use Rattle.statement_syntax.specs.Grammar.{Lead, no_sign, lead_plus, lead_minus, Sign, plus, minus, Expr, first, joined, Product}
+use Rattle.statement_syntax.specs.Grammar.{zero_alone, factors, Factors, one, beside, Marked, plain, marked, raised, Prime, name, identity}
+use Rattle.statement_syntax.specs.Grammar.{bracket, Ending, no_word, self_word, Stated, listed, mapped, sides, paired, projected, by_degree}
+use Rattle.statement_syntax.specs.Grammar.{by_weight, modelled, second_language, StatedLine}
 use Rattle.statement_syntax.specs.Tree.{file_tree}
 use Rattle.statement_syntax.specs.Fault.{IsTreeOf}
 
@@ -70,7 +73,8 @@ bare_pairs ps = map bare_pair ps
 
 abbrev pub bare_stated : Stated → Stated
 bare_stated (listed w at n ns) = listed w somewhere (bare_name n) (bare_names ns)
-bare_stated (mapped at n ns colon s arrow t end) = mapped somewhere (bare_name n) (bare_names ns) somewhere (bare_name s) somewhere (bare_name t) (bare_ending end)
+bare_stated (mapped at n ns colon s arrow t end) = mapped somewhere (bare_name n) (bare_names ns) somewhere (bare_name s) somewhere
+    (bare_name t) (bare_ending end)
 bare_stated (sides w at d equals e) = sides w somewhere (bare d) somewhere (bare e)
 bare_stated (paired w at m n) = paired w somewhere (bare_name m) (bare_name n)
 bare_stated (projected at n) = projected somewhere (bare_name n)

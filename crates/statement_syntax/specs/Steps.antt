@@ -1,5 +1,6 @@
 -- The steps of the reader of expressions, one token after another.
-use Rattle.std.specs.Prelude.{◌≡◌, ℤ, zero, suc, Bool, true, false, List, [], ◌∷◌, ◌++◌, length, Option, Some, None, Result, Ok, Err, pos, negsuc, nat_lt, if◌then◌else◌}
+use Rattle.std.specs.Prelude.{◌≡◌, ℤ, zero, suc, Bool, true, false, List, [], ◌∷◌, ◌++◌, length, Option, Some, None, Result, Ok, Err, pos}
+use Rattle.std.specs.Prelude.{negsuc, nat_lt, if◌then◌else◌}
 use Rattle.statement_tokens.specs.declared.place.Spot.{Spot}
 use Rattle.statement_tokens.specs.declared.token.Token.{Token}
 use Rattle.statement_tokens.specs.declared.token.TokenKind.{TokenKind}
@@ -141,7 +142,8 @@ outside_step levels head part kind.Caret at = caret_step levels head part at
 outside_step levels head part kind.End at = Err Expected
 
 abbrev pub square_step : List Level → Head → Part → Spot → TokenKind → Spot → Result Reading Misfit
-square_step levels head part left (kind.Name x) at = Ok (record { levels = levels; head = head; part = part; focus = focus.Named left (record { text = x; at = at }) })
+square_step levels head part left (kind.Name x) at = Ok
+    (record { levels = levels; head = head; part = part; focus = focus.Named left (record { text = x; at = at }) })
 square_step levels head part left k at = Err Expected
 
 abbrev pub named_step : List Level → Head → Part → Spot → Name → TokenKind → Result Reading Misfit
@@ -149,7 +151,8 @@ named_step levels head part left n kind.CloseSquare = Ok (outside levels head (p
 named_step levels head part left n k = Err Expected
 
 abbrev pub raised_step : List Level → Head → Spot → Option Number → List Factor → Factor → Spot → TokenKind → Spot → Result Reading Misfit
-raised_step levels head first l fs last caret (kind.Literal n) at = Ok (outside levels head (Product first l fs (raised_factor last caret (record { value = n; at = at }))))
+raised_step levels head first l fs last caret (kind.Literal n) at = Ok
+    (outside levels head (Product first l fs (raised_factor last caret (record { value = n; at = at }))))
 raised_step levels head first l fs last caret k at = Err Expected
 
 abbrev pub focus_step : List Level → Head → Part → Focus → TokenKind → Spot → Result Reading Misfit

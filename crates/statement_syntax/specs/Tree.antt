@@ -16,8 +16,11 @@ use Rattle.statement_syntax.specs.declared.line.SidesWord.{SidesWord}
 use Rattle.statement_syntax.specs.declared.line.SidesWord.TheVariants.{Assume, Claim}
 use Rattle.statement_syntax.specs.declared.line.PairWord.{PairWord}
 use Rattle.statement_syntax.specs.declared.line.PairWord.TheVariants.{Pinv, Inverse, Inner}
-use Rattle.statement_syntax.specs.Grammar.{Ending, no_word, self_word, Stated, listed, mapped, sides, paired, projected, by_degree, by_weight, modelled, second_language, StatedLine}
-use Rattle.statement_syntax.specs.Grammar.{Lead, no_sign, lead_plus, lead_minus, Sign, plus, minus, Expr, first, joined, Product, zero_alone, factors, Factors, one, beside, Marked, plain, marked, raised, Prime, name, identity, bracket, zero_at}
+use Rattle.statement_syntax.specs.Grammar.{Ending, no_word, self_word, Stated, listed, mapped, sides, paired, projected, by_degree}
+use Rattle.statement_syntax.specs.Grammar.{by_weight, modelled, second_language, StatedLine}
+use Rattle.statement_syntax.specs.Grammar.{Lead, no_sign, lead_plus, lead_minus, Sign, plus, minus, Expr, first, joined, Product}
+use Rattle.statement_syntax.specs.Grammar.{zero_alone, factors, Factors, one, beside, Marked, plain, marked, raised, Prime, name, identity}
+use Rattle.statement_syntax.specs.Grammar.{bracket, zero_at}
 use Rattle.statement_syntax.specs.Nodes.{factor_of, term_of, sum_of, marked_factor, raised_factor}
 
 -- ---- the place of the first token

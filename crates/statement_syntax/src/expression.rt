@@ -1,7 +1,8 @@
 //! What has been read of an expression.
 
 ghost use Rattle.std.specs.Prelude.{◌≡◌, MatchResult, Ok, Err};
-ghost use Rattle.statement_syntax.specs.Steps.{Gives, Turns, empty_head, close_step, open_step, literal_step, caret_step, signed_step, outside_step, token_step, whole_sum};
+ghost use Rattle.statement_syntax.specs.Steps.{Gives, Turns, empty_head, close_step, open_step, literal_step, caret_step, signed_step};
+ghost use Rattle.statement_syntax.specs.Steps.{outside_step, token_step, whole_sum};
 ghost use Rattle.statement_syntax.specs.declared.expression.Focus.TheVariants.{Outside};
 ghost use Rattle.statement_syntax.specs.declared.expression.ReadError.TheVariants as read_error;
 

@@ -2,7 +2,10 @@
 
 ghost use Rattle.std.specs.Prelude.{◌≡◌, ◌++◌, OnOk};
 ghost use Rattle.std.specs.List.{flat_map};
-ghost use Rattle.statement_syntax.specs.Written.{name_kinds, number_kinds, sign_kinds, mark_kinds, literal_kinds, term_kinds, sum_kinds, factor_kinds, word_kinds, pair_kinds, list_kinds, self_kinds, map_kinds, sides_kinds, two_kinds, projection_kinds, language_kinds, degree_kinds, weight_kinds, shape_kinds, statement_kinds};
+ghost use Rattle.statement_syntax.specs.Written.{name_kinds, number_kinds, sign_kinds, mark_kinds, literal_kinds, term_kinds, sum_kinds};
+ghost use Rattle.statement_syntax.specs.Written.{factor_kinds, word_kinds, pair_kinds, list_kinds, self_kinds, map_kinds, sides_kinds};
+ghost use Rattle.statement_syntax.specs.Written.{two_kinds, projection_kinds, language_kinds, degree_kinds, weight_kinds, shape_kinds};
+ghost use Rattle.statement_syntax.specs.Written.{statement_kinds};
 
 use crate::tree::{Factor, Mark, Name, Number, Primary, StatementKind, Sum, Term};
 use lists::{Duplicate, Listing, Text};

@@ -34,7 +34,8 @@ pub fn sides_step(
     reading: &mut Reading,
     token: Token,
 ) -> Result<(), ReadError>
-    ensures { (word : SidesWord) → (at : Spot) → Turns result (Sides word at left.new reading.new) (sides_step word at left.old reading.old token.kind token.at) }
+    ensures { (word : SidesWord) → (at : Spot)
+        → Turns result (Sides word at left.new reading.new) (sides_step word at left.old reading.old token.kind token.at) }
 {
     match (&*left, &token.kind) {
         (None, TokenKind::Equals) => end_left(alloc, left, reading),

@@ -3,7 +3,8 @@
 ghost use Rattle.std.specs.Prelude.{◌≡◌, ◌≤◌, ◌<◌, ◌+◌, ◌^◌, ◌++◌, ◌∷◌, length, IfOk, OnOk, SomeIff, pos};
 ghost use Rattle.std.specs.List.{prefix_len, take_while};
 ghost use Rattle.std.specs.Str.{chars, encode_utf8_all};
-ghost use Rattle.statement_tokens.specs.Token.{item_at, sign_at, caret_in, GivesItem, ScansTo, tokens_of, more_of, value_from, name_of, literal_of, begins_with, is_digit, starts_name, end_of};
+ghost use Rattle.statement_tokens.specs.Token.{item_at, sign_at, caret_in, GivesItem, ScansTo, tokens_of, more_of, value_from, name_of};
+ghost use Rattle.statement_tokens.specs.Token.{literal_of, begins_with, is_digit, starts_name, end_of};
 ghost use Rattle.unicode_ident.specs.Ident.{is_xid_continue};
 ghost use Rattle.statement_tokens.specs.Token.{is_in};
 ghost use Rattle.statement_tokens.specs.declared.scan.ItemError.TheVariants as item_error;

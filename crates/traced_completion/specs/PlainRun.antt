@@ -1,5 +1,6 @@
 -- The plain run: rounds, one after another, on plain lists.
-use Rattle.std.specs.Prelude.{◌≡◌, ℕ, zero, suc, ◌-◌, min, List, [], ◌∷◌, ◌++◌, map, length, take, Bool, true, false, nat_le, Option, Some, None, Result, Ok, Err}
+use Rattle.std.specs.Prelude.{◌≡◌, ℕ, zero, suc, ◌-◌, min, List, [], ◌∷◌, ◌++◌, map, length, take, Bool, true, false, nat_le, Option, Some}
+use Rattle.std.specs.Prelude.{None, Result, Ok, Err}
 use Rattle.definitions.specs.Poly.{Term}
 use Rattle.word_orders.specs.Admissible.{Compare}
 use Rattle.word_orders.specs.Specified.{asked_cmp}

@@ -11,7 +11,8 @@ use Rattle.traced_completion.specs.declared.pending.waiting.Waiting.{Waiting}
 
 -- by the first rule, then by the second rule, then overlaps before inclusions, then by the place
 abbrev pub ambiguity_cmp : Ambiguity → Ambiguity → Ordering
-ambiguity_cmp = then_cmp (then_cmp (on (λ a. a.i) nat_cmp) (on (λ a. a.j) nat_cmp)) (then_cmp (on (λ a. kind_number a.kind) nat_cmp) (on (λ a. a.place) nat_cmp))
+ambiguity_cmp = then_cmp (then_cmp (on (λ a. a.i) nat_cmp) (on (λ a. a.j) nat_cmp))
+    (then_cmp (on (λ a. kind_number a.kind) nat_cmp) (on (λ a. a.place) nat_cmp))
 
 -- by the overlap word, and then as their ambiguities
 abbrev pub waiting_cmp : Compare → Waiting → Waiting → Ordering

@@ -88,7 +88,8 @@ impl Completion {
         requires of_problem { IsCompletionOf problem.now self.old }
         requires some_worker { 0 < workers }
         requires few_workers { workers ≤ worker_limit }
-        ensures exact { IfOk result (λ step. IsRound (setting_of problem.now self.old.budget) self.old.rounds (state_of self.old) (outcome_of step (state_of self.new))) }
+        ensures exact { IfOk result (λ step. IsRound (setting_of problem.now self.old.budget) self.old.rounds (state_of self.old)
+            (outcome_of step (state_of self.new))) }
         ensures of_problem { IsCompletionOf problem.now self.new }
         ensures budget { self.new.budget ≡ self.old.budget }
         ensures rounds { IfOk result (λ step. self.new.rounds ≡ rounds_after step self.old.rounds) }
@@ -120,7 +121,8 @@ impl Completion {
     fn round_zero(&mut self, problem: &Problem) -> Result<Step, AllocError>
         requires of_problem { IsCompletionOf problem.now self.old }
         requires first { self.old.rounds ≡ 0 }
-        ensures exact { IfOk result (λ step. IsRound (setting_of problem.now self.old.budget) self.old.rounds (state_of self.old) (outcome_of step (state_of self.new))) }
+        ensures exact { IfOk result (λ step. IsRound (setting_of problem.now self.old.budget) self.old.rounds (state_of self.old)
+            (outcome_of step (state_of self.new))) }
         ensures of_problem { IsCompletionOf problem.now self.new }
         ensures budget { self.new.budget ≡ self.old.budget }
         ensures rounds { IfOk result (λ step. self.new.rounds ≡ rounds_after step self.old.rounds) }

@@ -86,7 +86,8 @@ fn collect_answers(
     alloc: Global,
     answers: Vec<Result<First, ReduceFault>>,
 ) -> Result<Listing<First>, ReduceFault>
-    ensures { MatchResult result (λ firsts. each_in_turn (λ answer. answer) answers.items ≡ Ok firsts) (Explains (each_in_turn (λ answer. answer) answers.items)) }
+    ensures { MatchResult result (λ firsts. each_in_turn (λ answer. answer) answers.items ≡ Ok firsts)
+        (Explains (each_in_turn (λ answer. answer) answers.items)) }
 {
     if is_memory_short(&answers) {
         return Err(ReduceFault::Memory(AllocError));
@@ -112,7 +113,8 @@ pub(crate) fn reduce_all<R: Threads + Sync, O: WordOrder + Drop + Sync, G: Gate 
     requires ambiguities { All (λ w. IsAmbiguity rules.now.rules w.which) taken.now }
     requires some_worker { 0 < workers }
     requires few_workers { workers ≤ worker_limit }
-    ensures exact { MatchResult result (λ firsts. each_in_turn (first_of (O.compare rules.now.order) steps rules.now.rules) (ambiguities_of taken.now) ≡ Ok (map plain_first firsts))
+    ensures exact { MatchResult result (λ firsts. each_in_turn (first_of (O.compare rules.now.order) steps rules.now.rules)
+        (ambiguities_of taken.now) ≡ Ok (map plain_first firsts))
         (Explains (each_in_turn (first_of (O.compare rules.now.order) steps rules.now.rules) (ambiguities_of taken.now))) }
     ensures kept { IfOk result (All (λ f. IsKeptFirst (O.letters rules.now.order) (length rules.now.rules) (plain_first f))) }
     ensures one_each { IfOk result (λ firsts. length firsts ≡ length taken.now) }

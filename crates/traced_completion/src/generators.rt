@@ -56,7 +56,8 @@ fn reduce_generator<O: WordOrder + Drop>(
     requires few { length rules.old.rules + 1 < 2 ^ 32 }
     ensures order { rules.new.order ≡ rules.old.order }
     ensures records { OnOk result (HasRecords (record { rules = rules.new.rules; made = made.new })) }
-    ensures exact { OnOk result (Does (O.compare rules.old.order) (generator_work (O.compare rules.old.order) steps (polynomials generators.now) number rules.old.rules)
+    ensures exact { OnOk result (Does (O.compare rules.old.order)
+        (generator_work (O.compare rules.old.order) steps (polynomials generators.now) number rules.old.rules)
         (record { rules = rules.old.rules; made = made.old }) (record { rules = rules.new.rules; made = made.new })) }
     ensures fault { IfErr result (Explains (generator_work (O.compare rules.old.order) steps (polynomials generators.now) number rules.old.rules)) }
     ensures rules_back { OnErr result (rules.new.rules ≡ rules.old.rules) }
@@ -112,9 +113,12 @@ pub(crate) fn reduce_generators<O: WordOrder + Drop>(
     ensures order { rules.new.order ≡ rules.old.order }
     ensures records { OnOk result (HasRecords (record { rules = rules.new.rules; made = made.new })) }
     ensures most { length rules.new.rules ≤ length rules.old.rules + length generators.now }
-    ensures exact { OnOk result (InTurn (O.compare rules.old.order) (map (generator_work (O.compare rules.old.order) steps (polynomials generators.now)) (units_first units (length generators.now)))
+    ensures exact { OnOk result (InTurn (O.compare rules.old.order)
+        (map (generator_work (O.compare rules.old.order) steps (polynomials generators.now)) (units_first units (length generators.now)))
         (record { rules = rules.old.rules; made = made.old }) (Ok (record { rules = rules.new.rules; made = made.new }))) }
-    ensures fault { IfErr result (EndsWith (InTurn (O.compare rules.old.order) (map (generator_work (O.compare rules.old.order) steps (polynomials generators.now)) (units_first units (length generators.now)))
+    ensures fault { IfErr result (EndsWith
+        (InTurn (O.compare rules.old.order) (map (generator_work (O.compare rules.old.order) steps (polynomials generators.now))
+        (units_first units (length generators.now)))
         (record { rules = rules.old.rules; made = made.old }))) }
     ensures rules_front { take (length rules.old.rules) rules.new.rules ≡ rules.old.rules }
     ensures made_front { take (length made.old) made.new ≡ made.old }

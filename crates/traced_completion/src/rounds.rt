@@ -61,9 +61,14 @@ impl Completion {
         ensures records { OnOk result (HasRecords (recorded (state_of self.new))) }
         ensures most { length self.new.rules.rules ≤ length problem.now.generators }
         ensures next { OnOk result (IsNextStore (made_cmp self.old.rules.order) self.new.rules.rules 0 0 self.old.waiting self.new.waiting) }
-        ensures exact { OnOk result (InTurn (made_cmp self.old.rules.order) (map (generator_work (made_cmp self.old.rules.order) self.old.budget.steps (polynomials problem.now.generators)) (units_first (length (units_in problem.now.parts)) (length problem.now.generators)))
+        ensures exact { OnOk result (InTurn (made_cmp self.old.rules.order)
+            (map (generator_work (made_cmp self.old.rules.order) self.old.budget.steps (polynomials problem.now.generators))
+            (units_first (length (units_in problem.now.parts)) (length problem.now.generators)))
             (recorded (state_of self.old)) (Ok (recorded (state_of self.new)))) }
-        ensures fault { IfErr result (EndsWith (InTurn (made_cmp self.old.rules.order) (map (generator_work (made_cmp self.old.rules.order) self.old.budget.steps (polynomials problem.now.generators)) (units_first (length (units_in problem.now.parts)) (length problem.now.generators)))
+        ensures fault { IfErr result (EndsWith
+            (InTurn (made_cmp self.old.rules.order)
+            (map (generator_work (made_cmp self.old.rules.order) self.old.budget.steps (polynomials problem.now.generators))
+            (units_first (length (units_in problem.now.parts)) (length problem.now.generators)))
             (recorded (state_of self.old)))) }
         ensures waiting_back { OnErr result (self.new.waiting ≡ self.old.waiting) }
     {
@@ -104,10 +109,15 @@ impl Completion {
         ensures treated { OnOk result (self.new.treated ≡ self.old.treated ++ ambiguities_of (take count self.old.waiting)) }
         ensures records { OnOk result (HasRecords (recorded (state_of self.new))) }
         ensures most { length self.new.rules.rules ≤ length self.old.rules.rules + count }
-        ensures next { OnOk result (IsNextStore (made_cmp self.old.rules.order) self.new.rules.rules (length self.old.rules.rules) count self.old.waiting self.new.waiting) }
-        ensures exact { OnOk result (InTwoPasses (made_cmp self.old.rules.order) self.old.budget.steps (each_in_turn (first_of (made_cmp self.old.rules.order) self.old.budget.steps self.old.rules.rules) (ambiguities_of (take count self.old.waiting)))
+        ensures next { OnOk result (IsNextStore (made_cmp self.old.rules.order) self.new.rules.rules
+            (length self.old.rules.rules) count self.old.waiting self.new.waiting) }
+        ensures exact { OnOk result (InTwoPasses (made_cmp self.old.rules.order) self.old.budget.steps
+            (each_in_turn (first_of (made_cmp self.old.rules.order) self.old.budget.steps self.old.rules.rules)
+            (ambiguities_of (take count self.old.waiting)))
             (recorded (state_of self.old)) (Ok (recorded (state_of self.new)))) }
-        ensures fault { IfErr result (EndsWith (InTwoPasses (made_cmp self.old.rules.order) self.old.budget.steps (each_in_turn (first_of (made_cmp self.old.rules.order) self.old.budget.steps self.old.rules.rules) (ambiguities_of (take count self.old.waiting)))
+        ensures fault { IfErr result (EndsWith (InTwoPasses (made_cmp self.old.rules.order) self.old.budget.steps
+            (each_in_turn (first_of (made_cmp self.old.rules.order) self.old.budget.steps self.old.rules.rules)
+            (ambiguities_of (take count self.old.waiting)))
             (recorded (state_of self.old)))) }
         ensures rules_front { take (length self.old.rules.rules) self.new.rules.rules ≡ self.old.rules.rules }
         ensures made_front { take (length self.old.made) self.new.made ≡ self.old.made }
@@ -133,7 +143,8 @@ impl Completion {
     // Why no more ambiguities are treated where the budget of pairs is spent.
     pub(crate) fn spent(&self) -> Result<Halt, AllocError>
         requires { length self.now.treated < 2 ^ 32 }
-        ensures { IfOk result (λ halt. halt ≡ record { cause = cause.Pairs (length self.now.treated); place = place.Run; least = first_word self.now.waiting }) }
+        ensures { IfOk result (λ halt.
+            halt ≡ record { cause = cause.Pairs (length self.now.treated); place = place.Run; least = first_word self.now.waiting }) }
     {
         Ok(Halt {
             cause: Cause::Pairs {

@@ -47,7 +47,8 @@ fn record_rows(first: First, second: Reduced) -> Result<(Poly, Listing<Row>), Re
     requires second_rows_in { All (λ r. IsCoefficient r.coef) second.rows }
     ensures rest { IfOk result (λ r. r.0 ≡ second.rest) }
     ensures in_range { IfOk result (λ r. All (λ row. IsCoefficient row.coef) r.1) }
-    ensures exact { MatchResult result (λ r. unless_overflow (first_overflow (rows_operations (plain_first first) (plain second))) (second_rows (plain_first first) (plain second)) ≡ Ok r.1)
+    ensures exact { MatchResult result (λ r. unless_overflow (first_overflow (rows_operations (plain_first first) (plain second)))
+        (second_rows (plain_first first) (plain second)) ≡ Ok r.1)
         (Explains (unless_overflow (first_overflow (rows_operations (plain_first first) (plain second))) (second_rows (plain_first first) (plain second)))) }
 {
     let First { rows, reduced } = first;

@@ -1,5 +1,6 @@
 //! What the store is, as laws over the definitions.
-ghost use Rattle.traced_completion.specs.StoreLaws.{StoresAreUnique, LeastWordsAreLeast, NothingIsPendingAtFirst, AmbiguitiesStay, TakenOnesAreAmbiguities, PendingWordsAreOver};
+ghost use Rattle.traced_completion.specs.StoreLaws.{StoresAreUnique, LeastWordsAreLeast, NothingIsPendingAtFirst, AmbiguitiesStay};
+ghost use Rattle.traced_completion.specs.StoreLaws.{TakenOnesAreAmbiguities, PendingWordsAreOver};
 
 /// Two lists with all pending ones of the same rules are the same.
 pub fn stores_are_unique()

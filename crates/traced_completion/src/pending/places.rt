@@ -29,7 +29,8 @@ impl<'a, O: WordOrder> Table<'a, O> {
     // The places from a number on, in the order of what stands at them.
     fn sorted_places(&self, alloc: Global, from: usize) -> Result<Vec<usize>, AllocError>
         ensures permutation { IfOk result (λ places. IsPermutation (range_with_len from (length self.now.items.now - from)) places.items) }
-        ensures sorted { IfOk result (λ places. IsSortedByKey (λ place. slice_index_or self.now.items.now place self.now.fallback.now) (waiting_cmp (O.compare self.now.order.now)) places.items) }
+        ensures sorted { IfOk result (λ places. IsSortedByKey (λ place. slice_index_or self.now.items.now place self.now.fallback.now)
+            (waiting_cmp (O.compare self.now.order.now)) places.items) }
     {
         let mut places = places_between(alloc, from, self.items.len())?;
         places.sort_by(|left, right| self.compare_at(*left, *right))?;
@@ -67,7 +68,8 @@ pub(super) fn places_in_order<O: WordOrder>(
 ) -> Result<Vec<usize>, AllocError>
     requires over { All (λ w. IsOver (O.letters order.now) w.word) items.now }
     ensures permutation { IfOk result (λ places. IsPermutation (range_with_len from (length items.now - from)) places.items) }
-    ensures sorted { IfOk result (λ places. (d : Waiting) → IsSortedByKey (λ place. slice_index_or items.now place d) (waiting_cmp (O.compare order.now)) places.items) }
+    ensures sorted { IfOk result (λ places. (d : Waiting) → IsSortedByKey (λ place. slice_index_or items.now place d)
+        (waiting_cmp (O.compare order.now)) places.items) }
 {
     match items.first() {
         Some(fallback) => {
