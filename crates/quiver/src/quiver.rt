@@ -81,6 +81,17 @@ impl Quiver {
         ensures unchanged { OnErr result (self.new ≡ self.old) }
     {
         self.check_object(name)?;
+        Ok(self.declare_object(name)?)
+    }
+
+    /// Declares an object with which nothing is wrong, as `add_object` does. It fails only where memory is short, and
+    /// leaves the quiver as it was then.
+    pub fn declare_object(&mut self, name: &str) -> Result<Object, AllocError>
+        requires { object_fault self.old name.now ≡ None }
+        ensures declared { OnOk result (self.new ≡ self.old ++ object name.now ∷ []) }
+        ensures number { IfOk result (λ v. v.0 ≡ object_count self.old) }
+        ensures unchanged { OnErr result (self.new ≡ self.old) }
+    {
         let object = self.next_object();
         let identity = self.next_letter();
         let declaration = self.names.len();
@@ -124,6 +135,25 @@ impl Quiver {
         ensures unchanged { OnErr result (self.new ≡ self.old) }
     {
         self.check_map(name, source, target, selfmade)?;
+        Ok(self.declare_map(name, source, target, selfmade)?)
+    }
+
+    /// Declares a map with which nothing is wrong, as `add_map` does. It fails only where memory is short, and leaves the
+    /// quiver as it was then.
+    pub fn declare_map(
+        &mut self,
+        name: &str,
+        source: Object,
+        target: Object,
+        selfmade: bool,
+    ) -> Result<Letter, AllocError>
+        requires source_in { source.0 < object_count self.old }
+        requires target_in { target.0 < object_count self.old }
+        requires sound { map_fault self.old name.now source.0 target.0 selfmade ≡ None }
+        ensures declared { OnOk result (self.new ≡ self.old ++ arrow name.now source.0 target.0 selfmade ∷ []) }
+        ensures number { IfOk result (λ a. a.0 ≡ letter_count self.old) }
+        ensures unchanged { OnErr result (self.new ≡ self.old) }
+    {
         let letter = self.next_letter();
         let declaration = self.names.len();
         let key = String::from_str(*self.names.allocator(), name)?;

@@ -7,11 +7,9 @@ use Rattle.std.proofs.lemmas.Bool.Decides.{nat_tests}
 use Rattle.std.proofs.lemmas.List.{map-append}
 use Rattle.quiver.specs.declared.fault.QuiverFault.{QuiverFault}
 use Rattle.quiver.specs.declared.fault.QuiverFault.TheVariants.{DoubleName, TooMany, NotSquare}
-use Rattle.quiver.specs.declared.fault.QuiverStop.{QuiverStop}
-use Rattle.quiver.specs.declared.fault.QuiverStop.TheVariants as stop
 use Rattle.quiver.specs.Declarations.{Declaration, object, arrow, name_of, object_count, map_count, named_in, has_ends, IsDeclared}
 use Rattle.quiver.specs.Limits.{object_limit, map_limit}
-use Rattle.quiver.specs.Refusals.{object_fault, map_fault, Explains, IsMemory}
+use Rattle.quiver.specs.Refusals.{object_fault, map_fault}
 use Rattle.quiver.proofs.Letters.{ends_of}
 use Rattle.quiver.proofs.Counts.{object_count-append, map_count-append}
 use Rattle.statement_names.specs.declared.kinds.Kind.{Kind}
@@ -95,8 +93,3 @@ no_map_fault xs name u v selfmade ys declared =
     let square : (selfmade && not (nat_eq u v)) ≡ false = square_of selfmade (nat_eq u v) (ends_of n name u v selfmade ends).square in
     ap₂ (λ b c. if b then Some DoubleName else if c then Some (TooMany map_limit) else if selfmade && not (nat_eq u v) then Some NotSquare else None) (ap is_some fresh) free
     ∙ ap (λ b. if b then Some NotSquare else None) square
-
--- only memory is left
-pub only_memory : (found : Option QuiverFault) (stopped : QuiverStop) → found ≡ None → Explains found stopped → IsMemory stopped
-only_memory found (stop.Fault fault) none h = absurd (cc)
-only_memory found (stop.Memory e) none h = tt

@@ -2,12 +2,11 @@
 
 ghost use Rattle.std.specs.Prelude.{◌≡◌, ◌++◌, None, IfOk, OnOk};
 ghost use Rattle.quiver.specs.Declarations.{IsDeclared};
-ghost use Rattle.quiver.specs.Refusals.{IsMemory};
 ghost use Rattle.statement_names.specs.Faults.{name_fault_of};
 ghost use Rattle.statement_names.specs.Numbered.{objects_in, maps_in, declarations_of, HasEnds};
 
 use expressions::object_of;
-use quiver::{Quiver, QuiverStop};
+use quiver::Quiver;
 use statement_syntax::{Statement, StatementKind};
 use std::alloc::{AllocError, Global};
 
@@ -39,10 +38,7 @@ fn add_objects(quiver: &mut Quiver, statement: &StatementKind) -> Result<(), All
 {
     if let StatementKind::Objects(names) = statement {
         for name in names.as_slice() {
-            match quiver.add_object(name.text.as_str()) {
-                Ok(_) => {}
-                Err(stop) => return Err(memory_of(stop)),
-            }
+            quiver.declare_object(name.text.as_str())?;
         }
     }
     Ok(())
@@ -64,21 +60,8 @@ fn add_maps(quiver: &mut Quiver, statement: &StatementKind) -> Result<(), AllocE
         let source = object_of(quiver, source);
         let target = object_of(quiver, target);
         for name in names.as_slice() {
-            match quiver.add_map(name.text.as_str(), source, target, *selfmade) {
-                Ok(_) => {}
-                Err(stop) => return Err(memory_of(stop)),
-            }
+            quiver.declare_map(name.text.as_str(), source, target, *selfmade)?;
         }
     }
     Ok(())
-}
-
-// The want of memory, where nothing else is wrong with a declaration.
-fn memory_of(stop: QuiverStop) -> AllocError
-    requires { IsMemory stop }
-{
-    match stop {
-        QuiverStop::Memory(error) => error,
-        QuiverStop::Fault(_) => unreachable!(),
-    }
 }

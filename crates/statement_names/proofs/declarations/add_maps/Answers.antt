@@ -1,11 +1,11 @@
 use Rattle.std.proofs.Common.{◌≡◌, List, ◌++◌, ◌∷◌, ℕ, ◌+◌, ◌<◌, Bool, map, drop, None, arith, ap, ap₂, sym, subst, ◌∙◌}
 use Rattle.quiver.specs.Declarations.{Declaration, arrow, object_count, IsDeclared}
-use Rattle.quiver.specs.Refusals.{map_fault, Explains}
+use Rattle.quiver.specs.Refusals.{map_fault}
 use Rattle.quiver.proofs.Counts.{object_count-append}
 use Rattle.statement_syntax.specs.declared.tree.Name.{Name}
 use Rattle.statement_names.specs.Numbered.{maps_in}
 use Rattle.statement_names.proofs.Items.{map_split}
-use Rattle.statement_names.proofs.Fresh.{no_map_fault, only_memory}
+use Rattle.statement_names.proofs.Fresh.{no_map_fault}
 use Rattle.statement_names.proofs.declarations.add_maps.Goals as goal
 
 abbrev declaration : ℕ → ℕ → Bool → Name → Declaration
@@ -15,16 +15,16 @@ declaration u v selfmade n = arrow n.text u v selfmade
 in_more : (before after more : List Declaration) (v : ℕ) → after ≡ before ++ more → v < object_count before → v < object_count after
 in_more before after more v is below = omega (arith, ap object_count is, object_count-append before more, below)
 
-pub add_map-requires-clause-source_in : goal.add_map-requires-clause-source_in
-add_map-requires-clause-source_in c =
+pub declare_map-requires-clause-source_in : goal.declare_map-requires-clause-source_in
+declare_map-requires-clause-source_in c =
     in_more c.args.quiver.now c.loop-name.quiver _ c.object_of-source.result.0 c.loop-name.invariant c.object_of-source.ensures.in_range
 
-pub add_map-requires-clause-target_in : goal.add_map-requires-clause-target_in
-add_map-requires-clause-target_in c =
+pub declare_map-requires-clause-target_in : goal.declare_map-requires-clause-target_in
+declare_map-requires-clause-target_in c =
     in_more c.args.quiver.now c.loop-name.quiver _ c.object_of-target.result.0 c.loop-name.invariant c.object_of-target.ensures.in_range
 
-pub memory_of-requires : goal.memory_of-requires
-memory_of-requires c =
+pub declare_map-requires-clause-sound : goal.declare_map-requires-clause-sound
+declare_map-requires-clause-sound c =
     let names = c.as_slice-name-items.result.now in
     let u = c.object_of-source.result.0 in
     let v = c.object_of-target.result.0 in
@@ -36,7 +36,5 @@ memory_of-requires c =
     ∙ ap (λ ns. c.args.quiver.now ++ map made ns) (sym c.as_slice-name-items.ensures)
     ∙ map_split names c.loop-name.name-index c.name-item.result c.loop-name-test.true c.name-item.is made c.args.quiver.now
     ∙ ap (λ q. q ++ made c.name-item.result ∷ rest) (sym c.loop-name.invariant) in
-    let none : map_fault c.loop-name.quiver c.name-item.result.text u v c.in-Maps.selfmade ≡ None =
-    no_map_fault c.loop-name.quiver c.name-item.result.text u v c.in-Maps.selfmade rest (subst IsDeclared whole c.requires.fits) in
-    only_memory (map_fault c.loop-name.quiver c.name-item.result.text u v c.in-Maps.selfmade) c.in-Err.stop none
-    (subst (λ t. Explains (map_fault c.loop-name.quiver t u v c.in-Maps.selfmade) c.in-Err.stop) c.as_str.ensures c.in-Err.ensures.fault)
+    subst (λ t. map_fault c.loop-name.quiver t u v c.in-Maps.selfmade ≡ None) (sym c.as_str.ensures)
+    (no_map_fault c.loop-name.quiver c.name-item.result.text u v c.in-Maps.selfmade rest (subst IsDeclared whole c.requires.fits))

@@ -1,27 +1,26 @@
 use Rattle.std.proofs.Common.{◌≡◌, ◌++◌, ◌∷◌, map, drop, None, ap, sym, subst, ◌∙◌, ◌+◌}
 use Rattle.std.proofs.lemmas.List.{take_all}
 use Rattle.quiver.specs.Declarations.{Declaration, object, IsDeclared}
-use Rattle.quiver.specs.Refusals.{object_fault, Explains}
+use Rattle.quiver.specs.Refusals.{object_fault}
 use Rattle.statement_syntax.specs.declared.tree.Name.{Name}
 use Rattle.statement_names.specs.Numbered.{objects_in}
 use Rattle.statement_names.proofs.Items.{map_split}
-use Rattle.statement_names.proofs.Fresh.{no_object_fault, only_memory}
+use Rattle.statement_names.proofs.Fresh.{no_object_fault}
 use Rattle.statement_names.proofs.declarations.add_objects.Goals as goal
 
 abbrev declaration : Name → Declaration
 declaration n = object n.text
 
-pub memory_of-requires : goal.memory_of-requires
-memory_of-requires c =
+pub declare_object-requires : goal.declare_object-requires
+declare_object-requires c =
     let names = c.as_slice-name-items.result.now in
     let whole : c.args.quiver.now ++ objects_in c.args.statement.now ≡ c.loop-name.quiver ++ object c.name-item.result.text ∷ map declaration (drop (c.loop-name.name-index + 1) names) =
     ap (λ k. c.args.quiver.now ++ objects_in k) c.in-Objects.is ∙ ap (λ ns. c.args.quiver.now ++ map declaration ns) (sym c.as_slice-name-items.ensures)
     ∙ map_split names c.loop-name.name-index c.name-item.result c.loop-name-test.true c.name-item.is declaration c.args.quiver.now
     ∙ ap (λ q. q ++ object c.name-item.result.text ∷ map declaration (drop (c.loop-name.name-index + 1) names)) (sym c.loop-name.invariant) in
-    let none : object_fault c.loop-name.quiver c.name-item.result.text ≡ None =
-    no_object_fault c.loop-name.quiver c.name-item.result.text (map declaration (drop (c.loop-name.name-index + 1) names)) (subst IsDeclared whole c.requires) in
-    only_memory (object_fault c.loop-name.quiver c.name-item.result.text) c.in-Err.stop none
-    (subst (λ t. Explains (object_fault c.loop-name.quiver t) c.in-Err.stop) c.as_str.ensures c.in-Err.ensures.fault)
+    subst (λ t. object_fault c.loop-name.quiver t ≡ None) (sym c.as_str.ensures)
+    (no_object_fault c.loop-name.quiver c.name-item.result.text (map declaration (drop (c.loop-name.name-index + 1) names))
+    (subst IsDeclared whole c.requires))
 
 pub returns-after-loop-name : goal.returns-after-loop-name
 returns-after-loop-name c =

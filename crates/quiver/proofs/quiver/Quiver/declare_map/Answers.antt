@@ -8,7 +8,7 @@ use Rattle.quiver.proofs.Growth.{next_turn}
 use Rattle.quiver.proofs.Declared.{declared_map, fresh_map}
 use Rattle.quiver.proofs.Fields.{are_declared, names_len}
 use Rattle.quiver.proofs.Added.{Adds, declarations_added, kept_added, kept_of_same}
-use Rattle.quiver.proofs.quiver.Quiver.add_map.Goals as goal
+use Rattle.quiver.proofs.quiver.Quiver.declare_map.Goals as goal
 
 -- ---- a map that is its own adjoint
 allowed : (c : goal.In_ok-push) → map_fault c.args.self.now c.args.name.now c.args.source.0 c.args.target.0 c.args.selfmade ≡ None
@@ -41,8 +41,8 @@ adds c =
 pub returns-in_ok-push-clause-declared : goal.returns-in_ok-push-clause-declared
 returns-in_ok-push-clause-declared c = declarations_added c.self.inside _ c.args.self.now _ c.self.view_is c.self.invariant (adds c)
 
-pub invariant_of-self-in-Continue-branch-5 : goal.invariant_of-self-in-Continue-branch-5
-invariant_of-self-in-Continue-branch-5 c =
+pub invariant_of-self-in-Continue-branch-4 : goal.invariant_of-self-in-Continue-branch-4
+invariant_of-self-in-Continue-branch-4 c =
     kept_added c.self.inside _ c.args.self.now _ c.self.view_is c.self.invariant (adds c)
     (declared_map c.args.self.now c.args.name.now (are_declared c.self.inside c.args.self.now c.self.view_is c.self.invariant) _ _ _ c.requires.source_in c.requires.target_in (allowed c))
 
@@ -84,8 +84,8 @@ adds_pair c =
 pub returns-in_ok-push-3-clause-declared : goal.returns-in_ok-push-3-clause-declared
 returns-in_ok-push-3-clause-declared c = declarations_added c.self.inside _ c.args.self.now _ c.self.view_is c.self.invariant (adds_pair c)
 
-pub invariant_of-self-in-Continue-branch-7 : goal.invariant_of-self-in-Continue-branch-7
-invariant_of-self-in-Continue-branch-7 c =
+pub invariant_of-self-in-Continue-branch-6 : goal.invariant_of-self-in-Continue-branch-6
+invariant_of-self-in-Continue-branch-6 c =
     kept_added c.self.inside _ c.args.self.now _ c.self.view_is c.self.invariant (adds_pair c)
     (declared_map c.args.self.now c.args.name.now (are_declared c.self.inside c.args.self.now c.self.view_is c.self.invariant) _ _ _ c.requires.source_in c.requires.target_in (allowed_pair c))
 

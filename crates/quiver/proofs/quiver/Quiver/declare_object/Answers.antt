@@ -5,7 +5,7 @@ use Rattle.quiver.specs.Refusals.{object_fault}
 use Rattle.quiver.proofs.Declared.{declared_object, fresh_object}
 use Rattle.quiver.proofs.Fields.{are_declared, names_len}
 use Rattle.quiver.proofs.Added.{Adds, declarations_added, kept_added, kept_of_same}
-use Rattle.quiver.proofs.quiver.Quiver.add_object.Goals as goal
+use Rattle.quiver.proofs.quiver.Quiver.declare_object.Goals as goal
 
 allowed : (c : goal.In_ok-push-2) → object_fault c.args.self.now c.args.name.now ≡ None
 allowed c = search rules
