@@ -10,13 +10,15 @@ use Rattle.statement_tokens.specs.declared.scan.Item.TheVariants as item
 use Rattle.statement_tokens.specs.declared.scan.Placed.{Placed}
 use Rattle.statement_tokens.specs.declared.scan.ScanFault.TheVariants.{BadToken}
 use Rattle.statement_tokens.specs.Language.{language_of}
-use Rattle.statement_tokens.specs.Token.{◌>>=◌, item_at, name_of, tokens_from, tokens_of, end_of}
+use Rattle.statement_tokens.specs.Tokens.{end_of}
+use Rattle.statement_tokens.specs.Items.{item_at, name_of}
+use Rattle.statement_tokens.proofs.Reading.{◌>>=◌, tokens_from, tokens_of}
 use Rattle.statement_syntax.specs.Grammar.{name_token}
 use Rattle.statement_tokens.proofs.Scanning.{spot}
 use Rattle.statement_syntax.proofs.Moved.{kinds}
 use Rattle.statement_syntax.proofs.Spelled.{SpellsName, IsFileToken, AllKinds, AllKinds-split, tokens_are}
 use Rattle.statement_syntax.proofs.StatedKinds.{kinds-append}
-use Rattle.statement_syntax.proofs.Rescan.{one_token, name_back}
+use Rattle.statement_tokens.proofs.Rescan.{one_token, name_back}
 use Rattle.statement_tokens.specs.Limits.{name_limit}
 use Rattle.report_readback.specs.Names.{IsNameToken, NamesAreNameTokens}
 use Rattle.report_readback.proofs.Spellings.{spelled_is_name, name_is_spelled}

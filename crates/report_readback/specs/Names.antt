@@ -5,7 +5,7 @@ use Rattle.std.specs.Str.{IsUtf8, chars}
 use Rattle.statement_tokens.specs.declared.place.Spot.{Spot}
 use Rattle.statement_tokens.specs.declared.token.Token.{Token}
 use Rattle.statement_syntax.specs.declared.tree.Statement.{Statement}
-use Rattle.statement_tokens.specs.Token.{tokens_of}
+use Rattle.statement_tokens.proofs.Reading.{tokens_of}
 use Rattle.statement_syntax.specs.Grammar.{name_token}
 use Rattle.statement_syntax.specs.Fault.{IsTreeOf}
 use Rattle.adjoint_rules.specs.declared.problem.Problem.{Problem}

@@ -16,7 +16,7 @@ use Rattle.statement_syntax.specs.declared.fault.Fault.TheVariants as fault
 use Rattle.statement_syntax.specs.Steps.{run}
 use Rattle.statement_syntax.specs.Lines.{file_step}
 use Rattle.statement_tokens.specs.Language.{language_of}
-use Rattle.statement_tokens.specs.Token.{tokens_of}
+use Rattle.statement_tokens.proofs.Reading.{tokens_of}
 use Rattle.statement_syntax.specs.Fault.{IsTreeOf, IsFirstFault, TellsFirstFault, fault_at, misfit_fault}
 use Rattle.statement_syntax.specs.Stages.{begun, left, StoppedAt, AllRead}
 use Rattle.statement_syntax.specs.Laws.{EachTextIsRead}

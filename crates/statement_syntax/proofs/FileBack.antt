@@ -13,7 +13,9 @@ use Rattle.statement_tokens.specs.declared.language.Language.TheVariants.{First,
 use Rattle.statement_syntax.specs.declared.tree.Statement.{Statement}
 use Rattle.statement_tokens.specs.declared.scan.Item.TheVariants as item
 use Rattle.statement_tokens.specs.declared.scan.Placed.{Placed}
-use Rattle.statement_tokens.specs.Token.{◌>>=◌, item_at, tokens_from, tokens_of, placed, end_of, with_front}
+use Rattle.statement_tokens.specs.Tokens.{end_of}
+use Rattle.statement_tokens.specs.Items.{item_at}
+use Rattle.statement_tokens.proofs.Reading.{◌>>=◌, tokens_from, tokens_of, placed, with_front}
 use Rattle.statement_syntax.specs.Grammar.{sign_token, Stated, listed, mapped, sides, paired, projected, by_degree, by_weight, modelled, second_language, stated_tokens, StatedLine, NamesLanguage, IsFileOf, file_tokens, FileFits}
 use Rattle.statement_syntax.specs.Tree.{stated_kind, file_tree}
 use Rattle.statement_syntax.specs.Fault.{HasText}

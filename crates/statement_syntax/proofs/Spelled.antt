@@ -18,7 +18,10 @@ use Rattle.statement_tokens.specs.declared.scan.Placed.{Placed}
 use Rattle.statement_tokens.specs.declared.language.Language.{Language}
 use Rattle.statement_tokens.specs.declared.language.Language.TheVariants.{First, Second}
 use Rattle.statement_tokens.specs.Language.{language_of}
-use Rattle.statement_tokens.specs.Token.{item_at, sign_at, caret_in, starts_name, is_digit, begins_with, name_of, literal_of, tokens_from, placed, end_of, right_of, below}
+use Rattle.statement_tokens.specs.Pieces.{starts_name, is_digit}
+use Rattle.statement_tokens.specs.Tokens.{end_of, right_of, below}
+use Rattle.statement_tokens.specs.Items.{item_at, sign_at, caret_in, begins_with, name_of, literal_of}
+use Rattle.statement_tokens.proofs.Reading.{tokens_from, placed}
 use Rattle.statement_tokens.specs.Limits.{name_limit}
 use Rattle.statement_syntax.proofs.LastToken.{scan_ok, tokens_is}
 use Rattle.statement_syntax.proofs.Moved.{kinds}

@@ -18,7 +18,7 @@ use Rattle.statement_syntax.specs.declared.fault.SyntaxFault.TheVariants as refu
 use Rattle.statement_syntax.specs.Steps.{run}
 use Rattle.statement_syntax.specs.Lines.{file_step}
 use Rattle.statement_tokens.specs.Language.{language_of}
-use Rattle.statement_tokens.specs.Token.{tokens_of}
+use Rattle.statement_tokens.proofs.Reading.{tokens_of}
 use Rattle.statement_syntax.specs.Fault.{TellsFirstFault, IsWantOfMemory, fault_at, misfit_fault}
 
 -- what is told of a step that fails at this place

@@ -14,7 +14,7 @@ use Rattle.statement_tokens.specs.declared.scan.Item.TheVariants as item
 use Rattle.statement_tokens.specs.declared.scan.ItemError.{ItemError}
 use Rattle.statement_tokens.specs.declared.scan.ScanFault.{ScanFault}
 use Rattle.statement_tokens.specs.declared.scan.ScanFault.TheVariants.{BadToken, LiteralTooLarge}
-use Rattle.statement_tokens.specs.Token.{name_of, literal_of, caret_in, sign_at, more_of, GivesItem}
+use Rattle.statement_tokens.specs.Items.{name_of, literal_of, caret_in, sign_at, more_of, GivesItem}
 use Rattle.statement_tokens.specs.Language.{language_of}
 use Rattle.statement_tokens.specs.declared.language.Language.{Language}
 use Rattle.statement_tokens.specs.declared.language.Language.TheVariants.{First, Second}

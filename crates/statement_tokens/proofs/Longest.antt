@@ -11,12 +11,13 @@ use Rattle.unicode_ident.specs.Ident.{is_xid_continue}
 use Rattle.unicode_ident.proofs.IdentLemmas.{is_xid_start-ascii}
 use Rattle.statement_tokens.specs.declared.token.TokenKind.{TokenKind}
 use Rattle.statement_tokens.specs.declared.token.TokenKind.TheVariants as kind
-use Rattle.token_laws.specs.Pieces.{Piece, line_feed, return_and_line_feed, blank, tab, comment, name}
-use Rattle.token_laws.specs.Pieces.{literal, sign, piece_text, is_piece, IsLongest, BeginsNone}
-use Rattle.statement_tokens.specs.Token.{starts_name, is_digit, is_inside_line, begins_with}
-use Rattle.statement_syntax.proofs.Spelled.{and_first, and_second, EachIs}
-use Rattle.statement_syntax.proofs.Rescan.{plain_start}
-use Rattle.statement_syntax.proofs.Literals.{plain_digit}
+use Rattle.statement_tokens.specs.Pieces.{Piece, line_feed, return_and_line_feed, blank, tab, comment, name}
+use Rattle.statement_tokens.specs.Pieces.{literal, sign, piece_text, is_piece, IsLongest, BeginsNone}
+use Rattle.statement_tokens.specs.Pieces.{starts_name, is_digit, is_inside_line}
+use Rattle.statement_tokens.specs.Items.{begins_with}
+use Rattle.statement_tokens.proofs.EachCharacter.{and_first, and_second, EachIs}
+use Rattle.statement_tokens.proofs.Rescan.{plain_start}
+use Rattle.statement_tokens.proofs.Literals.{plain_digit}
 
 -- ---- characters that pass
 

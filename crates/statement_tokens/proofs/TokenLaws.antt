@@ -11,15 +11,16 @@ use Rattle.statement_tokens.specs.declared.scan.ScanFault.{ScanFault}
 use Rattle.statement_tokens.specs.declared.scan.ScanFault.TheVariants.{BadToken}
 use Rattle.statement_tokens.specs.declared.scan.Placed.{Placed}
 use Rattle.statement_tokens.specs.Language.{is_language_word, is_two, is_end, language_of}
-use Rattle.token_laws.specs.Pieces.{Piece, line_feed, return_and_line_feed, blank, tab, comment, name, literal}
-use Rattle.token_laws.specs.Pieces.{sign, piece_text, pieces_text, is_some, is_piece, IsLongest, BeginsNone}
-use Rattle.token_laws.specs.Tokens.{behind, place_behind, tokens_with, past_behind, tokens_at, tokens_in}
-use Rattle.token_laws.specs.Tokens.{sign_fault, fault_of, AreGood, AreTokens, Begins, IsFirstScanFault}
-use Rattle.token_laws.specs.Laws.{HasTokensOrFault, EachTextHasTokensOrFault, TokensAreUnique, FirstScanFaultsAreUnique}
-use Rattle.token_laws.specs.Laws.{TokensHaveNoFault, TokensAreRead, FirstScanFaultsAreTold}
-use Rattle.statement_tokens.specs.Token.{end_of, tokens_from, tokens_of, with_front}
-use Rattle.token_laws.proofs.Longest.{Longest, begins_with_longest}
-use Rattle.token_laws.proofs.Pieces.{Read, front_none, reads_piece, stops_piece, stops_none}
+use Rattle.statement_tokens.specs.Pieces.{Piece, line_feed, return_and_line_feed, blank, tab, comment, name, literal}
+use Rattle.statement_tokens.specs.Pieces.{sign, piece_text, pieces_text, is_some, is_piece, IsLongest, BeginsNone}
+use Rattle.statement_tokens.specs.Tokens.{behind, place_behind, tokens_with, past_behind, tokens_at, tokens_in}
+use Rattle.statement_tokens.specs.Tokens.{sign_fault, fault_of, AreGood, AreTokens, Begins, IsFirstScanFault}
+use Rattle.statement_tokens.specs.Laws.{HasTokensOrFault, EachTextHasTokensOrFault, TokensAreUnique, FirstScanFaultsAreUnique}
+use Rattle.statement_tokens.specs.Laws.{TokensHaveNoFault}
+use Rattle.statement_tokens.specs.Tokens.{end_of}
+use Rattle.statement_tokens.proofs.Reading.{tokens_from, tokens_of, with_front}
+use Rattle.statement_tokens.proofs.Longest.{Longest, begins_with_longest}
+use Rattle.statement_tokens.proofs.Pieces.{Read, front_none, reads_piece, stops_piece, stops_none}
 
 abbrev start : Spot
 start = record { line = 1; column = 1 }
@@ -158,7 +159,7 @@ ended : (front : List Token) (at : Spot) (past : ℕ) → tokens_from front [] 0
 unfolding tokens_from
 ended front at past = refl
 
-read_are : (text : List ℕ) (tokens : List Token) → AreTokens text tokens → tokens_of text ≡ Ok tokens
+pub read_are : (text : List ℕ) (tokens : List Token) → AreTokens text tokens → tokens_of text ≡ Ok tokens
 read_are text tokens are =
     let pieces = are.pieces in
     let last = end_of (place_behind pieces start).line (past_after pieces start 0) in
@@ -177,7 +178,7 @@ stops_at before rest at past f (inr (c, later, text, none, bad)) =
     ap (λ cs. tokens_from before cs 0 at past) text ∙ stops_none before c later at past (subst BeginsNone text none)
     ∙ ap (λ f. Err (record { fault = f; at = at })) (sym bad)
 
-read_first : (text : List ℕ) (f : ScanFault) (at : Spot) → IsFirstScanFault text f at → tokens_of text ≡ Err (record { fault = f; at = at })
+pub read_first : (text : List ℕ) (f : ScanFault) (at : Spot) → IsFirstScanFault text f at → tokens_of text ≡ Err (record { fault = f; at = at })
 read_first text f at first =
     let pieces = first.pieces in
     let front = tokens_in pieces in
@@ -304,7 +305,7 @@ tokens_have_no_fault text tokens f at are first = no_both tokens (record { fault
 
 -- ---- what the scanner reads are the tokens
 
-are_read : (text : List ℕ) (tokens : List Token) → tokens_of text ≡ Ok tokens → AreTokens text tokens
+pub are_read : (text : List ℕ) (tokens : List Token) → tokens_of text ≡ Ok tokens → AreTokens text tokens
 are_read text tokens read = by (each_text_has_tokens_or_fault text)
   where
     by : HasTokensOrFault text → AreTokens text tokens
@@ -314,7 +315,7 @@ are_read text tokens read = by (each_text_has_tokens_or_fault text)
         subst (AreTokens text) one are
     by (inr (f, at, first)) = absurd (no_both tokens (record { fault = f; at = at }) (sym read ∙ read_first text f at first))
 
-first_read : (text : List ℕ) (f : ScanFault) (at : Spot) → tokens_of text ≡ Err (record { fault = f; at = at }) → IsFirstScanFault text f at
+pub first_read : (text : List ℕ) (f : ScanFault) (at : Spot) → tokens_of text ≡ Err (record { fault = f; at = at }) → IsFirstScanFault text f at
 first_read text f at read = by (each_text_has_tokens_or_fault text)
   where
     by : HasTokensOrFault text → IsFirstScanFault text f at
@@ -322,9 +323,3 @@ first_read text f at read = by (each_text_has_tokens_or_fault text)
     by (inr (g, there, first)) =
         let same = same_placed (record { fault = g; at = there }) (record { fault = f; at = at }) (sym (read_first text g there first) ∙ read) in
         subst (λ (p : Placed). IsFirstScanFault text p.fault p.at) same first
-
-pub tokens_are_read : TokensAreRead
-tokens_are_read text tokens = (read_are text tokens, are_read text tokens)
-
-pub first_scan_faults_are_told : FirstScanFaultsAreTold
-first_scan_faults_are_told text fault at = (read_first text fault at, first_read text fault at)

@@ -21,17 +21,19 @@ use Rattle.statement_tokens.specs.declared.scan.ScanFault.TheVariants.{BadToken,
 use Rattle.statement_tokens.specs.declared.scan.Placed.{Placed}
 use Rattle.statement_tokens.specs.Limits.{name_limit}
 use Rattle.statement_tokens.specs.Language.{language_of}
-use Rattle.token_laws.specs.Pieces.{Piece, line_feed, return_and_line_feed, blank, tab, comment, name}
-use Rattle.token_laws.specs.Pieces.{literal, sign, piece_text, is_piece, IsLongest, BeginsNone}
-use Rattle.token_laws.specs.Tokens.{behind, tokens_with, past_behind, sign_fault, fault_of}
-use Rattle.statement_tokens.specs.Token.{starts_name, is_digit, is_inside_line, value_from, right_of}
-use Rattle.statement_tokens.specs.Token.{item_at, tokens_from, placed, begins_with, literal_of, with_front}
+use Rattle.statement_tokens.specs.Pieces.{Piece, line_feed, return_and_line_feed, blank, tab, comment, name}
+use Rattle.statement_tokens.specs.Pieces.{literal, sign, piece_text, is_piece, IsLongest, BeginsNone}
+use Rattle.statement_tokens.specs.Tokens.{behind, tokens_with, past_behind, sign_fault, fault_of}
+use Rattle.statement_tokens.specs.Pieces.{starts_name, is_digit, is_inside_line}
+use Rattle.statement_tokens.specs.Tokens.{value_from, right_of}
+use Rattle.statement_tokens.specs.Items.{item_at, begins_with, literal_of}
+use Rattle.statement_tokens.proofs.Reading.{tokens_from, placed, with_front}
 use Rattle.statement_tokens.proofs.Scanning.{skipped}
-use Rattle.statement_syntax.proofs.Spelled.{EachIs}
-use Rattle.statement_syntax.proofs.Rescan.{StopsAt, prefix_is, name_back, colon_back, equals_back, plus_back, open_back}
-use Rattle.statement_syntax.proofs.Rescan.{close_back, open_square_back, close_square_back, quote_back, caret_back, arrow_back}
-use Rattle.statement_syntax.proofs.Literals.{plain_digit}
-use Rattle.token_laws.proofs.Longest.{and_both, each_is, no_test}
+use Rattle.statement_tokens.proofs.EachCharacter.{EachIs}
+use Rattle.statement_tokens.proofs.Rescan.{StopsAt, prefix_is, name_back, colon_back, equals_back, plus_back, open_back}
+use Rattle.statement_tokens.proofs.Rescan.{close_back, open_square_back, close_square_back, quote_back, caret_back, arrow_back}
+use Rattle.statement_tokens.proofs.Literals.{plain_digit}
+use Rattle.statement_tokens.proofs.Longest.{and_both, each_is, no_test}
 
 -- ---- the longest piece is all that the scanner takes
 
