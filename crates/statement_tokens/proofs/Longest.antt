@@ -1,7 +1,7 @@
 -- What a text begins with: a longest piece, or none.
-use Rattle.std.proofs.Common.{◌≡◌, ℕ, ◌+◌, ◌≤◌, ◌==◌, ◌&&◌, Bool, true, false, cond, List, [], ◌∷◌, ◌++◌}
+use Rattle.std.proofs.Common.{◌≡◌, ℕ, ◌+◌, ◌≤◌, ◌==◌, ◌&&◌, Bool, true, false, List, [], ◌∷◌, ◌++◌}
 use Rattle.std.proofs.Common.{length, drop, suc, ◌<◌, refl, sym, ap, subst, ◌∙◌, arith, ◌⊎◌, inl, inr}
-use Rattle.std.specs.Prelude.{if◌then◌else◌, take}
+use Rattle.std.specs.Prelude.{if◌then◌else◌}
 use Rattle.std.specs.Char.{is_ascii_alphabetic}
 use Rattle.std.specs.List.{prefix_len, take_while, list_all}
 use Rattle.std.proofs.lemmas.List.{take-append-drop}
@@ -15,7 +15,7 @@ use Rattle.statement_tokens.specs.Pieces.{Piece, line_feed, return_and_line_feed
 use Rattle.statement_tokens.specs.Pieces.{literal, sign, piece_text, is_piece, IsLongest, BeginsNone}
 use Rattle.statement_tokens.specs.Pieces.{starts_name, is_digit, is_inside_line}
 use Rattle.statement_tokens.specs.Items.{begins_with}
-use Rattle.statement_tokens.proofs.EachCharacter.{and_first, and_second, EachIs}
+use Rattle.statement_tokens.proofs.EachCharacter.{EachIs, EachIs-take_while, and_first, and_second}
 use Rattle.statement_tokens.proofs.Rescan.{plain_start}
 use Rattle.statement_tokens.proofs.Literals.{plain_digit}
 
@@ -31,17 +31,6 @@ each_is p (c ∷ cs) given = let parts = and_both (p c) (list_all p cs) given in
 all_are : (p : ℕ → Bool) (cs : List ℕ) → EachIs p cs → list_all p cs ≡ true
 all_are p [] given = refl
 all_are p (c ∷ cs) given = rw (given.0) (all_are p cs given.1)
-
-kept_by : (p : ℕ → Bool) (c : ℕ) (cs : List ℕ) (b : Bool) → p c ≡ b → EachIs p (take_while p cs) → EachIs p (take (cond b (1 + prefix_len p cs) 0) (c ∷ cs))
-kept_by p c cs true is rest =
-    let all : EachIs p (take (suc (prefix_len p cs)) (c ∷ cs)) = (is, rest) in
-    let longer : suc (prefix_len p cs) ≡ 1 + prefix_len p cs = omega arith in
-    subst (λ n. EachIs p (take n (c ∷ cs))) longer all
-kept_by p c cs false is rest = tt
-
-EachIs-take_while : (p : ℕ → Bool) (cs : List ℕ) → EachIs p (take_while p cs)
-EachIs-take_while p [] = tt
-EachIs-take_while p (c ∷ cs) = kept_by p c cs (p c) refl (EachIs-take_while p cs)
 
 -- those in front that pass are no more than the front that passes
 front_passes : (p : ℕ → Bool) (cs rest : List ℕ) → EachIs p cs → length cs ≤ prefix_len p (cs ++ rest)
