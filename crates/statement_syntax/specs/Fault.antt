@@ -19,8 +19,6 @@ use Rattle.statement_tokens.specs.Tokens.{AreTokens, IsFirstScanFault}
 use Rattle.statement_syntax.specs.Grammar.{StatedLine, IsFileOf, file_tokens, FileFits}
 use Rattle.statement_syntax.specs.Tree.{file_tree}
 
--- ---- the language
-
 -- the bytes are these statements, a line each, of one of the languages, with at most 64 round brackets in one another
 pub record IsStatements (bytes : List ℕ) (lines : List StatedLine) : Type 0 where
   pub utf8 : IsUtf8 bytes
@@ -36,8 +34,6 @@ IsTreeOf bytes statements = (lines : List StatedLine) × IsStatements bytes line
 -- they are the tree of some text
 abbrev pub HasText : List Statement → Type 0
 HasText statements = (bytes : List ℕ) × IsTreeOf bytes statements
-
--- ---- the faults
 
 -- the number that is printed for a fault
 abbrev pub code_of : Fault → ℕ
@@ -86,8 +82,6 @@ TellsFirstFault bytes (refusal.Memory e) = Unit {0}
 abbrev pub IsWantOfMemory : SyntaxFault → Type 0
 IsWantOfMemory (refusal.Fault code line column) = ⊥
 IsWantOfMemory (refusal.Memory e) = Unit {0}
-
--- ---- how the code speaks of them
 
 abbrev pub fault_at : Fault → Spot → SyntaxFault
 fault_at f at = refusal.Fault (code_of f) at.line at.column

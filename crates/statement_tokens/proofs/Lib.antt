@@ -8,3 +8,4 @@ pub mod Literals
 pub mod Longest
 pub mod Pieces
 pub mod TokenLaws
+mod Examples

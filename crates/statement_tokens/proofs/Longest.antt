@@ -19,8 +19,6 @@ use Rattle.statement_tokens.proofs.EachCharacter.{EachIs, EachIs-take_while, and
 use Rattle.statement_tokens.proofs.Rescan.{plain_start}
 use Rattle.statement_tokens.proofs.Literals.{plain_digit}
 
--- ---- characters that pass
-
 pub and_both : (a b : Bool) → (a && b) ≡ true → (a ≡ true) × (b ≡ true)
 and_both a b given = (and_first a b given, and_second a b given)
 
@@ -36,8 +34,6 @@ all_are p (c ∷ cs) given = rw (given.0) (all_are p cs given.1)
 front_passes : (p : ℕ → Bool) (cs rest : List ℕ) → EachIs p cs → length cs ≤ prefix_len p (cs ++ rest)
 front_passes p [] rest each = omega arith
 front_passes p (c ∷ cs) rest each = rw (each.0) (let more = front_passes p cs rest each.1 in omega (arith, more))
-
--- ---- how long a piece can be
 
 -- so many characters may go on with the first
 pub goes_on : ℕ → List ℕ → ℕ
@@ -98,8 +94,6 @@ longest_by piece later c rest is whole long = record {
   is = is;
   longest = λ other more good e. let short = no_longer c rest more other good (e ∙ whole) in omega (arith, short, long);
 }
-
--- ---- each text begins with a longest piece, or with none
 
 pub record Longest (text : List ℕ) : Type 0 where
   pub piece : Piece

@@ -35,8 +35,6 @@ use Rattle.statement_tokens.proofs.Rescan.{close_back, open_square_back, close_s
 use Rattle.statement_tokens.proofs.Literals.{plain_digit}
 use Rattle.statement_tokens.proofs.Longest.{and_both, each_is, no_test}
 
--- ---- the longest piece is all that the scanner takes
-
 stops : (p : ℕ → Bool) (later : List ℕ) → ((d : ℕ) (ds : List ℕ) → later ≡ d ∷ ds → p d ≡ true → ⊥) → StopsAt p later
 stops p [] ends = tt
 stops p (d ∷ ds) ends = by (p d) refl
@@ -81,8 +79,6 @@ no_arrow (d ∷ ds) is = by (d == 62) refl
     by : (b : Bool) → (d == 62) ≡ b → (d == 62) ≡ false
     by true same = absurd (no_longer (sign kind.Minus) (d ∷ ds) is (sign kind.Arrow) d ds refl refl (ap (λ x. 45 ∷ x ∷ []) (sym (eqb-true d 62 same))))
     by false other = other
-
--- ---- one turn
 
 abbrev pub Read : Type 0
 Read = Result (List Token) Placed
@@ -129,8 +125,6 @@ module _ (before : List Token) (c : ℕ) (cs later : List ℕ) (at : Spot) (past
   fault : (f : ScanFault) → item_at before c (cs ++ later) ≡ Err f → tokens_from before (c ∷ (cs ++ later)) 0 at past ≡ Err (record { fault = f; at = at })
   fault f is = turn (Err f) is
 
--- ---- what the scanner reads of a literal and of a minus sign, whatever stands behind
-
 literal_read : (before : List Token) (c : ℕ) (cs rest : List ℕ) → is_digit c ≡ true → EachIs is_digit cs → StopsAt is_digit rest
     → item_at before c (cs ++ rest) ≡ literal_of (value_from 0 (c ∷ cs)) (length cs)
 unfolding item_at
@@ -151,8 +145,6 @@ literal_read before c cs rest digit each ends =
 minus_read : (before : List Token) (rest : List ℕ) → begins_with 62 rest ≡ false → item_at before 45 rest ≡ Ok (item.Token kind.Minus 0)
 unfolding item_at
 minus_read before rest given = rw (is_xid_start-ascii 45 (omega arith), given) refl
-
--- ---- one piece
 
 kept : (b : Bool) (f : ScanFault) → (let o : Option ScanFault = (if b then None else Some f) in o) ≡ None → b ≡ true
 kept true f is = refl
@@ -212,8 +204,6 @@ reads_piece before (literal (c ∷ cs)) later at past is good =
     (literal_read before c cs later parts.0 (each_is is_digit cs parts.1) (literal_stops c cs later is)
     ∙ ap (λ b. if b then Ok (item.Token (kind.Literal (pos value)) (length cs)) else Err LiteralTooLarge) (kept (nat_lt value (2 ^ 127)) LiteralTooLarge good))
 reads_piece before (sign k) later at past is good = reads_sign before k later at past is good
-
--- ---- faults
 
 abbrev Stops : List Token → List ℕ → Spot → ℕ → ScanFault → Type 0
 Stops before text at past f = tokens_from before text 0 at past ≡ Err (record { fault = f; at = at })

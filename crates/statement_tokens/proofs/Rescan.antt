@@ -107,8 +107,6 @@ no_arrow : (rest : List ℕ) → EndsBefore rest → begins_with 62 rest ≡ fal
 no_arrow [] given = refl
 no_arrow (c ∷ rest) given = ender_by (λ c. (c == 62) ≡ false) refl refl refl refl refl refl c given
 
--- ---- signs
-
 pub colon_back : (before : List Token) (rest : List ℕ) → item_at before 58 rest ≡ Ok (item.Token kind.Colon 0)
 unfolding item_at
 colon_back before rest = rw (is_xid_start-ascii 58 (omega arith)) refl

@@ -25,8 +25,6 @@ use Rattle.statement_tokens.proofs.Pieces.{Read, front_none, reads_piece, stops_
 abbrev start : Spot
 start = record { line = 1; column = 1 }
 
--- ---- the tokens in front tell the language as far as a caret asks for it
-
 stays_second : (before more : List Token) → language_of before ≡ Second → language_of (before ++ more) ≡ Second
 stays_second [] more is = absurd cc
 stays_second (a ∷ []) more is = absurd cc
@@ -80,8 +78,6 @@ was_good before more tab at past good = good
 was_good before more (comment cs) at past good = good
 was_good before more (name cs) at past good = good
 was_good before more (literal cs) at past good = good
-
--- ---- pieces one after another
 
 abbrev past_after : List Piece → Spot → ℕ → ℕ
 past_after [] at past = past
@@ -153,8 +149,6 @@ reads before (piece ∷ pieces) rest at past good =
     ∙ fronts here later (tokens_from ((before ++ here) ++ later) rest 0 (place_behind pieces to) (past_after pieces to end))
     ∙ ap (λ front. with_front (here ++ later) (tokens_from front rest 0 (place_behind pieces to) (past_after pieces to end))) (append_assoc before here later)
 
--- ---- the scanner reads the tokens
-
 ended : (front : List Token) (at : Spot) (past : ℕ) → tokens_from front [] 0 at past ≡ Ok (end_of at.line past)
 unfolding tokens_from
 ended front at past = refl
@@ -187,8 +181,6 @@ read_first text f at first =
     ∙ reads [] pieces first.rest start 0 good
     ∙ ap (with_front front) (stops_at front first.rest (place_behind pieces start) (past_after pieces start 0) f first.faulty)
     ∙ ap (λ at. Err (record { fault = f; at = at })) (sym first.place)
-
--- ---- each text has tokens or a fault
 
 abbrev IsAtEnd : Language → List ℕ → Type 0
 IsAtEnd language rest = (rest ≡ []) ⊎ ((f : ScanFault) × Begins language rest f)
@@ -282,8 +274,6 @@ told text c (inr (f, faulty)) = inr (
 pub each_text_has_tokens_or_fault : EachTextHasTokensOrFault
 each_text_has_tokens_or_fault text = let c = cut (length text) text (omega arith) [] start 0 in told text c c.end
 
--- ---- one of each
-
 no_both : (tokens : List Token) (p : Placed) → (let r : Read = Ok tokens in r) ≡ Err p → ⊥
 no_both tokens p is = absurd cc
 
@@ -302,8 +292,6 @@ first_scan_faults_are_unique text f g at there one other =
 
 pub tokens_have_no_fault : TokensHaveNoFault
 tokens_have_no_fault text tokens f at are first = no_both tokens (record { fault = f; at = at }) (sym (read_are text tokens are) ∙ read_first text f at first)
-
--- ---- what the scanner reads are the tokens
 
 pub are_read : (text : List ℕ) (tokens : List Token) → tokens_of text ≡ Ok tokens → AreTokens text tokens
 are_read text tokens read = by (each_text_has_tokens_or_fault text)

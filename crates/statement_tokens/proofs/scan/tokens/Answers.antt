@@ -10,8 +10,8 @@ returns-in-Err-Fault c =
     let split = rest_is c.args.text.now c.loop-place.place c.index-text-place.result c.loop-place-test.true c.index-text-place.is in
     let fails = subst (λ e. FailsItem e (item_at c.deref.result.now c.index-text-place.result (left c.args.text.now c.loop-place.place))) c.in-Err-Fault.field-0-is c.in-Err-Fault.ensures.exact in
     let told = sym c.loop-place.invariant.same
-        ∙ turn_fault c.args.text.now c.loop-place.place c.index-text-place.result (left c.args.text.now c.loop-place.place) c.loop-place.line c.loop-place.column c.loop-place.past c.loop-place.out.items split c.in-Err-Fault.fault
-        (sym (ap (λ front. item_at front c.index-text-place.result (left c.args.text.now c.loop-place.place)) c.deref.ensures.value) ∙ fails) in
+    ∙ turn_fault c.args.text.now c.loop-place.place c.index-text-place.result (left c.args.text.now c.loop-place.place) c.loop-place.line c.loop-place.column c.loop-place.past c.loop-place.out.items split c.in-Err-Fault.fault
+    (sym (ap (λ front. item_at front c.index-text-place.result (left c.args.text.now c.loop-place.place)) c.deref.ensures.value) ∙ fails) in
     rw c.in-Err-Fault.fault-is (first_read c.args.text.now c.in-Err-Fault.fault (spot c.loop-place.line c.loop-place.column) told)
 
 pub loop-place-preserved-in-NewLine : goal.loop-place-preserved-in-NewLine
