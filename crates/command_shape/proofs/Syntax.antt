@@ -1,12 +1,11 @@
 -- A text has one tree or one first fault, and not both.
-use Rattle.std.proofs.Common.{◌≡◌, inl, inr, ℕ, List, [], ◌∷◌, ◌++◌, Ok, Err, Result, refl, sym, ap, ◌∙◌, subst}
+use Rattle.std.proofs.Common.{◌≡◌, inl, inr, ℕ, List, [], ◌∷◌, ◌++◌, Ok, refl, sym, ap, ◌∙◌, subst}
 use Rattle.std.proofs.lemmas.List.{append_assoc}
 use Rattle.std.specs.Str.{chars}
 use Rattle.statement_tokens.specs.declared.token.Token.{Token}
 use Rattle.statement_tokens.specs.declared.place.Spot.{Spot}
 use Rattle.statement_syntax.specs.declared.tree.Statement.{Statement}
 use Rattle.statement_syntax.specs.declared.line.Line.TheVariants as line
-use Rattle.statement_tokens.specs.declared.scan.Placed.{Placed}
 use Rattle.statement_tokens.specs.declared.scan.ScanFault.{ScanFault}
 use Rattle.statement_tokens.specs.declared.scan.ScanFault.TheVariants as scan
 use Rattle.statement_syntax.specs.declared.fault.Fault.{Fault}
@@ -14,7 +13,8 @@ use Rattle.statement_syntax.specs.declared.fault.Fault.TheVariants as fault
 use Rattle.statement_syntax.specs.Steps.{run}
 use Rattle.statement_syntax.specs.Lines.{file_step}
 use Rattle.statement_syntax.specs.Stages.{first_statements, begun, left, AllRead}
-use Rattle.statement_tokens.specs.Token.{tokens_of}
+use Rattle.statement_tokens.specs.Tokens.{IsFirstScanFault}
+use Rattle.statement_tokens.proofs.TokenLaws.{tokens_are_unique, first_scan_faults_are_unique, tokens_have_no_fault}
 use Rattle.statement_tokens.specs.declared.language.Language.{Language}
 use Rattle.statement_tokens.specs.Language.{language_of}
 use Rattle.statement_syntax.specs.Grammar.{StatedLine, IsFileOf, file_tokens, FileFits}
@@ -52,9 +52,6 @@ module _ (bytes : List ℕ) (lines : List StatedLine) (is : IsStatements bytes l
 
   ran : AllRead tokens (file_tree lines)
   ran = ran_by (lines_run spoken before behind.others behind.speak)
-
-same_tokens : (bytes : List ℕ) (ts us : List Token) → tokens_of (chars bytes) ≡ Ok ts → tokens_of (chars bytes) ≡ Ok us → ts ≡ us
-same_tokens bytes ts us one other = let both : (let r : Result (List Token) Placed = Ok ts in r) ≡ Ok us = sym one ∙ other in cc
 
 pub tree_once : (bytes : List ℕ) (statements others : List Statement) → IsTreeOf bytes statements → IsTreeOf bytes others → statements ≡ others
 tree_once bytes statements others one other =
@@ -97,7 +94,7 @@ misfit_once : (bytes : List ℕ) (at at' : Spot) (m : IsMisfit bytes at) (m' : I
 misfit_once bytes at at' m m' = by (splits m.front m.token m.rest m'.front m'.token m'.rest whole)
   where
     whole : m.front ++ m.token ∷ m.rest ≡ m'.front ++ m'.token ∷ m'.rest
-    whole = same_tokens bytes _ _ m.tokens m'.tokens
+    whole = tokens_are_unique (chars bytes) _ _ m.tokens m'.tokens
 
     by : Split m.front m.token m'.front m'.token → Same bytes at at' m m'
     by (same front token) =
@@ -113,26 +110,20 @@ module _ (bytes : List ℕ) (at at' : Spot) (m : IsMisfit bytes at) (m' : IsMisf
       subst (λ ts. GoesOn (language_of ts) (m.front ++ m.token ∷ [])) (sym once.whole)
       (subst (GoesOn (language_of (m'.front ++ m'.token ∷ m'.rest))) (sym once.came) on)
 
-not_both : (bytes : List ℕ) (ts : List Token) (p : Placed) → tokens_of (chars bytes) ≡ Ok ts → tokens_of (chars bytes) ≡ Err p → ⊥
-not_both bytes ts p one other = let both : (let r : Result (List Token) Placed = Ok ts in r) ≡ Err p = sym one ∙ other in absurd cc
-
-same_fault : (bytes : List ℕ) (p q : Placed) → tokens_of (chars bytes) ≡ Err p → tokens_of (chars bytes) ≡ Err q → p ≡ q
-same_fault bytes p q one other = let both : (let r : Result (List Token) Placed = Err p in r) ≡ Err q = sym one ∙ other in cc
-
-not_scanned : (bytes : List ℕ) (f : ScanFault) (at at' : Spot) → IsMisfit bytes at → tokens_of (chars bytes) ≡ Err (record { fault = f; at = at' }) → ⊥
-not_scanned bytes f at at' m fails = not_both bytes (m.front ++ m.token ∷ m.rest) _ m.tokens fails
+not_scanned : (bytes : List ℕ) (f : ScanFault) (at at' : Spot) → IsMisfit bytes at → IsFirstScanFault (chars bytes) f at' → ⊥
+not_scanned bytes f at at' m fails = tokens_have_no_fault (chars bytes) (m.front ++ m.token ∷ m.rest) f at' m.tokens fails
 
 misfit_in : (bytes : List ℕ) (statements : List Statement) (at : Spot) → IsTreeOf bytes statements → IsMisfit bytes at → ⊥
 misfit_in bytes statements at tree m =
-    let whole = same_tokens bytes _ _ m.tokens tree.1.tokens in
+    let whole = tokens_are_unique (chars bytes) _ _ m.tokens tree.1.tokens in
     let language = ap language_of whole ∙ file_language tree.1.language tree.0 tree.1.speaks in
     m.there (m.rest, tree.0, subst (λ l. IsFileOf l tree.0) (sym language) tree.1.speaks, tree.1.fits, append_assoc m.front (m.token ∷ []) m.rest ∙ whole)
 
 -- of all five kinds: what a fault says first
 pub no_fault : (bytes : List ℕ) (statements : List Statement) (f : Fault) (at : Spot) → IsTreeOf bytes statements → IsFirstFault bytes f at → ⊥
 no_fault bytes statements fault.NotUtf8 at tree first = first.0 tree.1.utf8
-no_fault bytes statements fault.BadToken at tree first = not_both bytes _ _ tree.1.tokens first.1
-no_fault bytes statements fault.LiteralTooLarge at tree first = not_both bytes _ _ tree.1.tokens first.1
+no_fault bytes statements fault.BadToken at tree first = tokens_have_no_fault (chars bytes) _ _ at tree.1.tokens first.1
+no_fault bytes statements fault.LiteralTooLarge at tree first = tokens_have_no_fault (chars bytes) _ _ at tree.1.tokens first.1
 no_fault bytes statements fault.Expected at tree first = misfit_in bytes statements at tree first.0
 no_fault bytes statements fault.TooDeep at tree first = misfit_in bytes statements at tree first.0
 
@@ -140,10 +131,8 @@ no_fault bytes statements fault.TooDeep at tree first = misfit_in bytes statemen
 abbrev pub SameFault : Fault → Spot → Fault → Spot → Type 0
 SameFault f at f' at' = (f ≡ f') × (at ≡ at')
 
-placed_once : (bytes : List ℕ) (f f' : ScanFault) (at at' : Spot) → tokens_of (chars bytes) ≡ Err (record { fault = f; at = at }) → tokens_of (chars bytes) ≡ Err (record { fault = f'; at = at' }) → (f ≡ f') × (at ≡ at')
-placed_once bytes f f' at at' one other =
-    let same = same_fault bytes (record { fault = f; at = at }) (record { fault = f'; at = at' }) one other in
-    (ap (λ (p : Placed). p.fault) same, ap (λ (p : Placed). p.at) same)
+placed_once : (bytes : List ℕ) (f f' : ScanFault) (at at' : Spot) → IsFirstScanFault (chars bytes) f at → IsFirstScanFault (chars bytes) f' at' → (f ≡ f') × (at ≡ at')
+placed_once bytes f f' at at' one other = first_scan_faults_are_unique (chars bytes) f f' at at' one other
 
 scans_differ : (let f : ScanFault = scan.BadToken in f) ≡ scan.LiteralTooLarge → ⊥
 scans_differ is = absurd cc

@@ -19,10 +19,11 @@ use Rattle.statement_syntax.specs.Grammar.{names_tokens, Stated, listed, mapped,
 use Rattle.statement_syntax.specs.Tree.{is_self, stated_kind, file_tree}
 use Rattle.statement_syntax.specs.Places.{bare_names, bare_stated}
 use Rattle.statement_tokens.proofs.Scanning.{spot}
+use Rattle.statement_tokens.proofs.TokenLaws.{read_are}
 use Rattle.statement_syntax.proofs.Spelled.{IsToken, AllKinds, AllKinds-split, tokens_are}
 use Rattle.statement_syntax.proofs.Moved.{kinds}
 use Rattle.statement_syntax.proofs.StatedKinds.{kinds-append}
-use Rattle.statement_syntax.proofs.BareTokens.{AreTokens, AllSpelled, file_are}
+use Rattle.statement_syntax.proofs.BareTokens.{AreTokensOf, AllSpelled, file_are}
 use Rattle.statement_names.specs.Numbered.{objects_in, maps_in, declared_objects, declarations_of}
 use Rattle.expressions.specs.Names.{object_of}
 use Rattle.block_text.specs.Back.{is_named}
@@ -37,16 +38,16 @@ join ds es front back = rw (list_all-append is_named ds es, front, back) refl
 
 -- ---- a statement
 
-names_named : (language : Language) (declare : Name → Declaration) → ((n : Name) → name_of (declare n) ≡ n.text) → (ns : List Name) → AreTokens language (names_tokens (bare_names ns)) → AreNamed (map declare ns)
+names_named : (language : Language) (declare : Name → Declaration) → ((n : Name) → name_of (declare n) ≡ n.text) → (ns : List Name) → AreTokensOf language (names_tokens (bare_names ns)) → AreNamed (map declare ns)
 names_named language declare same [] spelled = refl
 names_named language declare same (n ∷ ns) spelled = rw (same n, spelled_is_name n.text spelled.0, names_named language declare same ns spelled.1) refl
 
-first_tokens : (language : Language) (ts us : List Token) → AreTokens language (ts ++ us) → AreTokens language ts
+first_tokens : (language : Language) (ts us : List Token) → AreTokensOf language (ts ++ us) → AreTokensOf language ts
 first_tokens language ts us spelled = (AllKinds-split (IsToken language) (kinds ts) (kinds us) (subst (AllKinds (IsToken language)) (kinds-append ts us) spelled)).0
 
 -- what some statements declare is named where it is named for each
 abbrev NamesStated : (StatementKind → List Declaration) → Type 0
-NamesStated declares = (language : Language) (s : Stated) → AreTokens language (stated_tokens (bare_stated s)) → AreNamed (declares (stated_kind s))
+NamesStated declares = (language : Language) (s : Stated) → AreTokensOf language (stated_tokens (bare_stated s)) → AreNamed (declares (stated_kind s))
 
 stated_objects : NamesStated objects_in
 stated_objects language (listed Object at n ns) spelled = names_named language (λ n. object n.text) (λ n. refl) (n ∷ ns) spelled.1
@@ -98,6 +99,6 @@ declared_names_are_names bytes statements problem tree is =
     let ls = tree.0 in
     let text = tree.1 in
     let language = language_of (file_tokens ls) in
-    let spelled = file_are language ls (tokens_are [] (chars bytes) 0 (spot 1 1) 0 (file_tokens ls) (scalars-chars bytes text.utf8) text.tokens) in
+    let spelled = file_are language ls (tokens_are [] (chars bytes) 0 (spot 1 1) 0 (file_tokens ls) (scalars-chars bytes text.utf8) (read_are (chars bytes) (file_tokens ls) text.tokens)) in
     let declared : problem.parts.quiver ≡ declarations_of (file_tree ls) = is.parts.quiver ∙ ap declarations_of tree.2 in
     subst AreNamed (sym declared) (declarations_named language ls spelled)

@@ -7,7 +7,8 @@ use Rattle.std.proofs.lemmas.Bool.{and_parts, le-leb, leb-true}
 use Rattle.std.proofs.lemmas.Str.{chars-encodes, IsUtf8-from_is_utf8, is_utf8-from_IsUtf8}
 use Rattle.unicode_ident.specs.Ident.{is_xid_continue}
 use Rattle.block_text.specs.Letters.{begins_name, is_name}
-use Rattle.statement_syntax.proofs.Spelled.{EachIs, SpellsName}
+use Rattle.statement_tokens.proofs.EachCharacter.{EachIs}
+use Rattle.statement_syntax.proofs.Spelled.{SpellsName}
 use Rattle.statement_tokens.specs.Limits.{name_limit}
 
 each_passes : (p : ℕ → Bool) (cs : List ℕ) → EachIs p cs → list_all p cs ≡ true

@@ -10,13 +10,16 @@ use Rattle.statement_tokens.specs.declared.scan.Item.TheVariants as item
 use Rattle.statement_tokens.specs.declared.scan.Placed.{Placed}
 use Rattle.statement_tokens.specs.declared.scan.ScanFault.TheVariants.{BadToken}
 use Rattle.statement_tokens.specs.Language.{language_of}
-use Rattle.statement_tokens.specs.Token.{◌>>=◌, item_at, name_of, tokens_from, tokens_of, end_of}
+use Rattle.statement_tokens.specs.Tokens.{end_of}
+use Rattle.statement_tokens.specs.Items.{item_at, name_of}
+use Rattle.statement_tokens.proofs.Reading.{◌>>=◌, tokens_from, tokens_of}
+use Rattle.statement_tokens.proofs.TokenLaws.{read_are, are_read}
 use Rattle.statement_syntax.specs.Grammar.{name_token}
 use Rattle.statement_tokens.proofs.Scanning.{spot}
 use Rattle.statement_syntax.proofs.Moved.{kinds}
 use Rattle.statement_syntax.proofs.Spelled.{SpellsName, IsFileToken, AllKinds, AllKinds-split, tokens_are}
 use Rattle.statement_syntax.proofs.StatedKinds.{kinds-append}
-use Rattle.statement_syntax.proofs.Rescan.{one_token, name_back}
+use Rattle.statement_tokens.proofs.Rescan.{one_token, name_back}
 use Rattle.statement_tokens.specs.Limits.{name_limit}
 use Rattle.report_readback.specs.Names.{IsNameToken, NamesAreNameTokens}
 use Rattle.report_readback.proofs.Spellings.{spelled_is_name, name_is_spelled}
@@ -44,9 +47,10 @@ spelled_is_token text s =
       front = [];
       at = spot 1 1;
       back = end_of 1 after;
-      tokens = ap tokens_of characters
+      tokens = are_read (chars text) _
+          (ap tokens_of characters
           ∙ one_token [] s.first s.more [] (kind.Name text) 1 1 0 (item_read text s)
-          ∙ ap (λ (r : Result (List Token) Placed). r >>= λ ts. Ok (token ∷ ts)) (no_more (token ∷ []) 1 after after);
+          ∙ ap (λ (r : Result (List Token) Placed). r >>= λ ts. Ok (token ∷ ts)) (no_more (token ∷ []) 1 after after));
     }
 
 -- ---- a token is a name
@@ -55,7 +59,7 @@ token_is_spelled : (text : List ℕ) → IsNameToken text → SpellsName text
 token_is_spelled text t =
     let here = name_token (record { text = text; at = t.at }) in
     let whole = t.front ++ here ∷ t.back in
-    let each = tokens_are [] (chars t.bytes) 0 (spot 1 1) 0 whole (scalars-chars t.bytes t.utf8) t.tokens in
+    let each = tokens_are [] (chars t.bytes) 0 (spot 1 1) 0 whole (scalars-chars t.bytes t.utf8) (read_are (chars t.bytes) whole t.tokens) in
     let Is = IsFileToken (language_of whole) in
     (AllKinds-split Is (kinds t.front) (kinds (here ∷ t.back)) (subst (AllKinds Is) (kinds-append t.front (here ∷ t.back)) each)).1.0
 

@@ -1,11 +1,11 @@
 -- The names of the statement language, and of what a statement file declares.
-use Rattle.std.specs.Prelude.{◌≡◌, ◌↔◌, ℕ, List, ◌∷◌, ◌++◌, IsTrue, Ok}
+use Rattle.std.specs.Prelude.{◌↔◌, ℕ, List, ◌∷◌, ◌++◌, IsTrue}
 use Rattle.std.specs.List.{list_all}
 use Rattle.std.specs.Str.{IsUtf8, chars}
 use Rattle.statement_tokens.specs.declared.place.Spot.{Spot}
 use Rattle.statement_tokens.specs.declared.token.Token.{Token}
 use Rattle.statement_syntax.specs.declared.tree.Statement.{Statement}
-use Rattle.statement_tokens.specs.Token.{tokens_of}
+use Rattle.statement_tokens.specs.Tokens.{AreTokens}
 use Rattle.statement_syntax.specs.Grammar.{name_token}
 use Rattle.statement_syntax.specs.Fault.{IsTreeOf}
 use Rattle.adjoint_rules.specs.declared.problem.Problem.{Problem}
@@ -20,7 +20,7 @@ pub record IsNameToken (text : List ℕ) : Type 0 where
   pub front : List Token
   pub at : Spot
   pub back : List Token
-  pub tokens : tokens_of (chars bytes) ≡ Ok (front ++ name_token (record { text = text; at = at }) ∷ back)
+  pub tokens : AreTokens (chars bytes) (front ++ name_token (record { text = text; at = at }) ∷ back)
 
 -- The names of evidence text are the names of the statement language, no more and no fewer.
 abbrev pub NamesAreNameTokens : Type 0

@@ -8,7 +8,6 @@ use Rattle.statement_tokens.specs.declared.token.Token.{Token}
 use Rattle.statement_syntax.specs.declared.tree.Statement.{Statement}
 use Rattle.statement_syntax.specs.declared.expression.Misfit.{Misfit}
 use Rattle.statement_syntax.specs.declared.read.Progress.{Progress}
-use Rattle.statement_tokens.specs.declared.scan.Placed.{Placed}
 use Rattle.statement_tokens.specs.declared.scan.ScanFault.{ScanFault}
 use Rattle.statement_tokens.specs.declared.scan.ScanFault.TheVariants as scan
 use Rattle.statement_syntax.specs.declared.fault.Fault.{Fault}
@@ -16,7 +15,9 @@ use Rattle.statement_syntax.specs.declared.fault.Fault.TheVariants as fault
 use Rattle.statement_syntax.specs.Steps.{run}
 use Rattle.statement_syntax.specs.Lines.{file_step}
 use Rattle.statement_tokens.specs.Language.{language_of}
-use Rattle.statement_tokens.specs.Token.{tokens_of}
+use Rattle.statement_tokens.specs.Tokens.{AreTokens, IsFirstScanFault}
+use Rattle.statement_tokens.specs.Laws.{HasTokensOrFault}
+use Rattle.statement_tokens.proofs.TokenLaws.{each_text_has_tokens_or_fault}
 use Rattle.statement_syntax.specs.Fault.{IsTreeOf, IsFirstFault, TellsFirstFault, fault_at, misfit_fault}
 use Rattle.statement_syntax.specs.Stages.{begun, left, StoppedAt, AllRead}
 use Rattle.statement_syntax.specs.Laws.{EachTextIsRead}
@@ -45,26 +46,23 @@ abbrev IsRead : List ℕ → Type 0
 IsRead bytes = ((statements : List Statement) × IsTreeOf bytes statements) ⊎ ((f : Fault) × ((at : Spot) × IsFirstFault bytes f at))
 
 module _ (bytes : List ℕ) (utf8 : IsUtf8 bytes) where
-  scanned : (placed : Placed) → tokens_of (chars bytes) ≡ Err placed → IsRead bytes
-  scanned placed fails = by placed.fault refl
-    where
-      by : (f : ScanFault) → placed.fault ≡ f → IsRead bytes
-      by scan.BadToken is = inr (fault.BadToken, (placed.at, (utf8, fails ∙ (λ i. Err (record { fault = is i; at = placed.at })))))
-      by scan.LiteralTooLarge is = inr (fault.LiteralTooLarge, (placed.at, (utf8, fails ∙ (λ i. Err (record { fault = is i; at = placed.at })))))
+  scanned : (f : ScanFault) (at : Spot) → IsFirstScanFault (chars bytes) f at → IsRead bytes
+  scanned scan.BadToken at first = inr (fault.BadToken, (at, (utf8, first)))
+  scanned scan.LiteralTooLarge at first = inr (fault.LiteralTooLarge, (at, (utf8, first)))
 
-  read_on : (ts : List Token) → tokens_of (chars bytes) ≡ Ok ts → Comes ts → IsRead bytes
+  read_on : (ts : List Token) → AreTokens (chars bytes) ts → Comes ts → IsRead bytes
   read_on ts read (to_end statements all) = inl (statements, is_found bytes ts statements utf8 read all)
   read_on ts read (to_misfit misfit at stopped) =
       let first : TellsFirstFault bytes (fault_at (misfit_fault misfit) at) = is_first bytes ts (fault_at (misfit_fault misfit) at) utf8 read stopped in
       inr (first.0, (at, first.2))
 
-  by_tokens : (tokens : Result (List Token) Placed) → tokens_of (chars bytes) ≡ tokens → IsRead bytes
-  by_tokens (Ok ts) read = read_on ts read (comes ts)
-  by_tokens (Err placed) fails = scanned placed fails
+  by_tokens : HasTokensOrFault (chars bytes) → IsRead bytes
+  by_tokens (inl (ts, are)) = read_on ts are (comes ts)
+  by_tokens (inr (f, at, first)) = scanned f at first
 
 pub each_text_is_read : EachTextIsRead
 each_text_is_read bytes = by (is_utf8 bytes) refl
   where
     by : (b : Bool) → is_utf8 bytes ≡ b → IsRead bytes
-    by true is = by_tokens bytes (IsUtf8-from_is_utf8 bytes is) (tokens_of (chars bytes)) refl
+    by true is = by_tokens bytes (IsUtf8-from_is_utf8 bytes is) (each_text_has_tokens_or_fault (chars bytes))
     by false is = inr (fault.NotUtf8, (record { line = 0; column = utf8_valid_len bytes }, ((λ utf8. true≢false (sym (is_utf8-from_IsUtf8 bytes utf8) ∙ is)), refl)))

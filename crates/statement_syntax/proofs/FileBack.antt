@@ -13,18 +13,21 @@ use Rattle.statement_tokens.specs.declared.language.Language.TheVariants.{First,
 use Rattle.statement_syntax.specs.declared.tree.Statement.{Statement}
 use Rattle.statement_tokens.specs.declared.scan.Item.TheVariants as item
 use Rattle.statement_tokens.specs.declared.scan.Placed.{Placed}
-use Rattle.statement_tokens.specs.Token.{◌>>=◌, item_at, tokens_from, tokens_of, placed, end_of, with_front}
+use Rattle.statement_tokens.specs.Tokens.{end_of}
+use Rattle.statement_tokens.specs.Items.{item_at}
+use Rattle.statement_tokens.proofs.Reading.{◌>>=◌, tokens_from, tokens_of, placed, with_front}
 use Rattle.statement_syntax.specs.Grammar.{sign_token, Stated, listed, mapped, sides, paired, projected, by_degree, by_weight, modelled, second_language, stated_tokens, StatedLine, NamesLanguage, IsFileOf, file_tokens, FileFits}
 use Rattle.statement_syntax.specs.Tree.{stated_kind, file_tree}
 use Rattle.statement_syntax.specs.Fault.{HasText}
 use Rattle.statement_syntax.specs.Places.{somewhere, bare_stated, bare_file, ReadsBackAs}
 use Rattle.statement_syntax.specs.Written.{text_from, statement_kinds, tree_text}
 use Rattle.statement_tokens.proofs.Scanning.{spot}
+use Rattle.statement_tokens.proofs.TokenLaws.{read_are, are_read}
 use Rattle.statement_syntax.proofs.Moved.{kinds, file_moved}
 use Rattle.statement_syntax.proofs.FirstLine.{file_language}
 use Rattle.statement_syntax.proofs.Carets.{HasCarets, Allows, carets_stay, language_by}
 use Rattle.statement_syntax.proofs.Spelled.{IsFileToken, AllKinds, tokens_are}
-use Rattle.statement_syntax.proofs.BareTokens.{AreTokens, AllSpelled, file_are}
+use Rattle.statement_syntax.proofs.BareTokens.{AreTokensOf, AllSpelled, file_are}
 use Rattle.statement_syntax.proofs.StatedKinds.{kinds-append, stated-kinds}
 use Rattle.statement_syntax.proofs.ReadBack.{ReadAs, characters, characters-bytes, characters-scalars, line_read}
 
@@ -124,7 +127,7 @@ lines_read language (l ∷ ls) all before line allowed =
     line_and_more before l.stated _ rest line r l.end ls more
 
 -- the line that names the second language, and the lines behind it
-second_read : (s : Stated) (end : Spot) (ls : List StatedLine) (here : AreTokens Second (stated_tokens (bare_stated s))) (all : AllSpelled Second ls) → NamesLanguage s → (line : ℕ)
+second_read : (s : Stated) (end : Spot) (ls : List StatedLine) (here : AreTokensOf Second (stated_tokens (bare_stated s))) (all : AllSpelled Second ls) → NamesLanguage s → (line : ℕ)
     → FileRead [] (record { stated = s; end = end } ∷ ls) (characters Second (kinds (stated_tokens (bare_stated s))) here true (10 ∷ file_characters Second ls all)) line
 second_read (second_language word number) end ls here all named line =
     let s : Stated = second_language word number in
@@ -156,7 +159,7 @@ written_back language ls all speaks fits =
         m.moved,
         record {
           utf8 = utf8;
-          tokens = ap tokens_of (sym are) ∙ r.read ∙ ap (λ x. Ok x) m.are;
+          tokens = are_read (chars bytes) _ (ap tokens_of (sym are) ∙ r.read ∙ ap (λ x. Ok x) m.are);
           language = language;
           speaks = m.speaks language speaks;
           fits = m.fits fits;
@@ -172,6 +175,6 @@ reads_back statements some_text =
     let bytes = some_text.0 in
     let ls = some_text.1.0 in
     let is = some_text.1.1 in
-    let spelled = tokens_are [] (chars bytes) 0 (spot 1 1) 0 (file_tokens ls) (scalars-chars bytes is.utf8) is.tokens in
+    let spelled = tokens_are [] (chars bytes) 0 (spot 1 1) 0 (file_tokens ls) (scalars-chars bytes is.utf8) (read_are (chars bytes) (file_tokens ls) is.tokens) in
     let all = file_are is.language ls (subst (λ language. AllKinds (IsFileToken language) (kinds (file_tokens ls))) (file_language is.language ls is.speaks) spelled) in
     subst (λ x. ReadsBackAs (tree_text x) x) (sym some_text.1.2) (written_back is.language ls all is.speaks is.fits)

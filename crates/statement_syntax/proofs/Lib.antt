@@ -19,8 +19,6 @@ pub mod Moved
 pub mod Carets
 pub mod Spelled
 pub mod BareTokens
-pub mod Rescan
-pub mod Literals
 pub mod StatedKinds
 pub mod ReadBack
 pub mod FileBack

@@ -15,15 +15,19 @@ use Rattle.statement_tokens.specs.declared.scan.ScanFault.TheVariants.{BadToken}
 use Rattle.statement_tokens.specs.declared.scan.Placed.{Placed}
 use Rattle.statement_tokens.specs.declared.language.Language.{Language}
 use Rattle.statement_tokens.specs.Language.{language_of}
-use Rattle.statement_tokens.specs.Token.{◌>>=◌, item_at, tokens_from, placed, with_front, is_digit, value_from, name_of}
+use Rattle.statement_tokens.specs.Pieces.{is_digit}
+use Rattle.statement_tokens.specs.Tokens.{value_from}
+use Rattle.statement_tokens.specs.Items.{item_at, name_of}
+use Rattle.statement_tokens.proofs.Reading.{◌>>=◌, tokens_from, placed, with_front}
 use Rattle.statement_tokens.specs.Limits.{name_limit}
 use Rattle.statement_syntax.specs.Written.{opens, closes, kind_text, gap, text_from}
 use Rattle.statement_tokens.proofs.Scanning.{spot}
 use Rattle.statement_syntax.proofs.Moved.{kinds}
 use Rattle.statement_syntax.proofs.Carets.{Allows, carets_stay, carets_second}
-use Rattle.statement_syntax.proofs.Spelled.{and_first, and_second, EachIs, SpellsName, SpellsNumber, IsToken, AllKinds}
-use Rattle.statement_syntax.proofs.Rescan.{EndsBefore, Ender, one_token, blank_back, name_back, stops_name, stops_digits, colon_back, equals_back, plus_back, minus_back, arrow_back, open_back, close_back, open_square_back, close_square_back, quote_back, caret_back}
-use Rattle.statement_syntax.proofs.Literals.{Digits, decimal_digits, plain_digit, literal_back}
+use Rattle.statement_tokens.proofs.EachCharacter.{and_first, and_second, EachIs}
+use Rattle.statement_syntax.proofs.Spelled.{SpellsName, SpellsNumber, IsToken, AllKinds}
+use Rattle.statement_tokens.proofs.Rescan.{EndsBefore, Ender, one_token, blank_back, name_back, stops_name, stops_digits, colon_back, equals_back, plus_back, minus_back, arrow_back, open_back, close_back, open_square_back, close_square_back, quote_back, caret_back}
+use Rattle.statement_tokens.proofs.Literals.{Digits, decimal_digits, plain_digit, literal_back}
 
 -- ---- the characters of a token
 

@@ -1,5 +1,5 @@
 -- What is read as a name or a literal is spelled as one.
-use Rattle.std.proofs.Common.{◌≡◌, ℕ, zero, suc, ◌+◌, ◌≤◌, ◌<◌, ◌^◌, ◌==◌, ◌&&◌, ◌||◌, Bool, true, false, cond, List, [], ◌∷◌, ◌++◌, length, take, Result, Ok, Err, refl, ap, subst, ◌∙◌, append_assoc, arith}
+use Rattle.std.proofs.Common.{◌≡◌, ℕ, zero, suc, ◌+◌, ◌≤◌, ◌<◌, ◌^◌, ◌==◌, ◌&&◌, ◌||◌, Bool, true, false, cond, List, [], ◌∷◌, ◌++◌, length, take, Result, Ok, Err, refl, ap, subst, ◌∙◌, append_assoc}
 use Rattle.std.specs.Prelude.{ℤ, pos, nat_le, nat_lt}
 use Rattle.std.specs.List.{prefix_len, take_while}
 use Rattle.std.specs.Str.{encode_utf8_all}
@@ -18,16 +18,15 @@ use Rattle.statement_tokens.specs.declared.scan.Placed.{Placed}
 use Rattle.statement_tokens.specs.declared.language.Language.{Language}
 use Rattle.statement_tokens.specs.declared.language.Language.TheVariants.{First, Second}
 use Rattle.statement_tokens.specs.Language.{language_of}
-use Rattle.statement_tokens.specs.Token.{item_at, sign_at, caret_in, starts_name, is_digit, begins_with, name_of, literal_of, tokens_from, placed, end_of, right_of, below}
+use Rattle.statement_tokens.specs.Pieces.{starts_name, is_digit}
+use Rattle.statement_tokens.specs.Tokens.{end_of, right_of, below}
+use Rattle.statement_tokens.specs.Items.{item_at, sign_at, caret_in, begins_with, name_of, literal_of}
+use Rattle.statement_tokens.proofs.Reading.{tokens_from, placed}
 use Rattle.statement_tokens.specs.Limits.{name_limit}
+use Rattle.statement_tokens.proofs.EachCharacter.{EachIs, EachIs-take_while, and_first, and_second}
 use Rattle.statement_syntax.proofs.LastToken.{scan_ok, tokens_is}
 use Rattle.statement_syntax.proofs.Moved.{kinds}
 use Rattle.statement_syntax.proofs.Carets.{HasCarets, carets_stay}
-
--- each character passes
-abbrev pub EachIs : (ℕ → Bool) → List ℕ → Type 0
-EachIs p [] = Unit {0}
-EachIs p (c ∷ cs) = (p c ≡ true) × EachIs p cs
 
 -- a name is spelled by these characters
 pub record SpellsName (text : List ℕ) : Type 0 where
@@ -72,25 +71,6 @@ AllKinds-split P [] ys given = (tt, given)
 AllKinds-split P (x ∷ xs) ys given = let rest = AllKinds-split P xs ys given.1 in ((given.0, rest.0), rest.1)
 
 -- ---- characters
-
-kept_by : (p : ℕ → Bool) (c : ℕ) (cs : List ℕ) (b : Bool) → p c ≡ b → EachIs p (take_while p cs) → EachIs p (take (cond b (1 + prefix_len p cs) 0) (c ∷ cs))
-kept_by p c cs true is rest =
-    let all : EachIs p (take (suc (prefix_len p cs)) (c ∷ cs)) = (is, rest) in
-    let longer : suc (prefix_len p cs) ≡ 1 + prefix_len p cs = omega arith in
-    subst (λ n. EachIs p (take n (c ∷ cs))) longer all
-kept_by p c cs false is rest = tt
-
-EachIs-take_while : (p : ℕ → Bool) (cs : List ℕ) → EachIs p (take_while p cs)
-EachIs-take_while p [] = tt
-EachIs-take_while p (c ∷ cs) = kept_by p c cs (p c) refl (EachIs-take_while p cs)
-
-pub and_first : (a b : Bool) → (a && b) ≡ true → a ≡ true
-and_first true b given = refl
-and_first false b given = absurd cc
-
-pub and_second : (a b : Bool) → (a && b) ≡ true → b ≡ true
-and_second true b given = given
-and_second false b given = absurd cc
 
 scalars-take : (n : ℕ) (cs : List ℕ) → scalars cs ≡ true → scalars (take n cs) ≡ true
 scalars-take zero [] given = refl

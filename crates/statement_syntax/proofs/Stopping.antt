@@ -1,5 +1,5 @@
 -- The loop over the tokens of a file, and what its end says of the bytes.
-use Rattle.std.proofs.Common.{◌≡◌, ℕ, List, [], ◌∷◌, ◌++◌, inl, inr, Result, Ok, Err, refl, sym, ap, subst, ◌∙◌, append_assoc}
+use Rattle.std.proofs.Common.{◌≡◌, ℕ, List, [], ◌∷◌, ◌++◌, inl, inr, Ok, Err, refl, sym, ap, subst, ◌∙◌, append_assoc}
 use Rattle.std.proofs.lemmas.List.{append-nil, map-append}
 use Rattle.std.specs.Str.{IsUtf8, chars}
 use Rattle.std.specs.Str.Lossy.{utf8_valid_len}
@@ -14,21 +14,23 @@ use Rattle.statement_syntax.specs.declared.line.Line.TheVariants as line
 use Rattle.statement_syntax.specs.declared.read.Progress.{Progress}
 use Rattle.statement_syntax.specs.declared.fault.Fault.{Fault}
 use Rattle.statement_syntax.specs.declared.fault.Fault.TheVariants as fault
-use Rattle.statement_tokens.specs.declared.scan.Placed.{Placed}
 use Rattle.statement_syntax.specs.declared.fault.SyntaxFault.{SyntaxFault}
 use Rattle.statement_syntax.specs.declared.fault.SyntaxFault.TheVariants as refusal
 use Rattle.statement_syntax.specs.declared.expression.ReadError.{ReadError}
 use Rattle.statement_syntax.specs.declared.expression.ReadError.TheVariants as error
 use Rattle.statement_syntax.specs.Steps.{◌>>=◌, run, Fails}
 use Rattle.statement_tokens.specs.Language.{language_of}
-use Rattle.statement_tokens.specs.Token.{tokens_of}
+use Rattle.statement_tokens.specs.Tokens.{AreTokens, IsFirstScanFault}
+use Rattle.statement_tokens.specs.declared.scan.ScanFault.{ScanFault}
+use Rattle.statement_tokens.specs.declared.scan.ScanFault.TheVariants as scan
 use Rattle.statement_syntax.specs.Grammar.{sign_token, StatedLine, AreLinesOf, IsFileOf, file_tokens, FileFits}
 use Rattle.statement_syntax.specs.Tree.{stated_tree, file_tree}
 use Rattle.statement_syntax.specs.Lines.{line_end, ended, file_step}
-use Rattle.statement_syntax.specs.Fault.{IsStatements, IsTreeOf, GoesOn, GoesOnWithin, IsMisfit, IsFirstFault, TellsFirstFault, IsWantOfMemory, fault_at, misfit_fault}
+use Rattle.statement_syntax.specs.Fault.{IsStatements, IsTreeOf, GoesOn, GoesOnWithin, IsMisfit, IsFirstFault, TellsFirstFault, IsWantOfMemory, fault_at, scan_fault, misfit_fault}
 use Rattle.statement_syntax.specs.Stages.{first_statements, begun, left, StoppedAt, AllRead, Refused, IsRefusal}
+use Rattle.statement_tokens.proofs.TokenLaws.{read_are, tokens_are_unique, tokens_have_no_fault}
 use Rattle.statement_syntax.proofs.Run.{bind_ok, ok_is, run_front, one_step, upto_ok}
-use Rattle.statement_syntax.proofs.LastToken.{EndsWell, ends_from, rest_ends, tokens_is}
+use Rattle.statement_syntax.proofs.LastToken.{EndsWell, ends_from, rest_ends}
 use Rattle.statement_syntax.proofs.LineReads.{LineReads}
 use Rattle.statement_syntax.proofs.FirstLine.{file_language, Divided, Behind, divided}
 use Rattle.statement_syntax.proofs.FileReads.{FileReads, run_reads, file_on, file_misfit, lines_run, in_file, file_tokens-append, FileFits-append}
@@ -118,18 +120,18 @@ with_first : (ts front more : List Token) (lines : List StatedLine) → front ++
 with_first ts front more lines is =
     append_assoc (file_tokens (own ts).lines) front more ∙ ap (λ x. file_tokens (own ts).lines ++ x) is ∙ sym (file_tokens-append (own ts).lines lines)
 
-pub is_found : (bytes : List ℕ) (ts : List Token) (statements : List Statement) → IsUtf8 bytes → tokens_of (chars bytes) ≡ Ok ts → AllRead ts statements → IsTreeOf bytes statements
+pub is_found : (bytes : List ℕ) (ts : List Token) (statements : List Statement) → IsUtf8 bytes → AreTokens (chars bytes) ts → AllRead ts statements → IsTreeOf bytes statements
 is_found bytes ts statements utf8 read loop =
     let language = language_of ts in
     let before = first_statements language ts in
     let first = own ts in
-    let well = ends_from [] (chars bytes) 0 (record { line = 1; column = 1 }) 0 ts read in
+    let well = ends_from [] (chars bytes) 0 (record { line = 1; column = 1 }) 0 ts (read_are (chars bytes) ts read) in
     let start = closed_by language before (left ts) loop.0 (rest_ends (file_tokens first.lines) (left ts) (subst (EndsWell 0) first.are well)) loop.1 in
     let all = closed language before loop.0 (left ts) start (run_reads language before loop.0 (left ts) loop.1) in (
       first.lines ++ all.lines,
       record {
         utf8 = utf8;
-        tokens = read ∙ ap (λ x. Ok x) (first.are ∙ ap (λ x. file_tokens first.lines ++ x) all.are ∙ sym (file_tokens-append first.lines all.lines));
+        tokens = subst (AreTokens (chars bytes)) (first.are ∙ ap (λ x. file_tokens first.lines ++ x) all.are ∙ sym (file_tokens-append first.lines all.lines)) read;
         language = language;
         speaks = first.joins all.lines all.speak;
         fits = FileFits-append first.lines all.lines first.fits all.fits;
@@ -138,13 +140,13 @@ is_found bytes ts statements utf8 read loop =
     )
 
 -- a file's lines are that line and those behind it
-lines_are : (bytes : List ℕ) (ts : List Token) (lines : List StatedLine) → tokens_of (chars bytes) ≡ Ok ts → IsStatements bytes lines → Behind (language_of ts) (own ts).lines lines (left ts)
+lines_are : (bytes : List ℕ) (ts : List Token) (lines : List StatedLine) → AreTokens (chars bytes) ts → IsStatements bytes lines → Behind (language_of ts) (own ts).lines lines (left ts)
 lines_are bytes ts lines read is =
-    let tokens : ts ≡ file_tokens lines = tokens_is _ _ (sym read ∙ is.tokens) in
+    let tokens : ts ≡ file_tokens lines = tokens_are_unique (chars bytes) ts (file_tokens lines) read is.tokens in
     let language : is.language ≡ language_of ts = sym (ap language_of tokens ∙ file_language is.language lines is.speaks) in
     (own ts).parts lines (subst (λ l. IsFileOf l lines) language is.speaks) (left ts) (sym (own ts).are ∙ tokens)
 
-pub is_only : (bytes : List ℕ) (ts : List Token) (statements : List Statement) → tokens_of (chars bytes) ≡ Ok ts → AllRead ts statements → (lines : List StatedLine) → IsStatements bytes lines → statements ≡ file_tree lines
+pub is_only : (bytes : List ℕ) (ts : List Token) (statements : List Statement) → AreTokens (chars bytes) ts → AllRead ts statements → (lines : List StatedLine) → IsStatements bytes lines → statements ≡ file_tree lines
 is_only bytes ts statements read loop lines is =
     let language = language_of ts in
     let before = first_statements language ts in
@@ -153,14 +155,14 @@ is_only bytes ts statements read loop lines is =
     (ap (run (file_step language) (begun ts)) (sym parts.are) ∙ loop.1) in
     loop.2 ∙ ap (λ (p : Progress). p.statements) (sym same.1) ∙ ap (λ x. x ++ file_tree parts.others) (own ts).trees ∙ sym parts.trees
 
-stopped_misfit : (bytes : List ℕ) (ts : List Token) (lines : List StatedLine) (refused : SyntaxFault) → tokens_of (chars bytes) ≡ Ok ts → StoppedAt ts refused → IsStatements bytes lines → ⊥
+stopped_misfit : (bytes : List ℕ) (ts : List Token) (lines : List StatedLine) (refused : SyntaxFault) → AreTokens (chars bytes) ts → StoppedAt ts refused → IsStatements bytes lines → ⊥
 stopped_misfit bytes ts lines refused read loop is =
     let language = language_of ts in
     let parts = lines_are bytes ts lines read is in
     (file_misfit language (first_statements language ts) loop.front loop.progress loop.token loop.misfit loop.ran loop.stops loop.rest parts.others parts.speak (sym loop.splits ∙ parts.are)).0
     (parts.fits is.fits)
 
-pub is_refused : (bytes : List ℕ) (ts : List Token) (lines : List StatedLine) (refused : SyntaxFault) → tokens_of (chars bytes) ≡ Ok ts → Refused ts refused → IsStatements bytes lines → IsWantOfMemory refused
+pub is_refused : (bytes : List ℕ) (ts : List Token) (lines : List StatedLine) (refused : SyntaxFault) → AreTokens (chars bytes) ts → Refused ts refused → IsStatements bytes lines → IsWantOfMemory refused
 is_refused bytes ts lines (refusal.Memory e) read loop is = tt
 is_refused bytes ts lines (refusal.Fault code l c) read loop is = stopped_misfit bytes ts lines (refusal.Fault code l c) read loop is
 
@@ -200,19 +202,19 @@ module _ (ts : List Token) (refused : SyntaxFault) (loop : StoppedAt ts refused)
       (on.0, (own ts).lines ++ on.1, (own ts).joins on.1 on.2, ap (λ (x : List Token). x ++ on.0) shown ∙ with_first ts (loop.front ++ loop.token ∷ []) on.0 on.1 on.3)
 
   -- so within the language of all tokens
-  misfit_of : (bytes : List ℕ) → IsUtf8 bytes → tokens_of (chars bytes) ≡ Ok ts → IsMisfit bytes loop.token.at
+  misfit_of : (bytes : List ℕ) → IsUtf8 bytes → AreTokens (chars bytes) ts → IsMisfit bytes loop.token.at
   misfit_of bytes utf8 read = record {
     utf8 = utf8;
     front = front;
     token = loop.token;
     rest = loop.rest;
-    tokens = read ∙ ap (λ x. Ok x) all;
+    tokens = subst (AreTokens (chars bytes)) all read;
     place = refl;
     before = subst (λ l. GoesOnWithin l front) (ap language_of all) goes;
     there = λ on. (stuck on.0 on.1 (subst (λ l. IsFileOf l on.1) (sym (ap language_of all)) on.2) on.4).0 on.3;
   }
 
-  tells_by : (bytes : List ℕ) (f : Misfit) → IsUtf8 bytes → tokens_of (chars bytes) ≡ Ok ts → loop.misfit ≡ f → TellsFirstFault bytes (fault_at (misfit_fault f) loop.token.at)
+  tells_by : (bytes : List ℕ) (f : Misfit) → IsUtf8 bytes → AreTokens (chars bytes) ts → loop.misfit ≡ f → TellsFirstFault bytes (fault_at (misfit_fault f) loop.token.at)
   unfolding misfit_of
   tells_by bytes Expected utf8 read is = (
     fault.Expected,
@@ -224,7 +226,7 @@ module _ (ts : List Token) (refused : SyntaxFault) (loop : StoppedAt ts refused)
       not_deep e = absurd cc
   tells_by bytes TooDeep utf8 read is = (fault.TooDeep, refl, (misfit_of bytes utf8 read, subst (λ l. GoesOn l (front ++ loop.token ∷ [])) (ap language_of all) (deeper is)))
 
-pub is_first : (bytes : List ℕ) (ts : List Token) (refused : SyntaxFault) → IsUtf8 bytes → tokens_of (chars bytes) ≡ Ok ts → Refused ts refused → TellsFirstFault bytes refused
+pub is_first : (bytes : List ℕ) (ts : List Token) (refused : SyntaxFault) → IsUtf8 bytes → AreTokens (chars bytes) ts → Refused ts refused → TellsFirstFault bytes refused
 is_first bytes ts (refusal.Memory e) utf8 read loop = tt
 is_first bytes ts (refusal.Fault code l c) utf8 read loop =
     subst (TellsFirstFault bytes) (sym loop.tells) (tells_by ts (refusal.Fault code l c) loop bytes loop.misfit utf8 read refl)
@@ -234,21 +236,23 @@ is_first bytes ts (refusal.Fault code l c) utf8 read loop =
 pub told_not_utf8 : (bytes : List ℕ) (told : SyntaxFault) (column : ℕ) → told ≡ fault_at fault.NotUtf8 (record { line = 0; column = column }) → (IsUtf8 bytes → ⊥) → column ≡ utf8_valid_len bytes → TellsFirstFault bytes told
 told_not_utf8 bytes told column is invalid at = subst (TellsFirstFault bytes) (sym is) (fault.NotUtf8, refl, (invalid, ap (λ n. record { line = 0; column = n }) at))
 
+-- the first fault of the characters is that of the bytes
+pub told_scanned : (bytes : List ℕ) (told : SyntaxFault) (f : ScanFault) (at : Spot) → told ≡ fault_at (scan_fault f) at → IsUtf8 bytes → IsFirstScanFault (chars bytes) f at → TellsFirstFault bytes told
+told_scanned bytes told scan.BadToken at is utf8 first = subst (TellsFirstFault bytes) (sym is) (fault.BadToken, refl, (utf8, first))
+told_scanned bytes told scan.LiteralTooLarge at is utf8 first = subst (TellsFirstFault bytes) (sym is) (fault.LiteralTooLarge, refl, (utf8, first))
+
 -- ---- statements have no fault
 
 no_misfit : (bytes : List ℕ) (lines : List StatedLine) (at : Spot) → IsMisfit bytes at → IsStatements bytes lines → ⊥
 no_misfit bytes lines at m is =
-    let all : m.front ++ m.token ∷ m.rest ≡ file_tokens lines = tokens_is _ _ (sym m.tokens ∙ is.tokens) in
+    let all : m.front ++ m.token ∷ m.rest ≡ file_tokens lines = tokens_are_unique (chars bytes) _ _ m.tokens is.tokens in
     let language : language_of (m.front ++ m.token ∷ m.rest) ≡ is.language = ap language_of all ∙ file_language is.language lines is.speaks in
     m.there (m.rest, lines, subst (λ l. IsFileOf l lines) (sym language) is.speaks, is.fits, append_assoc m.front (m.token ∷ []) m.rest ∙ all)
 
-no_tokens : {ts : List Token} (p : Placed) → (let r : Result (List Token) Placed = Ok ts in r) ≡ Err p → ⊥
-no_tokens p is = absurd cc
-
 no_first : (bytes : List ℕ) (lines : List StatedLine) (f : Fault) (at : Spot) → IsFirstFault bytes f at → IsStatements bytes lines → ⊥
 no_first bytes lines fault.NotUtf8 at first is = first.0 is.utf8
-no_first bytes lines fault.BadToken at first is = no_tokens _ (sym is.tokens ∙ first.1)
-no_first bytes lines fault.LiteralTooLarge at first is = no_tokens _ (sym is.tokens ∙ first.1)
+no_first bytes lines fault.BadToken at first is = tokens_have_no_fault (chars bytes) _ _ at is.tokens first.1
+no_first bytes lines fault.LiteralTooLarge at first is = tokens_have_no_fault (chars bytes) _ _ at is.tokens first.1
 no_first bytes lines fault.Expected at first is = no_misfit bytes lines at first.0 is
 no_first bytes lines fault.TooDeep at first is = no_misfit bytes lines at first.0 is
 

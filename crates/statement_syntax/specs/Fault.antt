@@ -1,5 +1,5 @@
 -- Which bytes are which statements, and what is the first thing that is wrong with all others.
-use Rattle.std.specs.Prelude.{◌≡◌, ℕ, List, [], ◌∷◌, ◌++◌, Ok, Err}
+use Rattle.std.specs.Prelude.{◌≡◌, ℕ, List, [], ◌∷◌, ◌++◌}
 use Rattle.std.specs.Str.{IsUtf8, chars}
 use Rattle.std.specs.Str.Lossy.{utf8_valid_len}
 use Rattle.statement_tokens.specs.declared.place.Spot.{Spot}
@@ -15,16 +15,14 @@ use Rattle.statement_syntax.specs.declared.fault.SyntaxFault.{SyntaxFault}
 use Rattle.statement_syntax.specs.declared.fault.SyntaxFault.TheVariants as refusal
 use Rattle.statement_tokens.specs.declared.language.Language.{Language}
 use Rattle.statement_tokens.specs.Language.{language_of}
-use Rattle.statement_tokens.specs.Token.{tokens_of}
+use Rattle.statement_tokens.specs.Tokens.{AreTokens, IsFirstScanFault}
 use Rattle.statement_syntax.specs.Grammar.{StatedLine, IsFileOf, file_tokens, FileFits}
 use Rattle.statement_syntax.specs.Tree.{file_tree}
-
--- ---- the language
 
 -- the bytes are these statements, a line each, of one of the languages, with at most 64 round brackets in one another
 pub record IsStatements (bytes : List ℕ) (lines : List StatedLine) : Type 0 where
   pub utf8 : IsUtf8 bytes
-  pub tokens : tokens_of (chars bytes) ≡ Ok (file_tokens lines)
+  pub tokens : AreTokens (chars bytes) (file_tokens lines)
   pub language : Language
   pub speaks : IsFileOf language lines
   pub fits : FileFits lines
@@ -36,8 +34,6 @@ IsTreeOf bytes statements = (lines : List StatedLine) × IsStatements bytes line
 -- they are the tree of some text
 abbrev pub HasText : List Statement → Type 0
 HasText statements = (bytes : List ℕ) × IsTreeOf bytes statements
-
--- ---- the faults
 
 -- the number that is printed for a fault
 abbrev pub code_of : Fault → ℕ
@@ -61,7 +57,7 @@ pub record IsMisfit (bytes : List ℕ) (at : Spot) : Type 0 where
   pub front : List Token
   pub token : Token
   pub rest : List Token
-  pub tokens : tokens_of (chars bytes) ≡ Ok (front ++ token ∷ rest)
+  pub tokens : AreTokens (chars bytes) (front ++ token ∷ rest)
   pub place : token.at ≡ at
   pub before : GoesOnWithin (language_of (front ++ token ∷ rest)) front
   pub there : GoesOnWithin (language_of (front ++ token ∷ rest)) (front ++ token ∷ []) → ⊥
@@ -70,8 +66,8 @@ pub record IsMisfit (bytes : List ℕ) (at : Spot) : Type 0 where
 abbrev pub IsFirstFault : List ℕ → Fault → Spot → Type 0
 -- the place is the number of valid bytes
 IsFirstFault bytes fault.NotUtf8 at = (IsUtf8 bytes → ⊥) × (at ≡ record { line = 0; column = utf8_valid_len bytes })
-IsFirstFault bytes fault.BadToken at = IsUtf8 bytes × (tokens_of (chars bytes) ≡ Err (record { fault = scan.BadToken; at = at }))
-IsFirstFault bytes fault.LiteralTooLarge at = IsUtf8 bytes × (tokens_of (chars bytes) ≡ Err (record { fault = scan.LiteralTooLarge; at = at }))
+IsFirstFault bytes fault.BadToken at = IsUtf8 bytes × IsFirstScanFault (chars bytes) scan.BadToken at
+IsFirstFault bytes fault.LiteralTooLarge at = IsUtf8 bytes × IsFirstScanFault (chars bytes) scan.LiteralTooLarge at
 -- no file of the language goes on with the token, whatever the limit
 IsFirstFault bytes fault.Expected at = (m : IsMisfit bytes at) × (GoesOn (language_of (m.front ++ m.token ∷ m.rest)) (m.front ++ m.token ∷ []) → ⊥)
 -- some go on with it, but none within the limit
@@ -86,8 +82,6 @@ TellsFirstFault bytes (refusal.Memory e) = Unit {0}
 abbrev pub IsWantOfMemory : SyntaxFault → Type 0
 IsWantOfMemory (refusal.Fault code line column) = ⊥
 IsWantOfMemory (refusal.Memory e) = Unit {0}
-
--- ---- how the code speaks of them
 
 abbrev pub fault_at : Fault → Spot → SyntaxFault
 fault_at f at = refusal.Fault (code_of f) at.line at.column

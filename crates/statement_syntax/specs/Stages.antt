@@ -18,7 +18,7 @@ use Rattle.statement_syntax.specs.declared.fault.SyntaxFault.TheVariants as refu
 use Rattle.statement_syntax.specs.Steps.{run}
 use Rattle.statement_syntax.specs.Lines.{file_step}
 use Rattle.statement_tokens.specs.Language.{language_of}
-use Rattle.statement_tokens.specs.Token.{tokens_of}
+use Rattle.statement_tokens.specs.Tokens.{AreTokens}
 use Rattle.statement_syntax.specs.Fault.{TellsFirstFault, IsWantOfMemory, fault_at, misfit_fault}
 
 -- what is told of a step that fails at this place
@@ -28,7 +28,7 @@ IsRefusal (error.Misfit f) at refused = refused ≡ fault_at (misfit_fault f) at
 
 -- bytes to tokens
 abbrev pub TokensRead : List ℕ → Result (Vec Token) SyntaxFault → Type 0
-TokensRead bytes (Ok ts) = IsUtf8 bytes × (tokens_of (chars bytes) ≡ Ok ts.items)
+TokensRead bytes (Ok ts) = IsUtf8 bytes × AreTokens (chars bytes) ts.items
 TokensRead bytes (Err e) = TellsFirstFault bytes e
 
 -- the statement of the line that names the second language

@@ -14,13 +14,11 @@ use Rattle.statement_tokens.specs.declared.scan.Item.TheVariants as item
 use Rattle.statement_tokens.specs.declared.scan.ItemError.{ItemError}
 use Rattle.statement_tokens.specs.declared.scan.ScanFault.{ScanFault}
 use Rattle.statement_tokens.specs.declared.scan.ScanFault.TheVariants.{BadToken, LiteralTooLarge}
-use Rattle.statement_tokens.specs.Token.{name_of, literal_of, caret_in, sign_at, more_of, GivesItem}
+use Rattle.statement_tokens.specs.Items.{name_of, literal_of, caret_in, sign_at, more_of, GivesItem}
 use Rattle.statement_tokens.specs.Language.{language_of}
 use Rattle.statement_tokens.specs.declared.language.Language.{Language}
 use Rattle.statement_tokens.specs.declared.language.Language.TheVariants.{First, Second}
 use Rattle.statement_tokens.specs.declared.token.Token.{Token}
-
--- ---- names
 
 name_fits : (text : List ℕ) (more : ℕ) → length text ≤ name_limit → name_of text more ≡ Ok (item.Token (kind.Name text) more)
 name_fits text more short = ap (λ b. if b then Ok (item.Token (kind.Name text) more) else Err BadToken) (le-leb (length text) name_limit short)
@@ -30,8 +28,6 @@ pub name_read : (first : ℕ) (rest text : List ℕ) (more : ℕ) → more ≡ p
 name_read first rest text more count is short =
     let whole : text ≡ encode_utf8_all (first ∷ take_while is_xid_continue rest) = is ∙ ap (λ n. encode_utf8_all (first ∷ take n rest)) count in
     ap₂ name_of (sym whole) (sym count) ∙ name_fits text more short
-
--- ---- how long items are
 
 chosen : {X E : Type 0} (P : X → Type 0) (b : Bool) (first second : Result X E) → IfOk first P → IfOk second P → IfOk (if b then first else second) P
 chosen P true first second here there = here

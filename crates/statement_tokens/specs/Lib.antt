@@ -1,3 +1,6 @@
 pub mod Limits
 pub mod Language
-pub mod Token
+pub mod Pieces
+pub mod Tokens
+pub mod Items
+pub mod Laws

@@ -1,12 +1,14 @@
-//! The tokens of the statement language: characters to tokens, with their places.
+//! The tokens of the statement language: characters to tokens, with their places, and the laws of them.
 #![tactic(auto)]
 
 mod language;
+mod laws;
 mod place;
 mod scan;
 mod token;
 
 pub use language::{Language, language_of};
+pub use laws::{each_text_has_tokens_or_a_fault, tokens_and_faults_are_unique};
 pub use place::Spot;
 pub use scan::{NAME_LIMIT, Placed, ScanError, ScanFault, characters, tokens};
 pub use token::{Token, TokenKind};

@@ -1,12 +1,12 @@
 //! Characters to tokens.
 
-ghost use Rattle.std.specs.Prelude.{◌≡◌, ◌≤◌, ◌<◌, ◌+◌, ◌^◌, ◌++◌, ◌∷◌, length, IfOk, OnOk, SomeIff, pos};
+ghost use Rattle.std.specs.Prelude.{◌≡◌, ◌≤◌, ◌<◌, ◌+◌, ◌^◌, ◌++◌, ◌∷◌, length, IfOk, OnOk, SomeIff};
 ghost use Rattle.std.specs.List.{prefix_len, take_while};
 ghost use Rattle.std.specs.Str.{chars, encode_utf8_all};
-ghost use Rattle.statement_tokens.specs.Token.{item_at, sign_at, caret_in, GivesItem, ScansTo, tokens_of, more_of, value_from, name_of};
-ghost use Rattle.statement_tokens.specs.Token.{literal_of, begins_with, is_digit, starts_name, end_of};
+ghost use Rattle.statement_tokens.specs.Pieces.{is_digit, starts_name};
+ghost use Rattle.statement_tokens.specs.Tokens.{GivesTokens, value_from, end_of};
+ghost use Rattle.statement_tokens.specs.Items.{is_in, item_at, sign_at, caret_in, name_of, literal_of, begins_with, more_of, GivesItem};
 ghost use Rattle.unicode_ident.specs.Ident.{is_xid_continue};
-ghost use Rattle.statement_tokens.specs.Token.{is_in};
 ghost use Rattle.statement_tokens.specs.declared.scan.ItemError.TheVariants as item_error;
 ghost use Rattle.statement_tokens.specs.declared.scan.ScanError.TheVariants as scan_error;
 
@@ -214,7 +214,7 @@ fn begins_with(ch: char, text: &[char]) -> bool
     }
 }
 
-#[tactic(auto, unfolding(crate::specs::Token::item_at))]
+#[tactic(auto, unfolding(crate::specs::Items::item_at))]
 fn item_at(alloc: Global, before: &[Token], first: char, rest: &[char]) -> Result<Item, ItemError>
     ensures exact { GivesItem result (item_at before.now first rest.now) }
     ensures within { IfOk result (λ item. more_of item ≤ length rest.now) }
@@ -256,7 +256,7 @@ pub fn characters(alloc: Global, text: &str) -> Result<Vec<char>, AllocError>
 /// The tokens of a text, or its first fault with its place. A line that has a token ends with one just past its last.
 pub fn tokens(alloc: Global, text: &[char]) -> Result<Vec<Token>, ScanError>
     requires { length text.now < 4294967295 }
-    ensures { ScansTo (λ v. v.items) result (tokens_of text.now) }
+    ensures { GivesTokens text.now result }
 {
     let mut out = Vec::new(alloc);
     let mut place = 0;

@@ -1,5 +1,5 @@
 use Rattle.std.proofs.Common.{ap, sym}
-use Rattle.statement_tokens.specs.Token.{is_in}
+use Rattle.statement_tokens.specs.Items.{is_in}
 use Rattle.statement_tokens.proofs.scan.is_in.Goals as goal
 
 pub returns-in-Comment : goal.returns-in-Comment

@@ -3,7 +3,8 @@ use Rattle.std.specs.List.{prefix_len}
 use Rattle.std.proofs.lemmas.Result.{IfOk-from_err, IfOk-at_ok}
 use Rattle.std.proofs.lemmas.List.Sums.{prefix_len-le-length}
 use Rattle.unicode_ident.specs.Ident.{is_xid_continue}
-use Rattle.statement_tokens.specs.Token.{is_digit, more_of}
+use Rattle.statement_tokens.specs.Pieces.{is_digit}
+use Rattle.statement_tokens.specs.Items.{more_of}
 use Rattle.statement_tokens.proofs.Items.{given_short, name_short, literal_short, sign_short}
 use Rattle.statement_tokens.proofs.scan.item_at.Goals as goal
 

@@ -1,15 +1,18 @@
 use Rattle.std.proofs.Common.{◌≡◌, ◌≤◌, ◌++◌, ◌∷◌, [], Ok, arith, rules, sym, subst, ap, ◌∙◌, length}
-use Rattle.statement_tokens.specs.Token.{FailsItem, item_at, end_of, more_of}
+use Rattle.statement_tokens.specs.Tokens.{end_of}
+use Rattle.statement_tokens.specs.Items.{FailsItem, item_at, more_of}
 use Rattle.statement_tokens.proofs.Scanning.{turn_new_line, turn_gap, turn_token, turn_fault, turn_end, rest_is, after_more, left, left-is, left-length, spot}
+use Rattle.statement_tokens.proofs.TokenLaws.{are_read, first_read}
 use Rattle.statement_tokens.proofs.scan.tokens.Goals as goal
 
 pub returns-in-Err-Fault : goal.returns-in-Err-Fault
 returns-in-Err-Fault c =
     let split = rest_is c.args.text.now c.loop-place.place c.index-text-place.result c.loop-place-test.true c.index-text-place.is in
     let fails = subst (λ e. FailsItem e (item_at c.deref.result.now c.index-text-place.result (left c.args.text.now c.loop-place.place))) c.in-Err-Fault.field-0-is c.in-Err-Fault.ensures.exact in
-    rw c.in-Err-Fault.fault-is (sym c.loop-place.invariant.same
+    let told = sym c.loop-place.invariant.same
     ∙ turn_fault c.args.text.now c.loop-place.place c.index-text-place.result (left c.args.text.now c.loop-place.place) c.loop-place.line c.loop-place.column c.loop-place.past c.loop-place.out.items split c.in-Err-Fault.fault
-    (sym (ap (λ front. item_at front c.index-text-place.result (left c.args.text.now c.loop-place.place)) c.deref.ensures.value) ∙ fails))
+    (sym (ap (λ front. item_at front c.index-text-place.result (left c.args.text.now c.loop-place.place)) c.deref.ensures.value) ∙ fails) in
+    rw c.in-Err-Fault.fault-is (first_read c.args.text.now c.in-Err-Fault.fault (spot c.loop-place.line c.loop-place.column) told)
 
 pub loop-place-preserved-in-NewLine : goal.loop-place-preserved-in-NewLine
 loop-place-preserved-in-NewLine c =
@@ -54,6 +57,7 @@ loop-place-preserved c =
 pub returns : goal.returns
 returns c =
     let put : c.put_end-2.new.out.items ≡ c.loop-place.out.items ++ end_of c.loop-place.line c.loop-place.past = search rules in
-    sym c.loop-place.invariant.same
+    are_read c.args.text.now _
+    (sym c.loop-place.invariant.same
     ∙ turn_end c.args.text.now c.loop-place.place c.loop-place.line c.loop-place.column c.loop-place.past c.loop-place.out.items (omega (arith, c.loop-place-test.false))
-    ∙ ap (λ x. Ok x) (sym put)
+    ∙ ap (λ x. Ok x) (sym put))

@@ -1,5 +1,5 @@
 use Rattle.std.proofs.Common.{◌≡◌, ◌+◌, ◌-◌, ◌≤◌, drop, length}
-use Rattle.statement_tokens.specs.Token.{with_front, tokens_from, tokens_of}
+use Rattle.statement_tokens.proofs.Reading.{with_front, tokens_from, tokens_of}
 use Rattle.statement_tokens.proofs.scan.tokens.Given as goal
 
 abbrev pub invariant-loop-place : goal.invariant-loop-place

@@ -1,5 +1,5 @@
 use Rattle.std.proofs.Common.{◌≡◌, ◌∷◌, ◌<◌, ◌^◌, drop}
-use Rattle.statement_tokens.specs.Token.{value_from}
+use Rattle.statement_tokens.specs.Tokens.{value_from}
 use Rattle.statement_tokens.proofs.scan.value_of.Given as goal
 
 abbrev pub invariant-loop-ch : goal.invariant-loop-ch

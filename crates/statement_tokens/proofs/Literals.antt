@@ -8,9 +8,11 @@ use Rattle.unicode_ident.proofs.IdentLemmas.{is_xid_start-ascii}
 use Rattle.statement_tokens.specs.declared.token.Token.{Token}
 use Rattle.statement_tokens.specs.declared.token.TokenKind.TheVariants as kind
 use Rattle.statement_tokens.specs.declared.scan.Item.TheVariants as item
-use Rattle.statement_tokens.specs.Token.{item_at, is_digit, value_from, starts_name}
-use Rattle.statement_syntax.proofs.Spelled.{EachIs}
-use Rattle.statement_syntax.proofs.Rescan.{StopsAt, prefix_is}
+use Rattle.statement_tokens.specs.Pieces.{is_digit, starts_name}
+use Rattle.statement_tokens.specs.Tokens.{value_from}
+use Rattle.statement_tokens.specs.Items.{item_at}
+use Rattle.statement_tokens.proofs.EachCharacter.{EachIs}
+use Rattle.statement_tokens.proofs.Rescan.{StopsAt, prefix_is}
 
 value_from-append : (k : ℕ) (ds : List ℕ) (d : ℕ) → value_from k (ds ++ d ∷ []) ≡ value_from k ds * 10 + (d - 48)
 value_from-append k [] d = refl

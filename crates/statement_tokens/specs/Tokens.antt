@@ -1,21 +1,29 @@
 -- The tokens of a text, with their places, and the first fault of a text that has none.
-use Rattle.std.specs.Prelude.{◌≡◌, ℕ, ◌+◌, ◌^◌, List, [], ◌∷◌, ◌++◌, length, nat_lt, nat_le, Option, Some, None, pos, if◌then◌else◌, ◌⊎◌}
+use Rattle.std.specs.Prelude.{◌≡◌, ◌⊎◌, ℕ, zero, suc, ◌+◌, ◌-◌, ◌*◌, ◌^◌, nat_lt, nat_le, pos, if◌then◌else◌}
+use Rattle.std.specs.Prelude.{List, [], ◌∷◌, ◌++◌, length, Option, Some, None, Result, Ok, Err}
+use Rattle.std.specs.Global.{Vec}
 use Rattle.std.specs.Str.{encode_utf8_all}
 use Rattle.statement_tokens.specs.Limits.{name_limit}
 use Rattle.statement_tokens.specs.Language.{language_of}
-use Rattle.statement_tokens.specs.Token.{right_of, below, end_of, value_from}
-use Rattle.token_laws.specs.Pieces.{Piece, line_feed, return_and_line_feed, blank, tab, comment, name}
-use Rattle.token_laws.specs.Pieces.{literal, sign, piece_text, pieces_text, IsLongest, BeginsNone}
+use Rattle.statement_tokens.specs.Pieces.{Piece, line_feed, return_and_line_feed, blank, tab, comment, name}
+use Rattle.statement_tokens.specs.Pieces.{literal, sign, piece_text, pieces_text, IsLongest, BeginsNone}
 use Rattle.statement_tokens.specs.declared.place.Spot.{Spot}
 use Rattle.statement_tokens.specs.declared.token.Token.{Token}
 use Rattle.statement_tokens.specs.declared.token.TokenKind.{TokenKind}
 use Rattle.statement_tokens.specs.declared.token.TokenKind.TheVariants as kind
 use Rattle.statement_tokens.specs.declared.language.Language.{Language}
 use Rattle.statement_tokens.specs.declared.language.Language.TheVariants.{First}
+use Rattle.statement_tokens.specs.declared.scan.ScanError.{ScanError}
+use Rattle.statement_tokens.specs.declared.scan.ScanError.TheVariants as error
 use Rattle.statement_tokens.specs.declared.scan.ScanFault.{ScanFault}
 use Rattle.statement_tokens.specs.declared.scan.ScanFault.TheVariants.{BadToken, LiteralTooLarge}
 
--- ---- places: lines and characters are counted from 1
+-- lines and characters are counted from 1
+abbrev pub right_of : Spot → ℕ → Spot
+right_of at n = record { line = at.line; column = at.column + n }
+
+abbrev pub below : Spot → Spot
+below at = record { line = at.line + 1; column = 1 }
 
 abbrev pub behind : Piece → Spot → Spot
 behind line_feed at = below at
@@ -26,7 +34,15 @@ abbrev pub place_behind : List Piece → Spot → Spot
 place_behind [] at = at
 place_behind (piece ∷ pieces) at = place_behind pieces (behind piece at)
 
--- ---- tokens
+-- the value of digits behind others of this value
+abbrev pub value_from : ℕ → List ℕ → ℕ
+value_from n [] = n
+value_from n (d ∷ ds) = value_from (n * 10 + (d - 48)) ds
+
+-- a line that has a token ends just past its last one
+abbrev pub end_of : ℕ → ℕ → List Token
+end_of line zero = []
+end_of line (suc n) = record { at = record { line = line; column = suc n }; kind = kind.End } ∷ []
 
 -- the tokens that are read with a piece at a place; past is the column past the last token of its line, 0 where it has none
 abbrev pub tokens_with : Piece → Spot → ℕ → List Token
@@ -56,8 +72,6 @@ tokens_at (piece ∷ pieces) at past = tokens_with piece at past ++ tokens_at pi
 abbrev pub tokens_in : List Piece → List Token
 tokens_in pieces = tokens_at pieces (record { line = 1; column = 1 }) 0
 
--- ---- which pieces are faulty
-
 abbrev pub sign_fault : TokenKind → Language → Option ScanFault
 sign_fault kind.Caret First = Some BadToken
 sign_fault k language = None
@@ -73,8 +87,6 @@ fault_of language piece = None
 abbrev pub AreGood : Language → List Piece → List ℕ → Type 0
 AreGood language [] rest = Unit {0}
 AreGood language (piece ∷ pieces) rest = IsLongest piece (pieces_text pieces ++ rest) × (fault_of language piece ≡ None) × AreGood language pieces rest
-
--- ---- texts
 
 -- the text is good pieces and no more, and these are their tokens; its end ends the last line
 pub record AreTokens (text : List ℕ) (tokens : List Token) : Type 0 where
@@ -97,3 +109,9 @@ pub record IsFirstScanFault (text : List ℕ) (fault : ScanFault) (at : Spot) : 
   pub good : AreGood (language_of (tokens_in pieces)) pieces rest
   pub faulty : Begins (language_of (tokens_in pieces)) rest fault
   pub place : at ≡ place_behind pieces (record { line = 1; column = 1 })
+
+-- the tokens of the text are given, or its first fault is told with its place; want of memory is the one free answer
+abbrev pub GivesTokens : List ℕ → Result (Vec Token) ScanError → Type 0
+GivesTokens text (Ok tokens) = AreTokens text tokens.items
+GivesTokens text (Err (error.Fault placed)) = IsFirstScanFault text placed.fault placed.at
+GivesTokens text (Err error.Memory) = Unit {0}

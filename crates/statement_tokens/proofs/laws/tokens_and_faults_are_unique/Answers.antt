@@ -1,5 +1,5 @@
-use Rattle.token_laws.proofs.TokenLaws as lemma
-use Rattle.token_laws.proofs.laws.tokens_and_faults_are_unique.Goals as goal
+use Rattle.statement_tokens.proofs.TokenLaws as lemma
+use Rattle.statement_tokens.proofs.laws.tokens_and_faults_are_unique.Goals as goal
 
 pub returns-clause-tokens : goal.returns-clause-tokens
 returns-clause-tokens c = lemma.tokens_are_unique

@@ -1,7 +1,7 @@
 //! What holds of the tokens of all texts. The functions do nothing when they run.
 
-ghost use Rattle.token_laws.specs.Laws.{EachTextHasTokensOrFault, TokensAreUnique, FirstScanFaultsAreUnique};
-ghost use Rattle.token_laws.specs.Laws.{TokensHaveNoFault, TokensAreRead, FirstScanFaultsAreTold};
+ghost use Rattle.statement_tokens.specs.Laws.{EachTextHasTokensOrFault, TokensAreUnique, FirstScanFaultsAreUnique};
+ghost use Rattle.statement_tokens.specs.Laws.{TokensHaveNoFault};
 
 /// Each text has tokens or a first fault.
 pub fn each_text_has_tokens_or_a_fault()
@@ -13,10 +13,4 @@ pub fn tokens_and_faults_are_unique()
     ensures tokens { TokensAreUnique }
     ensures faults { FirstScanFaultsAreUnique }
     ensures apart { TokensHaveNoFault }
-{}
-
-/// What is read of a text are its tokens, or else its first fault with its place.
-pub fn tokens_are_what_is_read()
-    ensures tokens { TokensAreRead }
-    ensures faults { FirstScanFaultsAreTold }
 {}

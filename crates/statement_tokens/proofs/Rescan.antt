@@ -13,9 +13,11 @@ use Rattle.statement_tokens.specs.declared.scan.Item.TheVariants as item
 use Rattle.statement_tokens.specs.declared.scan.Placed.{Placed}
 use Rattle.statement_tokens.specs.declared.language.Language.TheVariants.{Second}
 use Rattle.statement_tokens.specs.Language.{language_of}
-use Rattle.statement_tokens.specs.Token.{◌>>=◌, item_at, tokens_from, placed, starts_name, is_digit, begins_with, name_of}
+use Rattle.statement_tokens.specs.Pieces.{starts_name, is_digit}
+use Rattle.statement_tokens.specs.Items.{item_at, begins_with, name_of}
+use Rattle.statement_tokens.proofs.Reading.{◌>>=◌, tokens_from, placed}
 use Rattle.statement_tokens.proofs.Scanning.{spot, skipped}
-use Rattle.statement_syntax.proofs.Spelled.{EachIs}
+use Rattle.statement_tokens.proofs.EachCharacter.{EachIs}
 
 -- what follows does not go on
 abbrev pub StopsAt : (ℕ → Bool) → List ℕ → Type 0
@@ -104,8 +106,6 @@ stops_digits = stops_by is_digit refl refl refl refl refl refl
 no_arrow : (rest : List ℕ) → EndsBefore rest → begins_with 62 rest ≡ false
 no_arrow [] given = refl
 no_arrow (c ∷ rest) given = ender_by (λ c. (c == 62) ≡ false) refl refl refl refl refl refl c given
-
--- ---- signs
 
 pub colon_back : (before : List Token) (rest : List ℕ) → item_at before 58 rest ≡ Ok (item.Token kind.Colon 0)
 unfolding item_at

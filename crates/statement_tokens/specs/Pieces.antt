@@ -1,12 +1,18 @@
 -- What a text is cut into: line ends, blanks, tabs, comments, names, literals and signs, each the longest that begins at its place.
-use Rattle.std.specs.Prelude.{◌≡◌, ◌≤◌, ℕ, ◌&&◌, Bool, true, false, List, [], ◌∷◌, ◌++◌, length, codes, IsTrue}
+use Rattle.std.specs.Prelude.{◌≡◌, ◌≤◌, ℕ, ◌==◌, ◌&&◌, ◌||◌, Bool, true, false, List, [], ◌∷◌, ◌++◌, length, codes, nat_le, not, IsTrue}
 use Rattle.std.specs.List.{flat_map, list_all}
-use Rattle.unicode_ident.specs.Ident.{is_xid_continue}
-use Rattle.statement_tokens.specs.Token.{starts_name, is_digit, is_inside_line}
+use Rattle.unicode_ident.specs.Ident.{is_xid_start, is_xid_continue}
 use Rattle.statement_tokens.specs.declared.token.TokenKind.{TokenKind}
 use Rattle.statement_tokens.specs.declared.token.TokenKind.TheVariants as kind
 
--- ---- pieces
+abbrev pub starts_name : ℕ → Bool
+starts_name c = is_xid_start c || (c == 95)
+
+abbrev pub is_digit : ℕ → Bool
+is_digit c = nat_le 48 c && nat_le c 57
+
+abbrev pub is_inside_line : ℕ → Bool
+is_inside_line c = not (c == 10)
 
 -- a comment, a name and a literal have their characters, of a comment those behind its `#`
 pub data Piece : Type 0 where

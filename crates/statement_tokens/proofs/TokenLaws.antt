@@ -11,20 +11,19 @@ use Rattle.statement_tokens.specs.declared.scan.ScanFault.{ScanFault}
 use Rattle.statement_tokens.specs.declared.scan.ScanFault.TheVariants.{BadToken}
 use Rattle.statement_tokens.specs.declared.scan.Placed.{Placed}
 use Rattle.statement_tokens.specs.Language.{is_language_word, is_two, is_end, language_of}
-use Rattle.token_laws.specs.Pieces.{Piece, line_feed, return_and_line_feed, blank, tab, comment, name, literal}
-use Rattle.token_laws.specs.Pieces.{sign, piece_text, pieces_text, is_some, is_piece, IsLongest, BeginsNone}
-use Rattle.token_laws.specs.Tokens.{behind, place_behind, tokens_with, past_behind, tokens_at, tokens_in}
-use Rattle.token_laws.specs.Tokens.{sign_fault, fault_of, AreGood, AreTokens, Begins, IsFirstScanFault}
-use Rattle.token_laws.specs.Laws.{HasTokensOrFault, EachTextHasTokensOrFault, TokensAreUnique, FirstScanFaultsAreUnique}
-use Rattle.token_laws.specs.Laws.{TokensHaveNoFault, TokensAreRead, FirstScanFaultsAreTold}
-use Rattle.statement_tokens.specs.Token.{end_of, tokens_from, tokens_of, with_front}
-use Rattle.token_laws.proofs.Longest.{Longest, begins_with_longest}
-use Rattle.token_laws.proofs.Pieces.{Read, front_none, reads_piece, stops_piece, stops_none}
+use Rattle.statement_tokens.specs.Pieces.{Piece, line_feed, return_and_line_feed, blank, tab, comment, name, literal}
+use Rattle.statement_tokens.specs.Pieces.{sign, piece_text, pieces_text, is_some, is_piece, IsLongest, BeginsNone}
+use Rattle.statement_tokens.specs.Tokens.{behind, place_behind, tokens_with, past_behind, tokens_at, tokens_in}
+use Rattle.statement_tokens.specs.Tokens.{sign_fault, fault_of, AreGood, AreTokens, Begins, IsFirstScanFault}
+use Rattle.statement_tokens.specs.Laws.{HasTokensOrFault, EachTextHasTokensOrFault, TokensAreUnique, FirstScanFaultsAreUnique}
+use Rattle.statement_tokens.specs.Laws.{TokensHaveNoFault}
+use Rattle.statement_tokens.specs.Tokens.{end_of}
+use Rattle.statement_tokens.proofs.Reading.{tokens_from, tokens_of, with_front}
+use Rattle.statement_tokens.proofs.Longest.{Longest, begins_with_longest}
+use Rattle.statement_tokens.proofs.Pieces.{Read, front_none, reads_piece, stops_piece, stops_none}
 
 abbrev start : Spot
 start = record { line = 1; column = 1 }
-
--- ---- the tokens in front tell the language as far as a caret asks for it
 
 stays_second : (before more : List Token) → language_of before ≡ Second → language_of (before ++ more) ≡ Second
 stays_second [] more is = absurd cc
@@ -79,8 +78,6 @@ was_good before more tab at past good = good
 was_good before more (comment cs) at past good = good
 was_good before more (name cs) at past good = good
 was_good before more (literal cs) at past good = good
-
--- ---- pieces one after another
 
 abbrev past_after : List Piece → Spot → ℕ → ℕ
 past_after [] at past = past
@@ -152,13 +149,11 @@ reads before (piece ∷ pieces) rest at past good =
     ∙ fronts here later (tokens_from ((before ++ here) ++ later) rest 0 (place_behind pieces to) (past_after pieces to end))
     ∙ ap (λ front. with_front (here ++ later) (tokens_from front rest 0 (place_behind pieces to) (past_after pieces to end))) (append_assoc before here later)
 
--- ---- the scanner reads the tokens
-
 ended : (front : List Token) (at : Spot) (past : ℕ) → tokens_from front [] 0 at past ≡ Ok (end_of at.line past)
 unfolding tokens_from
 ended front at past = refl
 
-read_are : (text : List ℕ) (tokens : List Token) → AreTokens text tokens → tokens_of text ≡ Ok tokens
+pub read_are : (text : List ℕ) (tokens : List Token) → AreTokens text tokens → tokens_of text ≡ Ok tokens
 read_are text tokens are =
     let pieces = are.pieces in
     let last = end_of (place_behind pieces start).line (past_after pieces start 0) in
@@ -177,7 +172,7 @@ stops_at before rest at past f (inr (c, later, text, none, bad)) =
     ap (λ cs. tokens_from before cs 0 at past) text ∙ stops_none before c later at past (subst BeginsNone text none)
     ∙ ap (λ f. Err (record { fault = f; at = at })) (sym bad)
 
-read_first : (text : List ℕ) (f : ScanFault) (at : Spot) → IsFirstScanFault text f at → tokens_of text ≡ Err (record { fault = f; at = at })
+pub read_first : (text : List ℕ) (f : ScanFault) (at : Spot) → IsFirstScanFault text f at → tokens_of text ≡ Err (record { fault = f; at = at })
 read_first text f at first =
     let pieces = first.pieces in
     let front = tokens_in pieces in
@@ -186,8 +181,6 @@ read_first text f at first =
     ∙ reads [] pieces first.rest start 0 good
     ∙ ap (with_front front) (stops_at front first.rest (place_behind pieces start) (past_after pieces start 0) f first.faulty)
     ∙ ap (λ at. Err (record { fault = f; at = at })) (sym first.place)
-
--- ---- each text has tokens or a fault
 
 abbrev IsAtEnd : Language → List ℕ → Type 0
 IsAtEnd language rest = (rest ≡ []) ⊎ ((f : ScanFault) × Begins language rest f)
@@ -281,8 +274,6 @@ told text c (inr (f, faulty)) = inr (
 pub each_text_has_tokens_or_fault : EachTextHasTokensOrFault
 each_text_has_tokens_or_fault text = let c = cut (length text) text (omega arith) [] start 0 in told text c c.end
 
--- ---- one of each
-
 no_both : (tokens : List Token) (p : Placed) → (let r : Read = Ok tokens in r) ≡ Err p → ⊥
 no_both tokens p is = absurd cc
 
@@ -302,9 +293,7 @@ first_scan_faults_are_unique text f g at there one other =
 pub tokens_have_no_fault : TokensHaveNoFault
 tokens_have_no_fault text tokens f at are first = no_both tokens (record { fault = f; at = at }) (sym (read_are text tokens are) ∙ read_first text f at first)
 
--- ---- what the scanner reads are the tokens
-
-are_read : (text : List ℕ) (tokens : List Token) → tokens_of text ≡ Ok tokens → AreTokens text tokens
+pub are_read : (text : List ℕ) (tokens : List Token) → tokens_of text ≡ Ok tokens → AreTokens text tokens
 are_read text tokens read = by (each_text_has_tokens_or_fault text)
   where
     by : HasTokensOrFault text → AreTokens text tokens
@@ -314,7 +303,7 @@ are_read text tokens read = by (each_text_has_tokens_or_fault text)
         subst (AreTokens text) one are
     by (inr (f, at, first)) = absurd (no_both tokens (record { fault = f; at = at }) (sym read ∙ read_first text f at first))
 
-first_read : (text : List ℕ) (f : ScanFault) (at : Spot) → tokens_of text ≡ Err (record { fault = f; at = at }) → IsFirstScanFault text f at
+pub first_read : (text : List ℕ) (f : ScanFault) (at : Spot) → tokens_of text ≡ Err (record { fault = f; at = at }) → IsFirstScanFault text f at
 first_read text f at read = by (each_text_has_tokens_or_fault text)
   where
     by : HasTokensOrFault text → IsFirstScanFault text f at
@@ -322,9 +311,3 @@ first_read text f at read = by (each_text_has_tokens_or_fault text)
     by (inr (g, there, first)) =
         let same = same_placed (record { fault = g; at = there }) (record { fault = f; at = at }) (sym (read_first text g there first) ∙ read) in
         subst (λ (p : Placed). IsFirstScanFault text p.fault p.at) same first
-
-pub tokens_are_read : TokensAreRead
-tokens_are_read text tokens = (read_are text tokens, are_read text tokens)
-
-pub first_scan_faults_are_told : FirstScanFaultsAreTold
-first_scan_faults_are_told text fault at = (read_first text fault at, first_read text fault at)

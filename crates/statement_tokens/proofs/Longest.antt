@@ -1,7 +1,7 @@
 -- What a text begins with: a longest piece, or none.
-use Rattle.std.proofs.Common.{◌≡◌, ℕ, ◌+◌, ◌≤◌, ◌==◌, ◌&&◌, Bool, true, false, cond, List, [], ◌∷◌, ◌++◌}
+use Rattle.std.proofs.Common.{◌≡◌, ℕ, ◌+◌, ◌≤◌, ◌==◌, ◌&&◌, Bool, true, false, List, [], ◌∷◌, ◌++◌}
 use Rattle.std.proofs.Common.{length, drop, suc, ◌<◌, refl, sym, ap, subst, ◌∙◌, arith, ◌⊎◌, inl, inr}
-use Rattle.std.specs.Prelude.{if◌then◌else◌, take}
+use Rattle.std.specs.Prelude.{if◌then◌else◌}
 use Rattle.std.specs.Char.{is_ascii_alphabetic}
 use Rattle.std.specs.List.{prefix_len, take_while, list_all}
 use Rattle.std.proofs.lemmas.List.{take-append-drop}
@@ -11,14 +11,13 @@ use Rattle.unicode_ident.specs.Ident.{is_xid_continue}
 use Rattle.unicode_ident.proofs.IdentLemmas.{is_xid_start-ascii}
 use Rattle.statement_tokens.specs.declared.token.TokenKind.{TokenKind}
 use Rattle.statement_tokens.specs.declared.token.TokenKind.TheVariants as kind
-use Rattle.token_laws.specs.Pieces.{Piece, line_feed, return_and_line_feed, blank, tab, comment, name}
-use Rattle.token_laws.specs.Pieces.{literal, sign, piece_text, is_piece, IsLongest, BeginsNone}
-use Rattle.statement_tokens.specs.Token.{starts_name, is_digit, is_inside_line, begins_with}
-use Rattle.statement_syntax.proofs.Spelled.{and_first, and_second, EachIs}
-use Rattle.statement_syntax.proofs.Rescan.{plain_start}
-use Rattle.statement_syntax.proofs.Literals.{plain_digit}
-
--- ---- characters that pass
+use Rattle.statement_tokens.specs.Pieces.{Piece, line_feed, return_and_line_feed, blank, tab, comment, name}
+use Rattle.statement_tokens.specs.Pieces.{literal, sign, piece_text, is_piece, IsLongest, BeginsNone}
+use Rattle.statement_tokens.specs.Pieces.{starts_name, is_digit, is_inside_line}
+use Rattle.statement_tokens.specs.Items.{begins_with}
+use Rattle.statement_tokens.proofs.EachCharacter.{EachIs, EachIs-take_while, and_first, and_second}
+use Rattle.statement_tokens.proofs.Rescan.{plain_start}
+use Rattle.statement_tokens.proofs.Literals.{plain_digit}
 
 pub and_both : (a b : Bool) → (a && b) ≡ true → (a ≡ true) × (b ≡ true)
 and_both a b given = (and_first a b given, and_second a b given)
@@ -31,23 +30,10 @@ all_are : (p : ℕ → Bool) (cs : List ℕ) → EachIs p cs → list_all p cs �
 all_are p [] given = refl
 all_are p (c ∷ cs) given = rw (given.0) (all_are p cs given.1)
 
-kept_by : (p : ℕ → Bool) (c : ℕ) (cs : List ℕ) (b : Bool) → p c ≡ b → EachIs p (take_while p cs) → EachIs p (take (cond b (1 + prefix_len p cs) 0) (c ∷ cs))
-kept_by p c cs true is rest =
-    let all : EachIs p (take (suc (prefix_len p cs)) (c ∷ cs)) = (is, rest) in
-    let longer : suc (prefix_len p cs) ≡ 1 + prefix_len p cs = omega arith in
-    subst (λ n. EachIs p (take n (c ∷ cs))) longer all
-kept_by p c cs false is rest = tt
-
-EachIs-take_while : (p : ℕ → Bool) (cs : List ℕ) → EachIs p (take_while p cs)
-EachIs-take_while p [] = tt
-EachIs-take_while p (c ∷ cs) = kept_by p c cs (p c) refl (EachIs-take_while p cs)
-
 -- those in front that pass are no more than the front that passes
 front_passes : (p : ℕ → Bool) (cs rest : List ℕ) → EachIs p cs → length cs ≤ prefix_len p (cs ++ rest)
 front_passes p [] rest each = omega arith
 front_passes p (c ∷ cs) rest each = rw (each.0) (let more = front_passes p cs rest each.1 in omega (arith, more))
-
--- ---- how long a piece can be
 
 -- so many characters may go on with the first
 pub goes_on : ℕ → List ℕ → ℕ
@@ -108,8 +94,6 @@ longest_by piece later c rest is whole long = record {
   is = is;
   longest = λ other more good e. let short = no_longer c rest more other good (e ∙ whole) in omega (arith, short, long);
 }
-
--- ---- each text begins with a longest piece, or with none
 
 pub record Longest (text : List ℕ) : Type 0 where
   pub piece : Piece

@@ -1,7 +1,6 @@
--- Each text has one list of tokens or one first fault, and these are what is read.
-use Rattle.std.specs.Prelude.{◌≡◌, ◌⊎◌, ◌↔◌, ℕ, List, Ok, Err}
-use Rattle.statement_tokens.specs.Token.{tokens_of}
-use Rattle.token_laws.specs.Tokens.{AreTokens, IsFirstScanFault}
+-- Each text has one list of tokens or one first fault.
+use Rattle.std.specs.Prelude.{◌≡◌, ◌⊎◌, ℕ, List}
+use Rattle.statement_tokens.specs.Tokens.{AreTokens, IsFirstScanFault}
 use Rattle.statement_tokens.specs.declared.place.Spot.{Spot}
 use Rattle.statement_tokens.specs.declared.scan.ScanFault.{ScanFault}
 use Rattle.statement_tokens.specs.declared.token.Token.{Token}
@@ -25,12 +24,3 @@ FirstScanFaultsAreUnique = (text : List ℕ) (fault other : ScanFault) (at there
 -- No text that has tokens has a first fault.
 abbrev pub TokensHaveNoFault : Type 0
 TokensHaveNoFault = (text : List ℕ) (tokens : List Token) (fault : ScanFault) (at : Spot) → AreTokens text tokens → IsFirstScanFault text fault at → ⊥
-
--- The tokens that are read of a text are its tokens, and no others.
-abbrev pub TokensAreRead : Type 0
-TokensAreRead = (text : List ℕ) (tokens : List Token) → AreTokens text tokens ↔ (tokens_of text ≡ Ok tokens)
-
--- The fault that is told of a text is its first one, with its place.
-abbrev pub FirstScanFaultsAreTold : Type 0
-FirstScanFaultsAreTold = (text : List ℕ) (fault : ScanFault) (at : Spot)
-    → IsFirstScanFault text fault at ↔ (tokens_of text ≡ Err (record { fault = fault; at = at }))

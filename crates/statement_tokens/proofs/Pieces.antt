@@ -21,19 +21,19 @@ use Rattle.statement_tokens.specs.declared.scan.ScanFault.TheVariants.{BadToken,
 use Rattle.statement_tokens.specs.declared.scan.Placed.{Placed}
 use Rattle.statement_tokens.specs.Limits.{name_limit}
 use Rattle.statement_tokens.specs.Language.{language_of}
-use Rattle.token_laws.specs.Pieces.{Piece, line_feed, return_and_line_feed, blank, tab, comment, name}
-use Rattle.token_laws.specs.Pieces.{literal, sign, piece_text, is_piece, IsLongest, BeginsNone}
-use Rattle.token_laws.specs.Tokens.{behind, tokens_with, past_behind, sign_fault, fault_of}
-use Rattle.statement_tokens.specs.Token.{starts_name, is_digit, is_inside_line, value_from, right_of}
-use Rattle.statement_tokens.specs.Token.{item_at, tokens_from, placed, begins_with, literal_of, with_front}
+use Rattle.statement_tokens.specs.Pieces.{Piece, line_feed, return_and_line_feed, blank, tab, comment, name}
+use Rattle.statement_tokens.specs.Pieces.{literal, sign, piece_text, is_piece, IsLongest, BeginsNone}
+use Rattle.statement_tokens.specs.Tokens.{behind, tokens_with, past_behind, sign_fault, fault_of}
+use Rattle.statement_tokens.specs.Pieces.{starts_name, is_digit, is_inside_line}
+use Rattle.statement_tokens.specs.Tokens.{value_from, right_of}
+use Rattle.statement_tokens.specs.Items.{item_at, begins_with, literal_of}
+use Rattle.statement_tokens.proofs.Reading.{tokens_from, placed, with_front}
 use Rattle.statement_tokens.proofs.Scanning.{skipped}
-use Rattle.statement_syntax.proofs.Spelled.{EachIs}
-use Rattle.statement_syntax.proofs.Rescan.{StopsAt, prefix_is, name_back, colon_back, equals_back, plus_back, open_back}
-use Rattle.statement_syntax.proofs.Rescan.{close_back, open_square_back, close_square_back, quote_back, caret_back, arrow_back}
-use Rattle.statement_syntax.proofs.Literals.{plain_digit}
-use Rattle.token_laws.proofs.Longest.{and_both, each_is, no_test}
-
--- ---- the longest piece is all that the scanner takes
+use Rattle.statement_tokens.proofs.EachCharacter.{EachIs}
+use Rattle.statement_tokens.proofs.Rescan.{StopsAt, prefix_is, name_back, colon_back, equals_back, plus_back, open_back}
+use Rattle.statement_tokens.proofs.Rescan.{close_back, open_square_back, close_square_back, quote_back, caret_back, arrow_back}
+use Rattle.statement_tokens.proofs.Literals.{plain_digit}
+use Rattle.statement_tokens.proofs.Longest.{and_both, each_is, no_test}
 
 stops : (p : ℕ → Bool) (later : List ℕ) → ((d : ℕ) (ds : List ℕ) → later ≡ d ∷ ds → p d ≡ true → ⊥) → StopsAt p later
 stops p [] ends = tt
@@ -80,8 +80,6 @@ no_arrow (d ∷ ds) is = by (d == 62) refl
     by true same = absurd (no_longer (sign kind.Minus) (d ∷ ds) is (sign kind.Arrow) d ds refl refl (ap (λ x. 45 ∷ x ∷ []) (sym (eqb-true d 62 same))))
     by false other = other
 
--- ---- one turn
-
 abbrev pub Read : Type 0
 Read = Result (List Token) Placed
 
@@ -127,8 +125,6 @@ module _ (before : List Token) (c : ℕ) (cs later : List ℕ) (at : Spot) (past
   fault : (f : ScanFault) → item_at before c (cs ++ later) ≡ Err f → tokens_from before (c ∷ (cs ++ later)) 0 at past ≡ Err (record { fault = f; at = at })
   fault f is = turn (Err f) is
 
--- ---- what the scanner reads of a literal and of a minus sign, whatever stands behind
-
 literal_read : (before : List Token) (c : ℕ) (cs rest : List ℕ) → is_digit c ≡ true → EachIs is_digit cs → StopsAt is_digit rest
     → item_at before c (cs ++ rest) ≡ literal_of (value_from 0 (c ∷ cs)) (length cs)
 unfolding item_at
@@ -149,8 +145,6 @@ literal_read before c cs rest digit each ends =
 minus_read : (before : List Token) (rest : List ℕ) → begins_with 62 rest ≡ false → item_at before 45 rest ≡ Ok (item.Token kind.Minus 0)
 unfolding item_at
 minus_read before rest given = rw (is_xid_start-ascii 45 (omega arith), given) refl
-
--- ---- one piece
 
 kept : (b : Bool) (f : ScanFault) → (let o : Option ScanFault = (if b then None else Some f) in o) ≡ None → b ≡ true
 kept true f is = refl
@@ -210,8 +204,6 @@ reads_piece before (literal (c ∷ cs)) later at past is good =
     (literal_read before c cs later parts.0 (each_is is_digit cs parts.1) (literal_stops c cs later is)
     ∙ ap (λ b. if b then Ok (item.Token (kind.Literal (pos value)) (length cs)) else Err LiteralTooLarge) (kept (nat_lt value (2 ^ 127)) LiteralTooLarge good))
 reads_piece before (sign k) later at past is good = reads_sign before k later at past is good
-
--- ---- faults
 
 abbrev Stops : List Token → List ℕ → Spot → ℕ → ScanFault → Type 0
 Stops before text at past f = tokens_from before text 0 at past ≡ Err (record { fault = f; at = at })

@@ -1,3 +1,0 @@
-mod Longest
-mod Pieces
-mod TokenLaws

@@ -1,5 +1,0 @@
-use Rattle.token_laws.proofs.TokenLaws as lemma
-use Rattle.token_laws.proofs.laws.each_text_has_tokens_or_a_fault.Goals as goal
-
-pub returns : goal.returns
-returns c = lemma.each_text_has_tokens_or_fault

@@ -1,3 +1,0 @@
-pub mod Pieces
-pub mod Tokens
-pub mod Laws
