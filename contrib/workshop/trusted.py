@@ -21,7 +21,8 @@ CRATES, DOCUMENT = TOP / "crates", TOP / "docs" / "DEFINITIONS.md"
 STARTS = ("command_runs/src/whole_run.rt", "*_command/src/laws.rt", "command_answers/src/laws.rt")
 BEGINS, ENDS = "<!-- contrib/workshop/trusted.py begins -->", "<!-- contrib/workshop/trusted.py ends -->"
 IMPORT = re.compile(r"^\s*(?:ghost |pub )?use Rattle\.(\w+)\.specs\.([\w.]+?)(?:\.\{([^}]*)\}| as .*|\s*)?;?\s*$", re.M)
-CLAUSES = re.compile(r"^\s*(?:ensures|requires)\b.*\}$", re.M)
+# a clause, which may go on over further lines, to the next one or to the body
+CLAUSES = re.compile(r"^\s*(?:ensures|requires)\b.*(?:\n(?!\s*(?:ensures|requires)\b|\s*\{).+)*", re.M)
 
 
 class Import(NamedTuple):
