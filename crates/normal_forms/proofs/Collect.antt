@@ -119,15 +119,15 @@ module _ {K : Type 0} (k : Field K) (o : Sorting) where
   apart : (v w : Word) → o.below v w ≡ true → word_eq w v ≡ false
   apart v w h = false_from_ne_true (word_eq w v) (λ e. true≢false (sym h ∙ ap (λ x. o.below v x) (word_eq-true w v e) ∙ o.irreflexive v))
 
-  look_other : (w : Word) (t : K × Word) (p : Form K) → word_eq t.1 w ≡ false → look k (t ∷ p) w ≡ look k p w
+  pub look_other : (w : Word) (t : K × Word) (p : Form K) → word_eq t.1 w ≡ false → look k (t ∷ p) w ≡ look k p w
   look_other w t p e = ap (λ b. k.plus (k.times t.0 (cond b k.one k.none)) (look k p w)) e ∙ ap (λ z. k.plus z (look k p w)) (times_none k t.0)
       ∙ none_plus k (look k p w)
 
-  none_before : (w : Word) (p : Form K) → After w p → look k p w ≡ k.none
+  pub none_before : (w : Word) (p : Form K) → After w p → look k p w ≡ k.none
   none_before w [] h = refl
   none_before w (t ∷ p) h = look_other w t p (apart w t.1 h.0) ∙ none_before w p h.1
 
-  look_head : (t : K × Word) (p : Form K) → After t.1 p → look k (t ∷ p) t.1 ≡ t.0
+  pub look_head : (t : K × Word) (p : Form K) → After t.1 p → look k (t ∷ p) t.1 ≡ t.0
   look_head t p h = ap (λ b. k.plus (k.times t.0 (cond b k.one k.none)) (look k p t.1)) (word_eq-same t.1)
       ∙ ap₂ k.plus (times_one k t.0) (none_before t.1 p h) ∙ k.plus_none t.0
 

@@ -1,11 +1,13 @@
 -- Objects U and V, a map x of V, and the rules [U] and x x - x: an overlap, a zero object, and an object that isn't marked.
 use Rattle.std.proofs.Common.{◌≡◌, ◌≢◌, ◌<◌, ◌+◌, ℕ, zero, suc, pos, negsuc, Bool, true, false, List, [], ◌∷◌, ◌++◌, length, Some, Ok, Option, refl, sym, ap, ◌∙◌, subst, arith}
 use Rattle.std.proofs.lemmas.Int.{ints}
+use Rattle.std.proofs.Math.Nat.{eq-one_of_dvd-one}
 use Rattle.std.proofs.lemmas.List.{length-append}
 use Rattle.std.proofs.lemmas.List.Elements.{All-from_recursion}
 use Rattle.std.proofs.lemmas.List.Kept.{AllPairs-cons}
 use Rattle.std.specs.List.{All, AllPairs}
 use Rattle.definitions.specs.Poly.{Term}
+use Rattle.definitions.specs.Category.{IsArrow}
 use Rattle.definitions.specs.Quiver.{IsPath}
 use Rattle.definitions.specs.Combination.{InRationalIdeal}
 use Rattle.word_core.specs.declared.letter.Object.{Object}
@@ -38,9 +40,12 @@ use Rattle.confluence.specs.Reductions.{IsZero, IsReduced}
 use Rattle.confluence.proofs.RestLaws.{normal_forms_are_reduced, rests_of_ideal_are_zero}
 use Rattle.confluence.proofs.WrittenTerms.{shaped_as_written, canonical_as_written}
 use Rattle.confluence.proofs.ZeroRestLaws.{zero_rests_are_resolved}
-use Rattle.normal_forms.specs.NormalForms.{IsBasis}
+use Rattle.normal_forms.specs.Fractions.{Fraction}
+use Rattle.normal_forms.specs.Maps.{NormalMap}
+use Rattle.normal_forms.specs.NormalForms.{IsBasis, normal_forms}
 use Rattle.normal_forms.specs.SharpMeans.{SharpMeans}
 use Rattle.normal_forms.proofs.Basis.{sharp_means}
+use Rattle.normal_forms.proofs.MapSums.{maps_are_finite_sums}
 
 -- object U V, map x : V -> V: the letters are [U] = 0, [V] = 1, x = 2, x' = 3
 abbrev declared : List Declaration
@@ -381,3 +386,22 @@ example : SharpMeans parts rules claim_terms
 example = sharp_means parts rules basis
     (((refl, tt), tt), (((refl, (refl, tt)), ((refl, tt), tt)), (((refl, (refl, tt)), ((refl, tt), tt)), tt))) claim_terms ((refl, tt), tt)
     (record { source = 1; target = 1; source_is_object = omega arith; target_is_object = omega arith; typed = typed_claim }) outside
+
+-- 5 beside the empty word: at V it is five times the identity, and at U, which is marked, it is no map
+abbrev five_at : ℕ → NormalMap Fraction
+five_at v = record { source = v; target = v; form = (record { top = pos 5; bottom = 1 }, []) ∷ [] }
+
+five : IsArrow (normal_forms parts rules) 1 1 (five_at 1)
+five = ((maps_are_finite_sums parts rules 1 1 (omega arith, basis) (omega arith, basis)).lists (five_at 1)).1 (record {
+  source = refl;
+  target = refl;
+  fractions = (record { lowest = record { positive = omega arith; apart = λ d top bottom. eq-one_of_dvd-one bottom }; nonzero = refl }, tt);
+  ascending = (tt, tt);
+  words = ((refl, refl), tt);
+})
+
+no_five : IsArrow (normal_forms parts rules) 0 0 (five_at 0) → ⊥
+no_five is = marked (((maps_are_finite_sums parts rules 0 0 (omega arith, basis) (omega arith, basis)).lists (five_at 0)).0 is).words.0.1
+  where
+    marked : true ≡ false → ⊥
+    marked e = cc

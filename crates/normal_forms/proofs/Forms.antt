@@ -94,7 +94,7 @@ module _ {K : Type 0} (k : Field K) where
           ∙ ap (λ z. k.plus (k.times z (f w)) (k.plus (k.times t.0 (f t.1)) (sum f (without w p))))
           (sym (ap (λ z. k.plus z (look p w)) (times_none k t.0) ∙ none_plus k (look p w))))
 
-  look-without_same : (w : Word) (p : Form K) → look (without w p) w ≡ k.none
+  pub look-without_same : (w : Word) (p : Form K) → look (without w p) w ≡ k.none
   look-without_same w [] = refl
   look-without_same w (t ∷ p) = go (word_eq t.1 w) refl (look-without_same w p)
     where

@@ -17,5 +17,6 @@ pub mod Units
 pub mod Stated
 pub mod Images
 pub mod Plain
+pub mod MapSums
 pub mod Basis
 mod Examples

@@ -49,7 +49,7 @@ mapped_back : (p : Form Rational) → mapped read (mapped raw p) ≡ p
 mapped_back [] = refl
 mapped_back (t ∷ p) = ap₂ (λ x z. (x, t.1) ∷ z) (read_raw t.0) (mapped_back p)
 
-mapped_again : (p : Form Fraction) → AllByRecursion (λ t. IsNonzero t.0) p → mapped raw (mapped read p) ≡ p
+pub mapped_again : (p : Form Fraction) → AllByRecursion (λ t. IsNonzero t.0) p → mapped raw (mapped read p) ≡ p
 mapped_again [] each = refl
 mapped_again (t ∷ p) each = ap₂ (λ x z. (x, t.1) ∷ z) (raw_read t.0 each.0.lowest) (mapped_again p each.1)
 
@@ -58,11 +58,11 @@ each_read : (P : Word → Type 0) (p : Form Fraction) → AllByRecursion (λ t. 
 each_read P [] each = tt
 each_read P (t ∷ p) each = (each.0, each_read P p each.1)
 
-each_raw : (P : Word → Type 0) (p : Form Rational) → Each P p → AllByRecursion (λ t. P t.1) (mapped raw p)
+pub each_raw : (P : Word → Type 0) (p : Form Rational) → Each P p → AllByRecursion (λ t. P t.1) (mapped raw p)
 each_raw P [] each = tt
 each_raw P (t ∷ p) each = (each.0, each_raw P p each.1)
 
-form_read : (p : Form Fraction) → AllByRecursion (λ t. IsNonzero t.0) p → IsAscending comes_before p → IsForm rationals canonical (mapped read p)
+pub form_read : (p : Form Fraction) → AllByRecursion (λ t. IsNonzero t.0) p → IsAscending comes_before p → IsForm rationals canonical (mapped read p)
 form_read [] each ascending = tt
 form_read (t ∷ p) each ascending = (
   none_test (read t.0) ∙ ap (λ x. is_zero x.top) (raw_read t.0 each.0.lowest) ∙ each.0.nonzero,
@@ -70,11 +70,11 @@ form_read (t ∷ p) each ascending = (
   form_read p each.1 ascending.1,
 )
 
-nonzero_raw : (p : Form Rational) → IsForm rationals canonical p → AllByRecursion (λ t. IsNonzero t.0) (mapped raw p)
+pub nonzero_raw : (p : Form Rational) → IsForm rationals canonical p → AllByRecursion (λ t. IsNonzero t.0) (mapped raw p)
 nonzero_raw [] form = tt
 nonzero_raw (t ∷ p) form = (record { lowest = t.0.lowest; nonzero = sym (none_test t.0) ∙ form.0 }, nonzero_raw p form.2)
 
-ascending_raw : (p : Form Rational) → IsForm rationals canonical p → IsAscending comes_before (mapped raw p)
+pub ascending_raw : (p : Form Rational) → IsForm rationals canonical p → IsAscending comes_before (mapped raw p)
 ascending_raw [] form = tt
 ascending_raw (t ∷ p) form = (each_raw (λ w. comes_before t.1 w ≡ true) p form.1, ascending_raw p form.2)
 

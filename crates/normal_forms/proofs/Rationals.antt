@@ -420,6 +420,14 @@ none_test x = refl
 abbrev pub raw : Rational → Fraction
 raw x = record { top = x.top; bottom = x.bottom }
 
+pub none_is_none : rationals.is_none rationals.none ≡ true
+unfolding rationals rational_none
+none_is_none = refl
+
+pub raw-none : raw rationals.none ≡ whole (pos 0)
+unfolding rationals rational_none whole
+raw-none = refl
+
 raw-over : (a : ℤ) (b : ℕ) → raw (over a b) ≡ fraction_over a b
 unfolding over fraction_over
 raw-over a zero = refl

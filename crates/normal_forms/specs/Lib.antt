@@ -5,4 +5,5 @@ pub mod RationalForms
 pub mod Descents
 pub mod Maps
 pub mod NormalForms
+pub mod MapLaws
 pub mod SharpMeans
