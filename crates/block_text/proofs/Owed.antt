@@ -104,3 +104,32 @@ begins_by_head others IsOpen first second b none is_open line c read =
     let found = cond_some (is_pair first second line) b c read in
     let known : first ∷ second ∷ [] ≡ line = sym (pair_is first second line found.0) in
     (subst (λ l. is_other_head others l ≡ false) known none, subst (λ d. IsOpen d (line ∷ [])) found.1 (subst (λ l. IsOpen b (l ∷ [])) known is_open))
+
+-- a reader of a kind all of whose blocks begin with the same two words, by what it makes of the lines behind them
+pub reader_by_head : {Value : Type 0} (kind : Kind Value) {Begun : Type 0} (steps : Steps Begun Value) (IsOpen : Begun → List Line → Type 0)
+    → ((bound : kind.Bound) → bound_of kind.flaw_of kind.bounds (kind.flaw_of bound) ≡ Some bound)
+    → (bound_of kind.flaw_of kind.bounds BadLine ≡ None) × (bound_of kind.flaw_of kind.bounds (TooMany block_limit) ≡ None)
+    → steps.others ≡ kind.others → All (λ word. begins_comment word ≡ false) kind.others
+    → (first second : List ℕ) (head : Begun) → ((line : Line) → steps.begin line ≡ (if is_pair first second line then Some head else None))
+    → is_other_head kind.others (first ∷ second ∷ []) ≡ false → IsOpen head ((first ∷ second ∷ []) ∷ [])
+    → ((b c : Begun) (front : List Line) (line : Line) → IsOpen b front → is_end line ≡ false → steps.next b line ≡ Ok c → IsOpen c (front ++ line ∷ []))
+    → ((b : Begun) (front : List Line) → IsOpen b front → Begins kind kind.bounds front)
+    → ((b : Begun) (front : List Line) (value : Value) → IsOpen b front → steps.finish b ≡ Some value → IsWhole kind front value)
+    → ((b : Begun) (front : List Line) (line : Line) (flaw : Flaw) → IsOpen b front → is_end line ≡ false → steps.next b line ≡ Err flaw → IsStopped kind flaw (front ++ line ∷ []))
+    → ((K : kind.Bound → Type 0) (t : kind.Tree) → kind.IsTree t → ((bound : kind.Bound) → K bound → kind.Keeps bound t)
+    → Meets kind.flaw_of K (λ value. kind.Says t value) (read_block steps (kind.lines_of t)))
+    → ((t : kind.Tree) (v w : Value) → kind.Says t v → kind.Says t w → v ≡ w) → IsReader kind steps
+reader_by_head kind steps IsOpen told none_told others words first second head heads none is_open goes goes_on ends stops reads unique = record {
+  told = told;
+  none_told = none_told;
+  others = others;
+  words = words;
+  IsOpen = IsOpen;
+  begins = λ line b read. begins_by_head kind.others IsOpen first second head none is_open line b (sym (heads line) ∙ read);
+  goes = goes;
+  goes_on = goes_on;
+  ends = ends;
+  stops = stops;
+  reads = reads;
+  unique = unique;
+}

@@ -19,3 +19,19 @@ pub record Kind (Value : Type 0) : Type 1 where
   pub Keeps : Bound → Tree → Type 0
   -- what it says
   pub Says : Tree → Value → Type 0
+
+-- The kind whose blocks are these trees, by the lines that each is, which tokens stand where, the words that blocks of the other
+-- kinds begin with, the bounds in their order, what is told for each and when it is kept, and what a tree says.
+abbrev pub kind_of : {Tree Bound Value : Type 0} → (Tree → List Line) → (Tree → Type 0) → List (List ℕ)
+    → List Bound → (Bound → Flaw) → (Bound → Tree → Type 0) → (Tree → Value → Type 0) → Kind Value
+kind_of {Tree} {Bound} lines_of IsTree others bounds flaw_of Keeps Says = record {
+  Tree = Tree;
+  lines_of = lines_of;
+  IsTree = IsTree;
+  others = others;
+  Bound = Bound;
+  bounds = bounds;
+  flaw_of = flaw_of;
+  Keeps = Keeps;
+  Says = Says;
+}

@@ -1,6 +1,6 @@
 //! What a kind of block has to offer to be read.
 
-ghost use Rattle.std.specs.Prelude.{◌≡◌, map, IfOk, IfSome};
+ghost use Rattle.std.specs.Prelude.{◌≡◌, map, ⊤, IfOk, IfSome};
 ghost use Rattle.block_text.specs.Fault.{Reads};
 ghost use Rattle.block_text.specs.Steps.{Steps};
 ghost use Rattle.block_text.specs.Tokens.{tokens_of};
@@ -17,8 +17,8 @@ pub trait BlockKind {
 
     ghost steps: { Self → Steps Self.Begun Self.Value };
 
-    // What holds of a block whose lines go on.
-    ghost is_sound: { Self → Self.Begun → Type 0 };
+    // What holds of a block whose lines go on, if anything does.
+    ghost is_sound: { Self → Self.Begun → Type 0 } = { λ kind begun. ⊤ };
 
     /// The words that blocks of the other kinds begin with, which are skipped.
     fn others(&self) -> &'static [&'static str]

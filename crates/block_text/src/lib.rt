@@ -32,5 +32,5 @@ pub use number::{
 };
 pub use poly::{put_poly, write_poly};
 pub use polynomial::read_polynomial;
-pub use read::read_blocks;
+pub use read::{ReadText, read_blocks};
 pub use write::{put, put_integer, put_letter, put_number, put_word, write_word};

@@ -18,6 +18,9 @@ use crate::place::{Place, Progress};
 use lists::Listing;
 use std::alloc::Global;
 
+/// The values that a text says, or the first thing that is wrong with it.
+pub type ReadText<V> = Result<Listing<V>, CertFault>;
+
 // Whether the line begins with one of these words.
 fn begins_one_of(words: &[&str], line: &[u8]) -> bool
     ensures { result ≡ list_any (λ word. begins word.now (tokens_of line.now)) words.now }
@@ -166,11 +169,7 @@ fn ended<B: Drop, V: Drop>(progress: Progress<B, V>) -> Result<Listing<V>, TextF
 }
 
 // The values of a text that may have none.
-fn values_of<K: BlockKind>(
-    alloc: Global,
-    kind: &K,
-    bytes: &[u8],
-) -> Result<Listing<K::Value>, CertFault>
+fn values_of<K: BlockKind>(alloc: Global, kind: &K, bytes: &[u8]) -> ReadText<K::Value>
     requires { length bytes.now < 4294967295 }
     ensures { ReadsText (λ vs. vs) result (values_of (K.steps kind.now) bytes.now) }
 {
@@ -190,11 +189,7 @@ fn one_or_more<V: Drop>(values: Listing<V>) -> Result<Listing<V>, TextFlaw>
 }
 
 /// The values of the blocks of the kind that the bytes have, one at least, or what is wrong with the bytes.
-pub fn read_blocks<K: BlockKind>(
-    alloc: Global,
-    kind: &K,
-    bytes: &[u8],
-) -> Result<Listing<K::Value>, CertFault>
+pub fn read_blocks<K: BlockKind>(alloc: Global, kind: &K, bytes: &[u8]) -> ReadText<K::Value>
     requires { length bytes.now < 4294967295 }
     ensures { ReadsText (λ vs. vs) result (all_values (K.steps kind.now) bytes.now) }
 {

@@ -63,7 +63,7 @@ plain_tree ds c = record { claim = decimal c.claim; denominator = signed_decimal
 
 module _ (ds : List Declaration) (c : Certificate) (writable : IsWritable ds c) (each : All (λ row. IsWrittenRow ds (over_generator row)) c.rows) where
   size : IsSize c.denominator
-  size = size_written c.denominator writable.size writable.denominator writable.in_range
+  size = size_written c.denominator writable.denominator
 
   small : c.claim < 10 ^ 64
   small = omega (arith, writable.claim)

@@ -150,7 +150,7 @@ module _ (most : Format) (ds : List Declaration) (flaw : Flaw) (front : List Lin
 
   module _ (o : Opened) (l : Lemma) (lead : Lead) (inside : IsInside most ds o l lead front) where
     abbrev rows_before : List RowTokens
-    rows_before = rows_of inside.finished ++ inside.tokens.rows
+    rows_before = rows_of inside.finished ++ inside.so_far.tokens.rows
 
     stopped_by_row : RowPasses ds rows_before line flaw → Stopped
     stopped_by_row found =
@@ -158,7 +158,7 @@ module _ (most : Format) (ds : List Declaration) (flaw : Flaw) (front : List Lin
         let pass = found.pass in
         let claim : List ℕ = inside.claim in
         let denominator : List ℕ = inside.denominator in
-        let s : ScaledTokens = inside.tokens in
+        let s : ScaledTokens = inside.so_far.tokens in
         let fronts : lemmas_front claim denominator inside.finished ++ lead_lines lead (scaled_push s r) ≡ front ++ line ∷ [] =
         sym (lead_push (lemmas_front claim denominator inside.finished) lead s r)
         ∙ ap₂ (λ (ls : List Line) (x : Line). ls ++ x ∷ []) (sym inside.are) (sym found.line_is) in
@@ -167,12 +167,12 @@ module _ (most : Format) (ds : List Declaration) (flaw : Flaw) (front : List Lin
         passes pass.bound pass.flaw_is
         (subst (Begins (certificate_kind most ds) (before pass.bound)) fronts
         (begin_rows most ds claim denominator inside.finished (before pass.bound) lead (scaled_push s r) inside.read inside.begun.head inside.next
-        (scaled_more s r inside.scaled found.is_row)
+        (scaled_more s r inside.so_far.scaled found.is_row)
         (λ k d below. rows_keep_one most ds claim denominator inside.finished lead (scaled_push s r) inside.begun.within inside.few
-        (integer_is_within s.scale l.scale inside.values.scale) _ (keep k d below))))
+        (integer_is_within s.scale l.scale inside.so_far.values.scale) _ (keep k d below))))
 
     stopped_row : lemma_row ds o.size l line ≡ Err flaw → Stopped
-    stopped_row read = stopped_by (certificate_kind most ds) flaw _ (row_passes ds o.size l rows_before line flaw inside.have read) (λ found. stopped_by_row found)
+    stopped_row read = stopped_by (certificate_kind most ds) flaw _ (row_passes ds o.size l rows_before line flaw inside.so_far.have read) (λ found. stopped_by_row found)
 
   -- ---- lemmas and the goal
 

@@ -1,5 +1,6 @@
 -- What is numbered is written one after another.
-use Rattle.std.proofs.Common.{◌≡◌, ◌<◌, ◌+◌, ℕ, suc, List, [], ◌∷◌, ◌++◌, arith, ap, sym, ◌∙◌, length, take, get_or}
+use Rattle.std.proofs.Common.{◌≡◌, ◌<◌, ◌+◌, ℕ, suc, List, [], ◌∷◌, ◌++◌, All, arith, ap, sym, ◌∙◌, subst, length, take, get_or}
+use Rattle.std.proofs.lemmas.List.Elements.{All-get_or}
 use Rattle.std.proofs.lemmas.List.{append-nil, append_assoc, take_more, length-take-le}
 use Rattle.certificate_text.specs.Written.{numbered_texts}
 
@@ -14,10 +15,23 @@ module _ {X : Type 0} (text_of : ℕ → X → List ℕ) where
       ap (λ t. text_of number y ++ t) (numbered_behind (suc number) xs x ∙ ap (λ n. numbered_texts text_of (suc number) xs ++ text_of n x) count)
       ∙ sym (append_assoc (text_of number y) (numbered_texts text_of (suc number) xs) (text_of (suc (length xs) + number) x))
 
-  pub numbered_put : (xs : List X) (place number : ℕ) (x : X) (front before after : List ℕ)
+  -- So many of them are put behind others, and this is the number of the next one.
+  abbrev pub ArePut : List X → List ℕ → ℕ → ℕ → List ℕ → Type 0
+  ArePut xs front place number out = (out ≡ front ++ numbered_texts text_of 1 (take place xs)) × (number ≡ place + 1)
+
+  numbered_put : (xs : List X) (place number : ℕ) (x : X) (front before after : List ℕ)
       → before ≡ front ++ numbered_texts text_of 1 (take place xs) → after ≡ before ++ text_of number x
       → place < length xs → number ≡ place + 1 → (d : X) → x ≡ get_or xs place d → after ≡ front ++ numbered_texts text_of 1 (take (place + 1) xs)
   numbered_put xs place number x front before after before_is after_is within numbered d read =
       let split : take (place + 1) xs ≡ take place xs ++ get_or xs place d ∷ [] = take_more xs place d within in
       let count : length (take place xs) ≡ place = length-take-le place xs (omega (arith, within)) in
       rw (after_is, before_is, split, ← read, numbered_behind 1 (take place xs) x, count, numbered) (append_assoc front (numbered_texts text_of 1 (take place xs)) (text_of (place + 1) x))
+
+  pub next_put : (xs : List X) (front : List ℕ) (place number : ℕ) (x d : X) (before after : List ℕ) → ArePut xs front place number before
+      → place < length xs → x ≡ get_or xs place d → after ≡ before ++ text_of number x → ArePut xs front (place + 1) (number + 1) after
+  next_put xs front place number x d before after are within read put =
+      (numbered_put xs place number x front before after are.0 put within are.1 d read, omega (arith, are.1))
+
+-- what holds of all holds of the one at a place
+pub holds_there : {X : Type 0} (P : X → Type 0) (xs : List X) (place : ℕ) (x d : X) → All P xs → place < length xs → x ≡ get_or xs place d → P x
+holds_there P xs place x d each within read = subst P (sym read) (All-get_or P xs place d within each)

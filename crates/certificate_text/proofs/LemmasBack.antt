@@ -151,7 +151,7 @@ pub record AreWritten (ds : List Declaration) (c : LemmaCertificate) : Type 0 wh
 
 pub lemma_written : (ds : List Declaration) → IsDeclared ds → IsTrue (list_all is_named ds) → (l : Lemma) → IsWritableLemma ds l → IsWrittenLemma ds l
 lemma_written ds declared known l fits = record {
-  size = size_written l.scale fits.size fits.scale fits.in_range;
+  size = size_written l.scale fits.scale;
   rows = All-weaker (IsWritableLemmaRow ds) (IsWrittenRow ds) (lemma_row_written ds declared known) l.rows fits.rows;
 }
 
@@ -166,7 +166,7 @@ lemmas_tree ds c = record { claim = decimal c.claim; denominator = signed_decima
 
 module _ (ds : List Declaration) (c : LemmaCertificate) (writable : IsWritableByLemmas ds c) (written : AreWritten ds c) where
   size : IsSize c.denominator
-  size = size_written c.denominator writable.size writable.denominator writable.in_range
+  size = size_written c.denominator writable.denominator
 
   small : c.claim < 10 ^ 64
   small = omega (arith, writable.claim)

@@ -27,7 +27,7 @@ use Rattle.block_text.proofs.SaidLines.{number_said}
 use Rattle.certificate_text.proofs.LineTrees.{lemma_is, goal_is, plain_row_is, lemma_row_is}
 use Rattle.certificate_text.proofs.RowTrees.{HaveSize, no_rows_size, size_push, integer_is_within}
 use Rattle.block_text.proofs.Zips.{zip_push, zip_length}
-use Rattle.certificate_text.proofs.OpenBlocks.{IsHeaded, IsClaimed, IsInPlain, IsBegun, IsOpened, IsInside, IsOpen, Lead, lemma_tokens, lead_lines, IsNext, IsFew, rows_of, lemmas_front, are_lemmas-push, plain_front}
+use Rattle.certificate_text.proofs.OpenBlocks.{IsHeaded, IsClaimed, IsInPlain, IsBegun, IsOpened, IsLed, IsInside, IsOpen, Lead, lemma_tokens, lead_lines, IsNext, IsFew, rows_of, lemmas_front, are_lemmas-push, plain_front}
 
 -- two lists of lines with one line more
 pub behind : (front other : List Line) (line last : Line) → front ≡ other → line ≡ last → front ++ line ∷ [] ≡ other ++ last ∷ []
@@ -196,6 +196,20 @@ row_more ds size l s before line next scaled values have read =
           (size_push ds size (before ++ s.rows) have r row read_values larger (ap (λ (w : LemmaRow). grown size w.left w.right) row_same ∙ fits));
     })))))
 
+-- the lemma or the goal with the row
+abbrev pub led_more : (ds : List Declaration) (s : ScaledTokens) (before : List RowTokens) (line : Line) (next : Size × Lemma) → IsRowMore ds s before line next → IsLed ds next.0 next.1 before
+led_more ds s before line next more = record { tokens = scaled_push s more.row; scaled = more.scaled; values = more.values; have = more.have }
+
+-- a lemma or the goal without rows
+abbrev pub led_first : (ds : List Declaration) (size : Size) (digits : List ℕ) (scale : ℤ) (before : List RowTokens) → IsTrue (is_number digits) → integer_of digits ≡ Ok scale → HaveSize ds size before
+    → IsLed ds size (lemma_of scale []) before
+led_first ds size digits scale before number value have = record {
+  tokens = record { scale = digits; rows = [] };
+  scaled = record { scale = number; rows = All-nil (λ t. IsTrue (is_row t)) };
+  values = record { scale = value; rows = tt };
+  have = subst (HaveSize ds size) (sym (append-nil before)) have;
+}
+
 -- ---- lemmas and the goal
 
 module _ (most : Format) (ds : List Declaration) where
@@ -207,8 +221,8 @@ module _ (most : Format) (ds : List Declaration) where
   pub next_row : (o : Opened) (l : Lemma) (lead : Lead) (front : List Line) (line : Line) (next : Size × Lemma) → IsInside most ds o l lead front → lemma_row ds o.size l line ≡ Ok next
       → IsInside most ds (resized o next.0) next.1 lead (front ++ line ∷ [])
   next_row o l lead front line next inside read =
-      let s : ScaledTokens = inside.tokens in
-      let more = row_more ds o.size l s (rows_of inside.finished) line next inside.scaled inside.values inside.have read in
+      let s : ScaledTokens = inside.so_far.tokens in
+      let more = row_more ds o.size l s (rows_of inside.finished) line next inside.so_far.scaled inside.so_far.values inside.so_far.have read in
       record {
         read = inside.read;
         claim = inside.claim;
@@ -217,10 +231,7 @@ module _ (most : Format) (ds : List Declaration) where
         begun = begun_resized inside.claim inside.denominator inside.finished o next.0 inside.begun;
         next = inside.next;
         few = inside.few;
-        tokens = scaled_push s more.row;
-        scaled = more.scaled;
-        values = more.values;
-        have = more.have;
+        so_far = led_more ds s (rows_of inside.finished) line next more;
         are =
             behind front (lemmas_front inside.claim inside.denominator inside.finished ++ lead_lines lead s) line (row_line more.row) inside.are more.line_is
             ∙ lead_push (lemmas_front inside.claim inside.denominator inside.finished) lead s more.row;
@@ -229,7 +240,7 @@ module _ (most : Format) (ds : List Declaration) where
   -- behind the last row of a lemma
   pub lemma_finished : (o : Opened) (l : Lemma) (number : List ℕ) (front : List Line) → IsInside most ds o l (Some number) front → IsOpened most ds (closed_by o l) front
   lemma_finished o l number front inside =
-      let last : LemmaTokens = lemma_tokens number inside.tokens in
+      let last : LemmaTokens = lemma_tokens number inside.so_far.tokens in
       let finished : List LemmaTokens = inside.finished in
       let head = inside.begun.head in
       let within = inside.begun.within in
@@ -242,19 +253,19 @@ module _ (most : Format) (ds : List Declaration) where
           head = record {
             claim_number = head.claim_number;
             denominator_number = head.denominator_number;
-            numbered = are_lemmas-push 1 (length finished + 1) finished last (omega arith) head.numbered inside.next inside.scaled;
+            numbered = are_lemmas-push 1 (length finished + 1) finished last (omega arith) head.numbered inside.next inside.so_far.scaled;
           };
           within = record {
             claim_within = within.claim_within;
             denominator_within = within.denominator_within;
-            scales = All-push (λ (k : LemmaTokens). IsWithin integer_limit k.scaled.scale) finished last within.scales (integer_is_within inside.tokens.scale l.scale inside.values.scale);
+            scales = All-push (λ (k : LemmaTokens). IsWithin integer_limit k.scaled.scale) finished last within.scales (integer_is_within inside.so_far.tokens.scale l.scale inside.so_far.values.scale);
           };
           claim_value = inside.begun.claim_value;
           denominator_value = inside.begun.denominator_value;
-          values = zip_push (λ k lemma. IsScaledOf ds k.scaled lemma) finished o.lemmas last l inside.begun.values inside.values;
+          values = zip_push (λ k lemma. IsScaledOf ds k.scaled lemma) finished o.lemmas last l inside.begun.values inside.so_far.values;
         };
         few = omega (arith, inside.few, length-append finished (last ∷ []));
-        have = subst (HaveSize ds o.size) (ap (λ rs. rows_of finished ++ rs) (sym (append-nil inside.tokens.rows)) ∙ sym (flat_map-append (λ (k : LemmaTokens). k.scaled.rows) finished (last ∷ []))) inside.have;
+        have = subst (HaveSize ds o.size) (ap (λ rs. rows_of finished ++ rs) (sym (append-nil inside.so_far.tokens.rows)) ∙ sym (flat_map-append (λ (k : LemmaTokens). k.scaled.rows) finished (last ∷ []))) inside.so_far.have;
         are = inside.are ∙ ap (λ ls. head_line Lemmas ∷ claim_line inside.claim ∷ denominator_line inside.denominator ∷ ls)
             (ap (λ ls. flat_map lemma_lines finished ++ ls) (sym (append-nil (lemma_lines last))) ∙ sym (flat_map-append lemma_lines finished (last ∷ [])));
       }
@@ -270,10 +281,7 @@ module _ (most : Format) (ds : List Declaration) where
     begun = opened.begun;
     next = next;
     few = few;
-    tokens = record { scale = digits; rows = [] };
-    scaled = record { scale = number; rows = All-nil (λ t. IsTrue (is_row t)) };
-    values = record { scale = value; rows = tt };
-    have = subst (HaveSize ds o.size) (sym (append-nil (rows_of opened.finished))) opened.have;
+    so_far = led_first ds o.size digits scale (rows_of opened.finished) number value opened.have;
     are = ap₂ (λ (ls ms : List Line). ls ++ ms) opened.are line_is;
   }
 

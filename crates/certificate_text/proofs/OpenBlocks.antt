@@ -222,6 +222,13 @@ pub record IsOpened (most : Format) (ds : List Declaration) (o : Opened) (front 
   pub have : HaveSize ds o.size (rows_of finished)
   pub are : front ≡ lemmas_front claim denominator finished
 
+-- the scale and the first rows of a lemma or of the goal, behind other rows
+pub record IsLed (ds : List Declaration) (size : Size) (l : Lemma) (before : List RowTokens) : Type 0 where
+  pub tokens : ScaledTokens
+  pub scaled : IsScaled tokens
+  pub values : IsScaledOf ds tokens l
+  pub have : HaveSize ds size (before ++ tokens.rows)
+
 -- in the rows of a lemma or of the goal
 pub record IsInside (most : Format) (ds : List Declaration) (o : Opened) (l : Lemma) (lead : Lead) (front : List Line) : Type 0 where
   pub read : IsRead most Lemmas
@@ -231,11 +238,8 @@ pub record IsInside (most : Format) (ds : List Declaration) (o : Opened) (l : Le
   pub begun : IsBegun ds claim denominator finished o
   pub next : IsNext lead finished
   pub few : IsFew lead finished
-  pub tokens : ScaledTokens
-  pub scaled : IsScaled tokens
-  pub values : IsScaledOf ds tokens l
-  pub have : HaveSize ds o.size (rows_of finished ++ tokens.rows)
-  pub are : front ≡ lemmas_front claim denominator finished ++ lead_lines lead tokens
+  pub so_far : IsLed ds o.size l (rows_of finished)
+  pub are : front ≡ lemmas_front claim denominator finished ++ lead_lines lead so_far.tokens
 
 abbrev pub IsOpen : Format → List Declaration → Stage → List Line → Type 0
 IsOpen most ds (at.Headed form) front = IsHeaded most form front
@@ -295,16 +299,16 @@ module _ (most : Format) (ds : List Declaration) where
       (everywhere (λ bound. KeepsOne ds bound (shortest form (codes "1") (codes "1"))) (shortest_keeps form (codes "1") (codes "1") (1, refl) unit_within) within))
 
   pub inside_keeps : (o : Opened) (l : Lemma) (lead : Lead) (front : List Line) (inside : IsInside most ds o l lead front) (bound : Bound)
-      → KeepsOne ds bound (lemmas (rows_behind inside.claim inside.denominator inside.finished lead inside.tokens))
+      → KeepsOne ds bound (lemmas (rows_behind inside.claim inside.denominator inside.finished lead inside.so_far.tokens))
   inside_keeps o l lead front inside bound =
-      rows_keep_one most ds inside.claim inside.denominator inside.finished lead inside.tokens inside.begun.within inside.few
-      (integer_is_within inside.tokens.scale l.scale inside.values.scale) bound (inside.have.keep bound)
+      rows_keep_one most ds inside.claim inside.denominator inside.finished lead inside.so_far.tokens inside.begun.within inside.few
+      (integer_is_within inside.so_far.tokens.scale l.scale inside.so_far.values.scale) bound (inside.so_far.have.keep bound)
 
   pub begin_inside : (o : Opened) (l : Lemma) (lead : Lead) (front : List Line) (within : List Bound) → IsInside most ds o l lead front → Begins (certificate_kind most ds) within front
   begin_inside o l lead front within inside =
       subst (Begins (certificate_kind most ds) within) (sym inside.are)
-      (begin_rows most ds inside.claim inside.denominator inside.finished within lead inside.tokens inside.read inside.begun.head inside.next inside.scaled
-      (everywhere (λ bound. KeepsOne ds bound (lemmas (rows_behind inside.claim inside.denominator inside.finished lead inside.tokens))) (inside_keeps o l lead front inside) within))
+      (begin_rows most ds inside.claim inside.denominator inside.finished within lead inside.so_far.tokens inside.read inside.begun.head inside.next inside.so_far.scaled
+      (everywhere (λ bound. KeepsOne ds bound (lemmas (rows_behind inside.claim inside.denominator inside.finished lead inside.so_far.tokens))) (inside_keeps o l lead front inside) within))
 
   pub begin_opened : (o : Opened) (front : List Line) (within : List Bound) → IsOpened most ds o front → Begins (certificate_kind most ds) within front
   begin_opened o front within opened =
@@ -330,10 +334,10 @@ module _ (most : Format) (ds : List Declaration) where
 
   module _ (o : Opened) (goal : Lemma) (front : List Line) (inside : IsInside most ds o goal None front) where
     abbrev pub goal_block : LemmasTokens
-    goal_block = with_goal inside.claim inside.denominator inside.finished inside.finished inside.tokens
+    goal_block = with_goal inside.claim inside.denominator inside.finished inside.finished inside.so_far.tokens
 
     pub goal_is_block : IsBlock most (lemmas goal_block)
-    goal_is_block = lemmas_block most goal_block inside.read (rows_block most ds inside.claim inside.denominator inside.finished None inside.tokens inside.begun.head tt inside.scaled)
+    goal_is_block = lemmas_block most goal_block inside.read (rows_block most ds inside.claim inside.denominator inside.finished None inside.so_far.tokens inside.begun.head tt inside.so_far.scaled)
 
     pub goal_value : IsLemmasOf ds goal_block (lemma_certificate_of o goal)
-    goal_value = record { claim = inside.begun.claim_value; denominator = inside.begun.denominator_value; lemmas = inside.begun.values; goal = inside.values }
+    goal_value = record { claim = inside.begun.claim_value; denominator = inside.begun.denominator_value; lemmas = inside.begun.values; goal = inside.so_far.values }

@@ -12,6 +12,7 @@ use Rattle.block_text.specs.Lines.{Line, integer_limit, integer_of, claim_line}
 use Rattle.certificate_text.specs.Lines.{is_value}
 use Rattle.certificate_text.specs.Blocks.{head_line, denominator_line}
 use Rattle.certificate_text.specs.Bounds.{IsWithin}
+use Rattle.certificate_text.specs.Back.{IsWritableInteger}
 use Rattle.certificate_text.specs.Written.{opening_text}
 use Rattle.block_text.proofs.ContentBack.{IsTextOf, text-append, text_of_tokens}
 use Rattle.block_text.proofs.NameBytes.{IsNameText}
@@ -34,8 +35,8 @@ size_read n small =
     let value = decimal_within integer_limit n (omega (arith, small)) below in
     record { number = decimal_number n below; value = rw value refl; within = (n, value); text = decimal_text n below }
 
-pub size_written : (z : ℤ) (n : ℕ) → z ≡ pos n → n < 2 ^ 127 → IsSize z
-size_written z n is small = subst IsSize (sym is) (size_read n small)
+pub size_written : (z : ℤ) → IsWritableInteger z → IsSize z
+size_written z fits = subst IsSize (sym fits.is) (size_read fits.size fits.in_range)
 
 pub number_is_value : (n : ℕ) → n < 10 ^ 64 → is_value n (decimal n) ≡ true
 number_is_value n below =

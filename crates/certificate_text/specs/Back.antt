@@ -1,5 +1,5 @@
 -- What is read of evidence that is written, whatever stands around it.
-use Rattle.std.specs.Prelude.{◌≡◌, ◌<◌, ◌≤◌, ◌^◌, ⊤, ℕ, pos, List, length, IsTrue}
+use Rattle.std.specs.Prelude.{◌≡◌, ◌<◌, ◌≤◌, ◌^◌, ⊤, ℕ, ℤ, pos, List, length, IsTrue}
 use Rattle.std.specs.List.{All, list_all}
 use Rattle.coef_int.specs.Range.{IsCoefficient}
 use Rattle.quiver.specs.Declarations.{Declaration, IsDeclared}
@@ -25,7 +25,11 @@ use Rattle.certificate_text.specs.Written.{evidence_text}
 use Rattle.nc_polynomial.specs.Limits.{word_limit}
 use Rattle.cofactor_trace.specs.Limits.{row_limit, letter_limit}
 
--- ---- certificates within the limits
+-- a scale or a denominator: it is not negative, and within the limit
+pub record IsWritableInteger (n : ℤ) : Type 0 where
+  pub size : ℕ
+  pub is : n ≡ pos size
+  pub in_range : size < 2 ^ 127
 
 pub record IsWritableRow (ds : List Declaration) (row : CertRow) : Type 0 where
   pub coefficient : IsCoefficient row.coef
@@ -36,15 +40,10 @@ pub record IsWritableRow (ds : List Declaration) (row : CertRow) : Type 0 where
 
 pub record IsWritable (ds : List Declaration) (c : Certificate) : Type 0 where
   pub claim : c.claim < 2 ^ 32
-  -- the denominator is not negative
-  pub size : ℕ
-  pub denominator : c.denominator ≡ pos size
-  pub in_range : size < 2 ^ 127
+  pub denominator : IsWritableInteger c.denominator
   pub rows : All (IsWritableRow ds) c.rows
   pub few : length c.rows ≤ row_limit
   pub letters : letter_count c.rows ≤ letter_limit
-
--- ---- certificates with lemmas within the limits
 
 -- the number of the generator or of the lemma
 abbrev pub number_of : CertFrom → ℕ
@@ -59,26 +58,18 @@ pub record IsWritableLemmaRow (ds : List Declaration) (row : LemmaRow) : Type 0 
   pub short_right : length row.right ≤ word_limit
 
 pub record IsWritableLemma (ds : List Declaration) (l : Lemma) : Type 0 where
-  -- the scale is not negative
-  pub size : ℕ
-  pub scale : l.scale ≡ pos size
-  pub in_range : size < 2 ^ 127
+  pub scale : IsWritableInteger l.scale
   pub rows : All (IsWritableLemmaRow ds) l.rows
 
 -- the rows and the letters of the lemmas and of the goal count together
 pub record IsWritableByLemmas (ds : List Declaration) (c : LemmaCertificate) : Type 0 where
   pub claim : c.claim < 2 ^ 32
-  -- the denominator is not negative
-  pub size : ℕ
-  pub denominator : c.denominator ≡ pos size
-  pub in_range : size < 2 ^ 127
+  pub denominator : IsWritableInteger c.denominator
   pub lemmas : All (IsWritableLemma ds) c.lemmas
   pub goal : IsWritableLemma ds c.goal
   pub few_lemmas : length c.lemmas ≤ row_limit
   pub few_rows : row_count (parts_of c) ≤ row_limit
   pub letters : letters_of_lemmas (parts_of c) ≤ letter_limit
-
--- ---- evidence of either format
 
 abbrev pub IsWritableEvidence : List Declaration → Evidence → Type 0
 IsWritableEvidence ds (evidence.Plain c) = IsWritable ds c
@@ -94,15 +85,11 @@ IsOfFormat format.Lemmas (evidence.Lemmas c) = ⊤
 abbrev pub IsGood : Format → List Declaration → Evidence → Type 0
 IsGood most ds e = IsOfFormat most e × IsWritableEvidence ds e
 
--- ---- what stands around it
-
 -- Evidence that is written between whole lines and other lines is read as it is, behind the certificates that those before it
 -- have and before those that the others have.
 abbrev pub IsReadBack : Type 0
 IsReadBack = (most : Format) (ds : List Declaration) → IsDeclared ds → IsTrue (list_all is_named ds)
     → IsReadBetween (HasCertificates most ds) (evidence_text ds) (IsGood most ds)
-
--- ---- texts of several parts
 
 -- a certificate, a comment without its # and LF, or a block of another kind by its first line and those before `end`
 abbrev pub Part : Type 0

@@ -7,8 +7,6 @@ use Rattle.block_text.specs.Letters.{is_number}
 use Rattle.block_text.specs.Lines.{Line, claim_line}
 use Rattle.certificate_text.specs.Lines.{RowTokens, is_value, is_row}
 
--- ---- the trees
-
 -- scale S and the rows behind it
 pub record ScaledTokens : Type 0 where
   pub scale : List ℕ
@@ -36,8 +34,6 @@ pub record LemmasTokens : Type 0 where
 pub data BlockTokens : Type 0 where
   plain : PlainTokens → BlockTokens
   lemmas : LemmasTokens → BlockTokens
-
--- ---- the lines that they are
 
 -- a number, or `lemma` and a number
 abbrev pub origin_tokens : RowTokens → Line
@@ -68,8 +64,6 @@ goal_lines g = (codes "goal" ∷ codes "scale" ∷ g.scale ∷ []) ∷ map row_l
 abbrev pub certificate_lines : BlockTokens → List Line
 certificate_lines (plain b) = head_line Plain ∷ claim_line b.claim ∷ denominator_line b.denominator ∷ map row_line b.rows
 certificate_lines (lemmas b) = head_line Lemmas ∷ claim_line b.claim ∷ denominator_line b.denominator ∷ (flat_map lemma_lines b.lemmas ++ goal_lines b.goal)
-
--- ---- which tokens stand where
 
 -- numbers and letters stand at their places, and the row is over a generator
 pub record IsPlainRow (r : RowTokens) : Type 0 where

@@ -16,8 +16,6 @@ use Rattle.block_text.specs.Lines.{number_limit, integer_limit, integer_of}
 use Rattle.certificate_text.specs.Lines.{RowTokens, word_limit, row_limit, letter_limit, row_values, over_lemma}
 use Rattle.certificate_text.specs.Blocks.{ScaledTokens, LemmaTokens, PlainTokens, LemmasTokens, BlockTokens, plain, lemmas}
 
--- ---- what a block has
-
 -- the rows of a certificate, of all its lemmas and of its goal
 abbrev pub rows_in : BlockTokens → List RowTokens
 rows_in (plain b) = b.rows
@@ -31,8 +29,6 @@ lemmas_in (lemmas b) = b.lemmas
 abbrev pub letters_in : List RowTokens → ℕ
 letters_in [] = 0
 letters_in (r ∷ rows) = length r.left + length r.right + letters_in rows
-
--- ---- values
 
 -- the number is at most this
 abbrev pub IsWithin : ℕ → List ℕ → Type 0
@@ -68,8 +64,6 @@ IsCertificateOf ds (lemmas b) (evidence.Lemmas c) = IsLemmasOf ds b c
 IsCertificateOf ds (plain b) (evidence.Lemmas c) = ⊥
 IsCertificateOf ds (lemmas b) (evidence.Plain c) = ⊥
 
--- ---- bounds
-
 -- on names, on numbers, on the letters of a word, on the rows and the lemmas of a block, and on the letters in its rows
 pub data Bound : Type 0 where
   names : Bound
@@ -89,8 +83,6 @@ flaw_of numbers = NumberTooLarge
 flaw_of words = TooMany word_limit
 flaw_of rows = TooMany row_limit
 flaw_of letters = TooMany letter_limit
-
--- ---- when they are kept
 
 -- its names are known
 pub record HasNames (ds : List Declaration) (r : RowTokens) : Type 0 where

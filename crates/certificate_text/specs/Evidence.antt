@@ -13,14 +13,12 @@ use Rattle.cofactor_trace.specs.declared.evidence.Evidence.{Evidence}
 use Rattle.cofactor_trace.specs.declared.evidence.Evidence.TheVariants as block
 use Rattle.cofactor_trace.specs.declared.evidence.Format.{Format}
 use Rattle.block_text.specs.Fault.{Fault}
-use Rattle.block_text.specs.Kind.{Kind}
+use Rattle.block_text.specs.Kind.{Kind, kind_of}
 use Rattle.block_text.specs.Texts as texts
 use Rattle.block_text.specs.Texts.{HasBlocks, IsBlocks}
-use Rattle.certificate_text.specs.Blocks.{BlockTokens, certificate_lines, IsBlock}
-use Rattle.certificate_text.specs.Bounds.{Bound, bounds, flaw_of, KeepsOne, IsCertificateOf}
+use Rattle.certificate_text.specs.Blocks.{certificate_lines, IsBlock}
+use Rattle.certificate_text.specs.Bounds.{bounds, flaw_of, KeepsOne, IsCertificateOf}
 use Rattle.cofactor_trace.specs.Limits.{row_limit}
-
--- ---- evidence
 
 -- blocks of these kinds aren't read
 abbrev pub other_words : List (List ℕ)
@@ -28,17 +26,7 @@ other_words = codes "model" ∷ codes "basis" ∷ []
 
 -- Certificates of this format and of those before it are a kind of block.
 abbrev pub certificate_kind : Format → List Declaration → Kind Evidence
-certificate_kind most ds = record {
-  Tree = BlockTokens;
-  lines_of = certificate_lines;
-  IsTree = IsBlock most;
-  others = other_words;
-  Bound = Bound;
-  bounds = bounds;
-  flaw_of = flaw_of;
-  Keeps = KeepsOne ds;
-  Says = IsCertificateOf ds;
-}
+certificate_kind most ds = kind_of certificate_lines (IsBlock most) other_words bounds flaw_of (KeepsOne ds) (IsCertificateOf ds)
 
 -- The bytes are UTF-8, their lines are blocks within all bounds, and these are the certificates among them.
 abbrev pub HasCertificates : Format → List Declaration → List ℕ → List Evidence → Type 0
@@ -51,8 +39,6 @@ IsEvidence most ds = IsBlocks (certificate_kind most ds)
 -- the first thing that is wrong with the bytes
 abbrev pub IsFirstFault : Format → List Declaration → List ℕ → Fault → Type 0
 IsFirstFault most ds = texts.IsFirstFault (certificate_kind most ds)
-
--- ---- what holds of each block
 
 -- the letters of both words are letters of the quiver
 pub record IsRowOver (ds : List Declaration) (row : CertRow) : Type 0 where

@@ -20,8 +20,6 @@ use Rattle.block_text.specs.Letters.{is_letter, word_of, is_number, number_withi
 pub use Rattle.nc_polynomial.specs.Limits.{word_limit}
 pub use Rattle.cofactor_trace.specs.Limits.{row_limit, letter_limit}
 
--- ---- heads
-
 -- `certificate 1`
 abbrev pub is_plain_head : List (List ℕ) → Bool
 is_plain_head = is_pair (codes "certificate") (codes "1")
@@ -30,12 +28,8 @@ is_plain_head = is_pair (codes "certificate") (codes "1")
 abbrev pub is_lemmas_head : List (List ℕ) → Bool
 is_lemmas_head = is_pair (codes "certificate") (codes "2")
 
--- ---- `claim N` and `denominator D`
-
 abbrev pub denominator_of : List (List ℕ) → Result ℤ Flaw
 denominator_of line = asked BadLine (number_behind (codes "denominator") line) >>= integer_of
-
--- ---- `lemma K scale S` and `goal scale S`
 
 -- the number behind `scale`
 abbrev pub scale_digits : List (List ℕ) → Option (List ℕ)
@@ -66,8 +60,6 @@ goal_digits (word ∷ tokens) = if is (codes "goal") word then scale_digits toke
 -- the scale of the goal
 abbrev pub goal_scale_of : List (List ℕ) → Result ℤ Flaw
 goal_scale_of line = asked BadLine (goal_digits line) >>= integer_of
-
--- ---- `row C (LETTERS) G (LETTERS)` and `row C (LETTERS) lemma K (LETTERS)`
 
 -- the tokens of C, of the letters in front, of the number of the generator or lemma, and of the letters behind it
 pub record RowTokens : Type 0 where
@@ -135,8 +127,6 @@ over_lemma lemma row = record { coef = row.coef; left = row.left; from = from le
 -- a row of a certificate of format 2
 abbrev pub lemma_row_of : List Declaration → List (List ℕ) → Result LemmaRow Flaw
 lemma_row_of ds line = asked BadLine (row_tokens Lemmas line) >>= λ r. (row_values ds r >>= λ row. Ok (over_lemma r.lemma row))
-
--- ---- the size of a block
 
 -- no rows
 abbrev pub no_rows : Size

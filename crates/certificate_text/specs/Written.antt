@@ -15,8 +15,6 @@ use Rattle.cofactor_trace.specs.declared.evidence.Evidence.TheVariants.{Plain, L
 use Rattle.block_text.specs.Written.{word_text}
 use Rattle.certificate_text.specs.Evidence.{IsRowOver, IsLemmaRowOver}
 
--- ---- certificates
-
 -- the first lines of a certificate, of which the first ends with `claim`
 abbrev pub opening_text : List ℕ → ℕ → ℤ → List ℕ
 opening_text head claim denominator = head ++ decimal claim ++ codes "\ndenominator " ++ signed_decimal denominator ++ codes "\n"
@@ -29,8 +27,6 @@ row_text ds row =
 abbrev pub certificate_text : List Declaration → Certificate → List ℕ
 certificate_text ds c =
     opening_text (codes "certificate 1\nclaim ") c.claim c.denominator ++ flat_map (row_text ds) c.rows ++ codes "end\n"
-
--- ---- certificates with lemmas
 
 -- a generator by its number, a lemma with the word in front
 abbrev pub origin_text : CertFrom → List ℕ
@@ -71,8 +67,6 @@ lemma_certificate_text ds c =
 abbrev pub evidence_text : List Declaration → Evidence → List ℕ
 evidence_text ds (Plain c) = certificate_text ds c
 evidence_text ds (Lemmas c) = lemma_certificate_text ds c
-
--- ---- the letters of evidence are letters of the quiver
 
 abbrev pub IsLemmaOver : List Declaration → Lemma → Type 0
 IsLemmaOver ds l = All (IsLemmaRowOver ds) l.rows

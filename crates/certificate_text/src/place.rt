@@ -1,6 +1,9 @@
 //! What a reader has made of the lines before one.
 
-use cofactor_trace::{Certificate, Format, Lemma};
+ghost use Rattle.std.specs.Prelude.{◌≡◌};
+ghost use Rattle.certificate_text.specs.Reading.{lemma_certificate_of};
+
+use cofactor_trace::{Certificate, Format, Lemma, LemmaCertificate};
 use lists::Listing;
 
 /// How many rows a block has so far, and how many letters stand in them.
@@ -25,6 +28,20 @@ pub struct Opened {
     pub lemmas: Listing<Lemma>,
     /// Of the rows of all lemmas and of the goal.
     pub size: Size,
+}
+
+impl Opened {
+    /// The certificate with this goal.
+    pub fn with_goal(self, goal: Lemma) -> LemmaCertificate
+        ensures { result ≡ lemma_certificate_of self goal }
+    {
+        LemmaCertificate {
+            claim: self.claim,
+            denominator: self.denominator,
+            lemmas: self.lemmas,
+            goal,
+        }
+    }
 }
 
 /// How far a certificate was read whose lines go on.

@@ -9,7 +9,7 @@ ghost use Rattle.cofactor_trace.specs.declared.evidence.Evidence.TheVariants as 
 ghost use Rattle.cofactor_trace.specs.declared.evidence.Format.TheVariants as Format;
 
 use crate::step::Certificates;
-use block_text::{CertFault, read_blocks};
+use block_text::{ReadText, read_blocks};
 use cofactor_trace::{Certificate, Evidence, Format};
 use lists::Listing;
 use quiver::Quiver;
@@ -35,11 +35,7 @@ fn plain_certificates(
 
 /// The certificates of both formats of the text, over the letters of the quiver, or the first thing that is wrong with it.
 /// Blocks of other kinds are skipped. Want of memory is told where there is no room, whatever the text is.
-pub fn read_evidence(
-    alloc: Global,
-    bytes: &[u8],
-    quiver: &Quiver,
-) -> Result<Listing<Evidence>, CertFault>
+pub fn read_evidence(alloc: Global, bytes: &[u8], quiver: &Quiver) -> ReadText<Evidence>
     requires { length bytes.now < 4294967295 }
     // They are those that the bytes are, or what is told is the first thing that is wrong with the bytes.
     ensures exact { MatchResult result (IsEvidence Format.Lemmas quiver.now bytes.now) (ExplainsBy (IsFirstFault Format.Lemmas quiver.now bytes.now)) }
@@ -53,11 +49,7 @@ pub fn read_evidence(
 /// The certificates of format 1 of the text, over the letters of the quiver, or the first thing that is wrong with it: a block
 /// of format 2 fits no grammar at its first line. Blocks of other kinds are skipped. Want of memory is told where there is no
 /// room, whatever the text is.
-pub fn read_certificates(
-    alloc: Global,
-    bytes: &[u8],
-    quiver: &Quiver,
-) -> Result<Listing<Certificate>, CertFault>
+pub fn read_certificates(alloc: Global, bytes: &[u8], quiver: &Quiver) -> ReadText<Certificate>
     requires { length bytes.now < 4294967295 }
     // They are those that the bytes are, or what is told is the first thing that is wrong with the bytes.
     ensures exact { MatchResult result (λ cs. IsEvidence Format.Plain quiver.now bytes.now (map Evidence.Plain cs))

@@ -1,18 +1,16 @@
 //! What is made of the lines of a certificate.
 
-ghost use Rattle.std.specs.Prelude.{◌≡◌, [], ⊤};
+ghost use Rattle.std.specs.Prelude.{◌≡◌, []};
 ghost use Rattle.block_text.specs.Fault.{Reads};
 ghost use Rattle.block_text.specs.Tokens.{tokens_of};
-ghost use Rattle.certificate_text.specs.Reading.{lemmas_headed, begun, scaled, lemma_row, in_rows, in_lemma, in_goal, lemma_certificate_of};
-ghost use Rattle.certificate_text.specs.Reading.{next, certificate_steps};
-ghost use Rattle.cofactor_trace.specs.declared.evidence.Evidence.TheVariants as block;
+ghost use Rattle.certificate_text.specs.Reading.{lemmas_headed, begun, scaled, lemma_row, in_rows, next, certificate_steps};
 ghost use Rattle.certificate_text.specs.declared.place.Stage.TheVariants as stage;
 
 use crate::line::{denominator_of, goal_scale_of, is_lemmas_head, is_plain_head, lemma_scale_of};
 use crate::place::{NO_ROWS, Opened, Size, Stage};
 use crate::row::{grown, lemma_row_of, row_of};
 use block_text::{BlockKind, Flaw, LineFault, begins, claim_of};
-use cofactor_trace::{Certificate, Evidence, Format, Lemma, LemmaCertificate};
+use cofactor_trace::{Certificate, Evidence, Format, Lemma};
 use lists::Listing;
 use quiver::Quiver;
 use std::alloc::{AllocError, Global};
@@ -34,14 +32,6 @@ fn lemmas_headed(most: Format) -> Option<Stage>
             form: Format::Lemmas,
         }),
     }
-}
-
-// The claim behind the head.
-fn claimed(form: Format, line: &[u8]) -> Result<Stage, Flaw>
-    ensures { result ≡ next [] (stage.Headed form) (tokens_of line.now) }
-{
-    let claim = claim_of(line)?;
-    Ok(Stage::Claimed { form, claim })
 }
 
 // What stands behind the denominator.
@@ -147,58 +137,12 @@ pub fn push_lemma_row(
     Ok(size)
 }
 
-// A row of a lemma, or the next lemma or the goal.
-fn in_lemma(
-    alloc: Global,
-    quiver: &Quiver,
-    mut opened: Opened,
-    mut lemma: Lemma,
-    line: &[u8],
-) -> Result<Stage, LineFault>
-    ensures { Reads (λ s. s) result (in_lemma quiver.now opened lemma (tokens_of line.now)) }
-{
-    if begins("row", line) {
-        opened.size = push_lemma_row(alloc, quiver, opened.size, &mut lemma, line)?;
-        return Ok(Stage::Lemma { opened, lemma });
-    }
-    opened.lemmas.push(lemma)?;
-    Ok(scaled(alloc, opened, line)?)
-}
-
-// A row of the goal.
-fn in_goal(
-    alloc: Global,
-    quiver: &Quiver,
-    mut opened: Opened,
-    mut goal: Lemma,
-    line: &[u8],
-) -> Result<Stage, LineFault>
-    ensures { Reads (λ s. s) result (in_goal quiver.now opened goal (tokens_of line.now)) }
-{
-    opened.size = push_lemma_row(alloc, quiver, opened.size, &mut goal, line)?;
-    Ok(Stage::Goal { opened, goal })
-}
-
-// The certificate with this goal.
-fn lemma_certificate(opened: Opened, goal: Lemma) -> Evidence
-    ensures { result ≡ block.Lemmas (lemma_certificate_of opened goal) }
-{
-    Evidence::Lemmas(LemmaCertificate {
-        claim: opened.claim,
-        denominator: opened.denominator,
-        lemmas: opened.lemmas,
-        goal,
-    })
-}
-
 impl<'q> BlockKind for Certificates<'q> {
     type Begun = Stage;
 
     type Value = Evidence;
 
     ghost steps = { λ kind. certificate_steps kind.most kind.quiver.now };
-
-    ghost is_sound = { λ kind stage. ⊤ };
 
     fn others(&self) -> &'static [&'static str] {
         &["model", "basis"]
@@ -217,22 +161,36 @@ impl<'q> BlockKind for Certificates<'q> {
     }
 
     fn next(&self, alloc: Global, stage: Stage, line: &[u8]) -> Result<Stage, LineFault> {
+        let quiver = self.quiver;
         match stage {
-            Stage::Headed { form } => Ok(claimed(form, line)?),
-            Stage::Claimed { form, claim } => Ok(divided(alloc, form, claim, line)?),
-            Stage::Rows { certificate, size } => {
-                in_rows(alloc, self.quiver, certificate, size, line)
+            Stage::Headed { form } => {
+                let claim = claim_of(line)?;
+                Ok(Stage::Claimed { form, claim })
             }
+            Stage::Claimed { form, claim } => Ok(divided(alloc, form, claim, line)?),
+            Stage::Rows { certificate, size } => { in_rows(alloc, quiver, certificate, size, line) }
             Stage::Opened { opened } => Ok(scaled(alloc, opened, line)?),
-            Stage::Lemma { opened, lemma } => in_lemma(alloc, self.quiver, opened, lemma, line),
-            Stage::Goal { opened, goal } => in_goal(alloc, self.quiver, opened, goal, line),
+            Stage::Lemma { opened, lemma } => {
+                let (mut opened, mut lemma) = (opened, lemma);
+                if begins("row", line) {
+                    opened.size = push_lemma_row(alloc, quiver, opened.size, &mut lemma, line)?;
+                    return Ok(Stage::Lemma { opened, lemma });
+                }
+                opened.lemmas.push(lemma)?;
+                Ok(scaled(alloc, opened, line)?)
+            }
+            Stage::Goal { opened, goal } => {
+                let (mut opened, mut goal) = (opened, goal);
+                opened.size = push_lemma_row(alloc, quiver, opened.size, &mut goal, line)?;
+                Ok(Stage::Goal { opened, goal })
+            }
         }
     }
 
     fn finish(&self, _alloc: Global, stage: Stage) -> Result<Option<Evidence>, AllocError> {
         match stage {
             Stage::Rows { certificate, .. } => Ok(Some(Evidence::Plain(certificate))),
-            Stage::Goal { opened, goal } => Ok(Some(lemma_certificate(opened, goal))),
+            Stage::Goal { opened, goal } => { Ok(Some(Evidence::Lemmas(opened.with_goal(goal)))) }
             _ => Ok(None),
         }
     }

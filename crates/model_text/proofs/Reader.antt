@@ -9,7 +9,7 @@ use Rattle.block_text.specs.Fault.{asked}
 use Rattle.block_text.specs.Tokens.{begins_comment}
 use Rattle.block_text.specs.Lines.{Line, is_end, claim_of}
 use Rattle.block_text.proofs.Bounds.{bound_of}
-use Rattle.block_text.proofs.Owed.{Begins, IsWhole, IsStopped, IsReader, begins_by_head}
+use Rattle.block_text.proofs.Owed.{Begins, IsWhole, IsStopped, IsReader, reader_by_head}
 use Rattle.block_text.proofs.Results.{bind_ok, bind_err, asked_ok}
 use Rattle.model_text.specs.declared.place.Stage.{Stage}
 use Rattle.model_text.specs.declared.place.Stage.TheVariants as at
@@ -65,17 +65,8 @@ module _ (ds : List Declaration) where
       (λ e e_there read_grown. bind_err (grown ds b e) _ flaw read_grown (λ none. stopped_inside ds flaw front line b here (rw (e_there, none) refl)) (λ c c_is made. absurd (cc)))
 
   pub reader : IsReader (model_kind ds) (model_steps ds)
-  reader = record {
-    told = told;
-    none_told = (refl, refl);
-    others = refl;
-    words = All-from_recursion (λ word. begins_comment word ≡ false) other_words (refl, (refl, tt));
-    IsOpen = IsOpen ds;
-    begins = begins_by_head other_words (IsOpen ds) (codes "model") (codes "1") at.Headed refl refl;
-    goes = goes;
-    goes_on = goes_on;
-    ends = ends;
-    stops = stops;
-    reads = λ K t is keeps. model_meets K ds t is keeps;
-    unique = λ t v w one two. one ∙ sym two;
-  }
+  reader =
+      reader_by_head (model_kind ds) (model_steps ds) (IsOpen ds) told (refl, refl) refl
+      (All-from_recursion (λ word. begins_comment word ≡ false) other_words (refl, (refl, tt)))
+      (codes "model") (codes "1") at.Headed (λ line. refl) refl refl goes goes_on ends stops (λ K t is keeps. model_meets K ds t is keeps)
+      (λ t v w one two. one ∙ sym two)

@@ -5,8 +5,6 @@ use Rattle.std.specs.Str.Parse.{digits_value}
 use Rattle.block_text.specs.Letters.{is_name, is_number}
 use Rattle.block_text.specs.Lines.{Line, claim_line}
 
--- ---- the trees
-
 -- `side NAME S`, or `map NAME = ..` with the numbers of the first row and of the rows behind it
 pub data EntryTokens : Type 0 where
   side : List ℕ → List ℕ → EntryTokens
@@ -17,8 +15,6 @@ pub record ModelTokens : Type 0 where
   pub claim : List ℕ
   pub modulus : List ℕ
   pub entries : List EntryTokens
-
--- ---- the lines that they are
 
 -- model 1
 abbrev pub head_line : Line
@@ -40,8 +36,6 @@ entry_line (matrix name first rest) = codes "map" ∷ name ∷ codes "=" ∷ (fi
 -- all but the line that ends it
 abbrev pub model_front : ModelTokens → List Line
 model_front b = head_line ∷ claim_line b.claim ∷ modulus_line b.modulus ∷ map entry_line b.entries
-
--- ---- which tokens stand where
 
 abbrev pub name_of : EntryTokens → List ℕ
 name_of (side name number) = name

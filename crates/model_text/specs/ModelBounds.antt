@@ -13,8 +13,6 @@ use Rattle.block_text.specs.declared.fault.Flaw.TheVariants.{UnknownName, Number
 use Rattle.block_text.specs.Lines.{number_limit}
 use Rattle.model_text.specs.ModelBlocks.{EntryTokens, side, matrix, ModelTokens}
 
--- ---- values
-
 -- the value of decimal digits
 abbrev pub value_of : List ℕ → ℕ
 value_of digits = digits_value 10 digits
@@ -61,8 +59,6 @@ model_value ds b = record {
   maps = map (matrix_of ds (value_of b.modulus) b.entries) (range_with_len 0 (letter_count ds));
 }
 
--- ---- bounds
-
 -- on names, on numbers, and on sides, rows and columns
 pub data Bound : Type 0 where
   names : Bound
@@ -78,8 +74,6 @@ abbrev pub flaw_of : Bound → Flaw
 flaw_of names = UnknownName
 flaw_of numbers = NumberTooLarge
 flaw_of sizes = TooMany side_limit
-
--- ---- when they are kept
 
 -- a side is that of an object, and a matrix that of a declared map
 abbrev pub HasName : List Declaration → EntryTokens → Type 0

@@ -6,13 +6,11 @@ use Rattle.quiver.specs.Declarations.{Declaration, object_count, letter_count, n
 use Rattle.matrix_models.specs.Matrix.{Matrix, IsModulus, IsSide, IsMatrix}
 use Rattle.matrix_models.specs.declared.model.Model.{Model}
 use Rattle.block_text.specs.Fault.{Fault}
-use Rattle.block_text.specs.Kind.{Kind}
+use Rattle.block_text.specs.Kind.{Kind, kind_of}
 use Rattle.block_text.specs.Texts as texts
 use Rattle.block_text.specs.Texts.{HasBlocks, IsBlocks}
-use Rattle.model_text.specs.ModelBlocks.{ModelTokens, model_front, IsModelBlock}
-use Rattle.model_text.specs.ModelBounds.{Bound, bounds, flaw_of, KeepsOne, model_value}
-
--- ---- models
+use Rattle.model_text.specs.ModelBlocks.{model_front, IsModelBlock}
+use Rattle.model_text.specs.ModelBounds.{bounds, flaw_of, KeepsOne, model_value}
 
 -- blocks of these kinds aren't read
 abbrev pub other_words : List (List ℕ)
@@ -20,17 +18,7 @@ other_words = codes "certificate" ∷ codes "basis" ∷ []
 
 -- Models are a kind of block.
 abbrev pub model_kind : List Declaration → Kind Model
-model_kind ds = record {
-  Tree = ModelTokens;
-  lines_of = model_front;
-  IsTree = IsModelBlock;
-  Says = λ b m. m ≡ model_value ds b;
-  others = other_words;
-  Bound = Bound;
-  bounds = bounds;
-  flaw_of = flaw_of;
-  Keeps = KeepsOne ds;
-}
+model_kind ds = kind_of model_front IsModelBlock other_words bounds flaw_of (KeepsOne ds) (λ b m. m ≡ model_value ds b)
 
 -- The bytes are UTF-8, their lines are blocks within all bounds, and these are the models among them.
 abbrev pub HasModels : List Declaration → List ℕ → List Model → Type 0
@@ -43,8 +31,6 @@ IsModels ds = IsBlocks (model_kind ds)
 -- the first thing that is wrong with the bytes
 abbrev pub IsFirstFault : List Declaration → List ℕ → Fault → Type 0
 IsFirstFault ds = texts.IsFirstFault (model_kind ds)
-
--- ---- what holds of each model
 
 -- the name of a declared map
 abbrev pub HasMap : List Declaration → ℕ → Type 0

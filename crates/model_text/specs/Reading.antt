@@ -26,8 +26,6 @@ use Rattle.model_text.specs.declared.place.Begun.{Begun}
 use Rattle.model_text.specs.declared.place.Stage.{Stage}
 use Rattle.model_text.specs.declared.place.Stage.TheVariants as at
 
--- ---- the tokens of a line `side` or `map`
-
 -- the tokens before the first ; and those between the others
 abbrev pub rows_in : Line → Line × List Line
 rows_in [] = ([], [])
@@ -60,8 +58,6 @@ if_entry e = if is_entry e then Some e else None
 
 abbrev pub entry_tokens : Line → Option EntryTokens
 entry_tokens line = if begins (codes "side") line then option_and_then if_entry (side_tokens line) else option_and_then if_entry (map_tokens line)
-
--- ---- their values
 
 -- rows of numbers, one at least and as many in each
 pub record AreRows (first : List (List ℕ)) (rest : List (List (List ℕ))) : Type 0 where
@@ -104,8 +100,6 @@ abbrev pub entry_value : List Declaration → ℕ → EntryTokens → Result Ent
 entry_value ds modulus (side name number) = side_value (named_in ds name) number
 entry_value ds modulus (matrix name first rest) = map_value (named_in ds name) modulus first rest
 
--- ---- the model
-
 -- the side of an object, and the matrix of a letter, by the lines that were read
 abbrev pub side_in : List Entry → ℕ → ℕ
 side_in [] v = 1
@@ -125,8 +119,6 @@ maps_in ds entries = map (matrix_in entries) (range_with_len 0 (letter_count ds)
 
 abbrev pub model_of : List Declaration → Begun → Model
 model_of ds b = record { claim = b.claim; modulus = b.modulus; sides = sides_in ds b.entries; maps = maps_in ds b.entries }
-
--- ---- what is made of the lines
 
 -- model 1
 abbrev pub begin : Line → Option Stage

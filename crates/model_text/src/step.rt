@@ -27,14 +27,6 @@ pub struct Models<'q> {
     pub quiver: &'q Quiver,
 }
 
-// The claim behind the head.
-fn claimed(line: &[u8]) -> Result<Stage, Flaw>
-    ensures { result ≡ next [] stage.Headed (tokens_of line.now) }
-{
-    let claim = claim_of(line)?;
-    Ok(Stage::Claimed { claim })
-}
-
 fn modulus_of(line: &[u8]) -> Result<u32, Flaw>
     ensures exact { result ≡ modulus_of (tokens_of line.now) }
     ensures in_range { IfOk result IsModulus }
@@ -120,16 +112,15 @@ impl<'q> BlockKind for Models<'q> {
     }
 
     fn begin(&self, _alloc: Global, line: &[u8]) -> Option<Stage> {
-        if is_pair("model", "1", line) {
-            Some(Stage::Headed)
-        } else {
-            None
-        }
+        is_pair("model", "1", line).then_some(Stage::Headed)
     }
 
     fn next(&self, alloc: Global, stage: Stage, line: &[u8]) -> Result<Stage, LineFault> {
         match stage {
-            Stage::Headed => Ok(claimed(line)?),
+            Stage::Headed => {
+                let claim = claim_of(line)?;
+                Ok(Stage::Claimed { claim })
+            }
             Stage::Claimed { claim } => Ok(opened(alloc, claim, line)?),
             Stage::Inside { begun } => inside(alloc, self.quiver, begun, line),
         }
