@@ -8,7 +8,11 @@ use Rattle.cofactor_trace.specs.declared.size.Size.{Size}
 use Rattle.cofactor_trace.specs.declared.fault.ExpandFault.{ExpandFault}
 use Rattle.cofactor_trace.specs.declared.fault.ExpandFault.TheVariants as fault
 use Rattle.cofactor_trace.specs.Expansion.{has_long_word, letter_count, limit_fault}
-use Rattle.cofactor_trace.specs.Sizes.{measured, measured_all, no_size, limit_of}
+use Rattle.cofactor_trace.specs.Sizes.{measured, measured_all, limit_of}
+
+-- no rows
+abbrev pub no_size : Size
+no_size = record { long = false; rows = 0; letters = 0 }
 
 or_nothing : (b : Bool) → b ≡ b || false
 or_nothing true = refl

@@ -23,10 +23,6 @@ measured size r = record {
 abbrev pub measured_all : Size → List CertRow → Size
 measured_all = fold measured
 
--- no rows
-abbrev pub no_size : Size
-no_size = record { long = false; rows = 0; letters = 0 }
-
 -- the first limit that is passed
 abbrev pub limit_of : Size → Option ExpandFault
 limit_of size = if size.long then Some fault.Size

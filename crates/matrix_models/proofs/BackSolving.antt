@@ -3,10 +3,20 @@ use Rattle.std.proofs.Common.{◌≡◌, ℕ, zero, suc, ◌+◌, ◌*◌, ◌%�
 use Rattle.std.proofs.lemmas.Bool.{cases_eq, cases_lt}
 use Rattle.std.proofs.lemmas.Option.{none-some}
 use Rattle.std.proofs.lemmas.List.{get_or_past, get_or_push, get_or_append_left, length_push}
+use Rattle.std.specs.List.{All}
 use Rattle.std.proofs.lemmas.List.Elements.{All-push}
 use Rattle.matrix_models.specs.Matrices.{total}
 use Rattle.matrix_models.specs.Totals.{total_same}
-use Rattle.matrix_models.specs.Elimination.{MeetsAll, IsPivot, ArePivots, IsSolvedTo}
+use Rattle.matrix_models.specs.Elimination.{MeetsAll, IsPivot, ArePivots}
+
+-- The values of the unknowns before `to`: one with no pivot has its preferred value, and one with a pivot the value that its
+-- pivot asks for with the values before it.
+pub record IsSolvedTo (m n to : ℕ) (pivots : List (Option (List ℕ))) (prefer values : List ℕ) : Type 0 where
+  pub size : length values ≡ to
+  pub below : All (λ value. value < m) values
+  pub free : (place : ℕ) → place < to → get_or pivots place None ≡ None → get_or values place 0 ≡ get_or prefer place 0
+  pub fixed : (place : ℕ) (row : List ℕ) → place < to → get_or pivots place None ≡ Some row
+      → (total place (λ k. get_or row k 0 * get_or values k 0) + get_or values place 0) % m ≡ get_or row n 0 % m
 
 -- ---- as far as a place
 -- the value at the next place

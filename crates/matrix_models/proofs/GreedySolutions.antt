@@ -9,10 +9,10 @@ use Rattle.matrix_models.specs.Totals.{total_same}
 use Rattle.matrix_models.specs.declared.system.System.{System}
 use Rattle.matrix_models.specs.Systems.{Solves, IsSystem}
 use Rattle.matrix_models.specs.Greedy.{Extends, CanTake, IsGreedy}
-use Rattle.matrix_models.specs.Elimination.{MeetsAll, ArePivots, IsSolvedTo, StandFor}
+use Rattle.matrix_models.specs.Elimination.{MeetsAll, ArePivots, StandFor}
 use Rattle.matrix_models.proofs.Congruences.{add_cancel}
 use Rattle.matrix_models.proofs.Primes.{field_positive}
-use Rattle.matrix_models.proofs.BackSolving.{pivot_sum, meets-solved}
+use Rattle.matrix_models.proofs.BackSolving.{IsSolvedTo, pivot_sum, meets-solved}
 use Rattle.matrix_models.proofs.Reduction.{meets-solution, holds_from_meets}
 
 -- a solution shows that each unknown can take its value in it

@@ -57,12 +57,3 @@ pub record StandFor (s : System) (equations : List LinearRow) (pivots : List (Op
   pub size : length pivots ≡ s.unknowns
   pub are_pivots : ArePivots s.unknowns pivots
   pub same : (w : ℕ → ℕ) → MeetsAll s.modulus s.unknowns w pivots ↔ All (λ equation. Meets s.modulus s.unknowns w (row_of equation)) equations
-
--- The values of the unknowns before `to`: one with no pivot has its preferred value, and one with a pivot the value that its
--- pivot asks for with the values before it.
-pub record IsSolvedTo (m n to : ℕ) (pivots : List (Option (List ℕ))) (prefer values : List ℕ) : Type 0 where
-  pub size : length values ≡ to
-  pub below : All (λ value. value < m) values
-  pub free : (place : ℕ) → place < to → get_or pivots place None ≡ None → get_or values place 0 ≡ get_or prefer place 0
-  pub fixed : (place : ℕ) (row : List ℕ) → place < to → get_or pivots place None ≡ Some row
-      → (total place (λ k. get_or row k 0 * get_or values k 0) + get_or values place 0) % m ≡ get_or row n 0 % m

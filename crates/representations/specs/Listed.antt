@@ -3,7 +3,7 @@ use Rattle.std.specs.Prelude.{◌≡◌, ℕ, List, length, get_or}
 use Rattle.definitions.specs.Poly.{Poly}
 use Rattle.definitions.specs.Category.{Structure}
 use Rattle.definitions.specs.Quiver.{Quiver, letters}
-use Rattle.definitions.specs.Representation.{Representation, Represents, StarRepresents, value_at}
+use Rattle.definitions.specs.Representation.{Representation, Represents, value_at}
 
 -- past the ends of the lists the given object and arrow stand, which count for nothing
 abbrev pub listed : {Object Arrow : Type 0} → List Object → List Arrow → Object → Arrow → Representation Object Arrow
@@ -14,12 +14,6 @@ pub record IsRepresentation {Object Arrow : Type 0} (s : Structure Object Arrow)
   pub objects_length : length objects ≡ q.objects
   pub arrows_length : length arrows ≡ letters q
   pub represents : (o : Object) (a : Arrow) → Represents s q (listed objects arrows o a)
-
--- one in which the adjoint of a map goes to the adjoint of its arrow
-pub record IsStarRepresentation {Object Arrow : Type 0} (s : Structure Object Arrow) (adjoint : Arrow → Arrow) (q : Quiver)
-    (objects : List Object) (arrows : List Arrow) : Type 0 where
-  pub representation : IsRepresentation s q objects arrows
-  pub represents : (o : Object) (a : Arrow) → StarRepresents s adjoint q (listed objects arrows o a)
 
 -- The arrow is the value of the polynomial at the signature (u, v).
 pub record IsValue {Object Arrow : Type 0} (s : Structure Object Arrow) (q : Quiver) (objects : List Object) (arrows : List Arrow)

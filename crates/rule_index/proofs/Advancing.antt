@@ -3,7 +3,15 @@ use Rattle.std.proofs.Common.{◌≡◌, ◌≢◌, ◌⊎◌, inl, inr, ℕ, �
 use Rattle.std.proofs.lemmas.List.{length-set, length-take, length-take-le, get_or-take}
 use Rattle.std.proofs.lemmas.Bool.{cases_lt}
 use Rattle.rule_index.specs.declared.tree.Node.{Node}
-use Rattle.rule_index.specs.Automaton.{IsChild, Lists, ListsBelow, IsAdvancing, IsAdvanced}
+use Rattle.rule_index.specs.Automaton.{IsChild, Lists, ListsBelow, IsAdvanced}
+
+-- the children of the numbers before the place stand at the front
+pub record IsAdvancing (nodes : List Node) (letter : ℕ) (initial now : List ℕ) (place kept : ℕ) : Type 0 where
+  pub len : length now ≡ length initial
+  pub few : kept ≤ place
+  pub rest : (i : ℕ) → place ≤ i → get_or now i 0 ≡ get_or initial i 0
+  pub sound : (i : ℕ) → i < kept → (p : ℕ) × Lists initial p × IsChild nodes p letter (get_or now i 0)
+  pub complete : (j k : ℕ) → j < place → IsChild nodes (get_or initial j 0) letter k → ListsBelow kept now k
 
 module _ (nodes : List Node) (letter : ℕ) (initial now : List ℕ) (place kept : ℕ) (h : IsAdvancing nodes letter initial now place kept) where
   pub advance-skip : ((k : ℕ) → IsChild nodes (get_or now place 0) letter k → ⊥) → IsAdvancing nodes letter initial now (place + 1) kept

@@ -6,7 +6,7 @@ use Rattle.std.proofs.lemmas.List.FromFn.{get_or-range_with_len, length-range_wi
 use Rattle.std.proofs.lemmas.Bool.{cases_lt}
 use Rattle.rule_index.specs.declared.tree.Node.{Node}
 use Rattle.rule_index.specs.Prefixes.{word_at}
-use Rattle.rule_index.specs.Automaton.{node_at, Lists, IsSpelled, IsEnds, IsStarts, IsStartsAbove}
+use Rattle.rule_index.specs.Automaton.{node_at, Lists, IsSpelled, IsEnds, IsStarts}
 use Rattle.rule_index.proofs.Pushing.{Same, is_same, is_other, same_or}
 use Rattle.rule_index.proofs.Ending.{ends-nothing, ends-advanced}
 
@@ -23,6 +23,13 @@ lists-either xs x k l = go (cases_lt l.0 (length xs))
     go : (l.0 < length xs) ⊎ (length xs ≤ l.0) → Lists xs k ⊎ (k ≡ x)
     go (inl below) = inl (l.0, below, sym (get_or_append_left xs (x ∷ []) 0 l.0 below) ∙ l.2)
     go (inr above) = inr (sym l.2 ∙ get_or_push xs x 0 l.0 (omega (arith, l.1, length_push xs x)))
+
+-- the nodes above a number that have the letter, and not the root as their parent
+pub record IsStartsAbove (nodes : List Node) (low letter : ℕ) (starts : List ℕ) : Type 0 where
+  pub inside : (k : ℕ) → Lists starts k → k < length nodes
+  pub above : (k : ℕ) → Lists starts k → 0 < (node_at nodes k).parent
+  pub letter_is : (k : ℕ) → Lists starts k → (node_at nodes k).letter ≡ letter
+  pub complete : (k : ℕ) → low < k → k < length nodes → 0 < (node_at nodes k).parent → (node_at nodes k).letter ≡ letter → Lists starts k
 
 -- the node, and the next one down that may have the letter
 module _ (nodes : List Node) (n low letter : ℕ) (starts : List ℕ) (h : IsStartsAbove nodes n letter starts)

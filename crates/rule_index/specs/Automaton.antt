@@ -179,14 +179,6 @@ pub record IsSame (tree before : Tree) : Type 0 where
   pub links : tree.links.items ≡ before.links.items
   pub leasts : tree.leasts.items ≡ before.leasts.items
 
--- the children of the numbers before the place stand at the front
-pub record IsAdvancing (nodes : List Node) (letter : ℕ) (initial now : List ℕ) (place kept : ℕ) : Type 0 where
-  pub len : length now ≡ length initial
-  pub few : kept ≤ place
-  pub rest : (i : ℕ) → place ≤ i → get_or now i 0 ≡ get_or initial i 0
-  pub sound : (i : ℕ) → i < kept → (p : ℕ) × Lists initial p × IsChild nodes p letter (get_or now i 0)
-  pub complete : (j k : ℕ) → j < place → IsChild nodes (get_or initial j 0) letter k → ListsBelow kept now k
-
 -- the tree has the word now, at this node, and else what it had
 pub record IsGrown (old new : Tree) (word ends : List ℕ) (node : ℕ) : Type 0 where
   pub tree : IsTree new.nodes.items new.heads.items new.nexts.items new.links.items
@@ -241,13 +233,6 @@ pub record IsNewTree (tree : Tree) : Type 0 where
   pub nexts : tree.nexts.items ≡ 0 ∷ []
   pub links : tree.links.items ≡ 0 ∷ []
   pub leasts : tree.leasts.items ≡ None ∷ []
-
--- the nodes above a number that have the letter, and not the root as their parent
-pub record IsStartsAbove (nodes : List Node) (low letter : ℕ) (starts : List ℕ) : Type 0 where
-  pub inside : (k : ℕ) → Lists starts k → k < length nodes
-  pub above : (k : ℕ) → Lists starts k → 0 < (node_at nodes k).parent
-  pub letter_is : (k : ℕ) → Lists starts k → (node_at nodes k).letter ≡ letter
-  pub complete : (k : ℕ) → low < k → k < length nodes → 0 < (node_at nodes k).parent → (node_at nodes k).letter ≡ letter → Lists starts k
 
 -- the nodes below a number that have the letter, and not the root as their parent
 pub record IsStarts (nodes : List Node) (n letter : ℕ) (starts : List ℕ) : Type 0 where

@@ -5,8 +5,8 @@ use Rattle.nc_polynomial.proofs.Steps.{drop_next}
 use Rattle.cofactor_trace.specs.Expansion.{joined, joined_rows, joined_row, share}
 use Rattle.cofactor_trace.specs.Faults.{IsFirst}
 use Rattle.cofactor_trace.specs.Needed.{known_from}
-use Rattle.cofactor_trace.specs.Sizes.{measured, measured_all, no_size, limit_of}
-use Rattle.cofactor_trace.proofs.SizeLaws.{limit_of-measured}
+use Rattle.cofactor_trace.specs.Sizes.{measured, measured_all, limit_of}
+use Rattle.cofactor_trace.proofs.SizeLaws.{no_size, limit_of-measured}
 use Rattle.cofactor_trace.proofs.record.check_limits.Goals as goal
 use Rattle.cofactor_trace.proofs.record.check_limits.Goals.{in-Generator, in-Rule}
 

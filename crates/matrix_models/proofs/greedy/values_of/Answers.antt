@@ -3,8 +3,7 @@ use Rattle.std.proofs.lemmas.List.{get_or_read}
 use Rattle.std.proofs.lemmas.List.Elements.{All-get_or}
 use Rattle.matrix_models.specs.Matrices.{total}
 use Rattle.matrix_models.specs.Greedy.{IsGreedy}
-use Rattle.matrix_models.specs.Elimination.{IsSolvedTo}
-use Rattle.matrix_models.proofs.BackSolving.{solved_free, solved_fixed}
+use Rattle.matrix_models.proofs.BackSolving.{IsSolvedTo, solved_free, solved_fixed}
 use Rattle.matrix_models.proofs.GreedySolutions.{greedy-left}
 use Rattle.matrix_models.proofs.greedy.values_of.Goals as goal
 use Rattle.matrix_models.proofs.greedy.values_of.Goals.{in-Some, in-None}

@@ -1,4 +1,4 @@
-use Rattle.matrix_models.specs.Elimination.{IsSolvedTo}
+use Rattle.matrix_models.proofs.BackSolving.{IsSolvedTo}
 use Rattle.matrix_models.proofs.greedy.values_of.Given as goal
 
 -- the values so far are what is asked of them

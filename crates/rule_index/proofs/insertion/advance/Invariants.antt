@@ -1,4 +1,4 @@
-use Rattle.rule_index.specs.Automaton.{IsAdvancing}
+use Rattle.rule_index.proofs.Advancing.{IsAdvancing}
 use Rattle.rule_index.proofs.insertion.advance.Given as goal
 
 abbrev pub invariant-loop-place : goal.invariant-loop-place
