@@ -1,7 +1,7 @@
 -- The order of ambiguities is total, and it is the one that the comparison gives.
 use Rattle.std.proofs.Common.{◌≡◌, ◌⊎◌, inl, inr, ℕ, ◌<◌, List, refl, sym, ap, ap₂, ◌∙◌, arith}
 use Rattle.std.specs.Cmp.{IsTotalOrder}
-use Rattle.std.specs.Ordering.{nat_cmp, ordering_then, ordering_reverse}
+use Rattle.std.specs.Ordering.{nat_cmp, then_cmp, on, ordering_then, ordering_reverse}
 use Rattle.std.specs.declared.cmp.Ordering.{Ordering}
 use Rattle.std.specs.declared.cmp.Ordering.TheVariants.{Less, Equal, Greater}
 use Rattle.std.proofs.lemmas.Cmp.{ranked, nat_cmp_total, on_total, then_total, tied_itself}
@@ -12,7 +12,11 @@ use Rattle.ambiguities.specs.declared.ambiguity.Kind.TheVariants.{Overlap, Inclu
 use Rattle.ambiguities.specs.declared.ambiguity.Ambiguity.{Ambiguity}
 use Rattle.ambiguities.specs.Ambiguities.{overlap_word_of}
 use Rattle.ambiguities.specs.Listed.{IsBefore, kind_number}
-use Rattle.ambiguity_order.specs.Order.{IsBeforeByWord, ambiguity_cmp, by_word_cmp}
+use Rattle.ambiguity_order.specs.Order.{IsBeforeByWord, ambiguity_cmp}
+
+-- ambiguities by the overlap word first
+abbrev pub by_word_cmp : Compare → List Rule → Ambiguity → Ambiguity → Ordering
+by_word_cmp compare rules = then_cmp (on (overlap_word_of rules) compare) ambiguity_cmp
 
 -- ---- one comparison after another
 then-left : (o p : Ordering) → o ≡ Less → ordering_then o p ≡ Less

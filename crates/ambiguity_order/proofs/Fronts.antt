@@ -6,7 +6,11 @@ use Rattle.std.specs.declared.cmp.Ordering.{Ordering}
 use Rattle.std.specs.declared.cmp.Ordering.TheVariants.{Less, Equal, Greater}
 use Rattle.std.proofs.lemmas.Cmp.{ranked}
 use Rattle.std.proofs.lemmas.List.{append-nil, take-append-drop, length-drop, length-take-le, drop_all, take_all, take-take}
-use Rattle.ambiguity_order.specs.Table.{BeginsWith, rank_of, rank_at}
+use Rattle.ambiguity_order.specs.Table.{rank_of, rank_at}
+
+-- the word begins with these letters
+abbrev pub BeginsWith : List ℕ → List ℕ → Type 0
+BeginsWith front word = take (length front) word ≡ front
 
 -- one letter more
 pub begins-more : (front : List ℕ) (letter : ℕ) (word : List ℕ)

@@ -22,9 +22,9 @@ use Rattle.ambiguities.specs.declared.ambiguity.Ambiguity.{Ambiguity}
 use Rattle.ambiguities.specs.Ambiguities.{IsAmbiguity, overlap_word_of}
 use Rattle.ambiguity_order.specs.declared.key.Key.{Key}
 use Rattle.ambiguity_order.specs.Finding.{ListsEachOnce}
-use Rattle.ambiguity_order.specs.Order.{IsBeforeByWord, AreAllInOrder, ambiguity_cmp, by_word_cmp}
+use Rattle.ambiguity_order.specs.Order.{IsBeforeByWord, AreAllInOrder, ambiguity_cmp}
 use Rattle.ambiguity_order.specs.Keys.{key_of, key_cmp}
-use Rattle.ambiguity_order.proofs.Comparing.{ambiguity_cmp-total, ambiguity-equal, by_word_cmp-total, before-unless_above}
+use Rattle.ambiguity_order.proofs.Comparing.{by_word_cmp, ambiguity_cmp-total, ambiguity-equal, by_word_cmp-total, before-unless_above}
 
 pub key_cmp-total : IsTotalOrder key_cmp
 key_cmp-total =

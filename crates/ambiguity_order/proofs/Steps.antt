@@ -8,7 +8,8 @@ use Rattle.ambiguities.specs.declared.ambiguity.Ambiguity.{Ambiguity}
 use Rattle.ambiguities.specs.Listed.{ListsExactly}
 use Rattle.ambiguities.proofs.Exactly.{exactly-all}
 use Rattle.ambiguity_order.specs.declared.table.Lead.{Lead}
-use Rattle.ambiguity_order.specs.Table.{StandsBefore, BeginsWith, rank_at}
+use Rattle.ambiguity_order.specs.Table.{StandsBefore, rank_at}
+use Rattle.ambiguity_order.proofs.Fronts.{BeginsWith}
 use Rattle.ambiguity_order.specs.Finding.{IsAdded, IsWith, IsOfFirst}
 use Rattle.ambiguity_order.proofs.Tables.{ranks-ascend}
 use Rattle.ambiguity_order.proofs.Walking.{IsGoing, IsEnded, IsLonger, IsIncluded, walk-narrow, walk-ended, walk-longer, included-more, at_first, cut_off, at_end}

@@ -19,8 +19,8 @@ use Rattle.ambiguities.specs.Listed.{ListsExactly}
 use Rattle.ambiguities.proofs.Exactly.{exactly-one, exactly-append, exactly-same}
 use Rattle.ambiguities.proofs.Numbers.{rule_at-first, rule_at-last}
 use Rattle.ambiguity_order.specs.declared.table.Lead.{Lead}
-use Rattle.ambiguity_order.specs.Table.{IsLeadOf, IsTableOf, StandsBefore, BeginsWith, rank_at}
-use Rattle.ambiguity_order.proofs.Fronts.{ranks_ascend}
+use Rattle.ambiguity_order.specs.Table.{IsLeadOf, IsTableOf, StandsBefore, rank_at}
+use Rattle.ambiguity_order.proofs.Fronts.{BeginsWith, ranks_ascend}
 
 -- ---- by their numbers
 abbrev pub ByNumber : Lead → Lead → Type 0

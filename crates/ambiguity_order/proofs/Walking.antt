@@ -16,9 +16,9 @@ use Rattle.ambiguities.specs.Ambiguities.{MeetsAs}
 use Rattle.ambiguities.specs.Listed.{ListsExactly, ambiguity_at}
 use Rattle.ambiguities.proofs.Occurrences.{overlaps_within}
 use Rattle.ambiguity_order.specs.declared.table.Lead.{Lead}
-use Rattle.ambiguity_order.specs.Table.{StandsBefore, BeginsWith, rank_at}
+use Rattle.ambiguity_order.specs.Table.{StandsBefore, rank_at}
 use Rattle.ambiguity_order.specs.Finding.{IsAdded, MayMeet, IsWith, IsOfFirst, IsOfFirsts}
-use Rattle.ambiguity_order.proofs.Fronts.{begins-more, begins-itself, begins-shorter, ended-is, rank_at-itself, rank_at-longer, longer-by_rank}
+use Rattle.ambiguity_order.proofs.Fronts.{BeginsWith, begins-more, begins-itself, begins-shorter, ended-is, rank_at-itself, rank_at-longer, longer-by_rank}
 use Rattle.ambiguity_order.proofs.Picked.{exactly-filter, contains-more, added-append, added-same, added-none, added-one}
 
 -- ---- the words of a table that begin with some letters: those that are these, and the longer ones

@@ -24,7 +24,3 @@ AreAllInOrder compare rules found = ListsExactly (IsBeforeByWord compare rules) 
 abbrev pub ambiguity_cmp : Ambiguity → Ambiguity → Ordering
 ambiguity_cmp = then_cmp (then_cmp (on (λ a. a.i) nat_cmp) (on (λ a. a.j) nat_cmp))
     (then_cmp (on (λ a. kind_number a.kind) nat_cmp) (on (λ a. a.place) nat_cmp))
-
--- by the overlap word first
-abbrev pub by_word_cmp : Compare → List Rule → Ambiguity → Ambiguity → Ordering
-by_word_cmp compare rules = then_cmp (on (overlap_word_of rules) compare) ambiguity_cmp

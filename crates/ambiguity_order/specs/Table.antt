@@ -1,5 +1,5 @@
 -- The leading words of rules, sorted letter by letter.
-use Rattle.std.specs.Prelude.{◌≡◌, ◌≢◌, ℕ, suc, false, List, [], ◌∷◌, length, take, drop, Some}
+use Rattle.std.specs.Prelude.{◌≡◌, ◌≢◌, ℕ, suc, false, List, [], ◌∷◌, drop, Some}
 use Rattle.std.specs.Cmp.Lexicographic.{slice_cmp}
 use Rattle.std.specs.Option.{option_map}
 use Rattle.std.specs.Ordering.{is_lt, nat_cmp}
@@ -21,10 +21,6 @@ abbrev pub IsTableOf : List Rule → List Lead → Type 0
 IsTableOf rules table = ListsExactly StandsBefore (IsLeadOf rules) table
 
 -- ---- how words begin
--- the word begins with these letters
-abbrev pub BeginsWith : List ℕ → List ℕ → Type 0
-BeginsWith front word = take (length front) word ≡ front
-
 -- one more than the first letter, and 0 of the empty word
 abbrev pub rank_of : List ℕ → ℕ
 rank_of [] = 0

@@ -41,10 +41,6 @@ named text at = record { text = text; at = at }
 
 -- ---- choices by the next token
 
-abbrev pub on_name : {A : Type 0} → (List ℕ → A) → A → TokenKind → A
-on_name found other (kind.Name x) = found x
-on_name found other k = other
-
 abbrev pub on_colon : {A : Type 0} → A → A → TokenKind → A
 on_colon found other kind.Colon = found
 on_colon found other k = other
