@@ -7,7 +7,7 @@ use Rattle.block_text.specs.Tokens.{begins_comment}
 use Rattle.block_text.specs.Lines.{Line, is_end, claim_of}
 use Rattle.block_text.specs.PolynomialLines.{IsPolynomialOf}
 use Rattle.block_text.proofs.Bounds.{bound_of}
-use Rattle.block_text.proofs.Owed.{Begins, IsWhole, IsStopped, misfit, IsReader, begins_by_head}
+use Rattle.block_text.proofs.Owed.{Begins, IsWhole, IsStopped, misfit, IsReader, reader_by_head}
 use Rattle.block_text.proofs.Results.{bind_ok, bind_err}
 use Rattle.block_text.proofs.Zips.{AllZip-unique}
 use Rattle.basis_text.specs.declared.place.BasisTerms.{BasisTerms}
@@ -60,17 +60,8 @@ module _ (ds : List Declaration) where
   stops (at.Rested basis) front line told here more read = misfit (cc)
 
   pub reader : IsReader (basis_kind ds) (basis_steps ds)
-  reader = record {
-    told = told;
-    none_told = (refl, refl);
-    others = refl;
-    words = All-from_recursion (λ word. begins_comment word ≡ false) other_words (refl, (refl, (refl, tt)));
-    IsOpen = IsOpen ds;
-    begins = begins_by_head other_words (IsOpen ds) (codes "basis") (codes "1") at.Headed refl refl;
-    goes = goes;
-    goes_on = goes_on;
-    ends = ends;
-    stops = stops;
-    reads = λ K t is keeps. basis_meets K ds t is keeps;
-    unique = basis_unique ds;
-  }
+  reader =
+      reader_by_head (basis_kind ds) (basis_steps ds) (IsOpen ds) told (refl, refl) refl
+      (All-from_recursion (λ word. begins_comment word ≡ false) other_words (refl, (refl, (refl, tt))))
+      (codes "basis") (codes "1") at.Headed (λ line. refl) refl refl goes goes_on ends stops (λ K t is keeps. basis_meets K ds t is keeps)
+      (basis_unique ds)

@@ -4,16 +4,14 @@ use Rattle.std.specs.List.{All}
 use Rattle.nc_polynomial.specs.Shape.{IsCanonical}
 use Rattle.quiver.specs.Declarations.{Declaration}
 use Rattle.block_text.specs.Fault.{Fault}
-use Rattle.block_text.specs.Kind.{Kind}
+use Rattle.block_text.specs.Kind.{Kind, kind_of}
 use Rattle.block_text.specs.Texts as texts
 use Rattle.block_text.specs.Texts.{HasBlocks, IsBlocks}
 use Rattle.basis_text.specs.declared.basis.Basis.{Basis}
 use Rattle.basis_text.specs.declared.place.BasisTerms.{BasisTerms}
-use Rattle.basis_text.specs.BasisBlocks.{BasisTokens, basis_front, IsBasisBlock}
-use Rattle.basis_text.specs.BasisBounds.{Bound, bounds, flaw_of, KeepsOne, IsBasisOf}
+use Rattle.basis_text.specs.BasisBlocks.{basis_front, IsBasisBlock}
+use Rattle.basis_text.specs.BasisBounds.{bounds, flaw_of, KeepsOne, IsBasisOf}
 use Rattle.basis_text.specs.Written.{IsPolyOver}
-
--- ---- bases
 
 -- blocks of these kinds aren't read
 abbrev pub other_words : List (List ℕ)
@@ -21,17 +19,7 @@ other_words = codes "certificate" ∷ codes "model" ∷ codes "cancellation" ∷
 
 -- Bases are a kind of block.
 abbrev pub basis_kind : List Declaration → Kind BasisTerms
-basis_kind ds = record {
-  Tree = BasisTokens;
-  lines_of = basis_front;
-  IsTree = IsBasisBlock;
-  others = other_words;
-  Bound = Bound;
-  bounds = bounds;
-  flaw_of = flaw_of;
-  Keeps = KeepsOne ds;
-  Says = IsBasisOf ds;
-}
+basis_kind ds = kind_of basis_front IsBasisBlock other_words bounds flaw_of (KeepsOne ds) (IsBasisOf ds)
 
 -- a basis by the terms of its polynomials
 abbrev pub by_terms : Basis → BasisTerms
@@ -48,8 +36,6 @@ IsBases ds bytes bases = IsBlocks (basis_kind ds) bytes (map by_terms bases)
 -- the first thing that is wrong with the bytes
 abbrev pub IsFirstFault : List Declaration → List ℕ → Fault → Type 0
 IsFirstFault ds = texts.IsFirstFault (basis_kind ds)
-
--- ---- what holds of each basis
 
 -- The terms are those of polynomials.
 pub record AreCanonical (b : BasisTerms) : Type 0 where

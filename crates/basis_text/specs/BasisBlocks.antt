@@ -5,15 +5,11 @@ use Rattle.block_text.specs.Letters.{is_number}
 use Rattle.block_text.specs.Lines.{Line, claim_line}
 use Rattle.block_text.specs.PolynomialLines.{PolynomialTokens, polynomial_line, IsPolynomialTokens}
 
--- ---- the trees
-
 -- a basis: its claim, its rules in their order, and what they leave of the claim
 pub record BasisTokens : Type 0 where
   pub claim : List ℕ
   pub rules : List PolynomialTokens
   pub rest : PolynomialTokens
-
--- ---- the lines that they are
 
 -- basis 1
 abbrev pub head_line : Line
@@ -34,8 +30,6 @@ line_of_rest = line_behind (codes "rest")
 -- all but the line that ends it
 abbrev pub basis_front : BasisTokens → List Line
 basis_front b = head_line ∷ claim_line b.claim ∷ (map line_of_rule b.rules ++ line_of_rest b.rest ∷ [])
-
--- ---- which tokens stand where
 
 -- a number and polynomials stand at their places
 pub record IsBasisBlock (b : BasisTokens) : Type 0 where

@@ -12,15 +12,11 @@ use Rattle.basis_text.specs.declared.place.BasisTerms.{BasisTerms}
 use Rattle.basis_text.specs.BasisBlocks.{BasisTokens}
 use Rattle.basis_text.specs.Limits.{rule_limit}
 
--- ---- what a block says
-
 -- the number of its claim, and the terms of its polynomials
 pub record IsBasisOf (ds : List Declaration) (b : BasisTokens) (basis : BasisTerms) : Type 0 where
   pub claim : basis.claim ≡ digits_value 10 b.claim
   pub rules : AllZip (IsPolynomialOf ds) b.rules basis.rules
   pub rest : IsPolynomialOf ds b.rest basis.rest
-
--- ---- bounds
 
 -- on names, on how letters and words are written, on numbers, on terms, on words, and on the number of rules
 pub data Bound : Type 0 where
@@ -43,8 +39,6 @@ flaw_of numbers = NumberTooLarge
 flaw_of terms = TooMany term_limit
 flaw_of words = TooMany word_limit
 flaw_of rules = TooMany rule_limit
-
--- ---- when they are kept
 
 -- the rest and the rules
 abbrev pub polynomials : BasisTokens → List PolynomialTokens

@@ -9,7 +9,7 @@ ghost use Rattle.basis_text.specs.Bases.{by_terms, AreCanonical, IsBases, IsFirs
 use crate::basis::Basis;
 use crate::place::BasisTerms;
 use crate::step::Bases;
-use block_text::{CertFault, read_blocks};
+use block_text::{ReadText, read_blocks};
 use lists::Listing;
 use nc_polynomial::Poly;
 use quiver::Quiver;
@@ -57,7 +57,7 @@ fn bases_of(alloc: Global, blocks: Listing<BasisTerms>) -> Result<Listing<Basis>
 
 /// The bases of the text, over the letters of the quiver, or the first thing that is wrong with it. Blocks of other kinds are
 /// skipped. Want of memory is told where there is no room, whatever the text is.
-pub fn read_bases(alloc: Global, bytes: &[u8], quiver: &Quiver) -> Result<Listing<Basis>, CertFault>
+pub fn read_bases(alloc: Global, bytes: &[u8], quiver: &Quiver) -> ReadText<Basis>
     requires { length bytes.now < 4294967295 }
     // They are those that the bytes have, or what is told is the first thing that is wrong with the bytes.
     ensures exact { MatchResult result (IsBases quiver.now bytes.now) (ExplainsBy (IsFirstFault quiver.now bytes.now)) }

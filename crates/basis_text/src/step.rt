@@ -1,10 +1,8 @@
 //! What is made of the lines of a basis.
 
-ghost use Rattle.std.specs.Prelude.{◌≡◌, [], ⊤};
 ghost use Rattle.block_text.specs.Fault.{Reads};
 ghost use Rattle.block_text.specs.Tokens.{tokens_of};
-ghost use Rattle.basis_text.specs.Reading.{grown, inside, next, basis_steps};
-ghost use Rattle.basis_text.specs.declared.place.Stage.TheVariants as stage;
+ghost use Rattle.basis_text.specs.Reading.{grown, inside, basis_steps};
 
 use crate::basis::RULE_LIMIT;
 use crate::place::{BasisTerms, Stage};
@@ -18,16 +16,6 @@ use word_core::Word;
 #[derive(Clone, Copy)]
 pub struct Bases<'q> {
     pub quiver: &'q Quiver,
-}
-
-// The claim behind the head.
-fn claimed(alloc: Global, line: &[u8]) -> Result<Stage, Flaw>
-    ensures { result ≡ next [] stage.Headed (tokens_of line.now) }
-{
-    Ok(Stage::Inside {
-        claim: claim_of(line)?,
-        rules: Listing::new(alloc),
-    })
 }
 
 // A rule more, where there may be one.
@@ -77,23 +65,20 @@ impl<'q> BlockKind for Bases<'q> {
 
     ghost steps = { λ kind. basis_steps kind.quiver.now };
 
-    ghost is_sound = { λ kind stage. ⊤ };
-
     fn others(&self) -> &'static [&'static str] {
         &["certificate", "model", "cancellation"]
     }
 
     fn begin(&self, _alloc: Global, line: &[u8]) -> Option<Stage> {
-        if is_pair("basis", "1", line) {
-            Some(Stage::Headed)
-        } else {
-            None
-        }
+        is_pair("basis", "1", line).then_some(Stage::Headed)
     }
 
     fn next(&self, alloc: Global, stage: Stage, line: &[u8]) -> Result<Stage, LineFault> {
         match stage {
-            Stage::Headed => Ok(claimed(alloc, line)?),
+            Stage::Headed => Ok(Stage::Inside {
+                claim: claim_of(line)?,
+                rules: Listing::new(alloc),
+            }),
             Stage::Inside { claim, rules } => inside(alloc, self.quiver, claim, rules, line),
             Stage::Rested { .. } => Err(LineFault::Flaw(Flaw::BadLine)),
         }

@@ -1,7 +1,7 @@
 //! Bases as bytes.
 
 ghost use Rattle.std.specs.Prelude.{◌≡◌, ◌++◌, OnOk};
-ghost use Rattle.std.specs.List.{All, flat_map};
+ghost use Rattle.std.specs.List.{All};
 ghost use Rattle.basis_text.specs.Written.{rule_line, basis_text, IsPolyOver};
 
 use block_text::{put, put_number, put_poly};
@@ -16,16 +16,6 @@ fn put_rule(out: &mut Vec<u8>, quiver: &Quiver, rule: &Poly) -> Result<(), Alloc
     put(out, "rule ")?;
     put_poly(out, quiver, rule)?;
     put(out, "\n")
-}
-
-fn put_rules(out: &mut Vec<u8>, quiver: &Quiver, rules: &[Poly]) -> Result<(), AllocError>
-    requires { All (IsPolyOver quiver.now) rules.now }
-    ensures { OnOk result (out.new.items ≡ out.old.items ++ flat_map (rule_line quiver.now) rules.now) }
-{
-    for rule in rules {
-        put_rule(out, quiver, rule)?;
-    }
-    Ok(())
 }
 
 /// A basis behind bytes, as a block of evidence text with a line for each rule and one for what they leave of the claim. Only
@@ -44,7 +34,9 @@ pub fn put_basis(
     put(out, "basis 1\nclaim ")?;
     put_number(out, claim as u128)?;
     put(out, "\n")?;
-    put_rules(out, quiver, rules)?;
+    for rule in rules {
+        put_rule(out, quiver, rule)?;
+    }
     put(out, "rest ")?;
     put_poly(out, quiver, rest)?;
     put(out, "\nend\n")

@@ -191,7 +191,7 @@ proof_tree ds proof = record {
 module _ (ds : List Declaration) (proof : Cancellation) (writable : IsWritable ds proof) (monic : All (IsWrittenMap ds) proof.monic) (epic : All (IsWrittenMap ds) proof.epic)
     (items : AreWritten ds 1 proof.items) (goal : IsWrittenLemma ds proof.goal) where
   size : IsSize proof.denominator
-  size = size_written proof.denominator writable.size writable.denominator writable.in_range
+  size = size_written proof.denominator writable.denominator
 
   claim_value : number_within number_limit (decimal proof.claim) ≡ Some proof.claim
   claim_value = decimal_within number_limit proof.claim (omega (arith, writable.claim)) (omega (arith, writable.claim))

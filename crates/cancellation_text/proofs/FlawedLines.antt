@@ -192,27 +192,27 @@ module _ (ds : List Declaration) (flaw : Flaw) (front : List Line) (line : Line)
 
   module _ (o : Opened) (l : Lemma) (lead : Lead) (inside : IsInside ds o l lead front) where
     abbrev rows_before : List RowTokens
-    rows_before = rows_of inside.parts.items ++ inside.tokens.rows
+    rows_before = rows_of inside.parts.items ++ inside.so_far.tokens.rows
 
     stopped_by_row : RowPasses ds rows_before line flaw → Stopped
     stopped_by_row found =
-        let s : ScaledTokens = inside.tokens in
+        let s : ScaledTokens = inside.so_far.tokens in
         let pass = found.pass in
         let all : All (RowsWithin ds (rows_of inside.parts.items ++ (s.rows ++ found.row ∷ []))) (before pass.bound) =
         subst (λ rs. All (RowsWithin ds rs) (before pass.bound)) (append_assoc (rows_of inside.parts.items) s.rows (found.row ∷ [])) pass.keep in
         passed pass.bound (parts_front inside.parts ++ lead_lines lead s) (row_line found.row) pass.flaw_is inside.are found.line_is
         (subst (Begins (cancellation_kind ds) (before pass.bound)) (sym (lead_push (parts_front inside.parts) lead s found.row))
-        (begin_led ds inside.parts (before pass.bound) lead (scaled_push s found.row) inside.known.is inside.next (scaled_more s found.row inside.scaled found.is_row)
-        (λ k d below. led_keeps ds inside.parts lead (scaled_push s found.row) _ (inside.known.keep _) (inside.room _) (scale_keeps ds s l inside.values _) (all k d below))))
+        (begin_led ds inside.parts (before pass.bound) lead (scaled_push s found.row) inside.known.is inside.next (scaled_more s found.row inside.so_far.scaled found.is_row)
+        (λ k d below. led_keeps ds inside.parts lead (scaled_push s found.row) _ (inside.known.keep _) (inside.room _) (scale_keeps ds s l inside.so_far.values _) (all k d below))))
 
     stopped_row : lemma_row ds o.size l line ≡ Err flaw → Stopped
-    stopped_row read = stopped_by (cancellation_kind ds) flaw _ (row_passes ds o.size l rows_before line flaw inside.have read) stopped_by_row
+    stopped_row read = stopped_by (cancellation_kind ds) flaw _ (row_passes ds o.size l rows_before line flaw inside.so_far.have read) stopped_by_row
 
   lemma_stops : (o : Opened) (l : Lemma) (number : List ℕ) → IsInside ds o l (Some number) front → in_lemma ds o l line ≡ Err flaw → Stopped
   lemma_stops o l number inside read =
       by_test (begins (codes "row") line) _ _ (Err flaw) read
       (λ is read_row. bind_err (lemma_row ds o.size l line) _ flaw read_row (stopped_row o l (Some number) inside) (λ grown row_is made. absurd (cc)))
-      (λ more. item_stops (more_item inside.parts (lemma_item number inside.tokens)) (with_item o (item.Lemma l)) (lemma_finished ds o l number front inside))
+      (λ more. item_stops (more_item inside.parts (lemma_item number inside.so_far.tokens)) (with_item o (item.Lemma l)) (lemma_finished ds o l number front inside))
 
   -- ---- at each place
 

@@ -21,7 +21,7 @@ use Rattle.certificate_text.specs.Blocks.{ScaledTokens, row_line, denominator_li
 use Rattle.certificate_text.specs.Bounds.{IsWithin}
 use Rattle.certificate_text.specs.Reading.{lemma_of, lemma_row}
 use Rattle.certificate_text.proofs.OpenBlocks.{Lead, lead_lines}
-use Rattle.certificate_text.proofs.NextLines.{behind, integer_in, goal_read, lemma_read, lead_push, scaled_push, row_more}
+use Rattle.certificate_text.proofs.NextLines.{behind, integer_in, goal_read, lemma_read, lead_push, scaled_push, row_more, led_more, led_first}
 use Rattle.certificate_text.specs.declared.place.Size.{Size}
 use Rattle.certificate_text.proofs.RowTrees.{HaveSize, no_rows_size, integer_is_within}
 use Rattle.cancellation_text.specs.declared.place.Opened.{Opened}
@@ -171,10 +171,7 @@ module _ (ds : List Declaration) (p : Parts) (o : Opened) (front : List Line) (l
     known = opened.known;
     next = next;
     room = room;
-    tokens = record { scale = digits; rows = [] };
-    scaled = record { scale = number; rows = All-nil (λ r. IsTrue (is_row r)) };
-    values = record { scale = value; rows = tt };
-    have = subst (HaveSize ds o.size) (sym (append-nil (rows_of p.items))) opened.have;
+    so_far = led_first ds o.size digits scale (rows_of p.items) number value opened.have;
     are = ap₂ (λ (ls ms : List Line). ls ++ ms) opened.are line_is;
   }
 
@@ -226,29 +223,26 @@ module _ (ds : List Declaration) where
   pub next_row : (o : Opened) (l : Lemma) (lead : Lead) (front : List Line) (line : Line) (next : Size × Lemma) → IsInside ds o l lead front → lemma_row ds o.size l line ≡ Ok next
       → IsInside ds (resized o next.0) next.1 lead (front ++ line ∷ [])
   next_row o l lead front line next inside read =
-      let more = row_more ds o.size l inside.tokens (rows_of inside.parts.items) line next inside.scaled inside.values inside.have read in
+      let more = row_more ds o.size l inside.so_far.tokens (rows_of inside.parts.items) line next inside.so_far.scaled inside.so_far.values inside.so_far.have read in
       record {
         parts = inside.parts;
         known = parts-resized ds inside.parts o next.0 inside.known;
         next = inside.next;
         room = inside.room;
-        tokens = scaled_push inside.tokens more.row;
-        scaled = more.scaled;
-        values = more.values;
-        have = more.have;
+        so_far = led_more ds inside.so_far.tokens (rows_of inside.parts.items) line next more;
         are =
-            behind front (parts_front inside.parts ++ lead_lines lead inside.tokens) line (row_line more.row) inside.are more.line_is
-            ∙ lead_push (parts_front inside.parts) lead inside.tokens more.row;
+            behind front (parts_front inside.parts ++ lead_lines lead inside.so_far.tokens) line (row_line more.row) inside.are more.line_is
+            ∙ lead_push (parts_front inside.parts) lead inside.so_far.tokens more.row;
       }
 
   -- behind the last row of a lemma
   pub lemma_finished : (o : Opened) (l : Lemma) (number : List ℕ) (front : List Line) (inside : IsInside ds o l (Some number) front)
-      → IsOpenedBy ds (more_item inside.parts (lemma_item number inside.tokens)) (with_item o (item.Lemma l)) front
+      → IsOpenedBy ds (more_item inside.parts (lemma_item number inside.so_far.tokens)) (with_item o (item.Lemma l)) front
   lemma_finished o l number front inside =
-      let i : ItemTokens = lemma_item number inside.tokens in
+      let i : ItemTokens = lemma_item number inside.so_far.tokens in
       record {
-        known = parts-more ds inside.parts o i (item.Lemma l) inside.known (inside.next, inside.scaled) (λ bound. lemma_keeps ds number inside.tokens bound (scale_keeps ds inside.tokens l inside.values bound))
-            (inside.room rows) inside.values;
-        have = subst (HaveSize ds o.size) (sym (rows-item inside.parts.items i)) inside.have;
+        known = parts-more ds inside.parts o i (item.Lemma l) inside.known (inside.next, inside.so_far.scaled) (λ bound. lemma_keeps ds number inside.so_far.tokens bound (scale_keeps ds inside.so_far.tokens l inside.so_far.values bound))
+            (inside.room rows) inside.so_far.values;
+        have = subst (HaveSize ds o.size) (sym (rows-item inside.parts.items i)) inside.so_far.have;
         are = inside.are ∙ sym (front-item inside.parts i);
       }

@@ -18,7 +18,7 @@ use Rattle.block_text.proofs.Zips.{zip_push}
 use Rattle.certificate_text.specs.Lines.{RowTokens, row_limit, is_value}
 use Rattle.certificate_text.specs.Blocks.{ScaledTokens, denominator_line, goal_lines, IsScaled}
 use Rattle.certificate_text.specs.Bounds.{IsWithin, IsScaledOf}
-use Rattle.certificate_text.proofs.OpenBlocks.{Lead, lemma_tokens, lead_lines, unit_goal, unit_scaled, unit_within}
+use Rattle.certificate_text.proofs.OpenBlocks.{Lead, IsLed, lemma_tokens, lead_lines, unit_goal, unit_scaled, unit_within}
 use Rattle.certificate_text.proofs.RowTrees.{RowsWithin, HaveSize, no_rows_keep, integer_is_within}
 use Rattle.cancellation_text.specs.declared.place.Opened.{Opened}
 use Rattle.cancellation_text.specs.declared.place.Stage.{Stage}
@@ -284,11 +284,8 @@ pub record IsInside (ds : List Declaration) (o : Opened) (l : Lemma) (lead : Lea
   pub known : AreParts ds parts o
   pub next : IsNext lead parts
   pub room : (bound : Bound) → HasLeadRoom lead parts bound
-  pub tokens : ScaledTokens
-  pub scaled : IsScaled tokens
-  pub values : IsScaledOf ds tokens l
-  pub have : HaveSize ds o.size (rows_of parts.items ++ tokens.rows)
-  pub are : front ≡ parts_front parts ++ lead_lines lead tokens
+  pub so_far : IsLed ds o.size l (rows_of parts.items)
+  pub are : front ≡ parts_front parts ++ lead_lines lead so_far.tokens
 
 abbrev pub IsOpen : List Declaration → Stage → List Line → Type 0
 IsOpen ds at.Headed front = front ≡ head_line ∷ []
@@ -320,15 +317,15 @@ module _ (ds : List Declaration) where
       subst (Begins (cancellation_kind ds) within) (sym opened.are)
       (begin_parts ds p within opened.known.is (everywhere (λ bound. KeepsOne ds bound (with_goal p unit_goal)) (λ bound. parts_keep_one ds p bound (opened.known.keep bound) (opened.have.keep bound)) within))
 
-  pub inside_keeps : (o : Opened) (l : Lemma) (lead : Lead) (front : List Line) (inside : IsInside ds o l lead front) (bound : Bound) → KeepsOne ds bound (led inside.parts lead inside.tokens)
+  pub inside_keeps : (o : Opened) (l : Lemma) (lead : Lead) (front : List Line) (inside : IsInside ds o l lead front) (bound : Bound) → KeepsOne ds bound (led inside.parts lead inside.so_far.tokens)
   inside_keeps o l lead front inside bound =
-      led_keeps ds inside.parts lead inside.tokens bound (inside.known.keep bound) (inside.room bound) (scale_keeps ds inside.tokens l inside.values bound) (inside.have.keep bound)
+      led_keeps ds inside.parts lead inside.so_far.tokens bound (inside.known.keep bound) (inside.room bound) (scale_keeps ds inside.so_far.tokens l inside.so_far.values bound) (inside.so_far.have.keep bound)
 
   pub begin_inside : (o : Opened) (l : Lemma) (lead : Lead) (front : List Line) (within : List Bound) → IsInside ds o l lead front → Begins (cancellation_kind ds) within front
   begin_inside o l lead front within inside =
       subst (Begins (cancellation_kind ds) within) (sym inside.are)
-      (begin_led ds inside.parts within lead inside.tokens inside.known.is inside.next inside.scaled
-      (everywhere (λ bound. KeepsOne ds bound (led inside.parts lead inside.tokens)) (inside_keeps o l lead front inside) within))
+      (begin_led ds inside.parts within lead inside.so_far.tokens inside.known.is inside.next inside.so_far.scaled
+      (everywhere (λ bound. KeepsOne ds bound (led inside.parts lead inside.so_far.tokens)) (inside_keeps o l lead front inside) within))
 
   begin_shorter : (within : List Bound) (front behind : List Line) → Begins (cancellation_kind ds) within (front ++ behind) → Begins (cancellation_kind ds) within front
   begin_shorter within front behind begin = record {

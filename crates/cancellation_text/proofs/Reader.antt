@@ -11,7 +11,7 @@ use Rattle.block_text.specs.Letters.{number_within}
 use Rattle.block_text.specs.Lines.{Line, begins, is_end, claim_of, number_limit, integer_of}
 use Rattle.block_text.specs.Tokens.{begins_comment}
 use Rattle.block_text.proofs.Bounds.{bound_of}
-use Rattle.block_text.proofs.Owed.{Begins, IsWhole, IsReader, begins_by_head}
+use Rattle.block_text.proofs.Owed.{Begins, IsWhole, IsReader, reader_by_head}
 use Rattle.block_text.proofs.Results.{by_test, bind_ok}
 use Rattle.block_text.proofs.Zips.{AllZip-unique}
 use Rattle.certificate_text.specs.Lines.{denominator_of}
@@ -78,7 +78,7 @@ module _ (ds : List Declaration) where
     goes_lemma o l number inside read =
         by_test (begins (codes "row") line) _ _ (Ok t) read
         (λ is read_row. bind_ok (lemma_row ds o.size l line) _ t read_row (λ pair row_is made. found (at.Lemma (resized o pair.0) pair.1) made (number, next_row ds o l (Some number) front line pair inside row_is)))
-        (λ more. item_next ds (more_item inside.parts (lemma_item number inside.tokens)) (with_item o (item.Lemma l)) front line t (lemma_finished ds o l number front inside))
+        (λ more. item_next ds (more_item inside.parts (lemma_item number inside.so_far.tokens)) (with_item o (item.Lemma l)) front line t (lemma_finished ds o l number front inside))
 
     goes_goal : (o : Opened) (goal : Lemma) → IsInside ds o goal None front → next ds (at.Goal o goal) line ≡ Ok t → OpenNext
     goes_goal o goal inside read = bind_ok (lemma_row ds o.size goal line) _ t read (λ pair row_is made. found (at.Goal (resized o pair.0) pair.1) made (next_row ds o goal None front line pair inside row_is))
@@ -101,9 +101,9 @@ module _ (ds : List Declaration) where
 
   goal_ends : (o : Opened) (goal : Lemma) (front : List Line) → IsInside ds o goal None front → IsWhole (cancellation_kind ds) front (proof_of o goal)
   goal_ends o goal front here = record {
-    tree = with_goal here.parts here.tokens;
-    are = here.are ∙ goal_front ds here.parts here.tokens;
-    is_tree = is_block ds here.parts here.tokens here.known.is here.scaled;
+    tree = with_goal here.parts here.so_far.tokens;
+    are = here.are ∙ goal_front ds here.parts here.so_far.tokens;
+    is_tree = is_block ds here.parts here.so_far.tokens here.known.is here.so_far.scaled;
     keeps = inside_keeps ds o goal None front here;
     says = record {
       claim = here.known.values.claim;
@@ -111,7 +111,7 @@ module _ (ds : List Declaration) where
       monic = here.known.values.called Left;
       epic = here.known.values.called Right;
       items = here.known.values.items;
-      goal = here.values;
+      goal = here.so_far.values;
     };
   }
 
@@ -124,17 +124,8 @@ module _ (ds : List Declaration) where
   ends (at.Goal o goal) front proof here read = let same : proof_of o goal ≡ proof = cc in subst (IsWhole (cancellation_kind ds) front) same (goal_ends o goal front here)
 
   pub reader : IsReader (cancellation_kind ds) (cancellation_steps ds)
-  reader = record {
-    told = told;
-    none_told = (refl, refl);
-    others = refl;
-    words = All-from_recursion (λ word. begins_comment word ≡ false) other_words (refl, (refl, (refl, tt)));
-    IsOpen = IsOpen ds;
-    begins = begins_by_head other_words (IsOpen ds) (codes "cancellation") (codes "1") at.Headed refl refl;
-    goes = goes;
-    goes_on = goes_on;
-    ends = ends;
-    stops = λ s front line flaw here more read. stops_at ds flaw front line s here read;
-    reads = λ K t is keeps. block_meets K ds t is keeps;
-    unique = same_proof;
-  }
+  reader =
+      reader_by_head (cancellation_kind ds) (cancellation_steps ds) (IsOpen ds) told (refl, refl) refl
+      (All-from_recursion (λ word. begins_comment word ≡ false) other_words (refl, (refl, (refl, tt))))
+      (codes "cancellation") (codes "1") at.Headed (λ line. refl) refl refl goes goes_on ends
+      (λ s front line flaw here more read. stops_at ds flaw front line s here read) (λ K t is keeps. block_meets K ds t is keeps) same_proof

@@ -1,5 +1,5 @@
 -- What is read of proofs that cancel letters that are written, whatever stands around them.
-use Rattle.std.specs.Prelude.{◌≡◌, ◌≢◌, ◌<◌, ◌≤◌, ◌^◌, ◌+◌, ℕ, pos, List, [], ◌∷◌, ◌++◌, length, filter, Some, AllPairs, IsTrue}
+use Rattle.std.specs.Prelude.{◌≡◌, ◌≢◌, ◌<◌, ◌≤◌, ◌^◌, ◌+◌, ℕ, List, [], ◌∷◌, ◌++◌, length, filter, Some, AllPairs, IsTrue}
 use Rattle.std.specs.List.{All, filter_map, list_all}
 use Rattle.word_core.specs.declared.letter.Letter.{Letter}
 use Rattle.quiver.specs.declared.named.Named.TheVariants.{Map}
@@ -12,8 +12,9 @@ use Rattle.cancel_rules.specs.declared.cancellation.Item.TheVariants as item
 use Rattle.cancel_rules.specs.declared.cancellation.Cancellation.{Cancellation}
 use Rattle.block_text.specs.Back.{is_named}
 use Rattle.block_text.specs.Laws.{IsReadBetween, AreReadInParts}
-use Rattle.certificate_text.specs.Back.{IsWritableLemma}
-use Rattle.cancellation_text.specs.Cancellations.{other_words, HasCancellations}
+use Rattle.block_text.specs.Texts.{HasBlocks}
+use Rattle.certificate_text.specs.Back.{IsWritableInteger, IsWritableLemma}
+use Rattle.cancellation_text.specs.Cancellations.{other_words, cancellation_kind}
 use Rattle.cancellation_text.specs.Written.{cancellation_text}
 
 -- a letter of the quiver that is a declared map or its adjoint
@@ -40,10 +41,7 @@ lemmas_in (item.Cancel a side from ∷ items) = lemmas_in items
 -- the rows and the letters of the lemmas and of the goal count together
 pub record IsWritable (ds : List Declaration) (proof : Cancellation) : Type 0 where
   pub claim : proof.claim < 2 ^ 32
-  -- the denominator is not negative
-  pub size : ℕ
-  pub denominator : proof.denominator ≡ pos size
-  pub in_range : size < 2 ^ 127
+  pub denominator : IsWritableInteger proof.denominator
   pub monic : AreCalledOnce ds proof.monic
   pub epic : AreCalledOnce ds proof.epic
   pub items : All (IsWritableItem ds) proof.items
@@ -56,9 +54,9 @@ pub record IsWritable (ds : List Declaration) (proof : Cancellation) : Type 0 wh
 -- before those that the others have.
 abbrev pub CancellationsAreReadBack : Type 0
 CancellationsAreReadBack = (ds : List Declaration) → IsDeclared ds → IsTrue (list_all is_named ds)
-    → IsReadBetween (HasCancellations ds) (cancellation_text ds) (IsWritable ds)
+    → IsReadBetween (HasBlocks (cancellation_kind ds)) (cancellation_text ds) (IsWritable ds)
 
 -- The proofs of a text of written proofs, comments and blocks of other kinds are those proofs, in their order.
 abbrev pub ArePartsReadBack : Type 0
 ArePartsReadBack = (ds : List Declaration) → IsDeclared ds → IsTrue (list_all is_named ds)
-    → AreReadInParts (HasCancellations ds) (cancellation_text ds) (IsWritable ds) other_words
+    → AreReadInParts (HasBlocks (cancellation_kind ds)) (cancellation_text ds) (IsWritable ds) other_words

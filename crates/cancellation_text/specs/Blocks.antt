@@ -11,8 +11,6 @@ use Rattle.block_text.specs.Lines.{Line, claim_line}
 use Rattle.certificate_text.specs.Lines.{is_value}
 use Rattle.certificate_text.specs.Blocks.{ScaledTokens, LemmaTokens, denominator_line, lemma_lines, goal_lines, IsScaled}
 
--- ---- the trees
-
 -- a letter that is called monic, to be cancelled on the left, or epic, to be cancelled on the right
 pub record CalledTokens : Type 0 where
   pub side : Side
@@ -37,8 +35,6 @@ pub record CancellationTokens : Type 0 where
   pub called : List CalledTokens
   pub items : List ItemTokens
   pub goal : ScaledTokens
-
--- ---- the lines that they are
 
 -- cancellation 1
 abbrev pub head_line : Line
@@ -69,8 +65,6 @@ item_lines (cancel c) = cancel_line c ∷ []
 abbrev pub cancellation_lines : CancellationTokens → List Line
 cancellation_lines b = head_line ∷ claim_line b.claim ∷ denominator_line b.denominator ∷ (map called_line b.called
     ++ (flat_map item_lines b.items ++ goal_lines b.goal))
-
--- ---- which tokens stand where
 
 -- the token without the ' at its end
 abbrev pub unstarred : List ℕ → List ℕ

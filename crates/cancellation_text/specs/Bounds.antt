@@ -14,8 +14,6 @@ use Rattle.certificate_text.specs.Bounds.{IsWithin, IsScaledOf, HasNames, HasNum
 pub use Rattle.certificate_text.specs.Bounds.{Bound, names, numbers, words, rows, letters, bounds, flaw_of}
 use Rattle.cancellation_text.specs.Blocks.{CancelTokens, CalledTokens, ItemTokens, lemma, cancel, CancellationTokens, known_letter, called_letters}
 
--- ---- what a block says
-
 -- a letter, a side and the number of an item
 pub record IsCancelOf (ds : List Declaration) (c : CancelTokens) (i : Item) : Type 0 where
   pub letter : Letter
@@ -38,8 +36,6 @@ pub record IsCancellationOf (ds : List Declaration) (b : CancellationTokens) (pr
   pub items : AllZip (IsItemOf ds) b.items proof.items
   pub goal : IsScaledOf ds b.goal proof.goal
 
--- ---- what a block has
-
 abbrev pub item_rows : ItemTokens → List RowTokens
 item_rows (lemma l) = l.scaled.rows
 item_rows (cancel c) = []
@@ -47,8 +43,6 @@ item_rows (cancel c) = []
 -- the rows of all its lemmas and of its goal
 abbrev pub rows_in : CancellationTokens → List RowTokens
 rows_in b = flat_map item_rows b.items ++ b.goal.rows
-
--- ---- when the bounds are kept
 
 -- the letter is one of the quiver
 abbrev pub IsKnown : List Declaration → List ℕ → Type 0

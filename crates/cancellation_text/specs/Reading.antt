@@ -27,8 +27,6 @@ use Rattle.cancellation_text.specs.declared.place.Stage.TheVariants as at
 use Rattle.cancellation_text.specs.Blocks.{CalledTokens, CancelTokens, is_map_letter, known_letter}
 use Rattle.cancellation_text.specs.Cancellations.{other_words}
 
--- ---- lines
-
 -- the side on which a letter is cancelled that is called so
 abbrev pub called_side : List ℕ → Option Side
 called_side word = if is (codes "monic") word then Some Left else if is (codes "epic") word then Some Right else None
@@ -69,8 +67,6 @@ cancel_of ds before c =
     (asked NumberTooLarge (number_within number_limit c.item) >>= λ n.
     if nat_le row_limit before then Err (TooMany row_limit) else Ok (item.Cancel a c.side n))
 
--- ---- letters that are called monic or epic
-
 abbrev pub is_called : Letter → List Letter → Bool
 is_called a letters = list_any (λ b. nat_eq b.0 a.0) letters
 
@@ -107,8 +103,6 @@ abbrev pub called : List Declaration → Opened → CalledTokens → Result Stag
 called ds o c =
     asked UnknownName (known_letter ds c.letter) >>= λ a.
     (one_more (letters_on o c.side) a >>= λ letters. Ok (at.Called (with_letters o c.side letters)))
-
--- ---- items and the goal
 
 -- behind the denominator
 abbrev pub begun : ℕ → ℤ → Opened
@@ -155,8 +149,6 @@ in_lemma ds o l line =
 -- a row of the goal
 abbrev pub in_goal : List Declaration → Opened → Lemma → Line → Result Stage Flaw
 in_goal ds o goal line = lemma_row ds o.size goal line >>= λ grown. Ok (at.Goal (resized o grown.0) grown.1)
-
--- ---- the lines
 
 -- cancellation 1
 abbrev pub begin : Line → Option Stage

@@ -41,8 +41,6 @@ head_text proof = opening_text (codes "cancellation 1\nclaim ") proof.claim proo
 abbrev pub cancellation_text : List Declaration → Cancellation → List ℕ
 cancellation_text ds proof = head_text proof ++ letters_text ds proof ++ steps_text ds proof
 
--- ---- its letters are letters of the quiver
-
 abbrev pub IsItemOver : List Declaration → Item → Type 0
 IsItemOver ds (item.Lemma l) = IsLemmaOver ds l
 IsItemOver ds (item.Cancel a side from) = a.0 < letter_count ds

@@ -6,21 +6,6 @@ use cofactor_trace::Lemma;
 use lists::Listing;
 use word_core::Letter;
 
-/// What was read of a proof whose lines go on.
-#[derive(Drop)]
-pub struct Opened {
-    pub claim: u32,
-    pub denominator: i128,
-    /// The letters that are called monic.
-    pub monic: Listing<Letter>,
-    /// The letters that are called epic.
-    pub epic: Listing<Letter>,
-    /// The items all of whose lines were read.
-    pub items: Listing<Item>,
-    /// Of the rows of all lemmas and of the goal.
-    pub size: Size,
-}
-
 /// How far a proof was read whose lines go on.
 #[derive(Drop)]
 pub enum Stage {
@@ -36,4 +21,19 @@ pub enum Stage {
     Cancelled { opened: Opened },
     /// In the rows of the goal.
     Goal { opened: Opened, goal: Lemma },
+}
+
+/// What was read of a proof whose lines go on.
+#[derive(Drop)]
+pub struct Opened {
+    pub claim: u32,
+    pub denominator: i128,
+    /// Of the rows of all lemmas and of the goal.
+    pub size: Size,
+    /// The letters that are called monic.
+    pub monic: Listing<Letter>,
+    /// The letters that are called epic.
+    pub epic: Listing<Letter>,
+    /// The items all of whose lines were read.
+    pub items: Listing<Item>,
 }

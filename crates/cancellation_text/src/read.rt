@@ -7,19 +7,14 @@ ghost use Rattle.cancel_rules.specs.Acceptance.{IsReadableCancellation};
 ghost use Rattle.cancellation_text.specs.Cancellations.{IsCancellations, IsFirstFault};
 
 use crate::step::Cancellations;
-use block_text::{CertFault, read_blocks};
+use block_text::{ReadText, read_blocks};
 use cancel_rules::Cancellation;
-use lists::Listing;
 use quiver::Quiver;
 use std::alloc::Global;
 
 /// The proofs that cancel letters of the text, over the letters of the quiver, or the first thing that is wrong with it. Blocks of
 /// other kinds are skipped. Want of memory is told where there is no room, whatever the text is.
-pub fn read_cancellations(
-    alloc: Global,
-    bytes: &[u8],
-    quiver: &Quiver,
-) -> Result<Listing<Cancellation>, CertFault>
+pub fn read_cancellations(alloc: Global, bytes: &[u8], quiver: &Quiver) -> ReadText<Cancellation>
     requires { length bytes.now < 4294967295 }
     // They are those that the bytes are, or what is told is the first thing that is wrong with the bytes.
     ensures exact { MatchResult result (IsCancellations quiver.now bytes.now) (ExplainsBy (IsFirstFault quiver.now bytes.now)) }

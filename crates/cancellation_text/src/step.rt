@@ -1,11 +1,10 @@
 //! What is made of the lines of a proof that cancels letters.
 
-ghost use Rattle.std.specs.Prelude.{◌≡◌, [], ◌+◌, length, ⊤};
+ghost use Rattle.std.specs.Prelude.{◌≡◌, [], ◌+◌, length};
 ghost use Rattle.block_text.specs.Fault.{Reads};
 ghost use Rattle.block_text.specs.Tokens.{tokens_of};
-ghost use Rattle.cancellation_text.specs.Reading.{is_called, one_more, called, goal_begun, lemma_begun, cancelled, cancel_tokens};
-ghost use Rattle.cancellation_text.specs.Reading.{item_or_goal, calling, called_tokens, in_lemma, in_goal, proof_of, next};
-ghost use Rattle.cancellation_text.specs.Reading.{cancellation_steps};
+ghost use Rattle.cancellation_text.specs.Reading.{is_called, one_more, called, goal_begun, lemma_begun, cancelled, cancel_tokens, item_or_goal};
+ghost use Rattle.cancellation_text.specs.Reading.{calling, called_tokens, proof_of, next, cancellation_steps};
 ghost use Rattle.cancellation_text.specs.Views.{called_now};
 ghost use Rattle.cancellation_text.specs.declared.place.Stage.TheVariants as stage;
 
@@ -24,14 +23,6 @@ use word_core::Letter;
 #[derive(Clone, Copy)]
 pub struct Cancellations<'q> {
     pub quiver: &'q Quiver,
-}
-
-// The claim behind the head.
-fn claimed(line: &[u8]) -> Result<Stage, Flaw>
-    ensures { result ≡ next [] stage.Headed (tokens_of line.now) }
-{
-    let claim = claim_of(line)?;
-    Ok(Stage::Claimed { claim })
 }
 
 // The denominator behind the claim.
@@ -144,38 +135,6 @@ fn calling(alloc: Global, quiver: &Quiver, opened: Opened, line: &[u8]) -> Resul
     }
 }
 
-// A row of a lemma, or what stands behind it.
-fn in_lemma(
-    alloc: Global,
-    quiver: &Quiver,
-    mut opened: Opened,
-    mut lemma: Lemma,
-    line: &[u8],
-) -> Result<Stage, LineFault>
-    ensures { Reads (λ s. s) result (in_lemma quiver.now opened lemma (tokens_of line.now)) }
-{
-    if begins("row", line) {
-        opened.size = push_lemma_row(alloc, quiver, opened.size, &mut lemma, line)?;
-        return Ok(Stage::Lemma { opened, lemma });
-    }
-    opened.items.push(Item::Lemma(lemma))?;
-    item_or_goal(alloc, quiver, opened, line)
-}
-
-// A row of the goal.
-fn in_goal(
-    alloc: Global,
-    quiver: &Quiver,
-    mut opened: Opened,
-    mut goal: Lemma,
-    line: &[u8],
-) -> Result<Stage, LineFault>
-    ensures { Reads (λ s. s) result (in_goal quiver.now opened goal (tokens_of line.now)) }
-{
-    opened.size = push_lemma_row(alloc, quiver, opened.size, &mut goal, line)?;
-    Ok(Stage::Goal { opened, goal })
-}
-
 // The proof with this goal.
 fn proof_of(opened: Opened, goal: Lemma) -> Cancellation
     ensures { result ≡ proof_of opened goal }
@@ -197,35 +156,45 @@ impl<'q> BlockKind for Cancellations<'q> {
 
     ghost steps = { λ kind. cancellation_steps kind.quiver.now };
 
-    ghost is_sound = { λ kind stage. ⊤ };
-
     fn others(&self) -> &'static [&'static str] {
         &["certificate", "model", "basis"]
     }
 
     fn begin(&self, _alloc: Global, line: &[u8]) -> Option<Stage> {
-        if is_pair("cancellation", "1", line) {
-            Some(Stage::Headed)
-        } else {
-            None
-        }
+        is_pair("cancellation", "1", line).then_some(Stage::Headed)
     }
 
     fn next(&self, alloc: Global, stage: Stage, line: &[u8]) -> Result<Stage, LineFault> {
+        let quiver = self.quiver;
         match stage {
-            Stage::Headed => Ok(claimed(line)?),
+            Stage::Headed => {
+                let claim = claim_of(line)?;
+                Ok(Stage::Claimed { claim })
+            }
             Stage::Claimed { claim } => Ok(divided(alloc, claim, line)?),
-            Stage::Called { opened } => calling(alloc, self.quiver, opened, line),
-            Stage::Lemma { opened, lemma } => in_lemma(alloc, self.quiver, opened, lemma, line),
-            Stage::Cancelled { opened } => item_or_goal(alloc, self.quiver, opened, line),
-            Stage::Goal { opened, goal } => in_goal(alloc, self.quiver, opened, goal, line),
+            Stage::Called { opened } => calling(alloc, quiver, opened, line),
+            Stage::Lemma { opened, lemma } => {
+                let (mut opened, mut lemma) = (opened, lemma);
+                if begins("row", line) {
+                    opened.size = push_lemma_row(alloc, quiver, opened.size, &mut lemma, line)?;
+                    return Ok(Stage::Lemma { opened, lemma });
+                }
+                opened.items.push(Item::Lemma(lemma))?;
+                item_or_goal(alloc, quiver, opened, line)
+            }
+            Stage::Cancelled { opened } => item_or_goal(alloc, quiver, opened, line),
+            Stage::Goal { opened, goal } => {
+                let (mut opened, mut goal) = (opened, goal);
+                opened.size = push_lemma_row(alloc, quiver, opened.size, &mut goal, line)?;
+                Ok(Stage::Goal { opened, goal })
+            }
         }
     }
 
     fn finish(&self, _alloc: Global, stage: Stage) -> Result<Option<Cancellation>, AllocError> {
-        match stage {
-            Stage::Goal { opened, goal } => Ok(Some(proof_of(opened, goal))),
-            _ => Ok(None),
-        }
+        let Stage::Goal { opened, goal } = stage else {
+            return Ok(None);
+        };
+        Ok(Some(proof_of(opened, goal)))
     }
 }

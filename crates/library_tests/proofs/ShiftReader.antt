@@ -20,7 +20,7 @@ use Rattle.block_text.specs.Steps.{all_values}
 use Rattle.block_text.proofs.EachText.{read_values_are}
 use Rattle.block_text.proofs.Meets.{Meets, reads, then_meets}
 use Rattle.block_text.proofs.Bounds.{bound_of}
-use Rattle.block_text.proofs.Owed.{Begins, IsWhole, IsStopped, misfit, passes, stopped_by, IsReader, begins_by_head, read_block}
+use Rattle.block_text.proofs.Owed.{Begins, IsWhole, IsStopped, misfit, passes, stopped_by, IsReader, reader_by_head, read_block}
 use Rattle.block_text.proofs.Results.{bind_ok, bind_err, ok_has, option_map_some}
 use Rattle.block_text.proofs.SaidLines.{said_ok, said_err, said_meets, within_limit, number_found, number_read, number_unsaid}
 use Rattle.block_text.proofs.Standing.{everywhere}
@@ -192,20 +192,11 @@ module _ (ds : List Declaration) where
         rw s_is (reads (shift_of r_is.0 (digits_value 10 t.by)) refl (rw r_is.1 refl))))))
 
   pub reader : IsReader (shift_kind ds) (shift_steps ds)
-  reader = record {
-    told = told;
-    none_told = (refl, refl);
-    others = refl;
-    words = All-from_recursion (λ word. begins_comment word ≡ false) other_words (refl, (refl, (refl, tt)));
-    IsOpen = IsOpen;
-    begins = begins_by_head other_words IsOpen (codes "shift") (codes "1") at.Headed refl refl;
-    goes = λ s t front line. goes front line s t;
-    goes_on = goes_on;
-    ends = ends;
-    stops = λ s front line flaw. stops front line s flaw;
-    reads = shift_meets;
-    unique = λ t v w one two. same_Some v w (sym one ∙ two);
-  }
+  reader =
+      reader_by_head (shift_kind ds) (shift_steps ds) IsOpen told (refl, refl) refl
+      (All-from_recursion (λ word. begins_comment word ≡ false) other_words (refl, (refl, (refl, tt))))
+      (codes "shift") (codes "1") at.Headed (λ line. refl) refl refl (λ s t front line. goes front line s t) goes_on ends (λ s front line flaw. stops front line s flaw)
+      shift_meets (λ t v w one two. same_Some v w (sym one ∙ two))
 
   -- ---- what holds of each shift
 

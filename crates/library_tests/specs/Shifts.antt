@@ -9,7 +9,7 @@ use Rattle.block_text.specs.declared.fault.Flaw.TheVariants.{UnknownName, Number
 use Rattle.block_text.specs.Letters.{is_letter, letter_of, is_number}
 use Rattle.block_text.specs.Lines.{Line, number_limit}
 use Rattle.block_text.specs.Fault.{Fault}
-use Rattle.block_text.specs.Kind.{Kind}
+use Rattle.block_text.specs.Kind.{Kind, kind_of}
 use Rattle.block_text.specs.Texts as texts
 use Rattle.block_text.specs.Texts.{HasBlocks, IsBlocks}
 use Rattle.library_tests.specs.declared.shifts.Shift.{Shift}
@@ -86,17 +86,7 @@ other_words = codes "certificate" ∷ codes "model" ∷ codes "basis" ∷ []
 
 -- Shifts are a kind of block.
 abbrev pub shift_kind : List Declaration → Kind Shift
-shift_kind ds = record {
-  Tree = ShiftTokens;
-  lines_of = shift_front;
-  IsTree = IsShiftBlock;
-  others = other_words;
-  Bound = Bound;
-  bounds = bounds;
-  flaw_of = flaw_of;
-  Keeps = Keeps ds;
-  Says = λ t s. shift_value ds t ≡ Some s;
-}
+shift_kind ds = kind_of shift_front IsShiftBlock other_words bounds flaw_of (Keeps ds) (λ t s. shift_value ds t ≡ Some s)
 
 -- The bytes are UTF-8, their lines are blocks within all bounds, and these are the shifts among them.
 abbrev pub HasShifts : List Declaration → List ℕ → List Shift → Type 0

@@ -1,6 +1,6 @@
 //! Shifts, a kind of block of three lines: read from bytes and written back.
 
-ghost use Rattle.std.specs.Prelude.{◌≡◌, ◌<◌, ◌++◌, ⊤, List, IfOk, IfSome, IsTrue, MatchResult, OnOk, length};
+ghost use Rattle.std.specs.Prelude.{◌≡◌, ◌<◌, ◌++◌, List, IfOk, IfSome, IsTrue, MatchResult, OnOk, length};
 ghost use Rattle.std.specs.List.{All, list_all};
 ghost use Rattle.std.specs.Option.{option_copied, option_map};
 ghost use Rattle.quiver.specs.Declarations.{Declaration, IsDeclared, letter_count};
@@ -13,7 +13,7 @@ ghost use Rattle.library_tests.specs.ShiftSteps.{begin, letter_token, letter_at,
 ghost use Rattle.library_tests.specs.ShiftTexts.{letter_line_text, shift_text, HasLetter, IsWritable};
 
 use block_text::{
-    BlockKind, CertFault, Flaw, LineFault, NUMBER_LIMIT, first_token, is, is_letter, is_pair,
+    BlockKind, Flaw, LineFault, NUMBER_LIMIT, ReadText, first_token, is, is_letter, is_pair,
     letter_of, number_of, put, put_letter, put_number, read_blocks,
 };
 use lists::Listing;
@@ -104,18 +104,12 @@ impl<'q> BlockKind for Shifts<'q> {
 
     ghost steps = { λ kind. shift_steps kind.quiver.now };
 
-    ghost is_sound = { λ kind stage. ⊤ };
-
     fn others(&self) -> &'static [&'static str] {
         &["certificate", "model", "basis"]
     }
 
     fn begin(&self, _alloc: Global, line: &[u8]) -> Option<Stage> {
-        if is_pair("shift", "1", line) {
-            Some(Stage::Headed)
-        } else {
-            None
-        }
+        is_pair("shift", "1", line).then_some(Stage::Headed)
     }
 
     fn next(&self, _alloc: Global, stage: Stage, line: &[u8]) -> Result<Stage, LineFault> {
@@ -132,11 +126,7 @@ impl<'q> BlockKind for Shifts<'q> {
 
 /// The shifts of the text, over the letters of the quiver, or the first thing that is wrong with it. Blocks of other kinds are
 /// skipped. Want of memory is told where there is no room, whatever the text is.
-pub fn read_shifts(
-    alloc: Global,
-    bytes: &[u8],
-    quiver: &Quiver,
-) -> Result<Listing<Shift>, CertFault>
+pub fn read_shifts(alloc: Global, bytes: &[u8], quiver: &Quiver) -> ReadText<Shift>
     requires { length bytes.now < 4294967295 }
     // They are those that the bytes have, or what is told is the first thing that is wrong with the bytes.
     ensures exact { MatchResult result (IsShifts quiver.now bytes.now) (ExplainsBy (IsFirstFault quiver.now bytes.now)) }

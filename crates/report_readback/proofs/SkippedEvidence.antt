@@ -133,12 +133,12 @@ module _ (others : List (List ℕ)) (is_other : (form : Format) → is_other_hea
 
   pub evidence_is_skipped : (ds : List Declaration) (e : Evidence) → IsDeclared ds → IsTrue (list_all is_named ds) → IsWritableEvidence ds e → IsSkipped others (evidence_text ds e)
   evidence_is_skipped ds (evidence.Plain c) declared known writable =
-      certificate_is_skipped format.Plain c.claim c.denominator _ writable.claim (size_written c.denominator writable.size writable.denominator writable.in_range)
+      certificate_is_skipped format.Plain c.claim c.denominator _ writable.claim (size_written c.denominator writable.denominator)
       (rows_are_body ds over_generator c.rows (rows_written ds declared known c writable))
   evidence_is_skipped ds (evidence.Lemmas c) declared known writable =
       let written = lemmas_written ds c declared known writable in
       let opening = opening_text (head_text format.Lemmas ++ codes "\nclaim ") c.claim c.denominator in
       subst (IsSkipped others) (sym (regrouped opening (lemmas_text ds 1 c.lemmas) (codes "goal" ++ scaled_text ds c.goal) (codes "end\n")))
       (certificate_is_skipped format.Lemmas c.claim c.denominator (lemmas_text ds 1 c.lemmas ++ (codes "goal" ++ scaled_text ds c.goal)) writable.claim
-      (size_written c.denominator writable.size writable.denominator writable.in_range)
+      (size_written c.denominator writable.denominator)
       (body-append (lemmas_text ds 1 c.lemmas) (codes "goal" ++ scaled_text ds c.goal) (lemmas_are_body ds 1 c.lemmas written.lemmas) (goal_is_body ds c.goal written.goal)))

@@ -1,5 +1,5 @@
 -- Evidence within the limits of a problem, whose letters are letters of the quiver, can be written.
-use Rattle.std.proofs.Common.{◌≡◌, ◌<◌, ◌≤◌, ◌+◌, ◌^◌, ◌<ℤ◌, ℕ, suc, ℤ, pos, negsuc, List, [], ◌∷◌, arith, refl, length, get_or}
+use Rattle.std.proofs.Common.{◌<◌, ◌≤◌, ◌+◌, ◌^◌, ◌<ℤ◌, ℕ, suc, ℤ, pos, negsuc, List, [], ◌∷◌, arith, refl, length, get_or}
 use Rattle.std.specs.List.{All}
 use Rattle.std.proofs.lemmas.Int.{ints}
 use Rattle.std.proofs.lemmas.List.Elements.{All-nil, All-cons, All-head, All-tail}
@@ -17,17 +17,12 @@ use Rattle.adjoint_rules.specs.declared.problem.Problem.{Problem}
 use Rattle.adjoint_rules.specs.Limits.{generator_limit}
 use Rattle.certificate_text.specs.Evidence.{IsRowOver}
 use Rattle.certificate_text.specs.Written.{IsLemmaOver, IsEvidenceOver}
-use Rattle.certificate_text.specs.Back.{IsWritableRow, IsWritable, number_of, IsWritableLemma, IsWritableByLemmas, IsWritableEvidence}
+use Rattle.certificate_text.specs.Back.{IsWritableInteger, IsWritableRow, IsWritable, number_of, IsWritableLemma, IsWritableByLemmas, IsWritableEvidence}
 use Rattle.outcome_laws.specs.EvidenceLimits.{IsRowWithin, IsCertificateWithin, IsLemmaWithin, IsLemmaCertificateWithin, IsWithinLimits}
 
 -- ---- scales and denominators
 
-record IsSmall (z : ℤ) : Type 0 where
-  size : ℕ
-  is : z ≡ pos size
-  in_range : size < 2 ^ 127
-
-small : (z : ℤ) → pos 0 <ℤ z → IsCoefficient z → IsSmall z
+small : (z : ℤ) → pos 0 <ℤ z → IsCoefficient z → IsWritableInteger z
 small (pos n) positive within = record { size = n; is = refl; in_range = within }
 small (negsuc n) positive within = absurd (omega (arith, ints, positive))
 
@@ -47,12 +42,9 @@ module _ (ds : List Declaration) (generators : ℕ) (few : generators ≤ genera
 
   plain_writable : (number : ℕ) (c : Certificate) → number ≤ 100 → IsCertificateWithin generators number c → All (IsRowOver ds) c.rows → IsWritable ds c
   plain_writable number c early within over =
-      let denominator = small c.denominator within.positive within.denominator in
       record {
         claim = omega (arith, early, within.claim);
-        size = denominator.size;
-        denominator = denominator.is;
-        in_range = denominator.in_range;
+        denominator = small c.denominator within.positive within.denominator;
         rows = rows_writable c within.rows over;
         few = within.few;
         letters = within.letters;
@@ -62,11 +54,8 @@ module _ (ds : List Declaration) (generators : ℕ) (few : generators ≤ genera
 
   lemma_writable : (lemmas : ℕ) (l : Lemma) → lemmas ≤ 200000 → IsLemmaWithin l → NamesWithin generators lemmas l → IsLemmaOver ds l → IsWritableLemma ds l
   lemma_writable lemmas l few_lemmas within names over =
-      let scale = small l.scale within.positive within.scale in
       record {
-        size = scale.size;
-        scale = scale.is;
-        in_range = scale.in_range;
+        scale = small l.scale within.positive within.scale;
         rows = λ k row below.
             let is = within.rows k row below in
             record {
@@ -88,12 +77,9 @@ module _ (ds : List Declaration) (generators : ℕ) (few : generators ≤ genera
 
   by_lemmas_writable : (number : ℕ) (c : LemmaCertificate) → number ≤ 100 → IsLemmaCertificateWithin generators number c → All (IsLemmaOver ds) c.lemmas → IsLemmaOver ds c.goal → IsWritableByLemmas ds c
   by_lemmas_writable number c early within over goal_over =
-      let denominator = small c.denominator within.positive within.denominator in
       record {
         claim = omega (arith, early, within.claim);
-        size = denominator.size;
-        denominator = denominator.is;
-        in_range = denominator.in_range;
+        denominator = small c.denominator within.positive within.denominator;
         lemmas = lemmas_writable 0 c.lemmas (omega (arith, within.few_lemmas)) within.lemmas within.earlier over;
         goal = lemma_writable (length c.lemmas) c.goal within.few_lemmas within.goal within.goal_names goal_over;
         few_lemmas = within.few_lemmas;
