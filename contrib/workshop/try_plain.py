@@ -13,7 +13,6 @@ import itertools
 import os
 import random
 import re
-import subprocess
 import sys
 import tempfile
 from pathlib import Path
@@ -27,7 +26,7 @@ import tree
 import try_models
 from check import MODULI, Problem, Refusal
 from measuring import OPPROVE, build
-from trying import CONTRIB, EXAMPLES, Answer, Failed, Skipped, is_second, need, reads_language_2, run, tool_of
+from trying import CONTRIB, EXAMPLES, Answer, is_second, need, reads_language_2, run, run_checks, tool_of
 
 SEEDS = [1, 7, 2**64 - 1]
 COUNT = 500
@@ -293,13 +292,8 @@ CHECKS: List[Callable[[Path], str]] = [words, by_hand, runs, searches]
 def main(arguments: List[str]) -> int:
     count = int(arguments[0]) if len(arguments) == 1 and arguments[0].isdecimal() else COUNT
     with tempfile.TemporaryDirectory() as name:
-        for check in (words, by_hand, lambda folder: runs(folder, count), lambda folder: searches(folder, count)):
-            try:
-                print(f"contrib: {check(Path(name))}", flush=True)
-            except (Failed, Skipped, subprocess.TimeoutExpired) as what:
-                print(f"contrib: failed, {what}", flush=True)
-                return 1
-    return 0
+        folder = Path(name)
+        return run_checks("contrib", (lambda: words(folder), lambda: by_hand(folder), lambda: runs(folder, count), lambda: searches(folder, count)))
 
 
 if __name__ == "__main__":
