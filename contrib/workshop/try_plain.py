@@ -9,6 +9,7 @@ variable OPPROVE names a program, both are compared with that too. It wants rust
 """
 from __future__ import annotations
 
+import functools
 import itertools
 import os
 import random
@@ -23,10 +24,12 @@ import trying  # by which the scripts of other folders are found
 import candidates
 import presentations
 import tree
+import try_guide
 import try_models
+import try_why
 from check import MODULI, Problem, Refusal
 from measuring import OPPROVE, build
-from trying import CONTRIB, EXAMPLES, Answer, is_second, need, reads_language_2, run, run_checks, tool_of
+from trying import CONTRIB, EXAMPLES, TOP, Answer, is_second, need, reads_language_2, run, run_checks, tool_of
 
 SEEDS = [1, 7, 2**64 - 1]
 COUNT = 500
@@ -247,6 +250,50 @@ def by_hand(folder: Path) -> str:
     return f"{len(HEADS)} runs of plain_run.rs have the head lines that were worked out by hand, and {len(SECOND)} those of the gallery"
 
 
+class Told(NamedTuple):
+    """A run of `prove` that a document shows, with those of its words that plain_run.rs takes."""
+
+    statement: bytes
+    words: List[str]
+    report: str
+
+
+def words_kept(line: str) -> List[str]:
+    """The words of a run that plain_run.rs has too."""
+    return [word for pair in re.findall(r"(--(?:pairs|steps|format))[ =](\d+)", line) for word in pair]
+
+
+def told_runs() -> Iterator[Told]:
+    """Those of examples/words.txt and of the guide, with the files that stand there."""
+    for case in try_why.cases():
+        if case.words[:1] == ["prove"] and "s.op" in case.files and case.name not in try_why.NOT_RUN:
+            yield Told(try_why.expanded(case.files["s.op"]), words_kept(" ".join(case.words)), case.report)
+    guide = try_guide.read(try_guide.GUIDE.read_text(encoding="utf-8"))
+    for command in guide.commands:
+        name = re.match(r"\./opprove prove (\S+\.op)", command.line)
+        path = TOP / (name[1] if name else "")
+        if name and (name[1] in guide.files or path.exists()):
+            text = guide.files[name[1]].encode() if name[1] in guide.files else path.read_bytes()
+            yield Told(text, words_kept(command.line), command.shown)
+
+
+def documents(folder: Path) -> str:
+    """The head lines that documents show, but for claims that are refuted, of which plain_run.rs says what halted their run."""
+    plain, statement = build("plain_run", folder), folder / "statement.op"
+    count = 0
+    for told in told_runs():
+        statement.write_bytes(told.statement)
+        wanted = heads(told.report)
+        if wanted and not refusal(statement):
+            answer = run(plain, write_tree(statement, folder), *told.words)
+            found = heads(answer.out)
+            is_same = [want == line or " refuted" in want and " proved " not in line for want, line in zip(wanted, found)]
+            need(len(found) == len(wanted) and all(is_same), (told, found))
+            count += len(found)
+    need(count > 30, count)
+    return f"{count} head lines of the guide and of examples/words.txt are those of plain_run.rs"
+
+
 def heads(text: str) -> List[str]:
     return [line for line in text.split("\n") if line.startswith("# claim ")]
 
@@ -286,14 +333,15 @@ def words(folder: Path) -> str:
     return f"{len(cases) + 1} faulty calls of presentations.py and tree.py are told"
 
 
-CHECKS: List[Callable[[Path], str]] = [words, by_hand, runs, searches]
+CHECKS: List[Callable[[Path], str]] = [words, by_hand, documents, runs, searches]
 
 
 def main(arguments: List[str]) -> int:
     count = int(arguments[0]) if len(arguments) == 1 and arguments[0].isdecimal() else COUNT
     with tempfile.TemporaryDirectory() as name:
         folder = Path(name)
-        return run_checks("contrib", (lambda: words(folder), lambda: by_hand(folder), lambda: runs(folder, count), lambda: searches(folder, count)))
+        counted = {runs: functools.partial(runs, count=count), searches: functools.partial(searches, count=count)}
+        return run_checks("contrib", (functools.partial(counted.get(check, check), folder) for check in CHECKS))
 
 
 if __name__ == "__main__":
