@@ -1,11 +1,12 @@
 #!/usr/bin/env python3
 """Tries the plain programs plain_run.rs and plain_models.rs: try_plain.py [COUNT]
 
-Compares plain_models.rs with candidates.py, byte for byte, on the searches of try_models.py, on the examples and on COUNT
-random statements (500) of both languages: full and drawn, over all moduli, with self maps, adjoints, powers, abbreviations,
-maps that are solved for, several claims and shapes, and three seeds. Of searches that would try thousands of candidates in Python to the end one in
-five is made. Compares plain_run.rs with itself, where it looks for overlaps in two ways. Where opprove is built, or the
-variable OPPROVE names a program, both are compared with that too. It wants rustc.
+Compares plain_models.rs with candidates.py, byte for byte, on the searches of try_models.py, on the examples and on
+COUNT random statements (500) of both languages: full and drawn, over all moduli, with self maps, adjoints, powers,
+abbreviations, maps that are solved for, several claims and shapes, and three seeds. Of searches that would try
+thousands of candidates in Python to the end one in five is made. Compares plain_run.rs with itself, where it looks for
+overlaps in two ways, and with head lines that documents show. Where opprove is built, or the variable OPPROVE names a
+program, both are compared with that too. It wants rustc.
 """
 from __future__ import annotations
 
