@@ -12,7 +12,7 @@ from __future__ import annotations
 import sys
 from typing import Dict, Iterator, List, NamedTuple, Set, Tuple, Union
 
-from chain_text import LETTERS_OF_A_WORD, TERMS_OF_A_SUM, Bounded, Lines, greatness, operated
+from chain_text import LETTERS_OF_A_WORD, Bounded, Lines, add_row, greatness
 from check import Blocks, Poly, Problem, Refusal, Row, Share, Word, is_letter
 from scripts import end_quietly, load, main
 
@@ -46,13 +46,7 @@ class Cancellations(Bounded):
         Blocks.__init__(self, path)
         self.letters = problem.numbers
         self.proofs: List[Cancellation] = []
-        while self.line:
-            if self.line.startswith("cancellation "):
-                self.proofs.append(self.proof())
-            else:
-                self.skip("certificate|model|basis")
-        if not self.proofs:
-            raise Refusal("# refused K7")
+        self.read_all("cancellation", self.proofs, self.proof, "certificate|model|basis")
 
     def proof(self) -> Cancellation:
         place = self.number
@@ -132,15 +126,7 @@ class Items:
             code, count = ("C7", len(self.polys)) if row.is_lemma else ("C2", len(self.lines.generators))
             if not 1 <= row.number <= count:
                 raise Refusal(f"{self.refused} {code} row {self.row}")
-            overflow = f"{self.refused} C4 row {self.row}"
-            for middle, coefficient in self.terms_of(row):
-                word = row.left + middle + row.right
-                product = operated(row.coefficient, "times", coefficient, overflow)
-                value = operated(total.pop(word, 0), "plus", product, overflow)
-                if value:
-                    total[word] = value
-            if len(total) > TERMS_OF_A_SUM:
-                raise Refusal(f"{self.refused} C5 row {self.row} limit {TERMS_OF_A_SUM}")
+            add_row(total, row, self.terms_of(row), self.refused, self.row)
         return total
 
     def terms_of(self, row: Row) -> List[Tuple[Word, int]]:

@@ -48,6 +48,19 @@ def operated(left: int, operation: str, right: int, refused: str) -> int:
     return value
 
 
+def add_row(total: Poly, row: Row, terms: List[Tuple[Word, int]], refused: str, number: int) -> None:
+    """Adds the row with this number, in whose middle stand these terms, to a sum, unless something on the way is too large."""
+    overflow = f"{refused} C4 row {number}"
+    for middle, coefficient in terms:
+        word = row.left + middle + row.right
+        product = operated(row.coefficient, "times", coefficient, overflow)
+        value = operated(total.pop(word, 0), "plus", product, overflow)
+        if value:
+            total[word] = value
+    if len(total) > TERMS_OF_A_SUM:
+        raise Refusal(f"{refused} C5 row {number} limit {TERMS_OF_A_SUM}")
+
+
 def letters_in(line: Poly) -> int:
     return sum(map(len, line))
 
@@ -146,15 +159,7 @@ def judge_rows(lines: Lines, certificate: Certificate, refused: str) -> None:
     for number, row in enumerate(share.rows, 1):
         if not 1 <= row.number <= len(lines.generators):
             raise Refusal(f"{refused} C2 row {number}")
-        overflow = f"{refused} C4 row {number}"
-        for middle, coefficient in lines.generators[row.number - 1]:
-            word = row.left + middle + row.right
-            product = operated(row.coefficient, "times", coefficient, overflow)
-            value = operated(total.pop(word, 0), "plus", product, overflow)
-            if value:
-                total[word] = value
-        if len(total) > TERMS_OF_A_SUM:
-            raise Refusal(f"{refused} C5 row {number} limit {TERMS_OF_A_SUM}")
+        add_row(total, row, lines.generators[row.number - 1], refused, number)
     different = lines.difference(want, total)
     if different:
         raise Refusal(f"{refused} C6 {different}")

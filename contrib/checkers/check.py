@@ -13,7 +13,7 @@ from __future__ import annotations
 
 import re
 import sys
-from typing import Dict, Iterable, Iterator, List, NamedTuple, Optional, Tuple
+from typing import Callable, Dict, Iterable, Iterator, List, NamedTuple, Optional, Tuple, TypeVar
 
 Word = Tuple[int, ...]  # letters are numbers
 Poly = Dict[Word, int]  # words with their coefficients, none of which is 0
@@ -359,6 +359,7 @@ Row = NamedTuple("Row", [("coefficient", int), ("left", Word), ("is_lemma", bool
 Share = NamedTuple("Share", [("scale", int), ("rows", List[Row])])  # the rows add up to the scale times a polynomial
 # The last share is the goal's. Format 1 has no other, and its scale is the denominator.
 Certificate = NamedTuple("Certificate", [("claim", int), ("denominator", int), ("shares", List[Share])])
+Block = TypeVar("Block")
 ROW = r"row (-?[0-9]+) \( ([^()]*)\) (%s)?([0-9]+) \( ([^()]*)\)"
 
 
@@ -382,6 +383,16 @@ class Blocks:
                 self.line = " ".join(tokens)
                 return
         self.line = ""
+
+    def read_all(self, word: str, found: List[Block], block: Callable[[], Block], others: str) -> None:
+        """Finds the blocks that begin with the word, of which there has to be one, and skips those that begin with one of the others."""
+        while self.line:
+            if self.line.startswith(f"{word} "):
+                found.append(block())
+            else:
+                self.skip(others)
+        if not found:
+            raise Refusal("# refused K7")
 
     def skip(self, kinds: str) -> None:
         """Goes behind a block that begins with one of these words."""
@@ -411,13 +422,7 @@ class Evidence(Blocks):
         super().__init__(path)
         self.letters = problem.numbers
         self.certificates: List[Certificate] = []
-        while self.line:
-            if self.line.startswith("certificate "):
-                self.certificates.append(self.certificate())
-            else:
-                self.skip("model|basis")
-        if not self.certificates:
-            raise Refusal("# refused K7")
+        self.read_all("certificate", self.certificates, self.certificate, "model|basis")
 
     def certificate(self) -> Certificate:
         place, has_lemmas = self.number, self.take("certificate ([12])") == ("2",)

@@ -38,13 +38,7 @@ class Models(Blocks):
         super().__init__(path)
         self.problem = problem
         self.models: List[Model] = []
-        while self.line:
-            if self.line.startswith("model "):
-                self.models.append(self.model())
-            else:
-                self.skip("certificate|basis")
-        if not self.models:
-            raise Refusal("# refused K7")
+        self.read_all("model", self.models, self.model, "certificate|basis")
 
     def model(self) -> Model:
         place = self.number

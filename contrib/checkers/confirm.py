@@ -101,13 +101,7 @@ class Bases(Blocks):
         self.problem = problem
         self.bases: List[Basis] = []
         self.characters = {name: chr(FIRST - letter) for letter, name in enumerate(problem.names)}
-        while self.line:
-            if self.line.startswith("basis "):
-                self.bases.append(self.basis())
-            else:
-                self.skip("certificate|model|cancellation")
-        if not self.bases:
-            raise Refusal("# refused K7")
+        self.read_all("basis", self.bases, self.basis, "certificate|model|cancellation")
 
     def basis(self) -> Basis:
         place = self.number

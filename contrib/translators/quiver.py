@@ -8,16 +8,14 @@ there was no way around an object. What is wrong with the statement is told in o
 """
 from __future__ import annotations
 
-import os
 import sys
 from html import escape
 from math import gcd, hypot, isqrt
 from random import Random
 from typing import Callable, Dict, List, NamedTuple, Tuple
 
-sys.path.insert(1, os.path.join(os.path.dirname(os.path.dirname(os.path.abspath(__file__))), "checkers"))
-from check import Problem, Refusal
 from to_latex import name_in_latex
+from translation import Problem, Refusal, put
 
 Cell = Tuple[int, int]  # column and row; rows go down
 Point = Tuple[float, float]
@@ -346,23 +344,16 @@ def dot(shown: Picture) -> str:
 # ---- The command
 
 
-def main(words: List[str]) -> int:
-    """Writes the picture, or one line on standard error, and gives the status."""
+def written(words: List[str]) -> str:
+    """The text of the picture that the words name."""
     paths = [word for word in words if word[:2] != "--"]
     options = [word for word in words if word[:2] == "--"]
     writers: Dict[str, Callable[[Picture], str]] = {"--tikz": tikz, "--dot": dot}
-    try:
-        if len(paths) != 1 or len(options) > 1 or not writers.keys() >= {*options}:
-            raise Refusal("# usage: quiver.py STATEMENT [--tikz | --dot]")
-        write = writers[options[0]] if options else svg
-        text = write(picture_of(Problem(paths[0])))
-    except (Refusal, MemoryError) as refusal:
-        line = str(refusal) or "# no memory"
-        sys.stderr.buffer.write(f"{line}\n".encode("utf-8", "surrogateescape"))
-        return 1
-    sys.stdout.buffer.write(text.encode())
-    return 0
+    if len(paths) != 1 or len(options) > 1 or not writers.keys() >= {*options}:
+        raise Refusal("# usage: quiver.py STATEMENT [--tikz | --dot]")
+    write = writers[options[0]] if options else svg
+    return write(picture_of(Problem(paths[0])))
 
 
 if __name__ == "__main__":
-    sys.exit(main(sys.argv[1:]))
+    sys.exit(put(written, sys.argv[1:]))

@@ -25,11 +25,19 @@ def read(paths: List[str]) -> Tuple[Problem, List[Certificate]]:
 
 def main(translate: Callable[[Problem, List[Certificate]], List[str]]) -> int:
     """Writes the translation of the two files that are named, or one line on standard error. The status is 0 or 1."""
-    paths = sys.argv[1:]
-    try:
+
+    def translated(paths: List[str]) -> str:
         if len(paths) != 2:
             raise Refusal(f"# usage: {sys.argv[0]} STATEMENT CERTIFICATE")
-        text = "\n".join(translate(*read(paths))) + "\n"
+        return "\n".join(translate(*read(paths))) + "\n"
+
+    return put(translated, sys.argv[1:])
+
+
+def put(written: Callable[[List[str]], str], words: List[str]) -> int:
+    """Writes the text of these words, or one line on standard error, and gives the status: 0 or 1."""
+    try:
+        text = written(words)
     except (Refusal, MemoryError) as refusal:
         line = str(refusal) or "# no memory"
         sys.stderr.buffer.write(f"{line}\n".encode("utf-8", "surrogateescape"))

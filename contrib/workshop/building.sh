@@ -33,13 +33,14 @@ sources() {
 
 # The crates that the program stands on and the program, first those with the longest chain of lines above them, so each before
 # those that stand on it; behind each the seconds that it takes by itself, and the crates that it stands on. The seconds are those of
-# the table in docs/MEASUREMENTS.md, on whose figures the lines of code were fitted; the program's go into compiling and linking.
+# the tables in docs/MEASUREMENTS.md, on whose figures the lines of code and the number of these crates were fitted; the program's go
+# into compiling and linking.
 closure() {
-  (cd "$top" && awk '
+  (cd "$top" && find crates/*/src -name '*.rt' -exec awk '
     FNR == 1 { split(FILENAME, parts, "/") }
     { lines[parts[2]]++ }
-    END { for (crate in lines) print crate, lines[crate] }' crates/*/src/*.rt) | awk '
-    NR == FNR { lines[$1] = $2; next }
+    END { for (crate in lines) print crate, lines[crate] }' {} +) | awk '
+    NR == FNR { lines[$1] += $2; next }
     /^[a-z]/ { split($0, halves, ":"); split(halves[1], front, " "); below[front[1]] = halves[2]; known[front[1]] = 1 }
     function visit(crate,  names, count, i, line) {
       if (seen[crate]++) return
@@ -52,7 +53,7 @@ closure() {
       for (; last; last--) {
         count = split(printed[last], names, " "); crate = names[1]; chain = lines[crate] + above[crate]
         for (i = 2; i <= count; i++) if (above[names[i]] < chain) above[names[i]] = chain
-        sub(/^[^ ]+/, crate " " (crate == "opprove" ? 150 : int(10 + 0.19 * lines[crate])), printed[last])
+        sub(/^[^ ]+/, crate " " (crate == "opprove" ? 150 : int(10 + 0.18 * lines[crate] + 0.7 * (count - 1))), printed[last])
         print chain, printed[last]
       }
     }' - "$top/crates.txt" | sort -rn | cut -d' ' -f2-

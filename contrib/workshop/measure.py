@@ -27,7 +27,7 @@ import measure_confirm
 import measure_explain
 import measure_prove
 import measure_refute
-from measuring import OPPROVE, Text, bound, build, least, quotient, told, write
+from measuring import OPPROVE, Text, bound, build, head, least, line, quotient_text, told, write
 from trying import Failed, Skipped, need
 
 STATEMENT_LIMIT, EVIDENCE_LIMIT = 2**20, 2**26
@@ -241,8 +241,7 @@ def row(case: Case, plain: str, folder: Path) -> str:
     want = FINE if case.answer == ACCEPTED else FAULTY if case.answer.startswith("# refused S") else REFUSED
     is_right = lambda status, text: status == want and text.startswith(case.answer)
     own = least([str(OPPROVE), "check", str(statement), str(evidence)], out, is_right)
-    share = quotient(own, other)
-    return f"| {case.name} | {size:,} | {told(own)} | {told(other)} | {f'{share:.2f}' if share else ''} |"
+    return line(case.name, f"{size:,}", told(own), told(other), quotient_text(own, other))
 
 
 def build_plain(folder: Path) -> str:
@@ -255,7 +254,7 @@ def check_rows(words: List[str], folder: Path) -> Text:
     plain = build_plain(folder) if cases else ""
     bound()
     if cases:
-        yield "| | bytes | `opprove` s | MB | plain s | MB | quotient |\n|---|---|---|---|---|---|---|"
+        yield head("bytes", "`opprove` s", "MB", "plain s", "MB", "quotient")
     yield from (row(case, plain, folder) for case in cases)
     yield from [""] * (not words)
     yield from measure_commands.rows(words, folder)

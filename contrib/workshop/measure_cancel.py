@@ -8,13 +8,13 @@ makes the rows whose name begins so.
 from __future__ import annotations
 
 import filecmp
-import os
 import sys
+from functools import partial
 from pathlib import Path
-from typing import Callable, Iterator, List, NamedTuple, Optional, Tuple
+from typing import Callable, List, NamedTuple, Optional, Tuple
 
 import try_cancel_rows
-from measuring import OPPROVE, Text, Usage, bound, build, least_by, quotient, told, write
+from measuring import OPPROVE, Text, bound, build, growing, least_by, quotient_text, told, write
 
 FINE = 0
 LIMIT = 2**26  # bytes of the text
@@ -95,38 +95,29 @@ CASES = [
     Case("items: 50 of 20,000 terms", large_statement, row53, copied),
     *(Case(f"blocks: 100 in {size >> 20} MiB", lambda: CYCLE, lambda size=size: blocks(size)) for size in (LIMIT // 4, LIMIT // 2, LIMIT)),
 ]
-HEAD = "| | bytes | `cancel` s | MB | `check` s | MB | plain s | MB | by `check` | by plain | growth |\n|---|---|---|---|---|---|---|---|---|---|---|"
+NAMES = ["bytes", "`cancel` s", "MB", "`check` s", "MB", "plain s", "MB", "by `check`", "by plain"]
 
 
-def row(case: Case, before: float, plain: str, folder: Path) -> Tuple[str, float]:
-    """A line of the table, and the seconds of `cancel`: by how many times those of the row before, where it has some."""
+def cells(case: Case, plain: str, folder: Path) -> Tuple[List[str], float]:
+    """Those of a row of the table, and the seconds of `cancel`."""
     statement, proof, evidence, out, want = (folder / name for name in ("statement.op", "proof.cert", "beside.cert", "out", "want"))
     write(statement, iter([case.statement()]))
     size = write(proof, case.proof())
     other = least_by([plain, "cancel", str(statement), str(proof)], want, lambda status: status == FINE)
     own = least_by([str(OPPROVE), "cancel", str(statement), str(proof)], out, lambda status: status == FINE and filecmp.cmp(out, want, shallow=False))
-    beside: Optional[Usage] = None
+    beside = (" | ", "")
     if case.beside:
         write(evidence, case.beside())
-        beside = least_by([str(OPPROVE), "check", str(statement), str(evidence)], out, lambda status: status == FINE)
-    shares = f"{quotient(own, beside):.2f}" if beside else "", f"{quotient(own, other):.2f}"
-    growth = f"{own.seconds / before:.1f}" if before else ""
-    parts = [case.name, f"{size:,}", told(own), told(beside) if beside else " | ", told(other), *shares, growth]
-    return f"| {' | '.join(parts)} |", own.seconds
+        checked = least_by([str(OPPROVE), "check", str(statement), str(evidence)], out, lambda status: status == FINE)
+        beside = (told(checked), quotient_text(own, checked))
+    return [f"{size:,}", told(own), beside[0], told(other), beside[1], quotient_text(own, other)], own.seconds
 
 
-def rows(names: List[str], folder: Path) -> Iterator[str]:
-    plain, start = build("plain", folder), tuple(names[:1]) or ("",)
+def rows(words: List[str], folder: Path) -> Text:
+    plain = build("plain", folder)
     bound()
-    yield f"load {' '.join(f'{load:.1f}' for load in os.getloadavg())} on {os.cpu_count()} processors\n"
-    yield HEAD
-    before = 0.0
-    for case in CASES:
-        if case.name.startswith(start):
-            is_longer = case.name.startswith("blocks")
-            line, seconds = row(case, before if is_longer else 0.0, plain, folder)
-            before = seconds if is_longer else 0.0
-            yield line
+    made = ((case.name, partial(cells, case, plain, folder)) for case in CASES)
+    return growing(NAMES, made, words, "blocks")
 
 
 if __name__ == "__main__":

@@ -10,7 +10,7 @@ import sys
 from pathlib import Path
 from typing import Callable, List, NamedTuple, Optional
 
-from measuring import OPPROVE, Text, least, quotient, told, write
+from measuring import OPPROVE, Text, head, least, line, quotient_text, told, write
 
 FINE, UNDECIDED = 0, 12
 
@@ -67,18 +67,18 @@ def row(command: Command, folder: Path) -> str:
     size += write(paths[1], command.evidence()) if command.evidence else 0
     words = [str(OPPROVE), command.words[0], *map(str, paths if command.evidence else paths[:1]), *command.words[1:]]
     own = least(words, out, lambda status, text: status == command.status and text.startswith(command.answer))
-    report, beside, share = out.read_text(encoding="utf-8"), "| ", 0.0
+    report, beside = out.read_text(encoding="utf-8"), (" | ", "")
     if command.beside:
         write(paths[0], command.beside())
         other = least(words, out, lambda status, text: (status, text) == (command.status, report))
-        beside, share = told(other), quotient(own, other)
-    return f"| {command.name} | {size:,} | {told(own)} | {beside} | {f'{share:.2f}' if share else ''} |"
+        beside = (told(other), quotient_text(own, other))
+    return line(command.name, f"{size:,}", told(own), *beside)
 
 
 def rows(words: List[str], folder: Path) -> Text:
     commands = [command for command in COMMANDS if command.name.startswith("".join(words[:1]))]
     if commands:
-        yield "| | bytes | `opprove` s | MB | beside s | MB | quotient |\n|---|---|---|---|---|---|---|"
+        yield head("bytes", "`opprove` s", "MB", "beside s", "MB", "quotient")
     yield from (row(command, folder) for command in commands)
 
 

@@ -8,13 +8,13 @@ NAME behind the word makes the rows whose name begins so.
 from __future__ import annotations
 
 import itertools
-import os
 import sys
+from functools import partial
 from pathlib import Path
 from random import Random
 from typing import Callable, Iterator, List, NamedTuple, Tuple
 
-from measuring import OPPROVE, Text, Usage, bound, build, least, least_by, quotient, told, write
+from measuring import OPPROVE, Text, Usage, bound, build, growing, least, least_by, quotient_text, told, write
 
 FINE, REFUSED, UNDERIVABLE = 0, 7, 10
 LIMIT = 2**26  # bytes of the text
@@ -78,25 +78,24 @@ CASES = [
     Case("reading: the same, and a line that isn't in the grammar", lambda: basis(long_rules(), "rest c c'' \n"), False),
 ]
 BENCH = f"prove's basis of `bench {SIZE}`'s statement"
-HEAD = "| | bytes | `confirm` s | MB | beside it s | MB | quotient | growth |\n|---|---|---|---|---|---|---|---|"
+NAMES = ["bytes", "`confirm` s", "MB", "beside it s", "MB", "quotient"]
 
 
-def line(name: str, size: int, own: Usage, other: Usage, growth: str) -> str:
-    share = quotient(own, other)
-    return f"| {name} | {size:,} | {told(own)} | {told(other)} | {f'{share:.2f}' if share else ''} | {growth} |"
+def cells(size: int, own: Usage, other: Usage) -> Tuple[List[str], float]:
+    """Those of a row of the table, and the seconds of `confirm`."""
+    return [f"{size:,}", told(own), told(other), quotient_text(own, other)], own.seconds
 
 
-def bench_row(folder: Path) -> str:
+def bench_cells(folder: Path) -> Tuple[List[str], float]:
     statement, report, out = (folder / name for name in ("bench.op", "bench.basis", "out"))
     write(statement, iter([bench(SIZE)]))
     proved = least_by([str(OPPROVE), "prove", str(statement)], report, lambda status: status == UNDERIVABLE)
     is_right = lambda status, text: status == FINE and text == CLOSED.replace("claim 1", "claim 2")
     own = least([str(OPPROVE), "confirm", str(statement), str(report)], out, is_right)
-    return line(BENCH, report.stat().st_size, own, proved, "")
+    return cells(report.stat().st_size, own, proved)
 
 
-def row(case: Case, before: float, plain: str, folder: Path) -> Tuple[str, float]:
-    """A line of the table, and the seconds of `confirm`: by how many times those of the row before, where it has some."""
+def case_cells(case: Case, plain: str, folder: Path) -> Tuple[List[str], float]:
     statement, text, out = (folder / name for name in ("statement.op", "text.basis", "out"))
     write(statement, iter([STATEMENT]))
     size = write(text, case.basis())
@@ -104,25 +103,14 @@ def row(case: Case, before: float, plain: str, folder: Path) -> Tuple[str, float
     is_right = lambda found, report: found == status and (report == CLOSED or not case.is_closed)
     other = least([plain, "confirm", *files], out, is_right)
     is_told = lambda found, report: is_right(found, report) and (case.is_closed or report.startswith("# refused K2 line "))
-    own = least([str(OPPROVE), "confirm", *files], out, is_told)
-    growth = f"{own.seconds / before:.1f}" if before else ""
-    return line(case.name, size, own, other, growth), own.seconds
+    return cells(size, least([str(OPPROVE), "confirm", *files], out, is_told), other)
 
 
-def rows(names: List[str], folder: Path) -> Text:
-    plain, start = build("plain", folder), tuple(names[:1]) or ("",)
+def rows(words: List[str], folder: Path) -> Text:
+    plain = build("plain", folder)
     bound()
-    yield f"load {' '.join(f'{load:.1f}' for load in os.getloadavg())} on {os.cpu_count()} processors\n"
-    yield HEAD
-    if BENCH.startswith(start):
-        yield bench_row(folder)
-    before = 0.0
-    for case in CASES:
-        if case.name.startswith(start):
-            is_apart = case.name.startswith("apart")
-            text, seconds = row(case, before if is_apart else 0.0, plain, folder)
-            before = seconds if is_apart else 0.0
-            yield text
+    made = [(BENCH, partial(bench_cells, folder)), *((case.name, partial(case_cells, case, plain, folder)) for case in CASES)]
+    return growing(NAMES, made, words, "apart")
 
 
 if __name__ == "__main__":

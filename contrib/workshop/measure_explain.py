@@ -8,13 +8,13 @@ from __future__ import annotations
 
 import filecmp
 import itertools
-import os
 import sys
+from functools import partial
 from pathlib import Path
 from typing import Callable, List, NamedTuple, Tuple
 
 import try_explain_rows
-from measuring import NO_MEMORY, OPPROVE, Text, Usage, bound, build, least_by, quotient, told, write
+from measuring import NO_MEMORY, OPPROVE, Text, Usage, bound, build, growing, least_by, quotient_text, told, write
 
 FINE = 0
 TEN = list("abcdefghij")
@@ -69,6 +69,9 @@ CASES = [
 ]
 
 
+NAMES = ["bytes", "`explain` s", "MB", "`check` s", "MB", "plain s", "MB", "by plain", "by `check`", "beside `check`"]
+
+
 def runs(case: Case, plain: str, folder: Path) -> Tuple[int, Usage, Usage, Usage]:
     """The bytes of the report, and the runs of `explain`, of `check` and of the plain program."""
     statement, evidence, out, want = (folder / name for name in ("statement.op", "evidence.cert", "out", "want"))
@@ -82,29 +85,19 @@ def runs(case: Case, plain: str, folder: Path) -> Tuple[int, Usage, Usage, Usage
     return want.stat().st_size, own, checked, other
 
 
-def row(case: Case, before: float, plain: str, folder: Path) -> Tuple[str, float]:
-    """A line of the table, and the seconds of `explain`: by how many times those of the row before, where it has some."""
+def cells(case: Case, plain: str, folder: Path) -> Tuple[List[str], float]:
+    """Those of a row of the table, and the seconds of `explain`."""
     size, own, checked, other = runs(case, plain, folder)
-    share, more = quotient(own, other), quotient(own, checked)
     above = "" if NO_MEMORY in (own.status, checked.status) else f"{1e6 * (own.megabytes - checked.megabytes) / size:.2f}"
-    growth = f"{own.seconds / before:.1f}" if before else ""
-    times = f"{share:.2f} | {more:.2f} | {above} | {growth} |"
-    return f"| {case.name} | {size:,} | {told(own)} | {told(checked)} | {told(other)} | {times}", own.seconds
+    times = [quotient_text(own, other), quotient_text(own, checked), above]
+    return [f"{size:,}", told(own), told(checked), told(other), *times], own.seconds
 
 
 def rows(words: List[str], folder: Path) -> Text:
     plain = build("plain", folder)
     bound()
-    yield f"load {' '.join(f'{load:.1f}' for load in os.getloadavg())} on {os.cpu_count()} processors\n"
-    yield "| | bytes | `explain` s | MB | `check` s | MB | plain s | MB | by plain | by `check` | beside `check` | growth |"
-    yield "|---|---|---|---|---|---|---|---|---|---|---|---|"
-    before = 0.0
-    for case in CASES:
-        if case.name.startswith(tuple(words[:1]) or ("",)):
-            is_longer = case.name.startswith("letters")
-            line, seconds = row(case, before if is_longer else 0.0, plain, folder)
-            before = seconds if is_longer else 0.0
-            yield line
+    made = ((case.name, partial(cells, case, plain, folder)) for case in CASES)
+    return growing(NAMES, made, words, "letters")
 
 
 if __name__ == "__main__":

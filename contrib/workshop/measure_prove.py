@@ -3,11 +3,11 @@
 Ten problems of the examples and of the generators beside this file, each with so many pairs, in format 1, with one worker
 and without models. Both programs have to print the same head lines. What `prove` reads is the statement; the plain program
 reads the tree that tree.py makes of it. PAIRS behind the word makes the rows with so many pairs, and NAME those whose name
-begins so.
+begins so. `growth` is by how many times the seconds of `prove` grow from one number of pairs to the next.
 """
 from __future__ import annotations
 
-import os
+import itertools
 import sys
 from pathlib import Path
 from typing import Callable, Dict, List, Tuple
@@ -17,10 +17,11 @@ import costly
 import presentations
 import tree
 from check import Problem
-from measuring import NO_MEMORY, OPPROVE, Text, Usage, bound, build, least, quotient, told, write
+from measuring import NO_MEMORY, OPPROVE, Text, Usage, bound, build, head, least, line, load, quotient, quotient_text, told, write
 from trying import EXAMPLES
 
 PAIRS = [1000, 5000, 20000]
+ENDED = (0, 10, 12)  # the statuses of proved, underivable and undecided claims
 
 
 def example(name: str) -> Callable[[], str]:
@@ -57,40 +58,51 @@ def both(text: str, pairs: int, plain: str, folder: Path) -> Tuple[Usage, Usage]
     words = [plain, str(lines), "--pairs", str(pairs), "--format", "1"]
     other = least(words, out, lambda status, text: status == 0)
     want = heads(out.read_text(encoding="utf-8"))
-    is_right = lambda status, text: status in (0, 10, 12) and (other.status == NO_MEMORY or heads(text) == want)
+    is_right = lambda status, text: status in ENDED and (other.status == NO_MEMORY or heads(text) == want)
     return least(prove_words(statement, pairs, 1), out, is_right), other
+
+
+def asked(words: List[str]) -> Tuple[List[int], List[str]]:
+    """The numbers of pairs among the words, and the names of the problems that begin as one of the others, or all."""
+    starts = tuple(word for word in words if not word.isdecimal()) or ("",)
+    return [int(word) for word in words if word.isdecimal()], [name for name in PROBLEMS if name.startswith(starts)]
 
 
 def rows(words: List[str], folder: Path) -> Text:
     plain = build("plain_run", folder)
     bound()
-    counts = [int(word) for word in words if word.isdecimal()] or PAIRS
-    names = tuple(word for word in words if not word.isdecimal()) or ("",)
-    yield "| | pairs | `prove` s | MB | plain s | MB | quotient |\n|---|---|---|---|---|---|---|"
-    for pairs in counts:
+    counts, names = asked(words)
+    before: Dict[str, Usage] = {}  # the runs with as many pairs as the line before has
+    yield load()
+    yield head("pairs", "`prove` s", "MB", "plain s", "MB", "quotient", "growth")
+    for pairs in counts or PAIRS:
         shares = []
-        for name in (name for name in PROBLEMS if name.startswith(names)):
+        for name in names:
             own, other = both(PROBLEMS[name](), pairs, plain, folder)
-            share = quotient(own, other)
-            shares += [share] if share else []
-            yield f"| {name} | {pairs:,} | {told(own)} | {told(other)} | {f'{share:.2f}' if share else ''} |"
+            shares.append(quotient(own, other))
+            growth = quotient_text(own, before[name]) if name in before else ""
+            before[name] = own
+            yield line(name, f"{pairs:,}", told(own), told(other), quotient_text(own, other), growth)
+        shares = [share for share in shares if share]
         if shares:
-            yield f"| mean; greatest | {pairs:,} | | | | | {sum(shares) / len(shares):.2f}; {max(shares):.2f} |"
+            yield line("mean; greatest", f"{pairs:,}", "", "", "", "", f"{sum(shares) / len(shares):.2f}; {max(shares):.2f}", "")
 
 
 def worker_rows(words: List[str], folder: Path) -> Text:
-    """Heavy reductions with one, two and four workers: seconds from start to end, and those of processors."""
+    """Heavy reductions with one, two and four workers, which print the same bytes: seconds from start to end, and those of processors."""
     statement, out = folder / "statement.op", folder / "out"
-    pairs = int(words[0]) if words and words[0].isdecimal() else PAIRS[0]
-    yield f"load {' '.join(f'{load:.1f}' for load in os.getloadavg())} on {os.cpu_count()} processors\n"
-    yield "| | pairs | workers | seconds | of processors | times as fast |\n|---|---|---|---|---|---|"
-    for name, text in PROBLEMS.items():
-        write(statement, iter([text()]))
-        first = 0.0
+    counts, names = asked(words)
+    yield load()
+    yield head("pairs", "workers", "seconds", "of processors", "times as fast", "times the processors")
+    for pairs, name in itertools.product(counts or PAIRS[:1], names):
+        write(statement, iter([PROBLEMS[name]()]))
+        alone, report = None, ""
         for workers in (1, 2, 4):
-            usage = least(prove_words(statement, pairs, workers), out, lambda status, text: status in (0, 10, 12))
-            first = first or usage.wall
-            yield f"| {name} | {pairs:,} | {workers} | {usage.wall:.3f} | {usage.seconds:.3f} | {first / usage.wall:.2f} |"
+            is_right = lambda status, text: status in ENDED and (alone is None or text == report)
+            usage = least(prove_words(statement, pairs, workers), out, is_right)
+            alone, report = alone or usage, report or out.read_text(encoding="utf-8")
+            shares = [f"{alone.wall / usage.wall:.2f}", quotient_text(usage, alone)]
+            yield line(name, f"{pairs:,}", f"{workers}", f"{usage.wall:.3f}", f"{usage.seconds:.3f}", *shares)
 
 
 if __name__ == "__main__":

@@ -15,7 +15,7 @@ import trying  # by which the scripts of other folders are found
 import presentations
 import tree
 from check import Problem
-from measuring import OPPROVE, Text, bound, build, least, quotient, told, write
+from measuring import OPPROVE, Text, bound, build, head, least, line, quotient_text, told, write
 
 NOT_REFUTED = 13
 
@@ -100,14 +100,13 @@ def row(name: str, plain: str, folder: Path) -> str:
     other = least([plain, str(lines)], out, lambda status, text: status == NOT_REFUTED)
     want = out.read_text(encoding="utf-8")
     own = least([str(OPPROVE), "refute", str(statement), "--workers", "1"], out, lambda status, text: (status, text) == (NOT_REFUTED, want))
-    share = quotient(own, other)
-    return f"| {name} | {told(own)} | {told(other)} | {f'{share:.2f}' if share else ''} |"
+    return line(name, told(own), told(other), quotient_text(own, other))
 
 
 def rows(words: List[str], folder: Path) -> Text:
     plain = build("plain_models", folder)
     bound()
-    yield "| | `refute` s | MB | plain s | MB | quotient |\n|---|---|---|---|---|---|"
+    yield head("`refute` s", "MB", "plain s", "MB", "quotient")
     for name in SEARCHES:
         if name.startswith(tuple(words[:1])) or not words:
             yield row(name, plain, folder)

@@ -1,11 +1,11 @@
-"""What measure.py and its tables share: plain programs that are built, and runs whose time and memory is told."""
+"""What measure.py and its tables share: plain programs that are built, runs whose time and memory is told, and lines of tables."""
 from __future__ import annotations
 
 import os
 import resource
 import time
 from pathlib import Path
-from typing import Callable, Iterator, List, NamedTuple
+from typing import Callable, Iterable, Iterator, List, NamedTuple, Sequence, Tuple
 
 from trying import CONTRIB, PROGRAM, Failed, installed, need, run
 
@@ -80,3 +80,40 @@ def told(usage: Usage) -> str:
 def quotient(own: Usage, other: Usage) -> float:
     """Of the times, and 0 where there is none."""
     return 0.0 if NO_MEMORY in (own.status, other.status) or not other.seconds else own.seconds / other.seconds
+
+
+def quotient_text(own: Usage, other: Usage) -> str:
+    share = quotient(own, other)
+    return f"{share:.2f}" if share else ""
+
+
+# The name of a row, and what makes its cells, with the seconds that grow.
+Row = Tuple[str, Callable[[], Tuple[List[str], float]]]
+
+
+def load() -> str:
+    """A line on what else runs on the machine."""
+    return f"load {' '.join(f'{load:.1f}' for load in os.getloadavg())} on {os.cpu_count()} processors\n"
+
+
+def head(*names: str) -> str:
+    """The two lines above a table, whose first column has no name."""
+    return f"| | {' | '.join(names)} |\n|{'---|' * (len(names) + 1)}"
+
+
+def line(*cells: str) -> str:
+    return f"| {' | '.join(cells)} |"
+
+
+def growing(names: Sequence[str], rows: Iterable[Row], words: List[str], longer: str) -> Text:
+    """The table of the rows whose name begins with the word, where there is one, behind the load. Those whose name begins with `longer`
+    end with by how many times the seconds grow from one to the next."""
+    yield load()
+    yield head(*names, "growth")
+    before = 0.0
+    for name, made in rows:
+        if name.startswith("".join(words[:1])):
+            cells, seconds = made()
+            is_longer = name.startswith(longer)
+            yield line(name, *cells, f"{seconds / before:.1f}" if before and is_longer else "")
+            before = seconds if is_longer else 0.0

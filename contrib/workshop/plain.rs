@@ -12,6 +12,7 @@
 mod plain_cancel;
 mod plain_chain;
 mod plain_confirm;
+mod plain_sums;
 
 use std::collections::hash_map::Entry;
 use std::collections::HashMap;

@@ -9,6 +9,7 @@ use std::cmp::Ordering;
 use std::collections::HashMap;
 use std::vec::IntoIter;
 
+use super::plain_sums::{self, greatest_divisor};
 use super::{at, Answer, Ends, Letter, Polynomial, Problem, Word};
 
 const RULE_LIMIT: usize = 100_000;
@@ -142,14 +143,6 @@ fn times(left: i128, right: i128) -> Answer<i128> {
     product.ok_or_else(|| "a product is too large".to_string())
 }
 
-fn greatest_divisor(left: i128, right: i128) -> i128 {
-    let (mut left, mut right) = (left.unsigned_abs(), right.unsigned_abs());
-    while right != 0 {
-        (left, right) = (right, left % right);
-    }
-    left as i128
-}
-
 fn scale<'a>(numbers: impl Iterator<Item = &'a mut i128>, by: i128) -> Answer<()> {
     for number in numbers {
         *number = times(*number, by)?;
@@ -167,27 +160,13 @@ fn multiple(factor: i128, left: &[Letter], terms: &[Term], right: &[Letter]) -> 
 }
 
 /// The sum of terms, which are moved, and whose words descend.
-fn sum(mut left: IntoIter<Term>, mut right: IntoIter<Term>) -> Answer<Vec<Term>> {
-    let mut total = Vec::with_capacity(left.len() + right.len());
-    loop {
-        let order = match (left.as_slice().first(), right.as_slice().first()) {
-            (Some(one), Some(other)) => compared(&one.1, &other.1),
-            (Some(_), None) => Ordering::Greater,
-            (None, Some(_)) => Ordering::Less,
-            (None, None) => return Ok(total),
-        };
-        match order {
-            Ordering::Greater => total.extend(left.next()),
-            Ordering::Less => total.extend(right.next()),
-            Ordering::Equal => {
-                for (one, other) in left.next().into_iter().zip(right.next()) {
-                    let value = one.0.checked_add(other.0).filter(|number| *number != i128::MIN);
-                    let value = value.ok_or("a sum is too large")?;
-                    total.extend((value != 0).then_some((value, one.1)));
-                }
-            }
-        }
-    }
+fn sum(left: IntoIter<Term>, right: IntoIter<Term>) -> Answer<Vec<Term>> {
+    let compare = |one: &Term, other: &Term| compared(&one.1, &other.1);
+    plain_sums::sum(left, right, compare, |(one, word), (other, _)| {
+        let value = one.checked_add(other).filter(|number| *number != i128::MIN);
+        let value = value.ok_or("a sum is too large")?;
+        Ok((value != 0).then_some((value, word)))
+    })
 }
 
 fn check_size(longest: usize, count: usize) -> Answer<()> {

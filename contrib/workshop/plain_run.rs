@@ -6,10 +6,12 @@
 //! is looked up in a tree of the leading words' letters, and what overlaps a new one in two sorted tables of the leading
 //! words; with `--pairwise` each new one is compared with each old one. What is pending stands in an ordered set.
 //! By weights, where several coefficients of one step are too large, another one of these may be told than `prove` tells.
-//! `rustc -O contrib/workshop/plain_run.rs` builds it with `plain_tree.rs`; `measure.py` runs it.
+//! `rustc -O contrib/workshop/plain_run.rs` builds it with `plain_tree.rs` and `plain_sums.rs`; `measure.py` runs it.
 
+mod plain_sums;
 mod plain_tree;
 
+use plain_sums::greatest_divisor;
 use plain_tree::{Answer, Letter, Polynomial, Tree, Word};
 use std::cmp::Ordering;
 use std::collections::{BTreeMap, BTreeSet, HashMap};
@@ -93,14 +95,6 @@ fn plus(left: i128, right: i128) -> Result<i128> {
     in_range(left.checked_add(right), left, "plus", right)
 }
 
-fn greatest_divisor(left: i128, right: i128) -> i128 {
-    let (mut left, mut right) = (left.unsigned_abs(), right.unsigned_abs());
-    while right != 0 {
-        (left, right) = (right, left % right);
-    }
-    left as i128
-}
-
 // ---- Polynomials
 
 #[derive(Clone)]
@@ -120,26 +114,11 @@ fn compare(left: &Term, right: &Term) -> Ordering {
 }
 
 /// The sum of two polynomials, whose terms are moved.
-fn sum(mut left: IntoIter<Term>, mut right: IntoIter<Term>) -> Result<Poly> {
-    let mut total = Vec::with_capacity(left.len() + right.len());
-    loop {
-        let order = match (left.as_slice().first(), right.as_slice().first()) {
-            (Some(one), Some(other)) => compare(one, other),
-            (Some(_), None) => Ordering::Greater,
-            (None, Some(_)) => Ordering::Less,
-            (None, None) => return Ok(total),
-        };
-        match order {
-            Ordering::Greater => total.extend(left.next()),
-            Ordering::Less => total.extend(right.next()),
-            Ordering::Equal => {
-                for (mut term, other) in left.next().into_iter().zip(right.next()) {
-                    term.coefficient = plus(term.coefficient, other.coefficient)?;
-                    total.extend((term.coefficient != 0).then_some(term));
-                }
-            }
-        }
-    }
+fn sum(left: IntoIter<Term>, right: IntoIter<Term>) -> Result<Poly> {
+    plain_sums::sum(left, right, compare, |mut term, other| {
+        term.coefficient = plus(term.coefficient, other.coefficient)?;
+        Ok((term.coefficient != 0).then_some(term))
+    })
 }
 
 fn multiply_terms(terms: &mut [Term], by: i128) -> Result<()> {

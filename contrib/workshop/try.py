@@ -12,7 +12,6 @@ import functools
 import json
 import os
 import re
-import subprocess
 import sys
 import tempfile
 from pathlib import Path
@@ -35,7 +34,7 @@ import try_plain
 import try_python
 import try_release
 import try_why
-from trying import CONTRIB, EXAMPLES, PROGRAM, TOP, Answer, Failed, Skipped, decided, installed, is_second, need, reads_language_2, run, tool_of
+from trying import CONTRIB, EXAMPLES, PROGRAM, TOP, Answer, Skipped, decided, installed, is_second, need, reads_language_2, run, run_checks, tool_of
 
 # ---- The two checkers
 
@@ -414,15 +413,7 @@ def main(words: List[str]) -> int:
         if not checks.keys() >= {*words}:
             print(f"contrib: usage: try.py [{' | '.join(checks)}] ..", flush=True)
             return 1
-        for check in [check for word in words or checks for check in checks[word]]:
-            try:
-                print(f"contrib: {check()}", flush=True)
-            except Skipped as what:
-                print(f"contrib: skipped, {what}", flush=True)
-            except (Failed, OSError, subprocess.TimeoutExpired) as what:
-                print(f"contrib: failed, {what}", flush=True)
-                return 1
-    return 0
+        return run_checks("contrib", (check for word in words or checks for check in checks[word]))
 
 
 if __name__ == "__main__":

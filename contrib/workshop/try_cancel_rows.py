@@ -1,7 +1,7 @@
 """Runs of `cancel` whose reports were worked out by hand, for try_cancel.py: statements, texts of proofs and what is printed of them."""
 from __future__ import annotations
 
-from typing import List, NamedTuple, Sequence, Tuple
+from typing import List, NamedTuple, Tuple
 
 GREATEST = 2**127 - 1
 M, M1 = str(GREATEST), str(GREATEST + 1)

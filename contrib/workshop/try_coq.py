@@ -7,13 +7,13 @@ one coqc at a time, of 0.4 GB and for 10,000 rows of 0.6 GB. Seconds are those o
 """
 from __future__ import annotations
 
+import functools
 import importlib
 import os
 import random
 import re
 import resource
 import shutil
-import subprocess
 import sys
 import tempfile
 from pathlib import Path
@@ -23,7 +23,7 @@ sys.dont_write_bytecode = True
 import trying  # by which the scripts of other folders are found
 from check import Poly, Problem, Row, Word, add
 from to_coq import RESERVED
-from trying import CONTRIB, EXAMPLES, PROGRAM, Answer, Failed, Skipped, decided, installed, need, run
+from trying import CONTRIB, EXAMPLES, PROGRAM, Answer, Skipped, decided, installed, need, run, run_checks
 
 trials = importlib.import_module("try")  # whose name is a word of Python
 CLOSED = "Closed under the global context\n"
@@ -385,15 +385,7 @@ def main() -> int:
         except Skipped as what:
             print(f"coq: skipped, {what}")
             return 0
-        for check in CHECKS:
-            try:
-                print(f"coq: {check(coq)}", flush=True)
-            except Skipped as what:
-                print(f"coq: skipped, {what}", flush=True)
-            except (Failed, OSError, subprocess.TimeoutExpired) as what:
-                print(f"coq: failed, {what}", flush=True)
-                return 1
-    return 0
+        return run_checks("coq", (functools.partial(check, coq) for check in CHECKS))
 
 
 if __name__ == "__main__":

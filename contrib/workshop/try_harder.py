@@ -23,7 +23,7 @@ import check_model
 import join
 import variants
 from check import Certificate, Evidence, Poly, Problem, Refusal, Row, Share, add, judge
-from trying import CONTRIB, EXAMPLES, PROGRAM, Answer, Failed, Skipped, need, run, tool_of
+from trying import CONTRIB, EXAMPLES, PROGRAM, Answer, Skipped, need, run, run_checks, tool_of
 
 OPPROVE = os.environ.get("OPPROVE", str(PROGRAM))
 
@@ -508,15 +508,7 @@ def main(words: List[str]) -> int:
         if words == ["table"]:
             table(Path(name))
             return 0
-        for check in checks(Path(name), int(words[0]) if words else 500):
-            try:
-                print(f"contrib: {check()}", flush=True)
-            except Skipped as what:
-                print(f"contrib: skipped, {what}", flush=True)
-            except (Failed, Refusal, OSError, subprocess.TimeoutExpired) as what:
-                print(f"contrib: failed, {what}", flush=True)
-                return 1
-    return 0
+        return run_checks("contrib", checks(Path(name), int(words[0]) if words else 500))
 
 
 if __name__ == "__main__":

@@ -8,13 +8,12 @@ import re
 import select
 import shutil
 import signal
-import stat
 import subprocess
 import time
 from pathlib import Path
 from typing import Callable, Dict, Iterator, List, NamedTuple, Tuple
 
-from trying import CONTRIB, TOP, Skipped, installed, need
+from trying import CONTRIB, TOP, installed, need
 
 PARTS = ("opprove", "unproved", "docs/COMMANDS.md")
 SCRIPTS = ("*/*.sh", "editors/why*.py", "checkers/*.py")

@@ -1,19 +1,20 @@
 #!/usr/bin/env python3
 """Tries the plain programs plain_run.rs and plain_models.rs: try_plain.py [COUNT]
 
-Compares plain_models.rs with candidates.py, byte for byte, on the searches of try_models.py, on the examples and on COUNT
-random statements (500) of both languages: full and drawn, over all moduli, with self maps, adjoints, powers, abbreviations,
-maps that are solved for, several claims and shapes, and three seeds. Of searches that would try thousands of candidates in Python to the end one in
-five is made. Compares plain_run.rs with itself, where it looks for overlaps in two ways. Where opprove is built, or the
-variable OPPROVE names a program, both are compared with that too. It wants rustc.
+Compares plain_models.rs with candidates.py, byte for byte, on the searches of try_models.py, on the examples and on
+COUNT random statements (500) of both languages: full and drawn, over all moduli, with self maps, adjoints, powers,
+abbreviations, maps that are solved for, several claims and shapes, and three seeds. Of searches that would try
+thousands of candidates in Python to the end one in five is made. Compares plain_run.rs with itself, where it looks for
+overlaps in two ways, and with head lines that documents show. Where opprove is built, or the variable OPPROVE names a
+program, both are compared with that too. It wants rustc.
 """
 from __future__ import annotations
 
+import functools
 import itertools
 import os
 import random
 import re
-import subprocess
 import sys
 import tempfile
 from pathlib import Path
@@ -24,10 +25,12 @@ import trying  # by which the scripts of other folders are found
 import candidates
 import presentations
 import tree
+import try_guide
 import try_models
+import try_why
 from check import MODULI, Problem, Refusal
 from measuring import OPPROVE, build
-from trying import CONTRIB, EXAMPLES, Answer, Failed, Skipped, is_second, need, reads_language_2, run, tool_of
+from trying import CONTRIB, EXAMPLES, TOP, Answer, is_second, need, reads_language_2, run, run_checks, tool_of
 
 SEEDS = [1, 7, 2**64 - 1]
 COUNT = 500
@@ -248,6 +251,50 @@ def by_hand(folder: Path) -> str:
     return f"{len(HEADS)} runs of plain_run.rs have the head lines that were worked out by hand, and {len(SECOND)} those of the gallery"
 
 
+class Told(NamedTuple):
+    """A run of `prove` that a document shows, with those of its words that plain_run.rs takes."""
+
+    statement: bytes
+    words: List[str]
+    report: str
+
+
+def words_kept(line: str) -> List[str]:
+    """The words of a run that plain_run.rs has too."""
+    return [word for pair in re.findall(r"(--(?:pairs|steps|format))[ =](\d+)", line) for word in pair]
+
+
+def told_runs() -> Iterator[Told]:
+    """Those of examples/words.txt and of the guide, with the files that stand there."""
+    for case in try_why.cases():
+        if case.words[:1] == ["prove"] and "s.op" in case.files and case.name not in try_why.NOT_RUN:
+            yield Told(try_why.expanded(case.files["s.op"]), words_kept(" ".join(case.words)), case.report)
+    guide = try_guide.read(try_guide.GUIDE.read_text(encoding="utf-8"))
+    for command in guide.commands:
+        name = re.match(r"\./opprove prove (\S+\.op)", command.line)
+        path = TOP / (name[1] if name else "")
+        if name and (name[1] in guide.files or path.exists()):
+            text = guide.files[name[1]].encode() if name[1] in guide.files else path.read_bytes()
+            yield Told(text, words_kept(command.line), command.shown)
+
+
+def documents(folder: Path) -> str:
+    """The head lines that documents show, but for claims that are refuted, of which plain_run.rs says what halted their run."""
+    plain, statement = build("plain_run", folder), folder / "statement.op"
+    count = 0
+    for told in told_runs():
+        statement.write_bytes(told.statement)
+        wanted = heads(told.report)
+        if wanted and not refusal(statement):
+            answer = run(plain, write_tree(statement, folder), *told.words)
+            found = heads(answer.out)
+            is_same = [want == line or " refuted" in want and " proved " not in line for want, line in zip(wanted, found)]
+            need(len(found) == len(wanted) and all(is_same), (told, found))
+            count += len(found)
+    need(count > 30, count)
+    return f"{count} head lines of the guide and of examples/words.txt are those of plain_run.rs"
+
+
 def heads(text: str) -> List[str]:
     return [line for line in text.split("\n") if line.startswith("# claim ")]
 
@@ -287,19 +334,15 @@ def words(folder: Path) -> str:
     return f"{len(cases) + 1} faulty calls of presentations.py and tree.py are told"
 
 
-CHECKS: List[Callable[[Path], str]] = [words, by_hand, runs, searches]
+CHECKS: List[Callable[[Path], str]] = [words, by_hand, documents, runs, searches]
 
 
 def main(arguments: List[str]) -> int:
     count = int(arguments[0]) if len(arguments) == 1 and arguments[0].isdecimal() else COUNT
     with tempfile.TemporaryDirectory() as name:
-        for check in (words, by_hand, lambda folder: runs(folder, count), lambda folder: searches(folder, count)):
-            try:
-                print(f"contrib: {check(Path(name))}", flush=True)
-            except (Failed, Skipped, subprocess.TimeoutExpired) as what:
-                print(f"contrib: failed, {what}", flush=True)
-                return 1
-    return 0
+        folder = Path(name)
+        counted = {runs: functools.partial(runs, count=count), searches: functools.partial(searches, count=count)}
+        return run_checks("contrib", (functools.partial(counted.get(check, check), folder) for check in CHECKS))
 
 
 if __name__ == "__main__":

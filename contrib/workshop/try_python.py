@@ -8,6 +8,7 @@ Each check gives a line, and raises Failed where the package doesn't do what it 
 from __future__ import annotations
 
 import dataclasses
+import functools
 import os
 import re
 import shutil
@@ -22,7 +23,7 @@ from typing import Callable, Dict, List, NamedTuple, Tuple
 sys.dont_write_bytecode = True
 import trying  # by which the scripts of other folders are found
 import check
-from trying import CONTRIB, EXAMPLES, PROGRAM, Failed, Skipped, decided, need, run
+from trying import CONTRIB, EXAMPLES, PROGRAM, Failed, Skipped, decided, need, run, run_checks
 
 HERE = Path(__file__).resolve()
 NAMED = os.environ.get("OPPROVE") or str(PROGRAM)
@@ -557,23 +558,16 @@ def patiently(*words: object) -> None:
     need(done.returncode == 0, words)
 
 
-def tried(checks: List[Callable[[Path], str]]) -> int:
-    for one in checks:
-        with tempfile.TemporaryDirectory() as name:
-            try:
-                print(f"python: {one(Path(name))}", flush=True)
-            except Skipped as what:
-                print(f"python: skipped, {what}", flush=True)
-            except (Failed, OSError, subprocess.TimeoutExpired) as what:
-                print(f"python: failed, {what}", flush=True)
-                return 1
-    return 0
+def in_folder(check: Callable[[Path], str]) -> str:
+    """The check in a folder of its own."""
+    with tempfile.TemporaryDirectory() as name:
+        return check(Path(name))
 
 
 def main(words: List[str]) -> int:
-    if words == ["here"]:
-        return tried(CHECKS)
-    return tried([lambda folder, python=python: in_venv(python, folder) for python in [sys.executable, *words]])
+    pythons = [functools.partial(in_venv, python) for python in [sys.executable, *words]]
+    checks = CHECKS if words == ["here"] else pythons
+    return run_checks("python", (functools.partial(in_folder, check) for check in checks))
 
 
 if __name__ == "__main__":

@@ -18,7 +18,7 @@ from pathlib import Path
 from typing import Callable, Dict, List, Tuple
 
 sys.dont_write_bytecode = True
-from trying import TOP, Answer, Failed, Skipped, installed, need, run
+from trying import TOP, Answer, Skipped, installed, need, run, run_checks
 
 STAND_IN = r"""
 #include <stdio.h>
@@ -375,14 +375,7 @@ def release(folder: Path) -> str:
 
 def main() -> int:
     with tempfile.TemporaryDirectory() as name:
-        try:
-            print(f"release: {release(Path(name))}")
-        except Skipped as what:
-            print(f"release: skipped, {what}")
-        except (Failed, OSError, subprocess.TimeoutExpired) as what:
-            print(f"release: failed, {what}", flush=True)
-            return 1
-    return 0
+        return run_checks("release", [lambda: release(Path(name))])
 
 
 if __name__ == "__main__":

@@ -21,7 +21,7 @@ import why_outcomes
 import why_statement
 from check import Problem, Refusal
 from trying import CONTRIB, PROGRAM, TOP, Answer, Skipped, decided, installed, need, reads_language_2, run
-from why_parts import Screen, Told, on_screen
+from why_parts import Screen, on_screen
 
 why_outcomes.HARDER = str(CONTRIB / "editors" / "why.py")  # what is told of it is told whether or not it is there
 CASES = CONTRIB / "examples" / "words.txt"

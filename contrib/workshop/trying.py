@@ -7,11 +7,13 @@ import shutil
 import subprocess
 import sys
 from pathlib import Path
-from typing import List, NamedTuple
+from typing import Callable, Iterable, List, NamedTuple
 
 TOP = Path(__file__).resolve().parents[2]
 CONTRIB, EXAMPLES = TOP / "contrib", TOP / "examples"
 sys.path[1:1] = [str(CONTRIB / folder) for folder in ("checkers", "translators", "editors")]
+from check import Refusal  # which is found there
+
 PROGRAM = TOP / "crates" / "opprove" / "out" / "opprove"
 
 
@@ -73,3 +75,16 @@ def installed(name: str) -> str:
     if not path:
         raise Skipped(f"{name} is not installed")
     return path
+
+
+def run_checks(name: str, checks: Iterable[Callable[[], str]]) -> int:
+    """Makes checks, each of which has a line behind the name, to the first that fails, and gives the status."""
+    for check in checks:
+        try:
+            print(f"{name}: {check()}", flush=True)
+        except Skipped as what:
+            print(f"{name}: skipped, {what}", flush=True)
+        except (Failed, Refusal, OSError, subprocess.TimeoutExpired) as what:
+            print(f"{name}: failed, {what}", flush=True)
+            return 1
+    return 0

@@ -13,7 +13,7 @@ from typing import Callable, List, NamedTuple, Optional, Sequence
 
 import scripts
 from measuring import OPPROVE, build
-from trying import CONTRIB, Answer, Failed, Skipped, need, run
+from trying import CONTRIB, Answer, Skipped, need, run, run_checks
 
 SHOWN = 3000  # characters of a text that a failure shows
 # What plain.rs has no letters for, in a statement and in evidence.
@@ -109,14 +109,6 @@ def has_command(name: str) -> bool:
 
 
 def main(checks: List[Callable[[Path], str]]) -> int:
-    """Runs checks in a folder of their own, each with a line, to the first that fails."""
+    """Makes checks in a folder of their own, to the first that fails."""
     with tempfile.TemporaryDirectory() as name:
-        for check in checks:
-            try:
-                print(check(Path(name)), flush=True)
-            except Skipped as what:
-                print(f"skipped, {what}", flush=True)
-            except Failed as what:
-                print(f"failed, {what}", flush=True)
-                return 1
-    return 0
+        return run_checks("contrib", (functools.partial(check, Path(name)) for check in checks))
