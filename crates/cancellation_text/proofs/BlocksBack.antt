@@ -1,8 +1,8 @@
 -- A proof that cancels letters that is written is a block of evidence text.
-use Rattle.std.proofs.Common.{◌≡◌, ◌≢◌, ◌<◌, ◌+◌, ◌^◌, ℕ, suc, List, [], ◌∷◌, ◌++◌, Some, None, arith, refl, sym, ap, ap₂, ◌∙◌, subst, length, map, codes, IsTrue}
+use Rattle.std.proofs.Common.{◌≡◌, ◌≢◌, ◌<◌, ◌+◌, ◌^◌, ℕ, suc, List, [], ◌∷◌, ◌++◌, Some, arith, refl, sym, ap, ap₂, ◌∙◌, subst, length, map, codes, IsTrue}
 use Rattle.std.specs.Prelude.{decimal}
 use Rattle.std.specs.Fmt.{signed_decimal}
-use Rattle.std.specs.List.{All, AllPairs, AllZip, cons_option, filter_map, list_all, flat_map, sum_by}
+use Rattle.std.specs.List.{All, AllPairs, AllZip, cons_option, list_all, flat_map, sum_by}
 use Rattle.std.proofs.lemmas.List.{append_assoc, append-nil, length-append, length-map, map-append}
 use Rattle.std.proofs.lemmas.List.Elements.{All-nil, All-cons, All-head, All-tail, All-weaker, All-append, All-map, filter_map-append}
 use Rattle.std.proofs.lemmas.List.Sums.{sum_by-cons, sum_by_push}
@@ -18,7 +18,7 @@ use Rattle.cancel_rules.specs.declared.cancellation.Item.TheVariants as item
 use Rattle.cancel_rules.specs.declared.cancellation.Cancellation.{Cancellation}
 use Rattle.block_text.specs.Back.{is_named}
 use Rattle.block_text.specs.Letters.{number_within}
-use Rattle.block_text.specs.Lines.{number_limit, integer_limit, Line, claim_line, end_line}
+use Rattle.block_text.specs.Lines.{number_limit, Line, claim_line, end_line}
 use Rattle.block_text.specs.Written.{letter_text}
 use Rattle.block_text.proofs.ContentBack.{IsTextOf, no_text, text-append, text_of_tokens}
 use Rattle.block_text.proofs.NumbersBack.{decimal_number, decimal_within}
@@ -26,7 +26,7 @@ use Rattle.block_text.proofs.PartsBack.{IsWritten}
 use Rattle.block_text.proofs.TextsBack.{literal}
 use Rattle.certificate_text.specs.Lines.{RowTokens}
 use Rattle.certificate_text.specs.Blocks.{denominator_line, goal_lines}
-use Rattle.certificate_text.specs.Bounds.{letters_in, IsScaledOf}
+use Rattle.certificate_text.specs.Bounds.{letters_in}
 use Rattle.certificate_text.proofs.LemmasBack.{IsWrittenLemma, scaled_tree, of_rows, is_scaled, says as lemma_says, goal_is_text, lemma_tree, lemma_is_text, lemma_written}
 use Rattle.certificate_text.proofs.RowsBack.{AreRows, rows-append, letters_in-append, letters_in-trees}
 use Rattle.certificate_text.proofs.SizesBack.{IsSize, size_written, number_is_value, headed_is_text}

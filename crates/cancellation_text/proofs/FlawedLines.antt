@@ -1,5 +1,5 @@
 -- A line that is wrong at its place in a block: it does not fit the grammar, or it is the first that passes a bound.
-use Rattle.std.proofs.Common.{◌≡◌, ◌⊎◌, ◌+◌, ℕ, List, [], ◌∷◌, ◌++◌, Option, Some, None, Result, Ok, Err, IsTrue, inl, inr, arith, refl, sym, ap, ap₂, ◌∙◌, subst, length, nat_le, append-nil, append_assoc, codes}
+use Rattle.std.proofs.Common.{◌≡◌, ◌⊎◌, ◌+◌, ℕ, List, [], ◌∷◌, ◌++◌, Option, Some, None, Ok, Err, IsTrue, inl, inr, refl, sym, ap, ap₂, ◌∙◌, subst, length, nat_le, append-nil, append_assoc, codes}
 use Rattle.std.specs.List.{All}
 use Rattle.std.proofs.lemmas.List.Elements.{All-nil, All-push, All-from_recursion}
 use Rattle.word_core.specs.declared.letter.Letter.{Letter}
@@ -7,34 +7,34 @@ use Rattle.quiver.specs.Declarations.{Declaration}
 use Rattle.cofactor_trace.specs.declared.evidence.Lemma.{Lemma}
 use Rattle.cancel_rules.specs.declared.cancellation.Item.TheVariants as item
 use Rattle.block_text.specs.declared.fault.Flaw.{Flaw}
-use Rattle.block_text.specs.declared.fault.Flaw.TheVariants.{BadLine, UnknownName, NumberTooLarge, TooMany}
+use Rattle.block_text.specs.declared.fault.Flaw.TheVariants.{UnknownName, NumberTooLarge, TooMany}
 use Rattle.block_text.specs.Fault.{◌>>=◌, asked}
 use Rattle.block_text.specs.Letters.{is_number, number_within}
 use Rattle.block_text.specs.Lines.{Line, begins, claim_of, claim_line, number_limit, integer_limit}
 use Rattle.block_text.proofs.Owed.{Begins, IsStopped, misfit, passes, stopped_by, begins_as}
-use Rattle.block_text.proofs.Results.{by_test, bind_err, bind_ok, asked_ok, asked_err}
+use Rattle.block_text.proofs.Results.{by_test, bind_err, asked_ok, asked_err}
 use Rattle.block_text.proofs.SaidLines.{number_unsaid}
 use Rattle.block_text.proofs.Zips.{zip_length}
 use Rattle.certificate_text.specs.Lines.{RowTokens, row_limit, denominator_of, lemma_scale_of, goal_scale_of, is_row, is_value}
 use Rattle.certificate_text.specs.Blocks.{ScaledTokens, row_line, denominator_line}
 use Rattle.certificate_text.specs.Bounds.{IsWithin}
 use Rattle.certificate_text.specs.Reading.{lemma_row}
-use Rattle.certificate_text.proofs.FlawedLines.{RowPasses, row_passes, IsGoalLarge, goal_unread, IsLemmaPast, lemma_unread}
+use Rattle.certificate_text.proofs.FlawedLines.{RowPasses, row_passes, goal_unread, IsLemmaPast, lemma_unread}
 use Rattle.certificate_text.proofs.NextLines.{integer_in, lead_push, scaled_push, scaled_more}
 use Rattle.certificate_text.proofs.OpenBlocks.{Lead, lead_lines, unit_goal}
-use Rattle.certificate_text.proofs.RowTrees.{before, RowsWithin, Pass, HaveSize}
+use Rattle.certificate_text.proofs.RowTrees.{before, RowsWithin}
 use Rattle.cancellation_text.specs.declared.place.Opened.{Opened}
 use Rattle.cancellation_text.specs.declared.place.Stage.{Stage}
 use Rattle.cancellation_text.specs.declared.place.Stage.TheVariants as at
-use Rattle.cancellation_text.specs.Blocks.{CalledTokens, CancelTokens, ItemTokens, cancel, head_line, called_line, cancel_line, is_map_letter, known_letter, IsItem}
+use Rattle.cancellation_text.specs.Blocks.{CalledTokens, CancelTokens, cancel, head_line, called_line, cancel_line, is_map_letter, known_letter, IsItem}
 use Rattle.cancellation_text.specs.Bounds.{Bound, names, numbers, words, rows, letters, flaw_of, KeepsOne, IsKnown, HasItemName, IsItemOf}
 use Rattle.cancellation_text.specs.Cancellations.{cancellation_kind}
-use Rattle.cancellation_text.specs.Reading.{called_tokens, cancel_tokens, cancel_of, is_called, one_more, letters_on, with_letters, called, with_item, lemma_begun, cancelled, item_or_goal, calling, in_lemma, in_goal, next}
+use Rattle.cancellation_text.specs.Reading.{called_tokens, cancel_tokens, cancel_of, is_called, one_more, letters_on, with_letters, called, with_item, lemma_begun, cancelled, item_or_goal, calling, in_lemma, next}
 use Rattle.cancellation_text.proofs.Letters.{once_unknown}
 use Rattle.cancellation_text.proofs.Lines.{called_is, cancel_is}
 use Rattle.cancellation_text.proofs.NextLines.{lemma_finished}
 use Rattle.cancellation_text.proofs.Parts as parts
-use Rattle.cancellation_text.proofs.Parts.{Parts, parts_front, with_goal, more_item, front-item, front-called, rows_of, rows-item, IsParts, PartsKeep, ScaleKeeps, HasRoom, HasLeadRoom, ItemKeeps, IsNext, lemma_item, next_number, parts-item, led, led_keeps, begin_led, begin_parts, parts_keep_one, keep-item, IsClaimed, IsOpenedBy, IsCalling, IsInside, IsOpen, bare, bare_is, begin_bare, begin_claimed, scale_keeps}
+use Rattle.cancellation_text.proofs.Parts.{Parts, parts_front, with_goal, more_item, front-item, front-called, rows_of, rows-item, IsParts, ScaleKeeps, HasRoom, HasLeadRoom, ItemKeeps, IsNext, lemma_item, parts-item, led, led_keeps, begin_led, begin_parts, parts_keep_one, keep-item, IsClaimed, IsOpenedBy, IsCalling, IsInside, IsOpen, bare, begin_bare, begin_claimed, scale_keeps}
 
 module _ (ds : List Declaration) (flaw : Flaw) (front : List Line) (line : Line) where
   abbrev Stopped : Type 0

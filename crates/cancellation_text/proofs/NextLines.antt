@@ -1,39 +1,36 @@
 -- A line that is read at its place in a block.
-use Rattle.std.proofs.Common.{◌≡◌, ◌<◌, ◌+◌, ℕ, ℤ, Bool, true, false, List, [], ◌∷◌, ◌++◌, Option, Some, None, Result, Ok, Err, IsTrue, arith, refl, sym, ap, ap₂, ◌∙◌, subst, length, nat_le, leb-false, append-nil, codes}
-use Rattle.std.specs.List.{AllZip}
-use Rattle.std.proofs.lemmas.List.Elements.{All-nil, All-push}
+use Rattle.std.proofs.Common.{◌≡◌, ◌<◌, ◌+◌, ℕ, ℤ, false, List, [], ◌∷◌, ◌++◌, Option, Some, None, Ok, IsTrue, arith, refl, sym, ap, ap₂, ◌∙◌, subst, length, nat_le, leb-false, append-nil, codes}
+use Rattle.std.proofs.lemmas.List.Elements.{All-push}
 use Rattle.word_core.specs.declared.letter.Letter.{Letter}
 use Rattle.quiver.specs.Declarations.{Declaration}
 use Rattle.cofactor_trace.specs.declared.evidence.Lemma.{Lemma}
 use Rattle.cancel_rules.specs.declared.cancellation.Side.TheVariants.{Left, Right}
 use Rattle.cancel_rules.specs.declared.cancellation.Item.{Item}
 use Rattle.cancel_rules.specs.declared.cancellation.Item.TheVariants as item
-use Rattle.block_text.specs.declared.fault.Flaw.{Flaw}
 use Rattle.block_text.specs.declared.fault.Flaw.TheVariants.{BadLine, UnknownName, NumberTooLarge}
 use Rattle.block_text.specs.Fault.{◌>>=◌, asked}
 use Rattle.block_text.specs.Letters.{is_number, number_within}
-use Rattle.block_text.specs.Lines.{Line, begins, claim_of, claim_line, number_limit, integer_limit, integer_of}
+use Rattle.block_text.specs.Lines.{Line, begins, claim_of, claim_line, number_limit, integer_of}
 use Rattle.block_text.proofs.Results.{by_test, bind_ok, asked_ok, else_ok}
 use Rattle.block_text.proofs.SaidLines.{number_said}
 use Rattle.block_text.proofs.Zips.{zip_length}
-use Rattle.certificate_text.specs.Lines.{row_limit, denominator_of, lemma_scale_of, goal_scale_of, is_row, is_value}
-use Rattle.certificate_text.specs.Blocks.{ScaledTokens, row_line, denominator_line}
-use Rattle.certificate_text.specs.Bounds.{IsWithin}
+use Rattle.certificate_text.specs.Lines.{row_limit, denominator_of, lemma_scale_of, goal_scale_of, is_value}
+use Rattle.certificate_text.specs.Blocks.{row_line, denominator_line}
 use Rattle.certificate_text.specs.Reading.{lemma_of, lemma_row}
 use Rattle.certificate_text.proofs.OpenBlocks.{Lead, lead_lines}
-use Rattle.certificate_text.proofs.NextLines.{behind, integer_in, goal_read, lemma_read, lead_push, scaled_push, row_more, led_more, led_first}
+use Rattle.certificate_text.proofs.NextLines.{behind, integer_in, goal_read, lemma_read, lead_push, row_more, led_more, led_first}
 use Rattle.certificate_text.specs.declared.place.Size.{Size}
 use Rattle.certificate_text.proofs.RowTrees.{HaveSize, no_rows_size, integer_is_within}
 use Rattle.cancellation_text.specs.declared.place.Opened.{Opened}
 use Rattle.cancellation_text.specs.declared.place.Stage.{Stage}
 use Rattle.cancellation_text.specs.declared.place.Stage.TheVariants as at
 use Rattle.cancellation_text.specs.Blocks.{CalledTokens, CancelTokens, ItemTokens, cancel, head_line, called_line, cancel_line, is_map_letter, known_letter, IsItem}
-use Rattle.cancellation_text.specs.Bounds.{Bound, names, numbers, words, rows, letters, IsKnown, HasItemName, HasItemNumber, IsItemOf, IsCancelOf}
-use Rattle.cancellation_text.specs.Reading.{called_tokens, cancel_tokens, cancel_of, is_called, one_more, letters_on, with_letters, called, begun, with_item, resized, lemma_begun, cancelled, item_or_goal, calling, in_lemma, in_goal, next}
+use Rattle.cancellation_text.specs.Bounds.{Bound, names, numbers, words, rows, letters, IsKnown, IsItemOf, IsCancelOf}
+use Rattle.cancellation_text.specs.Reading.{called_tokens, cancel_tokens, cancel_of, is_called, one_more, letters_on, with_letters, called, begun, with_item, resized, lemma_begun, cancelled, item_or_goal, calling, next}
 use Rattle.cancellation_text.proofs.Letters.{AreCalled, called_more, once_more}
 use Rattle.cancellation_text.proofs.Lines.{called_is, cancel_is}
 use Rattle.cancellation_text.proofs.Parts as parts
-use Rattle.cancellation_text.proofs.Parts.{Parts, parts_front, more_item, lemma_item, front-item, front-called, rows_of, rows-item, IsParts, PartsKeep, ItemKeeps, HasRoom, HasLeadRoom, IsNext, next_number, IsPartsOf, AreParts, parts-resized, parts-more, IsClaimed, IsOpenedBy, IsCalling, IsInside, IsOpen, bare_is, scale_keeps, lemma_keeps, room_of, begun_keeps}
+use Rattle.cancellation_text.proofs.Parts.{Parts, parts_front, more_item, lemma_item, front-item, front-called, rows_of, rows-item, PartsKeep, ItemKeeps, HasLeadRoom, IsNext, parts-resized, parts-more, IsClaimed, IsOpenedBy, IsCalling, IsInside, IsOpen, bare_is, scale_keeps, lemma_keeps, room_of, begun_keeps}
 
 -- ---- the head
 

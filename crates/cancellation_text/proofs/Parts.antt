@@ -23,8 +23,8 @@ use Rattle.certificate_text.proofs.RowTrees.{RowsWithin, HaveSize, no_rows_keep,
 use Rattle.cancellation_text.specs.declared.place.Opened.{Opened}
 use Rattle.cancellation_text.specs.declared.place.Stage.{Stage}
 use Rattle.cancellation_text.specs.declared.place.Stage.TheVariants as at
-use Rattle.cancellation_text.specs.Blocks.{CalledTokens, ItemTokens, lemma, cancel, CancellationTokens, head_line, called_line, item_lines, cancellation_lines, is_map_letter, AreItems, IsItem, IsCancellationBlock}
-use Rattle.cancellation_text.specs.Bounds.{Bound, names, numbers, words, rows, letters, item_rows, rows_in, IsKnown, HasItemName, HasItemNumber, KeepsOne, IsItemOf}
+use Rattle.cancellation_text.specs.Blocks.{CalledTokens, ItemTokens, lemma, CancellationTokens, head_line, called_line, item_lines, cancellation_lines, is_map_letter, AreItems, IsItem, IsCancellationBlock}
+use Rattle.cancellation_text.specs.Bounds.{Bound, names, numbers, words, rows, letters, item_rows, IsKnown, HasItemName, HasItemNumber, KeepsOne, IsItemOf}
 use Rattle.cancellation_text.specs.Cancellations.{cancellation_kind}
 use Rattle.cancellation_text.specs.Reading.{with_item, resized}
 use Rattle.cancellation_text.proofs.Letters.{AreCalled, AreOnce}

@@ -1,5 +1,5 @@
 -- The reader of proofs that cancel letters owes what a reader of blocks owes.
-use Rattle.std.proofs.Common.{◌≡◌, ◌++◌, ◌∷◌, [], ℕ, false, List, Option, Some, None, Result, Ok, refl, sym, ap, ◌∙◌, subst, codes, length, ◌+◌}
+use Rattle.std.proofs.Common.{◌≡◌, ◌++◌, ◌∷◌, [], ℕ, false, List, Option, Some, None, Result, Ok, refl, sym, ap, ◌∙◌, subst, codes, ◌+◌}
 use Rattle.std.proofs.lemmas.List.Elements.{All-from_recursion}
 use Rattle.quiver.specs.Declarations.{Declaration}
 use Rattle.cofactor_trace.specs.declared.evidence.Lemma.{Lemma}

@@ -1,6 +1,6 @@
 -- What is read of proofs that cancel letters that are written, whatever stands around them.
-use Rattle.std.specs.Prelude.{◌≡◌, ◌≢◌, ◌<◌, ◌≤◌, ◌^◌, ◌+◌, ℕ, List, [], ◌∷◌, ◌++◌, length, filter, Some, AllPairs, IsTrue}
-use Rattle.std.specs.List.{All, filter_map, list_all}
+use Rattle.std.specs.Prelude.{◌≡◌, ◌≢◌, ◌<◌, ◌≤◌, ◌^◌, ◌+◌, List, [], ◌∷◌, ◌++◌, length, Some, AllPairs, IsTrue}
+use Rattle.std.specs.List.{All, list_all}
 use Rattle.word_core.specs.declared.letter.Letter.{Letter}
 use Rattle.quiver.specs.declared.named.Named.TheVariants.{Map}
 use Rattle.quiver.specs.Declarations.{Declaration, IsDeclared, letter_count, letter_name, named_in}

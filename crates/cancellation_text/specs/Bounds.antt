@@ -12,7 +12,7 @@ use Rattle.block_text.specs.Lines.{number_limit, integer_limit, integer_of}
 use Rattle.certificate_text.specs.Lines.{RowTokens, row_limit, letter_limit}
 use Rattle.certificate_text.specs.Bounds.{IsWithin, IsScaledOf, HasNames, HasNumbers, HasShortWords, letters_in}
 pub use Rattle.certificate_text.specs.Bounds.{Bound, names, numbers, words, rows, letters, bounds, flaw_of}
-use Rattle.cancellation_text.specs.Blocks.{CancelTokens, CalledTokens, ItemTokens, lemma, cancel, CancellationTokens, known_letter, called_letters}
+use Rattle.cancellation_text.specs.Blocks.{CancelTokens, ItemTokens, lemma, cancel, CancellationTokens, known_letter, called_letters}
 
 -- a letter, a side and the number of an item
 pub record IsCancelOf (ds : List Declaration) (c : CancelTokens) (i : Item) : Type 0 where
