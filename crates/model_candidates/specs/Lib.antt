@@ -5,3 +5,5 @@ pub mod EntryPlaces
 pub mod Unknowns
 pub mod Plans
 pub mod Equations
+pub mod Factors
+pub mod Known

@@ -1,7 +1,7 @@
 use Rattle.std.proofs.Common.{◌≡◌, ◌≤◌, ◌*◌, length}
 use Rattle.quiver.specs.Declarations.{quiver_of}
 use Rattle.model_candidates.specs.EntryPlaces.{entries_before}
-use Rattle.model_candidates.proofs.entries.entry_count.Given as goal
+use Rattle.model_candidates.proofs.entries.entries_before.Given as goal
 
 -- the entries of the maps that were passed
 abbrev pub invariant-loop-number : goal.invariant-loop-number
