@@ -1,5 +1,5 @@
 -- The terms of an assumption that are made in a known model fit its value.
-use Rattle.std.proofs.Common.{◌≡◌, ℕ, List, length, sym, ap, subst, ◌∙◌}
+use Rattle.std.proofs.Common.{◌≡◌, ℕ, List, sym, subst, ◌∙◌}
 use Rattle.std.specs.List.{All}
 use Rattle.std.proofs.lemmas.List.Elements.{All-weaker, All-from_recursion}
 use Rattle.definitions.specs.Category.{IsArrow}
@@ -12,18 +12,17 @@ use Rattle.model_checker.specs.Models.{side_of}
 use Rattle.model_candidates.specs.declared.plan.LinearAssumption.{LinearAssumption}
 use Rattle.model_candidates.specs.declared.solved_terms.Known.{Known}
 use Rattle.model_candidates.specs.declared.solved_terms.SolvedTerm.{SolvedTerm}
-use Rattle.model_candidates.specs.Known.{IsKnown}
+use Rattle.model_candidates.specs.Known.{IsKnown, numbers_in}
 use Rattle.model_candidates.specs.Plans.{terms_of, IsAssumption}
-use Rattle.model_candidates.specs.Unknowns.{solved_flags, set_count, unknown_numbers}
+use Rattle.model_candidates.specs.Unknowns.{solved_flags, set_count}
 use Rattle.model_candidates.specs.Factors.{solved_terms, FitsTerm, HasSides}
 use Rattle.model_candidates.proofs.AssumptionFactors.{solved_declared}
 use Rattle.model_candidates.proofs.AssumptionRows.{assumption_paths}
 use Rattle.model_candidates.proofs.SolvedTerms.{Fits, terms_fit}
 
 module _ (k : Known) (is : IsKnown k) (g : LinearAssumption) (asked : IsAssumption k.problem.now 1 g)
-    (numbers_are : k.numbers.now ≡ unknown_numbers (solved_flags (quiver_of k.problem.now.parts.quiver) k.shape.now k.problem.now.parts.solved))
     (terms : List SolvedTerm)
-    (terms_are : terms ≡ solved_terms (quiver_of k.problem.now.parts.quiver) k.shape.now k.problem.now.parts.solved k.numbers.now
+    (terms_are : terms ≡ solved_terms (quiver_of k.problem.now.parts.quiver) k.shape.now k.problem.now.parts.solved (numbers_in k)
     k.model.now g.sig.source.0 (terms_of k.problem.now g)) where
   abbrev q : Quiver
   q = quiver_of k.problem.now.parts.quiver
@@ -33,14 +32,13 @@ module _ (k : Known) (is : IsKnown k) (g : LinearAssumption) (asked : IsAssumpti
 
   abbrev Fit : SolvedTerm → Type 0
   Fit = Fits q k.shape.now k.problem.now.parts.solved quiver is.shape (solved_declared k.problem.now) k.model.now is.model is.maps is.sides
-      (ap length (sym numbers_are) ∙ is.one_each) g.sig.source.0 g.sig.target.0 asked.source
+      g.sig.source.0 g.sig.target.0 asked.source
 
   all_fit : All Fit terms
   all_fit =
-      subst (All Fit) (sym (terms_are ∙ ap (λ xs. solved_terms q k.shape.now k.problem.now.parts.solved xs k.model.now g.sig.source.0
-      (terms_of k.problem.now g)) numbers_are))
+      subst (All Fit) (sym terms_are)
       (All-from_recursion Fit _ (terms_fit q k.shape.now k.problem.now.parts.solved quiver is.shape (solved_declared k.problem.now) k.model.now
-      is.model is.maps is.sides (ap length (sym numbers_are) ∙ is.one_each) g.sig.source.0 g.sig.target.0 asked.source (terms_of k.problem.now g)
+      is.model is.maps is.sides g.sig.source.0 g.sig.target.0 asked.source (terms_of k.problem.now g)
       (assumption_paths k.problem.now g asked)))
 
   pub known_fit : (modulus unknowns : ℕ) → modulus ≡ k.model.now.modulus

@@ -11,7 +11,7 @@ use Rattle.matrix_models.specs.Entries.{entry_at-matrix_of}
 use Rattle.model_checker.specs.Models.{arrow_of, IsMap}
 use Rattle.model_candidates.specs.Candidates.{side_in, entries_of, is_declared_map, is_solved, is_solved_map, matrix_by}
 use Rattle.model_candidates.specs.Unknowns.{solved_flags, set_count, filled, unit_values}
-use Rattle.model_candidates.specs.Factors.{map_behind, number_at}
+use Rattle.model_candidates.specs.LetterNumbers.{map_behind, number_at}
 use Rattle.model_candidates.proofs.AffineArrows.{model_at, arrow_of_map, arrow_of_adjoint, map_of}
 use Rattle.model_candidates.proofs.UnitEntries.{unknown_at, unit_entry, unknown_below}
 

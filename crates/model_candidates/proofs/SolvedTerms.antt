@@ -1,8 +1,8 @@
 -- The terms with a solved letter: their sides and numbers.
-use Rattle.std.proofs.Common.{◌≡◌, ℕ, suc, ◌+◌, ◌-◌, ◌*◌, ◌/◌, ◌%◌, ◌<◌, ◌≤◌, ℤ, pos, negsuc, ◌&&◌, true, List, [], ◌∷◌, ◌++◌, length, get_or, take, drop, map, Option, Some, None, option_map, ◌⊎◌, inl, inr, refl, sym, ap, ap₂, subst, ◌∙◌, arith, mod-lt, div-lt_iff_lt-mul}
-use Rattle.std.specs.List.{All, AllByRecursion, position}
+use Rattle.std.proofs.Common.{◌≡◌, ℕ, suc, ◌+◌, ◌-◌, ◌*◌, ◌/◌, ◌%◌, ◌<◌, ◌≤◌, ℤ, pos, negsuc, ◌&&◌, true, List, [], ◌∷◌, ◌++◌, length, get_or, replicate, take, drop, map, Option, Some, None, option_map, ◌⊎◌, inl, inr, refl, sym, ap, ap₂, subst, ◌∙◌, arith, mod-lt, div-lt_iff_lt-mul, cond}
+use Rattle.std.specs.List.{All, AllByRecursion, position, range_with_len}
 use Rattle.std.proofs.lemmas.Bool.{cases_lt, le-leb}
-use Rattle.std.proofs.lemmas.List.{take-append-drop}
+use Rattle.std.proofs.lemmas.List.{take-append-drop, length-replicate}
 use Rattle.std.proofs.lemmas.List.Elements.{All-from_recursion, All-from_get_or}
 use Rattle.std.proofs.lemmas.List.FromFn.{get_or-map-range_with_len, length-map-range_with_len}
 use Rattle.std.proofs.lemmas.List.Quantifiers.{position-Some}
@@ -15,13 +15,17 @@ use Rattle.adjoint_rules.specs.declared.parts.Shape.{Shape}
 use Rattle.adjoint_rules.specs.Problem.{IsShape}
 use Rattle.matrix_models.specs.Laws.{matrices_laws}
 use Rattle.matrix_models.specs.declared.model.Model.{Model}
-use Rattle.model_checker.specs.Models.{representation_of, side_of, IsModel, IsMap, HaveMatrices}
-use Rattle.model_checker.proofs.Arrows.{represents, adjoint_is_map}
+use Rattle.model_checker.specs.Models.{representation_of, side_of, IsModel, HaveMatrices}
+use Rattle.model_checker.proofs.Arrows.{represents}
 use Rattle.model_candidates.specs.declared.solved_terms.SolvedTerm.{SolvedTerm}
 use Rattle.model_candidates.specs.Candidates.{side_in, entries_of, is_declared_map, is_solved}
 use Rattle.model_candidates.specs.Unknowns.{solved_flags, set_count, unknown_numbers}
-use Rattle.model_candidates.specs.Factors.{map_behind, letter_value, letter_values, residue, term_around, solved_term, listed, solved_terms, FitsTerm, HasSides}
+use Rattle.model_candidates.specs.LetterNumbers.{letter_numbers, numbers_of_letters}
+use Rattle.model_candidates.specs.Factors.{residue, term_around, solved_term, listed, solved_terms, FitsTerm, HasSides}
+use Rattle.model_candidates.specs.LetterNumbers.{map_behind, letter_value, letter_values}
 use Rattle.model_candidates.proofs.CandidateModels.{side_is_object}
+use Rattle.model_candidates.proofs.DrawnEntries.{flag_of_each}
+use Rattle.model_candidates.proofs.FilledValues.{length-filled}
 use Rattle.model_candidates.proofs.LetterEntries.{IsDeclared, itself, adjoint, number_below}
 use Rattle.model_candidates.proofs.WordProducts.{FitLetter, fit_letter, product_is_arrow}
 
@@ -59,17 +63,41 @@ solved_at q solved u v w place path found =
     }
 
 -- the map behind a solved letter is declared
-pub declared_behind : (q : Quiver) → IsQuiver q → (m : Model) → IsModel q m → (a : ℕ) → a < letters q → q.objects ≤ a
-    → is_declared_map q (map_behind q a) ≡ true
-declared_behind q quiver m model a letter map = go (cases_lt (star q a) a)
+pub declared_behind : (q : Quiver) → IsQuiver q → (a : ℕ) → a < letters q → q.objects ≤ a → is_declared_map q (map_behind q a) ≡ true
+declared_behind q quiver a letter map = go (cases_lt (star q a) a)
   where
+    -- the adjoint of a map is no identity
+    star_is_map : (star q a < q.objects) ⊎ (q.objects ≤ star q a) → q.objects ≤ star q a
+    star_is_map (inl small) =
+        let same : a ≡ star q a = sym (quiver.star_star a letter) ∙ quiver.identity_star (star q a) small in
+        absurd (omega (arith, same, small, map))
+    star_is_map (inr is) = is
+
     go : (star q a < a) ⊎ (a ≤ star q a) → is_declared_map q (map_behind q a) ≡ true
     go (inr least) =
         ap (is_declared_map q) (itself q quiver a letter least) ∙ ap₂ ◌&&◌ (le-leb q.objects a map) (le-leb a (star q a) least)
     go (inl less) =
         let b = star q a in
-        let is : IsMap q b = adjoint_is_map q quiver m model a map letter less in
-        ap (is_declared_map q) (adjoint q quiver a letter less) ∙ ap₂ ◌&&◌ (le-leb q.objects b is.map) (le-leb b (star q b) is.declared)
+        let least : b ≤ star q b = omega (arith, less, quiver.star_star a letter) in
+        ap (is_declared_map q) (adjoint q quiver a letter less)
+        ∙ ap₂ ◌&&◌ (le-leb q.objects b (star_is_map (cases_lt b q.objects))) (le-leb b (star q b) least)
+
+-- each entry of the shape has a number
+pub number_of_each : (q : Quiver) (s : Shape) (solved : List Letter) → length (unknown_numbers (solved_flags q s solved)) ≡ length (entries_of q s)
+number_of_each q s solved =
+    let flags = solved_flags q s solved in
+    let n = set_count flags in
+    length-filled flags (replicate (length flags) n) (range_with_len 0 n) (length-replicate (length flags) n)
+    ∙ length-replicate (length flags) n ∙ flag_of_each q s solved
+
+-- the numbers that stand for a solved letter
+pub numbers_there : (q : Quiver) (s : Shape) (solved : List Letter) (numbers : List (Option (List ℕ))) (a place : ℕ) (d : Option (List ℕ))
+    → numbers ≡ numbers_of_letters q s solved → place ≡ a → a < letters q → is_solved q solved a ≡ true
+    → get_or numbers place d ≡ Some (letter_values q s (unknown_numbers (solved_flags q s solved)) a)
+numbers_there q s solved numbers a place d are same letter is =
+    ap₂ (λ xs n. get_or xs n d) are same
+    ∙ get_or-map-range_with_len (letter_numbers q s solved) 0 (letters q) a a d letter (omega arith)
+    ∙ ap (λ b. cond b (Some (letter_values q s (unknown_numbers (solved_flags q s solved)) a)) None) is
 
 pub residue_below : (m : ℕ) (k : ℤ) → 0 < m → residue m k < m
 residue_below m (pos n) positive = mod-lt n positive
@@ -78,7 +106,7 @@ residue_below m (negsuc n) positive = mod-lt (m - suc n % m) positive
 -- ---- terms
 module _ (q : Quiver) (s : Shape) (solved : List Letter) (quiver : IsQuiver q) (shape : IsShape q.objects s)
     (declared : AllByRecursion (λ l. IsDeclared q l.0) solved) (m : Model) (model : IsModel q m) (maps : HaveMatrices q m (letters q))
-    (sides : m.sides ≡ s.sides) (one_each : length (unknown_numbers (solved_flags q s solved)) ≡ length (entries_of q s))
+    (sides : m.sides ≡ s.sides)
     (u v : ℕ) (in_u : u < q.objects) where
   abbrev numbers : List ℕ
   numbers = unknown_numbers (solved_flags q s solved)
@@ -103,7 +131,7 @@ module _ (q : Quiver) (s : Shape) (solved : List Letter) (quiver : IsQuiver q) (
       All-from_get_or (λ number. number < n) (letter_values q s numbers x) 0 (λ place inside.
       let within : place < size = subst (λ k. place < k) (length-map-range_with_len f 0 size) inside in
       subst (λ number. number < n) (sym (get_or-map-range_with_len f 0 size place place 0 within (omega arith)))
-      (number_below q s solved numbers one_each quiver shape declared x letter is (place / columns) (place % columns)
+      (number_below q s solved numbers (number_of_each q s solved) quiver shape declared x letter is (place / columns) (place % columns)
       ((div-lt_iff_lt-mul positive).1 within) (mod-lt place positive)))
 
   term_fits : (t : ℤ × List ℕ) (place : ℕ) → is_path q u v t.1 ≡ true → position (is_solved q solved) t.1 ≡ Some place

@@ -19,7 +19,8 @@ use Rattle.matrix_models.specs.declared.model.Model.{Model}
 use Rattle.model_checker.specs.Models.{representation_of}
 use Rattle.model_candidates.specs.Candidates.{side_in, entries_of, is_solved}
 use Rattle.model_candidates.specs.Unknowns.{solved_flags, unknown_numbers}
-use Rattle.model_candidates.specs.Factors.{letter_value, letters_product, number_at, residue, term_around, solved_term, listed, solved_terms, place_factor, term_factor, terms_factor}
+use Rattle.model_candidates.specs.Factors.{letters_product, residue, term_around, solved_term, listed, solved_terms, place_factor, term_factor, terms_factor}
+use Rattle.model_candidates.specs.LetterNumbers.{letter_value, number_at}
 use Rattle.model_candidates.proofs.AffineArrows.{model_at, represents_at}
 use Rattle.model_candidates.proofs.CandidateModels.{side_is_object}
 use Rattle.model_candidates.proofs.FactorSums.{factor_sum}

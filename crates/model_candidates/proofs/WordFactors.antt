@@ -14,7 +14,7 @@ use Rattle.matrix_models.specs.Totals.{total_same, total_zero}
 use Rattle.model_checker.specs.Models.{arrow_of, representation_of}
 use Rattle.model_candidates.specs.Candidates.{side_in, entries_of, is_solved, solved_count}
 use Rattle.model_candidates.specs.Unknowns.{solved_flags, set_count, unit_values}
-use Rattle.model_candidates.specs.Factors.{number_at}
+use Rattle.model_candidates.specs.LetterNumbers.{number_at}
 use Rattle.model_candidates.proofs.AffineArrows.{model_at, represents_at}
 use Rattle.model_candidates.proofs.AffineValues.{count_with, count_without}
 use Rattle.model_candidates.proofs.CandidateModels.{modulus_of_shape}

@@ -1,11 +1,11 @@
 -- What each unknown adds to the entries of an assumption, for private functions: in each word with a solved letter the products of what
 -- stands before and behind the letter.
-use Rattle.std.specs.Prelude.{◌≡◌, ℕ, suc, ℤ, pos, negsuc, ◌+◌, ◌-◌, ◌*◌, ◌/◌, ◌%◌, ◌<◌, nat_eq, nat_le, List, [], ◌∷◌, length, map, get_or}
+use Rattle.std.specs.Prelude.{◌≡◌, ℕ, suc, ℤ, pos, negsuc, ◌+◌, ◌-◌, ◌*◌, ◌/◌, ◌%◌, ◌<◌, nat_eq, List, [], ◌∷◌, length, map, get_or}
 use Rattle.std.specs.Prelude.{take, drop, position, Option, Some, None, if◌then◌else◌}
 use Rattle.std.specs.List.{All, flat_map, range_with_len, sum_by}
 use Rattle.std.specs.Option.{option_map}
 use Rattle.definitions.specs.Category.{Structure}
-use Rattle.definitions.specs.Quiver.{Quiver, source, target, star}
+use Rattle.definitions.specs.Quiver.{Quiver, target}
 use Rattle.definitions.specs.Representation.{Representation}
 use Rattle.quiver.specs.Declarations.{quiver_of}
 use Rattle.word_core.specs.declared.letter.Letter.{Letter}
@@ -18,32 +18,11 @@ use Rattle.adjoint_rules.specs.declared.problem.Problem.{Problem}
 use Rattle.model_checker.specs.Models.{representation_of}
 use Rattle.model_candidates.specs.declared.plan.LinearAssumption.{LinearAssumption}
 use Rattle.model_candidates.specs.declared.solved_terms.SolvedTerm.{SolvedTerm}
-use Rattle.model_candidates.specs.Candidates.{side_in, value_of_entry, entry_shown, is_solved}
+use Rattle.model_candidates.specs.Candidates.{is_solved}
 use Rattle.model_candidates.specs.Unknowns.{solved_flags, set_count, unknown_numbers}
+use Rattle.model_candidates.specs.LetterNumbers.{letter_values}
 use Rattle.model_candidates.specs.Plans.{terms_of}
 use Rattle.model_candidates.specs.Equations.{assumption_value}
-
--- ---- letters
-
--- the map, where the letter is the adjoint of one
-abbrev pub map_behind : Quiver → ℕ → ℕ
-map_behind q a = if nat_le a (star q a) then a else star q a
-
--- the value in this row and column of the letter's matrix: that of an adjoint is the transpose of its map's
-abbrev pub letter_value : Quiver → Shape → List ℕ → ℕ → ℕ → ℕ → ℕ
-letter_value q s values a row column =
-    if nat_le a (star q a) then value_of_entry q s values (entry_shown q a row column)
-    else value_of_entry q s values (entry_shown q (star q a) column row)
-
--- all of them, row by row
-abbrev pub letter_values : Quiver → Shape → List ℕ → ℕ → List ℕ
-letter_values q s values a =
-    let columns = side_in s (source q a) in
-    map (λ place. letter_value q s values a (place / columns) (place % columns)) (range_with_len 0 (side_in s (target q a) * columns))
-
--- the number of the unknown in this row and column of the matrix of a solved letter
-abbrev pub number_at : Quiver → Shape → List Letter → ℕ → ℕ → ℕ → ℕ
-number_at q s solved a row column = letter_value q s (unknown_numbers (solved_flags q s solved)) a row column
 
 -- the product of the arrows of letters, and the identity of the object where there are none
 abbrev pub letters_product : {Object Arrow : Type 0} → Structure Object Arrow → Representation Object Arrow → ℕ → List ℕ → Arrow

@@ -15,7 +15,8 @@ use Rattle.model_candidates.specs.declared.plan.LinearAssumption.{LinearAssumpti
 use Rattle.model_candidates.specs.declared.plan.Plan.{Plan}
 use Rattle.model_checker.specs.Models.{representation_of, IsZeroIn}
 use Rattle.model_candidates.specs.Candidates.{IsShapeOf, entries_of, is_exhaustive, is_linear, solved_count}
-use Rattle.model_candidates.specs.Unknowns.{set_count, solved_flags, unknown_numbers}
+use Rattle.model_candidates.specs.Unknowns.{set_count, solved_flags}
+use Rattle.model_candidates.specs.LetterNumbers.{numbers_of_letters}
 
 -- the polynomials of the assumptions that are linear in the solved maps
 abbrev pub linear_assumptions : Problem → List Poly
@@ -66,7 +67,7 @@ pub record FitsShape (problem : Problem) (s : Shape) (plan : Plan) : Type 0 wher
   pub exhaustive : plan.exhaustive ≡ is_exhaustive (quiver_of problem.parts.quiver) s
   pub solved : plan.solved ≡ solved_flags (quiver_of problem.parts.quiver) s problem.parts.solved
   pub unknowns : plan.unknowns ≡ set_count plan.solved
-  pub numbers : plan.numbers ≡ unknown_numbers plan.solved
+  pub numbers : plan.numbers ≡ numbers_of_letters (quiver_of problem.parts.quiver) s problem.parts.solved
   pub assumptions : AreLinearAssumptions problem plan.assumptions.conditions plan.assumptions.equations
 
 -- The plan is that of the shape with its number.

@@ -4,7 +4,7 @@ ghost use Rattle.std.specs.List.{flat_map};
 ghost use Rattle.quiver.specs.Declarations.{object_count, quiver_of};
 ghost use Rattle.adjoint_rules.specs.Problem.{IsShape};
 ghost use Rattle.model_candidates.specs.Candidates.{model_by};
-ghost use Rattle.model_candidates.specs.Unknowns.{set_count, solved_flags, unknown_numbers};
+ghost use Rattle.model_candidates.specs.Unknowns.{set_count, solved_flags};
 ghost use Rattle.model_candidates.specs.Plans.{AreEntryValues, FitsShape, IsAssumption};
 ghost use Rattle.model_candidates.specs.Equations.{system_for};
 ghost use Rattle.model_candidates.specs.Factors.{equations_of};
@@ -85,8 +85,6 @@ fn push_equations(
     rows: &mut Listing<LinearRow>,
 ) -> Result<(), AllocError>
     requires known { IsKnown known.now }
-    requires numbers { known.now.numbers.now
-        ≡ unknown_numbers (solved_flags (quiver_of known.now.problem.now.parts.quiver) known.now.shape.now known.now.problem.now.parts.solved) }
     requires unknowns { unknowns
         ≡ set_count (solved_flags (quiver_of known.now.problem.now.parts.quiver) known.now.shape.now known.now.problem.now.parts.solved) }
     requires assumption { IsAssumption known.now.problem.now 1 assumption }

@@ -5,18 +5,45 @@ ghost use Rattle.quiver.specs.Declarations.{letter_count, object_count, quiver_o
 ghost use Rattle.adjoint_rules.specs.Problem.{IsShape};
 ghost use Rattle.model_candidates.specs.Candidates.{entries_of, is_declared_map, side_in};
 ghost use Rattle.model_candidates.specs.EntryPlaces.{entries_before};
-ghost use Rattle.model_candidates.specs.Factors.{letter_value, letter_values, map_behind};
+ghost use Rattle.model_candidates.specs.LetterNumbers.{letter_value, letter_values, map_behind, numbers_of_letters};
+ghost use Rattle.model_candidates.specs.Unknowns.{solved_flags, unknown_numbers};
 
 use crate::entries::{entries_before, side_at};
 use crate::given_values::value_shown;
-use adjoint_rules::Shape;
+use crate::plan::is_solved;
+use adjoint_rules::{Problem, Shape};
 use lists::Listing;
 use quiver::Quiver;
 use std::alloc::{AllocError, Global};
 use word_core::Letter;
 
-/// The values in the matrix of a map or of an adjoint, row by row, by values of the entries.
-pub(crate) fn letter_values(
+/// For each letter that is solved for the numbers of the unknowns in its matrix, row by row, by those of the entries.
+pub(crate) fn numbers_of_letters(
+    alloc: Global,
+    problem: &Problem,
+    shape: &Shape,
+    own: &[u32],
+) -> Result<Listing<Option<Listing<u32>>>, AllocError>
+    requires shape { IsShape (object_count problem.now.parts.quiver) shape.now }
+    requires own { own.now ≡ unknown_numbers (solved_flags (quiver_of problem.now.parts.quiver) shape.now problem.now.parts.solved) }
+    ensures { IfOk result (λ numbers. numbers ≡ numbers_of_letters (quiver_of problem.now.parts.quiver) shape.now problem.now.parts.solved) }
+{
+    let quiver = &problem.parts.quiver;
+    let mut numbers = Listing::new(alloc);
+    for number in 0..quiver.letters() {
+        let letter = Letter(number as u16);
+        let of_letter = if is_solved(quiver, problem.parts.solved.as_slice(), letter) {
+            Some(letter_values(alloc, quiver, shape, letter, own)?)
+        } else {
+            None
+        };
+        numbers.push(of_letter)?;
+    }
+    Ok(numbers)
+}
+
+// The values in the matrix of a map or of an adjoint, row by row, by values of the entries.
+fn letter_values(
     alloc: Global,
     quiver: &Quiver,
     shape: &Shape,

@@ -11,6 +11,7 @@ ghost use Rattle.model_candidates.specs.Plans.{AreAsked, AreLinearAssumptions, I
 
 use crate::candidate_count::is_exhaustive;
 use crate::entries::{entry_count, is_declared, map_entry_count};
+use crate::letter_numbers::numbers_of_letters;
 use crate::unknowns::{unknown_count, unknown_numbers};
 use adjoint_rules::{Problem, Shape};
 use lists::Listing;
@@ -48,8 +49,8 @@ pub struct Plan {
     pub unknowns: u32,
     /// For each entry, whether it is solved for.
     pub solved: Listing<bool>,
-    /// For each entry the number of its unknown, from 0, and that of all unknowns where it isn't solved for.
-    pub numbers: Listing<u32>,
+    /// For each letter that is solved for the numbers of the unknowns in its matrix, row by row, counted from 0.
+    pub numbers: Listing<Option<Listing<u32>>>,
     /// The linear assumptions.
     pub assumptions: LinearAssumptions,
 }
@@ -66,7 +67,8 @@ pub fn plan_of(alloc: Global, problem: &Problem, shape: u32) -> Result<Plan, All
     let entries = entry_count(&parts.quiver, form);
     let solved = solved_flags(alloc, &parts.quiver, form, parts.solved.as_slice())?;
     let unknowns = unknown_count(solved.as_slice());
-    let numbers = unknown_numbers(alloc, solved.as_slice(), unknowns)?;
+    let own = unknown_numbers(alloc, solved.as_slice(), unknowns)?;
+    let numbers = numbers_of_letters(alloc, problem, form, own.as_slice())?;
     let assumptions = linear_assumptions(alloc, problem)?;
     Ok(Plan {
         number: shape,

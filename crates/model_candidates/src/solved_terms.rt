@@ -7,13 +7,12 @@ ghost use Rattle.matrix_models.specs.Matrices.{matrices};
 ghost use Rattle.model_checker.specs.Models.{representation_of};
 ghost use Rattle.model_candidates.specs.Candidates.{is_solved};
 ghost use Rattle.model_candidates.specs.Factors.{letters_product, residue, solved_term, solved_terms};
-ghost use Rattle.model_candidates.specs.Known.{IsKnown};
+ghost use Rattle.model_candidates.specs.Known.{IsKnown, numbers_in};
 
-use crate::letter_numbers::letter_values;
 use crate::plan::is_solved;
 use adjoint_rules::{Problem, Shape};
 use category_laws::Category;
-use lists::Listing;
+use lists::{Duplicate, Listing};
 use matrix_models::{Matrices, Matrix, Model};
 use nc_polynomial::Poly;
 use quiver::Sig;
@@ -40,7 +39,7 @@ pub(crate) struct Known<'a> {
     pub alloc: Global,
     pub problem: &'a Problem,
     pub shape: &'a Shape,
-    pub numbers: &'a [u32],
+    pub numbers: &'a [Option<Listing<u32>>],
     pub model: &'a Model,
     pub representation: &'a Representation<Matrices>,
 }
@@ -56,7 +55,7 @@ pub(crate) fn solved_terms(
     requires target { ends.target.0 < object_count known.now.problem.now.parts.quiver }
     requires typed { IsTyped (quiver_of known.now.problem.now.parts.quiver) ends.source.0 ends.target.0 poly.now.terms }
     ensures { IfOk result (λ terms. terms ≡ solved_terms (quiver_of known.now.problem.now.parts.quiver) known.now.shape.now
-        known.now.problem.now.parts.solved known.now.numbers.now known.now.model.now ends.source.0 poly.now.terms) }
+        known.now.problem.now.parts.solved (numbers_in known.now) known.now.model.now ends.source.0 poly.now.terms) }
 {
     let mut terms = Listing::new(known.alloc);
     for place in 0..poly.terms() {
@@ -81,7 +80,7 @@ fn solved_term(
     requires place { place < length poly.now.terms }
     ensures { IfOk result (λ term. (t : ℤ × List ℕ) → slice_get poly.now.terms place ≡ Some t
         → term ≡ solved_term (quiver_of known.now.problem.now.parts.quiver) known.now.shape.now
-        known.now.problem.now.parts.solved known.now.numbers.now known.now.model.now ends.source.0 t) }
+        known.now.problem.now.parts.solved (numbers_in known.now) known.now.model.now ends.source.0 t) }
 {
     let quiver = &known.problem.parts.quiver;
     let (coefficient, word) = poly.term(place);
@@ -89,6 +88,9 @@ fn solved_term(
         return Ok(None);
     };
     let (letter, end) = (word.letter(split), word.len());
+    let Some(numbers) = &known.numbers[usize::from(letter.0)] else {
+        return Ok(None);
+    };
     let own = quiver.signature_of(letter);
     let before = Sig {
         source: own.target,
@@ -100,7 +102,7 @@ fn solved_term(
     };
     Ok(Some(SolvedTerm {
         coefficient: residue_of(known.model.modulus, coefficient),
-        numbers: letter_values(known.alloc, quiver, known.shape, letter, known.numbers)?,
+        numbers: numbers.duplicate()?,
         left: product_of(known, word, 0, split, before)?,
         right: product_of(known, word, split + 1, end, behind)?,
     }))

@@ -10,6 +10,7 @@ use Rattle.adjoint_rules.proofs.Generators.{posed_quiver}
 use Rattle.model_checker.specs.Models.{representation_of, side_of}
 use Rattle.model_checker.proofs.Arrows.{represents}
 use Rattle.model_checker.proofs.Values.{is_representation, value_is}
+use Rattle.model_candidates.specs.Known.{numbers_in}
 use Rattle.model_candidates.specs.Plans.{terms_of}
 use Rattle.model_candidates.specs.Equations.{assumption_value}
 use Rattle.model_candidates.specs.Factors.{solved_terms, rows_with, equations_of}
@@ -64,9 +65,9 @@ push_rows-requires-clause-terms c =
     let v = g.sig.target.0 in
     let quiver = posed_quiver problem.parts problem.posed in
     let poly_is : c.at-poly.result.now.terms ≡ terms_of problem g = sym (terms_there problem g.place c.at-poly.result.now c.at-poly.ensures) in
-    let terms_are : c.as_slice.result.now ≡ solved_terms q k.shape.now problem.parts.solved k.numbers.now m u (terms_of problem g) =
-    c.as_slice.ensures ∙ c.in_ok-terms.ensures ∙ ap (solved_terms q k.shape.now problem.parts.solved k.numbers.now m u) poly_is in
-    known_fit k is g c.requires.assumption c.requires.numbers c.as_slice.result.now terms_are c.in_ok-value.value.modulus c.args.unknowns
+    let terms_are : c.as_slice.result.now ≡ solved_terms q k.shape.now problem.parts.solved (numbers_in k) m u (terms_of problem g) =
+    c.as_slice.ensures ∙ c.in_ok-terms.ensures ∙ ap (solved_terms q k.shape.now problem.parts.solved (numbers_in k) m u) poly_is in
+    known_fit k is g c.requires.assumption c.as_slice.result.now terms_are c.in_ok-value.value.modulus c.args.unknowns
     c.in_ok-value.ensures.arrow.modulus_is c.requires.unknowns
 
 pub push_rows-requires-clause-sides : goal.push_rows-requires-clause-sides
@@ -84,13 +85,13 @@ push_rows-requires-clause-sides c =
     let value_is_there : c.in_ok-value.value ≡ assumption_value problem m g =
     value_is q quiver m is.model k.representation.now.objects k.representation.now.arrows is.lists u v c.at-poly.result.now.terms
     c.in_ok-value.value c.in_ok-value.ensures.value ∙ ap (value_at (matrices m.modulus) q (representation_of q m) u v) poly_is in
-    let terms_are : c.as_slice.result.now ≡ solved_terms q k.shape.now problem.parts.solved k.numbers.now m u (terms_of problem g) =
-    c.as_slice.ensures ∙ c.in_ok-terms.ensures ∙ ap (solved_terms q k.shape.now problem.parts.solved k.numbers.now m u) poly_is in
+    let terms_are : c.as_slice.result.now ≡ solved_terms q k.shape.now problem.parts.solved (numbers_in k) m u (terms_of problem g) =
+    c.as_slice.ensures ∙ c.in_ok-terms.ensures ∙ ap (solved_terms q k.shape.now problem.parts.solved (numbers_in k) m u) poly_is in
     let ends : IsArrow (matrices m.modulus) (side_of m u) (side_of m v) c.in_ok-value.value =
     subst (IsArrow (matrices m.modulus) (side_of m u) (side_of m v)) (sym value_is_there)
     (value_is_arrow (matrices_laws m.modulus) q (representation_of q m) (represents q quiver m is.model is.maps) u v
     c.requires.assumption.source c.requires.assumption.target (terms_of problem g)) in
-    known_sides k is g c.requires.assumption c.requires.numbers c.as_slice.result.now terms_are c.in_ok-value.value ends
+    known_sides k is g c.requires.assumption c.as_slice.result.now terms_are c.in_ok-value.value ends
 
 pub returns : goal.returns
 returns c =
@@ -107,9 +108,8 @@ returns c =
     let value_is_there : c.in_ok-value.value ≡ assumption_value problem m g =
     value_is q quiver m is.model k.representation.now.objects k.representation.now.arrows is.lists u v c.at-poly.result.now.terms
     c.in_ok-value.value c.in_ok-value.ensures.value ∙ ap (value_at (matrices m.modulus) q (representation_of q m) u v) poly_is in
-    let terms_are : c.as_slice.result.now ≡ solved_terms q k.shape.now problem.parts.solved k.numbers.now m u (terms_of problem g) =
-    c.as_slice.ensures ∙ c.in_ok-terms.ensures ∙ ap (solved_terms q k.shape.now problem.parts.solved k.numbers.now m u) poly_is in
-    let all = terms_are ∙ ap (λ xs. solved_terms q k.shape.now problem.parts.solved xs m u (terms_of problem g)) c.requires.numbers in
+    let terms_are : c.as_slice.result.now ≡ solved_terms q k.shape.now problem.parts.solved (numbers_in k) m u (terms_of problem g) =
+    c.as_slice.ensures ∙ c.in_ok-terms.ensures ∙ ap (solved_terms q k.shape.now problem.parts.solved (numbers_in k) m u) poly_is in
     let rows_are : rows_with c.args.unknowns c.in_ok-value.value c.as_slice.result.now ≡ equations_of problem k.shape.now m g =
-    ap (λ n. rows_with n c.in_ok-value.value c.as_slice.result.now) c.requires.unknowns ∙ ap₂ (rows_with _) value_is_there all in
+    ap (λ n. rows_with n c.in_ok-value.value c.as_slice.result.now) c.requires.unknowns ∙ ap₂ (rows_with _) value_is_there terms_are in
     subst (λ xs. OnOk c.push_rows.result (c.push_rows.new.rows ≡ c.args.rows.now ++ xs)) rows_are c.push_rows.ensures

@@ -1,16 +1,13 @@
-use Rattle.std.proofs.Common.{◌≡◌, ◌+◌, ◌++◌, ◌∷◌, [], List, length, get_or, replicate, take, sym, ap, ap₂, ◌∙◌}
-use Rattle.std.specs.List.{flat_map, range_with_len}
-use Rattle.std.proofs.lemmas.List.{append-nil, take_more, length-replicate}
+use Rattle.std.proofs.Common.{◌≡◌, ◌+◌, ◌++◌, ◌∷◌, [], List, get_or, take, sym, ap, ap₂, ◌∙◌}
+use Rattle.std.specs.List.{flat_map}
+use Rattle.std.proofs.lemmas.List.{append-nil, take_more}
 use Rattle.std.proofs.lemmas.Grind.{flat_map-append}
 use Rattle.quiver.specs.Declarations.{quiver_of}
 use Rattle.matrix_models.specs.declared.system.LinearRow.{LinearRow}
 use Rattle.adjoint_rules.proofs.Generators.{posed_quiver}
 use Rattle.model_candidates.specs.declared.plan.LinearAssumption.{LinearAssumption}
 use Rattle.model_candidates.specs.Candidates.{model_by}
-use Rattle.model_candidates.specs.Unknowns.{set_count}
 use Rattle.model_candidates.specs.Factors.{equations_of}
-use Rattle.model_candidates.proofs.DrawnEntries.{flag_of_each}
-use Rattle.model_candidates.proofs.FilledValues.{length-filled}
 use Rattle.model_candidates.proofs.MadeModels.{made_is_model, made_has_matrices}
 use Rattle.model_candidates.proofs.equations.rows_for.Goals as goal
 
@@ -36,16 +33,10 @@ pub push_equations-requires-clause-known : goal.push_equations-requires-clause-k
 push_equations-requires-clause-known c =
     let problem = c.args.problem.now in
     let s = c.args.shape.now in
-    let plan = c.args.plan.now in
     let values = c.args.values.now in
-    let flags = plan.solved in
-    let n = set_count flags in
-    let numbers_are = c.as_slice.ensures ∙ c.requires.plan.numbers in
     record {
       shape = c.requires.shape;
-      one_each = ap length numbers_are ∙ length-filled flags (replicate (length flags) n) (range_with_len 0 n) (length-replicate (length flags) n)
-          ∙ length-replicate (length flags) n ∙ ap length c.requires.plan.solved
-          ∙ flag_of_each (quiver_of problem.parts.quiver) s problem.parts.solved;
+      numbers = c.as_slice.ensures ∙ c.requires.plan.numbers;
       model = made_is_model problem s values c.in_ok-model.model c.in_ok-model.ensures c.requires.shape;
       sides = ap (λ m. m.sides) c.in_ok-model.ensures;
       maps = made_has_matrices problem s values c.in_ok-model.model c.in_ok-model.ensures c.requires.shape c.requires.values;

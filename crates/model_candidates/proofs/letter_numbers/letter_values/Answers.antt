@@ -4,7 +4,7 @@ use Rattle.std.proofs.lemmas.List.FromFn.{map-range_with_len_more}
 use Rattle.definitions.specs.Quiver.{source, target}
 use Rattle.quiver.specs.Declarations.{quiver_of}
 use Rattle.model_candidates.specs.Candidates.{side_in}
-use Rattle.model_candidates.specs.Factors.{letter_value}
+use Rattle.model_candidates.specs.LetterNumbers.{letter_value}
 use Rattle.model_candidates.proofs.letter_numbers.letter_values.Goals as goal
 
 pub loop-place-preserved : goal.loop-place-preserved
