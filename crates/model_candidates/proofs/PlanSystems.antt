@@ -16,7 +16,7 @@ use Rattle.adjoint_rules.proofs.Generators.{posed_quiver}
 use Rattle.model_candidates.proofs.CandidateModels.{modulus_of_shape}
 use Rattle.model_candidates.proofs.DrawnEntries.{flag_of_each}
 use Rattle.model_candidates.proofs.FilledValues.{length-filled, All-filled}
-use Rattle.model_candidates.proofs.KnownValues.{conditions_of_solution}
+use Rattle.model_candidates.proofs.KnownValues.{conditions_drawn, conditions_filled, conditions_of_solution}
 use Rattle.model_candidates.proofs.LinearRows.{unit_values_below}
 use Rattle.model_candidates.proofs.SolvedEntries.{length-picked, All-picked}
 use Rattle.model_candidates.proofs.SystemSolutions.{unit_of_each, is_system, are_values, solves_from, greedy_filled}
@@ -57,6 +57,22 @@ module _ (problem : Problem) (s : Shape) (shape : IsShape (object_count problem.
   pub plan_conditions : (others : List ℕ) → IsSolution problem s drawn others → Hold
   plan_conditions = conditions_of_solution problem s shape drawn values.one_each values.below plan.assumptions.conditions
       fits.assumptions.each_condition
+
+  -- and the same with other values of the entries that are solved for
+  pub plan_hold : (chosen : List ℕ)
+      → All (IsZeroAtSignature problem (model_by (quiver_of problem.parts.quiver) s 0 (filled plan.solved drawn chosen))) plan.assumptions.conditions
+      → Hold
+  plan_hold chosen zero =
+      conditions_drawn problem s shape drawn values.one_each values.below plan.assumptions.conditions fits.assumptions.each_condition chosen
+      (subst (λ flags. All (IsZeroAtSignature problem (model_by (quiver_of problem.parts.quiver) s 0 (filled flags drawn chosen)))
+      plan.assumptions.conditions) fits.solved zero)
+
+  pub hold_filled : (chosen : List ℕ) → Hold
+      → All (IsZeroAtSignature problem (model_by (quiver_of problem.parts.quiver) s 0 (filled plan.solved drawn chosen))) plan.assumptions.conditions
+  hold_filled chosen zero =
+      subst (λ flags. All (IsZeroAtSignature problem (model_by (quiver_of problem.parts.quiver) s 0 (filled flags drawn chosen)))
+      plan.assumptions.conditions) (sym fits.solved)
+      (conditions_filled problem s shape drawn values.one_each values.below plan.assumptions.conditions fits.assumptions.each_condition zero chosen)
 
   pub plan_greedy : Hold → (chosen : List ℕ) → of_system.IsGreedy (system_for problem s plan.solved plan.assumptions.equations drawn)
       (picked plan.solved drawn) chosen

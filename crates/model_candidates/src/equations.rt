@@ -1,15 +1,16 @@
 //! The linear equations that the drawn entries leave for those that are solved for.
-ghost use Rattle.std.specs.Prelude.{◌≡◌, ◌++◌, IfOk, OnOk};
-ghost use Rattle.std.specs.List.{flat_map};
+ghost use Rattle.std.specs.Prelude.{◌≡◌, ◌++◌, IfNone, IfOk, IfSome, OnOk};
+ghost use Rattle.std.specs.List.{All, flat_map};
 ghost use Rattle.quiver.specs.Declarations.{object_count, quiver_of};
 ghost use Rattle.adjoint_rules.specs.Problem.{IsShape};
 ghost use Rattle.model_candidates.specs.Candidates.{model_by};
 ghost use Rattle.model_candidates.specs.Unknowns.{set_count, solved_flags};
-ghost use Rattle.model_candidates.specs.Plans.{AreEntryValues, FitsShape, IsAssumption};
+ghost use Rattle.model_candidates.specs.Plans.{AreEntryValues, FitsShape, IsAssumption, IsZeroAtSignature};
 ghost use Rattle.model_candidates.specs.Equations.{system_for};
 ghost use Rattle.model_candidates.specs.Factors.{equations_of};
 ghost use Rattle.model_candidates.specs.Known.{IsKnown};
 
+use crate::conditions::are_zero;
 use crate::factor_rows::push_rows;
 use crate::given_values::model_with;
 use crate::plan::{LinearAssumption, Plan};
@@ -22,27 +23,35 @@ use model_checker::representation_of;
 use representations::value_of;
 use std::alloc::{AllocError, Global};
 
-/// The equations for the entries that are solved for, where the others are drawn: each entry of each assumption is zero.
+/// The equations for the entries that are solved for, where the others are drawn: each entry of each assumption is zero. `None`
+/// comes exactly where an assumption in which no solved map stands isn't zero.
 pub(crate) fn system_of(
     alloc: Global,
     problem: &Problem,
     shape: &Shape,
     plan: &Plan,
     drawn: &[u32],
-) -> Result<System, AllocError>
+) -> Result<Option<System>, AllocError>
     requires shape { IsShape (object_count problem.now.parts.quiver) shape.now }
     requires plan { FitsShape problem.now shape.now plan.now }
     requires drawn { AreEntryValues problem.now shape.now drawn.now }
-    ensures { IfOk result (λ system. system ≡ system_for problem.now shape.now plan.now.solved plan.now.assumptions.equations drawn.now) }
+    ensures none { IfOk result (λ found. IfNone found (¬ All (IsZeroAtSignature problem.now
+        (model_by (quiver_of problem.now.parts.quiver) shape.now 0 drawn.now)) plan.now.assumptions.conditions)) }
+    ensures hold { IfOk result (λ found. IfSome found (λ _. All (IsZeroAtSignature problem.now
+        (model_by (quiver_of problem.now.parts.quiver) shape.now 0 drawn.now)) plan.now.assumptions.conditions)) }
+    ensures system { IfOk result (λ found. IfSome found (λ system.
+        system ≡ system_for problem.now shape.now plan.now.solved plan.now.assumptions.equations drawn.now)) }
 {
     let zeros = unit_values(alloc, plan.unknowns, plan.unknowns)?;
     let values = filled(alloc, plan.solved.as_slice(), drawn, zeros.as_slice())?;
-    let rows = rows_for(alloc, problem, shape, plan, values.as_slice())?;
-    Ok(System {
-        modulus: shape.modulus,
-        unknowns: plan.unknowns,
-        rows,
-    })
+    match rows_for(alloc, problem, shape, plan, values.as_slice())? {
+        Some(rows) => Ok(Some(System {
+            modulus: shape.modulus,
+            unknowns: plan.unknowns,
+            rows,
+        })),
+        None => Ok(None),
+    }
 }
 
 // The equations where the entries have these values: those that are solved for have the value 0.
@@ -52,16 +61,24 @@ fn rows_for(
     shape: &Shape,
     plan: &Plan,
     values: &[u32],
-) -> Result<Listing<LinearRow>, AllocError>
+) -> Result<Option<Listing<LinearRow>>, AllocError>
     requires shape { IsShape (object_count problem.now.parts.quiver) shape.now }
     requires plan { FitsShape problem.now shape.now plan.now }
     requires values { AreEntryValues problem.now shape.now values.now }
-    ensures { IfOk result (λ rows. rows ≡ flat_map (equations_of problem.now shape.now
-        (model_by (quiver_of problem.now.parts.quiver) shape.now 0 values.now)) plan.now.assumptions.equations) }
+    ensures none { IfOk result (λ found. IfNone found (¬ All (IsZeroAtSignature problem.now
+        (model_by (quiver_of problem.now.parts.quiver) shape.now 0 values.now)) plan.now.assumptions.conditions)) }
+    ensures hold { IfOk result (λ found. IfSome found (λ _. All (IsZeroAtSignature problem.now
+        (model_by (quiver_of problem.now.parts.quiver) shape.now 0 values.now)) plan.now.assumptions.conditions)) }
+    ensures rows { IfOk result (λ found. IfSome found (λ rows. rows ≡ flat_map (equations_of problem.now shape.now
+        (model_by (quiver_of problem.now.parts.quiver) shape.now 0 values.now)) plan.now.assumptions.equations)) }
 {
     let quiver = &problem.parts.quiver;
     let model = model_with(alloc, quiver, shape, 0, values)?;
     let representation = representation_of(alloc, quiver, &model)?;
+    let conditions = plan.assumptions.conditions.as_slice();
+    if !are_zero(alloc, problem, conditions, &model, &representation)? {
+        return Ok(None);
+    }
     let known = Known {
         alloc,
         problem,
@@ -70,9 +87,19 @@ fn rows_for(
         model: &model,
         representation: &representation,
     };
-    let mut rows = Listing::new(alloc);
+    Ok(Some(rows_of(&known, plan)?))
+}
+
+// The equations of all assumptions in which a solved map stands.
+fn rows_of(known: &Known, plan: &Plan) -> Result<Listing<LinearRow>, AllocError>
+    requires known { IsKnown known.now }
+    requires plan { FitsShape known.now.problem.now known.now.shape.now plan.now }
+    ensures { IfOk result (λ rows. rows
+        ≡ flat_map (equations_of known.now.problem.now known.now.shape.now known.now.model.now) plan.now.assumptions.equations) }
+{
+    let mut rows = Listing::new(known.alloc);
     for assumption in plan.assumptions.equations.as_slice() {
-        push_equations(&known, plan.unknowns, *assumption, &mut rows)?;
+        push_equations(known, plan.unknowns, *assumption, &mut rows)?;
     }
     Ok(rows)
 }

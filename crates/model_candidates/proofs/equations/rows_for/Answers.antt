@@ -1,18 +1,14 @@
-use Rattle.std.proofs.Common.{◌≡◌, ◌+◌, ◌++◌, ◌∷◌, [], List, get_or, take, sym, ap, ap₂, ◌∙◌}
+use Rattle.std.proofs.Common.{sym, ap, ◌∙◌}
 use Rattle.std.specs.List.{flat_map}
-use Rattle.std.proofs.lemmas.List.{append-nil, take_more}
-use Rattle.std.proofs.lemmas.Grind.{flat_map-append}
 use Rattle.quiver.specs.Declarations.{quiver_of}
-use Rattle.matrix_models.specs.declared.system.LinearRow.{LinearRow}
+use Rattle.std.specs.List.{All}
+use Rattle.std.proofs.Common.{true≢false, subst}
+use Rattle.model_candidates.specs.Plans.{IsAssumption, IsZeroAtSignature}
 use Rattle.adjoint_rules.proofs.Generators.{posed_quiver}
-use Rattle.model_candidates.specs.declared.plan.LinearAssumption.{LinearAssumption}
 use Rattle.model_candidates.specs.Candidates.{model_by}
 use Rattle.model_candidates.specs.Factors.{equations_of}
 use Rattle.model_candidates.proofs.MadeModels.{made_is_model, made_has_matrices}
 use Rattle.model_candidates.proofs.equations.rows_for.Goals as goal
-
-abbrev no_assumption : LinearAssumption
-no_assumption = record { place = 0; sig = record { source = record { 0 = 0 }; target = record { 0 = 0 } } }
 
 pub model_with-requires-clause-quiver : goal.model_with-requires-clause-quiver
 model_with-requires-clause-quiver c = posed_quiver c.args.problem.now.parts c.args.problem.now.posed
@@ -29,8 +25,8 @@ representation_of-requires-clause-maps c =
     made_has_matrices c.args.problem.now c.args.shape.now c.args.values.now c.in_ok-model.model c.in_ok-model.ensures c.requires.shape
     c.requires.values
 
-pub push_equations-requires-clause-known : goal.push_equations-requires-clause-known
-push_equations-requires-clause-known c =
+pub rows_of-requires-clause-known : goal.rows_of-requires-clause-known
+rows_of-requires-clause-known c =
     let problem = c.args.problem.now in
     let s = c.args.shape.now in
     let values = c.args.values.now in
@@ -43,19 +39,35 @@ push_equations-requires-clause-known c =
       lists = c.in_ok-representation.ensures;
     }
 
-pub loop-assumption-preserved : goal.loop-assumption-preserved
-loop-assumption-preserved c =
+pub are_zero-requires-clause-conditions : goal.are_zero-requires-clause-conditions
+are_zero-requires-clause-conditions c =
+    subst (All (IsAssumption c.args.problem.now 0)) (sym c.as_slice-conditions.ensures) c.requires.plan.assumptions.each_condition
+
+pub are_zero-requires-clause-model : goal.are_zero-requires-clause-model
+are_zero-requires-clause-model c =
+    made_is_model c.args.problem.now c.args.shape.now c.args.values.now c.in_ok-model.model c.in_ok-model.ensures c.requires.shape
+
+pub are_zero-requires-clause-maps : goal.are_zero-requires-clause-maps
+are_zero-requires-clause-maps c =
+    made_has_matrices c.args.problem.now c.args.shape.now c.args.values.now c.in_ok-model.model c.in_ok-model.ensures c.requires.shape
+    c.requires.values
+
+pub returns-then-not-branch-clause-none : goal.returns-then-not-branch-clause-none
+returns-then-not-branch-clause-none c = λ hold.
     let problem = c.args.problem.now in
-    let s = c.args.shape.now in
-    let gs = c.as_slice-assumption-items.result.now in
-    let same : gs ≡ c.args.plan.now.assumptions.equations = c.as_slice-assumption-items.ensures in
-    let k = c.loop-assumption.assumption-index in
-    let g = get_or gs k no_assumption in
-    let f : LinearAssumption → List LinearRow = equations_of problem s (model_by (quiver_of problem.parts.quiver) s 0 c.args.values.now) in
-    let pushed : c.push_equations.new.rows ≡ c.loop-assumption.rows ++ equations_of problem s c.in_ok-model.model g = c.in_ok-push_equations.ensures in
-    pushed ∙ ap₂ ◌++◌ (c.loop-assumption.invariant ∙ ap (λ xs. flat_map f (take k xs)) (sym same))
-    (ap (λ m. equations_of problem s m g) c.in_ok-model.ensures)
-    ∙ ap (λ xs. flat_map f (take k gs) ++ xs) (sym (append-nil (f g)))
-    ∙ sym (flat_map-append f (take k gs) (g ∷ []))
-    ∙ ap (flat_map f) (sym (take_more gs k no_assumption c.loop-assumption-test.true))
-    ∙ ap (λ xs. flat_map f (take (k + 1) xs)) same
+    let there = subst (All (IsZeroAtSignature problem (model_by (quiver_of problem.parts.quiver) c.args.shape.now 0 c.args.values.now)))
+    (sym c.as_slice-conditions.ensures) hold in
+    true≢false (sym (c.in_ok-are_zero.ensures.1
+    (subst (λ m. All (IsZeroAtSignature problem m) c.as_slice-conditions.result.now) (sym c.in_ok-model.ensures) there)) ∙ c.if-not-branch.true)
+
+pub returns-clause-hold : goal.returns-clause-hold
+returns-clause-hold c =
+    let problem = c.args.problem.now in
+    subst (λ m. All (IsZeroAtSignature problem m) c.args.plan.now.assumptions.conditions) c.in_ok-model.ensures
+    (subst (All (IsZeroAtSignature problem c.in_ok-model.model)) c.as_slice-conditions.ensures
+    (c.in_ok-are_zero.ensures.0 c.if-not-branch.false))
+
+pub returns-clause-rows : goal.returns-clause-rows
+returns-clause-rows c =
+    c.in_ok-rows_of.ensures
+    ∙ ap (λ m. flat_map (equations_of c.args.problem.now c.args.shape.now m) c.args.plan.now.assumptions.equations) c.in_ok-model.ensures
