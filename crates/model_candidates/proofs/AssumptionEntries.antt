@@ -119,11 +119,11 @@ module _ (problem : Problem) (s : Shape) (shape : IsShape (object_count problem.
     pub columns_object : IsObject s.modulus columns
     columns_object = side_is_object q s quiver shape g.sig.source.0 is.source
 
-    value_arrow : (values : List ℕ) → Below values → IsArrow (matrices s.modulus) columns rows (value values)
+    pub value_arrow : (values : List ℕ) → Below values → IsArrow (matrices s.modulus) columns rows (value values)
     value_arrow values below = value_is_matrix q s problem.parts.solved drawn quiver shape count drawn_below
         (terms_of problem g) g.sig.source.0 g.sig.target.0 is.source is.target values below
 
-    value_length : (values : List ℕ) → Below values → length (value values).entries ≡ rows * columns
+    pub value_length : (values : List ℕ) → Below values → length (value values).entries ≡ rows * columns
     value_length values below =
         let x = value_arrow values below in
         x.arrow.shape.size ∙ ap₂ ◌*◌ x.target x.source

@@ -20,6 +20,16 @@ use Rattle.model_candidates.proofs.FactorSums.{factor_sum, factor_is_sum}
 use Rattle.model_candidates.proofs.LetterEntries.{IsDeclared}
 use Rattle.model_candidates.proofs.WordFactors.{unit_below}
 
+pub solved_declared : (problem : Problem) → AllByRecursion (λ l. IsDeclared (quiver_of problem.parts.quiver) l.0) problem.parts.solved
+solved_declared problem =
+    let q = quiver_of problem.parts.quiver in
+    recursion_from_All (λ l. IsDeclared q l.0) problem.parts.solved
+    (All-weaker (IsDeclaredMap problem.parts.quiver) (λ l. IsDeclared q l.0) (λ l is. record {
+      map = is.map;
+      letter = subst (λ k. l.0 < k) (sym (letters-quiver_of problem.parts.quiver)) is.letter;
+      least = is.declared;
+    }) problem.parts.solved problem.posed.solved_maps)
+
 module _ (problem : Problem) (s : Shape) (shape : IsShape (object_count problem.parts.quiver) s) (drawn : List ℕ)
     (count : length drawn ≡ length (entries_of (quiver_of problem.parts.quiver) s))
     (drawn_below : All (λ value. value < s.modulus) drawn) where
@@ -32,13 +42,8 @@ module _ (problem : Problem) (s : Shape) (shape : IsShape (object_count problem.
   abbrev pub is_quiver : IsQuiver q
   is_quiver = posed_quiver problem.parts problem.posed
 
-  pub declared : AllByRecursion (λ l. IsDeclared q l.0) problem.parts.solved
-  declared = recursion_from_All (λ l. IsDeclared q l.0) problem.parts.solved
-      (All-weaker (IsDeclaredMap problem.parts.quiver) (λ l. IsDeclared q l.0) (λ l is. record {
-        map = is.map;
-        letter = subst (λ k. l.0 < k) (sym (letters-quiver_of problem.parts.quiver)) is.letter;
-        least = is.declared;
-      }) problem.parts.solved problem.posed.solved_maps)
+  abbrev declared : AllByRecursion (λ l. IsDeclared q l.0) problem.parts.solved
+  declared = solved_declared problem
 
   module _ (g : LinearAssumption) (is : IsAssumption problem 1 g) where
     abbrev rows : ℕ

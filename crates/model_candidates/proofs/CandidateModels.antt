@@ -74,7 +74,7 @@ module _ (q : Quiver) (s : Shape) (quiver : IsQuiver q) (shape : IsShape q.objec
   }
 
   module _ (values : List ℕ) (one_each : length values ≡ length (entries_of q s)) (below : All (λ value. value < s.modulus) values) where
-    value_below : (x : Entry) → value_of_entry q s values x < s.modulus
+    pub value_below : (x : Entry) → value_of_entry q s values x < s.modulus
     value_below x = go (position (is_same_entry x) (entries_of q s)) refl
       where
         go : (place : Option ℕ) → position (is_same_entry x) (entries_of q s) ≡ place → value_at values place < s.modulus

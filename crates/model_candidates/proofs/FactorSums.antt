@@ -21,7 +21,8 @@ use Rattle.model_candidates.proofs.AffineArrows.{represents_at}
 use Rattle.model_candidates.proofs.AffineValues.{HasFew, word_is_same}
 use Rattle.model_candidates.proofs.CandidateModels.{modulus_of_shape}
 use Rattle.model_candidates.proofs.LetterEntries.{IsDeclared}
-use Rattle.model_candidates.proofs.ProductEntries.{residue, multiple_entry}
+use Rattle.model_candidates.specs.Factors.{residue}
+use Rattle.model_candidates.proofs.ProductEntries.{multiple_entry}
 use Rattle.model_candidates.proofs.WordFactors.{unknowns, unit, at, unit_below, factor_behind, factor_one, factor_none, factor_zero}
 
 -- ---- multiples have the sides of the matrix

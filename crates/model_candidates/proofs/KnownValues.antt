@@ -59,6 +59,13 @@ module _ (problem : Problem) (s : Shape) (shape : IsShape (object_count problem.
         value_drawn (get_or gs k no_assumption) (All-get_or (IsAssumption problem 0) gs k no_assumption inside each) values
         ∙ All-get_or (IsZeroAtSignature problem (model_by q s 0 drawn)) gs k no_assumption inside zero)
 
+    pub conditions_drawn : (values : List ℕ) → All (IsZeroAtSignature problem (model_by q s 0 (filled flags drawn values))) gs
+        → All (IsZeroAtSignature problem (model_by q s 0 drawn)) gs
+    conditions_drawn values zero =
+        All-from_get_or (IsZeroAtSignature problem (model_by q s 0 drawn)) gs no_assumption (λ k inside.
+        sym (value_drawn (get_or gs k no_assumption) (All-get_or (IsAssumption problem 0) gs k no_assumption inside each) values)
+        ∙ All-get_or (IsZeroAtSignature problem (model_by q s 0 (filled flags drawn values))) gs k no_assumption inside zero)
+
     -- each solution shows that they are zero
     pub conditions_of_solution : (values : List ℕ) → IsSolution problem s drawn values → All (IsZeroAtSignature problem (model_by q s 0 drawn)) gs
     conditions_of_solution values solution =

@@ -11,6 +11,7 @@ use Rattle.matrix_models.specs.Entries.{entry_at-matrix_of}
 use Rattle.model_checker.specs.Models.{arrow_of, IsMap}
 use Rattle.model_candidates.specs.Candidates.{side_in, entries_of, is_declared_map, is_solved, is_solved_map, matrix_by}
 use Rattle.model_candidates.specs.Unknowns.{solved_flags, set_count, filled, unit_values}
+use Rattle.model_candidates.specs.LetterNumbers.{map_behind, number_at}
 use Rattle.model_candidates.proofs.AffineArrows.{model_at, arrow_of_map, arrow_of_adjoint, map_of}
 use Rattle.model_candidates.proofs.UnitEntries.{unknown_at, unit_entry, unknown_below}
 
@@ -20,20 +21,16 @@ pub record IsDeclared (q : Quiver) (a : ℕ) : Type 0 where
   pub letter : a < letters q
   pub least : a ≤ star q a
 
--- the map, where the letter is the adjoint of one
-abbrev pub map_behind : Quiver → ℕ → ℕ
-map_behind q a = cond (nat_le a (star q a)) a (star q a)
-
 -- A letter that is a solved map or the adjoint of one is no identity, and the map behind it is solved.
 pub record HasSolvedMap (q : Quiver) (solved : List Letter) (a : ℕ) : Type 0 where
   pub map : q.objects ≤ a
   pub is_solved : is_solved_map solved (map_behind q a) ≡ true
 
 module _ (q : Quiver) (quiver : IsQuiver q) (a : ℕ) (in_a : a < letters q) where
-  itself : a ≤ star q a → map_behind q a ≡ a
+  pub itself : a ≤ star q a → map_behind q a ≡ a
   itself le = ap (λ b. cond b a (star q a)) (le-leb a (star q a) le)
 
-  adjoint : star q a < a → map_behind q a ≡ star q a
+  pub adjoint : star q a < a → map_behind q a ≡ star q a
   adjoint less = ap (λ b. cond b a (star q a)) (lt-leb a (star q a) less)
 
   first_solved : (l : Letter) (ls : List Letter) → map_behind q a ≡ l.0 → is_solved_map (l ∷ ls) (map_behind q a) ≡ true
@@ -73,16 +70,12 @@ module _ (q : Quiver) (quiver : IsQuiver q) (a : ℕ) (in_a : a < letters q) whe
 -- ---- the matrix of a letter
 module _ (q : Quiver) (s : Shape) (solved : List Letter) (drawn : List ℕ) (count : length drawn ≡ length (entries_of q s))
     (quiver : IsQuiver q) (shape : IsShape q.objects s) (declared : AllByRecursion (λ l. IsDeclared q l.0) solved) where
-  -- the number of the unknown in this row and column of the matrix of a letter
-  abbrev pub number_at : ℕ → ℕ → ℕ → ℕ
-  number_at a i j = cond (nat_le a (star q a)) (unknown_at q s solved drawn count a i j) (unknown_at q s solved drawn count (star q a) j i)
-
   abbrev unit : ℕ → List ℕ
   unit unknown = unit_values (set_count (solved_flags q s solved)) unknown
 
   pub letter_entry : (a : ℕ) → a < letters q → is_solved q solved a ≡ true → (unknown i j : ℕ) → i < side_in s (target q a)
       → j < side_in s (source q a)
-      → entry_at (arrow_of q (model_at q s solved drawn (unit unknown)) a) i j ≡ cond (eqb (number_at a i j) unknown) 1 0
+      → entry_at (arrow_of q (model_at q s solved drawn (unit unknown)) a) i j ≡ cond (eqb (number_at q s solved a i j) unknown) 1 0
   letter_entry a letter is unknown i j in_rows in_columns = go (cases_lt (star q a) a)
     where
       has : HasSolvedMap q solved a
@@ -92,7 +85,7 @@ module _ (q : Quiver) (s : Shape) (solved : List Letter) (drawn : List ℕ) (cou
       all = filled (solved_flags q s solved) drawn (unit unknown)
 
       go : (star q a < a) ⊎ (a ≤ star q a)
-          → entry_at (arrow_of q (model_at q s solved drawn (unit unknown)) a) i j ≡ cond (eqb (number_at a i j) unknown) 1 0
+          → entry_at (arrow_of q (model_at q s solved drawn (unit unknown)) a) i j ≡ cond (eqb (number_at q s solved a i j) unknown) 1 0
       go (inr least) =
           let map : IsMap q a = record { map = has.map; letter = letter; declared = least } in
           let shown : is_declared_map q a ≡ true = ap₂ ◌&&◌ (le-leb q.objects a has.map) (le-leb a (star q a) least) in
@@ -118,7 +111,7 @@ module _ (q : Quiver) (s : Shape) (solved : List Letter) (drawn : List ℕ) (cou
           (sym (lt-leb a b less))
 
   pub number_below : (a : ℕ) → a < letters q → is_solved q solved a ≡ true → (i j : ℕ) → i < side_in s (target q a)
-      → j < side_in s (source q a) → number_at a i j < set_count (solved_flags q s solved)
+      → j < side_in s (source q a) → number_at q s solved a i j < set_count (solved_flags q s solved)
   number_below a letter is i j in_rows in_columns = go (cases_lt (star q a) a)
     where
       has : HasSolvedMap q solved a

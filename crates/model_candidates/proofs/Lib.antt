@@ -31,3 +31,10 @@ pub mod AskedAssumptions
 pub mod NumberedShapes
 pub mod FiniteSearch
 pub mod CandidateLaws
+pub mod FactorRows
+pub mod SolvedPlaces
+pub mod KnownProducts
+pub mod SolvedTerms
+pub mod TermSums
+pub mod AssumptionRows
+pub mod KnownTerms

@@ -1,5 +1,5 @@
--- A model that is made of values of the entries: what is asked of it, and the entries of the values of assumptions in it.
-use Rattle.std.proofs.Common.{◌≡◌, ℕ, List, sym, ap, subst, ◌∙◌}
+-- A model that is made of values of the entries: what is asked of it.
+use Rattle.std.proofs.Common.{◌≡◌, ℕ, List, sym, subst}
 use Rattle.definitions.specs.Quiver.{letters}
 use Rattle.quiver.specs.Declarations.{object_count, quiver_of}
 use Rattle.matrix_models.specs.declared.model.Model.{Model}
@@ -7,11 +7,9 @@ use Rattle.adjoint_rules.specs.declared.parts.Shape.{Shape}
 use Rattle.adjoint_rules.specs.declared.problem.Problem.{Problem}
 use Rattle.adjoint_rules.specs.Problem.{IsShape}
 use Rattle.adjoint_rules.proofs.Generators.{posed_quiver}
-use Rattle.model_candidates.specs.declared.plan.LinearAssumption.{LinearAssumption}
 use Rattle.model_checker.specs.Models.{IsModel, HaveMatrices}
 use Rattle.model_candidates.specs.Candidates.{model_by}
 use Rattle.model_candidates.specs.Plans.{AreEntryValues}
-use Rattle.model_candidates.specs.Equations.{entries_of_values, entries_in}
 use Rattle.model_candidates.proofs.CandidateModels.{model_by_is_model, model_by_has_matrices}
 
 module _ (problem : Problem) (s : Shape) (values : List ℕ) (m : Model) (made : m ≡ model_by (quiver_of problem.parts.quiver) s 0 values) where
@@ -23,6 +21,3 @@ module _ (problem : Problem) (s : Shape) (values : List ℕ) (m : Model) (made :
       → HaveMatrices (quiver_of problem.parts.quiver) m (letters (quiver_of problem.parts.quiver))
   made_has_matrices shape are = subst (λ x. HaveMatrices (quiver_of problem.parts.quiver) x (letters (quiver_of problem.parts.quiver))) (sym made)
       (model_by_has_matrices (quiver_of problem.parts.quiver) s (posed_quiver problem.parts problem.posed) shape values are.one_each are.below 0)
-
-  pub made_entries : (gs : List LinearAssumption) (entries : List ℕ) → entries ≡ entries_of_values problem m gs → entries ≡ entries_in problem s gs values
-  made_entries gs entries is = is ∙ ap (λ x. entries_of_values problem x gs) made

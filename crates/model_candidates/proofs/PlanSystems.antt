@@ -1,6 +1,6 @@
 -- The equations of a plan: what is asked of them, and what their solutions are.
-use Rattle.std.proofs.Common.{◌≡◌, ℕ, ◌<◌, List, length, map, sym, ap, subst, ◌∙◌}
-use Rattle.std.specs.List.{All, range_with_len}
+use Rattle.std.proofs.Common.{◌≡◌, ℕ, ◌<◌, List, length, sym, ap, subst, ◌∙◌}
+use Rattle.std.specs.List.{All}
 use Rattle.quiver.specs.Declarations.{object_count, quiver_of}
 use Rattle.matrix_models.specs.Systems.{IsSystem, AreValues, HasNoSolution}
 use Rattle.matrix_models.specs.Greedy as of_system
@@ -11,23 +11,19 @@ use Rattle.model_candidates.specs.declared.plan.Plan.{Plan}
 use Rattle.model_candidates.specs.Candidates.{IsSolution, IsGreedy, model_by}
 use Rattle.model_candidates.specs.Unknowns.{set_count, filled, picked, unit_values}
 use Rattle.model_candidates.specs.Plans.{FitsShape, AreEntryValues, IsZeroAtSignature}
-use Rattle.model_candidates.specs.Equations.{entries_at, system_for}
+use Rattle.model_candidates.specs.Equations.{system_for}
 use Rattle.adjoint_rules.proofs.Generators.{posed_quiver}
 use Rattle.model_candidates.proofs.CandidateModels.{modulus_of_shape}
 use Rattle.model_candidates.proofs.DrawnEntries.{flag_of_each}
 use Rattle.model_candidates.proofs.FilledValues.{length-filled, All-filled}
-use Rattle.model_candidates.proofs.KnownValues.{conditions_of_solution}
+use Rattle.model_candidates.proofs.KnownValues.{conditions_drawn, conditions_filled, conditions_of_solution}
 use Rattle.model_candidates.proofs.LinearRows.{unit_values_below}
 use Rattle.model_candidates.proofs.SolvedEntries.{length-picked, All-picked}
-use Rattle.model_candidates.proofs.SystemSolutions.{zero_below, units_below, units_alike, unit_of_each, is_system, are_values, solves_from, greedy_filled}
+use Rattle.model_candidates.proofs.SystemSolutions.{unit_of_each, is_system, are_values, solves_from, greedy_filled}
 
 module _ (problem : Problem) (s : Shape) (shape : IsShape (object_count problem.parts.quiver) s) (plan : Plan)
     (fits : FitsShape problem s plan) (drawn : List ℕ)
     (values : AreEntryValues problem s drawn) where
-  -- the entries at a unit, and at zero
-  abbrev pub entries_for : ℕ → List ℕ
-  entries_for k = entries_at problem s plan.solved plan.assumptions.equations drawn k
-
   -- the values of the entries there
   pub plan_filled : (unknown : ℕ) → AreEntryValues problem s (filled plan.solved drawn (unit_values (set_count plan.solved) unknown))
   plan_filled unknown =
@@ -39,24 +35,6 @@ module _ (problem : Problem) (s : Shape) (shape : IsShape (object_count problem.
         one_each = length-filled plan.solved drawn unit same ∙ values.one_each;
         below = All-filled (λ value. value < s.modulus) plan.solved drawn unit values.below (unit_values_below s.modulus (set_count plan.solved) unknown least);
       }
-
-  pub plan_zero_below : All (λ x. x < s.modulus) (entries_for (set_count plan.solved))
-  plan_zero_below =
-      subst (λ flags. All (λ x. x < s.modulus) (entries_at problem s flags plan.assumptions.equations drawn (set_count flags))) (sym fits.solved)
-      (zero_below problem s shape drawn values.one_each values.below plan.assumptions.conditions plan.assumptions.equations fits.assumptions)
-
-  pub plan_units_below : All (λ u. All (λ x. x < s.modulus) u) (map entries_for (range_with_len 0 (set_count plan.solved)))
-  plan_units_below =
-      subst (λ flags. All (λ u. All (λ x. x < s.modulus) u) (map (entries_at problem s flags plan.assumptions.equations drawn)
-      (range_with_len 0 (set_count flags)))) (sym fits.solved)
-      (units_below problem s shape drawn values.one_each values.below plan.assumptions.conditions plan.assumptions.equations fits.assumptions)
-
-  pub plan_units_alike : All (λ u. length u ≡ length (entries_for (set_count plan.solved)))
-      (map entries_for (range_with_len 0 (set_count plan.solved)))
-  plan_units_alike =
-      subst (λ flags. All (λ u. length u ≡ length (entries_at problem s flags plan.assumptions.equations drawn (set_count flags)))
-      (map (entries_at problem s flags plan.assumptions.equations drawn) (range_with_len 0 (set_count flags))))
-      (sym fits.solved) (units_alike problem s shape drawn values.one_each values.below plan.assumptions.conditions plan.assumptions.equations fits.assumptions)
 
   pub plan_system : IsSystem (system_for problem s plan.solved plan.assumptions.equations drawn)
   plan_system = subst (λ flags. IsSystem (system_for problem s flags plan.assumptions.equations drawn)) (sym fits.solved)
@@ -79,6 +57,22 @@ module _ (problem : Problem) (s : Shape) (shape : IsShape (object_count problem.
   pub plan_conditions : (others : List ℕ) → IsSolution problem s drawn others → Hold
   plan_conditions = conditions_of_solution problem s shape drawn values.one_each values.below plan.assumptions.conditions
       fits.assumptions.each_condition
+
+  -- and the same with other values of the entries that are solved for
+  pub plan_hold : (chosen : List ℕ)
+      → All (IsZeroAtSignature problem (model_by (quiver_of problem.parts.quiver) s 0 (filled plan.solved drawn chosen))) plan.assumptions.conditions
+      → Hold
+  plan_hold chosen zero =
+      conditions_drawn problem s shape drawn values.one_each values.below plan.assumptions.conditions fits.assumptions.each_condition chosen
+      (subst (λ flags. All (IsZeroAtSignature problem (model_by (quiver_of problem.parts.quiver) s 0 (filled flags drawn chosen)))
+      plan.assumptions.conditions) fits.solved zero)
+
+  pub hold_filled : (chosen : List ℕ) → Hold
+      → All (IsZeroAtSignature problem (model_by (quiver_of problem.parts.quiver) s 0 (filled plan.solved drawn chosen))) plan.assumptions.conditions
+  hold_filled chosen zero =
+      subst (λ flags. All (IsZeroAtSignature problem (model_by (quiver_of problem.parts.quiver) s 0 (filled flags drawn chosen)))
+      plan.assumptions.conditions) (sym fits.solved)
+      (conditions_filled problem s shape drawn values.one_each values.below plan.assumptions.conditions fits.assumptions.each_condition zero chosen)
 
   pub plan_greedy : Hold → (chosen : List ℕ) → of_system.IsGreedy (system_for problem s plan.solved plan.assumptions.equations drawn)
       (picked plan.solved drawn) chosen

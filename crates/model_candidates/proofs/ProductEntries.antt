@@ -8,6 +8,7 @@ use Rattle.matrix_models.specs.Matrices.{total, matrices, matrix_product}
 use Rattle.matrix_models.specs.Entries.{entry_at-matrix_of}
 use Rattle.matrix_models.specs.Totals.{total_mul, total_mod}
 use Rattle.matrix_models.proofs.Congruences.{add_cancel}
+use Rattle.model_candidates.specs.Factors.{residue}
 
 module _ (m : ℕ) where
   -- ---- products
@@ -33,11 +34,6 @@ module _ (m : ℕ) where
       ∙ ap (λ x. x % m) (total_mul between.columns (entry_at left i k) (λ l. entry_at between k l * entry_at right l j)))
 
   -- ---- multiples
-  -- the coefficient modulo m
-  abbrev pub residue : ℤ → ℕ
-  residue (pos n) = n % m
-  residue (negsuc n) = (m - suc n % m) % m
-
   natural_entry : (n : ℕ) (a : Matrix) (i j : ℕ) → 0 < m → i < a.rows → j < a.columns
       → entry_at (natural_multiple (matrices m) n a) i j ≡ (n * entry_at a i j) % m
   natural_entry zero a i j positive in_rows in_columns =
@@ -64,7 +60,7 @@ module _ (m : ℕ) where
       ∙ sym (mul-mod_first (m - n % m) x m)
 
   pub multiple_entry : (k : ℤ) (a : Matrix) (i j : ℕ) → 0 < m → i < a.rows → j < a.columns
-      → entry_at (multiple (matrices m) k a) i j ≡ (residue k * entry_at a i j) % m
+      → entry_at (multiple (matrices m) k a) i j ≡ (residue m k * entry_at a i j) % m
   multiple_entry (pos n) a i j positive in_rows in_columns =
       natural_entry n a i j positive in_rows in_columns ∙ sym (mul-mod_first n (entry_at a i j) m)
   multiple_entry (negsuc n) a i j positive in_rows in_columns =

@@ -1,8 +1,8 @@
 -- What stands in the matrix of a map that is solved for at a unit: 1 at the entries of its unknown, and 0 at all others.
-use Rattle.std.proofs.Common.{◌≡◌, ℕ, ◌+◌, ◌<◌, ◌≤◌, ◌&&◌, ◌||◌, Bool, true, false, cond, not, eqb, ltb, nat_eq, nat_le, List, length, map, get_or, Some, ◌⊎◌, inl, inr, sym, ap, subst, ◌∙◌, arith, eqb-true}
+use Rattle.std.proofs.Common.{◌≡◌, ℕ, ◌+◌, ◌<◌, ◌≤◌, ◌&&◌, ◌||◌, Bool, true, false, cond, not, eqb, ltb, nat_eq, nat_le, List, length, replicate, get_or, Some, ◌⊎◌, inl, inr, sym, ap, subst, ◌∙◌, arith, eqb-true}
 use Rattle.std.specs.List.{position, range_with_len}
 use Rattle.std.proofs.lemmas.Bool.{cases_lt, le-leb, and_parts}
-use Rattle.std.proofs.lemmas.List.{get_or-map, length-map}
+use Rattle.std.proofs.lemmas.List.{get_or-map, length-map, length-replicate}
 use Rattle.std.proofs.lemmas.List.FromFn.{get_or-range_with_len, length-range_with_len}
 use Rattle.std.proofs.lemmas.List.Quantifiers.{position-Some}
 use Rattle.definitions.specs.Quiver.{Quiver, IsQuiver, letters, source, target, star}
@@ -12,14 +12,10 @@ use Rattle.matrix_models.specs.Matrix.{entry_at}
 use Rattle.matrix_models.specs.Entries.{entry_at-matrix_of}
 use Rattle.model_candidates.specs.Candidates.{Entry, entry, is_same_entry, is_self, is_declared_map, side_in, entries_of, value_at, value_of_entry, entry_shown, matrix_by, is_solved_map}
 use Rattle.model_candidates.specs.EntryPlaces.{is_kept}
-use Rattle.model_candidates.specs.Unknowns.{solved_flags, set_count, filled, unit_values}
+use Rattle.model_candidates.specs.Unknowns.{solved_flags, set_count, filled, unit_values, unknown_numbers}
 use Rattle.model_candidates.proofs.EntryPlaces.{place_of_entry, shown_mirrored, shown_itself, shown_behind}
 use Rattle.model_candidates.proofs.LinearRows.{length-unit_values, unit_at}
 use Rattle.model_candidates.proofs.SolvedEntries.{before, before_within, filled_set}
-
--- for each entry the number of its unknown, counted from 0, and that of all unknowns where it isn't solved for
-abbrev pub unknown_numbers : List Bool → List ℕ
-unknown_numbers flags = filled flags (map (λ flag. set_count flags) flags) (range_with_len 0 (set_count flags))
 
 -- ---- at a place whose flag is set
 module _ (flags : List Bool) (place : ℕ) (inside : place < length flags) (set : get_or flags place false ≡ true) where
@@ -27,8 +23,8 @@ module _ (flags : List Bool) (place : ℕ) (inside : place < length flags) (set 
   number_there =
       let within = before_within flags place inside set in
       let none : 0 + before flags place ≡ before flags place = omega arith in
-      filled_set flags (map (λ flag. set_count flags) flags) (range_with_len 0 (set_count flags)) place
-      (length-map flags (λ flag. set_count flags)) (length-range_with_len 0 (set_count flags)) inside set
+      filled_set flags (replicate (length flags) (set_count flags)) (range_with_len 0 (set_count flags)) place
+      (length-replicate (length flags) (set_count flags)) (length-range_with_len 0 (set_count flags)) inside set
       ∙ get_or-range_with_len 0 (set_count flags) (before flags place) 0 within ∙ none
 
   pub number_below : get_or (unknown_numbers flags) place 0 < set_count flags

@@ -16,7 +16,8 @@ use Rattle.model_candidates.specs.Candidates.{side_in, entries_of, solved_count}
 use Rattle.model_candidates.proofs.AffineArrows.{model_at, arrow_unsolved, represents_at}
 use Rattle.model_candidates.proofs.AffineValues.{count_without, first_unsolved}
 use Rattle.model_candidates.proofs.ProductEntries.{entry_sum, triple_entry}
-use Rattle.model_candidates.proofs.WordProducts.{letters_product, fit_letter, product_is_arrow, word_value-letter}
+use Rattle.model_candidates.specs.Factors.{letters_product}
+use Rattle.model_candidates.proofs.WordProducts.{fit_letter, product_is_arrow, word_value-letter}
 
 module _ (q : Quiver) (s : Shape) (solved : List Letter) (drawn : List ℕ) (quiver : IsQuiver q) (shape : IsShape q.objects s)
     (count : length drawn ≡ length (entries_of q s)) (drawn_below : All (λ value. value < s.modulus) drawn) where
@@ -38,12 +39,12 @@ module _ (q : Quiver) (s : Shape) (solved : List Letter) (drawn : List ℕ) (qui
       (sym (count_without q s solved drawn quiver shape count drawn_below a w unsolved) ∙ none) values)
 
   pub word_entry : (u v : ℕ) (l : List ℕ) (x : ℕ) (r : List ℕ) (none : Matrix) → u < q.objects → is_path q u v (l ++ x ∷ r) ≡ true
-      → solved_count q solved l ≡ 0 → solved_count q solved r ≡ 0 → (values : List ℕ) → All (λ value. value < s.modulus) values
+      → solved_count q solved l ≡ 0 → solved_count q solved r ≡ 0 → (base values : List ℕ) → All (λ value. value < s.modulus) values
       → (i j : ℕ) → i < side_in s v → j < side_in s u
       → entry_at (word_value (matrices s.modulus) (at values) none (l ++ x ∷ r)) i j
-      ≡ entry_sum s.modulus (product_at (target q x) l []) (arrow_of q (model_at q s solved drawn values) x) (product_at u r []) i j
+      ≡ entry_sum s.modulus (product_at (target q x) l base) (arrow_of q (model_at q s solved drawn values) x) (product_at u r base) i j
       % s.modulus
-  word_entry u v l x r none in_u path before_none behind_none values below i j in_rows in_columns =
+  word_entry u v l x r none in_u path before_none behind_none base values below i j in_rows in_columns =
       let laws = matrices_laws s.modulus in
       let rep = represents_at q s solved drawn quiver shape count drawn_below values below in
       let fit = fit_letter q u v l x r path in
@@ -56,4 +57,5 @@ module _ (q : Quiver) (s : Shape) (solved : List Letter) (drawn : List ℕ) (qui
       ∙ triple_entry s.modulus (product_at (target q x) l values) letter (product_at u r values) i j (left.source ∙ sym between.target)
       (subst (λ n. i < n) (sym left.target) in_rows) (subst (λ n. j < n) (sym right.source) in_columns)
       ∙ ap₂ (λ y z. entry_sum s.modulus y letter z i j % s.modulus)
-      (product_unsolved (target q x) v l fit.before before_none values) (product_unsolved u (source q x) r fit.behind behind_none values)
+      (product_unsolved (target q x) v l fit.before before_none values ∙ sym (product_unsolved (target q x) v l fit.before before_none base))
+      (product_unsolved u (source q x) r fit.behind behind_none values ∙ sym (product_unsolved u (source q x) r fit.behind behind_none base))

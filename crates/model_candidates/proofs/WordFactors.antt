@@ -14,10 +14,11 @@ use Rattle.matrix_models.specs.Totals.{total_same, total_zero}
 use Rattle.model_checker.specs.Models.{arrow_of, representation_of}
 use Rattle.model_candidates.specs.Candidates.{side_in, entries_of, is_solved, solved_count}
 use Rattle.model_candidates.specs.Unknowns.{solved_flags, set_count, unit_values}
+use Rattle.model_candidates.specs.LetterNumbers.{number_at}
 use Rattle.model_candidates.proofs.AffineArrows.{model_at, represents_at}
 use Rattle.model_candidates.proofs.AffineValues.{count_with, count_without}
 use Rattle.model_candidates.proofs.CandidateModels.{modulus_of_shape}
-use Rattle.model_candidates.proofs.LetterEntries.{IsDeclared, number_at, letter_entry, number_below}
+use Rattle.model_candidates.proofs.LetterEntries.{IsDeclared, letter_entry, number_below}
 use Rattle.model_candidates.proofs.LinearRows.{unit_values_below}
 use Rattle.model_candidates.proofs.ProductEntries.{entry_sum}
 use Rattle.model_candidates.proofs.WordEntries.{product_at, word_entry}
@@ -42,7 +43,7 @@ module _ (q : Quiver) (s : Shape) (solved : List Letter) (drawn : List ℕ) (qui
   abbrev pub letter_factor : (left right : Matrix) → ℕ → ℕ → ℕ → ℕ → ℕ
   letter_factor left right x unknown i j =
       total (side_in s (target q x)) (λ row. total (side_in s (source q x)) (λ column.
-      entry_at left i row * (cond (eqb (number_at q s solved drawn count quiver shape declared x row column) unknown) 1 0 * entry_at right column j)))
+      entry_at left i row * (cond (eqb (number_at q s solved x row column) unknown) 1 0 * entry_at right column j)))
 
   letter_sum : (left right : Matrix) (x unknown i j : ℕ) → x < letters q → is_solved q solved x ≡ true
       → entry_sum s.modulus left (arrow_of q (model_at q s solved drawn (unit unknown)) x) right i j ≡ letter_factor left right x unknown i j
@@ -62,7 +63,7 @@ module _ (q : Quiver) (s : Shape) (solved : List Letter) (drawn : List ℕ) (qui
   no_unknown left right x i j letter is =
       total_zero (side_in s (target q x)) _ (λ row in_rows. total_zero (side_in s (source q x)) _ (λ column in_columns.
       let small = number_below q s solved drawn count quiver shape declared x letter is row column in_rows in_columns in
-      let number = number_at q s solved drawn count quiver shape declared x row column in
+      let number = number_at q s solved x row column in
       ap (λ b. entry_at left i row * (cond b 1 0 * entry_at right column j)) (ne_eqb number unknowns (λ same. absurd (omega (arith, small, same))))
       ∙ ap (λ y. entry_at left i row * y) (zero-mul (entry_at right column j)) ∙ mul-zero (entry_at left i row)))
 
@@ -72,8 +73,8 @@ module _ (q : Quiver) (s : Shape) (solved : List Letter) (drawn : List ℕ) (qui
   factor_behind u unknown i j before [] = 0
   factor_behind u unknown i j before (x ∷ w) =
       cond (is_solved q solved x)
-      (letter_factor (product_at q s solved drawn quiver shape count drawn_below (target q x) before [])
-      (product_at q s solved drawn quiver shape count drawn_below u w []) x unknown i j)
+      (letter_factor (product_at q s solved drawn quiver shape count drawn_below (target q x) before (unit unknowns))
+      (product_at q s solved drawn quiver shape count drawn_below u w (unit unknowns)) x unknown i j)
       (factor_behind u unknown i j (before ++ x ∷ []) w)
 
   abbrev word_entry_at : ℕ → List ℕ → Matrix → ℕ → ℕ → ℕ
@@ -100,8 +101,8 @@ module _ (q : Quiver) (s : Shape) (solved : List Letter) (drawn : List ℕ) (qui
       go (is_solved q solved x) refl (factor_one u v (before ++ x ∷ []) w none unknown i j in_u)
     where
       first : ℕ
-      first = letter_factor (product_at q s solved drawn quiver shape count drawn_below (target q x) before [])
-          (product_at q s solved drawn quiver shape count drawn_below u w []) x unknown i j
+      first = letter_factor (product_at q s solved drawn quiver shape count drawn_below (target q x) before (unit unknowns))
+          (product_at q s solved drawn quiver shape count drawn_below u w (unit unknowns)) x unknown i j
 
       go : (b : Bool) → is_solved q solved x ≡ b
           → (is_path q u v ((before ++ x ∷ []) ++ w) ≡ true → solved_count q solved (before ++ x ∷ []) ≡ 0 → solved_count q solved w ≡ 1
@@ -110,10 +111,10 @@ module _ (q : Quiver) (s : Shape) (solved : List Letter) (drawn : List ℕ) (qui
           → word_entry_at unknown (before ++ x ∷ w) none i j ≡ cond b first (factor_behind u unknown i j (before ++ x ∷ []) w) % s.modulus
       go true is later =
           let rest : solved_count q solved w ≡ 0 = omega (arith, count_with q s solved drawn quiver shape count drawn_below x w is, one) in
-          word_entry q s solved drawn quiver shape count drawn_below u v before x w none in_u path unsolved rest (unit unknown) (unit_below unknown)
+          word_entry q s solved drawn quiver shape count drawn_below u v before x w none in_u path unsolved rest (unit unknowns) (unit unknown) (unit_below unknown)
           i j in_rows in_columns
-          ∙ ap (λ y. y % s.modulus) (letter_sum (product_at q s solved drawn quiver shape count drawn_below (target q x) before [])
-          (product_at q s solved drawn quiver shape count drawn_below u w []) x unknown i j (fit_letter q u v before x w path).letter is)
+          ∙ ap (λ y. y % s.modulus) (letter_sum (product_at q s solved drawn quiver shape count drawn_below (target q x) before (unit unknowns))
+          (product_at q s solved drawn quiver shape count drawn_below u w (unit unknowns)) x unknown i j (fit_letter q u v before x w path).letter is)
       go false is later =
           let same = append_assoc before (x ∷ []) w in
           ap (λ y. word_entry_at unknown y none i j) (sym same)
@@ -127,8 +128,8 @@ module _ (q : Quiver) (s : Shape) (solved : List Letter) (drawn : List ℕ) (qui
     where
       go : (b : Bool) → is_solved q solved x ≡ b
           → (solved_count q solved w ≡ 0 → factor_behind u unknown i j (before ++ x ∷ []) w ≡ 0)
-          → cond b (letter_factor (product_at q s solved drawn quiver shape count drawn_below (target q x) before [])
-          (product_at q s solved drawn quiver shape count drawn_below u w []) x unknown i j) (factor_behind u unknown i j (before ++ x ∷ []) w) ≡ 0
+          → cond b (letter_factor (product_at q s solved drawn quiver shape count drawn_below (target q x) before (unit unknowns))
+          (product_at q s solved drawn quiver shape count drawn_below u w (unit unknowns)) x unknown i j) (factor_behind u unknown i j (before ++ x ∷ []) w) ≡ 0
       go true is later = absurd (omega (arith, count_with q s solved drawn quiver shape count drawn_below x w is, none))
       go false is later = later (sym (count_without q s solved drawn quiver shape count drawn_below x w is) ∙ none)
 
@@ -139,9 +140,9 @@ module _ (q : Quiver) (s : Shape) (solved : List Letter) (drawn : List ℕ) (qui
     where
       go : (b : Bool) → is_solved q solved x ≡ b
           → (is_path q u v ((before ++ x ∷ []) ++ w) ≡ true → factor_behind u unknowns i j (before ++ x ∷ []) w ≡ 0)
-          → cond b (letter_factor (product_at q s solved drawn quiver shape count drawn_below (target q x) before [])
-          (product_at q s solved drawn quiver shape count drawn_below u w []) x unknowns i j) (factor_behind u unknowns i j (before ++ x ∷ []) w) ≡ 0
+          → cond b (letter_factor (product_at q s solved drawn quiver shape count drawn_below (target q x) before (unit unknowns))
+          (product_at q s solved drawn quiver shape count drawn_below u w (unit unknowns)) x unknowns i j) (factor_behind u unknowns i j (before ++ x ∷ []) w) ≡ 0
       go true is later =
-          no_unknown (product_at q s solved drawn quiver shape count drawn_below (target q x) before [])
-          (product_at q s solved drawn quiver shape count drawn_below u w []) x i j (fit_letter q u v before x w path).letter is
+          no_unknown (product_at q s solved drawn quiver shape count drawn_below (target q x) before (unit unknowns))
+          (product_at q s solved drawn quiver shape count drawn_below u w (unit unknowns)) x i j (fit_letter q u v before x w path).letter is
       go false is later = later (subst (λ y. is_path q u v y ≡ true) (sym (append_assoc before (x ∷ []) w)) path)

@@ -5,11 +5,7 @@ use Rattle.definitions.specs.Quiver.{Quiver, IsQuiver, letters, source, target, 
 use Rattle.definitions.specs.Representation.{Representation, Represents, path_value, word_value}
 use Rattle.definitions.proofs.Paths.{step, split}
 use Rattle.definitions.proofs.Values.{letter_is_arrow}
-
--- the product of the arrows of letters, and the identity of the object where there are none
-abbrev pub letters_product : {Object Arrow : Type 0} → Structure Object Arrow → Representation Object Arrow → ℕ → List ℕ → Arrow
-letters_product s f u [] = s.identity (f.object u)
-letters_product s f u (a ∷ w) = s.compose (f.arrow a) (letters_product s f u w)
+use Rattle.model_candidates.specs.Factors.{letters_product}
 
 -- ---- a letter of a path
 leads_of_path : (q : Quiver) (u v : ℕ) (w : List ℕ) → is_path q u v w ≡ true → leads q u v w ≡ true

@@ -23,10 +23,6 @@ assumption_value problem m g =
     let q = quiver_of problem.parts.quiver in
     value_at (matrices m.modulus) q (representation_of q m) g.sig.source.0 g.sig.target.0 (terms_of problem g)
 
--- the entries of these values, one assumption after the other
-abbrev pub entries_of_values : Problem → Model → List LinearAssumption → List ℕ
-entries_of_values problem m gs = flat_map (λ g. (assumption_value problem m g).entries) gs
-
 -- the value of the assumption in the model with these values of the entries
 abbrev pub value_in : Problem → Shape → List ℕ → LinearAssumption → Matrix
 value_in problem s values g = assumption_value problem (model_by (quiver_of problem.parts.quiver) s 0 values) g

@@ -3,5 +3,8 @@ pub mod Shapes
 pub mod Candidates
 pub mod EntryPlaces
 pub mod Unknowns
+pub mod LetterNumbers
 pub mod Plans
 pub mod Equations
+pub mod Factors
+pub mod Known

@@ -1,5 +1,5 @@
 -- Which entries of a shape are solved for, and the values of all entries that values of these make, for private functions.
-use Rattle.std.specs.Prelude.{ℕ, zero, suc, Bool, true, false, nat_eq, List, [], ◌∷◌, map, if◌then◌else◌}
+use Rattle.std.specs.Prelude.{ℕ, zero, suc, Bool, true, false, nat_eq, List, [], ◌∷◌, length, map, replicate, if◌then◌else◌}
 use Rattle.std.specs.List.{range_with_len}
 use Rattle.definitions.specs.Quiver.{Quiver}
 use Rattle.word_core.specs.declared.letter.Letter.{Letter}
@@ -34,3 +34,7 @@ picked (true ∷ flags) (x ∷ values) = x ∷ picked flags values
 -- 1 at one place, and 0 at all others
 abbrev pub unit_values : ℕ → ℕ → List ℕ
 unit_values count place = map (λ k. if nat_eq k place then 1 else 0) (range_with_len 0 count)
+
+-- for each entry the number of its unknown, counted from 0, and that of all unknowns where it isn't solved for
+abbrev pub unknown_numbers : List Bool → List ℕ
+unknown_numbers flags = let n = set_count flags in filled flags (replicate (length flags) n) (range_with_len 0 n)

@@ -2,44 +2,20 @@
 ghost use Rattle.std.specs.Prelude.{◌↔◌, IfOk, IsTrue};
 ghost use Rattle.std.specs.List.{All};
 ghost use Rattle.definitions.specs.Quiver.{letters};
-ghost use Rattle.quiver.specs.Declarations.{object_count, quiver_of};
-ghost use Rattle.adjoint_rules.specs.Problem.{IsShape};
+ghost use Rattle.quiver.specs.Declarations.{quiver_of};
 ghost use Rattle.model_checker.specs.Models.{IsModel, HaveMatrices};
 ghost use Rattle.model_checker.specs.Listed.{AreOfModel};
-ghost use Rattle.model_candidates.specs.Candidates.{model_by};
-ghost use Rattle.model_candidates.specs.Plans.{AreEntryValues, IsAssumption, IsZeroAtSignature};
+ghost use Rattle.model_candidates.specs.Plans.{IsAssumption, IsZeroAtSignature};
 
-use crate::given_values::model_with;
 use crate::plan::LinearAssumption;
-use adjoint_rules::{Problem, Shape};
+use adjoint_rules::Problem;
 use category_laws::Category;
 use matrix_models::{Matrices, Model};
-use model_checker::representation_of;
 use representations::{Representation, value_of};
 use std::alloc::{AllocError, Global};
 
-/// Whether the assumptions are zero in the model with these values of the entries.
-pub(crate) fn conditions_hold(
-    alloc: Global,
-    problem: &Problem,
-    shape: &Shape,
-    conditions: &[LinearAssumption],
-    values: &[u32],
-) -> Result<bool, AllocError>
-    requires shape { IsShape (object_count problem.now.parts.quiver) shape.now }
-    requires conditions { All (IsAssumption problem.now 0) conditions.now }
-    requires values { AreEntryValues problem.now shape.now values.now }
-    ensures { IfOk result (λ hold. IsTrue hold
-        ↔ All (IsZeroAtSignature problem.now (model_by (quiver_of problem.now.parts.quiver) shape.now 0 values.now)) conditions.now) }
-{
-    let quiver = &problem.parts.quiver;
-    let model = model_with(alloc, quiver, shape, 0, values)?;
-    let representation = representation_of(alloc, quiver, &model)?;
-    are_zero(alloc, problem, conditions, &model, &representation)
-}
-
-// Whether the assumptions are zero in the model that the representation is of.
-fn are_zero(
+/// Whether the assumptions are zero in the model that the representation is of.
+pub(crate) fn are_zero(
     alloc: Global,
     problem: &Problem,
     conditions: &[LinearAssumption],

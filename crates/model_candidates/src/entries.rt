@@ -6,6 +6,7 @@ ghost use Rattle.quiver.specs.Declarations.{letter_count, object_count, quiver_o
 ghost use Rattle.adjoint_rules.specs.Limits.{shape_side_limit};
 ghost use Rattle.adjoint_rules.specs.Problem.{IsShape, IsSide};
 ghost use Rattle.model_candidates.specs.Candidates.{is_declared_map, map_entries, entries_of, side_in};
+ghost use Rattle.model_candidates.specs.EntryPlaces.{entries_before};
 ghost use Rattle.model_candidates.specs.Limits.{entry_limit};
 
 use adjoint_rules::Shape;
@@ -19,8 +20,19 @@ pub(crate) fn entry_count(quiver: &Quiver, shape: &Shape) -> u32
     ensures count { result ≡ length (entries_of (quiver_of quiver.now) shape.now) }
     ensures few { result ≤ entry_limit }
 {
+    entries_before(quiver, shape, quiver.letters())
+}
+
+/// How many entries the maps before this number have.
+pub(crate) fn entries_before(quiver: &Quiver, shape: &Shape, end: u32) -> u32
+    requires quiver { IsQuiver (quiver_of quiver.now) }
+    requires shape { IsShape (object_count quiver.now) shape.now }
+    requires end { end ≤ letter_count quiver.now }
+    ensures count { result ≡ length (entries_before (quiver_of quiver.now) shape.now end) }
+    ensures few { result ≤ entry_limit }
+{
     let mut count = 0;
-    for number in 0..quiver.letters() {
+    for number in 0..end.min(quiver.letters()) {
         let letter = Letter(number as u16);
         if is_declared(quiver, letter) {
             count += map_entry_count(quiver, shape, letter);

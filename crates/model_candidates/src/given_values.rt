@@ -100,8 +100,8 @@ fn matrix_with(
     matrix_of_entries(alloc, shape.modulus, rows, columns, entries.as_slice())
 }
 
-// The value in this row and column of the matrix of a declared map.
-fn value_shown(
+/// The value in this row and column of the matrix of a declared map.
+pub(crate) fn value_shown(
     quiver: &Quiver,
     shape: &Shape,
     letter: Letter,
@@ -115,12 +115,10 @@ fn value_shown(
     requires quiver { IsQuiver (quiver_of quiver.now) }
     requires shape { IsShape (object_count quiver.now) shape.now }
     requires one_each { length values.now ≡ length (entries_of (quiver_of quiver.now) shape.now) }
-    requires below { All (λ value. value < shape.now.modulus) values.now }
     requires first { first ≡ length (entries_before (quiver_of quiver.now) shape.now letter.0) }
     requires row { row < side_in shape.now (target (quiver_of quiver.now) letter.0) }
     requires column { column < side_in shape.now (source (quiver_of quiver.now) letter.0) }
-    ensures value { result ≡ value_of_entry (quiver_of quiver.now) shape.now values.now (entry_shown (quiver_of quiver.now) letter.0 row column) }
-    ensures below { result < shape.now.modulus }
+    ensures { result ≡ value_of_entry (quiver_of quiver.now) shape.now values.now (entry_shown (quiver_of quiver.now) letter.0 row column) }
 {
     let selfmade = quiver.star_of(letter) == letter;
     if selfmade && column < row {
@@ -145,13 +143,11 @@ fn value_kept(
     requires quiver { IsQuiver (quiver_of quiver.now) }
     requires shape { IsShape (object_count quiver.now) shape.now }
     requires one_each { length values.now ≡ length (entries_of (quiver_of quiver.now) shape.now) }
-    requires below { All (λ value. value < shape.now.modulus) values.now }
     requires first { first ≡ length (entries_before (quiver_of quiver.now) shape.now letter.0) }
     requires row { row < side_in shape.now (target (quiver_of quiver.now) letter.0) }
     requires column { column < side_in shape.now (source (quiver_of quiver.now) letter.0) }
     requires kept { is_kept (is_self (quiver_of quiver.now) letter.0) row column ≡ true }
-    ensures value { result ≡ value_of_entry (quiver_of quiver.now) shape.now values.now (entry letter.0 row column) }
-    ensures below { result < shape.now.modulus }
+    ensures { result ≡ value_of_entry (quiver_of quiver.now) shape.now values.now (entry letter.0 row column) }
 {
     let columns = side_at(shape, quiver.signature_of(letter).source);
     let selfmade = quiver.star_of(letter) == letter;

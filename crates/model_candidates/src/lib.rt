@@ -6,11 +6,14 @@ mod conditions;
 mod drawn_values;
 mod entries;
 mod equations;
+mod factor_rows;
 mod given_values;
+mod letter_numbers;
 mod one_candidate;
 mod plan;
 mod shape_fault;
 mod shapes;
+mod solved_terms;
 mod unknowns;
 
 pub use candidate_count::{all_candidates, candidates};

@@ -6,7 +6,6 @@ ghost use Rattle.adjoint_rules.specs.declared.parts.Shape.{Shape as ShapeValue};
 ghost use Rattle.model_candidates.specs.Candidates.{IsCandidate, IsGreedy, IsShapeOf, IsSolution};
 ghost use Rattle.model_candidates.specs.Plans.{AreEntryValues, FitsShape, IsPlan};
 
-use crate::conditions::conditions_hold;
 use crate::drawn_values::draws_of;
 use crate::equations::system_of;
 use crate::given_values::{model_with, numbered_candidate};
@@ -74,13 +73,11 @@ fn greedy_values(
     ensures none { IfOk result (λ found. IfNone found ((values : List ℕ) → ¬ IsSolution problem.now shape.now drawn.now values)) }
     ensures greedy { IfOk result (λ found. IfSome found (IsGreedy problem.now shape.now drawn.now)) }
 {
-    let conditions = plan.assumptions.conditions.as_slice();
-    if !conditions_hold(alloc, problem, shape, conditions, drawn)? {
+    let Some(system) = system_of(alloc, problem, shape, plan, drawn)? else {
         return Ok(None);
-    }
+    };
     let solved = plan.solved.as_slice();
     let prefer = picked(alloc, solved, drawn)?;
-    let system = system_of(alloc, problem, shape, plan, drawn)?;
     match solve(alloc, &system, prefer.as_slice())? {
         Some(values) => Ok(Some(filled(alloc, solved, drawn, values.as_slice())?)),
         None => Ok(None),

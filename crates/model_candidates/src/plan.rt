@@ -11,7 +11,8 @@ ghost use Rattle.model_candidates.specs.Plans.{AreAsked, AreLinearAssumptions, I
 
 use crate::candidate_count::is_exhaustive;
 use crate::entries::{entry_count, is_declared, map_entry_count};
-use crate::unknowns::unknown_count;
+use crate::letter_numbers::numbers_of_letters;
+use crate::unknowns::{unknown_count, unknown_numbers};
 use adjoint_rules::{Problem, Shape};
 use lists::Listing;
 use nc_polynomial::Poly;
@@ -48,6 +49,8 @@ pub struct Plan {
     pub unknowns: u32,
     /// For each entry, whether it is solved for.
     pub solved: Listing<bool>,
+    /// For each letter that is solved for the numbers of the unknowns in its matrix, row by row, counted from 0.
+    pub numbers: Listing<Option<Listing<u32>>>,
     /// The linear assumptions.
     pub assumptions: LinearAssumptions,
 }
@@ -63,12 +66,16 @@ pub fn plan_of(alloc: Global, problem: &Problem, shape: u32) -> Result<Plan, All
     let form = parts.shapes.at(shape as usize - 1);
     let entries = entry_count(&parts.quiver, form);
     let solved = solved_flags(alloc, &parts.quiver, form, parts.solved.as_slice())?;
+    let unknowns = unknown_count(solved.as_slice());
+    let own = unknown_numbers(alloc, solved.as_slice(), unknowns)?;
+    let numbers = numbers_of_letters(alloc, problem, form, own.as_slice())?;
     let assumptions = linear_assumptions(alloc, problem)?;
     Ok(Plan {
         number: shape,
         exhaustive: is_exhaustive(form.modulus, entries),
-        unknowns: unknown_count(solved.as_slice()),
+        unknowns,
         solved,
+        numbers,
         assumptions,
     })
 }
@@ -183,8 +190,8 @@ fn solved_count(quiver: &Quiver, solved: &[Letter], word: &Word) -> usize
     count
 }
 
-// Whether the letter is one of the maps or the adjoint of one.
-fn is_solved(quiver: &Quiver, solved: &[Letter], letter: Letter) -> bool
+/// Whether the letter is one of the maps or the adjoint of one.
+pub(crate) fn is_solved(quiver: &Quiver, solved: &[Letter], letter: Letter) -> bool
     requires quiver { IsQuiver (quiver_of quiver.now) }
     requires solved { All (λ l. l.0 < letter_count quiver.now) solved.now }
     requires letter { letter.0 < letter_count quiver.now }

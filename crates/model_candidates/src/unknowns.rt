@@ -1,7 +1,8 @@
 //! The entries that are solved for, and values of them.
 ghost use Rattle.std.specs.Prelude.{◌≡◌, ◌≤◌, length, IfOk};
+ghost use Rattle.std.specs.List.{range_with_len};
 ghost use Rattle.model_candidates.specs.Limits.{entry_limit};
-ghost use Rattle.model_candidates.specs.Unknowns.{set_count, filled, picked, unit_values};
+ghost use Rattle.model_candidates.specs.Unknowns.{set_count, filled, picked, unit_values, unknown_numbers};
 
 use lists::Listing;
 use std::alloc::{AllocError, Global};
@@ -71,4 +72,25 @@ pub(crate) fn unit_values(alloc: Global, count: u32, place: u32) -> Result<Listi
         values.push(u32::from(k == place))?;
     }
     Ok(values)
+}
+
+/// For each entry the number of its unknown, counted from 0, and that of all unknowns where it isn't solved for.
+pub(crate) fn unknown_numbers(
+    alloc: Global,
+    solved: &[bool],
+    unknowns: u32,
+) -> Result<Listing<u32>, AllocError>
+    requires { unknowns ≡ set_count solved.now }
+    ensures { IfOk result (λ numbers. numbers ≡ unknown_numbers solved.now) }
+{
+    let others = vec![in alloc; unknowns; solved.len()]?;
+    let own = numbers_before(alloc, unknowns)?;
+    filled(alloc, solved, others.as_slice(), own.as_slice())
+}
+
+// The numbers before this one, from 0 on.
+fn numbers_before(alloc: Global, count: u32) -> Result<Vec<u32>, AllocError>
+    ensures { IfOk result (λ numbers. numbers.items ≡ range_with_len 0 count) }
+{
+    (0..count).collect(alloc)
 }

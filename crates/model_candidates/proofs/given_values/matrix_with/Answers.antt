@@ -6,6 +6,7 @@ use Rattle.std.proofs.lemmas.Result.{IfOk-weaker}
 use Rattle.definitions.specs.Quiver.{source, target}
 use Rattle.quiver.specs.Declarations.{quiver_of}
 use Rattle.model_candidates.specs.Candidates.{side_in, entry_shown, value_of_entry}
+use Rattle.model_candidates.proofs.CandidateModels.{value_below}
 use Rattle.model_candidates.proofs.given_values.matrix_with.Goals as goal
 
 pub loop-place-preserved : goal.loop-place-preserved
@@ -16,9 +17,12 @@ loop-place-preserved c =
     let k = c.loop-place.place in
     let f : ℕ → ℕ = λ n. value_of_entry q s c.args.values.now (entry_shown q c.args.letter.0 (n / columns) (n % columns)) in
     let pushed : c.push.new.self ≡ c.loop-place.entries ++ c.value_shown.result ∷ [] = search rules in
-    let shown : c.value_shown.result ≡ f k = c.value_shown.ensures.value in (
+    let shown : c.value_shown.result ≡ f k = c.value_shown.ensures in
+    let small = value_below q s c.requires.quiver c.requires.shape c.args.values.now c.requires.one_each c.requires.below
+    (entry_shown q c.args.letter.0 (k / columns) (k % columns)) in (
       pushed ∙ ap₂ (λ xs x. xs ++ x ∷ []) c.loop-place.invariant.0 shown ∙ sym (map-range_with_len_more f 0 k k (omega arith)),
-      subst (All (λ entry. entry < s.modulus)) (sym pushed) (All-push (λ entry. entry < s.modulus) c.loop-place.entries c.value_shown.result c.loop-place.invariant.1 c.value_shown.ensures.below),
+      subst (All (λ entry. entry < s.modulus)) (sym pushed) (All-push (λ entry. entry < s.modulus) c.loop-place.entries c.value_shown.result c.loop-place.invariant.1
+          (subst (λ entry. entry < s.modulus) (sym shown) small)),
     )
 
 pub matrix_of_entries-requires-clause-shape : goal.matrix_of_entries-requires-clause-shape

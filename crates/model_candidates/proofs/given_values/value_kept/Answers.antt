@@ -45,8 +45,8 @@ offset_bounds-values-first c =
     let inside = place_inside c.args.quiver.now c.args.shape.now c.args.letter.0 c.args.row c.args.column c.requires.letter c.requires.declared c.requires.row c.requires.column c.requires.kept in
     omega (arith, place_is, inside, c.requires.one_each)
 
-pub returns-clause-value : goal.returns-clause-value
-returns-clause-value c =
+pub returns : goal.returns
+returns c =
     let q = quiver_of c.args.quiver.now in
     let s = c.args.shape.now in
     let a = c.args.letter.0 in

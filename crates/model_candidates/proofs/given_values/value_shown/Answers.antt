@@ -5,15 +5,15 @@ use Rattle.model_candidates.proofs.EntryPlaces.{shown_mirrored, shown_itself, sh
 use Rattle.model_candidates.proofs.given_values.value_shown.Goals as goal
 use Rattle.model_candidates.proofs.given_values.value_shown.Goals.{else-selfmade-via-then-selfmade+else-column-row, else-selfmade-via-else-selfmade}
 
-pub returns-then-column-row-clause-value : goal.returns-then-column-row-clause-value
-returns-then-column-row-clause-value c =
+pub returns-then-column-row : goal.returns-then-column-row
+returns-then-column-row c =
     let q = quiver_of c.args.quiver.now in
     let a = c.args.letter.0 in
     let self_is : c.eq-selfmade.result ≡ is_self q a = c.eq-selfmade.ensures ∙ ap (λ n. nat_eq n a) c.star_of.ensures.star in
-    c.value_kept.ensures.value ∙ ap (value_of_entry q c.args.shape.now c.args.values.now) (sym (shown_mirrored q a c.args.row c.args.column (sym self_is ∙ c.if-selfmade.true) c.if-column-row.true))
+    c.value_kept.ensures ∙ ap (value_of_entry q c.args.shape.now c.args.values.now) (sym (shown_mirrored q a c.args.row c.args.column (sym self_is ∙ c.if-selfmade.true) c.if-column-row.true))
 
-pub returns-else-selfmade-clause-value : goal.returns-else-selfmade-clause-value
-returns-else-selfmade-clause-value c =
+pub returns-else-selfmade : goal.returns-else-selfmade
+returns-else-selfmade c =
     let q = quiver_of c.args.quiver.now in
     let a = c.args.letter.0 in
     let self_is : c.eq-selfmade.result ≡ is_self q a = c.eq-selfmade.ensures ∙ ap (λ n. nat_eq n a) c.star_of.ensures.star in
@@ -21,4 +21,4 @@ returns-else-selfmade-clause-value c =
       | else-selfmade-via-then-selfmade+else-column-row w ↦ shown_behind q a c.args.row c.args.column (omega (arith, w.if-column-row.false))
       | else-selfmade-via-else-selfmade w ↦ shown_itself q a c.args.row c.args.column (sym self_is ∙ w.if-selfmade.false)
     ] in
-    c.value_kept-else-selfmade.ensures.value ∙ ap (value_of_entry q c.args.shape.now c.args.values.now) (sym shown)
+    c.value_kept-else-selfmade.ensures ∙ ap (value_of_entry q c.args.shape.now c.args.values.now) (sym shown)

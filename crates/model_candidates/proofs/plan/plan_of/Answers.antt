@@ -13,3 +13,6 @@ solved_flags-requires-clause-quiver c = posed_quiver c.args.problem.now.parts c.
 
 pub solved_flags-requires-clause-shape : goal.solved_flags-requires-clause-shape
 solved_flags-requires-clause-shape c = posed_shape c.args.problem.now _ c.at-form.result.now c.at-form.ensures
+
+pub numbers_of_letters-requires-clause-shape : goal.numbers_of_letters-requires-clause-shape
+numbers_of_letters-requires-clause-shape c = posed_shape c.args.problem.now _ c.at-form.result.now c.at-form.ensures

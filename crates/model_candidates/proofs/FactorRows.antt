@@ -1,0 +1,96 @@
+-- Sums modulo m that are taken term by term.
+use Rattle.std.proofs.Common.{◌≡◌, ℕ, suc, ◌+◌, ◌*◌, ◌/◌, ◌%◌, ◌<◌, ◌++◌, ◌∷◌, [], cond, nat_eq, List, length, get_or, set, map, take, ◌⊎◌, inl, inr, refl, sym, ap, ap₂, ◌∙◌, arith, eq-eqb, ne_eqb}
+use Rattle.std.specs.List.{All, sum_by, range_with_len}
+use Rattle.std.proofs.Math.Nat.{mod-mod, mod-eq_of_lt}
+use Rattle.std.proofs.lemmas.Bool.{cases_eq}
+use Rattle.std.proofs.lemmas.Nat.{mul-mod_first}
+use Rattle.std.proofs.lemmas.List.{ext_get_or, get_or-set_same, get_or-set_other, take_more}
+use Rattle.std.proofs.lemmas.List.Elements.{All-get_or}
+use Rattle.std.proofs.lemmas.List.FromFn.{get_or-map-range_with_len, length-map-range_with_len}
+use Rattle.std.proofs.lemmas.List.Sums.{sum_by_push}
+use Rattle.matrix_models.specs.Matrix.{entry_at}
+use Rattle.matrix_models.specs.Matrices.{total}
+use Rattle.matrix_models.proofs.Congruences.{add_alike}
+use Rattle.model_candidates.specs.declared.solved_terms.SolvedTerm.{SolvedTerm}
+use Rattle.model_candidates.specs.Factors.{place_factor, term_factor, terms_factor}
+
+-- Numbers below m, so many, that are what the unknowns add in these terms.
+pub record AreSums (m n : ℕ) (ts : List SolvedTerm) (i j : ℕ) (factors : List ℕ) : Type 0 where
+  pub size : length factors ≡ n
+  pub below : All (λ factor. factor < m) factors
+  pub each : (k : ℕ) → k < n → get_or factors k 0 % m ≡ terms_factor ts i j k % m
+
+-- a product is added where the unknown is
+product_added : (m c x y f start sum : ℕ) → f % m ≡ (start + c * sum) % m
+    → ((f + (c * x) % m * y) % m) % m ≡ (start + c * (sum + 1 * (x * y))) % m
+product_added m c x y f start sum so_far =
+    let more : (start + c * sum) + (c * x) * y ≡ start + c * (sum + 1 * (x * y)) = grind arith in
+    mod-mod (f + (c * x) % m * y) m
+    ∙ add_alike m f (start + c * sum) ((c * x) % m * y) ((c * x) * y) so_far (mul-mod_first (c * x) y m)
+    ∙ ap (λ z. z % m) more
+
+-- and nothing elsewhere
+nothing_added : (c x start sum : ℕ) → start + c * sum ≡ start + c * (sum + 0 * x)
+nothing_added c x start sum = grind arith
+
+total_more : (n : ℕ) (f : ℕ → ℕ) → total (n + 1) f ≡ total n f + f n
+total_more n f =
+    let next : n + 1 ≡ suc n = omega arith in
+    ap (λ k. total k f) next
+
+-- the factors after one place more
+module _ (m : ℕ) (t : SolvedTerm) (i j : ℕ) (start factors : List ℕ) (place number before behind : ℕ)
+    (number_is : get_or t.numbers place 0 ≡ number) (before_is : before ≡ entry_at t.left i (place / t.right.rows))
+    (behind_is : behind ≡ entry_at t.right (place % t.right.rows) j) (within : number < length factors)
+    (so_far : (k : ℕ) → k < length start
+    → get_or factors k 0 % m ≡ (get_or start k 0 + t.coefficient * total place (place_factor t i j k)) % m) where
+  abbrev value : ℕ
+  value = (get_or factors number 0 + (t.coefficient * before) % m * behind) % m
+
+  abbrev beside : ℕ
+  beside = entry_at t.left i (place / t.right.rows) * entry_at t.right (place % t.right.rows) j
+
+  pub place_added : (k : ℕ) → k < length start
+      → get_or (set factors number value) k 0 % m ≡ (get_or start k 0 + t.coefficient * total (place + 1) (place_factor t i j k)) % m
+  place_added k inside = go (cases_eq number k) ∙ ap (λ x. (get_or start k 0 + t.coefficient * x) % m) (sym (total_more place (place_factor t i j k)))
+    where
+      sum : ℕ
+      sum = total place (place_factor t i j k)
+
+      go : (number ≡ k) ⊎ (number ≡ k → ⊥)
+          → get_or (set factors number value) k 0 % m ≡ (get_or start k 0 + t.coefficient * (sum + place_factor t i j k place)) % m
+      go (inl same) =
+          let one : place_factor t i j k place ≡ 1 * (before * behind) =
+          ap₂ (λ b x. cond b 1 0 * x) (ap (λ x. nat_eq x k) number_is ∙ eq-eqb number k same) (ap₂ ◌*◌ (sym before_is) (sym behind_is)) in
+          let here : get_or (set factors number value) k 0 ≡ value =
+          ap (λ x. get_or (set factors number value) x 0) (sym same) ∙ get_or-set_same factors number value 0 within in
+          let old : get_or factors number 0 % m ≡ (get_or start k 0 + t.coefficient * sum) % m =
+          ap (λ x. get_or factors x 0 % m) same ∙ so_far k inside in
+          ap (λ x. x % m) here ∙ product_added m t.coefficient before behind (get_or factors number 0) (get_or start k 0) sum old
+          ∙ ap (λ x. (get_or start k 0 + t.coefficient * (sum + x)) % m) (sym one)
+      go (inr other) =
+          let none : place_factor t i j k place ≡ 0 * beside =
+          ap (λ b. cond b 1 0 * beside) (ap (λ x. nat_eq x k) number_is ∙ ne_eqb number k other) in
+          ap (λ x. x % m) (get_or-set_other factors number k value 0 (λ same. other (sym same)))
+          ∙ so_far k inside ∙ ap (λ x. x % m) (nothing_added t.coefficient beside (get_or start k 0) sum)
+          ∙ ap (λ x. (get_or start k 0 + t.coefficient * (sum + x)) % m) (sym none)
+
+-- ---- terms
+-- the sum with one term more
+pub term_added : (m i j k old new index : ℕ) (ts : List SolvedTerm) (t : SolvedTerm) → index < length ts → t ≡ get_or ts index t
+    → new % m ≡ (old + term_factor t i j k) % m → old % m ≡ terms_factor (take index ts) i j k % m
+    → new % m ≡ terms_factor (take (index + 1) ts) i j k % m
+term_added m i j k old new index ts t inside is added so_far =
+    let f : SolvedTerm → ℕ = λ x. term_factor x i j k in
+    added ∙ add_alike m old (sum_by f (take index ts)) (f t) (f t) so_far refl
+    ∙ ap (λ x. x % m) (sym (sum_by_push f (take index ts) t) ∙ ap (λ x. sum_by f (take index ts ++ x ∷ [])) is
+    ∙ ap (sum_by f) (sym (take_more ts index t inside)))
+
+-- a list of residues
+pub residues : (m n : ℕ) (f : ℕ → ℕ) (xs : List ℕ) → length xs ≡ n → All (λ x. x < m) xs → ((k : ℕ) → k < n → get_or xs k 0 % m ≡ f k % m)
+    → xs ≡ map (λ k. f k % m) (range_with_len 0 n)
+residues m n f xs size below each =
+    ext_get_or 0 xs (map (λ k. f k % m) (range_with_len 0 n)) (size ∙ sym (length-map-range_with_len (λ k. f k % m) 0 n)) (λ k inside.
+    let within : k < n = omega (arith, inside, size) in
+    sym (mod-eq_of_lt (All-get_or (λ x. x < m) xs k 0 inside below)) ∙ each k within
+    ∙ sym (get_or-map-range_with_len (λ k. f k % m) 0 n k k 0 within (omega arith)))

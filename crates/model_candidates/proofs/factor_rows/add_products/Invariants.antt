@@ -1,0 +1,14 @@
+use Rattle.std.proofs.Common.{◌≡◌, ℕ, ◌+◌, ◌*◌, ◌%◌, ◌<◌, length, get_or}
+use Rattle.std.specs.List.{All}
+use Rattle.matrix_models.specs.Matrices.{total}
+use Rattle.model_candidates.specs.Factors.{place_factor}
+use Rattle.model_candidates.proofs.factor_rows.add_products.Given as goal
+
+-- with what the places that were passed add
+abbrev pub invariant-loop-place : goal.invariant-loop-place
+invariant-loop-place l = record {
+  size : length l.factors ≡ length l.initial.factors;
+  below : All (λ factor. factor < l.modulus) l.factors;
+  each : (k : ℕ) → k < length l.initial.factors
+      → get_or l.factors k 0 % l.modulus ≡ (get_or l.initial.factors k 0 + l.term.coefficient * total l.place (place_factor l.term l.fn.row l.fn.column k)) % l.modulus;
+}

@@ -1,0 +1,65 @@
+use Rattle.std.proofs.Common.{rules, true, false, ◌≡◌, ◌<◌, ◌++◌, ◌∷◌, [], ℕ, Option, List, Some, None, cond, map, length, ap, ap₂, sym, ◌∙◌, arith}
+use Rattle.std.specs.List.{range_with_len}
+use Rattle.std.proofs.lemmas.List.FromFn.{map-range_with_len_more}
+use Rattle.definitions.specs.Quiver.{letters}
+use Rattle.quiver.specs.Declarations.{quiver_of}
+use Rattle.quiver.proofs.Counts.{letters-quiver_of}
+use Rattle.adjoint_rules.proofs.Generators.{posed_quiver}
+use Rattle.model_candidates.specs.Candidates.{is_solved}
+use Rattle.model_candidates.specs.Unknowns.{solved_flags, unknown_numbers}
+use Rattle.model_candidates.specs.LetterNumbers.{letter_numbers, letter_values}
+use Rattle.model_candidates.proofs.AssumptionFactors.{solved_declared}
+use Rattle.model_candidates.proofs.LetterEntries.{has_solved_map}
+use Rattle.model_candidates.proofs.SolvedTerms.{declared_behind, number_of_each}
+use Rattle.model_candidates.proofs.letter_numbers.numbers_of_letters.Goals as goal
+use Rattle.model_candidates.proofs.letter_numbers.numbers_of_letters.Goals.{then-is_solved+in_ok-letter_values, else-is_solved}
+
+pub is_solved-requires-clause-quiver : goal.is_solved-requires-clause-quiver
+is_solved-requires-clause-quiver c = posed_quiver c.args.problem.now.parts c.args.problem.now.posed
+
+pub letter_values-requires-clause-declared : goal.letter_values-requires-clause-declared
+letter_values-requires-clause-declared c =
+    let problem = c.args.problem.now in
+    let q = quiver_of problem.parts.quiver in
+    let quiver = posed_quiver problem.parts problem.posed in
+    let a = c.loop-number.number in
+    let letter : a < letters q = omega (arith, c.loop-number-test.true, c.letters-number-end.ensures.count, letters-quiver_of problem.parts.quiver) in
+    let is : is_solved q problem.parts.solved a ≡ true = search rules in
+    declared_behind q quiver a letter (has_solved_map q quiver a letter problem.parts.solved (solved_declared problem) is).map
+
+pub letter_values-requires-clause-quiver : goal.letter_values-requires-clause-quiver
+letter_values-requires-clause-quiver c = posed_quiver c.args.problem.now.parts c.args.problem.now.posed
+
+pub letter_values-requires-clause-one_each : goal.letter_values-requires-clause-one_each
+letter_values-requires-clause-one_each c =
+    let problem = c.args.problem.now in
+    ap length c.requires.own ∙ number_of_each (quiver_of problem.parts.quiver) c.args.shape.now problem.parts.solved
+
+pub loop-number-preserved : goal.loop-number-preserved
+loop-number-preserved c =
+    let problem = c.args.problem.now in
+    let q = quiver_of problem.parts.quiver in
+    let s = c.args.shape.now in
+    let solved = problem.parts.solved in
+    let a = c.loop-number.number in
+    let f : ℕ → Option (List ℕ) = letter_numbers q s solved in
+    let values = letter_values q s (unknown_numbers (solved_flags q s solved)) a in
+    let pushed : c.push.new.self ≡ c.loop-number.numbers ++ c.if-is_solved.of_letter ∷ [] = search rules in
+    let number_is : c.if-is_solved.of_letter ≡ f a = elim c.if-is_solved.branch [
+      | then-is_solved+in_ok-letter_values w ↦
+          let is : is_solved q solved a ≡ true = search rules in
+          let made : c.if-is_solved.of_letter ≡ Some (letter_values q s c.args.own.now a) = search rules in
+          made ∙ ap (λ own. Some (letter_values q s own a)) c.requires.own ∙ ap (λ b. cond b (Some values) None) (sym is)
+      | else-is_solved w ↦
+          let other : is_solved q solved a ≡ false = search rules in
+          let made : c.if-is_solved.of_letter ≡ None = search rules in
+          made ∙ ap (λ b. cond b (Some values) None) (sym other)
+    ] in
+    pushed ∙ ap₂ (λ xs x. xs ++ x ∷ []) c.loop-number.invariant number_is ∙ sym (map-range_with_len_more f 0 a a (omega arith))
+
+pub returns : goal.returns
+returns c =
+    let problem = c.args.problem.now in
+    let q = quiver_of problem.parts.quiver in
+    let all : c.loop-number.number ≡ letters q = omega (arith, c.loop-number.auto.number-end, c.loop-number-test.false, c.letters-number-end.ensures.count, letters-quiver_of problem.parts.quiver) in
+    c.loop-number.invariant ∙ ap (λ n. map (letter_numbers q c.args.shape.now problem.parts.solved) (range_with_len 0 n)) all
