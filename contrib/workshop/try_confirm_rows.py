@@ -231,7 +231,7 @@ TYPED: List[Tuple[str, int, str, str, str]] = [  # the same, of closed bases who
     ("A", 1, "b b", "a", NOT_SHARP),
 ]  # fmt: skip
 STATEMENTS = {"self": lines(STARRED.format(" self")), "other": lines(STARRED.format("")), "K": K, "V": V, "Z": Z, "N": N, "A": A}
-STATEMENTS |= {"P": P, "Q": Q, "L": L, "F": F, "O": O, "S": S, "I": I, "E": E, "H": H, "J": J, "G": G}
+STATEMENTS.update({"P": P, "Q": Q, "L": L, "F": F, "O": O, "S": S, "I": I, "E": E, "H": H, "J": J, "G": G})
 
 
 def said(what: str, number: int = 1) -> str:
