@@ -16,11 +16,15 @@ use Rattle.cancellation_text.specs.Blocks.{called_word, side_word}
 abbrev pub called_text : List Declaration → Side → Letter → List ℕ
 called_text ds side a = called_word side ++ codes " " ++ letter_text ds a.0 ++ codes "\n"
 
+-- the cancellation with this number, of a letter at a side, and the item that it is taken off
+abbrev pub cancel_text : List Declaration → ℕ → Letter → Side → ℕ → List ℕ
+cancel_text ds number a side from = codes "cancel " ++ decimal number ++ codes " " ++ letter_text ds a.0 ++ codes " "
+    ++ side_word side ++ codes " " ++ decimal from ++ codes "\n"
+
 -- the item with this number
 abbrev pub item_text : List Declaration → ℕ → Item → List ℕ
 item_text ds number (item.Lemma l) = lemma_text ds number l
-item_text ds number (item.Cancel a side from) = codes "cancel " ++ decimal number ++ codes " " ++ letter_text ds a.0 ++ codes " "
-    ++ side_word side ++ codes " " ++ decimal from ++ codes "\n"
+item_text ds number (item.Cancel a side from) = cancel_text ds number a side from
 
 -- the items with this number and the next ones
 abbrev pub items_text : List Declaration → ℕ → List Item → List ℕ

@@ -1,11 +1,11 @@
 //! Proofs that cancel letters as bytes.
 
 ghost use Rattle.std.specs.Prelude.{◌≡◌, ◌<◌, ◌++◌, IfOk, OnOk};
-ghost use Rattle.std.specs.List.{All, flat_map};
+ghost use Rattle.std.specs.List.{All};
 ghost use Rattle.quiver.specs.Declarations.{letter_count};
 ghost use Rattle.certificate_text.specs.Written.{IsLemmaOver};
 ghost use Rattle.cancellation_text.specs.Blocks.{called_word, side_word};
-ghost use Rattle.cancellation_text.specs.Written.{called_text, item_text, items_text, head_text, letters_text, steps_text};
+ghost use Rattle.cancellation_text.specs.Written.{called_text, cancel_text, head_text, letters_text, steps_text};
 ghost use Rattle.cancellation_text.specs.Written.{cancellation_text, IsItemOver, IsCancellationOver};
 
 use block_text::{put, put_letter, put_number};
@@ -15,6 +15,9 @@ use quiver::Quiver;
 use std::alloc::{AllocError, Global};
 use word_core::Letter;
 
+/// The bytes of what is written, or want of memory.
+pub type WrittenText = Result<Vec<u8>, AllocError>;
+
 // What a letter is called that is cancelled on this side.
 fn called_word(side: Side) -> &'static str
     ensures { result.now ≡ called_word side }
@@ -22,15 +25,6 @@ fn called_word(side: Side) -> &'static str
     match side {
         Side::Left => "monic",
         Side::Right => "epic",
-    }
-}
-
-fn side_word(side: Side) -> &'static str
-    ensures { result.now ≡ side_word side }
-{
-    match side {
-        Side::Left => "left",
-        Side::Right => "right",
     }
 }
 
@@ -49,56 +43,36 @@ fn put_called(
     put(out, "\n")
 }
 
-fn put_all_called(
-    out: &mut Vec<u8>,
-    quiver: &Quiver,
-    side: Side,
-    letters: &[Letter],
-) -> Result<(), AllocError>
-    requires { All (λ a. a.0 < letter_count quiver.now) letters.now }
-    ensures { OnOk result (out.new.items ≡ out.old.items ++ flat_map (called_text quiver.now side) letters.now) }
+fn side_word(side: Side) -> &'static str
+    ensures { result.now ≡ side_word side }
 {
-    for letter in letters {
-        put_called(out, quiver, side, *letter)?;
+    match side {
+        Side::Left => "left",
+        Side::Right => "right",
     }
-    Ok(())
 }
 
-fn put_item(
+// The cancellation with this number.
+fn put_cancel(
     out: &mut Vec<u8>,
     quiver: &Quiver,
     number: usize,
-    item: &Item,
+    letter: Letter,
+    side: Side,
+    from: u32,
 ) -> Result<(), AllocError>
-    requires { IsItemOver quiver.now item.now }
-    ensures { OnOk result (out.new.items ≡ out.old.items ++ item_text quiver.now number item.now) }
+    requires { letter.0 < letter_count quiver.now }
+    ensures { OnOk result (out.new.items ≡ out.old.items ++ cancel_text quiver.now number letter side from) }
 {
-    match item {
-        Item::Lemma(lemma) => put_lemma(out, quiver, number, lemma),
-        Item::Cancel { letter, side, item } => {
-            put(out, "cancel ")?;
-            put_number(out, number as u128)?;
-            put(out, " ")?;
-            put_letter(out, quiver, *letter)?;
-            put(out, " ")?;
-            put(out, side_word(*side))?;
-            put(out, " ")?;
-            put_number(out, u128::from(*item))?;
-            put(out, "\n")
-        }
-    }
-}
-
-fn put_items(out: &mut Vec<u8>, quiver: &Quiver, items: &[Item]) -> Result<(), AllocError>
-    requires { All (IsItemOver quiver.now) items.now }
-    ensures { OnOk result (out.new.items ≡ out.old.items ++ items_text quiver.now 1 items.now) }
-{
-    let mut number = 1;
-    for item in items {
-        put_item(out, quiver, number, item)?;
-        number += 1;
-    }
-    Ok(())
+    put(out, "cancel ")?;
+    put_number(out, number as u128)?;
+    put(out, " ")?;
+    put_letter(out, quiver, letter)?;
+    put(out, " ")?;
+    put(out, side_word(side))?;
+    put(out, " ")?;
+    put_number(out, u128::from(from))?;
+    put(out, "\n")
 }
 
 // The first three lines of a proof.
@@ -119,8 +93,13 @@ fn put_letters(out: &mut Vec<u8>, quiver: &Quiver, proof: &Cancellation) -> Resu
     requires epic { All (λ a. a.0 < letter_count quiver.now) proof.now.epic }
     ensures { OnOk result (out.new.items ≡ out.old.items ++ letters_text quiver.now proof.now) }
 {
-    put_all_called(out, quiver, Side::Left, proof.monic.as_slice())?;
-    put_all_called(out, quiver, Side::Right, proof.epic.as_slice())
+    for letter in proof.monic.as_slice() {
+        put_called(out, quiver, Side::Left, *letter)?;
+    }
+    for letter in proof.epic.as_slice() {
+        put_called(out, quiver, Side::Right, *letter)?;
+    }
+    Ok(())
 }
 
 // The items of a proof, its goal, and the end of the block.
@@ -129,35 +108,28 @@ fn put_steps(out: &mut Vec<u8>, quiver: &Quiver, proof: &Cancellation) -> Result
     requires goal { IsLemmaOver quiver.now proof.now.goal }
     ensures { OnOk result (out.new.items ≡ out.old.items ++ steps_text quiver.now proof.now) }
 {
-    put_items(out, quiver, proof.items.as_slice())?;
+    let mut number = 1;
+    for item in proof.items.as_slice() {
+        match item {
+            Item::Lemma(lemma) => put_lemma(out, quiver, number, lemma)?,
+            Item::Cancel { letter, side, item } => {
+                put_cancel(out, quiver, number, *letter, *side, *item)?
+            }
+        }
+        number += 1;
+    }
     put_goal(out, quiver, &proof.goal)
 }
 
-/// A proof that cancels letters behind bytes, as a block of evidence text: a line for each letter that it calls monic, and then
-/// epic, a line for each cancellation, and one for each lemma, the goal and each of their rows. Only memory can be short.
-pub fn put_cancellation(
-    out: &mut Vec<u8>,
-    quiver: &Quiver,
-    proof: &Cancellation,
-) -> Result<(), AllocError>
-    requires { IsCancellationOver quiver.now proof.now }
-    ensures { OnOk result (out.new.items ≡ out.old.items ++ cancellation_text quiver.now proof.now) }
-{
-    put_head(out, proof)?;
-    put_letters(out, quiver, proof)?;
-    put_steps(out, quiver, proof)
-}
-
-/// A proof that cancels letters as a block of evidence text.
-pub fn write_cancellation(
-    alloc: Global,
-    quiver: &Quiver,
-    proof: &Cancellation,
-) -> Result<Vec<u8>, AllocError>
+/// A proof that cancels letters as a block of evidence text: a line for each letter that it calls monic, and then epic, a line for
+/// each cancellation, and one for each lemma, the goal and each of their rows. Only memory can be short.
+pub fn write_cancellation(alloc: Global, quiver: &Quiver, proof: &Cancellation) -> WrittenText
     requires { IsCancellationOver quiver.now proof.now }
     ensures { IfOk result (λ text. text.items ≡ cancellation_text quiver.now proof.now) }
 {
     let mut out = Vec::new(alloc);
-    put_cancellation(&mut out, quiver, proof)?;
+    put_head(&mut out, proof)?;
+    put_letters(&mut out, quiver, proof)?;
+    put_steps(&mut out, quiver, proof)?;
     Ok(out)
 }

@@ -5,8 +5,7 @@ use crate::texts::Piece::Counted;
 use crate::texts::{Map, Repeated, quiver_of, repeated, same};
 use block_text::CertFault;
 use cancellation_text::{
-    cancellations_are_read_back, cancellations_are_unique, cancellations_have_no_fault,
-    each_text_is_read, first_fault_is_unique, parts_are_read_back, read_cancellations,
+    cancellations_are_read_back, each_text_is_told, parts_are_read_back, read_cancellations,
     write_cancellation,
 };
 use quiver::Quiver;
@@ -207,10 +206,7 @@ fn items_are_limited(rt: HostRuntime) -> Result<(), Fail> {
 // The laws have nothing to run.
 #[test]
 fn laws_of_proofs_in_text_are_called() {
-    each_text_is_read();
-    cancellations_are_unique();
-    first_fault_is_unique();
-    cancellations_have_no_fault();
+    each_text_is_told();
     cancellations_are_read_back();
     parts_are_read_back();
 }

@@ -1,5 +1,0 @@
-use Rattle.cancellation_text.proofs.EachText.{told}
-use Rattle.cancellation_text.proofs.laws.each_text_is_read.Goals as goal
-
-pub returns : goal.returns
-returns c ds = (told ds).each_is_read

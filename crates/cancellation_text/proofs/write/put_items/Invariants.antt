@@ -1,6 +1,0 @@
-use Rattle.std.proofs.Common.{◌≡◌, ◌++◌, ◌+◌, take}
-use Rattle.cancellation_text.specs.Written.{items_text}
-use Rattle.cancellation_text.proofs.write.put_items.Given as goal
-
-abbrev pub invariant-loop-item : goal.invariant-loop-item
-invariant-loop-item l = (l.out.items ≡ l.initial.out.items ++ items_text l.quiver 1 (take l.item-index l.items)) × (l.number ≡ l.item-index + 1)
