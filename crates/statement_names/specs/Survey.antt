@@ -1,5 +1,6 @@
 -- How the program looks for the first fault: occurrence by occurrence, with how much more of each there may be.
-use Rattle.std.specs.Prelude.{ℕ, ◌+◌, ◌-◌, Bool, ◌&&◌, nat_lt, if◌then◌else◌, is_some, List, [], ◌∷◌, ◌++◌, map, fold, take, Option, Some, None, Result, Ok, Err}
+use Rattle.std.specs.Prelude.{ℕ, ◌+◌, ◌-◌, Bool, ◌&&◌, nat_lt, if◌then◌else◌, is_some, List, [], ◌∷◌, ◌++◌, map, fold, take}
+use Rattle.std.specs.Prelude.{Option, Some, None, Result, Ok, Err}
 use Rattle.definitions.specs.Moduli.{is_field_modulus}
 use Rattle.statement_names.specs.declared.fault.NameFault.{NameFault}
 use Rattle.statement_names.specs.declared.fault.NameFault.TheVariants.{Unknown, Double, TooMany, NotSquare, BadNumber}

@@ -32,7 +32,8 @@ impl Survey {
         selfmade: bool,
     ) -> Result<(), NameFault>
         ensures ok { OnOk result (run self.old (map (λ name. declares_map name source.now.text target.now.text selfmade) names.now) ≡ Ok self.new) }
-        ensures err { IfErr result (λ e. fault_in (run self.old (map (λ name. declares_map name source.now.text target.now.text selfmade) names.now)) ≡ Some e) }
+        ensures err { IfErr result (λ e.
+            fault_in (run self.old (map (λ name. declares_map name source.now.text target.now.text selfmade) names.now)) ≡ Some e) }
     {
         for name in names {
             self.map(name, source, target, selfmade)?;
@@ -82,7 +83,8 @@ impl Survey {
     fn is_declared(&self, name: &Name) -> bool
         ensures { result ≡ is_some (kind_in (declared_before self.now) name.now.text) }
     {
-        self.kinds.is_among_first(self.declared(), name.text.as_str())
+        self.kinds
+            .is_among_first(self.declared(), name.text.as_str())
     }
 
     // How many names are declared so far: each takes up room.
