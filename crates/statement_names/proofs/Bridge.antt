@@ -1,13 +1,13 @@
 -- The search by what room is left finds what is defined by what stands before.
-use Rattle.std.proofs.Common.{◌≡◌, ℕ, ◌+◌, ◌-◌, ◌≤◌, Bool, true, false, ◌&&◌, not, nat_lt, if◌then◌else◌, is_some, List, [], ◌∷◌, ◌++◌, Option, Some, None, refl, ap, ap₂, sym, ◌∙◌, arith}
+use Rattle.std.proofs.Common.{◌≡◌, ℕ, ◌+◌, ◌-◌, ◌≤◌, Bool, true, false, ◌&&◌, not, nat_lt, if◌then◌else◌, is_some, List, [], ◌∷◌, ◌++◌, length, take, Option, Some, None, refl, ap, ap₂, sym, ◌∙◌, arith}
 use Rattle.std.specs.List.{sum_by}
 use Rattle.std.specs.Option.{option_or}
 use Rattle.std.specs.Str.{bytes_eq}
 use Rattle.std.proofs.lemmas.Bool.{ltb-false}
 use Rattle.std.proofs.lemmas.Bool.Decides.{nat_tests}
 use Rattle.std.proofs.lemmas.Grind.{flat_map-append}
-use Rattle.std.proofs.lemmas.List.{append-nil}
-use Rattle.std.proofs.lemmas.List.Sums.{sum_by_push}
+use Rattle.std.proofs.lemmas.List.{append-nil, length-append}
+use Rattle.std.proofs.lemmas.List.Sums.{fold-append, sum_by-cons, sum_by_push}
 use Rattle.quiver.specs.Limits.{object_limit}
 use Rattle.adjoint_rules.specs.Limits.{assumption_limit, claim_limit, shape_limit}
 use Rattle.statement_names.specs.declared.fault.NameFault.{NameFault}
@@ -17,7 +17,8 @@ use Rattle.statement_names.specs.declared.kinds.Kind.TheVariants.{Object, Map}
 use Rattle.statement_names.specs.declared.survey.Survey.{Survey}
 use Rattle.statement_names.specs.Occurrences.{Occurrence, declares_object, declares_map, uses, lists, counts, modulus, begins_order, begins_assumptions, begins_claim, begins_shape}
 use Rattle.statement_names.specs.Faults.{declared_by, objects_by, maps_by, orders_by, assumptions_by, claims_by, shapes_by, declared_in, kind_in, is_kind, are_two_objects, is_among, fault_behind, first_fault}
-use Rattle.statement_names.specs.Survey.{short_of, declared_fault, or_else, fault_at, behind, goes_on, run, fault_in}
+use Rattle.statement_names.specs.Survey.{with_kind, with_kinds, declared_count, declared_before, short_of, declared_fault, or_else, fault_at, behind, goes_on, run, fault_in}
+use Rattle.statement_names.proofs.KindsFound.{take-with_kinds}
 
 -- ---- room that is left, and what has used it
 below_room : (room used more limit : ℕ) → room + used ≡ limit → nat_lt room more ≡ nat_lt limit (used + more)
@@ -25,6 +26,9 @@ below_room room used more limit whole = grind (arith, nat_tests)
 
 room_left : (room used more limit : ℕ) → room + used ≡ limit → nat_lt room more ≡ false → (room - more) + (used + more) ≡ limit
 room_left room used more limit whole enough = let fits : more ≤ room = ltb-false room more enough in omega arith
+
+taken_up : (room used limit : ℕ) → room + used ≡ limit → limit - room ≡ used
+taken_up room used limit whole = omega arith
 
 short_same : (room used more limit : ℕ) (fault : NameFault) → room + used ≡ limit → short_of room more fault ≡ (if nat_lt limit (used + more) then Some fault else None)
 short_same room used more limit fault whole = ap (λ b. if b then Some fault else None) (below_room room used more limit whole)
@@ -55,10 +59,34 @@ new_then_room : (a : Bool) (x : NameFault) (rest : Option NameFault) → (if a t
 new_then_room true x rest e = absurd (cc)
 new_then_room false x rest e = e
 
--- ---- a survey of what stands before
-pub record Agrees (most_maps : ℕ) (kind : List ℕ → Option Kind) (before : List Occurrence) (s : Survey) : Type 0 where
+not_double : (a : Bool) (x : NameFault) (rest : Option NameFault) → (if a then Some x else rest) ≡ None → a ≡ false
+not_double true x rest e = absurd (cc)
+not_double false x rest e = refl
+
+-- ---- how many names are declared
+number_by : (o : Occurrence) → length (declared_by o) ≡ objects_by o + maps_by o
+number_by (declares_object n) = refl
+number_by (declares_map n u v selfmade) = refl
+number_by (uses u) = refl
+number_by (lists front u) = refl
+number_by (counts most n) = refl
+number_by (modulus n) = refl
+number_by (begins_order at) = refl
+number_by (begins_assumptions count at) = refl
+number_by (begins_claim at) = refl
+number_by (begins_shape at) = refl
+
+number_declared : (os : List Occurrence) → length (declared_in os) ≡ sum_by objects_by os + sum_by maps_by os
+number_declared [] = refl
+number_declared (o ∷ os) =
+    length-append (declared_by o) (declared_in os) ∙ ap₂ (λ m n. m + n) (number_by o) (number_declared os)
+    ∙ (let crossed : (objects_by o + maps_by o) + (sum_by objects_by os + sum_by maps_by os) ≡ (objects_by o + sum_by objects_by os) + (maps_by o + sum_by maps_by os) = omega arith in crossed)
+    ∙ sym (ap₂ (λ m n. m + n) (sum_by-cons objects_by o os) (sum_by-cons maps_by o os))
+
+-- ---- a survey of what stands before, and what is still to come
+pub record Agrees (most_maps : ℕ) (kind : List ℕ → Option Kind) (before after : List Occurrence) (s : Survey) : Type 0 where
   pub kinds : (name : List ℕ) → kind_in s.kinds name ≡ kind name
-  pub declared : s.declared ≡ declared_in before
+  pub declared : s.kinds ≡ with_kinds (declared_in before) (declared_in after)
   pub objects : s.objects + sum_by objects_by before ≡ object_limit
   pub map_limit : s.map_limit ≡ most_maps
   pub maps : s.maps + sum_by maps_by before ≡ most_maps
@@ -67,18 +95,27 @@ pub record Agrees (most_maps : ℕ) (kind : List ℕ → Option Kind) (before : 
   pub claims : s.claims + sum_by claims_by before ≡ claim_limit
   pub shapes : s.shapes + sum_by shapes_by before ≡ shape_limit
 
-module _ (most_maps : ℕ) (kind : List ℕ → Option Kind) (before : List Occurrence) (s : Survey) (agrees : Agrees most_maps kind before s) where
+module _ (most_maps : ℕ) (kind : List ℕ → Option Kind) (before after : List Occurrence) (s : Survey) (agrees : Agrees most_maps kind before after s) where
   two_same : (u v : List ℕ) → are_two_objects (kind_in s.kinds) u v ≡ are_two_objects kind u v
   two_same u v = ap₂ (λ x y. is_kind x Object && (is_kind y Object && not (bytes_eq u v))) (agrees.kinds u) (agrees.kinds v)
 
-  is_declared_same : (name : List ℕ) → is_some (kind_in s.declared name) ≡ is_some (kind_in (declared_in before) name)
-  is_declared_same name = ap (λ ds. is_some (kind_in ds name)) agrees.declared
+  counted : declared_count s ≡ length (declared_in before)
+  counted =
+      ap₂ (λ m n. m + n) (taken_up s.objects (sum_by objects_by before) object_limit agrees.objects)
+      (ap (λ limit. limit - s.maps) agrees.map_limit ∙ taken_up s.maps (sum_by maps_by before) most_maps agrees.maps)
+      ∙ sym (number_declared before)
+
+  declared_same : declared_before s ≡ declared_in before
+  declared_same = ap₂ take counted agrees.declared ∙ take-with_kinds (declared_in before) (declared_in after)
+
+  is_declared_same : (name : List ℕ) → is_some (kind_in (declared_before s) name) ≡ is_some (kind_in (declared_in before) name)
+  is_declared_same name = ap (λ ds. is_some (kind_in ds name)) declared_same
 
   fault_same : (o : Occurrence) → fault_at s o ≡ fault_behind most_maps kind before o
   fault_same (declares_object n) =
       ap₂ (λ b rest. if b then Some (Double n.at) else rest) (is_declared_same n.text) (short_same s.objects (sum_by objects_by before) 1 object_limit (TooMany n.at object_limit) agrees.objects)
   fault_same (declares_map n u v selfmade) =
-      first_of_three (is_some (kind_in s.declared n.text)) (nat_lt s.maps 1) (selfmade && are_two_objects (kind_in s.kinds) u v) (Double n.at) (TooMany n.at s.map_limit) (NotSquare n.at)
+      first_of_three (is_some (kind_in (declared_before s) n.text)) (nat_lt s.maps 1) (selfmade && are_two_objects (kind_in s.kinds) u v) (Double n.at) (TooMany n.at s.map_limit) (NotSquare n.at)
       ∙ ap₂ (λ b limit. if b then Some (Double n.at) else if nat_lt s.maps 1 then Some (TooMany n.at limit) else if selfmade && are_two_objects (kind_in s.kinds) u v then Some (NotSquare n.at) else None)
       (is_declared_same n.text) agrees.map_limit
       ∙ ap₂ (λ b c. if is_some (kind_in (declared_in before) n.text) then Some (Double n.at) else if b then Some (TooMany n.at most_maps) else if selfmade && c then Some (NotSquare n.at) else None)
@@ -104,11 +141,28 @@ module _ (most_maps : ℕ) (kind : List ℕ → Option Kind) (before : List Occu
   declared_push : (o : Occurrence) → declared_in (before ++ o ∷ []) ≡ declared_in before ++ declared_by o
   declared_push o = flat_map-append declared_by before (o ∷ []) ∙ ap (λ ds. declared_in before ++ ds) (append-nil (declared_by o))
 
-  -- an occurrence that neither declares nor begins anything
-  still : (o : Occurrence) → declared_by o ≡ [] → objects_by o ≡ 0 → maps_by o ≡ 0 → orders_by o ≡ 0 → assumptions_by o ≡ 0 → claims_by o ≡ 0 → shapes_by o ≡ 0 → Agrees most_maps kind (before ++ o ∷ []) s
-  still o d no_object no_map no_order no_assumption no_claim no_shape = record {
+  -- what the occurrence declares is new, so it stands behind what is declared before it
+  declared_next : (o : Occurrence) (os : List Occurrence) → after ≡ o ∷ os → with_kinds (declared_in before) (declared_by o) ≡ declared_in before ++ declared_by o
+      → s.kinds ≡ with_kinds (declared_in (before ++ o ∷ [])) (declared_in os)
+  declared_next o os next new =
+      agrees.declared ∙ ap (λ os. with_kinds (declared_in before) (declared_in os)) next
+      ∙ fold-append (λ ks d. with_kind ks d.0 d.1) (declared_in before) (declared_by o) (declared_in os)
+      ∙ ap (λ ks. with_kinds ks (declared_in os)) (new ∙ sym (declared_push o))
+
+  declared_new : (name : List ℕ) (k : Kind) → is_some (kind_in (declared_before s) name) ≡ false → with_kinds (declared_in before) ((name, k) ∷ []) ≡ declared_in before ++ (name, k) ∷ []
+  declared_new name k new = ap (λ b. if b then declared_in before else declared_in before ++ (name, k) ∷ []) (sym (is_declared_same name) ∙ new)
+
+  -- an occurrence that declares nothing
+  declared_still : (o : Occurrence) (os : List Occurrence) → after ≡ o ∷ os → declared_by o ≡ [] → s.kinds ≡ with_kinds (declared_in (before ++ o ∷ [])) (declared_in os)
+  declared_still o os next none =
+      declared_next o os next (ap (with_kinds (declared_in before)) none ∙ sym (ap (λ ds. declared_in before ++ ds) none ∙ append-nil (declared_in before)))
+
+  -- and begins nothing
+  still : (o : Occurrence) (os : List Occurrence) → after ≡ o ∷ os → declared_by o ≡ [] → objects_by o ≡ 0 → maps_by o ≡ 0 → orders_by o ≡ 0 → assumptions_by o ≡ 0 → claims_by o ≡ 0 → shapes_by o ≡ 0
+      → Agrees most_maps kind (before ++ o ∷ []) os s
+  still o os next none no_object no_map no_order no_assumption no_claim no_shape = record {
     kinds = agrees.kinds;
-    declared = agrees.declared ∙ sym (declared_push o ∙ ap (λ ds. declared_in before ++ ds) d ∙ append-nil (declared_in before));
+    declared = declared_still o os next none;
     objects = same_count objects_by o s.objects object_limit no_object agrees.objects;
     map_limit = agrees.map_limit;
     maps = same_count maps_by o s.maps most_maps no_map agrees.maps;
@@ -118,17 +172,14 @@ module _ (most_maps : ℕ) (kind : List ℕ → Option Kind) (before : List Occu
     shapes = same_count shapes_by o s.shapes shape_limit no_shape agrees.shapes;
   }
 
-  -- and one that begins something, but declares nothing
-  declared_still : (o : Occurrence) → declared_by o ≡ [] → s.declared ≡ declared_in (before ++ o ∷ [])
-  declared_still o d = agrees.declared ∙ sym (declared_push o ∙ ap (λ ds. declared_in before ++ ds) d ∙ append-nil (declared_in before))
-
-  behind_agrees : (o : Occurrence) → fault_at s o ≡ None → Agrees most_maps kind (before ++ o ∷ []) (behind s o)
-  behind_agrees (declares_object n) good =
+  behind_agrees : (o : Occurrence) (os : List Occurrence) → after ≡ o ∷ os → fault_at s o ≡ None → Agrees most_maps kind (before ++ o ∷ []) os (behind s o)
+  behind_agrees (declares_object n) os next good =
       let o = declares_object n in
-      let room : nat_lt s.objects 1 ≡ false = not_short s.objects 1 (TooMany n.at object_limit) (new_then_room (is_some (kind_in s.declared n.text)) (Double n.at) _ good) in
+      let new : is_some (kind_in (declared_before s) n.text) ≡ false = not_double (is_some (kind_in (declared_before s) n.text)) (Double n.at) _ good in
+      let room : nat_lt s.objects 1 ≡ false = not_short s.objects 1 (TooMany n.at object_limit) (new_then_room (is_some (kind_in (declared_before s) n.text)) (Double n.at) _ good) in
       record {
         kinds = agrees.kinds;
-        declared = ap (λ ds. ds ++ (n.text, Object) ∷ []) agrees.declared ∙ sym (declared_push o);
+        declared = declared_next o os next (declared_new n.text Object new);
         objects = less_room objects_by o s.objects object_limit agrees.objects room;
         map_limit = agrees.map_limit;
         maps = same_count maps_by o s.maps most_maps refl agrees.maps;
@@ -137,14 +188,15 @@ module _ (most_maps : ℕ) (kind : List ℕ → Option Kind) (before : List Occu
         claims = same_count claims_by o s.claims claim_limit refl agrees.claims;
         shapes = same_count shapes_by o s.shapes shape_limit refl agrees.shapes;
       }
-  behind_agrees (declares_map n u v selfmade) good =
+  behind_agrees (declares_map n u v selfmade) os next good =
       let o = declares_map n u v selfmade in
+      let taken = or_else_none (declared_fault (declared_before s) s.maps s.map_limit n) (selfmade && are_two_objects (kind_in s.kinds) u v) (NotSquare n.at) good in
+      let new : is_some (kind_in (declared_before s) n.text) ≡ false = not_double (is_some (kind_in (declared_before s) n.text)) (Double n.at) _ taken in
       let room : nat_lt s.maps 1 ≡ false =
-      not_short s.maps 1 (TooMany n.at s.map_limit) (new_then_room (is_some (kind_in s.declared n.text)) (Double n.at) _
-      (or_else_none (declared_fault s.declared s.maps s.map_limit n) (selfmade && are_two_objects (kind_in s.kinds) u v) (NotSquare n.at) good)) in
+      not_short s.maps 1 (TooMany n.at s.map_limit) (new_then_room (is_some (kind_in (declared_before s) n.text)) (Double n.at) _ taken) in
       record {
         kinds = agrees.kinds;
-        declared = ap (λ ds. ds ++ (n.text, Map) ∷ []) agrees.declared ∙ sym (declared_push o);
+        declared = declared_next o os next (declared_new n.text Map new);
         objects = same_count objects_by o s.objects object_limit refl agrees.objects;
         map_limit = agrees.map_limit;
         maps = less_room maps_by o s.maps most_maps agrees.maps room;
@@ -153,15 +205,15 @@ module _ (most_maps : ℕ) (kind : List ℕ → Option Kind) (before : List Occu
         claims = same_count claims_by o s.claims claim_limit refl agrees.claims;
         shapes = same_count shapes_by o s.shapes shape_limit refl agrees.shapes;
       }
-  behind_agrees (uses u) good = still (uses u) refl refl refl refl refl refl refl
-  behind_agrees (lists front u) good = still (lists front u) refl refl refl refl refl refl refl
-  behind_agrees (counts most n) good = still (counts most n) refl refl refl refl refl refl refl
-  behind_agrees (modulus n) good = still (modulus n) refl refl refl refl refl refl refl
-  behind_agrees (begins_order at) good =
+  behind_agrees (uses u) os next good = still (uses u) os next refl refl refl refl refl refl refl
+  behind_agrees (lists front u) os next good = still (lists front u) os next refl refl refl refl refl refl refl
+  behind_agrees (counts most n) os next good = still (counts most n) os next refl refl refl refl refl refl refl
+  behind_agrees (modulus n) os next good = still (modulus n) os next refl refl refl refl refl refl refl
+  behind_agrees (begins_order at) os next good =
       let o = begins_order at in
       record {
         kinds = agrees.kinds;
-        declared = declared_still o refl;
+        declared = declared_still o os next refl;
         objects = same_count objects_by o s.objects object_limit refl agrees.objects;
         map_limit = agrees.map_limit;
         maps = same_count maps_by o s.maps most_maps refl agrees.maps;
@@ -170,11 +222,11 @@ module _ (most_maps : ℕ) (kind : List ℕ → Option Kind) (before : List Occu
         claims = same_count claims_by o s.claims claim_limit refl agrees.claims;
         shapes = same_count shapes_by o s.shapes shape_limit refl agrees.shapes;
       }
-  behind_agrees (begins_assumptions count at) good =
+  behind_agrees (begins_assumptions count at) os next good =
       let o = begins_assumptions count at in
       record {
         kinds = agrees.kinds;
-        declared = declared_still o refl;
+        declared = declared_still o os next refl;
         objects = same_count objects_by o s.objects object_limit refl agrees.objects;
         map_limit = agrees.map_limit;
         maps = same_count maps_by o s.maps most_maps refl agrees.maps;
@@ -183,11 +235,11 @@ module _ (most_maps : ℕ) (kind : List ℕ → Option Kind) (before : List Occu
         claims = same_count claims_by o s.claims claim_limit refl agrees.claims;
         shapes = same_count shapes_by o s.shapes shape_limit refl agrees.shapes;
       }
-  behind_agrees (begins_claim at) good =
+  behind_agrees (begins_claim at) os next good =
       let o = begins_claim at in
       record {
         kinds = agrees.kinds;
-        declared = declared_still o refl;
+        declared = declared_still o os next refl;
         objects = same_count objects_by o s.objects object_limit refl agrees.objects;
         map_limit = agrees.map_limit;
         maps = same_count maps_by o s.maps most_maps refl agrees.maps;
@@ -196,11 +248,11 @@ module _ (most_maps : ℕ) (kind : List ℕ → Option Kind) (before : List Occu
         claims = less_room claims_by o s.claims claim_limit agrees.claims (not_short s.claims 1 (TooMany at claim_limit) good);
         shapes = same_count shapes_by o s.shapes shape_limit refl agrees.shapes;
       }
-  behind_agrees (begins_shape at) good =
+  behind_agrees (begins_shape at) os next good =
       let o = begins_shape at in
       record {
         kinds = agrees.kinds;
-        declared = declared_still o refl;
+        declared = declared_still o os next refl;
         objects = same_count objects_by o s.objects object_limit refl agrees.objects;
         map_limit = agrees.map_limit;
         maps = same_count maps_by o s.maps most_maps refl agrees.maps;
@@ -211,11 +263,12 @@ module _ (most_maps : ℕ) (kind : List ℕ → Option Kind) (before : List Occu
       }
 
 -- the first fault is the one that the search finds
-pub first_same : (most_maps : ℕ) (kind : List ℕ → Option Kind) (before : List Occurrence) (s : Survey) → Agrees most_maps kind before s → (os : List Occurrence) → first_fault most_maps kind before os ≡ fault_in (run s os)
-first_same most_maps kind before s agrees [] = refl
-first_same most_maps kind before s agrees (o ∷ os) =
-    ap (λ found. option_or found (first_fault most_maps kind (before ++ o ∷ []) os)) (sym (fault_same most_maps kind before s agrees o))
-    ∙ go (fault_at s o) refl (λ good. first_same most_maps kind (before ++ o ∷ []) (behind s o) (behind_agrees most_maps kind before s agrees o good) os)
+pub first_same : (most_maps : ℕ) (kind : List ℕ → Option Kind) (before : List Occurrence) (s : Survey) (os : List Occurrence) → Agrees most_maps kind before os s
+    → first_fault most_maps kind before os ≡ fault_in (run s os)
+first_same most_maps kind before s [] agrees = refl
+first_same most_maps kind before s (o ∷ os) agrees =
+    ap (λ found. option_or found (first_fault most_maps kind (before ++ o ∷ []) os)) (sym (fault_same most_maps kind before (o ∷ os) s agrees o))
+    ∙ go (fault_at s o) refl (λ good. first_same most_maps kind (before ++ o ∷ []) (behind s o) os (behind_agrees most_maps kind before (o ∷ os) s agrees o os refl good))
   where
     go : (found : Option NameFault) → fault_at s o ≡ found → (fault_at s o ≡ None → first_fault most_maps kind (before ++ o ∷ []) os ≡ fault_in (run (behind s o) os))
         → option_or found (first_fault most_maps kind (before ++ o ∷ []) os) ≡ fault_in (goes_on found (run (behind s o) os))

@@ -1,6 +1,9 @@
 -- What is found for a name in lists of declarations.
-use Rattle.std.proofs.Common.{◌≡◌, ℕ, ◌+◌, ◌<◌, length, get_or, take, Bool, true, false, cond, if◌then◌else◌, is_some, List, [], ◌∷◌, ◌++◌, Option, Some, None, refl, ap, sym, ◌∙◌}
+use Rattle.std.proofs.Common.{◌≡◌, ℕ, ◌+◌, ◌<◌, length, get_or, take, Bool, true, false, cond, if◌then◌else◌, is_some, List, [], ◌∷◌, ◌++◌, Option, Some, None, refl, ap, sym, ◌∙◌, append_assoc}
 use Rattle.std.specs.List.{flat_map}
+use Rattle.std.proofs.lemmas.List.{append-nil}
+use Rattle.std.proofs.lemmas.List.Sums.{fold-append, fold_push}
+use Rattle.std.proofs.Math.Seq.{take-append_seam}
 use Rattle.std.specs.Map.{lookup}
 use Rattle.std.specs.Option.{option_or}
 use Rattle.std.specs.Str.{bytes_eq}
@@ -10,7 +13,7 @@ use Rattle.statement_names.specs.Faults.{kind_in}
 use Rattle.statement_names.proofs.Items.{map_next, flat_next}
 use Rattle.statement_syntax.specs.declared.tree.Name.{Name}
 use Rattle.statement_syntax.specs.declared.tree.Statement.{Statement}
-use Rattle.statement_names.specs.Survey.{with_kind, kinded, kinds_by, SameKinds}
+use Rattle.statement_names.specs.Survey.{with_kind, with_kinds, kinded, kinds_by}
 
 pub same_bytes : (xs ys : List ℕ) → bytes_eq xs ys ≡ true → xs ≡ ys
 same_bytes xs ys e = (bytes_eq-Decides xs ys).0 e
@@ -47,19 +50,43 @@ kind_in-with_kind declared name kind q = by (is_some (kind_in declared name)) re
         over (kind_in declared q) (bytes_eq q name) (λ same. ap (λ n. is_some (kind_in declared n)) (same_bytes q name same) ∙ is)
         ∙ sym (kind_in-append declared ((name, kind) ∷ []) q)
 
--- ---- declarations that find the same
-pub same-append : (xs ys zs : List (List ℕ × Kind)) → SameKinds xs ys → SameKinds (xs ++ zs) (ys ++ zs)
-same-append xs ys zs same q = kind_in-append xs zs q ∙ ap (λ found. option_or found (kind_in zs q)) (same q) ∙ sym (kind_in-append ys zs q)
+-- further declarations find the same where those before them do
+same-append : (xs ys zs : List (List ℕ × Kind)) (q : List ℕ) → kind_in xs q ≡ kind_in ys q → kind_in (xs ++ zs) q ≡ kind_in (ys ++ zs) q
+same-append xs ys zs q same = kind_in-append xs zs q ∙ ap (λ found. option_or found (kind_in zs q)) same ∙ sym (kind_in-append ys zs q)
 
+-- what is left out where a name is declared again is never found
+pub kind_in-with_kinds : (front more : List (List ℕ × Kind)) (q : List ℕ) → kind_in (with_kinds front more) q ≡ kind_in (front ++ more) q
+kind_in-with_kinds front [] q = ap (λ ks. kind_in ks q) (sym (append-nil front))
+kind_in-with_kinds front (d ∷ more) q =
+    kind_in-with_kinds (with_kind front d.0 d.1) more q
+    ∙ same-append (with_kind front d.0 d.1) (front ++ d ∷ []) more q (kind_in-with_kind front d.0 d.1 q)
+    ∙ ap (λ ks. kind_in ks q) (append_assoc front (d ∷ []) more)
+
+-- new declarations stand behind those before them
+grown : (front more : List (List ℕ × Kind)) → (new : List (List ℕ × Kind)) × (with_kinds front more ≡ front ++ new)
+grown front [] = ([], sym (append-nil front))
+grown front (d ∷ more) = go (is_some (kind_in front d.0)) (grown front more) (grown (front ++ d ∷ []) more)
+  where
+    go : (there : Bool) → (new : List (List ℕ × Kind)) × (with_kinds front more ≡ front ++ new) → (new : List (List ℕ × Kind)) × (with_kinds (front ++ d ∷ []) more ≡ (front ++ d ∷ []) ++ new)
+        → (new : List (List ℕ × Kind)) × (with_kinds (if there then front else front ++ d ∷ []) more ≡ front ++ new)
+    go true same further = same
+    go false same further = (d ∷ further.0, further.1 ∙ append_assoc front (d ∷ []) further.0)
+
+pub take-with_kinds : (front more : List (List ℕ × Kind)) → take (length front) (with_kinds front more) ≡ front
+take-with_kinds front more = let new = grown front more in ap (take (length front)) new.1 ∙ take-append_seam front new.0
+
+-- ---- one name or statement more
 pub name_put : (kinds new front : List (List ℕ × Kind)) (kind : Kind) (names : List Name) (i : ℕ) (n : Name) → i < length names → n ≡ get_or names i n
-    → SameKinds kinds (front ++ kinded kind (take i names)) → new ≡ with_kind kinds n.text kind → SameKinds new (front ++ kinded kind (take (i + 1) names))
-name_put kinds new front kind names i n below at so_far is q =
-    ap (λ ks. kind_in ks q) is ∙ kind_in-with_kind kinds n.text kind q
-    ∙ same-append kinds (front ++ kinded kind (take i names)) ((n.text, kind) ∷ []) so_far q
-    ∙ ap (λ ks. kind_in ks q) (map_next names i n below at (λ n. (n.text, kind)) front)
+    → kinds ≡ with_kinds front (kinded kind (take i names)) → new ≡ with_kind kinds n.text kind → new ≡ with_kinds front (kinded kind (take (i + 1) names))
+name_put kinds new front kind names i n below at so_far is =
+    is ∙ ap (λ ks. with_kind ks n.text kind) so_far
+    ∙ sym (fold_push (λ ks d. with_kind ks d.0 d.1) front (kinded kind (take i names)) (n.text, kind))
+    ∙ ap (with_kinds front) (map_next names i n below at (λ n. (n.text, kind)) [])
 
 pub statement_put : (kinds new : List (List ℕ × Kind)) (statements : List Statement) (i : ℕ) (s : Statement) → i < length statements → s ≡ get_or statements i s
-    → SameKinds kinds (flat_map (λ s. kinds_by s.kind) (take i statements)) → SameKinds new (kinds ++ kinds_by s.kind) → SameKinds new (flat_map (λ s. kinds_by s.kind) (take (i + 1) statements))
-statement_put kinds new statements i s below at so_far is q =
-    is q ∙ same-append kinds (flat_map (λ s. kinds_by s.kind) (take i statements)) (kinds_by s.kind) so_far q
-    ∙ ap (λ ks. kind_in ks q) (sym (flat_next statements i s below at (λ s. kinds_by s.kind)))
+    → kinds ≡ with_kinds [] (flat_map (λ s. kinds_by s.kind) (take i statements)) → new ≡ with_kinds kinds (kinds_by s.kind)
+    → new ≡ with_kinds [] (flat_map (λ s. kinds_by s.kind) (take (i + 1) statements))
+statement_put kinds new statements i s below at so_far is =
+    is ∙ ap (λ ks. with_kinds ks (kinds_by s.kind)) so_far
+    ∙ sym (fold-append (λ ks d. with_kind ks d.0 d.1) [] (flat_map (λ s. kinds_by s.kind) (take i statements)) (kinds_by s.kind))
+    ∙ ap (with_kinds []) (sym (flat_next statements i s below at (λ s. kinds_by s.kind)))

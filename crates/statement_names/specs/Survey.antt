@@ -1,5 +1,6 @@
 -- How the program looks for the first fault: occurrence by occurrence, with how much more of each there may be.
-use Rattle.std.specs.Prelude.{◌≡◌, ℕ, ◌-◌, Bool, ◌&&◌, nat_lt, if◌then◌else◌, is_some, List, [], ◌∷◌, ◌++◌, map, Option, Some, None, Result, Ok, Err}
+use Rattle.std.specs.Prelude.{ℕ, ◌+◌, ◌-◌, Bool, ◌&&◌, nat_lt, if◌then◌else◌, is_some, List, [], ◌∷◌, ◌++◌, map, fold, take}
+use Rattle.std.specs.Prelude.{Option, Some, None, Result, Ok, Err}
 use Rattle.definitions.specs.Moduli.{is_field_modulus}
 use Rattle.statement_names.specs.declared.fault.NameFault.{NameFault}
 use Rattle.statement_names.specs.declared.fault.NameFault.TheVariants.{Unknown, Double, TooMany, NotSquare, BadNumber}
@@ -25,13 +26,21 @@ kinds_by (statement.Objects names) = kinded Object names
 kinds_by (statement.Maps names source target selfmade) = kinded Map names
 kinds_by kind = []
 
--- the same is found for each name
-abbrev pub SameKinds : List (List ℕ × Kind) → List (List ℕ × Kind) → Type 0
-SameKinds declared others = (name : List ℕ) → kind_in declared name ≡ kind_in others name
-
 -- a name with what it is declared as, unless it is declared already
 abbrev pub with_kind : List (List ℕ × Kind) → List ℕ → Kind → List (List ℕ × Kind)
 with_kind declared name kind = if is_some (kind_in declared name) then declared else declared ++ (name, kind) ∷ []
+
+-- further declarations, each unless its name is declared already
+abbrev pub with_kinds : List (List ℕ × Kind) → List (List ℕ × Kind) → List (List ℕ × Kind)
+with_kinds declared more = fold (λ kinds d. with_kind kinds d.0 d.1) declared more
+
+-- how many names are declared so far: each takes up room
+abbrev pub declared_count : Survey → ℕ
+declared_count s = (object_limit - s.objects) + (s.map_limit - s.maps)
+
+-- what is declared so far: the first of all that the file declares
+abbrev pub declared_before : Survey → List (List ℕ × Kind)
+declared_before s = take (declared_count s) s.kinds
 
 -- the fault where there is no room for so many more
 abbrev pub short_of : ℕ → ℕ → NameFault → Option NameFault
@@ -56,9 +65,9 @@ number_fault good fault = if good then None else Some fault
 
 -- what is wrong with an occurrence
 abbrev pub fault_at : Survey → Occurrence → Option NameFault
-fault_at s (declares_object name) = declared_fault s.declared s.objects object_limit name
+fault_at s (declares_object name) = declared_fault (declared_before s) s.objects object_limit name
 fault_at s (declares_map name source target selfmade) =
-    or_else (declared_fault s.declared s.maps s.map_limit name)
+    or_else (declared_fault (declared_before s) s.maps s.map_limit name)
     (selfmade && are_two_objects (kind_in s.kinds) source target) (NotSquare name.at)
 fault_at s (uses u) = used_fault s.kinds u
 fault_at s (lists front u) = or_else (used_fault s.kinds u) (is_among front u.name.text) (Double u.name.at)
@@ -71,8 +80,8 @@ fault_at s (begins_shape at) = short_of s.shapes 1 (TooMany at shape_limit)
 
 -- the survey behind it
 abbrev pub behind : Survey → Occurrence → Survey
-behind s (declares_object name) = record s { declared = s.declared ++ (name.text, Object) ∷ []; objects = s.objects - 1 }
-behind s (declares_map name source target selfmade) = record s { declared = s.declared ++ (name.text, Map) ∷ []; maps = s.maps - 1 }
+behind s (declares_object name) = record s { objects = s.objects - 1 }
+behind s (declares_map name source target selfmade) = record s { maps = s.maps - 1 }
 behind s (begins_order at) = record s { orders = s.orders - 1 }
 behind s (begins_assumptions count at) = record s { assumptions = s.assumptions - count }
 behind s (begins_claim at) = record s { claims = s.claims - 1 }

@@ -24,13 +24,13 @@ impl Survey {
     {
         let at = statement.at;
         match &statement.kind {
-            StatementKind::Objects(names) => self.objects(names.as_slice()),
+            StatementKind::Objects(names) => Ok(self.objects(names.as_slice())?),
             StatementKind::Maps {
                 names,
                 source,
                 target,
                 selfmade,
-            } => self.maps_between(names.as_slice(), source, target, *selfmade),
+            } => Ok(self.maps_between(names.as_slice(), source, target, *selfmade)?),
             StatementKind::Weight(weights) => self.weights(alloc, at, weights.as_slice()),
             StatementKind::Solve(names) => self.names(alloc, names.as_slice()),
             StatementKind::Eliminate(names) => self.eliminated(alloc, at, names.as_slice()),
@@ -69,15 +69,15 @@ impl Survey {
         source: &Name,
         target: &Name,
         selfmade: bool,
-    ) -> Result<(), NameStop>
+    ) -> Result<(), NameFault>
         ensures ok { OnOk result (run self.old (map (λ name. declares_map name source.now.text target.now.text selfmade) names.now
             ++ used_names (use_of Kind.Object source.now ∷ use_of Kind.Object target.now ∷ [])) ≡ Ok self.new) }
-        ensures err { IfErr result (Explains
-            (fault_in (run self.old (map (λ name. declares_map name source.now.text target.now.text selfmade) names.now
-            ++ used_names (use_of Kind.Object source.now ∷ use_of Kind.Object target.now ∷ []))))) }
+        ensures err { IfErr result (λ e.
+            fault_in (run self.old (map (λ name. declares_map name source.now.text target.now.text selfmade) names.now
+            ++ used_names (use_of Kind.Object source.now ∷ use_of Kind.Object target.now ∷ []))) ≡ Some e) }
     {
         self.maps(names, source, target, selfmade)?;
-        Ok(self.two(source, target, Kind::Object)?)
+        self.two(source, target, Kind::Object)
     }
 
     // An assumption.

@@ -1,44 +1,21 @@
 //! The names that are declared: whether they are new, and whether there is room for them.
 
-ghost use Rattle.std.specs.Prelude.{◌≡◌, ◌-◌, ◌∷◌, [], ◌++◌, map, None, Ok, OnOk, IfErr};
-ghost use Rattle.statement_names.specs.Faults.{Explains, kind_in, are_two_objects};
+ghost use Rattle.std.specs.Prelude.{◌≡◌, map, is_some, None, Some, Ok, OnOk, IfErr};
+ghost use Rattle.statement_names.specs.Faults.{kind_in, are_two_objects};
 ghost use Rattle.statement_names.specs.Occurrences.{declares_object, declares_map};
-ghost use Rattle.statement_names.specs.Survey.{fault_at, behind, run, fault_in, declared_fault};
+ghost use Rattle.statement_names.specs.Survey.{fault_at, behind, run, fault_in, declared_before, declared_count};
 
-use crate::fault::{NameFault, NameStop};
-use crate::kinds::{Kind, Kinds};
+use crate::fault::NameFault;
+use crate::kinds::Kind;
 use crate::survey::{Survey, take_room};
 use quiver::OBJECT_LIMIT;
 use statement_syntax::Name;
 
-// Takes in a name that is declared, where it is new and there is room for it.
-fn declare(
-    declared: &mut Kinds,
-    room: &mut u32,
-    limit: u32,
-    name: &Name,
-    kind: Kind,
-) -> Result<(), NameStop>
-    ensures ok { OnOk result (declared_fault declared.old room.old limit name.now ≡ None) }
-    ensures taken { OnOk result (declared.new ≡ declared.old ++ (name.now.text, kind) ∷ []) }
-    ensures left { OnOk result (room.new ≡ room.old - 1) }
-    ensures err { IfErr result (Explains (declared_fault declared.old room.old limit name.now)) }
-{
-    let text = name.text.as_str();
-    let at = name.at;
-    if declared.kind_of(text).is_some() {
-        return Err(NameStop::Fault(NameFault::Double { at }));
-    }
-    take_room(room, 1, NameFault::TooMany { at, limit })?;
-    declared.declare(text, kind)?;
-    Ok(())
-}
-
 impl Survey {
     // Objects that are declared.
-    pub(crate) fn objects(&mut self, names: &[Name]) -> Result<(), NameStop>
+    pub(crate) fn objects(&mut self, names: &[Name]) -> Result<(), NameFault>
         ensures ok { OnOk result (run self.old (map (λ name. declares_object name) names.now) ≡ Ok self.new) }
-        ensures err { IfErr result (Explains (fault_in (run self.old (map (λ name. declares_object name) names.now)))) }
+        ensures err { IfErr result (λ e. fault_in (run self.old (map (λ name. declares_object name) names.now)) ≡ Some e) }
     {
         for name in names {
             self.object(name)?;
@@ -53,9 +30,10 @@ impl Survey {
         source: &Name,
         target: &Name,
         selfmade: bool,
-    ) -> Result<(), NameStop>
+    ) -> Result<(), NameFault>
         ensures ok { OnOk result (run self.old (map (λ name. declares_map name source.now.text target.now.text selfmade) names.now) ≡ Ok self.new) }
-        ensures err { IfErr result (Explains (fault_in (run self.old (map (λ name. declares_map name source.now.text target.now.text selfmade) names.now)))) }
+        ensures err { IfErr result (λ e.
+            fault_in (run self.old (map (λ name. declares_map name source.now.text target.now.text selfmade) names.now)) ≡ Some e) }
     {
         for name in names {
             self.map(name, source, target, selfmade)?;
@@ -64,19 +42,17 @@ impl Survey {
     }
 
     // An object that is declared.
-    fn object(&mut self, name: &Name) -> Result<(), NameStop>
+    fn object(&mut self, name: &Name) -> Result<(), NameFault>
         ensures ok { OnOk result (fault_at self.old (declares_object name.now) ≡ None) }
         ensures after { OnOk result (self.new ≡ behind self.old (declares_object name.now)) }
-        ensures err { IfErr result (Explains (fault_at self.old (declares_object name.now))) }
+        ensures err { IfErr result (λ e. fault_at self.old (declares_object name.now) ≡ Some e) }
     {
-        let declared = &mut self.declared;
-        declare(
-            declared,
-            &mut self.objects,
-            OBJECT_LIMIT,
-            name,
-            Kind::Object,
-        )
+        let at = name.at;
+        if self.is_declared(name) {
+            return Err(NameFault::Double { at });
+        }
+        let limit = OBJECT_LIMIT;
+        take_room(&mut self.objects, 1, NameFault::TooMany { at, limit })
     }
 
     // A map that is declared between two objects.
@@ -86,17 +62,38 @@ impl Survey {
         source: &Name,
         target: &Name,
         selfmade: bool,
-    ) -> Result<(), NameStop>
+    ) -> Result<(), NameFault>
         ensures ok { OnOk result (fault_at self.old (declares_map name.now source.now.text target.now.text selfmade) ≡ None) }
         ensures after { OnOk result (self.new ≡ behind self.old (declares_map name.now source.now.text target.now.text selfmade)) }
-        ensures err { IfErr result (Explains (fault_at self.old (declares_map name.now source.now.text target.now.text selfmade))) }
+        ensures err { IfErr result (λ e. fault_at self.old (declares_map name.now source.now.text target.now.text selfmade) ≡ Some e) }
     {
-        let declared = &mut self.declared;
-        declare(declared, &mut self.maps, self.map_limit, name, Kind::Map)?;
+        let at = name.at;
+        if self.is_declared(name) {
+            return Err(NameFault::Double { at });
+        }
+        let limit = self.map_limit;
+        take_room(&mut self.maps, 1, NameFault::TooMany { at, limit })?;
         if selfmade && self.are_two_objects(source, target) {
-            return Err(NameStop::Fault(NameFault::NotSquare { at: name.at }));
+            return Err(NameFault::NotSquare { at });
         }
         Ok(())
+    }
+
+    // Whether the name is declared already.
+    fn is_declared(&self, name: &Name) -> bool
+        ensures { result ≡ is_some (kind_in (declared_before self.now) name.now.text) }
+    {
+        self.kinds
+            .is_among_first(self.declared(), name.text.as_str())
+    }
+
+    // How many names are declared so far: each takes up room.
+    fn declared(&self) -> usize
+        ensures { result ≡ declared_count self.now }
+    {
+        let objects = OBJECT_LIMIT.saturating_sub(self.objects);
+        let maps = self.map_limit.saturating_sub(self.maps);
+        objects as usize + maps as usize
     }
 
     // Whether both names are objects, and not the same.

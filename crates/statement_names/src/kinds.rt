@@ -1,9 +1,9 @@
 //! What names are declared as: objects or maps.
 
-ghost use Rattle.std.specs.Prelude.{◌≡◌, ◌++◌, [], IfOk, OnOk, OnErr};
+ghost use Rattle.std.specs.Prelude.{◌≡◌, [], take, is_some, IfOk, OnOk, OnErr};
 ghost use Rattle.statement_names.specs.Faults.{declared_in, kind_in};
 ghost use Rattle.statement_names.specs.Occurrences.{occurrences_of};
-ghost use Rattle.statement_names.specs.Survey.{with_kind, kinded, kinds_by, SameKinds};
+ghost use Rattle.statement_names.specs.Survey.{with_kind, with_kinds, kinded, kinds_by};
 
 use indexmap::IndexMap;
 use statement_syntax::{Name, Statement, StatementKind};
@@ -49,6 +49,16 @@ impl Kinds {
         self.kinds.get(name).copied()
     }
 
+    /// Whether the name is one of the first so many.
+    pub fn is_among_first(&self, count: usize, name: &str) -> bool
+        ensures { result ≡ is_some (kind_in (take count self.now) name.now) }
+    {
+        match self.kinds.get_index_of(name) {
+            Some(place) => place < count,
+            None => false,
+        }
+    }
+
     /// Declares the name, unless it is declared already. Where memory is short, all stays as it was.
     pub fn declare(&mut self, name: &str, kind: Kind) -> Result<(), AllocError>
         ensures ok { OnOk result (self.new ≡ with_kind self.old name.now kind) }
@@ -63,9 +73,9 @@ impl Kinds {
     }
 }
 
-/// What each name of some statements is declared as.
+/// What each name of some statements is declared as, in the order of their first declarations.
 pub fn kinds_of(alloc: Global, statements: &[Statement]) -> Result<Kinds, AllocError>
-    ensures { IfOk result (λ kinds. SameKinds kinds (declared_in (occurrences_of statements.now))) }
+    ensures { IfOk result (λ kinds. kinds ≡ with_kinds [] (declared_in (occurrences_of statements.now))) }
 {
     let mut kinds = Kinds::new(alloc);
     for statement in statements {
@@ -76,7 +86,7 @@ pub fn kinds_of(alloc: Global, statements: &[Statement]) -> Result<Kinds, AllocE
 
 // Declares what the statement declares.
 fn put_statement(kinds: &mut Kinds, statement: &StatementKind) -> Result<(), AllocError>
-    ensures { OnOk result (SameKinds kinds.new (kinds.old ++ kinds_by statement.now)) }
+    ensures { OnOk result (kinds.new ≡ with_kinds kinds.old (kinds_by statement.now)) }
 {
     match statement {
         StatementKind::Objects(names) => put_names(kinds, names.as_slice(), Kind::Object),
@@ -87,7 +97,7 @@ fn put_statement(kinds: &mut Kinds, statement: &StatementKind) -> Result<(), All
 
 // Declares names as objects or as maps.
 fn put_names(kinds: &mut Kinds, names: &[Name], kind: Kind) -> Result<(), AllocError>
-    ensures { OnOk result (SameKinds kinds.new (kinds.old ++ kinded kind names.now)) }
+    ensures { OnOk result (kinds.new ≡ with_kinds kinds.old (kinded kind names.now)) }
 {
     for name in names {
         kinds.declare(name.text.as_str(), kind)?;

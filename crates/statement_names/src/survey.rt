@@ -17,12 +17,11 @@ use std::alloc::Global;
 /// The greatest number of maps of a file of the first language.
 pub const FIRST_MAP_LIMIT: u32 = 200;
 
-/// What all of a file declares and how many maps it may, what is declared so far, and how many more of each may come.
+/// What all of a file declares and how many maps it may, and how many more of each may come.
 #[derive(Drop)]
 pub struct Survey {
     pub kinds: Kinds,
     pub map_limit: u32,
-    pub declared: Kinds,
     pub objects: u32,
     pub maps: u32,
     pub orders: u32,
@@ -40,7 +39,6 @@ pub fn check_names(alloc: Global, statements: &[Statement]) -> Result<(), NameSt
     let mut survey = Survey {
         kinds: kinds_of(alloc, statements)?,
         map_limit,
-        declared: Kinds::new(alloc),
         objects: OBJECT_LIMIT,
         maps: map_limit,
         orders: 1,
