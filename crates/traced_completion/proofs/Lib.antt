@@ -4,6 +4,7 @@ pub mod Staying
 pub mod StoreLemmas
 pub mod Places
 pub mod Appending
+pub mod Merging
 pub mod Sorting
 pub mod Advancing
 pub mod NonemptyWords

@@ -116,7 +116,7 @@ impl Pending {
             drop_first(&mut self.items, taken);
             return Ok(());
         }
-        self.items = take_sorted(&rules.order, &mut self.items, taken)?;
+        self.items = take_sorted(&rules.order, &mut self.items, taken, count)?;
         Ok(())
     }
 }

@@ -1,13 +1,15 @@
-use Rattle.std.proofs.Common.{rules, ◌≡◌, length, drop, Err, sym, subst}
+use Rattle.std.proofs.Common.{rules, ◌≡◌, List, length, map, drop, Err, sym, ap, subst, arith}
 use Rattle.std.specs.List.{All}
-use Rattle.std.specs.List.Sorted.{IsPermutation, IsSorted}
+use Rattle.std.specs.List.Sorted.{IsPermutation, IsSortedWithin}
+use Rattle.std.specs.Ordering.{is_lt}
+use Rattle.std.proofs.lemmas.List.{length-append}
 use Rattle.std.proofs.lemmas.List.Elements.{All-drop}
 use Rattle.std.proofs.lemmas.List.Sorted.{All-permutation}
 use Rattle.word_core.specs.Letters.{IsOver}
 use Rattle.traced_completion.specs.declared.pending.waiting.Waiting.{Waiting}
 use Rattle.traced_completion.specs.Pending.{IsNextStore}
-use Rattle.traced_completion.specs.StoreOrder.{IsExtended, waiting_cmp}
-use Rattle.traced_completion.proofs.Advancing.{next-store, rest-store}
+use Rattle.traced_completion.specs.StoreOrder.{IsExtended, waiting_cmp, waiting_of}
+use Rattle.traced_completion.proofs.Advancing.{merged-store, rest-store}
 use Rattle.traced_completion.proofs.pending.store.Pending.push_and_sort.Goals as goal
 
 pub returns-then-len-count-clause-ok : goal.returns-then-len-count-clause-ok
@@ -31,10 +33,21 @@ returns-clause-ok g c =
     let order = c.args.rules.now.order in
     let by = g.O.WordOrder.compare order in
     let laws = g.met.O.WordOrder.admissible order in
-    let extends : IsExtended c.args.rules.now.rules c.args.known c.args.self.now c.push_new.new.items.items = search rules in
-    let moved : IsPermutation (drop c.args.taken c.push_new.new.items.items) c.in_ok-self-inside.field-0.items = c.in_ok-self-inside.ensures.permutation in
-    let sorted : IsSorted (waiting_cmp by) c.in_ok-self-inside.field-0.items = c.in_ok-self-inside.ensures.sorted in
-    next-store by laws.total laws.same c.args.rules.now.rules c.args.known c.args.taken c.args.self.now c.push_new.new.items.items c.in_ok-self-inside.field-0.items c.requires.taken extends moved sorted
+    let extended : List Waiting = c.push_new.new.items.items in
+    let new : List Waiting = c.in_ok-self-inside.field-0.items in
+    let count : c.len-count.result ≡ length c.args.self.now = search rules in
+    let extends : IsExtended c.args.rules.now.rules c.args.known c.args.self.now extended = search rules in
+    let moved : IsPermutation (drop c.args.taken extended) new = c.in_ok-self-inside.ensures.permutation in
+    merged-store by laws.total laws.same c.args.rules.now.rules c.args.known c.args.taken c.args.self.now extended new c.requires.taken extends moved
+    (λ within. c.in_ok-self-inside.ensures.sorted (subst (IsSortedWithin (λ x y. is_lt (waiting_cmp by x y)) extended c.args.taken) (sym count) within))
+
+pub take_sorted-requires-clause-within : goal.take_sorted-requires-clause-within
+take_sorted-requires-clause-within g c =
+    let all = c.args.rules.now.rules in
+    let extended : List Waiting = c.push_new.new.items.items in
+    let count : c.len-count.result ≡ length c.args.self.now = search rules in
+    let extends : IsExtended all c.args.known c.args.self.now extended = search rules in
+    omega (arith, count, ap length extends.appended, length-append c.args.self.now (map (waiting_of all) extends.found))
 
 pub returns-clause-over : goal.returns-clause-over
 returns-clause-over g c =
