@@ -4,9 +4,10 @@ pub mod Staying
 pub mod StoreLemmas
 pub mod Places
 pub mod Appending
-pub mod Merging
 pub mod Sorting
 pub mod Advancing
+pub mod BlockLemmas
+pub mod Renewing
 pub mod NonemptyWords
 pub mod KeptReductions
 pub mod InOrder

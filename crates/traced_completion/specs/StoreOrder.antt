@@ -1,5 +1,5 @@
 -- The order of the store as a comparison, and the store with the ambiguities of new rules at its end.
-use Rattle.std.specs.Prelude.{◌≡◌, ℕ, ◌+◌, List, ◌++◌, map, false, slice_index_or}
+use Rattle.std.specs.Prelude.{◌≡◌, ℕ, ◌+◌, List, ◌++◌, map, false, slice_index_or, length, ◌-◌}
 use Rattle.std.specs.Ordering.{nat_cmp, then_cmp, on, is_lt}
 use Rattle.std.specs.declared.cmp.Ordering.{Ordering}
 use Rattle.word_orders.specs.Admissible.{Compare}
@@ -18,9 +18,13 @@ ambiguity_cmp = then_cmp (then_cmp (on (λ a. a.i) nat_cmp) (on (λ a. a.j) nat_
 abbrev pub waiting_cmp : Compare → Waiting → Waiting → Ordering
 waiting_cmp compare = then_cmp (on (λ w. w.word) compare) (on (λ w. w.which) ambiguity_cmp)
 
--- What stands at the first place isn't above what stands at the second one; past the end the same stands everywhere.
-abbrev pub IsInTurn : (Waiting → Waiting → Ordering) → List Waiting → Waiting → ℕ → ℕ → Type 0
-IsInTurn by items past p q = is_lt (by (slice_index_or items q past) (slice_index_or items p past)) ≡ false
+-- The first one isn't above the second one.
+abbrev pub IsUpTo : Compare → Waiting → Waiting → Type 0
+IsUpTo compare v w = is_lt (waiting_cmp compare w v) ≡ false
+
+-- the last one of a list, and another one where there is none
+abbrev pub last_of : List Waiting → Waiting → Waiting
+last_of items d = slice_index_or items (length items - 1) d
 
 -- the ambiguity with its overlap word
 abbrev pub waiting_of : List Rule → Ambiguity → Waiting

@@ -1,8 +1,7 @@
 //! Waiting ambiguities moved into their order.
 ghost use Rattle.std.specs.Prelude.{◌≡◌, ◌≢◌, ◌<◌, ◌≤◌, [], length, map, drop, IfOk, OnErr, slice_index_or};
 ghost use Rattle.std.specs.List.{All, AllPairs};
-ghost use Rattle.std.specs.List.Sorted.{IsPermutation, IsSorted, IsSortedWithin};
-ghost use Rattle.std.specs.Ordering.{is_lt};
+ghost use Rattle.std.specs.List.Sorted.{IsPermutation, IsSorted};
 ghost use Rattle.std.specs.Vec.{vec_capacity};
 ghost use Rattle.word_core.specs.Letters.{IsOver};
 ghost use Rattle.traced_completion.specs.declared.pending.waiting.Waiting.{Waiting};
@@ -15,36 +14,22 @@ use std::mem;
 use word_core::Word;
 use word_orders::WordOrder;
 
-// Those from a place on, in their order, in which those up to `middle` are already. Where memory is short, the list is as
-// it was; else what is left of it counts no more.
+// Those from a place on, in their order. Where memory is short, the list is as it was; else what is left of it counts
+// no more.
 pub(super) fn take_sorted<O: WordOrder>(
     order: &O,
     items: &mut Vec<Waiting>,
     from: usize,
-    middle: usize,
 ) -> Result<Vec<Waiting>, AllocError>
     requires over { All (λ w. IsOver (O.letters order.now) w.word) items.old.items }
-    requires order { from ≤ middle }
-    requires within { middle ≤ length items.old.items }
     ensures permutation { IfOk result (λ sorted. IsPermutation (drop from items.old.items) sorted.items) }
-    ensures sorted { IfOk result (λ sorted. IsSortedWithin (λ x y. is_lt (waiting_cmp (O.compare order.now) x y)) items.old.items from middle
-        → IsSorted (waiting_cmp (O.compare order.now)) sorted.items) }
+    ensures sorted { IfOk result (λ sorted. IsSorted (waiting_cmp (O.compare order.now)) sorted.items) }
     ensures err { OnErr result (items.new.items ≡ items.old.items) }
 {
     let alloc = *items.allocator();
-    let places = places_in_order(alloc, order, items.as_slice(), from, middle)?;
+    let places = places_in_order(alloc, order, items.as_slice(), from)?;
     let sorted = Vec::with_capacity(alloc, places.len())?;
     Ok(move_all(alloc, items, places.as_slice(), sorted))
-}
-
-// The list without its first ones, as many as `count` says.
-pub(super) fn drop_first(items: &mut Vec<Waiting>, count: usize)
-    requires { count ≤ length items.old.items }
-    ensures { items.new.items ≡ drop count items.old.items }
-{
-    let rest = items.len() - count;
-    items.rotate_left(count);
-    items.truncate(rest);
 }
 
 // Those at the places, moved into an empty list that has room for them. Spent ones without a word stay at the places.
