@@ -2,7 +2,7 @@ use Rattle.std.proofs.Common.{rules, ◌≡◌, ◌≤◌, ◌<◌, ℕ, List, [
 use Rattle.std.specs.List.{remove}
 use Rattle.std.proofs.lemmas.List.{get_or_default, set_past}
 use Rattle.traced_completion.specs.declared.pending.waiting.Waiting.{Waiting}
-use Rattle.traced_completion.specs.Blocks.{restored, taken_out}
+use Rattle.traced_completion.specs.Blocks.{restored}
 use Rattle.traced_completion.proofs.BlockLemmas.{restored-more}
 use Rattle.traced_completion.proofs.pending.blocks.take_out.Goals as goal
 

@@ -1,5 +1,5 @@
-use Rattle.std.proofs.Common.{rules, ◌≡◌, ◌≤◌, ◌+◌, ◌-◌, ◌++◌, ◌<◌, ℕ, List, [], length, drop, sym, ap, subst, ◌∙◌, arith}
-use Rattle.std.specs.List.{All, AllPairs}
+use Rattle.std.proofs.Common.{rules, ◌≡◌, ◌≤◌, ◌+◌, ◌-◌, ◌++◌, List, [], length, drop, sym, ap, subst, ◌∙◌}
+use Rattle.std.specs.List.{All}
 use Rattle.std.specs.List.Sorted.{IsPermutation}
 use Rattle.std.proofs.lemmas.List.{length-append, length-drop}
 use Rattle.std.proofs.lemmas.List.Elements.{All-append, All-drop}
@@ -7,7 +7,7 @@ use Rattle.std.proofs.lemmas.List.Sorted.{All-permutation, length_permutation}
 use Rattle.word_core.specs.Letters.{IsOver}
 use Rattle.traced_completion.specs.declared.pending.waiting.Waiting.{Waiting}
 use Rattle.traced_completion.specs.Pending.{IsNextStore}
-use Rattle.traced_completion.specs.StoreOrder.{IsExtended, IsUpTo}
+use Rattle.traced_completion.specs.StoreOrder.{IsExtended}
 use Rattle.traced_completion.specs.Blocks.{joined}
 use Rattle.traced_completion.proofs.Renewing.{sorted-up_to, renewed-store}
 use Rattle.traced_completion.proofs.pending.store.Pending.advance.Goals as goal
