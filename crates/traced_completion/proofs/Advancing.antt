@@ -1,17 +1,17 @@
 -- The store after a round.
-use Rattle.std.proofs.Common.{◌≡◌, ◌≢◌, ◌⊎◌, inl, inr, ℕ, ◌+◌, ◌<◌, ◌≤◌, true, false, List, [], ◌∷◌, ◌++◌, length, map, take, drop, get_or, min, refl, sym, ap, ◌∙◌, subst, arith}
+use Rattle.std.proofs.Common.{◌≡◌, ◌≢◌, ◌⊎◌, inl, inr, ℕ, ◌+◌, ◌<◌, ◌≤◌, true, false, List, ◌++◌, length, map, take, drop, get_or, min, refl, sym, ap, ◌∙◌, subst, arith}
 use Rattle.std.specs.Bool.{Decides}
 use Rattle.std.specs.Cmp.{IsTotalOrder}
 use Rattle.std.specs.List.{All, AllPairs, Contains}
 use Rattle.std.specs.List.Sorted.{IsPermutation, IsSorted}
-use Rattle.std.specs.Ordering.{is_lt, is_eq, ordering_reverse}
+use Rattle.std.specs.Ordering.{is_lt, is_eq}
 use Rattle.std.specs.declared.cmp.Ordering.{Ordering}
 use Rattle.std.specs.declared.cmp.Ordering.TheVariants.{Less, Equal, Greater}
 use Rattle.std.proofs.lemmas.Bool.{cases_lt}
 use Rattle.std.proofs.lemmas.Cmp.{tied_itself}
-use Rattle.std.proofs.lemmas.List.{append-nil, length-append, take-append-drop, drop-append-le, get_or-take, get_or-drop, length-drop, length-map, get_or-map, get_or_default, length-take}
+use Rattle.std.proofs.lemmas.List.{take-append-drop, drop-append-le, get_or-take, get_or-drop, length-drop, length-map, get_or-map, get_or_default, length-take}
 use Rattle.std.proofs.lemmas.List.Elements.{All-append, All-contains, All-map, All-take, Contains-append_left, Contains-append_right, Contains-append_cases, Contains-get_or}
-use Rattle.std.proofs.lemmas.List.Sorted.{IsPermutation-refl, IsPermutation-sym, Contains-permutation, sorted_far, ranks_by}
+use Rattle.std.proofs.lemmas.List.Sorted.{IsPermutation-sym, Contains-permutation, sorted_far, ranks_by}
 use Rattle.word_orders.specs.Admissible.{Compare}
 use Rattle.rule_reduce.specs.declared.rule.Rule.{Rule}
 use Rattle.ambiguities.specs.declared.ambiguity.Ambiguity.{Ambiguity}
@@ -20,8 +20,8 @@ use Rattle.ambiguities.specs.Listed.{IsBefore, ListsExactly, IsAmbiguityFrom}
 use Rattle.ambiguities.proofs.Exactly.{exactly-append}
 use Rattle.traced_completion.specs.declared.pending.waiting.Waiting.{Waiting}
 use Rattle.traced_completion.specs.Pending.{IsBeforeInStore, IsPending, AreAllPending, IsNextStore, ambiguities_of}
-use Rattle.traced_completion.specs.StoreOrder.{waiting_cmp, waiting_of, appended_waiting, IsExtended}
-use Rattle.traced_completion.proofs.Comparing.{waiting_cmp-total, less-waiting, not_before_itself, waiting-equal, before-unless_above, ambiguity_not_before_itself}
+use Rattle.traced_completion.specs.StoreOrder.{waiting_cmp, waiting_of, IsExtended}
+use Rattle.traced_completion.proofs.Comparing.{waiting_cmp-total, not_before_itself, waiting-equal, before-unless_above, ambiguity_not_before_itself}
 use Rattle.traced_completion.proofs.Ascending.{drop-pairs}
 use Rattle.traced_completion.proofs.Sorting.{distinct-permutation}
 use Rattle.traced_completion.proofs.Staying.{overlap_word-append, first-within, second-within, ambiguity-append, ambiguity-before}
@@ -239,22 +239,3 @@ module _ (compare : Compare) (total : IsTotalOrder compare) (same : (u v : List 
       extended_parts =
           ap (drop taken) extends.appended ∙ drop-append-le taken old (map (waiting_of rules) extends.found) enough
           ∙ ap (λ (rs : List Rule). drop taken old ++ map (waiting_of rs) extends.found) (sym parts)
-
-  -- what is in the order of the store is sorted
-  ascending-sorted : (xs : List Waiting) → AllPairs (IsBeforeInStore compare) xs → IsSorted (waiting_cmp compare) xs
-  ascending-sorted xs pairs k d low high =
-      ap is_lt ((waiting_cmp-total compare total).antisymm (get_or xs (k + 1) d) (get_or xs k d)
-      ∙ ap ordering_reverse (less-waiting compare total (get_or xs k d) (get_or xs (k + 1) d) (pairs k (k + 1) d (omega arith) high)))
-
-  -- where nothing was appended, the rest of the store is in its order
-  pub rest-store : (rules : List Rule) (known taken : ℕ) (old extended : List Waiting) → taken ≤ length old → IsExtended rules known old extended → length extended ≡ length old
-      → IsNextStore compare rules known taken old (drop taken extended)
-  rest-store rules known taken old extended enough extends long treated each all =
-      next-store rules known taken old extended (drop taken extended) enough extends (IsPermutation-refl (drop taken extended))
-      (subst (λ xs. IsSorted (waiting_cmp compare) (drop taken xs)) (sym (same_by extends.found extends.appended))
-      (ascending-sorted (drop taken old) (drop-pairs (IsBeforeInStore compare) taken old all.ascending))) treated each all
-    where
-      same_by : (found : List Ambiguity) → extended ≡ appended_waiting rules old found → extended ≡ old
-      same_by [] appended = appended ∙ append-nil old
-      same_by (a ∷ found) appended =
-          absurd (omega (arith, long, ap length appended, length-append old (map (waiting_of rules) (a ∷ found)), length-map (a ∷ found) (waiting_of rules)))

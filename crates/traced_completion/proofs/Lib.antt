@@ -6,6 +6,8 @@ pub mod Places
 pub mod Appending
 pub mod Sorting
 pub mod Advancing
+pub mod BlockLemmas
+pub mod Renewing
 pub mod NonemptyWords
 pub mod KeptReductions
 pub mod InOrder

@@ -24,3 +24,4 @@ pub mod UnitsFirst
 pub mod PlainRun
 pub mod Completions
 pub mod RunLaws
+pub mod Blocks

@@ -1,6 +1,6 @@
 -- The order of the store as a comparison, and the store with the ambiguities of new rules at its end.
-use Rattle.std.specs.Prelude.{◌≡◌, ℕ, ◌+◌, List, ◌++◌, map}
-use Rattle.std.specs.Ordering.{nat_cmp, then_cmp, on}
+use Rattle.std.specs.Prelude.{◌≡◌, ℕ, ◌+◌, List, ◌++◌, map, false, slice_index_or, length, ◌-◌}
+use Rattle.std.specs.Ordering.{nat_cmp, then_cmp, on, is_lt}
 use Rattle.std.specs.declared.cmp.Ordering.{Ordering}
 use Rattle.word_orders.specs.Admissible.{Compare}
 use Rattle.ambiguities.specs.declared.ambiguity.Ambiguity.{Ambiguity}
@@ -17,6 +17,14 @@ ambiguity_cmp = then_cmp (then_cmp (on (λ a. a.i) nat_cmp) (on (λ a. a.j) nat_
 -- by the overlap word, and then as their ambiguities
 abbrev pub waiting_cmp : Compare → Waiting → Waiting → Ordering
 waiting_cmp compare = then_cmp (on (λ w. w.word) compare) (on (λ w. w.which) ambiguity_cmp)
+
+-- The first one isn't above the second one.
+abbrev pub IsUpTo : Compare → Waiting → Waiting → Type 0
+IsUpTo compare v w = is_lt (waiting_cmp compare w v) ≡ false
+
+-- the last one of a list, and another one where there is none
+abbrev pub last_of : List Waiting → Waiting → Waiting
+last_of items d = slice_index_or items (length items - 1) d
 
 -- the ambiguity with its overlap word
 abbrev pub waiting_of : List Rule → Ambiguity → Waiting

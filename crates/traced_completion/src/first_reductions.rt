@@ -1,8 +1,9 @@
 //! The first reductions of a round, on several threads.
-ghost use Rattle.std.specs.Prelude.{◌≡◌, ◌<◌, ◌≤◌, map, length, MatchResult, IfOk, Ok};
+ghost use Rattle.std.specs.Prelude.{◌≡◌, ◌<◌, ◌≤◌, ◌/◌, min, max, map, length, MatchResult, IfOk, Ok};
 ghost use Rattle.std.specs.List.{All};
 ghost use Rattle.in_order_parallel.specs.Limits.{worker_limit};
 ghost use Rattle.ambiguities.specs.Ambiguities.{IsAmbiguity};
+ghost use Rattle.traced_completion.specs.Limits.{share};
 ghost use Rattle.traced_completion.specs.Results.{Explains, each_in_turn};
 ghost use Rattle.traced_completion.specs.Works.{first_of};
 ghost use Rattle.traced_completion.specs.Pending.{ambiguities_of};
@@ -18,6 +19,9 @@ use rule_reduce::{ReduceFault, Reduced, Rules};
 use std::alloc::{AllocError, Global};
 use std::thread::Threads;
 use word_orders::WordOrder;
+
+// The least number of items for which a further thread pays.
+const SHARE: usize = 8;
 
 // The rows of an S-polynomial, and its reduction.
 #[derive(Drop)]
@@ -99,6 +103,15 @@ fn collect_answers(
     Ok(firsts)
 }
 
+// How many of the workers are given work: no more than have a worker's share of the items each, and at least one.
+fn busy_workers(items: usize, workers: u32) -> u32
+    requires { 0 < workers }
+    ensures { result ≡ min workers (max 1 (items / share)) }
+{
+    let most = (items / SHARE).max(1);
+    most.min(workers as usize) as u32
+}
+
 // The first reductions of the ambiguities, in their order, on at most as many threads as there are workers. The fault is
 // the first one in this order, whichever ended first.
 pub(crate) fn reduce_all<R: Threads + Sync, O: WordOrder + Drop + Sync, G: Gate + Sync>(
@@ -120,6 +133,7 @@ pub(crate) fn reduce_all<R: Threads + Sync, O: WordOrder + Drop + Sync, G: Gate 
     ensures one_each { IfOk result (λ firsts. length firsts ≡ length taken.now) }
 {
     let reducer = Reducer { rules, steps };
-    let answers = map_in_order(rt, alloc, taken, &reducer, workers, gate)?;
+    let busy = busy_workers(taken.len(), workers);
+    let answers = map_in_order(rt, alloc, taken, &reducer, busy, gate)?;
     collect_answers(alloc, answers)
 }

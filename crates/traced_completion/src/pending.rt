@@ -1,4 +1,7 @@
 //! The ambiguities that were not treated, in the order in which they are taken.
+mod block;
+mod blocks;
+mod finding;
 mod laws;
 mod moving;
 mod order;

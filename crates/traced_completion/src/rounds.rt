@@ -126,8 +126,16 @@ impl Completion {
     {
         let known = self.rules.len();
         let steps = self.budget.steps;
-        let taken = self.waiting.first(count);
-        let firsts = match reduce_all(rt, alloc, &self.rules, taken, steps, workers, gate) {
+        let taken = self.waiting.first(alloc, count)?;
+        let firsts = match reduce_all(
+            rt,
+            alloc,
+            &self.rules,
+            taken.as_slice(),
+            steps,
+            workers,
+            gate,
+        ) {
             Ok(firsts) => firsts,
             Err(fault) => return Err(fault),
         };
@@ -135,7 +143,7 @@ impl Completion {
             Ok(()) => {}
             Err(fault) => return Err(fault),
         }
-        push_treated(&mut self.treated, self.waiting.first(count))?;
+        push_treated(&mut self.treated, taken.as_slice())?;
         self.waiting.advance(&self.rules, known, count)?;
         Ok(())
     }

@@ -32,16 +32,6 @@ pub(super) fn take_sorted<O: WordOrder>(
     Ok(move_all(alloc, items, places.as_slice(), sorted))
 }
 
-// The list without its first ones, as many as `count` says.
-pub(super) fn drop_first(items: &mut Vec<Waiting>, count: usize)
-    requires { count ≤ length items.old.items }
-    ensures { items.new.items ≡ drop count items.old.items }
-{
-    let rest = items.len() - count;
-    items.rotate_left(count);
-    items.truncate(rest);
-}
-
 // Those at the places, moved into an empty list that has room for them. Spent ones without a word stay at the places.
 fn move_all(
     alloc: Global,

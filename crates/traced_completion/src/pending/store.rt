@@ -8,7 +8,9 @@ ghost use Rattle.traced_completion.specs.Pending.{IsNextStore, first_word};
 ghost use Rattle.traced_completion.specs.StoreOrder.{IsExtended, appended_waiting};
 
 use super::Waiting;
-use super::moving::{drop_first, take_sorted};
+use super::block::Block;
+use super::blocks::{at_place, renew};
+use super::moving::take_sorted;
 use ambiguities::{Ambiguity, between, overlap_word};
 use rule_reduce::Rules;
 use std::alloc::{AllocError, Global};
@@ -19,16 +21,22 @@ use word_orders::WordOrder;
 /// The pending ambiguities with their overlap words, in the order in which they are taken.
 #[derive(Drop)]
 pub struct Pending {
-    items: Vec<Waiting>,
+    blocks: Vec<Block>,
+    count: usize,
 }
 
 impl Model for Pending {
     ghost use Rattle.std.specs.Prelude.{List};
     ghost use Rattle.traced_completion.specs.declared.pending.waiting.Waiting.{Waiting};
+    ghost use Rattle.std.specs.Prelude.{◌≡◌, ◌<◌, length};
+    ghost use Rattle.std.specs.List.{All};
+    ghost use Rattle.traced_completion.specs.Blocks.{joined};
 
     ghost Value = { List Waiting };
 
-    ghost view = { λ p. p.items.items };
+    ghost view = { λ p. joined p.blocks.items };
+
+    ghost invariant = { λ p. (p.count ≡ length (joined p.blocks.items)) × All (λ b. 0 < length b) p.blocks.items };
 }
 
 impl Pending {
@@ -37,7 +45,8 @@ impl Pending {
         ensures { result ≡ [] }
     {
         Pending {
-            items: Vec::new(alloc),
+            blocks: Vec::new(alloc),
+            count: 0,
         }
     }
 
@@ -45,7 +54,7 @@ impl Pending {
     pub fn len(&self) -> usize
         ensures { result ≡ length self.now }
     {
-        self.items.len()
+        self.count
     }
 
     /// The pending ambiguity at this place, counted from 0.
@@ -53,23 +62,30 @@ impl Pending {
         requires { place < length self.now }
         ensures { slice_get self.now place ≡ Some result.now }
     {
-        &self.items[place]
+        at_place(self.blocks.as_slice(), place)
     }
 
     /// The first ones, as many as `count` says.
-    pub fn first(&self, count: usize) -> &[Waiting]
+    pub fn first(&self, alloc: Global, count: usize) -> Result<Vec<Waiting>, AllocError>
         requires { count ≤ length self.now }
-        ensures { result.now ≡ take count self.now }
+        ensures { IfOk result (λ first. first.items ≡ take count self.now) }
     {
-        &self.items[..count]
+        let mut first = Vec::with_capacity(alloc, count)?;
+        for place in 0..count {
+            let waiting = self.at(place);
+            let word = waiting.word.copy()?;
+            let which = waiting.which;
+            first.push(Waiting { which, word })?;
+        }
+        Ok(first)
     }
 
     /// The least overlap word, and none where nothing is pending.
     pub fn least(&self) -> Option<&Word>
         ensures { option_copied result ≡ first_word self.now }
     {
-        match self.items.first() {
-            Some(waiting) => Some(&waiting.word),
+        match self.blocks.first() {
+            Some(block) => Some(&block.as_slice()[0].word),
             None => None,
         }
     }
@@ -88,36 +104,18 @@ impl Pending {
         ensures over { OnOk result (All (λ w. IsOver (O.letters rules.now.order) w.word) self.new) }
         ensures err { OnErr result (self.new ≡ self.old) }
     {
-        let count = self.items.len();
-        let done = self.push_and_sort(rules, known, taken);
-        if done.is_err() {
-            self.items.truncate(count);
+        let mut found = Vec::new(*self.blocks.allocator());
+        push_new(&mut found, rules, known)?;
+        let others = take_sorted(&rules.order, &mut found, 0)?;
+        let rest = self.count - taken;
+        match rest.checked_add(others.len()) {
+            Some(count) => {
+                renew(&rules.order, &mut self.blocks, taken, others)?;
+                self.count = count;
+                Ok(())
+            }
+            None => Err(AllocError),
         }
-        done
-    }
-
-    // Appends those of the new rules, and then puts all that were not taken into their order, in which they are where
-    // nothing was appended.
-    fn push_and_sort<O: WordOrder>(
-        &mut self,
-        rules: &Rules<O>,
-        known: u32,
-        taken: usize,
-    ) -> Result<(), AllocError>
-        requires taken { taken ≤ length self.old }
-        requires over { All (λ w. IsOver (O.letters rules.now.order) w.word) self.old }
-        ensures ok { OnOk result (IsNextStore (O.compare rules.now.order) rules.now.rules known taken self.old self.new) }
-        ensures over { OnOk result (All (λ w. IsOver (O.letters rules.now.order) w.word) self.new) }
-        ensures err { OnErr result (take (length self.old) self.new ≡ self.old) }
-    {
-        let count = self.items.len();
-        push_new(&mut self.items, rules, known)?;
-        if self.items.len() == count {
-            drop_first(&mut self.items, taken);
-            return Ok(());
-        }
-        self.items = take_sorted(&rules.order, &mut self.items, taken)?;
-        Ok(())
     }
 }
 

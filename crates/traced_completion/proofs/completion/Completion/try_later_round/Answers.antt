@@ -1,4 +1,4 @@
-use Rattle.std.proofs.Common.{rules, ◌≡◌, List, ◌++◌, length, map, take, Ok, Err, sym, subst, arith, ap}
+use Rattle.std.proofs.Common.{rules, ◌≡◌, List, ◌++◌, length, map, take, Ok, Err, sym, subst, arith, ap, ◌∙◌}
 use Rattle.std.specs.List.{All}
 use Rattle.std.proofs.lemmas.List.{length-take}
 use Rattle.std.proofs.lemmas.List.Elements.{All-take}
@@ -72,22 +72,22 @@ returns-clause-treated_front g c = c.push_treated.ensures.front
 
 pub returns-in_err-push_treated-clause-treated : goal.returns-in_err-push_treated-clause-treated
 returns-in_err-push_treated-clause-treated g c =
-    let back : c.from_residual.result ≡ Err (Memory c.in_err-push_treated.field-0.0) = search rules in
+    let back : c.from_residual-in_err-push_treated.result ≡ Err (Memory c.in_err-push_treated.field-0.0) = search rules in
     rw back tt
 
 pub returns-in_err-push_treated-clause-records : goal.returns-in_err-push_treated-clause-records
 returns-in_err-push_treated-clause-records g c =
-    let back : c.from_residual.result ≡ Err (Memory c.in_err-push_treated.field-0.0) = search rules in
+    let back : c.from_residual-in_err-push_treated.result ≡ Err (Memory c.in_err-push_treated.field-0.0) = search rules in
     rw back tt
 
 pub returns-in_err-push_treated-clause-next : goal.returns-in_err-push_treated-clause-next
 returns-in_err-push_treated-clause-next g c =
-    let back : c.from_residual.result ≡ Err (Memory c.in_err-push_treated.field-0.0) = search rules in
+    let back : c.from_residual-in_err-push_treated.result ≡ Err (Memory c.in_err-push_treated.field-0.0) = search rules in
     rw back tt
 
 pub returns-in_err-push_treated-clause-exact : goal.returns-in_err-push_treated-clause-exact
 returns-in_err-push_treated-clause-exact g c =
-    let back : c.from_residual.result ≡ Err (Memory c.in_err-push_treated.field-0.0) = search rules in
+    let back : c.from_residual-in_err-push_treated.result ≡ Err (Memory c.in_err-push_treated.field-0.0) = search rules in
     rw back tt
 
 pub returns-in_err-advance-clause-treated : goal.returns-in_err-advance-clause-treated
@@ -112,27 +112,27 @@ returns-in_err-advance-clause-exact g c =
 
 pub returns-clause-most : goal.returns-clause-most
 returns-clause-most g c =
-    let taken : c.first-taken.result.now ≡ take c.args.count c.args.self.now.waiting = search rules in
+    let taken : c.as_slice.result.now ≡ take c.args.count c.args.self.now.waiting = search rules in
     omega (arith, ap length taken, length-take c.args.count c.args.self.now.waiting, c.in-Ok.ensures.one_each)
 
 pub returns-in_err-advance-clause-most : goal.returns-in_err-advance-clause-most
 returns-in_err-advance-clause-most g c =
-    let taken : c.first-taken.result.now ≡ take c.args.count c.args.self.now.waiting = search rules in
+    let taken : c.as_slice.result.now ≡ take c.args.count c.args.self.now.waiting = search rules in
     omega (arith, ap length taken, length-take c.args.count c.args.self.now.waiting, c.in-Ok.ensures.one_each)
 
 pub returns-in_err-push_treated-clause-most : goal.returns-in_err-push_treated-clause-most
 returns-in_err-push_treated-clause-most g c =
-    let taken : c.first-taken.result.now ≡ take c.args.count c.args.self.now.waiting = search rules in
+    let taken : c.as_slice.result.now ≡ take c.args.count c.args.self.now.waiting = search rules in
     omega (arith, ap length taken, length-take c.args.count c.args.self.now.waiting, c.in-Ok.ensures.one_each)
 
 pub returns-in-Err-treat_all-clause-most : goal.returns-in-Err-treat_all-clause-most
 returns-in-Err-treat_all-clause-most g c =
-    let taken : c.first-taken.result.now ≡ take c.args.count c.args.self.now.waiting = search rules in
+    let taken : c.as_slice.result.now ≡ take c.args.count c.args.self.now.waiting = search rules in
     omega (arith, ap length taken, length-take c.args.count c.args.self.now.waiting, c.in-Ok.ensures.one_each)
 
 pub treat_all-requires-clause-few : goal.treat_all-requires-clause-few
 treat_all-requires-clause-few g c =
-    let taken : c.first-taken.result.now ≡ take c.args.count c.args.self.now.waiting = search rules in
+    let taken : c.as_slice.result.now ≡ take c.args.count c.args.self.now.waiting = search rules in
     omega (arith, ap length taken, length-take c.args.count c.args.self.now.waiting, c.in-Ok.ensures.one_each)
 
 pub returns-in-Err-clause-fault : goal.returns-in-Err-clause-fault
@@ -140,7 +140,7 @@ returns-in-Err-clause-fault g c =
     let old = c.args.self.now in
     let compare = made_cmp old.rules.order in
     let why : Explains (each_in_turn (first_of compare old.budget.steps old.rules.rules) (ambiguities_of (take c.args.count old.waiting))) c.in-Err.fault =
-    subst (λ (ws : List Waiting). Explains (each_in_turn (first_of compare old.budget.steps old.rules.rules) (ambiguities_of ws)) c.in-Err.fault) c.first-taken.ensures c.in-Err.ensures.exact in
+    subst (λ (ws : List Waiting). Explains (each_in_turn (first_of compare old.budget.steps old.rules.rules) (ambiguities_of ws)) c.in-Err.fault) (c.as_slice.ensures.value ∙ c.in_ok-taken.ensures) c.in-Err.ensures.exact in
     first_ends compare old.budget.steps (recorded (state_of old)) (each_in_turn (first_of compare old.budget.steps old.rules.rules) (ambiguities_of (take c.args.count old.waiting))) c.in-Err.fault why
 
 pub returns-in-Err-treat_all-clause-fault : goal.returns-in-Err-treat_all-clause-fault
@@ -148,7 +148,7 @@ returns-in-Err-treat_all-clause-fault g c =
     let old = c.args.self.now in
     let compare = made_cmp old.rules.order in
     let firsts : each_in_turn (first_of compare old.budget.steps old.rules.rules) (ambiguities_of (take c.args.count old.waiting)) ≡ Ok (map plain_first c.in-Ok.firsts) =
-    subst (λ (ws : List Waiting). each_in_turn (first_of compare old.budget.steps old.rules.rules) (ambiguities_of ws) ≡ Ok (map plain_first c.in-Ok.firsts)) c.first-taken.ensures c.in-Ok.ensures.exact in
+    subst (λ (ws : List Waiting). each_in_turn (first_of compare old.budget.steps old.rules.rules) (ambiguities_of ws) ≡ Ok (map plain_first c.in-Ok.firsts)) (c.as_slice.ensures.value ∙ c.in_ok-taken.ensures) c.in-Ok.ensures.exact in
     second_ends compare old.budget.steps (recorded (state_of old)) (each_in_turn (first_of compare old.budget.steps old.rules.rules) (ambiguities_of (take c.args.count old.waiting)))
     (map plain_first c.in-Ok.firsts) c.in-Err-treat_all.fault firsts c.in-Err-treat_all.ensures.fault
 
@@ -157,7 +157,7 @@ returns-clause-exact g c =
     let old = c.args.self.now in
     let compare = made_cmp old.rules.order in
     let firsts : each_in_turn (first_of compare old.budget.steps old.rules.rules) (ambiguities_of (take c.args.count old.waiting)) ≡ Ok (map plain_first c.in-Ok.firsts) =
-    subst (λ (ws : List Waiting). each_in_turn (first_of compare old.budget.steps old.rules.rules) (ambiguities_of ws) ≡ Ok (map plain_first c.in-Ok.firsts)) c.first-taken.ensures c.in-Ok.ensures.exact in
+    subst (λ (ws : List Waiting). each_in_turn (first_of compare old.budget.steps old.rules.rules) (ambiguities_of ws) ≡ Ok (map plain_first c.in-Ok.firsts)) (c.as_slice.ensures.value ∙ c.in_ok-taken.ensures) c.in-Ok.ensures.exact in
     second_goes compare old.budget.steps (recorded (state_of old)) (each_in_turn (first_of compare old.budget.steps old.rules.rules) (ambiguities_of (take c.args.count old.waiting)))
     (map plain_first c.in-Ok.firsts) (Ok (record { rules = c.treat_all.new.rules.rules; made = c.treat_all.new.made })) firsts c.in-Ok-treat_all.ensures.exact
 
@@ -167,11 +167,11 @@ returns-clause-records g c = c.in-Ok-treat_all.ensures.records
 pub returns-clause-treated : goal.returns-clause-treated
 returns-clause-treated g c =
     let old = c.args.self.now in
-    subst (λ (ws : List Waiting). c.push_treated.new.treated ≡ old.treated ++ ambiguities_of ws) c.first.ensures c.in_ok-push_treated.ensures.ok
+    subst (λ (ws : List Waiting). c.push_treated.new.treated ≡ old.treated ++ ambiguities_of ws) (c.as_slice-2.ensures.value ∙ c.in_ok-taken.ensures) c.in_ok-push_treated.ensures.ok
 
 pub returns-in_err-push_treated-clause-fault : goal.returns-in_err-push_treated-clause-fault
 returns-in_err-push_treated-clause-fault g c =
-    let back : c.from_residual.result ≡ Err (Memory c.in_err-push_treated.field-0.0) = search rules in
+    let back : c.from_residual-in_err-push_treated.result ≡ Err (Memory c.in_err-push_treated.field-0.0) = search rules in
     rw back tt
 
 pub returns-in_err-advance-clause-fault : goal.returns-in_err-advance-clause-fault
@@ -200,4 +200,4 @@ pub reduce_all-requires-clause-ambiguities : goal.reduce_all-requires-clause-amb
 reduce_all-requires-clause-ambiguities g c κs within =
     let old = c.args.self.now in
     let Among : Waiting → Type 0 = λ w. IsAmbiguity old.rules.rules w.which in
-    subst (All Among) (sym c.first-taken.ensures) (All-take Among c.args.count old.waiting c.requires.ambiguities)
+    subst (All Among) (sym (c.as_slice.ensures.value ∙ c.in_ok-taken.ensures)) (All-take Among c.args.count old.waiting c.requires.ambiguities)

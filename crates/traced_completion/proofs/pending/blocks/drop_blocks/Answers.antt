@@ -1,9 +1,9 @@
 use Rattle.std.proofs.Common.{rules, ◌≡◌, ◌-◌, ◌++◌, length, take, drop, ◌∙◌}
 use Rattle.std.proofs.lemmas.List.{take_at, length-drop}
-use Rattle.traced_completion.proofs.pending.moving.drop_first.Goals as goal
+use Rattle.traced_completion.proofs.pending.blocks.drop_blocks.Goals as goal
 
 pub returns : goal.returns
 returns c =
-    let items = c.args.items.now.items in
+    let items = c.args.blocks.now.items in
     let cut : c.truncate.new.self.items ≡ take (length items - c.args.count) (drop c.args.count items ++ take c.args.count items) = search rules in
     cut ∙ take_at (drop c.args.count items) (take c.args.count items) (length items - c.args.count) (length-drop c.args.count items)
