@@ -54,7 +54,7 @@ pub(crate) fn system_of(
     }
 }
 
-// The equations where the entries have these values: those that are solved for have the value 0.
+// The equations where the entries have these values, 0 for those that are solved for; `None` where a condition is not zero.
 fn rows_for(
     alloc: Global,
     problem: &Problem,
