@@ -121,6 +121,19 @@ fn sum(left: IntoIter<Term>, right: IntoIter<Term>) -> Result<Poly> {
     })
 }
 
+/// Tells of the terms for which there is no answer the canonically greatest one's fault, as the program does, whatever the order of the run.
+fn check_each<'a>(terms: impl Iterator<Item = &'a Term>, answer: impl Fn(&Term) -> Result<i128>) -> Result<()> {
+    let canonically = |term: &&Term| (term.word.len(), term.word.clone());
+    let faulty = terms.filter(|term| answer(term).is_err()).max_by_key(canonically);
+    faulty.map_or(Ok(()), |term| answer(term).map(drop))
+}
+
+/// The same of sums.
+fn check_sums(left: &[Term], right: &[Term]) -> Result<()> {
+    let other = |term: &Term| right.binary_search_by(|other| compare(term, other)).map_or(0, |place| right[place].coefficient);
+    check_each(left.iter(), |term| plus(term.coefficient, other(term)))
+}
+
 fn multiply_terms(terms: &mut [Term], by: i128) -> Result<()> {
     for term in terms {
         term.coefficient = times(term.coefficient, by)?;
@@ -203,6 +216,8 @@ struct Rules {
     list: Vec<Rule>,
     nodes: Vec<Node>,
     measures: Vec<u32>,
+    /// Whether the order of the run is the canonical one.
+    is_canonical: bool,
     steps: usize,
 }
 
@@ -272,6 +287,9 @@ impl Rules {
     /// A multiple of terms with a word on each side.
     fn multiple(&self, by: i128, left: &[Letter], terms: &[Term], right: &[Letter]) -> Result<Poly> {
         let more = self.measure(left) + self.measure(right);
+        if !self.is_canonical {
+            check_each(terms.iter(), |term| times(by, term.coefficient))?;
+        }
         let multiple = |term: &Term| {
             let word = [left, &term.word, right].concat().into_boxed_slice();
             Ok(Term { measure: term.measure + more, word, coefficient: times(by, term.coefficient)? })
@@ -298,6 +316,10 @@ impl Rules {
             let (by, share) = (leading / divisor, term.coefficient / divisor);
             if by != 1 {
                 multiplier = times(multiplier, by)?;
+                if !self.is_canonical {
+                    let all = rest.iter().chain([&term]).chain(left.as_slice());
+                    check_each(all, |term| times(term.coefficient, by))?;
+                }
                 multiply_terms(&mut rest, by)?;
                 times(term.coefficient, by)?;
                 multiply_terms(left.as_mut_slice(), by)?;
@@ -309,6 +331,9 @@ impl Rules {
                 term.coefficient = -term.coefficient;
             }
             let may_be_long = has_long_word(&taken);
+            if !self.is_canonical {
+                check_sums(left.as_slice(), &taken)?;
+            }
             left = sum(left, taken.into_iter())?.into_iter();
             check_size(may_be_long && has_long_word(left.as_slice()), rest.len() + left.len())?;
             rows.push(Row {
@@ -447,6 +472,9 @@ impl Rules {
         // The leading terms cancel.
         let left = self.multiple(by, &[], &one.poly, behind)?.into_iter();
         let right = self.multiple(by_second, front, &two.poly, behind_second)?.into_iter();
+        if !self.is_canonical {
+            check_sums(left.as_slice(), right.as_slice())?;
+        }
         let poly = sum(left, right)?;
         check_size(false, poly.len())?;
         let row = |coefficient, left: &[Letter], number, right: &[Letter]| Row {
@@ -494,7 +522,8 @@ struct First {
 impl<'a> Run<'a> {
     fn new(tree: &'a Tree, budget: &'a Budget) -> Run<'a> {
         let (nodes, measures) = (vec![Node::default()], tree.measures.clone());
-        let rules = Rules { list: Vec::new(), nodes, measures, steps: budget.steps };
+        let is_canonical = measures.iter().all(|measure| *measure == 0);
+        let rules = Rules { list: Vec::new(), nodes, measures, is_canonical, steps: budget.steps };
         let (tables, pending) = (Tables::default(), BTreeSet::new());
         Run { tree, budget, rules, tables, pending, treated: 0, rounds: 0, seconds: [0.0; 4] }
     }
